@@ -1,0 +1,13 @@
+pub mod Causes
+pub mod Counts
+pub mod Files
+pub mod Folds
+pub mod Loading
+pub mod Namenode
+pub mod Paths
+pub mod Picture
+pub mod Reading
+pub mod Sessions
+pub mod Shown
+pub mod Steps
+pub mod Stores

@@ -1,0 +1,76 @@
+-- The lines that are loaded into a store: which it takes, and what they make of the files.
+use Rattle.std.specs.Prelude.{◌≡◌, ℕ, ◌^◌, nat_le, nat_lt, Bool, true, false, ◌&&◌, ◌==◌, List, [], ◌∷◌, ◌++◌, length, Option, Some, None, is_none, if◌then◌else◌}
+use Rattle.std.specs.Str.{bytes_eq}
+use Rattle.hdfs_model.specs.declared.store.Line.{Line}
+use Rattle.hdfs_model.specs.declared.store.Line.TheVariants as lines
+use Rattle.hdfs_model.specs.Paths.{is_path, parent_of}
+use Rattle.hdfs_model.specs.Files.{Files, Content, Node, Dir, File, Writing, State}
+use Rattle.hdfs_model.specs.Counts.{SameCounts}
+use Rattle.hdfs_model.specs.Picture.{Picture, SamePicture, Told}
+use Rattle.hdfs_model.specs.Shown.{Shown}
+use Rattle.hdfs_model.specs.Stores.{Agrees}
+
+abbrev pub is_directory : Option Node → Bool
+is_directory None = false
+is_directory (Some Dir) = true
+is_directory (Some (File content)) = false
+is_directory (Some (Writing content)) = false
+
+-- permission bits up to 7777 in octal, one replica, a block size from 1 to 2^63 - 1, and no more bytes than one block has
+abbrev pub in_limits : ℕ → ℕ → ℕ → ℕ → Bool
+in_limits permission replication block_size count =
+    nat_le permission 4095 && (replication == 1) && nat_le 1 block_size && nat_lt block_size (2 ^ 63) && nat_le count block_size
+
+-- A file is taken at a new path whose parent is a directory; a line with a fault always.
+abbrev pub takes : Files → Line → Bool
+takes files (lines.File path permission replication block_size bytes) =
+    is_path path && is_none (files path) && is_directory (files (parent_of path)) && in_limits permission replication block_size (length bytes)
+takes files (lines.Fault fault) = true
+
+-- the state with one more file
+abbrev pub with_file : State → List ℕ → Content → State
+with_file state path content = record {
+  files = λ q. if bytes_eq path q then Some (File content) else state.files q;
+  paths = path ∷ state.paths;
+  opened = state.opened;
+}
+
+-- what a line makes of the state
+abbrev pub with_line : State → Line → State
+with_line state (lines.File path permission replication block_size bytes) =
+    with_file state path (record { bytes = bytes; permission = permission; replication = replication; block_size = block_size })
+with_line state (lines.Fault fault) = state
+
+abbrev pub with_lines : State → List Line → State
+with_lines state [] = state
+with_lines state (line ∷ lines) = with_lines (with_line state line) lines
+
+-- a fault changes nothing of the picture; a file nothing but the names, the block table and the held bytes
+pub record LoadsAt (old new : Picture) : Type 0 where
+  pub active : new.active ≡ old.active
+  pub defaults : new.defaults ≡ old.defaults
+  pub reads : (link : ℕ) → new.reads link ≡ old.reads link
+
+abbrev pub LoadsLine : Line → Picture → Picture → Type 0
+LoadsLine (lines.File path permission replication block_size bytes) old new = LoadsAt old new
+LoadsLine (lines.Fault fault) old new = SamePicture old new
+
+-- everything but the picture and the lines stays
+pub record SameRest (old new : Shown) : Type 0 where
+  pub counts : SameCounts old.counts new.counts
+  pub last : new.last ≡ old.last
+  pub namenodes : new.namenodes ≡ old.namenodes
+  pub reads : (link : ℕ) → new.reads link ≡ old.reads link
+
+-- a line was loaded
+pub record Loads (old : Shown) (line : Line) (new : Shown) : Type 0 where
+  pub rest : SameRest old new
+  pub lines : new.loaded ≡ old.loaded ++ line ∷ []
+  pub picture : Told (LoadsLine line) old.picture new.picture
+  pub files : (state : State) → Agrees old.picture state.files → Agrees new.picture (with_line state line).files
+
+-- nothing changed
+pub record SameShown (old new : Shown) : Type 0 where
+  pub rest : SameRest old new
+  pub lines : new.loaded ≡ old.loaded
+  pub picture : Told SamePicture old.picture new.picture

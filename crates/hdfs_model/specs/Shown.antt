@@ -1,0 +1,99 @@
+-- What a cluster shows of itself, and what each of its calls does to that.
+use Rattle.std.specs.Prelude.{◌≡◌, ◌≢◌, ℕ, ℤ, pos, List, length, Option, Some, None, Result, IfSome}
+use Rattle.hdfs_wire.specs.declared.packet.ReadPacket.{ReadPacket}
+use Rattle.hdfs_model.specs.declared.messages.ReadAsk.{ReadAsk}
+use Rattle.hdfs_model.specs.declared.asks.Ask.{Ask}
+use Rattle.hdfs_model.specs.declared.asks.Answer.{Answer}
+use Rattle.hdfs_model.specs.declared.asks.AskFault.{AskFault}
+use Rattle.hdfs_model.specs.declared.asks.LinkFault.{LinkFault}
+use Rattle.hdfs_model.specs.declared.asks.LinkFault.TheVariants as faults
+use Rattle.hdfs_model.specs.declared.picture.AnswerKind.{AnswerKind}
+use Rattle.hdfs_model.specs.declared.picture.OpenRead.{OpenRead}
+use Rattle.hdfs_model.specs.declared.store.Line.{Line}
+use Rattle.hdfs_model.specs.Counts.{Counts, NeverFall, Rose}
+use Rattle.hdfs_model.specs.Picture.{Picture, SameFiles, SamePicture, Told}
+use Rattle.hdfs_model.specs.Namenode.{kind_of, ServesTold}
+use Rattle.hdfs_model.specs.Reading.{ReadsAt, Begins, Gives, Closes}
+
+pub record Shown : Type 0 where
+  -- the picture, where the cluster tells it
+  pub picture : Option Picture
+  -- how often it has failed
+  pub counts : Counts
+  -- the kind of the last ask's answer
+  pub last : AnswerKind
+  -- how many namenodes it has
+  pub namenodes : ℕ
+  -- its open read links
+  pub reads : ℕ → Option OpenRead
+  -- the lines that were loaded into it, in order
+  pub loaded : List Line
+
+-- what every call keeps
+pub record Later (old new : Shown) : Type 0 where
+  pub counts : NeverFall old.counts new.counts
+  pub namenodes : new.namenodes ≡ old.namenodes
+  pub loaded : new.loaded ≡ old.loaded
+
+-- An ask of namenode i. It raises no count of a link or a datanode.
+pub record Served (old : Shown) (i : ℕ) (ask : Ask) (result : Result Answer AskFault) (new : Shown) : Type 0 where
+  pub later : Later old new
+  pub last : new.last ≡ kind_of result
+  pub reads : (link : ℕ) → new.reads link ≡ old.reads link
+  pub links : new.counts.links ≡ old.counts.links
+  pub nodes : (d : List ℕ) → new.counts.nodes d ≡ old.counts.nodes d
+  pub picture : Told (λ p q. ServesTold (Rose (old.counts.calls i) (new.counts.calls i)) p i ask result q) old.picture new.picture
+
+-- a call that names one read link, and changes nothing else
+pub record Reading (link : ℕ) (old new : Shown) : Type 0 where
+  pub later : Later old new
+  pub last : new.last ≡ old.last
+  pub others : (other : ℕ) → other ≢ link → new.reads other ≡ old.reads other
+  pub picture : Told (ReadsAt link) old.picture new.picture
+
+-- the link is used for nothing
+pub record IsUnused (link : ℕ) (shown : Shown) : Type 0 where
+  pub read : shown.reads link ≡ None
+
+-- a read was opened
+pub record Opened (old : Shown) (ask : ReadAsk) (link : ℕ) (new : Shown) : Type 0 where
+  pub reading : Reading link old new
+  pub fresh : IsUnused link old
+  pub opened : new.reads link ≡ Some (record { node = ask.node; before = old.counts.nodes ask.node.datanode_uuid })
+  pub begins : Told (Begins ask link) old.picture new.picture
+
+-- No read was opened. Beside want of memory this comes only where the datanode's count rose.
+pub record NotOpened (old : Shown) (ask : ReadAsk) (fault : LinkFault) (new : Shown) : Type 0 where
+  pub later : Later old new
+  pub last : new.last ≡ old.last
+  pub reads : (link : ℕ) → new.reads link ≡ old.reads link
+  pub picture : Told SamePicture old.picture new.picture
+  pub cause : fault ≢ faults.NoMemory → Rose (old.counts.nodes ask.node.datanode_uuid) (new.counts.nodes ask.node.datanode_uuid)
+
+-- a packet was given
+pub record Given (old : Shown) (link : ℕ) (packet : ReadPacket) (new : Shown) : Type 0 where
+  pub reading : Reading link old new
+  pub still_open : new.reads link ≡ old.reads link
+  pub length : packet.header.data_len ≡ pos (length packet.payload)
+  pub gives : Told (Gives link ⊥ packet) old.picture new.picture
+
+-- No packet came, and the link is as it was. A broken packet comes only where the count of the link's datanode rose.
+pub record NotGiven (old : Shown) (link : ℕ) (fault : LinkFault) (new : Shown) : Type 0 where
+  pub later : Later old new
+  pub last : new.last ≡ old.last
+  pub reads : (other : ℕ) → new.reads other ≡ old.reads other
+  pub picture : Told SamePicture old.picture new.picture
+  pub not_refused : fault ≢ faults.Refused
+  pub cause : fault ≡ faults.Broken → IfSome (old.reads link) (λ read. Rose (old.counts.nodes read.node.datanode_uuid) (new.counts.nodes read.node.datanode_uuid))
+
+-- a read was ended
+pub record Ended (old : Shown) (link : ℕ) (new : Shown) : Type 0 where
+  pub reading : Reading link old new
+  pub ended : new.reads link ≡ None
+  pub closes : Told (Closes link) old.picture new.picture
+
+-- Reads were opened, went on and ended, and nothing else happened.
+pub record OnlyReads (old new : Shown) : Type 0 where
+  pub later : Later old new
+  pub last : new.last ≡ old.last
+  pub files : Told SameFiles old.picture new.picture

@@ -1,0 +1,64 @@
+-- What one command does to the state of the files, and what it is answered.
+use Rattle.std.specs.Prelude.{◌≡◌, ℕ, ◌+◌, nat_lt, Bool, List, take, drop, length, Option, Some, None, if◌then◌else◌}
+use Rattle.std.specs.List.{list_any}
+use Rattle.std.specs.Str.{bytes_eq}
+use Rattle.hdfs_model.specs.declared.session.Command.{Command}
+use Rattle.hdfs_model.specs.declared.session.Command.TheVariants.{Read}
+use Rattle.hdfs_model.specs.declared.session.Reply.{Reply}
+use Rattle.hdfs_model.specs.declared.session.Reply.TheVariants.{Bytes}
+use Rattle.hdfs_model.specs.Paths.{is_path, resolved}
+use Rattle.hdfs_model.specs.Files.{State, Node, Dir, File, Writing, Content, NoFile, Missing, no_file, kinds_of}
+
+-- why a command is refused
+pub data Refusal : Type 0 where
+  -- its path breaks the path rule
+  BadPath : Refusal
+  -- the session has the path open
+  WrongState : Refusal
+  -- there is no file at its path
+  Lacks : NoFile → Refusal
+  -- its range ends behind the file
+  BadRange : Refusal
+
+pub data Outcome : Type 0 where
+  Refused : Refusal → Outcome
+  Done : Reply → State → Outcome
+
+-- what a step takes beside the state: the directory under which relative paths stand
+pub record World : Type 0 where
+  pub home : List ℕ
+
+-- the content of a file, closed or open
+abbrev pub content_of : Option Node → Option Content
+content_of None = None
+content_of (Some Dir) = None
+content_of (Some (File content)) = Some content
+content_of (Some (Writing content)) = Some content
+
+-- the bytes of a range
+abbrev pub range_of : List ℕ → ℕ → ℕ → List ℕ
+range_of bytes offset len = take len (drop offset bytes)
+
+abbrev pub read_content : State → Option Content → ℕ → ℕ → Outcome
+read_content state None offset len = Refused (Lacks Missing)
+read_content state (Some content) offset len =
+    if nat_lt (length content.bytes) (offset + len) then Refused BadRange else Done (Bytes (range_of content.bytes offset len)) state
+
+abbrev pub read_file : State → List ℕ → Option NoFile → ℕ → ℕ → Outcome
+read_file state path (Some why) offset len = Refused (Lacks why)
+read_file state path None offset len = read_content state (content_of (state.files path)) offset len
+
+abbrev pub step_at : State → List ℕ → Command → Outcome
+step_at state path (Read text offset len) =
+    if list_any (bytes_eq path) state.opened then Refused WrongState else read_file state path (no_file (kinds_of state.files) path) offset len
+
+-- the path that a command names, as it is written
+abbrev pub path_of : Command → List ℕ
+path_of (Read path offset len) = path
+
+abbrev pub target_of : World → Command → List ℕ
+target_of world command = resolved world.home (path_of command)
+
+-- one command: the first refusal that holds, else what it does
+abbrev pub step : World → State → Command → Outcome
+step world state command = if is_path (target_of world command) then step_at state (target_of world command) command else Refused BadPath

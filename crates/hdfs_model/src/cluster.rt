@@ -1,0 +1,57 @@
+// The outside: namenodes that are asked, and datanodes that are read.
+ghost use Rattle.std.specs.Prelude.{◌≡◌, ◌<◌, ℕ, Bool, true, false, Some, None, Result, IfOk, IfErr, IsSome, IsNone, IsTrue};
+ghost use Rattle.hdfs_model.specs.Namenode.{IsShaped};
+ghost use Rattle.hdfs_model.specs.Picture.{Picture};
+ghost use Rattle.hdfs_model.specs.Shown.{Shown, Served, Opened, NotOpened, Given, NotGiven, Ended};
+ghost use Rattle.hdfs_model.specs.declared.asks.Ask.{Ask};
+ghost use Rattle.hdfs_model.specs.declared.asks.Answer.{Answer};
+ghost use Rattle.hdfs_model.specs.declared.asks.AskFault.{AskFault};
+
+use crate::asks::{Answer, Ask, AskFault, LinkFault};
+use crate::messages::ReadAsk;
+use hdfs_wire::ReadPacket;
+
+/// Namenodes and datanodes. A call that fails for another cause than memory has raised a count.
+pub trait Cluster {
+    /// What it shows of itself.
+    ghost shown: { Self → Shown };
+
+    /// What an ask of a namenode may give, from one state to the next.
+    ghost serves: { Self → ℕ → Ask → Result Answer AskFault → Self → Type 0 };
+
+    /// How many namenodes there are. They are numbered from 0.
+    fn namenodes(&self) -> u32
+        ensures { result ≡ (shown self.now).namenodes };
+
+    /// Asks namenode `i`.
+    fn ask(&mut self, i: u32, ask: &Ask) -> Result<Answer, AskFault>
+        requires { i < (shown self.old).namenodes }
+        ensures serves { serves self.old i ask.now result self.new }
+        ensures served { Served (shown self.old) i ask.now result (shown self.new) }
+        ensures shape { IfOk result (λ answer. IsShaped ask.now answer) };
+
+    /// Opens a read on a fresh connection, and answers its link.
+    fn open_read(&mut self, kept: Option<u64>, ask: &ReadAsk) -> Result<u64, LinkFault>
+        requires { IsNone kept }
+        ensures ok { IfOk result (λ link. Opened (shown self.old) ask.now link (shown self.new)) }
+        ensures err { IfErr result (λ fault. NotOpened (shown self.old) ask.now fault (shown self.new)) };
+
+    /// The next packet of a read.
+    fn packet(&mut self, link: u64) -> Result<ReadPacket, LinkFault>
+        requires { IsSome ((shown self.old).reads link) }
+        ensures ok { IfOk result (λ packet. Given (shown self.old) link packet (shown self.new)) }
+        ensures err { IfErr result (λ fault. NotGiven (shown self.old) link fault (shown self.new)) };
+
+    /// Ends a read. The answer is whether its connection is kept, which it is only where `keep` asks for it.
+    fn end_read(&mut self, link: u64, keep: bool) -> bool
+        requires open { IsSome ((shown self.old).reads link) }
+        requires unkept { keep ≡ false }
+        ensures ended { Ended (shown self.old) link (shown self.new) }
+        ensures kept { IsTrue result → keep ≡ true };
+
+    /// What is served is served by the rows.
+    ghost serves_rows: { (old new : Self) (i : ℕ) (ask : Ask) (result : Result Answer AskFault) → serves old i ask result new → Served (shown old) i ask result (shown new) };
+
+    /// The active namenode is one of them.
+    ghost active_below: { (s : Self) (p : Picture) → (shown s).picture ≡ Some p → p.active < (shown s).namenodes };
+}

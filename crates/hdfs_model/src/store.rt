@@ -1,0 +1,66 @@
+// A cluster that files and faults can be loaded into.
+ghost use Rattle.std.specs.Prelude.{◌≡◌, ◌↔◌, Bool, IsTrue, [], Some, OnOk, IsErrOf, MatchResult, true, false};
+ghost use Rattle.hdfs_model.specs.Loading.{Loads, SameShown, takes};
+ghost use Rattle.hdfs_model.specs.Files.{State, only_root};
+ghost use Rattle.hdfs_model.specs.Counts.{SameCounts};
+ghost use Rattle.hdfs_model.specs.Picture.{Picture};
+ghost use Rattle.hdfs_model.specs.Shown.{Shown};
+ghost use Rattle.hdfs_model.specs.Stores.{Agrees};
+
+use crate::cluster::Cluster;
+use hdfs_wire::{Blob, Text};
+
+/// How a datanode fails a read.
+#[derive(Clone, Copy, Debug, PartialEq, Eq)]
+pub enum ReadKind {
+    /// The connection breaks in place of the packet.
+    Broken,
+}
+
+/// A fault that a store is to have.
+#[derive(Clone, Copy, Debug, PartialEq, Eq)]
+pub enum FaultLine {
+    /// Datanode number `node`, from 0 on, fails its `nth` packet, from 1 on, counted from the making of the cluster.
+    ReadOf { node: u32, nth: u64, kind: ReadKind },
+}
+
+/// A line that a store takes.
+#[derive(Drop)]
+pub enum Line {
+    /// A closed file.
+    File {
+        path: Text,
+        permission: u32,
+        replication: u32,
+        block_size: u64,
+        bytes: Blob,
+    },
+    Fault(FaultLine),
+}
+
+/// Why a line isn't taken.
+#[derive(Clone, Copy, Debug, PartialEq, Eq)]
+pub enum AddFault {
+    NoMemory,
+    /// The path isn't new, its parent is no directory, or a value is out of its limits.
+    Refused,
+}
+
+/// A cluster that a script can be loaded into.
+pub trait Store: Cluster {
+    /// Whether nothing was ever stored in it.
+    ghost is_fresh: { Self → Bool };
+
+    fn fresh(&self) -> bool
+        ensures { result ≡ is_fresh self.now };
+
+    /// Loads a line.
+    fn load(&mut self, line: Line) -> Result<(), AddFault>
+        ensures ok { OnOk result (Loads (Self.shown self.old) line (Self.shown self.new)) }
+        ensures refused { IsErrOf result AddFault.Refused → SameShown (Self.shown self.old) (Self.shown self.new) }
+        ensures exact { (state : State) → Agrees (Self.shown self.old).picture state.files → MatchResult result (λ done. takes state.files line ≡ true) (λ fault. fault ≡ AddFault.Refused → takes state.files line ≡ false) }
+        ensures counts { SameCounts (Self.shown self.old).counts (Self.shown self.new).counts };
+
+    /// A fresh store that tells its picture has the root alone and no line, and no other store has.
+    ghost fresh_is: { (s : Self) (p : Picture) → (Self.shown s).picture ≡ Some p → IsTrue (is_fresh s) ↔ (((Self.shown s).loaded ≡ []) × Agrees (Some p) only_root) };
+}

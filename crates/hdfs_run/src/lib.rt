@@ -1,0 +1,5 @@
+#![tactic(auto)]
+
+mod streams;
+
+pub use streams::{IoFailed, Sink, Source};

@@ -1,0 +1,45 @@
+-- What each line of a script says.
+use Rattle.std.specs.Prelude.{ℕ, ◌^◌, nat_le, Bool, true, false, ◌&&◌, ◌==◌, List, [], ◌∷◌, length, Option, Some, None, if◌then◌else◌, codes}
+use Rattle.std.specs.List.{list_all, slice_split}
+use Rattle.std.specs.Str.{bytes_eq}
+use Rattle.hdfs_model.specs.declared.store.Line.TheVariants as lines
+use Rattle.hdfs_model.specs.declared.store.FaultLine.TheVariants as faults
+use Rattle.hdfs_model.specs.declared.store.ReadKind.TheVariants as read_kinds
+use Rattle.hdfs_model.specs.declared.session.Command.TheVariants as commands
+use Rattle.hdfs_model.specs.Paths.{is_path}
+use Rattle.hdfs_script.specs.declared.entry.Entry.{Entry}
+use Rattle.hdfs_script.specs.declared.entry.Entry.TheVariants.{Blank, Loads, Runs, Bad}
+use Rattle.hdfs_script.specs.Numbers.{number, hex_bytes}
+
+-- the bytes that a path may have in a script, one or more of them
+abbrev pub is_word : List ℕ → Bool
+is_word text = nat_le 1 (length text) && list_all (λ c. nat_le 33 c && nat_le c 126) text
+
+-- `file PATH PERM REPL BLOCK HEX`
+abbrev pub file_entry : List ℕ → Option ℕ → Option ℕ → Option ℕ → Option (List ℕ) → Entry
+file_entry path (Some permission) (Some replication) (Some block_size) (Some bytes) = if is_word path then Loads (lines.File path permission replication block_size bytes) else Bad
+file_entry path permission replication block_size bytes = Bad
+
+-- `fault read D N broken`
+abbrev pub fault_entry : Option ℕ → Option ℕ → Entry
+fault_entry (Some node) (Some nth) = if nat_le 1 nth then Loads (lines.Fault (faults.ReadOf node nth read_kinds.Broken)) else Bad
+fault_entry node nth = Bad
+
+-- `do read PATH OFFSET LEN`
+abbrev pub read_entry : List ℕ → Option ℕ → Option ℕ → Entry
+read_entry path (Some offset) (Some len) = if is_word path && is_path path then Runs (commands.Read path offset len) else Bad
+read_entry path offset len = Bad
+
+abbrev pub words_entry : List (List ℕ) → Entry
+words_entry (a ∷ b ∷ c ∷ d ∷ e ∷ f ∷ []) =
+    if bytes_eq a (codes "file") then file_entry b (number 8 (2 ^ 32) c) (number 10 (2 ^ 32) d) (number 10 (2 ^ 64) e) (hex_bytes f) else Bad
+words_entry (a ∷ b ∷ c ∷ d ∷ e ∷ []) =
+    if bytes_eq a (codes "fault") && bytes_eq b (codes "read") && bytes_eq e (codes "broken") then fault_entry (number 10 (2 ^ 32) c) (number 10 (2 ^ 64) d)
+    else if bytes_eq a (codes "do") && bytes_eq b (codes "read") then read_entry c (number 10 (2 ^ 64) d) (number 10 (2 ^ 64) e)
+    else Bad
+words_entry words = Bad
+
+-- an empty line, a comment, or words with one space between them
+abbrev pub entry_of : List ℕ → Entry
+entry_of [] = Blank
+entry_of (c ∷ rest) = if c == 35 then Blank else words_entry (slice_split (λ b. b == 32) (c ∷ rest))
