@@ -1,6 +1,5 @@
 -- The main theorem's words: a session over a cluster that agrees with a state of files.
-use Rattle.std.specs.Prelude.{◌≡◌, ◌≢◌, ◌⊎◌, ℕ, ◌+◌, ◌-◌, ◌≤◌, Bool, true, false, List, [], length, take, Some, Contains, Result, IfErr, MatchResult, slice_get}
-use Rattle.std.specs.List.{list_all}
+use Rattle.std.specs.Prelude.{◌≡◌, ◌≢◌, ◌⊎◌, ℕ, ◌+◌, ◌-◌, ◌≤◌, Bool, true, false, List, [], length, take, Some, Contains, Result, IfErr, MatchResult, slice_get, All}
 use Rattle.hdfs_model.specs.declared.session.Command.{Command}
 use Rattle.hdfs_model.specs.declared.session.Command.TheVariants as commands
 use Rattle.hdfs_model.specs.declared.session.Reply.{Reply}
@@ -32,6 +31,12 @@ pub record Fits (strangers writers : List (List ℕ)) (shown : Shown) (state : S
 abbrev pub Avoids : World → List (List ℕ) → Command → Type 0
 Avoids world strangers (commands.Read path offset len) = Contains strangers (target_of world (commands.Read path offset len)) → ⊥
 
+-- A cluster with one namenode that fits a state, and commands that name no stranger's file.
+pub record Ready (world : World) (strangers writers : List (List ℕ)) (shown : Shown) (state : State) (commands : List Command) : Type 0 where
+  pub one : shown.namenodes ≡ 1
+  pub fits : Fits strangers writers shown state
+  pub avoids : All (Avoids world strangers) commands
+
 -- absolute paths that keep the path rule
 abbrev pub has_path : Command → Bool
 has_path command = is_path (path_of command)
@@ -55,7 +60,7 @@ Answers (Done reply next) e = e ≡ errors.NoMemory
 Answers (Refused why) e = (e ≡ errors.NoMemory) ⊎ IsKind why e
 
 -- the same of a whole session
-abbrev pub Complete : Folded → Result (List Reply) Fault → Type 0
+abbrev pub Complete : {T : Type 0} → Folded → Result T Fault → Type 0
 Complete (Ends replies last) result = IfErr result (λ fault. fault.error ≡ errors.NoMemory)
 Complete (Stops replies last why) result =
-    MatchResult result (λ replies'. ⊥) (λ fault. ((fault.error ≡ errors.NoMemory) × (fault.at ≤ length replies + 1)) ⊎ ((fault.at ≡ length replies + 1) × IsKind why fault.error))
+    MatchResult result (λ done. ⊥) (λ fault. ((fault.error ≡ errors.NoMemory) × (fault.at ≤ length replies + 1)) ⊎ ((fault.at ≡ length replies + 1) × IsKind why fault.error))
