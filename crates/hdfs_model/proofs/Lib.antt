@@ -1,3 +1,4 @@
 pub mod Ancestors
 pub mod Frames
+pub mod Loads
 pub mod Trees

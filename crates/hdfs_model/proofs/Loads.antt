@@ -1,0 +1,84 @@
+-- What is loaded keeps the state a state, and the store fitting it.
+use Rattle.std.proofs.Common.{◌≡◌, ◌⊎◌, inl, inr, ⊎_elim, ℕ, suc, Bool, true, false, cond, ◌&&◌, List, [], ◌∷◌, ◌++◌, length, Option, Some, None, is_none, IsSome, refl, sym, ◌∙◌, ap, subst, arith}
+use Rattle.std.proofs.lemmas.Slice.Eq.{bytes_eq-Decides}
+use Rattle.std.specs.List.{Contains}
+use Rattle.std.specs.Option.{option_map}
+use Rattle.std.specs.Str.{bytes_eq}
+use Rattle.hdfs_model.specs.declared.store.Line.{Line}
+use Rattle.hdfs_model.specs.declared.store.Line.TheVariants as lines
+use Rattle.hdfs_model.specs.Paths.{root, is_path, parent_of}
+use Rattle.hdfs_model.specs.Files.{Files, Node, Dir, File, Writing, Content, Kind, Directory, ClosedFile, kind_of, kinds_of, IsTree, State, IsState}
+use Rattle.hdfs_model.specs.Loading.{takes, is_directory, in_limits, with_file, with_line, Loads}
+use Rattle.hdfs_model.specs.Shown.{Shown}
+use Rattle.hdfs_model.specs.Sessions.{Fits}
+use Rattle.hdfs_model.proofs.Trees.{tree_with}
+
+pub and_parts : (a b : Bool) → (a && b) ≡ true → (a ≡ true) × (b ≡ true)
+and_parts true b both = (refl, both)
+and_parts false b both = absurd (cc)
+
+pub none_from_test : {X : Type 0} (o : Option X) → is_none o ≡ true → o ≡ None
+none_from_test None is = refl
+none_from_test (Some x) is = absurd (cc)
+
+pub directory_from_test : (o : Option Node) → is_directory o ≡ true → option_map kind_of o ≡ Some Directory
+directory_from_test None is = absurd (cc)
+directory_from_test (Some Dir) is = refl
+directory_from_test (Some (File content)) is = absurd (cc)
+directory_from_test (Some (Writing content)) is = absurd (cc)
+
+module _ (state : State) (path : List ℕ) (content : Content) where
+  kind_at : (b : Bool) (q : List ℕ) → option_map kind_of (cond b (Some (File content)) (state.files q)) ≡ cond b (Some ClosedFile) (kinds_of state.files q)
+  kind_at true q = refl
+  kind_at false q = refl
+
+  listed_at : (b : Bool) (q : List ℕ) → (b ≡ true → path ≡ q) → (IsSome (state.files q) → Contains state.paths q) → IsSome (cond b (Some (File content)) (state.files q)) → Contains (path ∷ state.paths) q
+  listed_at true q same old is = (0, omega arith, same refl)
+  listed_at false q same old is = let h = old is in (suc h.0, omega (arith, h.1), h.2)
+
+  pub state_with_file : IsState state → is_path path ≡ true → state.files path ≡ None → kinds_of state.files (parent_of path) ≡ Some Directory → IsState (with_file state path content)
+  state_with_file is named is_new parent = record {
+    tree = tree_with (kinds_of state.files) (kinds_of (with_file state path content).files) path ClosedFile is.tree (ap (option_map kind_of) is_new) parent named (λ q. kind_at (bytes_eq path q) q);
+    listed = λ q there. listed_at (bytes_eq path q) q (bytes_eq-Decides path q).0 (is.listed q) there;
+  }
+
+  writing_at : (b : Bool) (q : List ℕ) (written : Content) → cond b (Some (File content)) (state.files q) ≡ Some (Writing written) → state.files q ≡ Some (Writing written)
+  writing_at true q written is = absurd (cc)
+  writing_at false q written is = is
+
+-- what `takes` says of a file
+pub record Takes (files : Files) (path : List ℕ) : Type 0 where
+  pub named : is_path path ≡ true
+  pub is_new : files path ≡ None
+  pub parent : kinds_of files (parent_of path) ≡ Some Directory
+
+pub takes_file : (files : Files) (path : List ℕ) (permission replication block_size : ℕ) (bytes : List ℕ) → takes files (lines.File path permission replication block_size bytes) ≡ true → Takes files path
+takes_file files path permission replication block_size bytes is =
+    let all = and_parts (is_path path && is_none (files path) && is_directory (files (parent_of path))) (in_limits permission replication block_size (length bytes)) is in
+    let front = and_parts (is_path path && is_none (files path)) (is_directory (files (parent_of path))) all.0 in
+    let first = and_parts (is_path path) (is_none (files path)) front.0 in
+    record { named = first.0; is_new = none_from_test (files path) first.1; parent = directory_from_test (files (parent_of path)) front.1 }
+
+pub state_with_line : (state : State) (line : Line) → IsState state → takes state.files line ≡ true → IsState (with_line state line)
+state_with_line state (lines.File path permission replication block_size bytes) is taken =
+    let t = takes_file state.files path permission replication block_size bytes taken in
+    state_with_file state path (record { bytes = bytes; permission = permission; replication = replication; block_size = block_size }) is t.named t.is_new t.parent
+state_with_line state (lines.Fault fault) is taken = is
+
+opened_line : (state : State) (line : Line) → (with_line state line).opened ≡ state.opened
+opened_line state (lines.File path permission replication block_size bytes) = refl
+opened_line state (lines.Fault fault) = refl
+
+written_line : (state : State) (line : Line) (q : List ℕ) (content : Content) → (with_line state line).files q ≡ Some (Writing content) → state.files q ≡ Some (Writing content)
+written_line state (lines.File path permission replication block_size bytes) q content is =
+    writing_at state path (record { bytes = bytes; permission = permission; replication = replication; block_size = block_size }) (bytes_eq path q) q content is
+written_line state (lines.Fault fault) q content is = is
+
+-- a store that fits a state fits it with the line, once that is loaded
+pub fits_line : (strangers writers : List (List ℕ)) (old new : Shown) (state : State) (line : Line) → Fits strangers writers old state → takes state.files line ≡ true → Loads old line new → Fits strangers writers new (with_line state line)
+fits_line strangers writers old new state line fits taken loads = record {
+  is_state = state_with_line state line fits.is_state taken;
+  agrees = loads.files state fits.agrees;
+  opened = opened_line state line ∙ fits.opened;
+  being_written = λ q content is. fits.being_written q content (written_line state line q content is);
+}
