@@ -1,4 +1,5 @@
 pub mod Ancestors
+pub mod Folding
 pub mod Frames
 pub mod Loads
 pub mod Trees
