@@ -2,7 +2,7 @@
 use Rattle.std.specs.Prelude.{List, Option, Some, None}
 use Rattle.hdfs_model.specs.declared.session.Reply.{Reply}
 use Rattle.hdfs_model.specs.Files.{State, NotDirectory, Missing, NotFile}
-use Rattle.hdfs_model.specs.Steps.{Refusal, BadPath, WrongState, Lacks, BadRange, Outcome, Refused, Done}
+use Rattle.hdfs_model.specs.Steps.{Refusal, BadPath, Lacks, BadRange, Outcome, Refused, Done}
 use Rattle.hdfs_model.specs.Folds.{Folded, Ends, Stops}
 use Rattle.hdfs_plain.specs.declared.running.PlainRefusal.{PlainRefusal}
 use Rattle.hdfs_plain.specs.declared.running.PlainRefusal.TheVariants as refusals

@@ -1,8 +1,8 @@
 -- What the plain program's files stand for, and what it answers.
-use Rattle.std.specs.Prelude.{◌≡◌, ℕ, List, [], Option, Some, None, option_map}
+use Rattle.std.specs.Prelude.{◌≡◌, ℕ, List, [], Option, option_map}
 use Rattle.hdfs_plain.specs.declared.files.PlainNode.{PlainNode}
 use Rattle.hdfs_plain.specs.declared.files.PlainNode.TheVariants as nodes
-use Rattle.hdfs_model.specs.Files.{Files, Node, Dir, File, Content, State}
+use Rattle.hdfs_model.specs.Files.{Files, Node, Dir, File, State}
 
 abbrev pub node_of : PlainNode → Node
 node_of nodes.Dir = Dir
