@@ -1,0 +1,65 @@
+#!/usr/bin/env python3
+"""Times the program on scripts of two kinds, and prints the figures as ratios.
+
+usage: bench/run.py PROGRAM
+  PROGRAM  the built program hdfs_run
+
+One large file: a script with one file of 8 MB (and one of 4 MB) in hexadecimal digits, and one read of all of it.
+Many files: a script with 10,000 files (and one with 1,000) of 16 bytes, and one read of each.
+Each run is made five times, and the fastest counts; memory is the largest resident set of the five.
+"""
+import os
+import subprocess
+import sys
+import tempfile
+import time
+
+RUNS = 5
+
+
+def one_file(size):
+    digits = bytes(range(256)).hex() * (size // 256)
+    return f"file /a 644 1 {size} {digits}\ndo read /a 0 {size}\n", f"ok bytes {digits}\n"
+
+
+def many_files(count):
+    lines = [f"file /f{i} 644 1 16 {i:032x}\n" for i in range(count)]
+    reads = [f"do read /f{i} 0 16\n" for i in range(count)]
+    replies = [f"ok bytes {i:032x}\n" for i in range(count)]
+    return "".join(lines + reads), "".join(replies)
+
+
+def run(program, script, expected):
+    with tempfile.TemporaryDirectory() as folder:
+        path = os.path.join(folder, "script")
+        with open(path, "w") as file:
+            file.write(script)
+        seconds, peak = [], 0
+        for _ in range(RUNS):
+            out = os.path.join(folder, "out")
+            with open(path, "rb") as source, open(out, "wb") as sink:
+                begin = time.perf_counter()
+                child = subprocess.Popen([program, "session"], stdin=source, stdout=sink)
+                _, status, usage = os.wait4(child.pid, 0)
+                seconds.append(time.perf_counter() - begin)
+            peak = max(peak, usage.ru_maxrss * 1024)
+            with open(out) as file:
+                assert os.waitstatus_to_exitcode(status) == 0 and file.read() == expected
+        return min(seconds), peak
+
+
+def main():
+    program = sys.argv[1]
+    large, peak = run(program, *one_file(8_000_000))
+    small, _ = run(program, *one_file(4_000_000))
+    many, _ = run(program, *many_files(10_000))
+    few, _ = run(program, *many_files(1_000))
+    script = len(one_file(8_000_000)[0])
+    print(f"8 MB against 4 MB: {large / small:.2f} times")
+    print(f"script per second: {script / large / 1e6:.0f} MB")
+    print(f"peak memory: {peak / 8_000_000:.1f} times the stored bytes")
+    print(f"per file, 10,000 against 1,000: {many / 10 / few:.2f} times")
+
+
+if __name__ == "__main__":
+    main()
