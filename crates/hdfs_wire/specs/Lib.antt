@@ -1,0 +1,10 @@
+pub mod Checksums
+pub mod Crc
+pub mod CrcTables
+pub mod Fields
+pub mod Frames
+pub mod Headers
+pub mod Outgoing
+pub mod Packets
+pub mod Reading
+pub mod Varint

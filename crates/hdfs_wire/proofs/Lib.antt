@@ -1,0 +1,16 @@
+pub mod Apart
+pub mod Chunks
+pub mod Groups
+pub mod HeaderFields
+pub mod Message
+pub mod Messages
+pub mod Numbers
+pub mod OneField
+pub mod Register
+pub mod Sliced
+pub mod Steps
+pub mod Stream
+pub mod Tables
+pub mod WholePacket
+pub mod WrittenPacket
+pub mod Xor

@@ -1,0 +1,90 @@
+//! Checksums of 32 bits, sixteen bytes at a step.
+
+ghost use Rattle.std.specs.Prelude.{◌≡◌, ◌≢◌, ℕ, List, length, ◌+◌, ◌<◌, ◌++◌, ◌∷◌, []};
+ghost use Rattle.hdfs_wire.specs.Crc.{enter, checksum, crc32c_of, crc32_of};
+ghost use Rattle.hdfs_wire.specs.CrcTables.{AreTables, zero_bytes};
+
+mod crc32_far;
+mod crc32_near;
+mod crc32c_far;
+mod crc32c_near;
+
+/// What each byte leaves in the register behind some bytes of zeros: a table for each number of zeros.
+type Tables = [[u32; 256]; 8];
+
+/// How many bytes enter the register at a step.
+const STEP: usize = 16;
+
+/// What a byte leaves in the register behind fewer than sixteen bytes of zeros.
+#[inline(always)]
+fn left_behind(near: &Tables, far: &Tables, zeros: usize, byte: u8) -> u32
+    requires { zeros < STEP }
+    ensures { (p : ℕ) → AreTables p 0 near.now → AreTables p 8 far.now → result ≡ zero_bytes p (zeros + 1) byte }
+{
+    if zeros < 8 {
+        near[zeros][byte as usize]
+    } else {
+        far[zeros - 8][byte as usize]
+    }
+}
+
+/// The register after a byte.
+fn enter_byte(near: &Tables, register: u32, byte: u8) -> u32
+    ensures { (p : ℕ) → AreTables p 0 near.now → result ≡ enter p register (byte ∷ []) }
+{
+    let place = (register % 256) as u8 ^ byte;
+    near[0][place as usize] ^ (register >> 8)
+}
+
+/// The register after sixteen bytes.
+#[inline(always)]
+fn enter_step(near: &Tables, far: &Tables, register: u32, bytes: &[u8]) -> u32
+    requires { length bytes.now ≡ STEP }
+    ensures { (p : ℕ) → AreTables p 0 near.now → AreTables p 8 far.now → result ≡ enter p register bytes.now }
+{
+    let mut left = register;
+    let mut sum = 0;
+    for i in 0..STEP {
+        let byte = (left % 256) as u8 ^ bytes[i];
+        sum ^= left_behind(near, far, STEP - 1 - i, byte);
+        left >>= 8;
+    }
+    sum
+}
+
+/// The checksum by these tables.
+fn checksum(near: &Tables, far: &Tables, bytes: &[u8]) -> u32
+    ensures { (p : ℕ) → AreTables p 0 near.now → AreTables p 8 far.now → result ≡ checksum p bytes.now }
+{
+    let mut register = u32::MAX;
+    let mut rest = bytes;
+    while rest.len() >= STEP {
+        let (step, after) = rest.split_at(STEP);
+        register = enter_step(near, far, register, step);
+        rest = after;
+    }
+    for byte in rest {
+        register = enter_byte(near, register, *byte);
+    }
+    register ^ u32::MAX
+}
+
+/// The CRC-32C of the bytes, whose polynomial is 0x82F63B78 with the lowest power at the top bit. It takes no memory.
+pub fn crc32c(bytes: &[u8]) -> u32
+    ensures { result ≡ crc32c_of bytes.now }
+{
+    checksum(&crc32c_near::TABLES, &crc32c_far::TABLES, bytes)
+}
+
+/// The CRC-32 of the bytes, whose polynomial is 0xEDB88320 with the lowest power at the top bit. It takes no memory.
+pub fn crc32(bytes: &[u8]) -> u32
+    ensures { result ≡ crc32_of bytes.now }
+{
+    checksum(&crc32_near::TABLES, &crc32_far::TABLES, bytes)
+}
+
+/// Two texts of one length that differ in exactly one byte have different sums.
+pub fn one_byte_changes_the_sum()
+    ensures crc32c { (front back : List ℕ) (x y : ℕ) → x < 256 → y < 256 → x ≢ y → crc32c_of (front ++ x ∷ back) ≢ crc32c_of (front ++ y ∷ back) }
+    ensures crc32 { (front back : List ℕ) (x y : ℕ) → x < 256 → y < 256 → x ≢ y → crc32_of (front ++ x ∷ back) ≢ crc32_of (front ++ y ∷ back) }
+{}
