@@ -6,7 +6,7 @@ use Rattle.hdfs_model.specs.Steps.{World, Done, Refused, step}
 use Rattle.hdfs_model.specs.Folds.{Ends, Stops, fold}
 use Rattle.hdfs_plain.specs.declared.running.PlainOutcome.{PlainOutcome}
 use Rattle.hdfs_plain.specs.Answers.{outcome_of, refusal_of}
-use Rattle.hdfs_model.proofs.Folding.{fold-push, fold-stop}
+use Rattle.hdfs_model.proofs.Folding.{fold-push, fold-stop_at}
 use Rattle.hdfs_plain.proofs.running.run.Goals as goal
 
 pub loop-command-preserved : goal.loop-command-preserved
@@ -26,4 +26,4 @@ returns-in-Refused c = λ state holds.
     let command = c.command-item.result in
     let here : step w state command ≡ Refused (refusal_of c.in-Refused.why) = sym (c.in_ok-reply.ensures state holds) ∙ ap (λ (o : PlainOutcome). outcome_of o state) c.in-Refused.is in
     ap (λ (rs : List Reply). Stops rs state (refusal_of c.in-Refused.why)) c.from_vec.ensures
-    ∙ sym (fold-stop w state c.args.commands.now c.loop-command.command-index command c.loop-command.replies.items state (refusal_of c.in-Refused.why) c.loop-command-test.true (sym c.command-item.is) (c.loop-command.invariant state holds) here)
+    ∙ sym (fold-stop_at w state c.args.commands.now c.loop-command.command-index command c.loop-command.replies.items state (refusal_of c.in-Refused.why) c.loop-command-test.true (sym c.command-item.is) (c.loop-command.invariant state holds) here)
