@@ -1,0 +1,139 @@
+-- What calls of a reader keep, joined.
+use Rattle.std.proofs.Common.{◌≡◌, ◌≢◌, ◌⊎◌, inl, inr, ⊎_elim, ℕ, ◌≤◌, List, Option, Some, None, IsSome, refl, sym, ◌∙◌, ap, subst}
+use Rattle.std.proofs.lemmas.Bool.{cases_eq}
+use Rattle.hdfs_model.specs.declared.picture.OpenRead.{OpenRead}
+use Rattle.hdfs_model.specs.declared.messages.LocatedBlock.{LocatedBlock}
+use Rattle.hdfs_model.specs.Counts.{Counts}
+use Rattle.hdfs_model.specs.Picture.{Picture, SameFiles, Told}
+use Rattle.hdfs_model.specs.Shown.{Shown, OnlyReads}
+use Rattle.hdfs_model.proofs.Frames.{told_after, only_reads_trans, never_fall_trans}
+use Rattle.hdfs_blocks.specs.Blocks.{node_at}
+use Rattle.hdfs_blocks.specs.Reader.{Stands, SamePlaces, Keeps, Reads, Over, Blamed, stage_of, GaveUp, GivesUp}
+use Rattle.hdfs_blocks.specs.Going.{Frame, Goes}
+use Rattle.hdfs_blocks.specs.declared.block_read.BlockRead.{BlockRead}
+use Rattle.hdfs_blocks.proofs.Listing.{gave_up_before, gave_up_trans, gave_up_opened, gave_up_blamed, blame_after}
+
+-- an open link is there or not
+pub some_or_none : (o : Option OpenRead) → (IsSome o) ⊎ (o ≡ None)
+some_or_none None = inr refl
+some_or_none (Some x) = inl refl
+
+-- a link is the kept one or not
+pub is_link : (o : Option ℕ) (l : ℕ) → (o ≡ Some l) ⊎ (o ≢ Some l)
+is_link None l = inr (λ e. cc)
+is_link (Some x) l = ⊎_elim (λ e. inl (ap Some e)) (λ ne. inr (λ e. ne (cc))) (cases_eq x l)
+
+-- what isn't there isn't open
+pub not_some : (o : Option OpenRead) → o ≡ None → IsSome o → ⊥
+not_some None is some = absurd (cc)
+not_some (Some x) is some = absurd (cc)
+
+-- a told picture before and after reads
+pub same_files_shown : (s t : Shown) (p q : Picture) → OnlyReads s t → s.picture ≡ Some p → t.picture ≡ Some q → SameFiles p q
+same_files_shown s t p q only before after =
+    let found = told_after SameFiles s.picture t.picture p only.files before in
+    let same : found.0 ≡ q = cc (found.1, after) in
+    subst (λ (x : Picture). SameFiles p x) same found.2
+
+-- one step of told pictures behind another
+pub told_join : (P Q R : Picture → Picture → Type 0) (a b c : Option Picture) → ((p q r : Picture) → P p q → Q q r → R p r) → Told P a b → Told Q b c → Told R a c
+told_join P Q R None None None join f g = tt
+told_join P Q R (Some a) (Some b) (Some c) join f g = join a b c f g
+told_join P Q R None (Some b) c join f g = absurd f
+told_join P Q R (Some a) None c join f g = absurd f
+told_join P Q R None None (Some c) join f g = absurd g
+told_join P Q R (Some a) (Some b) None join f g = absurd g
+
+module _ (s t u : Shown) (q r w : BlockRead) where
+  -- the kept link is the first one, or was not open at first
+  own_trans : Frame s t q r → Frame t u r w → (l : ℕ) → w.link ≡ Some l → (q.link ≡ Some l) ⊎ (s.reads l ≡ None)
+  own_trans f g l is = ⊎_elim (f.own l) (λ none. ⊎_elim (λ same. inl same) (λ other. inr (closed l other none)) (is_link q.link l)) (g.own l is)
+    where
+      closed : (l : ℕ) → q.link ≢ Some l → t.reads l ≡ None → s.reads l ≡ None
+      closed l other none = ⊎_elim (λ some. absurd (not_some (s.reads l) (sym (f.others l other some) ∙ none) some)) (λ e. e) (some_or_none (s.reads l))
+
+  -- a link that was open and isn't the reader's isn't taken by it
+  not_taken : Frame s t q r → (l : ℕ) → q.link ≢ Some l → IsSome (s.reads l) → r.link ≢ Some l
+  not_taken f l other some = λ is. ⊎_elim (λ same. other same) (λ none. not_some (s.reads l) none some) (f.own l is)
+
+  -- and it is still open
+  still_open : Frame s t q r → (l : ℕ) → q.link ≢ Some l → IsSome (s.reads l) → IsSome (t.reads l)
+  still_open f l other some = subst IsSome (sym (f.others l other some)) some
+
+  -- so it stays over both calls
+  others_trans : Frame s t q r → Frame t u r w → (l : ℕ) → q.link ≢ Some l → IsSome (s.reads l) → u.reads l ≡ s.reads l
+  others_trans f g l other some = g.others l (not_taken f l other some) (still_open f l other some) ∙ f.others l other some
+
+  -- its place too
+  places_trans : Frame s t q r → Frame t u r w → Told (SamePlaces s q) s.picture u.picture
+  places_trans f g =
+      told_join (SamePlaces s q) (SamePlaces t r) (SamePlaces s q) s.picture t.picture u.picture
+      (λ a b c before after l other some. after l (not_taken f l other some) (still_open f l other some) ∙ before l other some) f.places g.places
+
+  -- a link that the reader used isn't left open
+  frees_trans : Frame s t q r → Frame t u r w → (l : ℕ) → w.link ≢ Some l → (q.link ≡ Some l) ⊎ (s.reads l ≡ None) → u.reads l ≡ None
+  frees_trans f g l not_its free = ⊎_elim (λ its. g.frees l not_its (inl its)) (λ other. g.frees l not_its (inr (f.frees l other free))) (is_link r.link l)
+
+  -- both calls together
+  pub frame_trans : Frame s t q r → Frame t u r w → Frame s u q w
+  frame_trans f g = record {
+    block = g.block ∙ f.block;
+    end = g.end ∙ f.end;
+    only = only_reads_trans s t u f.only g.only;
+    others = others_trans f g;
+    places = places_trans f g;
+    own = own_trans f g;
+    frees = frees_trans f g;
+    holds = g.holds;
+  }
+
+  -- the locations that both gave up
+  gives_up_trans : Goes s t q r → Goes t u r w → GivesUp s u q w
+  gives_up_trans f g bytes shows =
+      let first = f.gives_up bytes shows in
+      let mid = f.shows bytes shows in
+      let second = g.gives_up bytes mid in
+      let same = same_files_shown s t shows.picture mid.picture f.frame.only shows.told mid.told in
+      let moved = subst (λ (b : LocatedBlock). GaveUp mid.picture b bytes second.0 (stage_of t r) (stage_of u w)) f.frame.block second.1 in
+      gave_up_trans shows.picture q.block bytes first.0 second.0 (stage_of s q) (stage_of t r) (stage_of u w) first.1
+      (gave_up_before shows.picture mid.picture q.block bytes second.0 (stage_of t r) (stage_of u w) same moved)
+
+  -- all that stays over both
+  pub goes_trans : Goes s t q r → Goes t u r w → Goes s u q w
+  goes_trans f g = record {
+    frame = frame_trans f.frame g.frame;
+    shows = λ bytes shows. g.shows bytes (f.shows bytes shows);
+    gives_up = gives_up_trans f g;
+  }
+
+module _ (s t : Shown) (r r' : BlockRead) (goes : Goes s t r r') where
+  -- each location that was given up is still to blame since the start
+  pub over_goes : (start : Counts) (bytes : List ℕ) → Over start s r bytes → Over start t r' bytes
+  over_goes start bytes o =
+      let after = goes.shows bytes o.shows in
+      let same = same_files_shown s t o.shows.picture after.picture goes.frame.only o.shows.told after.told in
+      let given = goes.gives_up bytes o.shows in
+      let opened = gave_up_opened o.shows.picture r.block bytes start given.0 (stage_of s r) (stage_of t r') o.since o.opened given.1 in
+      let blamed = gave_up_blamed o.shows.picture r.block bytes start given.0 (stage_of s r) (stage_of t r') o.since o.opened o.blamed given.1 in
+      record {
+        shows = after;
+        since = never_fall_trans start s.counts t.counts o.since goes.frame.only.later.counts;
+        opened = subst (λ (b : LocatedBlock). start.nodes (node_at b r'.tried) ≤ (stage_of t r').before) (sym goes.frame.block) opened;
+        blamed = λ k lt. subst (λ (b : LocatedBlock). Blamed start t after.picture b bytes k) (sym goes.frame.block) (blame_after o.shows.picture after.picture r.block bytes k (start.nodes (node_at r.block k)) t.counts same (blamed k lt));
+      }
+
+  -- what the public clauses say of it
+  pub reads_from-Goes : Reads s t r r'
+  reads_from-Goes = record { shows = goes.shows; over = over_goes }
+
+  pub keeps_from-Goes : Stands t r' → Keeps s t r r'
+  keeps_from-Goes stands = record {
+    block = goes.frame.block;
+    end = goes.frame.end;
+    only = goes.frame.only;
+    others = goes.frame.others;
+    places = goes.frame.places;
+    own = goes.frame.own;
+    frees = goes.frame.frees;
+    stands = stands;
+  }

@@ -1,0 +1,5 @@
+pub mod Going
+pub mod Joining
+pub mod Listing
+pub mod Ranges
+pub mod Starting

@@ -1,0 +1,25 @@
+use Rattle.std.proofs.Common.{◌≡◌, ℕ, List, Option, IfSome, length, subst, rules}
+use Rattle.hdfs_model.specs.Steps.{range_of}
+use Rattle.hdfs_blocks.proofs.Joining.{goes_trans}
+use Rattle.hdfs_blocks.proofs.block_read.BlockRead.piece.Goals as goal
+
+pub returns-in_err-bytes-clause-goes : goal.returns-in_err-bytes-clause-goes
+returns-in_err-bytes-clause-goes g c =
+    goes_trans (g.C.Cluster.shown c.args.cluster.now) (g.C.Cluster.shown c.locations.cluster) (g.C.Cluster.shown c.read_location.new.cluster) c.args.self.now c.locations.self c.read_location.new.self c.locations.invariant.goes c.read_location.ensures.goes
+
+pub returns-in-Some-clause-goes : goal.returns-in-Some-clause-goes
+returns-in-Some-clause-goes g c =
+    goes_trans (g.C.Cluster.shown c.args.cluster.now) (g.C.Cluster.shown c.locations.cluster) (g.C.Cluster.shown c.read_location.new.cluster) c.args.self.now c.locations.self c.read_location.new.self c.locations.invariant.goes c.read_location.ensures.goes
+
+pub returns-in-Some-clause-bytes : goal.returns-in-Some-clause-bytes
+returns-in-Some-clause-bytes g c = λ block shows.
+    let so_far = c.locations.invariant in
+    let part = c.in_ok-bytes.ensures.bytes block (so_far.goes.shows block shows) in
+    subst (λ (w : ℕ). c.in-Some.bytes ≡ range_of block w (length c.in-Some.bytes)) so_far.wanted (subst (λ (piece : Option (List ℕ)). IfSome piece (λ bytes. bytes ≡ range_of block c.locations.self.wanted (length bytes))) c.in-Some.is part)
+
+pub locations-preserved : goal.locations-preserved
+locations-preserved g c = record {
+  goes = goes_trans (g.C.Cluster.shown c.args.cluster.now) (g.C.Cluster.shown c.locations.cluster) (g.C.Cluster.shown c.read_location.new.cluster) c.args.self.now c.locations.self c.read_location.new.self c.locations.invariant.goes c.read_location.ensures.goes;
+  failed = search rules;
+  wanted = search rules;
+}

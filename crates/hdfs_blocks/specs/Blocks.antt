@@ -1,0 +1,22 @@
+-- The datanodes that are listed for a block, its locations.
+use Rattle.std.specs.Prelude.{◌⊎◌, ℕ, ◌<◌, List, [], length, slice_index_or}
+use Rattle.hdfs_model.specs.declared.messages.LocatedBlock.{LocatedBlock}
+use Rattle.hdfs_model.specs.Counts.{Counts, Rose}
+use Rattle.hdfs_model.specs.Picture.{Picture}
+use Rattle.hdfs_model.specs.Namenode.{uuids}
+
+-- the datanode of the k-th location, by its uuid
+abbrev pub node_at : LocatedBlock → ℕ → List ℕ
+node_at block k = slice_index_or (uuids block.locs) k []
+
+abbrev pub node_count : LocatedBlock → ℕ
+node_count block = length block.locs
+
+-- the bytes that the k-th location's datanode holds of the block
+abbrev pub held_at : Picture → LocatedBlock → ℕ → List ℕ
+held_at picture block k = picture.held (node_at block k) block.b.block_id
+
+-- The k-th location is to blame for not giving the block's bytes: its datanode has failed since its count was `before`, or
+-- doesn't hold the block whole.
+abbrev pub IsToBlame : Picture → LocatedBlock → List ℕ → ℕ → ℕ → Counts → Type 0
+IsToBlame picture block bytes k before now = Rose before (now.nodes (node_at block k)) ⊎ (length (held_at picture block k) < length bytes)

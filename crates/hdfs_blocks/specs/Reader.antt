@@ -1,0 +1,174 @@
+-- A reader of a block, the cluster that it reads from, and the bytes of the block.
+use Rattle.std.specs.Prelude.{◌≡◌, ◌≢◌, ◌⊎◌, ℕ, zero, suc, ◌+◌, ◌<◌, ◌≤◌, Bool, true, List, length, Option, Some, None, IsSome}
+use Rattle.hdfs_model.specs.declared.messages.LocatedBlock.{LocatedBlock}
+use Rattle.hdfs_model.specs.declared.picture.ReadPlace.{ReadPlace}
+use Rattle.hdfs_model.specs.declared.picture.OpenRead.{OpenRead}
+use Rattle.hdfs_model.specs.declared.session.HdfsError.{HdfsError}
+use Rattle.hdfs_model.specs.declared.session.HdfsError.TheVariants as errors
+use Rattle.hdfs_model.specs.declared.session.TransferFault.TheVariants as transfer
+use Rattle.hdfs_model.specs.Counts.{Counts, NeverFall}
+use Rattle.hdfs_model.specs.Picture.{Picture, Told}
+use Rattle.hdfs_model.specs.Shown.{Shown, OnlyReads}
+use Rattle.hdfs_model.specs.Stores.{HoldsPrefix}
+use Rattle.hdfs_blocks.specs.Blocks.{node_at, node_count, held_at, IsToBlame}
+use Rattle.hdfs_blocks.specs.declared.block_read.BlockRead.{BlockRead}
+
+-- the block that it reads
+abbrev pub block_of : BlockRead → LocatedBlock
+block_of reader = reader.block
+
+-- the name by which datanodes know it
+abbrev pub client_of : BlockRead → List ℕ
+client_of reader = reader.client
+
+-- the offset in the block of the next byte that it is to give
+abbrev pub wanted_of : BlockRead → ℕ
+wanted_of reader = reader.wanted
+
+-- the offset in the block at which its range ends
+abbrev pub end_of : BlockRead → ℕ
+end_of reader = reader.end
+
+-- how many locations it has given up: they are the first ones of the block
+abbrev pub tried_of : BlockRead → ℕ
+tried_of reader = reader.tried
+
+-- the link that it keeps open from one call to the next
+abbrev pub link_of : BlockRead → Option ℕ
+link_of reader = reader.link
+
+-- whether a call has answered an error
+abbrev pub has_failed : BlockRead → Bool
+has_failed reader = reader.failed
+
+-- nothing more comes
+abbrev pub IsOver : BlockRead → Type 0
+IsOver reader = (has_failed reader ≡ true) ⊎ (wanted_of reader ≡ end_of reader)
+
+-- The link was opened on the location that the reader tries, when its node's count was at most what it is now.
+abbrev pub LinkHolds : Shown → BlockRead → ℕ → Type 0
+LinkHolds shown reader link =
+    (reader.tried < node_count reader.block)
+    × (opened : OpenRead)
+    × (shown.reads link ≡ Some opened)
+    × (opened.node.datanode_uuid ≡ node_at reader.block reader.tried)
+    × (opened.before ≤ shown.counts.nodes (node_at reader.block reader.tried))
+
+-- The reader's place is in its range and its list, and the link that it keeps is open.
+pub record Holds (shown : Shown) (reader : BlockRead) : Type 0 where
+  pub range : reader.wanted ≤ reader.end
+  pub tried : reader.tried ≤ node_count reader.block
+  pub link : (link : ℕ) → reader.link ≡ Some link → LinkHolds shown reader link
+  pub position : (at : ℕ) → reader.position ≡ Some at → reader.wanted < reader.end → at ≤ reader.wanted
+
+-- The reader stands in the cluster as its last call left it. At the end of its range and after an error it keeps no link.
+pub record Stands (shown : Shown) (reader : BlockRead) : Type 0 where
+  pub holds : Holds shown reader
+  pub idle : IsOver reader → link_of reader ≡ None
+
+-- the places of the links that were open and aren't the reader's own stay
+abbrev pub SamePlaces : Shown → BlockRead → Picture → Picture → Type 0
+SamePlaces old reader p q = (link : ℕ) → link_of reader ≢ Some link → IsSome (old.reads link) → q.reads link ≡ p.reads link
+
+-- What every call of a reader keeps. Links that were open and aren't its own stay as they were. The link that it keeps
+-- is the same or a fresh one, and no other link that it used is left open.
+pub record Keeps (old new : Shown) (reader reader' : BlockRead) : Type 0 where
+  pub block : block_of reader' ≡ block_of reader
+  pub end : end_of reader' ≡ end_of reader
+  pub only : OnlyReads old new
+  pub others : (link : ℕ) → link_of reader ≢ Some link → IsSome (old.reads link) → new.reads link ≡ old.reads link
+  pub places : Told (SamePlaces old reader) old.picture new.picture
+  pub own : (link : ℕ) → link_of reader' ≡ Some link → (link_of reader ≡ Some link) ⊎ (old.reads link ≡ None)
+  pub frees : (link : ℕ) → link_of reader' ≢ Some link → (link_of reader ≡ Some link) ⊎ (old.reads link ≡ None) → new.reads link ≡ None
+  pub stands : Stands new reader'
+
+-- where the next packet begins
+abbrev pub PlaceIs : Option ℕ → ℕ → ℕ → Type 0
+PlaceIs None wanted place = place ≤ wanted
+PlaceIs (Some at) wanted place = place ≡ at
+
+-- what a told picture shows of the reader's link
+abbrev pub PlacedIn : Picture → BlockRead → Type 0
+PlacedIn picture reader =
+    (link : ℕ)
+    → reader.link ≡ Some link
+    → (read : ReadPlace)
+    × (picture.reads link ≡ Some read)
+    × (read.base ≡ held_at picture reader.block reader.tried)
+    × (read.offset + read.len ≡ reader.end)
+    × PlaceIs reader.position reader.wanted read.place
+
+-- The cluster tells a picture, in which each listed node holds a prefix of these bytes. They reach to the end of the range.
+pub record ShowsBlock (shown : Shown) (reader : BlockRead) (bytes : List ℕ) : Type 0 where
+  pub picture : Picture
+  pub told : shown.picture ≡ Some picture
+  pub within : end_of reader ≤ length bytes
+  pub prefixes : (k : ℕ) → k < node_count (block_of reader) → HoldsPrefix (λ node. picture.held node (block_of reader).b.block_id) bytes (node_at (block_of reader) k)
+  pub placed : PlacedIn picture reader
+
+-- the count of a link's node just before it was opened, and without a link its count now
+abbrev pub before_opening : Option OpenRead → ℕ → ℕ
+before_opening None now = now
+before_opening (Some opened) now = opened.before
+
+abbrev pub before_link : Shown → Option ℕ → ℕ → ℕ
+before_link shown None now = now
+before_link shown (Some link) now = before_opening (shown.reads link) now
+
+-- Where a reader is in the list of locations: how many it has given up; the count of the next one's node when it was
+-- opened, or where it isn't open the count now; and all counts now.
+pub record Stage : Type 0 where
+  pub tried : ℕ
+  pub before : ℕ
+  pub counts : Counts
+
+abbrev pub stage_of : Shown → BlockRead → Stage
+stage_of shown reader = record {
+  tried = tried_of reader;
+  before = before_link shown (link_of reader) (shown.counts.nodes (node_at (block_of reader) (tried_of reader)));
+  counts = shown.counts;
+}
+
+-- From one stage to another so many locations were given up, one after another: each was opened, and was to blame since
+-- then, and only then the next one was opened.
+abbrev pub GaveUp : Picture → LocatedBlock → List ℕ → ℕ → Stage → Stage → Type 0
+GaveUp picture block bytes zero old new = (new.tried ≡ old.tried) × (old.before ≤ new.before) × NeverFall old.counts new.counts
+GaveUp picture block bytes (suc n) old new =
+    (mid : Counts)
+    × NeverFall old.counts mid
+    × IsToBlame picture block bytes old.tried old.before mid
+    × GaveUp picture block bytes n (record { tried = old.tried + 1; before = mid.nodes (node_at block (old.tried + 1)); counts = mid }) new
+
+-- over a told picture locations are given up as they should
+abbrev pub GivesUp : Shown → Shown → BlockRead → BlockRead → Type 0
+GivesUp old new reader reader' =
+    (bytes : List ℕ) (shows : ShowsBlock old reader bytes)
+    → (n : ℕ) × GaveUp shows.picture (block_of reader) bytes n (stage_of old reader) (stage_of new reader')
+
+-- the k-th location is to blame since these counts
+abbrev pub Blamed : Counts → Shown → Picture → LocatedBlock → List ℕ → ℕ → Type 0
+Blamed start shown picture block bytes k = IsToBlame picture block bytes k (start.nodes (node_at block k)) shown.counts
+
+-- Over a told picture each location that was given up is to blame since the start, and the reader's link was opened since
+-- then.
+pub record Over (start : Counts) (shown : Shown) (reader : BlockRead) (bytes : List ℕ) : Type 0 where
+  pub shows : ShowsBlock shown reader bytes
+  pub since : NeverFall start shown.counts
+  pub opened : start.nodes (node_at (block_of reader) (tried_of reader)) ≤ (stage_of shown reader).before
+  pub blamed : (k : ℕ) → k < tried_of reader → Blamed start shown shows.picture (block_of reader) bytes k
+
+-- what a call keeps over a told picture
+pub record Reads (old new : Shown) (reader reader' : BlockRead) : Type 0 where
+  pub shows : (bytes : List ℕ) → ShowsBlock old reader bytes → ShowsBlock new reader' bytes
+  pub over : (start : Counts) (bytes : List ℕ) → Over start old reader bytes → Over start new reader' bytes
+
+-- each location is to blame since the start
+abbrev pub AllBlamed : Counts → Shown → LocatedBlock → List ℕ → Type 0
+AllBlamed start shown block bytes = (picture : Picture) → shown.picture ≡ Some picture → (k : ℕ) → k < node_count block → Blamed start shown picture block bytes k
+
+abbrev pub IsRead : HdfsError → Type 0
+IsRead e = e ≢ errors.NoMemory
+
+-- the errors of a read: want of memory, or the first wanted offset that no node gave
+abbrev pub IsReadError : ℕ → HdfsError → Type 0
+IsReadError offset e = (e ≡ errors.NoMemory) ⊎ (e ≡ errors.DataTransferError (transfer.Read offset))
