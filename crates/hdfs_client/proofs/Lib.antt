@@ -1,0 +1,10 @@
+pub mod Agreeing
+pub mod Causing
+pub mod Completing
+pub mod Going
+pub mod Looking
+pub mod Parts
+pub mod Pieces
+pub mod Readers
+pub mod Running
+pub mod Stepping

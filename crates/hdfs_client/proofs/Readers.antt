@@ -1,0 +1,48 @@
+-- What calls of a block's reader keep, joined, and a reader that begins.
+use Rattle.std.proofs.Common.{◌≡◌, inr, ⊎_elim, ℕ, ◌+◌, ◌-◌, ◌≤◌, List, ◌++◌, length, None, sym, ◌∙◌, ap, subst, arith}
+use Rattle.hdfs_model.specs.declared.messages.LocatedBlock.{LocatedBlock}
+use Rattle.hdfs_model.specs.Counts.{Counts}
+use Rattle.hdfs_model.specs.Shown.{Shown}
+use Rattle.hdfs_model.specs.Steps.{range_of}
+use Rattle.hdfs_blocks.specs.Going.{Frame}
+use Rattle.hdfs_blocks.specs.Reader.{block_of, wanted_of, end_of, link_of, tried_of, Keeps, Reads, ShowsBlock, Over, AllBlamed}
+use Rattle.hdfs_blocks.specs.declared.block_read.BlockRead.{BlockRead}
+use Rattle.hdfs_blocks.proofs.Joining.{frame_trans, some_or_none}
+use Rattle.hdfs_blocks.proofs.Starting.{shows_new, over_new}
+use Rattle.hdfs_client.specs.Meeting.{SameLinks}
+use Rattle.hdfs_client.specs.Ranges.{HoldsBlock}
+
+frame_of : (s t : Shown) (q r : BlockRead) → Keeps s t q r → Frame s t q r
+frame_of s t q r k = record { block = k.block; end = k.end; only = k.only; others = k.others; places = k.places; own = k.own; frees = k.frees; holds = k.stands.holds }
+
+module _ (s t u : Shown) (q r w : BlockRead) where
+  pub keeps_trans : Keeps s t q r → Keeps t u r w → Keeps s u q w
+  keeps_trans f g =
+      let joined = frame_trans s t u q r w (frame_of s t q r f) (frame_of t u r w g) in
+      record { block = joined.block; end = joined.end; only = joined.only; others = joined.others; places = joined.places; own = joined.own; frees = joined.frees; stands = g.stands }
+
+  pub reads_trans : Reads s t q r → Reads t u r w → Reads s u q w
+  reads_trans f g = record { shows = λ bytes shows. g.shows bytes (f.shows bytes shows); over = λ start bytes over. g.over start bytes (f.over start bytes over) }
+
+-- a reader that keeps no link before and after leaves all links
+pub links_from-Keeps : (s t : Shown) (r r' : BlockRead) → Keeps s t r r' → link_of r ≡ None → link_of r' ≡ None → SameLinks s t
+links_from-Keeps s t r r' k before after = λ link.
+    ⊎_elim (λ some. k.others link (λ its. cc (before, its)) some) (λ none. k.frees link (λ its. cc (after, its)) (inr none) ∙ sym none) (some_or_none (s.reads link))
+
+-- a new reader
+module _ (s : Shown) (r : BlockRead) (block : LocatedBlock) (offset len : ℕ) (same : block_of r ≡ block) (wanted : wanted_of r ≡ offset) (end : end_of r ≡ offset + len) (idle : link_of r ≡ None) (new : tried_of r ≡ 0) where
+  shows_held : (g : List ℕ) → HoldsBlock s block g → offset + len ≤ length g → ShowsBlock s r g
+  shows_held g holds within =
+      let here = subst (λ (b : LocatedBlock). HoldsBlock s b g) (sym same) holds in
+      shows_new s r g here.picture idle here.told (omega (arith, end, within)) here.prefixes
+
+  pub bytes_new : (out0 out' : List ℕ) → ((g : List ℕ) → ShowsBlock s r g → out' ≡ out0 ++ range_of g (wanted_of r) (end_of r - wanted_of r))
+      → (g : List ℕ) → HoldsBlock s block g → offset + len ≤ length g → out' ≡ out0 ++ range_of g offset len
+  bytes_new out0 out' h g holds within =
+      let long : end_of r - wanted_of r ≡ len = omega (arith, end, wanted) in
+      h g (shows_held g holds within) ∙ ap (λ (w : ℕ). out0 ++ range_of g w (end_of r - wanted_of r)) wanted ∙ ap (λ (n : ℕ). out0 ++ range_of g offset n) long
+
+  pub cause_new : (s' : Shown) → ((start : Counts) (g : List ℕ) → Over start s r g → AllBlamed start s' (block_of r) g)
+      → (g : List ℕ) → HoldsBlock s block g → offset + len ≤ length g → AllBlamed s.counts s' block g
+  cause_new s' h g holds within =
+      subst (λ (b : LocatedBlock). AllBlamed s.counts s' b g) same (h s.counts g (over_new s r g idle new (shows_held g holds within)))

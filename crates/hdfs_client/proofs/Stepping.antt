@@ -1,0 +1,184 @@
+-- What a step says of a path, over a picture that agrees with the files.
+use Rattle.std.proofs.Common.{◌≡◌, ⊎_elim, ℕ, ◌+◌, ◌<◌, ◌≤◌, nat_lt, Bool, true, false, cond, ◌||◌, ◌&&◌, ◌++◌, List, [], ◌∷◌, length, drop, Option, Some, None, option_map, refl, sym, ◌∙◌, ap, subst, arith}
+use Rattle.std.specs.List.{list_any, list_all, slice_split, Contains}
+use Rattle.std.specs.Str.{bytes_eq}
+use Rattle.std.proofs.lemmas.Bool.Decides.{nat_tests}
+use Rattle.std.proofs.lemmas.List.{length-drop}
+use Rattle.hdfs_model.specs.declared.picture.Entry.{Entry}
+use Rattle.hdfs_model.specs.declared.picture.Entry.TheVariants as entries
+use Rattle.hdfs_model.specs.declared.picture.BlockEntry.{BlockEntry}
+use Rattle.hdfs_model.specs.declared.picture.FileEntry.{FileEntry}
+use Rattle.hdfs_model.specs.declared.messages.LocatedBlock.{LocatedBlock}
+use Rattle.hdfs_model.specs.declared.messages.LocatedBlocks.{LocatedBlocks}
+use Rattle.hdfs_model.specs.declared.session.Command.{Command}
+use Rattle.hdfs_model.specs.declared.session.Command.TheVariants as commands
+use Rattle.hdfs_model.specs.declared.session.Reply.{Reply}
+use Rattle.hdfs_model.specs.declared.session.Reply.TheVariants as replies
+use Rattle.hdfs_model.specs.Paths.{is_path, is_slash, is_component, ancestors, resolved}
+use Rattle.hdfs_model.specs.Files.{Node, Dir, File, Writing, Content, Kind, ClosedFile, OpenFile, State, NoFile, NotDirectory, kinds_of, kind_of, no_file, no_file_at, is_file}
+use Rattle.hdfs_model.specs.Steps.{World, Outcome, Refused, Done, Refusal, WrongState, Lacks, BadRange, BadPath, content_of, range_of, read_content, read_file, step_at, step, target_of}
+use Rattle.hdfs_model.specs.Picture.{Picture, kinds, entry_kind}
+use Rattle.hdfs_model.specs.Namenode.{Locates, LocatesBlocks}
+use Rattle.hdfs_model.specs.Shown.{Shown}
+use Rattle.hdfs_model.specs.Stores.{AgreesAt, StoresBlocks}
+use Rattle.hdfs_model.specs.Sessions.{Ready}
+use Rattle.hdfs_client.specs.Meeting.{Meets, IsClosed}
+use Rattle.hdfs_client.proofs.Agreeing.{agrees_told}
+
+-- The same kind of thing stands at a path in the picture and in the files.
+same_kind : (p : Picture) (entry : Option Entry) (node : Option Node) → AgreesAt p entry node → option_map entry_kind entry ≡ option_map kind_of node
+same_kind p None None h = refl
+same_kind p (Some entries.Dir) (Some Dir) h = refl
+same_kind p (Some (entries.File file)) (Some (File content)) h = ap (λ (b : Bool). Some (cond b OpenFile ClosedFile)) h.0
+same_kind p (Some (entries.File file)) (Some (Writing content)) h = ap (λ (b : Bool). Some (cond b OpenFile ClosedFile)) h.0
+same_kind p None (Some node) h = absurd h
+same_kind p (Some entry) None h = absurd h
+same_kind p (Some entries.Dir) (Some (File content)) h = absurd h
+same_kind p (Some entries.Dir) (Some (Writing content)) h = absurd h
+same_kind p (Some (entries.File file)) (Some Dir) h = absurd h
+
+any_same : (f g : List ℕ → Bool) (xs : List (List ℕ)) → ((x : List ℕ) → f x ≡ g x) → list_any f xs ≡ list_any g xs
+any_same f g [] same = refl
+any_same f g (x ∷ xs) same = ap (λ (b : Bool). b || list_any f xs) (same x) ∙ ap (λ (b : Bool). g x || b) (any_same f g xs same)
+
+-- So the same is missing in both.
+same_no_file : (f g : List ℕ → Option Kind) (path : List ℕ) → ((q : List ℕ) → f q ≡ g q) → no_file f path ≡ no_file g path
+same_no_file f g path same =
+    ap (λ (b : Bool). cond b (Some NotDirectory) (no_file_at (f path))) (any_same (λ a. is_file (f a)) (λ a. is_file (g a)) (ancestors path) (λ a. ap is_file (same a)))
+    ∙ ap (λ (k : Option Kind). cond (list_any (λ a. is_file (g a)) (ancestors path)) (Some NotDirectory) (no_file_at k)) (same path)
+
+not_below : (a b : ℕ) → b ≤ a → nat_lt a b ≡ false
+not_below a b le = grind (arith, nat_tests)
+
+is_below : (a b : ℕ) → a < b → nat_lt a b ≡ true
+is_below a b lt = grind (arith, nat_tests)
+
+-- what stands at a path that an answer locates
+pub record Found (p : Picture) (state : State) (path : List ℕ) (found : LocatedBlocks) : Type 0 where
+  pub file : FileEntry
+  pub content : Content
+  pub named : p.names path ≡ Some (entries.File file)
+  pub filed : state.files path ≡ Some (File content)
+  pub located : LocatesBlocks p.table 0 found.file_length file.blocks found.blocks
+  pub stored : StoresBlocks p file.blocks content.bytes
+  pub long : found.file_length ≡ length content.bytes
+
+node_is_file : (p : Picture) (file : FileEntry) (node : Option Node) → ((content : Content) → node ≡ Some (Writing content) → ⊥) → AgreesAt p (Some (entries.File file)) node → (content : Content) × (node ≡ Some (File content)) × StoresBlocks p file.blocks content.bytes
+node_is_file p file None closed h = absurd h
+node_is_file p file (Some Dir) closed h = absurd h
+node_is_file p file (Some (Writing content)) closed h = absurd (closed content refl)
+node_is_file p file (Some (File content)) closed h = (content, refl, h.2)
+
+total_is : (p : Picture) (at total : ℕ) (ids : List ℕ) (blocks : List LocatedBlock) (bytes : List ℕ) → LocatesBlocks p.table at total ids blocks → StoresBlocks p ids bytes → total ≡ at + length bytes
+total_is p at total [] [] bytes located stored = omega (arith, located, ap length stored)
+total_is p at total (id ∷ ids) (b ∷ blocks) bytes located stored =
+    let same : stored.0 ≡ located.0.0 = cc (stored.1, located.0.1) in
+    let num : b.b.num_bytes ≡ stored.0.length = located.0.2.length ∙ sym (ap (λ (e : BlockEntry). e.length) same) in
+    let rest = total_is p (at + b.b.num_bytes) total ids blocks (drop stored.0.length bytes) located.1 stored.4 in
+    omega (arith, rest, length-drop stored.0.length bytes, stored.2, num)
+total_is p at total [] (b ∷ blocks) bytes located stored = absurd located
+total_is p at total (id ∷ ids) [] bytes located stored = absurd located
+
+no_opened : (state : State) (path : List ℕ) (o : Outcome) → state.opened ≡ [] → cond (list_any (bytes_eq path) state.opened) (Refused WrongState) o ≡ o
+no_opened state path o none = ap (λ (l : List (List ℕ)). cond (list_any (bytes_eq path) l) (Refused WrongState) o) none
+
+module _ (s : Shown) (state : State) (path : List ℕ) (meets : Meets s state path) (p : Picture) (told : s.picture ≡ Some p) where
+  kinds_same : (q : List ℕ) → kinds p q ≡ kinds_of state.files q
+  kinds_same q = same_kind p (p.names q) (state.files q) (agrees_told s.picture p state.files meets.agrees told q)
+
+  -- nobody writes the file
+  pub is_closed : IsClosed p path
+  is_closed writing = at_node (state.files path) (sym (kinds_same path) ∙ writing) meets.closed
+    where
+      at_node : (node : Option Node) → option_map kind_of node ≡ Some OpenFile → ((content : Content) → node ≡ Some (Writing content) → ⊥) → ⊥
+      at_node None is closed = absurd (cc)
+      at_node (Some Dir) is closed = absurd (cc)
+      at_node (Some (File content)) is closed = absurd (cc)
+      at_node (Some (Writing content)) is closed = closed content refl
+
+  -- a path that lacks a file is refused for that
+  pub refused_read : (text : List ℕ) (offset len : ℕ) (why : NoFile) → no_file (kinds p) path ≡ Some why → step_at state path (commands.Read text offset len) ≡ Refused (Lacks why)
+  refused_read text offset len why is =
+      no_opened state path (read_file state path (no_file (kinds_of state.files) path) offset len) meets.none_open
+      ∙ ap (λ (o : Option NoFile). read_file state path o offset len) (sym (same_no_file (kinds p) (kinds_of state.files) path kinds_same) ∙ is)
+
+  pub found_file : (found : LocatedBlocks) → Locates p path found → Found p state path found
+  found_file found locates =
+      let agrees = agrees_told s.picture p state.files meets.agrees told path in
+      let node = node_is_file p locates.file (state.files path) meets.closed (subst (λ (o : Option Entry). AgreesAt p o (state.files path)) locates.named agrees) in
+      record {
+        file = locates.file;
+        content = node.0;
+        named = locates.named;
+        filed = node.1;
+        located = locates.blocks;
+        stored = node.2;
+        long = omega (arith, total_is p 0 found.file_length locates.file.blocks found.blocks node.0.bytes locates.blocks node.2);
+      }
+
+  module _ (found : LocatedBlocks) (locates : Locates p path found) (f : Found p state path found) (text : List ℕ) (offset len : ℕ) where
+    read_of : step_at state path (commands.Read text offset len) ≡ read_content state (Some f.content) offset len
+    read_of =
+        no_opened state path (read_file state path (no_file (kinds_of state.files) path) offset len) meets.none_open
+        ∙ ap (λ (o : Option NoFile). read_file state path o offset len) (sym (same_no_file (kinds p) (kinds_of state.files) path kinds_same) ∙ locates.allowed)
+        ∙ ap (λ (node : Option Node). read_content state (content_of node) offset len) f.filed
+
+    pub done_read : offset + len ≤ length f.content.bytes → step_at state path (commands.Read text offset len) ≡ Done (replies.Bytes (range_of f.content.bytes offset len)) state
+    done_read within = read_of ∙ ap (λ (b : Bool). cond b (Refused BadRange) (Done (replies.Bytes (range_of f.content.bytes offset len)) state)) (not_below (length f.content.bytes) (offset + len) within)
+
+    pub bad_range : length f.content.bytes < offset + len → step_at state path (commands.Read text offset len) ≡ Refused BadRange
+    bad_range past = read_of ∙ ap (λ (b : Bool). cond b (Refused BadRange) (Done (replies.Bytes (range_of f.content.bytes offset len)) state)) (is_below (length f.content.bytes) (offset + len) past)
+
+and_left : (a b : Bool) → a && b ≡ true → a ≡ true
+and_left true b is = refl
+and_left false b is = is
+
+-- an absolute path stands for itself
+pub resolved_path : (home path : List ℕ) → is_path path ≡ true → resolved home path ≡ path
+resolved_path home [] is = absurd (cc)
+resolved_path home (c ∷ rest) is = ap (λ (b : Bool). cond b (c ∷ rest) (home ++ 47 ∷ c ∷ rest)) (and_left (is_slash c) (bytes_eq rest [] || list_all is_component (slice_split is_slash rest)) is)
+
+-- so a step at such a path is the step there
+pub step_is : (w : World) (state : State) (path : List ℕ) (offset len : ℕ) → is_path path ≡ true → step w state (commands.Read path offset len) ≡ step_at state path (commands.Read path offset len)
+step_is w state path offset len is =
+    ap (λ (q : List ℕ). cond (is_path q) (step_at state q (commands.Read path offset len)) (Refused BadPath)) (resolved_path w.home path is)
+    ∙ ap (λ (b : Bool). cond b (step_at state path (commands.Read path offset len)) (Refused BadPath)) is
+
+-- a command that a session is ready for meets the files at its path
+pub meets_from-Ready : (w : World) (strangers : List (List ℕ)) (s : Shown) (state : State) (path : List ℕ) (offset len : ℕ) → is_path path ≡ true → Ready w strangers [] s state (commands.Read path offset len ∷ []) → Meets s state path
+meets_from-Ready w strangers s state path offset len is ready = record {
+  one = ready.one;
+  agrees = ready.fits.agrees;
+  none_open = ready.fits.opened;
+  closed = λ content writing. ⊎_elim (λ own. absurd (omega (arith, own.1)))
+      (λ stranger. ready.avoids 0 (commands.Read path offset len) (omega arith) (subst (λ (q : List ℕ). Contains strangers q) (sym (resolved_path w.home path is)) stranger))
+      (ready.fits.being_written path content writing);
+}
+
+-- a read that is done leaves the state
+cond_done : (b : Bool) (state next : State) (reply reply' : Reply) (why : Refusal) → cond b (Refused why) (Done reply state) ≡ Done reply' next → next ≡ state
+cond_done true state next reply reply' why is = absurd (cc)
+cond_done false state next reply reply' why is = cc
+
+content_done : (state next : State) (content : Option Content) (offset len : ℕ) (reply : Reply) → read_content state content offset len ≡ Done reply next → next ≡ state
+content_done state next None offset len reply is = absurd (cc)
+content_done state next (Some content) offset len reply is = cond_done (nat_lt (length content.bytes) (offset + len)) state next (replies.Bytes (range_of content.bytes offset len)) reply BadRange is
+
+file_done : (state next : State) (path : List ℕ) (why : Option NoFile) (offset len : ℕ) (reply : Reply) → read_file state path why offset len ≡ Done reply next → next ≡ state
+file_done state next path None offset len reply is = content_done state next (content_of (state.files path)) offset len reply is
+file_done state next path (Some why) offset len reply is = absurd (cc)
+
+refused_or : (b : Bool) (o : Outcome) (why : Refusal) (reply : Reply) (next : State) → cond b (Refused why) o ≡ Done reply next → o ≡ Done reply next
+refused_or true o why reply next is = absurd (cc)
+refused_or false o why reply next is = is
+
+or_refused : (b : Bool) (o : Outcome) (why : Refusal) (reply : Reply) (next : State) → cond b o (Refused why) ≡ Done reply next → o ≡ Done reply next
+or_refused true o why reply next is = is
+or_refused false o why reply next is = absurd (cc)
+
+pub step_keeps : (w : World) (state next : State) (command : Command) (reply : Reply) → step w state command ≡ Done reply next → next ≡ state
+step_keeps w state next (commands.Read text offset len) reply is =
+    let path = target_of w (commands.Read text offset len) in
+    file_done state next path (no_file (kinds_of state.files) path) offset len reply
+    (refused_or (list_any (bytes_eq path) state.opened) (read_file state path (no_file (kinds_of state.files) path) offset len) WrongState reply next
+    (or_refused (is_path path) (step_at state path (commands.Read text offset len)) BadPath reply next is))

@@ -1,0 +1,4 @@
+pub mod Looking
+pub mod Meeting
+pub mod Ranges
+pub mod Session

@@ -1,0 +1,10 @@
+//! Sessions: commands over the files of one service.
+#![tactic(auto)]
+
+mod locate;
+mod reading;
+mod run;
+mod session;
+
+pub use run::run_session;
+pub use session::Session;

@@ -1,0 +1,219 @@
+// The bytes of a range of a file, block by block.
+ghost use Rattle.std.specs.Prelude.{◌≡◌, ◌<◌, ◌≤◌, ◌+◌, ◌-◌, ◌^◌, ◌++◌, ℕ, List, None, OnOk, OnErr, IfOk, IfErr, MatchBool, length, false};
+ghost use Rattle.hdfs_blocks.specs.Reader.{block_of, wanted_of, end_of, link_of, has_failed, Stands, Keeps, Reads, ShowsBlock, Over, AllBlamed, IsRead};
+ghost use Rattle.hdfs_model.specs.Causes.{CauseAt, Tells};
+ghost use Rattle.hdfs_model.specs.Counts.{Counts};
+ghost use Rattle.hdfs_model.specs.Files.{State};
+ghost use Rattle.hdfs_model.specs.Shown.{Later, OnlyReads};
+ghost use Rattle.hdfs_model.specs.Steps.{Done, step_at, range_of};
+ghost use Rattle.hdfs_model.specs.Stores.{Agrees};
+ghost use Rattle.hdfs_client.specs.Meeting.{SameLinks, Meets};
+ghost use Rattle.hdfs_client.specs.Ranges.{Stored, HoldsBlock, FailsAt, LiesIn, IsLost, IsOutside, part_of};
+
+use crate::locate::locate;
+use hdfs_blocks::BlockRead;
+use hdfs_model::{ArgFault, Cluster, Command, HdfsError, LocatedBlock, Reply};
+use hdfs_wire::{Blob, Text};
+use std::alloc::Global;
+
+/// The name by which datanodes know the client: it has none while it only reads.
+const CLIENT: &str = "";
+
+/// Appends the next bytes of a reader's range; false where there are none.
+fn append_next<C: Cluster>(
+    cluster: &mut C,
+    out: &mut Vec<u8>,
+    reader: &mut BlockRead,
+) -> Result<bool, HdfsError>
+    requires stands { Stands (C.shown cluster.old) reader.old }
+    requires fine { has_failed reader.old ≡ false }
+
+    // over any cluster
+    ensures keeps { Keeps (C.shown cluster.old) (C.shown cluster.new) reader.old reader.new }
+    ensures more { IfOk result (λ more. MatchBool more (wanted_of reader.old < wanted_of reader.new) (wanted_of reader.new ≡ end_of reader.new)) }
+    ensures fine { OnOk result (has_failed reader.new ≡ false) }
+    ensures on { OnOk result (wanted_of reader.old ≤ wanted_of reader.new) }
+    ensures fails { IfErr result (FailsAt (λ byte. (wanted_of reader.old ≤ byte) × (byte < end_of reader.old))) }
+    ensures idle { OnErr result (link_of reader.new ≡ None) }
+
+    // over a told picture
+    ensures reads { Reads (C.shown cluster.old) (C.shown cluster.new) reader.old reader.new }
+    ensures bytes { OnOk result ((block : List ℕ) → ShowsBlock (C.shown cluster.old) reader.old block
+        → out.new.items ≡ out.old.items ++ range_of block (wanted_of reader.old) (wanted_of reader.new - wanted_of reader.old)) }
+    ensures cause { IfErr result (λ e. IsRead e → (start : Counts) (block : List ℕ) → Over start (C.shown cluster.old) reader.old block
+        → AllBlamed start (C.shown cluster.new) (block_of reader.old) block) }
+{
+    match reader.next(cluster) {
+        Ok(Some(bytes)) => match out.extend_from_slice(&bytes) {
+            Ok(()) => Ok(true),
+            Err(_) => {
+                reader.close(cluster);
+                Err(HdfsError::NoMemory)
+            }
+        },
+        Ok(None) => Ok(false),
+        Err(fault) => Err(fault),
+    }
+}
+
+/// Appends what is left of a reader's range.
+fn read_all<C: Cluster>(
+    cluster: &mut C,
+    out: &mut Vec<u8>,
+    reader: &mut BlockRead,
+) -> Result<(), HdfsError>
+    requires stands { Stands (C.shown cluster.old) reader.old }
+    requires fine { has_failed reader.old ≡ false }
+
+    // over any cluster
+    ensures keeps { Keeps (C.shown cluster.old) (C.shown cluster.new) reader.old reader.new }
+    ensures fails { IfErr result (FailsAt (λ byte. (wanted_of reader.old ≤ byte) × (byte < end_of reader.old))) }
+    ensures idle { link_of reader.new ≡ None }
+
+    // over a told picture
+    ensures bytes { OnOk result ((block : List ℕ) → ShowsBlock (C.shown cluster.old) reader.old block
+        → out.new.items ≡ out.old.items ++ range_of block (wanted_of reader.old) (end_of reader.old - wanted_of reader.old)) }
+    ensures cause { IfErr result (λ e. IsRead e → (start : Counts) (block : List ℕ) → Over start (C.shown cluster.old) reader.old block
+        → AllBlamed start (C.shown cluster.new) (block_of reader.old) block) }
+{
+    'pieces: while append_next(cluster, out, reader)? {}
+    Ok(())
+}
+
+/// Appends a range of a block.
+fn read_block<C: Cluster>(
+    alloc: Global,
+    cluster: &mut C,
+    out: &mut Vec<u8>,
+    block: LocatedBlock,
+    offset: u64,
+    len: u64,
+) -> Result<(), HdfsError>
+    requires { offset + len < 2 ^ 64 }
+
+    // over any cluster
+    ensures only { OnlyReads (C.shown cluster.old) (C.shown cluster.new) }
+    ensures links { SameLinks (C.shown cluster.old) (C.shown cluster.new) }
+    ensures fails { IfErr result (FailsAt (λ byte. (offset ≤ byte) × (byte < offset + len))) }
+
+    // over a told picture
+    ensures bytes { OnOk result ((bytes : List ℕ) → HoldsBlock (C.shown cluster.old) block bytes → offset + len ≤ length bytes
+        → out.new.items ≡ out.old.items ++ range_of bytes offset len) }
+    ensures cause { IfErr result (λ e. IsRead e → (bytes : List ℕ) → HoldsBlock (C.shown cluster.old) block bytes → offset + len ≤ length bytes
+        → AllBlamed (C.shown cluster.old).counts (C.shown cluster.new) block bytes) }
+{
+    let mut reader = BlockRead::replicated(alloc, block, offset, len, CLIENT)?;
+    read_all(cluster, out, &mut reader)
+}
+
+/// Appends the part of a block that lies in a range of the file. Where none does, the block isn't opened.
+fn read_part<C: Cluster>(
+    alloc: Global,
+    cluster: &mut C,
+    out: &mut Vec<u8>,
+    block: LocatedBlock,
+    offset: u64,
+    end: u64,
+) -> Result<(), HdfsError>
+    requires { offset ≤ end }
+
+    // over any cluster
+    ensures only { OnlyReads (C.shown cluster.old) (C.shown cluster.new) }
+    ensures links { SameLinks (C.shown cluster.old) (C.shown cluster.new) }
+    ensures fails { IfErr result (FailsAt (LiesIn block offset end)) }
+    ensures outside { IsOutside block offset end → cluster.new ≡ cluster.old }
+
+    // over a told picture
+    ensures bytes { OnOk result ((bytes : List ℕ) → HoldsBlock (C.shown cluster.old) block bytes → length bytes ≡ block.b.num_bytes
+        → out.new.items ≡ out.old.items ++ part_of bytes block.offset offset end) }
+    ensures cause { IfErr result (λ e. IsRead e → (bytes : List ℕ) → HoldsBlock (C.shown cluster.old) block bytes → length bytes ≡ block.b.num_bytes
+        → AllBlamed (C.shown cluster.old).counts (C.shown cluster.new) block bytes) }
+{
+    let from = offset.max(block.offset);
+    let to = end.min(block.offset.saturating_add(block.b.num_bytes));
+    if to <= from {
+        return Ok(());
+    }
+    let start = from - block.offset;
+    Ok(read_block(alloc, cluster, out, block, start, to - from)?)
+}
+
+/// Appends a range of a file, whose blocks come in order.
+fn read_blocks<C: Cluster>(
+    alloc: Global,
+    cluster: &mut C,
+    out: &mut Vec<u8>,
+    blocks: Vec<LocatedBlock>,
+    offset: u64,
+    end: u64,
+) -> Result<(), HdfsError>
+    requires { offset ≤ end }
+
+    // over any cluster
+    ensures only { OnlyReads (C.shown cluster.old) (C.shown cluster.new) }
+    ensures links { SameLinks (C.shown cluster.old) (C.shown cluster.new) }
+    ensures fails { IfErr result (FailsAt (λ byte. offset < end)) }
+    ensures none { offset ≡ end → cluster.new ≡ cluster.old }
+
+    // over a told picture
+    ensures bytes { OnOk result ((content : List ℕ) → Stored (C.shown cluster.old) blocks.items content → end ≤ length content
+        → out.new.items ≡ out.old.items ++ range_of content offset (end - offset)) }
+    ensures lost { IfErr result (λ e. (content : List ℕ) (stored : Stored (C.shown cluster.old) blocks.items content)
+        → FailsAt (IsLost stored.picture stored.ids offset end (C.shown cluster.old).counts (C.shown cluster.new).counts) e) }
+{
+    for block in blocks {
+        read_part(alloc, cluster, out, block, offset, end)?;
+    }
+    Ok(())
+}
+
+/// Whether a range of `len` bytes from `offset` ends within `length` bytes.
+fn is_within(offset: u64, len: u64, length: u64) -> bool
+    ensures { MatchBool result (offset + len ≤ length) (length < offset + len) }
+{
+    offset <= length && len <= length - offset
+}
+
+/// Reads `len` bytes from `offset` of the file at a path. Where the range isn't within the file, no block is opened.
+pub(crate) fn read_file<C: Cluster>(
+    alloc: Global,
+    cluster: &mut C,
+    path: &Text,
+    offset: u64,
+    len: u64,
+) -> Result<Reply, HdfsError>
+    requires { 0 < (C.shown cluster.old).namenodes }
+
+    // over any cluster
+    ensures later { Later (C.shown cluster.old) (C.shown cluster.new) }
+    ensures links { SameLinks (C.shown cluster.old) (C.shown cluster.new) }
+    ensures tells { IfErr result (Tells (Command.Read path.now offset len) (C.shown cluster.new)) }
+
+    // over a cluster that agrees with a state
+    ensures ok { IfOk result (λ reply. (state : State) → Meets (C.shown cluster.old) state path.now
+        → (step_at state path.now (Command.Read path.now offset len) ≡ Done reply state) × Agrees (C.shown cluster.new).picture state.files) }
+    ensures err { IfErr result (λ e. (state : State) → Meets (C.shown cluster.old) state path.now
+        → CauseAt (step_at state path.now (Command.Read path.now offset len)) state path.now (Command.Read path.now offset len) (C.shown cluster.new).namenodes (C.shown cluster.old).counts (C.shown cluster.new) e
+        × Agrees (C.shown cluster.new).picture state.files) }
+{
+    let found = locate(alloc, cluster, path)?;
+    if !is_within(offset, len, found.file_length) {
+        return Err(HdfsError::InvalidArgument(ArgFault::Range {
+            offset,
+            len,
+            length: found.file_length,
+        }));
+    }
+    let mut out = Vec::with_capacity(alloc, len as usize)?;
+    read_blocks(
+        alloc,
+        cluster,
+        &mut out,
+        found.blocks.into_vec(),
+        offset,
+        offset + len,
+    )?;
+    Ok(Reply::Bytes {
+        bytes: Blob::from_vec(out),
+    })
+}
