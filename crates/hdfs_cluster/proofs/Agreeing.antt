@@ -1,0 +1,100 @@
+-- A cluster goes on to hold its files where a block and a file are added.
+use Rattle.std.proofs.Common.{◌≡◌, ◌≢◌, ℕ, ◌<◌, ◌≤◌, ◌^◌, Bool, true, false, cond, List, [], ◌∷◌, length, take, drop, zero, suc, Option, Some, None, refl, sym, ◌∙◌, ap, subst, arith}
+use Rattle.std.proofs.lemmas.List.{take_all, drop_all}
+use Rattle.std.specs.List.{All, Any}
+use Rattle.std.proofs.lemmas.List.Elements.{All-weaker, All-cons, All-nil}
+use Rattle.std.specs.Str.{bytes_eq}
+use Rattle.std.proofs.lemmas.Slice.Eq.{bytes_eq-Decides}
+use Rattle.hdfs_model.specs.declared.picture.Entry.{Entry}
+use Rattle.hdfs_model.specs.declared.picture.Entry.TheVariants as entries
+use Rattle.hdfs_model.specs.declared.picture.BlockEntry.{BlockEntry}
+use Rattle.hdfs_model.specs.Files.{Node, Dir, File, Writing, Content, State}
+use Rattle.hdfs_model.specs.Picture.{Picture}
+use Rattle.hdfs_cluster.specs.Adding.{AddsBlock, StoresBytes, blocks_picture}
+use Rattle.hdfs_cluster.specs.Memory.{first_node}
+use Rattle.hdfs_cluster.proofs.Sizing.{sized_one, keeps_from-AddsBlock}
+use Rattle.hdfs_model.specs.Loading.{with_file}
+use Rattle.hdfs_model.specs.Stores.{Agrees, AgreesAt, StoresBlocks, StoresBlock, HoldsPrefix}
+
+-- the blocks of the old table are in the new one, and each node holds the same of them
+pub record Extends (p p' : Picture) : Type 0 where
+  pub table : (id : ℕ) (entry : BlockEntry) → p.table id ≡ Some entry → p'.table id ≡ Some entry
+  pub held : (id : ℕ) (entry : BlockEntry) → p.table id ≡ Some entry → (node : List ℕ) → p'.held node id ≡ p.held node id
+
+module _ (p p' : Picture) (ext : Extends p p') where
+  stores_block : (id : ℕ) (entry : BlockEntry) (bytes : List ℕ) → p.table id ≡ Some entry → StoresBlock p id entry bytes → StoresBlock p' id entry bytes
+  stores_block id entry bytes is h = record {
+    length = h.length;
+    prefixes = All-weaker (HoldsPrefix (λ node. p.held node id) bytes) (HoldsPrefix (λ node. p'.held node id) bytes) (λ node was. subst (λ (l : List ℕ). l ≡ take (length l) bytes) (sym (ext.held id entry is node)) was) entry.nodes h.prefixes;
+    whole = (h.whole.0, h.whole.1, h.whole.2, h.whole.3, ext.held id entry is h.whole.1 ∙ h.whole.4);
+  }
+
+  pub stores_blocks : (ids bytes : List ℕ) → StoresBlocks p ids bytes → StoresBlocks p' ids bytes
+  stores_blocks [] bytes h = h
+  stores_blocks (id ∷ ids) bytes h = (h.0, ext.table id h.0 h.1, h.2, stores_block id h.0 (take h.0.length bytes) h.1 h.3, stores_blocks ids (drop h.0.length bytes) h.4)
+
+  pub agrees_at : (entry : Option Entry) (node : Option Node) → AgreesAt p entry node → AgreesAt p' entry node
+  agrees_at None None h = h
+  agrees_at (Some entries.Dir) (Some Dir) h = h
+  agrees_at (Some (entries.File file)) (Some (File content)) h = (h.0, h.1, stores_blocks file.blocks content.bytes h.2)
+  agrees_at (Some (entries.File file)) (Some (Writing content)) h = h
+  agrees_at None (Some node) h = absurd h
+  agrees_at (Some entry) None h = absurd h
+  agrees_at (Some entries.Dir) (Some (File content)) h = absurd h
+  agrees_at (Some entries.Dir) (Some (Writing content)) h = absurd h
+  agrees_at (Some (entries.File file)) (Some Dir) h = absurd h
+
+at_path : (p' : Picture) (b : Bool) (entry : Entry) (node : Node) (other : Option Entry) (files : Option Node) → AgreesAt p' (Some entry) (Some node) → AgreesAt p' other files → AgreesAt p' (cond b (Some entry) other) (cond b (Some node) files)
+at_path p' true entry node other files here there = here
+at_path p' false entry node other files here there = there
+
+-- a file at a new path, whose blocks store its bytes
+pub agrees_with_file : (p p' : Picture) (state : State) (path : List ℕ) (content : Content) (entry : Entry) → Agrees (Some p) state.files → Extends p p' → ((q : List ℕ) → p'.names q ≡ cond (bytes_eq path q) (Some entry) (p.names q)) → AgreesAt p' (Some entry) (Some (File content)) → Agrees (Some p') (with_file state path content).files
+agrees_with_file p p' state path content entry was ext names here q =
+    subst (λ (o : Option Entry). AgreesAt p' o ((with_file state path content).files q)) (sym (names q)) (at_path p' (bytes_eq path q) entry (File content) (p.names q) (state.files q) here (agrees_at p p' ext (p.names q) (state.files q) (was q)))
+
+module _ (t t' : ℕ → Option BlockEntry) (held held' : List ℕ → ℕ → List ℕ) (id : ℕ) (bytes : List ℕ) (adds : AddsBlock t t' id (length bytes)) (holds : held' first_node id ≡ bytes) (others : (d : List ℕ) (q : ℕ) → q ≢ id → held' d q ≡ held d q) (short : length bytes < 2 ^ 63) where
+  apart : (q : ℕ) (entry : BlockEntry) → t q ≡ Some entry → q ≢ id
+  apart q entry is same = let none : t q ≡ None = ap t same ∙ adds.absent in absurd (cc (none, is))
+
+  abbrev p' : Picture
+  p' = blocks_picture t' held'
+
+  stores_added : StoresBlocks p' (id ∷ []) bytes
+  stores_added =
+      let entry = adds.entry in
+      let whole : take entry.length bytes ≡ bytes = take_all entry.length bytes (omega (arith, adds.has_length)) in
+      let all : take (length bytes) (take entry.length bytes) ≡ take entry.length bytes = take_all (length bytes) (take entry.length bytes) (omega (arith, ap length whole)) in
+      let prefix : HoldsPrefix (λ n. p'.held n id) (take entry.length bytes) first_node = subst (λ (l : List ℕ). l ≡ take (length l) (take entry.length bytes)) (sym holds) (sym (all ∙ whole)) in (
+        entry,
+        adds.listed,
+        omega (arith, adds.has_length),
+        record {
+          length = ap length whole ∙ sym adds.has_length;
+          prefixes = subst (All (HoldsPrefix (λ n. p'.held n id) (take entry.length bytes))) (sym adds.on) (All-cons (HoldsPrefix (λ n. p'.held n id) (take entry.length bytes)) first_node [] prefix (All-nil _));
+          whole = subst (Any (λ n. p'.held n id ≡ take entry.length bytes)) (sym adds.on) (0, first_node, omega arith, refl, holds ∙ sym whole);
+        },
+        drop_all entry.length bytes (omega (arith, adds.has_length)),
+      )
+
+  -- a block on the first datanode stores its bytes
+  pub stored_one : StoresBytes t t' held held' (id ∷ []) bytes
+  stored_one = record {
+    table = keeps_from-AddsBlock t t' id (length bytes) adds;
+    others = λ q entry is d. others d q (apart q entry is);
+    sized = sized_one t' id (length bytes) adds.entry adds.listed adds.has_length short;
+    stores = stores_added;
+  }
+
+-- no bytes take no block
+pub stored_none : (t : ℕ → Option BlockEntry) (held : List ℕ → ℕ → List ℕ) (bytes : List ℕ) → bytes ≡ [] → StoresBytes t t held held [] bytes
+stored_none t held bytes none = record {
+  table = λ id entry is. is;
+  others = λ id entry is node. refl;
+  sized = refl;
+  stores = none;
+}
+
+-- blocks that store bytes in a picture of blocks alone do so in each picture of these blocks
+pub stores_in : (p : Picture) (ids bytes : List ℕ) → StoresBlocks (blocks_picture p.table p.held) ids bytes → StoresBlocks p ids bytes
+stores_in p ids bytes h = stores_blocks (blocks_picture p.table p.held) p (record { table = λ id entry is. is; held = λ id entry is node. refl }) ids bytes h

@@ -1,0 +1,10 @@
+pub mod Agreeing
+pub mod Answering
+pub mod Failing
+pub mod Giving
+pub mod Locating
+pub mod Naming
+pub mod Nodes
+pub mod Numbers
+pub mod Sizing
+pub mod Taking

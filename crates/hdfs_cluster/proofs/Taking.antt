@@ -1,0 +1,66 @@
+-- What one more loaded line keeps, and which lines are taken.
+use Rattle.std.proofs.Common.{◌≡◌, ◌⊎◌, inl, inr, ⊎_elim, ℕ, Bool, true, false, ◌&&◌, ◌||◌, eqb, List, [], ◌∷◌, ◌++◌, length, map, Option, Some, None, is_none, Result, Ok, Err, MatchResult, refl, sym, ◌∙◌, ap, subst, arith}
+use Rattle.std.proofs.lemmas.Bool.{false≢true}
+use Rattle.std.proofs.lemmas.Bool.Decides.{nat_tests}
+use Rattle.std.proofs.lemmas.List.{map-append}
+use Rattle.std.proofs.lemmas.List.Folds.{list_any-append}
+use Rattle.std.proofs.lemmas.Slice.Eq.{bytes_eq-Decides}
+use Rattle.std.specs.List.{list_any}
+use Rattle.std.specs.Str.{bytes_eq}
+use Rattle.hdfs_model.specs.declared.picture.Entry.{Entry}
+use Rattle.hdfs_model.specs.declared.picture.Entry.TheVariants as entries
+use Rattle.hdfs_model.specs.declared.store.FaultLine.{FaultLine}
+use Rattle.hdfs_model.specs.declared.store.Line.TheVariants as lines
+use Rattle.hdfs_model.specs.Files.{Node, Dir, File, Writing, Files, Content}
+use Rattle.hdfs_model.specs.Loading.{takes, is_directory, in_limits}
+use Rattle.hdfs_model.specs.Paths.{is_path, parent_of}
+use Rattle.hdfs_model.specs.Picture.{Picture}
+use Rattle.hdfs_model.specs.Stores.{Agrees, AgreesAt}
+use Rattle.hdfs_cluster.specs.declared.kept.Kept.{Kept}
+use Rattle.hdfs_cluster.specs.declared.kept.Kept.TheVariants as keeps
+use Rattle.hdfs_cluster.specs.Lines.{line_of}
+use Rattle.hdfs_cluster.specs.Memory.{is_nil, is_dir, accepts, breaks, breaks_at, uuid_of, node_of, nth_of}
+
+pub is_nil_push : {X : Type 0} (xs : List X) (x : X) → is_nil (xs ++ x ∷ []) ≡ false
+is_nil_push [] x = refl
+is_nil_push (y ∷ xs) x = refl
+
+-- a packet that breaks by the lines, or by the new one, breaks by all of them
+pub breaks_push : (items : List Kept) (x : Kept) (d : List ℕ) (packet : ℕ) → (breaks (map line_of items) d packet ≡ true) ⊎ (breaks_at d packet (line_of x) ≡ true) → breaks (map line_of (items ++ x ∷ [])) d packet ≡ true
+breaks_push items x d packet h =
+    ap (list_any (breaks_at d packet)) (map-append line_of items (x ∷ [])) ∙ list_any-append (breaks_at d packet) (map line_of items) (line_of x ∷ []) ∙ either (breaks (map line_of items) d packet) (breaks_at d packet (line_of x)) h
+  where
+    either : (a b : Bool) → (a ≡ true) ⊎ (b ≡ true) → (a || (b || false)) ≡ true
+    either true b h = refl
+    either false true h = refl
+    either false false (inl h) = h
+    either false false (inr h) = h
+
+pub breaks_fault : (fault : FaultLine) (d : List ℕ) (packet : ℕ) → d ≡ uuid_of (node_of fault) → packet ≡ nth_of fault → breaks_at d packet (line_of (keeps.Fault fault)) ≡ true
+breaks_fault fault d packet node nth =
+    let same : bytes_eq (uuid_of (node_of fault)) d ≡ true = (bytes_eq-Decides (uuid_of (node_of fault)) d).1 (sym node) in
+    let number : eqb (nth_of fault) packet ≡ true = grind (arith, nat_tests) in
+    ap (λ (b : Bool). b && eqb (nth_of fault) packet) same ∙ number
+
+none_alike : (p : Picture) (o : Option Entry) (node : Option Node) → AgreesAt p o node → is_none node ≡ is_none o
+none_alike p None None h = refl
+none_alike p (Some entry) (Some node) h = refl
+none_alike p None (Some node) h = absurd h
+none_alike p (Some entry) None h = absurd h
+
+directory_alike : (p : Picture) (o : Option Entry) (node : Option Node) → AgreesAt p o node → is_directory node ≡ is_dir o
+directory_alike p None None h = refl
+directory_alike p (Some entries.Dir) (Some Dir) h = refl
+directory_alike p (Some (entries.File file)) (Some (File content)) h = refl
+directory_alike p (Some (entries.File file)) (Some (Writing content)) h = refl
+directory_alike p None (Some node) h = absurd h
+directory_alike p (Some entry) None h = absurd h
+directory_alike p (Some entries.Dir) (Some (File content)) h = absurd h
+directory_alike p (Some entries.Dir) (Some (Writing content)) h = absurd h
+directory_alike p (Some (entries.File file)) (Some Dir) h = absurd h
+
+-- a cluster accepts the files that its state takes
+pub takes_accepts : (p : Picture) (files : Files) → Agrees (Some p) files → (path : List ℕ) (permission replication block_size : ℕ) (bytes : List ℕ) → takes files (lines.File path permission replication block_size bytes) ≡ accepts p.names path permission replication block_size (length bytes)
+takes_accepts p files agrees path permission replication block_size bytes =
+    ap (λ (b : Bool). is_path path && b && is_directory (files (parent_of path)) && in_limits permission replication block_size (length bytes)) (none_alike p (p.names path) (files path) (agrees path))
+    ∙ ap (λ (b : Bool). is_path path && is_none (p.names path) && b && in_limits permission replication block_size (length bytes)) (directory_alike p (p.names (parent_of path)) (files (parent_of path)) (agrees (parent_of path)))

@@ -1,0 +1,49 @@
+-- The laws that the cluster in memory keeps as a cluster and as a store.
+use Rattle.std.proofs.Common.{◌≡◌, ◌↔◌, ℕ, ◌<◌, Bool, true, false, cond, IsTrue, List, [], ◌∷◌, map, Option, Some, None, unwrap_or, refl, sym, ◌∙◌, subst, ap}
+use Rattle.std.proofs.lemmas.Bool.{false≢true}
+use Rattle.std.specs.BTreeMap.{get_by_text}
+use Rattle.std.specs.Str.{bytes_eq}
+use Rattle.hdfs_model.specs.declared.picture.Entry.{Entry}
+use Rattle.hdfs_model.specs.declared.picture.Entry.TheVariants as entries
+use Rattle.hdfs_model.specs.Files.{Dir, only_root}
+use Rattle.hdfs_model.specs.Paths.{root}
+use Rattle.hdfs_model.specs.Picture.{Picture}
+use Rattle.hdfs_model.specs.Stores.{Agrees, AgreesAt}
+use Rattle.hdfs_cluster.specs.declared.memory.MemCluster.{MemCluster}
+use Rattle.hdfs_cluster.specs.Lines.{line_of}
+use Rattle.hdfs_cluster.specs.Memory.{is_bare_at, is_nil}
+use Rattle.hdfs_cluster.specs.MemShown.{picture_of, shown_of, is_fresh_of}
+
+-- the picture that is told is the cluster's
+pub told_picture : (m : MemCluster) (p : Picture) → (shown_of m).picture ≡ Some p → picture_of m ≡ p
+told_picture m p told = ap (λ (o : Option Picture). unwrap_or o p) told
+
+pub active_law : (m : MemCluster) (p : Picture) → (shown_of m).picture ≡ Some p → p.active < (shown_of m).namenodes
+active_law m p told = subst (λ (q : Picture). q.active < m.config.namenodes) (told_picture m p told) m.config.active_below
+
+pub is_nil-map : {X Y : Type 0} (f : X → Y) (xs : List X) → is_nil (map f xs) ≡ is_nil xs
+is_nil-map f [] = refl
+is_nil-map f (x ∷ xs) = refl
+
+pub nil_from_test : {X : Type 0} (xs : List X) → is_nil xs ≡ true → xs ≡ []
+nil_from_test [] is = refl
+nil_from_test (x ∷ xs) is = absurd (false≢true is)
+
+agrees_at_root : (p : Picture) (b : Bool) (o : Option Entry) → is_bare_at b o ≡ true → AgreesAt p o (cond b (Some Dir) None)
+agrees_at_root p true None is = absurd (false≢true is)
+agrees_at_root p true (Some entries.Dir) is = tt
+agrees_at_root p true (Some (entries.File file)) is = absurd (false≢true is)
+agrees_at_root p false None is = tt
+agrees_at_root p false (Some entry) is = absurd (false≢true is)
+
+-- names that are the root alone agree with it
+pub agrees_bare : (p : Picture) → ((q : List ℕ) → is_bare_at (bytes_eq root q) (p.names q) ≡ true) → Agrees (Some p) only_root
+agrees_bare p bare q = agrees_at_root p (bytes_eq root q) (p.names q) (bare q)
+
+-- a cluster is fresh exactly where no line was loaded and it has the root alone
+pub fresh_law : (m : MemCluster) (p : Picture) → (shown_of m).picture ≡ Some p → IsTrue (is_fresh_of m) ↔ (((shown_of m).loaded ≡ []) × Agrees (Some p) only_root)
+fresh_law m p told =
+    subst (λ (q : Picture). IsTrue (is_fresh_of m) ↔ (((shown_of m).loaded ≡ []) × Agrees (Some q) only_root)) (told_picture m p told) (
+      λ fresh. (nil_from_test (shown_of m).loaded fresh, agrees_bare (picture_of m) (m.bare (sym (is_nil-map line_of m.loaded.items) ∙ fresh))),
+      λ both. ap is_nil both.0,
+    )

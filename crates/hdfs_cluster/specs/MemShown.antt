@@ -1,0 +1,88 @@
+-- What the cluster in memory shows.
+use Rattle.std.specs.Prelude.{◌≡◌, ◌≢◌, ℕ, ◌+◌, ◌<◌, Bool, true, false, List, [], length, slice_index, map, Option, Some, None, option_map, Result, Ok, Err, if◌then◌else◌}
+use Rattle.std.specs.BTreeMap.{get_by_text}
+use Rattle.slab.specs.Slab as slab
+use Rattle.hdfs_wire.specs.declared.packet.ReadPacket.{ReadPacket}
+use Rattle.hdfs_model.specs.declared.asks.Ask.{Ask}
+use Rattle.hdfs_model.specs.declared.asks.Answer.{Answer}
+use Rattle.hdfs_model.specs.declared.asks.AskFault.{AskFault}
+use Rattle.hdfs_model.specs.declared.asks.LinkFault.{LinkFault}
+use Rattle.hdfs_model.specs.declared.asks.LinkFault.TheVariants as link_faults
+use Rattle.hdfs_model.specs.declared.messages.ServerDefaults.{ServerDefaults}
+use Rattle.hdfs_model.specs.declared.picture.ReadPlace.{ReadPlace}
+use Rattle.hdfs_model.specs.Counts.{Counts, SameCounts}
+use Rattle.hdfs_model.specs.Picture.{Picture, SamePicture}
+use Rattle.hdfs_model.specs.Shown.{Shown, Served}
+use Rattle.hdfs_cluster.specs.declared.namespace.Namespace.{Namespace}
+use Rattle.hdfs_cluster.specs.declared.datanodes.Datanodes.{Datanodes}
+use Rattle.hdfs_cluster.specs.declared.memory.MemCluster.{MemCluster}
+use Rattle.hdfs_cluster.specs.declared.seen.Counts.{Counts as SeenCounts}
+use Rattle.hdfs_cluster.specs.Answering.{Answers}
+use Rattle.hdfs_cluster.specs.Lines.{line_of}
+use Rattle.hdfs_cluster.specs.Memory.{table_of, is_nil, uuid_of}
+use Rattle.hdfs_cluster.specs.Nodes.{node_at, held_in, faults_of}
+
+-- the picture of these names, blocks and bytes
+abbrev pub picture_at : Namespace → Datanodes → ℕ → ServerDefaults → (ℕ → Option ReadPlace) → Picture
+picture_at space nodes active defaults reads = record {
+  names = λ path. get_by_text space.names path;
+  table = λ id. table_of space.table.entries id;
+  held = λ node id. held_in nodes node id;
+  active = active;
+  defaults = defaults;
+  reads = reads;
+}
+
+abbrev pub picture_of : MemCluster → Picture
+picture_of m = picture_at m.space m.nodes m.config.active m.config.defaults (λ link. option_map (λ r. r.place) (slab.get m.reads link))
+
+-- no count of a namenode or of the links ever rises
+abbrev pub counts_of : Datanodes → Counts
+counts_of nodes = record { calls = λ i. 0; links = 0; nodes = λ d. faults_of (node_at nodes d) }
+
+abbrev pub shown_of : MemCluster → Shown
+shown_of m = record {
+  picture = Some (picture_of m);
+  counts = counts_of m.nodes;
+  last = m.last;
+  namenodes = m.config.namenodes;
+  reads = λ link. option_map (λ r. r.told) (slab.get m.reads link);
+  loaded = map line_of m.loaded.items;
+}
+
+-- nothing was loaded
+abbrev pub is_fresh_of : MemCluster → Bool
+is_fresh_of m = is_nil (shown_of m).loaded
+
+-- What an ask does, exactly: it is served, no count rises, the picture stays, and the answer is that of the picture.
+pub record MemServes (old : MemCluster) (i : ℕ) (ask : Ask) (result : Result Answer AskFault) (new : MemCluster) : Type 0 where
+  pub served : Served (shown_of old) i ask result (shown_of new)
+  pub counts : SameCounts (shown_of old).counts (shown_of new).counts
+  pub picture : SamePicture (picture_of old) (picture_of new)
+  pub answers : Answers (picture_of old) i ask result
+
+-- the connection broke
+abbrev pub is_broken : Result ReadPacket LinkFault → Bool
+is_broken (Ok packet) = false
+is_broken (Err link_faults.NoMemory) = false
+is_broken (Err link_faults.Broken) = true
+is_broken (Err link_faults.Refused) = false
+
+-- a packet was asked of a datanode: its count rises by one where the connection broke, and no other count does
+pub record CountsPacket (old new : Counts) (node : List ℕ) (broke : Bool) : Type 0 where
+  pub own : new.nodes node ≡ old.nodes node + (if broke then 1 else 0)
+  pub others : (d : List ℕ) → d ≢ node → new.nodes d ≡ old.nodes d
+  pub calls : (i : ℕ) → new.calls i ≡ old.calls i
+  pub links : new.links ≡ old.links
+
+-- how many datanodes it has
+abbrev pub nodes_of : MemCluster → ℕ
+nodes_of m = m.config.nodes
+
+-- the counts of each namenode and each datanode, by their numbers
+pub record Sees (m : MemCluster) (seen : SeenCounts) : Type 0 where
+  pub namenodes : length seen.calls ≡ (shown_of m).namenodes
+  pub calls : (i : ℕ) → slice_index seen.calls i ≡ (shown_of m).counts.calls i
+  pub links : seen.links ≡ (shown_of m).counts.links
+  pub datanodes : length seen.nodes ≡ nodes_of m
+  pub nodes : (k : ℕ) → k < nodes_of m → slice_index seen.nodes k ≡ (shown_of m).counts.nodes (uuid_of k)

@@ -1,0 +1,108 @@
+-- How the parts of the cluster in memory are seen.
+use Rattle.std.specs.Prelude.{◌≡◌, ℕ, ◌+◌, ◌<◌, ◌^◌, zero, suc, nat_lt, ◌==◌, Bool, true, false, ◌&&◌, ◌||◌, List, [], ◌∷◌, ◌++◌, length, Option, Some, None, is_none, map, count_by, codes, String, string_bytes, if◌then◌else◌}
+use Rattle.std.specs.List.{list_all, list_any}
+use Rattle.std.specs.Map.{lookup}
+use Rattle.std.specs.Ordering.{nat_cmp}
+use Rattle.std.specs.Str.{bytes_eq}
+use Rattle.std.specs.BTreeMap.{is_at}
+use Rattle.std.specs.Fmt.{decimal}
+use Rattle.hdfs_model.specs.declared.picture.Entry.{Entry}
+use Rattle.hdfs_model.specs.declared.picture.Entry.TheVariants as entries
+use Rattle.hdfs_model.specs.declared.picture.BlockEntry.{BlockEntry}
+use Rattle.hdfs_model.specs.declared.store.Line.{Line}
+use Rattle.hdfs_model.specs.declared.store.Line.TheVariants as lines
+use Rattle.hdfs_model.specs.declared.store.FaultLine.{FaultLine}
+use Rattle.hdfs_model.specs.declared.store.FaultLine.TheVariants as fault_lines
+use Rattle.hdfs_model.specs.Paths.{root, is_path, ancestors, parent_of}
+use Rattle.hdfs_model.specs.Loading.{in_limits}
+
+-- the length of the blocks together, where each of them is there
+abbrev pub plus_length : Option BlockEntry → Option ℕ → Option ℕ
+plus_length (Some entry) (Some rest) = Some (entry.length + rest)
+plus_length (Some entry) None = None
+plus_length None rest = None
+
+abbrev pub total : (ℕ → Option BlockEntry) → List ℕ → Option ℕ
+total table [] = Some 0
+total table (id ∷ ids) = plus_length (table id) (total table ids)
+
+abbrev pub is_length : Option ℕ → Bool
+is_length None = false
+is_length (Some n) = nat_lt n (2 ^ 63)
+
+-- the blocks of a file are in the table, and are below 2^63 bytes together
+abbrev pub is_sized : (ℕ → Option BlockEntry) → Option Entry → Bool
+is_sized table None = true
+is_sized table (Some entries.Dir) = true
+is_sized table (Some (entries.File file)) = is_length (total table file.blocks)
+
+abbrev pub table_of : List (ℕ × BlockEntry) → ℕ → Option BlockEntry
+table_of es id = lookup (is_at (nat_cmp id)) es
+
+abbrev pub is_dir : Option Entry → Bool
+is_dir None = false
+is_dir (Some entries.Dir) = true
+is_dir (Some (entries.File file)) = false
+
+-- nothing stands at the path, or it keeps the path rule and all that stands above it are directories
+abbrev pub is_placed : (List ℕ → Option Entry) → List ℕ → Bool
+is_placed names path = is_none (names path) || (is_path path && list_all (λ ancestor. is_dir (names ancestor)) (ancestors path))
+
+-- whether a file is taken: at a new path below a directory, within the limits
+abbrev pub accepts : (List ℕ → Option Entry) → List ℕ → ℕ → ℕ → ℕ → ℕ → Bool
+accepts names path permission replication block_size count =
+    is_path path && is_none (names path) && is_dir (names (parent_of path)) && in_limits permission replication block_size count
+
+-- the root is all that is named
+abbrev pub is_bare : {A : Type 0} → List (String A × Entry) → Bool
+is_bare [] = false
+is_bare (e ∷ []) = bytes_eq root (string_bytes e.0) && is_dir (Some e.1)
+is_bare (e ∷ f ∷ rest) = false
+
+-- of a path that is the root or isn't: a directory stands at the root, and nothing elsewhere
+abbrev pub is_bare_at : Bool → Option Entry → Bool
+is_bare_at true o = is_dir o
+is_bare_at false o = is_none o
+
+abbrev pub is_nil : {X : Type 0} → List X → Bool
+is_nil [] = true
+is_nil (x ∷ xs) = false
+
+-- the uuid of a datanode by its number
+abbrev pub uuid_of : ℕ → List ℕ
+uuid_of number = codes "dn" ++ decimal number
+
+-- the uuid of the datanode that holds the blocks
+abbrev pub first_node : List ℕ
+first_node = codes "dn0"
+
+-- of the first so many packets, how many break
+abbrev pub failed : (ℕ → Bool) → ℕ → ℕ
+failed breaks zero = 0
+failed breaks (suc n) = failed breaks n + (if breaks (suc n) then 1 else 0)
+
+-- the number of the datanode that a fault is of
+abbrev pub node_of : FaultLine → ℕ
+node_of (fault_lines.ReadOf node nth kind) = node
+
+-- the number of the packet that it breaks
+abbrev pub nth_of : FaultLine → ℕ
+nth_of (fault_lines.ReadOf node nth kind) = nth
+
+-- the line is one with a fault of this datanode
+abbrev pub is_fault_of : List ℕ → Line → Bool
+is_fault_of uuid (lines.File path permission replication block_size bytes) = false
+is_fault_of uuid (lines.Fault fault) = bytes_eq (uuid_of (node_of fault)) uuid
+
+-- the line breaks this packet of this datanode
+abbrev pub breaks_at : List ℕ → ℕ → Line → Bool
+breaks_at uuid packet (lines.File path permission replication block_size bytes) = false
+breaks_at uuid packet (lines.Fault fault) = bytes_eq (uuid_of (node_of fault)) uuid && (nth_of fault == packet)
+
+-- one of the lines breaks this packet of this datanode
+abbrev pub breaks : List Line → List ℕ → ℕ → Bool
+breaks loaded uuid packet = list_any (breaks_at uuid packet) loaded
+
+-- how many of the lines are faults of this datanode
+abbrev pub fault_count : List Line → List ℕ → ℕ
+fault_count loaded uuid = count_by (is_fault_of uuid) loaded

@@ -1,0 +1,23 @@
+-- How a cluster in memory starts.
+use Rattle.std.specs.Prelude.{◌≡◌, ℕ, List, [], Option, Some, None}
+use Rattle.hdfs_model.specs.declared.picture.AnswerKind.TheVariants as answer_kinds
+use Rattle.hdfs_model.specs.Picture.{Picture}
+use Rattle.hdfs_model.specs.Shown.{Shown}
+use Rattle.hdfs_cluster.specs.declared.memory.MemSettings.{MemSettings}
+
+-- it has the namenodes and the defaults of its settings, and nothing was asked of it, read or loaded, or has failed
+pub record Starts (settings : MemSettings) (shown : Shown) : Type 0 where
+  pub picture : Picture
+  pub told : shown.picture ≡ Some picture
+  pub active : picture.active ≡ settings.active
+  pub defaults : picture.defaults ≡ settings.defaults
+  pub no_block : (id : ℕ) → picture.table id ≡ None
+  pub no_bytes : (node : List ℕ) (id : ℕ) → picture.held node id ≡ []
+  pub no_place : (link : ℕ) → picture.reads link ≡ None
+  pub namenodes : shown.namenodes ≡ settings.namenodes
+  pub last : shown.last ≡ answer_kinds.Fine
+  pub no_read : (link : ℕ) → shown.reads link ≡ None
+  pub no_line : shown.loaded ≡ []
+  pub calls : (i : ℕ) → shown.counts.calls i ≡ 0
+  pub links : shown.counts.links ≡ 0
+  pub nodes : (d : List ℕ) → shown.counts.nodes d ≡ 0

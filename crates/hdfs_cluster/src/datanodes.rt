@@ -1,0 +1,106 @@
+// The datanodes of a cluster in memory.
+ghost use Rattle.std.specs.Prelude.{◌≡◌, ◌≢◌, ◌⊎◌, ◌+◌, ◌-◌, ◌^◌, ◌<◌, ℕ, [], true, false, Bool, List, Some, None, IsSome, is_some, string_bytes, min, OnOk, OnErr, IfOk, if◌then◌else◌};
+ghost use Rattle.std.specs.BTreeMap.{get_by_text};
+ghost use Rattle.hdfs_cluster.specs.Memory.{first_node, uuid_of};
+
+use crate::datanode::DataNode;
+use bytes::Bytes;
+use hdfs_wire::NoMemory;
+use std::alloc::Global;
+use std::collections::BTreeMap;
+
+/// The datanodes by their uuids, `dn0`, `dn1` and so on. The first holds the blocks.
+#[derive(Drop)]
+pub struct Datanodes {
+    pub(crate) by_uuid: BTreeMap<String, DataNode>,
+    ghost first: { is_some (get_by_text by_uuid first_node) ≡ true },
+}
+
+const FIRST_NODE: &str = "dn0";
+
+fn uuid(alloc: Global, number: u32) -> Result<String, NoMemory>
+    ensures { IfOk result (λ text. string_bytes text ≡ uuid_of number) }
+{
+    Ok(format!(in alloc; "dn{number}")?)
+}
+
+impl Datanodes {
+    ghost use Rattle.hdfs_cluster.specs.Nodes.{faults_of, breaks_in, packets_of, node_at, held_in, SameBytes, SameFaults};
+
+    /// So many datanodes that hold nothing and never fail.
+    pub(crate) fn new(alloc: Global, count: u32) -> Result<Datanodes, NoMemory>
+        requires { 0 < count }
+        ensures held { IfOk result (λ nodes. (d : List ℕ) (block : ℕ) → held_in nodes d block ≡ []) }
+        ensures faults { IfOk result (λ nodes. (d : List ℕ) → faults_of (node_at nodes d) ≡ 0) }
+        ensures breaks { IfOk result (λ nodes. (d : List ℕ) (packet : ℕ) → breaks_in (node_at nodes d) packet ≡ false) }
+    {
+        let mut by_uuid = BTreeMap::new(alloc);
+        for number in 0..count {
+            by_uuid.insert(uuid(alloc, number)?, DataNode::new(alloc))?;
+        }
+        Ok(Datanodes { by_uuid })
+    }
+
+    /// Gives the first datanode the bytes of a block.
+    pub(crate) fn hold(&mut self, block: u64, bytes: Bytes) -> Result<(), NoMemory>
+        ensures held { OnOk result (held_in self.new first_node block ≡ bytes) }
+        ensures others { (d : List ℕ) (other : ℕ) → other ≢ block → held_in self.new d other ≡ held_in self.old d other }
+        ensures faults { (d : List ℕ) → SameFaults (node_at self.old d) (node_at self.new d) }
+    {
+        let Some(node) = self.by_uuid.get_mut(FIRST_NODE) else {
+            unreachable!();
+        };
+        node.hold(block, bytes)
+    }
+
+    /// Notes that a packet of a datanode breaks. A packet that was given already cannot, nor can one of a datanode that
+    /// isn't there.
+    pub(crate) fn plan(&mut self, alloc: Global, number: u32, nth: u64) -> Result<(), NoMemory>
+        ensures planned { OnOk result (IsSome (node_at self.old (uuid_of number)) → packets_of (node_at self.old (uuid_of number)) < nth → breaks_in (node_at self.new (uuid_of number)) nth ≡ true) }
+        ensures others { (d : List ℕ) (packet : ℕ) → breaks_in (node_at self.new d) packet ≡ true → (breaks_in (node_at self.old d) packet ≡ true) ⊎ ((d ≡ uuid_of number) × (packet ≡ nth)) }
+        ensures failed { OnErr result ((d : List ℕ) (packet : ℕ) → breaks_in (node_at self.new d) packet ≡ breaks_in (node_at self.old d) packet) }
+        ensures held { (d : List ℕ) → SameBytes (node_at self.old d) (node_at self.new d) }
+        ensures faults { (d : List ℕ) → faults_of (node_at self.new d) ≡ faults_of (node_at self.old d) }
+    {
+        let uuid = uuid(alloc, number)?;
+        let Some(node) = self.by_uuid.get_mut(uuid.as_str()) else {
+            return Ok(());
+        };
+        node.plan(nth)
+    }
+
+    /// Counts a packet of a datanode, and says whether it breaks.
+    pub(crate) fn count_packet(&mut self, uuid: &str) -> bool
+        ensures packets { IsSome (node_at self.old uuid.now) → packets_of (node_at self.new uuid.now) ≡ min (packets_of (node_at self.old uuid.now) + 1) (2 ^ 64 - 1) }
+        ensures own { faults_of (node_at self.new uuid.now) ≡ faults_of (node_at self.old uuid.now) + (if result then 1 else 0) }
+        ensures others { (d : List ℕ) → d ≢ uuid.now → node_at self.new d ≡ node_at self.old d }
+        ensures breaks { (d : List ℕ) (packet : ℕ) → breaks_in (node_at self.new d) packet ≡ breaks_in (node_at self.old d) packet }
+        ensures held { (d : List ℕ) → SameBytes (node_at self.old d) (node_at self.new d) }
+    {
+        match self.by_uuid.get_mut(uuid) {
+            Some(node) => node.count_packet(),
+            None => false,
+        }
+    }
+
+    /// The bytes that a datanode holds of a block, and how often it has failed.
+    pub(crate) fn read(&self, uuid: &str, block: u64) -> Result<(Bytes, u64), NoMemory>
+        ensures bytes { IfOk result (λ r. r.0 ≡ held_in self.now uuid.now block) }
+        ensures faults { IfOk result (λ r. r.1 ≡ faults_of (node_at self.now uuid.now)) }
+    {
+        match self.by_uuid.get(uuid) {
+            Some(node) => Ok((node.read(block)?, node.faults)),
+            None => Ok((Bytes::new(), 0)),
+        }
+    }
+
+    /// How often a datanode has failed, by its number.
+    pub(crate) fn faults(&self, alloc: Global, number: u32) -> Result<u64, NoMemory>
+        ensures { IfOk result (λ faults. faults ≡ faults_of (node_at self.now (uuid_of number))) }
+    {
+        match self.by_uuid.get(uuid(alloc, number)?.as_str()) {
+            Some(node) => Ok(node.faults),
+            None => Ok(0),
+        }
+    }
+}

@@ -1,0 +1,214 @@
+// What the namenodes of a cluster in memory answer.
+ghost use Rattle.std.specs.Prelude.{◌≡◌, ◌⊎◌, ◌<◌, ◌^◌, ℕ, [], true, Bool, List, Option, None, IfOk, IfErr, OnOk};
+ghost use Rattle.std.specs.List.{list_any};
+ghost use Rattle.std.specs.BTreeMap.{get_by_text};
+ghost use Rattle.hdfs_model.specs.Files.{no_file, is_file};
+ghost use Rattle.hdfs_model.specs.Namenode as namenode;
+ghost use Rattle.hdfs_model.specs.Namenode.{kind_of, LocatesBlock, LocatesBlocks, Follow, uuids};
+ghost use Rattle.hdfs_model.specs.Paths.{ancestors};
+ghost use Rattle.hdfs_cluster.specs.Adding.{kinds_in};
+ghost use Rattle.hdfs_cluster.specs.Answering.{LocatesFile, IsExcused};
+ghost use Rattle.hdfs_cluster.specs.Memory.{table_of, total, is_length};
+
+use crate::namespace::Namespace;
+use hdfs_model::{
+    Answer, AnswerKind, AskFault, Block, BlockEntry, DatanodeId, DatanodeInfo, Entry, FileEntry,
+    LocatedBlock, LocatedBlocks, Token, above,
+};
+use hdfs_wire::{Blob, List, NoMemory, Text};
+use std::alloc::Global;
+use std::collections::BTreeMap;
+
+pub(crate) const STANDBY: &str = "org.apache.hadoop.ipc.StandbyException";
+
+const OBSERVER_RETRY: &str = "org.apache.hadoop.ipc.ObserverRetryOnActiveException";
+
+const ALREADY_EXISTS: &str = "org.apache.hadoop.fs.FileAlreadyExistsException";
+
+const BEING_CREATED: &str = "org.apache.hadoop.hdfs.protocol.AlreadyBeingCreatedException";
+
+const NOT_FOUND: &str = "java.io.FileNotFoundException";
+
+const PARENT_NOT_DIRECTORY: &str = "org.apache.hadoop.fs.ParentNotDirectoryException";
+
+/// The port on which datanodes give their blocks.
+const TRANSFER_PORT: u32 = 9866;
+
+/// The kind of an answer, by the class of an exception.
+pub(crate) fn answer_kind(answer: &Result<Answer, AskFault>) -> AnswerKind
+    ensures { result ≡ kind_of answer.now }
+{
+    match answer {
+        Ok(_) => AnswerKind::Fine,
+        Err(AskFault::NoMemory) => AnswerKind::NoMemory,
+        Err(AskFault::Exception { class, .. }) => class_kind(class.as_str()),
+    }
+}
+
+fn class_kind(class: &str) -> AnswerKind
+    ensures { result ≡ namenode.class_kind class.now }
+{
+    if class == STANDBY {
+        AnswerKind::Retriable
+    } else if class == OBSERVER_RETRY {
+        AnswerKind::Retriable
+    } else if class == ALREADY_EXISTS {
+        AnswerKind::Exists
+    } else if class == BEING_CREATED {
+        AnswerKind::Exists
+    } else if class == NOT_FOUND {
+        AnswerKind::NotFound
+    } else {
+        AnswerKind::Other
+    }
+}
+
+/// An exception with no message.
+pub(crate) fn exception(alloc: Global, class: &str) -> Result<AskFault, NoMemory>
+    ensures { IfOk result (λ fault. fault ≡ AskFault.Exception class.now []) }
+{
+    Ok(AskFault::Exception {
+        class: Text::from_str(alloc, class)?,
+        message: Text::new(alloc),
+    })
+}
+
+fn info(alloc: Global, uuid: &Text) -> Result<DatanodeInfo, NoMemory>
+    ensures { IfOk result (λ info. info.id.datanode_uuid ≡ uuid.now) }
+{
+    Ok(DatanodeInfo {
+        id: DatanodeId {
+            ip_addr: uuid.copy(alloc)?,
+            host_name: Text::new(alloc),
+            datanode_uuid: uuid.copy(alloc)?,
+            xfer_port: TRANSFER_PORT,
+            info_port: 0,
+            ipc_port: 0,
+        },
+        location: Text::new(alloc),
+    })
+}
+
+fn infos(alloc: Global, nodes: &[Text]) -> Result<Vec<DatanodeInfo>, NoMemory>
+    ensures { IfOk result (λ infos. uuids infos.items ≡ nodes.now) }
+{
+    let mut infos = Vec::new(alloc);
+    for uuid in nodes {
+        infos.push(info(alloc, uuid)?)?;
+    }
+    Ok(infos)
+}
+
+fn no_token(alloc: Global) -> Token {
+    Token {
+        identifier: Blob::new(alloc),
+        password: Blob::new(alloc),
+        kind: Text::new(alloc),
+        service: Text::new(alloc),
+    }
+}
+
+fn located_block(
+    alloc: Global,
+    id: u64,
+    entry: &BlockEntry,
+    offset: u64,
+) -> Result<LocatedBlock, NoMemory>
+    ensures { IfOk result (λ block. LocatesBlock entry.now offset id block) }
+{
+    Ok(LocatedBlock {
+        b: Block {
+            pool_id: Text::new(alloc),
+            block_id: id,
+            generation_stamp: entry.stamp,
+            num_bytes: entry.length,
+        },
+        offset,
+        locs: List::from_vec(infos(alloc, entry.nodes.as_slice())?),
+        corrupt: false,
+        block_token: no_token(alloc),
+        storage_types: List::new(alloc),
+        storage_ids: List::new(alloc),
+        block_indices: None,
+        block_tokens: List::new(alloc),
+    })
+}
+
+fn locate(
+    alloc: Global,
+    table: &BTreeMap<u64, BlockEntry>,
+    file: &FileEntry,
+) -> Result<LocatedBlocks, NoMemory>
+    requires { is_length (total (table_of table.now.entries) file.now.blocks) ≡ true }
+    ensures rows { IfOk result (λ found. LocatesBlocks (table_of table.now.entries) 0 found.file_length file.now.blocks found.blocks) }
+    ensures length { IfOk result (λ found. found.file_length < 2 ^ 63) }
+    ensures follow { IfOk result (λ found. Follow 0 found.file_length found.blocks) }
+{
+    let mut blocks = Vec::new(alloc);
+    let mut at: u64 = 0;
+    for id in file.blocks.as_slice() {
+        if let Some(entry) = table.get(id) {
+            blocks.push(located_block(alloc, *id, entry, at)?)?;
+            at += entry.length;
+        } else {
+            unreachable!();
+        }
+    }
+    Ok(LocatedBlocks {
+        file_length: at,
+        blocks: List::from_vec(blocks),
+        under_construction: false,
+    })
+}
+
+impl Namespace {
+    /// The blocks of the file at a path.
+    pub(crate) fn locations(&self, alloc: Global, src: &str) -> Result<LocatedBlocks, AskFault>
+        ensures located { IfOk result (LocatesFile (get_by_text self.now.names) (table_of self.now.table.entries) src.now) }
+        ensures allowed { OnOk result (no_file (kinds_in (get_by_text self.now.names)) src.now ≡ None) }
+        ensures excused { IfErr result (IsExcused (kinds_in (get_by_text self.now.names)) src.now) }
+        ensures length { IfOk result (λ found. found.file_length < 2 ^ 63) }
+        ensures follow { IfOk result (λ found. Follow 0 found.file_length found.blocks) }
+    {
+        match self.names.get(src) {
+            Some(Entry::File(file)) => Ok(locate(alloc, &self.table, file)?),
+            Some(Entry::Dir) => Err(exception(alloc, NOT_FOUND)?),
+            None => Err(self.absent(alloc, src)?),
+        }
+    }
+
+    /// Why nothing stands at a path: a file stands above it, or it is missing.
+    fn absent(&self, alloc: Global, src: &str) -> Result<AskFault, NoMemory>
+        requires { get_by_text self.now.names src.now ≡ None }
+        ensures { IfOk result (IsExcused (kinds_in (get_by_text self.now.names)) src.now) }
+    {
+        if self.is_below_file(src) {
+            exception(alloc, PARENT_NOT_DIRECTORY)
+        } else {
+            exception(alloc, NOT_FOUND)
+        }
+    }
+
+    fn is_below_file(&self, src: &str) -> bool
+        ensures { result ≡ list_any (λ ancestor. is_file (kinds_in (get_by_text self.now.names) ancestor)) (ancestors src.now) }
+    {
+        let mut path = src;
+        while let Some(front) = above(path) {
+            if self.is_file(front) {
+                return true;
+            }
+            path = front;
+        }
+        false
+    }
+
+    fn is_file(&self, path: &str) -> bool
+        ensures { result ≡ is_file (kinds_in (get_by_text self.now.names) path.now) }
+    {
+        match self.names.get(path) {
+            Some(Entry::File(_)) => true,
+            Some(Entry::Dir) => false,
+            None => false,
+        }
+    }
+}
