@@ -1,5 +1,5 @@
 -- What each line of a script says.
-use Rattle.std.specs.Prelude.{ℕ, ◌^◌, nat_le, Bool, true, false, ◌&&◌, ◌==◌, List, [], ◌∷◌, length, Option, Some, None, if◌then◌else◌, codes}
+use Rattle.std.specs.Prelude.{ℕ, ◌^◌, nat_le, Bool, ◌&&◌, ◌==◌, List, [], ◌∷◌, length, Option, Some, if◌then◌else◌, codes}
 use Rattle.std.specs.List.{list_all, slice_split}
 use Rattle.std.specs.Str.{bytes_eq}
 use Rattle.hdfs_model.specs.declared.store.Line.TheVariants as lines
@@ -18,17 +18,17 @@ is_word text = nat_le 1 (length text) && list_all (λ c. nat_le 33 c && nat_le c
 -- `file PATH PERM REPL BLOCK HEX`
 abbrev pub file_entry : List ℕ → Option ℕ → Option ℕ → Option ℕ → Option (List ℕ) → Entry
 file_entry path (Some permission) (Some replication) (Some block_size) (Some bytes) = if is_word path then Loads (lines.File path permission replication block_size bytes) else Bad
-file_entry path permission replication block_size bytes = Bad
+file_entry _ _ _ _ _ = Bad
 
 -- `fault read D N broken`
 abbrev pub fault_entry : Option ℕ → Option ℕ → Entry
 fault_entry (Some node) (Some nth) = if nat_le 1 nth then Loads (lines.Fault (faults.ReadOf node nth read_kinds.Broken)) else Bad
-fault_entry node nth = Bad
+fault_entry _ _ = Bad
 
 -- `do read PATH OFFSET LEN`
 abbrev pub read_entry : List ℕ → Option ℕ → Option ℕ → Entry
 read_entry path (Some offset) (Some len) = if is_word path && is_path path then Runs (commands.Read path offset len) else Bad
-read_entry path offset len = Bad
+read_entry _ _ _ = Bad
 
 abbrev pub words_entry : List (List ℕ) → Entry
 words_entry (a ∷ b ∷ c ∷ d ∷ e ∷ f ∷ []) =

@@ -1,0 +1,4 @@
+pub mod NumberLemmas
+pub mod ParseLemmas
+pub mod PathLemmas
+pub mod WordLemmas

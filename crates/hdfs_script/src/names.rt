@@ -1,0 +1,19 @@
+// The names of errors.
+ghost use Rattle.std.specs.Prelude.{◌≡◌};
+ghost use Rattle.hdfs_script.specs.Texts as spec;
+
+use hdfs_model::HdfsError;
+
+/// The name of an error's variant.
+pub fn variant_name(error: &HdfsError) -> &'static str
+    ensures { result.now ≡ spec.variant_name error.now }
+{
+    match error {
+        HdfsError::NoMemory => "NoMemory",
+        HdfsError::Failed => "Failed",
+        HdfsError::DataTransferError(_) => "DataTransferError",
+        HdfsError::InvalidArgument(_) => "InvalidArgument",
+        HdfsError::FileNotFound(_) => "FileNotFound",
+        HdfsError::RPCError(_, _) => "RPCError",
+    }
+}
