@@ -1,7 +1,7 @@
 -- What a source gives and what a sink takes.
 use Rattle.std.specs.Prelude.{◌≡◌, ℕ, ◌<◌, ◌≤◌, List, [], ◌++◌, length, take, drop, Option, Some, None, Result, Ok, Err, OnErr}
 use Rattle.hdfs_model.specs.Counts.{Rose}
-use Rattle.hdfs_run.specs.declared.streams.IoFailed.{IoFailed}
+use Rattle.hdfs_top.specs.declared.streams.IoFailed.{IoFailed}
 
 -- a failure is answered only where the count rose
 pub record HasCause {T : Type 0} (before now : ℕ) (result : Result T IoFailed) : Type 0 where

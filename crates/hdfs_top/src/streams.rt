@@ -1,7 +1,7 @@
 // Where a script comes from, and where its replies go.
 ghost use Rattle.std.specs.Prelude.{◌≡◌, ◌<◌, ◌≤◌, ℕ, List, Option, length, IfOk};
 ghost use Rattle.hdfs_model.specs.Counts.{Rose};
-ghost use Rattle.hdfs_run.specs.Streams.{Takes, Puts, HasCause};
+ghost use Rattle.hdfs_top.specs.Streams.{Takes, Puts, HasCause};
 
 /// A read or a write failed.
 #[derive(Clone, Copy, Debug, PartialEq, Eq)]

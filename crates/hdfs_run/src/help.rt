@@ -1,0 +1,36 @@
+// What the program says of itself.
+
+pub(crate) const VERSION: &str = "hdfs_run 0.1.0\n";
+
+pub(crate) const HELP: &str = "\
+Runs a script of file commands over an HDFS cluster in memory, with one namenode and three datanodes.
+It reads the script from standard input and writes a line for each reply to standard output.
+
+Usage: hdfs_run session | --help | --version
+
+A script has one line for each file or fault to load, and then one for each command to run:
+
+  file PATH PERMISSION REPLICATION BLOCK_SIZE HEX   a file, its permission in octal digits and its bytes
+  fault read NODE NTH broken                        datanode NODE breaks the connection at its NTH packet
+  do read PATH OFFSET LENGTH                        reads a part of a file
+  # ...                                             a comment; an empty line is one too
+
+Bytes are pairs of lower-case hexadecimal digits, or `-` for none.
+
+Status  Meaning
+0       every reply was written
+1       the words or the script are refused, and `bad 0` was written
+2       a command failed: the replies before it were written, and a line `fault NUMBER NAME`
+3       there was no memory; nothing was written
+4       standard input failed; nothing was written
+5       standard output failed
+
+Example: the script
+
+  file /a 644 1 8 0001020304050607
+  do read /a 2 4
+
+prints
+
+  ok bytes 02030405
+";

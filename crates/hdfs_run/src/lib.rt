@@ -1,5 +1,0 @@
-#![tactic(auto)]
-
-mod streams;
-
-pub use streams::{IoFailed, Sink, Source};

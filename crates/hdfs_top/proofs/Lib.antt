@@ -1,0 +1,5 @@
+pub mod LoadLemmas
+pub mod PrintLemmas
+pub mod ReadLemmas
+pub mod RunLemmas
+pub mod TopLemmas

@@ -1,0 +1,5 @@
+pub mod Memory
+pub mod Runs
+pub mod Streams
+pub mod Top
+pub mod Writing

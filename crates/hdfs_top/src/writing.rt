@@ -1,0 +1,129 @@
+// Printing what a session has answered.
+ghost use Rattle.std.specs.Prelude.{◌≡◌, ◌≤◌, length, map};
+ghost use Rattle.std.specs.List.{concat};
+ghost use Rattle.hex.specs.Hex.{encode_lower};
+ghost use Rattle.hdfs_script.specs.Texts.{hex_text, reply_text, replies_text, fault_text};
+ghost use Rattle.hdfs_top.specs.Writing.{Prints, bytes_line, fault_line};
+
+use crate::streams::{IoFailed, Sink};
+use hdfs_model::{Fault, Reply};
+use hdfs_script::variant_name;
+use itoa::Buffer;
+
+/// How many bytes are turned into digits at once.
+const PIECE: usize = 2048;
+
+/// Writes all bytes. Where the sink fails, a prefix of them was written.
+pub fn write_all<K: Sink>(sink: &mut K, bytes: &[u8]) -> Result<(), IoFailed>
+    ensures { Prints (K.written sink.old) (K.faults sink.old) bytes.now result (K.written sink.new) (K.faults sink.new) }
+{
+    let mut left = bytes;
+    while !left.is_empty() {
+        let count = sink.write(left)?;
+        if count == 0 {
+            return Err(IoFailed);
+        }
+        let (_, rest) = left.split_at(count);
+        left = rest;
+    }
+    Ok(())
+}
+
+// Writes at most 2,048 bytes in digits.
+fn write_piece<K: Sink>(sink: &mut K, bytes: &[u8]) -> Result<(), IoFailed>
+    requires { length bytes.now ≤ 2048 }
+    ensures { Prints (K.written sink.old) (K.faults sink.old) (encode_lower bytes.now) result (K.written sink.new) (K.faults sink.new) }
+{
+    let mut digits = [0u8; 4096];
+    let text = &mut digits[..2 * bytes.len()];
+    match hex::encode_to_slice(bytes, text) {
+        Ok(()) => Ok(write_all(sink, text)?),
+        Err(_) => unreachable!(),
+    }
+}
+
+fn write_digits<K: Sink>(sink: &mut K, bytes: &[u8]) -> Result<(), IoFailed>
+    ensures { Prints (K.written sink.old) (K.faults sink.old) (encode_lower bytes.now) result (K.written sink.new) (K.faults sink.new) }
+{
+    let mut left = bytes;
+    while !left.is_empty() {
+        let (piece, rest) = left.split_at(left.len().min(PIECE));
+        write_piece(sink, piece)?;
+        left = rest;
+    }
+    Ok(())
+}
+
+/// Writes bytes in lower-case hexadecimal digits, `-` for none.
+pub fn write_hex<K: Sink>(sink: &mut K, bytes: &[u8]) -> Result<(), IoFailed>
+    ensures { Prints (K.written sink.old) (K.faults sink.old) (hex_text bytes.now) result (K.written sink.new) (K.faults sink.new) }
+{
+    if bytes.is_empty() {
+        return Ok(write_all(sink, b"-")?);
+    }
+    Ok(write_digits(sink, bytes)?)
+}
+
+// Writes the line of bytes that were read.
+fn write_bytes<K: Sink>(sink: &mut K, bytes: &[u8]) -> Result<(), IoFailed>
+    ensures { Prints (K.written sink.old) (K.faults sink.old) (bytes_line bytes.now) result (K.written sink.new) (K.faults sink.new) }
+{
+    write_all(sink, b"ok bytes ")?;
+    write_hex(sink, bytes)?;
+    write_all(sink, b"\n")?;
+    Ok(())
+}
+
+/// Writes a reply's line.
+pub fn write_reply<K: Sink>(sink: &mut K, reply: &Reply) -> Result<(), IoFailed>
+    ensures { Prints (K.written sink.old) (K.faults sink.old) (reply_text reply.now) result (K.written sink.new) (K.faults sink.new) }
+{
+    match reply {
+        Reply::Bytes { bytes } => Ok(write_bytes(sink, bytes.as_slice())?),
+    }
+}
+
+/// Writes a line for each reply.
+pub fn write_replies<K: Sink>(sink: &mut K, replies: &[Reply]) -> Result<(), IoFailed>
+    ensures { Prints (K.written sink.old) (K.faults sink.old) (replies_text replies.now) result (K.written sink.new) (K.faults sink.new) }
+{
+    for reply in replies {
+        write_reply(sink, reply)?;
+    }
+    Ok(())
+}
+
+// Writes pieces, one behind another.
+fn write_pieces<K: Sink>(sink: &mut K, pieces: &[&[u8]]) -> Result<(), IoFailed>
+    ensures { Prints (K.written sink.old) (K.faults sink.old) (concat (map (λ piece. piece.now) pieces.now)) result (K.written sink.new) (K.faults sink.new) }
+{
+    for piece in pieces {
+        write_all(sink, piece)?;
+    }
+    Ok(())
+}
+
+// Writes the line of a fault.
+fn write_fault_line<K: Sink>(sink: &mut K, fault: &Fault) -> Result<(), IoFailed>
+    ensures { Prints (K.written sink.old) (K.faults sink.old) (fault_line fault.now) result (K.written sink.new) (K.faults sink.new) }
+{
+    let mut buffer = Buffer::new();
+    let at = buffer.format(fault.at);
+    let name = variant_name(&fault.error);
+    let pieces = [
+        b"fault ".as_slice(),
+        at.as_bytes(),
+        b" ",
+        name.as_bytes(),
+        b"\n",
+    ];
+    Ok(write_pieces(sink, &pieces)?)
+}
+
+/// Writes the replies up to a fault, and its line.
+pub fn write_fault<K: Sink>(sink: &mut K, fault: &Fault) -> Result<(), IoFailed>
+    ensures { Prints (K.written sink.old) (K.faults sink.old) (fault_text fault.now) result (K.written sink.new) (K.faults sink.new) }
+{
+    write_replies(sink, fault.done.as_slice())?;
+    Ok(write_fault_line(sink, fault)?)
+}
