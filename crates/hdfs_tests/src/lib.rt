@@ -1,0 +1,11 @@
+//! Tests of the program over sources, sinks and clusters in memory, and beside the plain program.
+#![tactic(auto)]
+
+#[cfg(test)]
+mod asking;
+#[cfg(test)]
+mod rows;
+#[cfg(test)]
+mod streams;
+#[cfg(test)]
+mod support;

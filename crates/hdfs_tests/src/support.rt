@@ -1,0 +1,143 @@
+// What the tests share: the program over memory, and the plain program's answer to the same script.
+ghost use Rattle.std.specs.Prelude.{◌≡◌, ◌<◌, IfOk};
+ghost use Rattle.hdfs_cluster.specs.MemShown.{shown_of};
+
+use hdfs_cluster::{Line, MemCluster, MemSettings, Reply, ServerDefaults, Store};
+use hdfs_plain::{PlainFiles, PlainFold, PlainRefusal};
+use hdfs_script::parse;
+use hdfs_top::{MemSink, MemSource, top};
+use hdfs_wire::{Blob, List, Text};
+use std::alloc::Global;
+use std::test::Fail;
+
+/// A status and what was written.
+#[derive(Debug, PartialEq, Eq, Drop)]
+pub(crate) struct Ending {
+    pub(crate) status: u8,
+    pub(crate) text: String,
+}
+
+/// One namenode, three datanodes, and the defaults of a script.
+pub(crate) fn cluster(alloc: Global) -> Result<MemCluster, Fail>
+    ensures { IfOk result (λ m. (shown_of m).namenodes ≡ 1) }
+{
+    let settings = MemSettings {
+        namenodes: 1,
+        active: 0,
+        nodes: 3,
+        defaults: ServerDefaults {
+            block_size: 134217728,
+            bytes_per_checksum: 512,
+            write_packet_size: 65536,
+            replication: 3,
+            encrypt_data_transfer: false,
+        },
+    };
+    Ok(MemCluster::new(alloc, settings)?)
+}
+
+/// A cluster that holds one file of four bytes.
+pub(crate) fn held(alloc: Global) -> Result<MemCluster, Fail>
+    ensures { IfOk result (λ m. 0 < (shown_of m).namenodes) }
+{
+    let mut store = cluster(alloc)?;
+    store.load(Line::File {
+        path: Text::from_str(alloc, "/a")?,
+        permission: 0o644,
+        replication: 1,
+        block_size: 8,
+        bytes: Blob::from_vec(vec![in alloc; 0, 1, 2, 3]?),
+    })?;
+    Ok(store)
+}
+
+pub(crate) fn source(alloc: Global, script: &[u8]) -> Result<MemSource, Fail> {
+    let bytes = Blob::from_vec(Vec::from_slice(alloc, script)?);
+    Ok(MemSource::new(bytes, List::new(alloc)))
+}
+
+/// Words of a command line.
+pub(crate) fn words(alloc: Global, texts: &[&str]) -> Result<Vec<String>, Fail> {
+    let mut words = Vec::new(alloc);
+    for text in texts {
+        words.push(String::from_str(alloc, text)?)?;
+    }
+    Ok(words)
+}
+
+/// What the program answers over a new cluster in memory.
+pub(crate) fn answer(alloc: Global, script: &[u8]) -> Result<Ending, Fail> {
+    let mut store = cluster(alloc)?;
+    let mut source = source(alloc, script)?;
+    let mut sink = MemSink::new(alloc, 4096, List::new(alloc));
+    let words = words(alloc, &["session"])?;
+    let status = top(alloc, &words, &mut source, &mut sink, &mut store);
+    written(alloc, status, &sink)
+}
+
+pub(crate) fn written(alloc: Global, status: u8, sink: &MemSink) -> Result<Ending, Fail> {
+    let text = str::from_utf8(sink.bytes())?;
+    Ok(Ending {
+        status,
+        text: String::from_str(alloc, text)?,
+    })
+}
+
+pub(crate) fn expected(alloc: Global, status: u8, text: &str) -> Result<Ending, Fail> {
+    Ok(Ending {
+        status,
+        text: String::from_str(alloc, text)?,
+    })
+}
+
+/// What the plain program answers to a script without faults.
+pub(crate) fn plain_answer(alloc: Global, script: &[u8]) -> Result<Ending, Fail> {
+    let Some(script) = parse(alloc, script)? else {
+        return expected(alloc, 1, "bad 0\n");
+    };
+    let mut files = PlainFiles::new(alloc)?;
+    for line in script.lines.into_vec() {
+        if !load(&mut files, line)? {
+            return expected(alloc, 1, "bad 0\n");
+        }
+    }
+    let fold = hdfs_plain::run(alloc, "/user/user", &files, script.commands.as_slice())?;
+    print(alloc, &fold)
+}
+
+fn load(files: &mut PlainFiles, line: Line) -> Result<bool, Fail> {
+    if !files.takes(&line) {
+        return Ok(false);
+    }
+    files.load(line)?;
+    Ok(true)
+}
+
+fn print(alloc: Global, fold: &PlainFold) -> Result<Ending, Fail> {
+    let mut text = String::new(alloc);
+    let mut number = 1u64;
+    for reply in fold.replies.as_slice() {
+        let Reply::Bytes { bytes } = reply;
+        let digits = match bytes.as_slice() {
+            [] => String::from_str(alloc, "-")?,
+            bytes => hex::encode(alloc, bytes)?,
+        };
+        text.push_str(format!(in alloc; "ok bytes {digits}\n")?.as_str())?;
+        number = number.saturating_add(1);
+    }
+    let Some(why) = fold.refused else {
+        return Ok(Ending { status: 0, text });
+    };
+    let name = error_name(why);
+    text.push_str(format!(in alloc; "fault {number} {name}\n")?.as_str())?;
+    Ok(Ending { status: 2, text })
+}
+
+/// The error by which the cluster in memory and the session answer a refusal.
+fn error_name(why: PlainRefusal) -> &'static str {
+    match why {
+        PlainRefusal::BadPath => "InvalidPath",
+        PlainRefusal::BadRange => "InvalidArgument",
+        PlainRefusal::NotDirectory | PlainRefusal::Missing | PlainRefusal::NotFile => "RPCError",
+    }
+}
