@@ -14,11 +14,14 @@ use Rattle.hdfs_model.specs.Counts.{Counts, NeverFall, NoneRose, Rose, SameCount
 use Rattle.hdfs_model.specs.Files.{State}
 use Rattle.hdfs_model.specs.Steps.{World, Outcome, step, target_of}
 use Rattle.hdfs_model.specs.Folds.{Folded, Ends, Stops, fold}
-use Rattle.hdfs_model.specs.Loading.{with_lines}
+use Rattle.hdfs_model.specs.declared.store.Line.{Line}
+use Rattle.hdfs_model.specs.declared.store.Line.TheVariants as lines
+use Rattle.hdfs_model.specs.Loading.{SameShown, with_lines}
+use Rattle.hdfs_model.specs.Picture.{SamePicture}
 use Rattle.hdfs_model.specs.Causes.{Cause, CauseAt, CommandLost}
 use Rattle.hdfs_model.specs.Shown.{Shown, Later}
 use Rattle.hdfs_model.specs.Sessions.{Fits, Ready, Avoids, Stopped, Complete, world_of}
-use Rattle.hdfs_model.proofs.Frames.{never_fall_refl, never_fall_trans, never_fall_from-SameCounts}
+use Rattle.hdfs_model.proofs.Frames.{told_refl, same_picture_refl, never_fall_refl, never_fall_trans, never_fall_from-SameCounts}
 use Rattle.hdfs_script.specs.declared.entry.Script.{Script}
 use Rattle.hdfs_script.specs.Scripts.{parsed, script, if_taken, takes_all, line_part}
 use Rattle.hdfs_script.specs.Texts.{replies_text, fault_text, refusal_text}
@@ -152,9 +155,26 @@ script_refused fresh state bytes s is refuses = ap (if_taken fresh state) is ∙
 pub script_none : (fresh : Bool) (state : State) (bytes : List ℕ) → parsed bytes ≡ None → script fresh state bytes ≡ None
 script_none fresh state bytes is = ap (if_taken fresh state) is
 
+pub same_shown_refl : (s : Shown) → SameShown s s
+same_shown_refl s = record {
+  rest = record { counts = record { calls = λ i. refl; links = refl; nodes = λ d. refl }; last = refl; namenodes = refl; reads = λ link. refl };
+  lines = refl;
+  picture = told_refl SamePicture s.picture same_picture_refl;
+}
+
+-- faults alone are taken by every store
+faults_taken : (state : State) (rest : List Line) → list_all (λ line. line_part line == 1) rest ≡ true → takes_all true state rest ≡ true
+faults_taken state [] all = refl
+faults_taken state (lines.Fault fault ∷ rest) all = faults_taken state rest all
+faults_taken state (lines.File path permission replication block_size bytes ∷ rest) all = absurd (cc)
+
+faults_alone : (fresh rest : Bool) → (fresh || rest) ≡ true → fresh ≡ false → rest ≡ true
+faults_alone true rest may held = absurd (cc)
+faults_alone false rest may held = may
+
 -- the script is refused
-pub ran_refused : (fresh : Bool) (bytes : List ℕ) (old new : Shown) (a c : Option (List ℕ)) (f h status : ℕ) → NeverFall old.counts new.counts → ((state : State) → Begun old state → script fresh state bytes ≡ None) → Tells 1 a f refusal_text status c h → Ran fresh bytes old new a f status c h
-ran_refused fresh bytes old new a c f h status counts none tells = record {
+pub ran_refused : (fresh : Bool) (bytes : List ℕ) (old new : Shown) (a c : Option (List ℕ)) (f h status : ℕ) → NeverFall old.counts new.counts → ((state : State) → Begun old state → script fresh state bytes ≡ None) → (fresh ≡ false → (state : State) → Begun old state → SameShown old new) → Tells 1 a f refusal_text status c h → Ran fresh bytes old new a f status c h
+ran_refused fresh bytes old new a c f h status counts none kept tells = record {
   statuses = ⊎_elim (λ one. omega arith) (λ five. omega arith) tells.statuses;
   read = λ four. ⊎_elim (λ one. omega arith) (λ five. omega arith) tells.statuses;
   counts = counts;
@@ -162,6 +182,7 @@ ran_refused fresh bytes old new a c f h status counts none tells = record {
   memory = λ three. absurd (⊎_elim (λ one. omega arith) (λ five. omega arith) tells.statuses);
   sink = tells.rose;
   no_script = λ one state begun. none state begun;
+  kept = λ one held state begun. kept held state begun;
   done = λ zero. absurd (⊎_elim (λ one. omega arith) (λ five. omega arith) tells.statuses);
   stopped = λ two. absurd (⊎_elim (λ one. omega arith) (λ five. omega arith) tells.statuses);
   part = λ five state begun. (refusal_text, (tells.part five).0, inl (record { none = none state begun; is_text = refl }), (tells.part five).1);
@@ -178,6 +199,7 @@ ran_unparsed fresh bytes old new a c f h status counts three wrote = record {
   memory = λ e. wrote;
   sink = λ five. absurd (omega arith);
   no_script = λ one. absurd (omega arith);
+  kept = λ one. absurd (omega arith);
   done = λ zero. absurd (omega arith);
   stopped = λ two. absurd (omega arith);
   part = λ five. absurd (omega arith);
@@ -194,6 +216,7 @@ ran_loaded fresh bytes s old mid new a c f h status is may loads ran = record {
   memory = ran.memory;
   sink = ran.sink;
   no_script = λ one. absurd (⊎_elim (λ e. omega arith) (⊎_elim (λ e. omega arith) (⊎_elim (λ e. omega arith) (λ e. omega arith))) ran.statuses);
+  kept = λ one. absurd (⊎_elim (λ e. omega arith) (⊎_elim (λ e. omega arith) (⊎_elim (λ e. omega arith) (λ e. omega arith))) ran.statuses);
   done = λ zero state begun.
       let t = ran.done zero (with_lines state s.lines) (after state begun) in
       (t.0, finishes state begun t.0 t.1, t.2);
@@ -227,16 +250,21 @@ ran_loaded fresh bytes s old mid new a c f h status is may loads ran = record {
 -- the store isn't fresh, and there is a line that only a fresh one takes
 pub ran_held : (fresh : Bool) (bytes : List ℕ) (s : Script) (old : Shown) (a c : Option (List ℕ)) (f h status : ℕ) → parsed bytes ≡ Some s → false ≡ (fresh || list_all (λ line. line_part line == 1) s.lines) → Tells 1 a f refusal_text status c h → Ran fresh bytes old old a f status c h
 ran_held fresh bytes s old a c f h status is held tells =
-    ran_refused fresh bytes old old a c f h status (never_fall_refl old.counts) (λ state begun. script_refused fresh state bytes s is (takes_all-fresh fresh state s.lines ∙ rw (← held) refl)) tells
+    ran_refused fresh bytes old old a c f h status (never_fall_refl old.counts) (λ state begun. script_refused fresh state bytes s is (takes_all-fresh fresh state s.lines ∙ rw (← held) refl)) (λ _ _ _. same_shown_refl old) tells
 
 false_right : (b : Bool) → (b && false) ≡ false
 false_right true = refl
 false_right false = refl
 
 -- a line was refused
-pub ran_untaken : (fresh : Bool) (bytes : List ℕ) (s : Script) (old new : Shown) (a c : Option (List ℕ)) (f h status : ℕ) → parsed bytes ≡ Some s → SameCounts old.counts new.counts → ((state : State) → Fits [] [] old state → takes_all true state s.lines ≡ false) → Tells 1 a f refusal_text status c h → Ran fresh bytes old new a f status c h
-ran_untaken fresh bytes s old new a c f h status is same untaken tells =
-    ran_refused fresh bytes old new a c f h status (never_fall_from-SameCounts old.counts new.counts same) (λ state begun. script_refused fresh state bytes s is (takes_all-fresh fresh state s.lines ∙ rw (untaken state begun.fits) (false_right (fresh || list_all (λ line. line_part line == 1) s.lines)))) tells
+pub ran_untaken : (fresh : Bool) (bytes : List ℕ) (s : Script) (old new : Shown) (a c : Option (List ℕ)) (f h status : ℕ) → parsed bytes ≡ Some s → (fresh || list_all (λ line. line_part line == 1) s.lines) ≡ true → SameCounts old.counts new.counts → ((state : State) → Fits [] [] old state → takes_all true state s.lines ≡ false) → Tells 1 a f refusal_text status c h → Ran fresh bytes old new a f status c h
+ran_untaken fresh bytes s old new a c f h status is may same untaken tells =
+    ran_refused fresh bytes old new a c f h status (never_fall_from-SameCounts old.counts new.counts same) (λ state begun. script_refused fresh state bytes s is (takes_all-fresh fresh state s.lines ∙ rw (untaken state begun.fits) (false_right (fresh || list_all (λ line. line_part line == 1) s.lines))))
+    (λ held state begun.
+    let taken = faults_taken state s.lines (faults_alone fresh (list_all (λ line. line_part line == 1) s.lines) may held) in
+    let not_taken = untaken state begun.fits in
+    absurd (cc (taken, not_taken)))
+    tells
 
 abbrev from_home : List ℕ → World
 from_home home = record { home = home }

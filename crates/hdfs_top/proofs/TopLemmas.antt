@@ -18,7 +18,7 @@ use Rattle.hdfs_top.specs.Runs.{Begun, Tells, Ran, RanAll}
 use Rattle.hdfs_model.proofs.Frames.{never_fall_refl}
 use Rattle.hdfs_top.proofs.PrintLemmas.{wrote_none}
 use Rattle.hdfs_top.proofs.ReadLemmas.{took_none, at_most_from-Took}
-use Rattle.hdfs_top.proofs.RunLemmas.{any_memory}
+use Rattle.hdfs_top.proofs.RunLemmas.{any_memory, same_shown_refl}
 
 -- bytes that are too many are no script
 parsed_long : (bytes : List ℕ) → script_limit < length bytes → parsed bytes ≡ None
@@ -49,6 +49,7 @@ refused_words session fresh old left reads a c f h status other tells = record {
   unread = λ four. absurd (⊎_elim (λ one. omega arith) (λ five. omega arith) tells.statuses);
   sink = tells.rose;
   no_script = λ one is. absurd (other is);
+  kept = λ _ _ _ _ _. same_shown_refl old;
   done = λ zero. absurd (⊎_elim (λ one. omega arith) (λ five. omega arith) tells.statuses);
   stopped = λ two. absurd (⊎_elim (λ one. omega arith) (λ five. omega arith) tells.statuses);
   part = λ five is. absurd (other is);
@@ -69,6 +70,7 @@ ran_source session fresh old new left left' reads reads' a c f h status items is
       unread = λ four. absurd (any.read four);
       sink = any.sink;
       no_script = λ one _ bytes state starts. (at bytes starts.told).no_script one state (begun left old bytes state starts);
+      kept = λ one held bytes state starts. (at bytes starts.told).kept one (held is) state (begun left old bytes state starts);
       done = λ zero bytes state starts. (at bytes starts.told).done zero state (begun left old bytes state starts);
       stopped = λ two bytes state starts. (at bytes starts.told).stopped two state (begun left old bytes state starts);
       part = λ five _ bytes state starts. (at bytes starts.told).part five state (begun left old bytes state starts);
@@ -91,6 +93,7 @@ read_no_memory session fresh old left left' reads reads' a f status is taken thr
   unread = λ four. absurd (omega arith);
   sink = λ five. absurd (omega arith);
   no_script = λ one. absurd (omega arith);
+  kept = λ one. absurd (omega arith);
   done = λ zero. absurd (omega arith);
   stopped = λ two. absurd (omega arith);
   part = λ five. absurd (omega arith);
@@ -110,6 +113,7 @@ read_failed session fresh old left left' reads reads' a f status is taken rose f
   unread = λ e. wrote_none a;
   sink = λ five. absurd (omega arith);
   no_script = λ one. absurd (omega arith);
+  kept = λ one. absurd (omega arith);
   done = λ zero. absurd (omega arith);
   stopped = λ two. absurd (omega arith);
   part = λ five. absurd (omega arith);
@@ -129,6 +133,7 @@ ran_session session fresh old new left left' reads reads' a c f h status is ran 
   unread = ran.unread;
   sink = ran.sink;
   no_script = λ one _. ran.no_script one tt;
+  kept = λ one held. ran.kept one (λ _. held is);
   done = ran.done;
   stopped = ran.stopped;
   part = λ five _. ran.part five tt;

@@ -1,5 +1,5 @@
 -- What the steps of the program have done.
-use Rattle.std.specs.Prelude.{◌≡◌, ◌≢◌, ◌⊎◌, ℕ, ◌+◌, ◌≤◌, Bool, true, List, [], ◌++◌, take, drop, Option, Some, None}
+use Rattle.std.specs.Prelude.{◌≡◌, ◌≢◌, ◌⊎◌, ℕ, ◌+◌, ◌≤◌, Bool, true, false, List, [], ◌++◌, take, drop, Option, Some, None}
 use Rattle.hdfs_model.specs.declared.store.Line.{Line}
 use Rattle.hdfs_model.specs.declared.session.Command.{Command}
 use Rattle.hdfs_model.specs.declared.session.Reply.{Reply}
@@ -8,7 +8,7 @@ use Rattle.hdfs_model.specs.declared.session.HdfsError.TheVariants as errors
 use Rattle.hdfs_model.specs.Counts.{NeverFall, NoneRose, Rose, SameCounts}
 use Rattle.hdfs_model.specs.Files.{State}
 use Rattle.hdfs_model.specs.Folds.{Ends, fold}
-use Rattle.hdfs_model.specs.Loading.{with_lines}
+use Rattle.hdfs_model.specs.Loading.{SameShown, with_lines}
 use Rattle.hdfs_model.specs.Shown.{Shown, Later}
 use Rattle.hdfs_model.specs.Sessions.{Fits, Stopped}
 use Rattle.hdfs_script.specs.declared.entry.Script.{Script}
@@ -85,6 +85,7 @@ pub record Ran (fresh : Bool) (bytes : List ℕ) (old new : Shown) (before : Opt
   pub memory : status ≡ 3 → Wrote before [] after
   pub sink : status ≡ 5 → Rose faults_before faults_after
   pub no_script : status ≡ 1 → (state : State) → Begun old state → script fresh state bytes ≡ None
+  pub kept : status ≡ 1 → fresh ≡ false → (state : State) → Begun old state → SameShown old new
   pub done : status ≡ 0 → (state : State) → Begun old state → (text : List ℕ) × Finishes fresh state bytes old new text × Wrote before text after
   pub stopped : status ≡ 2 → (state : State) → Begun old state → (text : List ℕ) × Halts fresh state bytes old new text × Wrote before text after
   pub part : status ≡ 5 → (state : State) → Begun old state → (text : List ℕ) × (count : ℕ) × IsText fresh state bytes old new text × Wrote before (take count text) after
@@ -102,6 +103,7 @@ pub record RanAll (session : Type 0) (fresh : Bool) (old new : Shown) (left_befo
   pub unread : status ≡ 4 → Wrote before [] after
   pub sink : status ≡ 5 → Rose faults_before faults_after
   pub no_script : status ≡ 1 → session → (bytes : List ℕ) (state : State) → Starts left_before old bytes state → script fresh state bytes ≡ None
+  pub kept : status ≡ 1 → (session → fresh ≡ false) → (bytes : List ℕ) (state : State) → Starts left_before old bytes state → SameShown old new
   pub done : status ≡ 0 → (bytes : List ℕ) (state : State) → Starts left_before old bytes state → (text : List ℕ) × Finishes fresh state bytes old new text × Wrote before text after
   pub stopped : status ≡ 2 → (bytes : List ℕ) (state : State) → Starts left_before old bytes state → (text : List ℕ) × Halts fresh state bytes old new text × Wrote before text after
   pub part : status ≡ 5 → session → (bytes : List ℕ) (state : State) → Starts left_before old bytes state → (text : List ℕ) × (count : ℕ) × IsText fresh state bytes old new text × Wrote before (take count text) after

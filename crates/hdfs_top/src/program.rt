@@ -1,10 +1,10 @@
 // The program's one call.
-ghost use Rattle.std.specs.Prelude.{◌≡◌, ◌⊎◌, ◌<◌, ◌≤◌, ◌+◌, ℕ, List, [], take, map, Some, string_bytes, IsTrue, ◌↔◌, codes};
+ghost use Rattle.std.specs.Prelude.{◌≡◌, ◌⊎◌, false, ◌<◌, ◌≤◌, ◌+◌, ℕ, List, [], take, map, Some, string_bytes, IsTrue, ◌↔◌, codes};
 ghost use Rattle.hdfs_top.specs.Runs.{RanAll};
 ghost use Rattle.hdfs_model.specs.Counts.{NeverFall, NoneRose, Rose};
 ghost use Rattle.hdfs_model.specs.Files.{State};
 ghost use Rattle.hdfs_model.specs.Folds.{fold};
-ghost use Rattle.hdfs_model.specs.Loading.{with_lines};
+ghost use Rattle.hdfs_model.specs.Loading.{SameShown, with_lines};
 ghost use Rattle.hdfs_top.specs.Streams.{Wrote, TookAtMost};
 ghost use Rattle.hdfs_top.specs.Top.{IsSession, Starts, Refuses, Finishes, Halts, IsText, StatusOf, world};
 ghost use Rattle.hdfs_script.specs.declared.entry.Script.{Script};
@@ -99,6 +99,8 @@ pub fn top<S: Source, K: Sink, C: Store>(
     // over a source that tells its bytes and a store that agrees with a state
     ensures script { result ≡ 1 → IsSession (map string_bytes words.now) → (bytes : List ℕ) (state : State) → Starts (S.left source.old) (C.shown store.old) bytes state
         → script (C.is_fresh store.old) state bytes ≡ None }
+    ensures kept { result ≡ 1 → (IsSession (map string_bytes words.now) → C.is_fresh store.old ≡ false) → (bytes : List ℕ) (state : State) → Starts (S.left source.old) (C.shown store.old) bytes state
+        → SameShown (C.shown store.old) (C.shown store.new) }
     ensures done { result ≡ 0 → (bytes : List ℕ) (state : State) → Starts (S.left source.old) (C.shown store.old) bytes state
         → (text : List ℕ) × Finishes (C.is_fresh store.old) state bytes (C.shown store.old) (C.shown store.new) text × Wrote (K.written sink.old) text (K.written sink.new) }
     ensures stopped { result ≡ 2 → (bytes : List ℕ) (state : State) → Starts (S.left source.old) (C.shown store.old) bytes state

@@ -17,4 +17,5 @@ returns-in-Ok g c =
 -- a line was refused
 pub returns-in-Err-Refused : goal.returns-in-Err-Refused
 returns-in-Err-Refused g c =
-    λ bytes is. ran_untaken _ bytes c.args.script _ _ _ _ _ _ _ is c.load_lines.ensures.counts (c.load_lines.ensures.refused (c.in-Err-Refused.is ∙ ap Err c.in-Err-Refused.field-0-is)) c.refuse-in-Err-Refused.ensures
+    let may = rw (c.fresh.ensures, c.as_slice.ensures) at c.if-not-may_take.ensures in
+    λ bytes is. ran_untaken _ bytes c.args.script _ _ _ _ _ _ _ is (sym may) c.load_lines.ensures.counts (c.load_lines.ensures.refused (c.in-Err-Refused.is ∙ ap Err c.in-Err-Refused.field-0-is)) c.refuse-in-Err-Refused.ensures
