@@ -1,5 +1,5 @@
 -- What a packet that was asked for does to what a cluster shows.
-use Rattle.std.proofs.Common.{◌≡◌, ◌≢◌, ◌⊎◌, inl, inr, ⊎_elim, ℕ, pos, ◌+◌, ◌-◌, ◌^◌, ◌<◌, ◌≤◌, min, Bool, true, false, cond, List, [], ◌∷◌, length, get_or, set, Option, Some, None, IfSome, refl, sym, ◌∙◌, ap, subst, arith, zero, suc, unwrap_or}
+use Rattle.std.proofs.Common.{◌≡◌, ◌≢◌, inl, ⊎_elim, ℕ, pos, ◌+◌, ◌<◌, ◌≤◌, Bool, true, false, cond, List, [], ◌∷◌, length, get_or, Option, Some, None, IfSome, refl, sym, ◌∙◌, ap, subst, arith, zero, suc, unwrap_or}
 use Rattle.std.proofs.lemmas.List.{get_or-set_same, get_or-set_other}
 use Rattle.std.proofs.lemmas.Bool.{cases_eq, false≢true}
 use Rattle.std.proofs.lemmas.Slice.Eq.{bytes_eq-Decides}
@@ -14,10 +14,10 @@ use Rattle.hdfs_model.specs.declared.picture.AnswerKind.{AnswerKind}
 use Rattle.hdfs_model.specs.declared.picture.OpenRead.{OpenRead}
 use Rattle.hdfs_model.specs.declared.picture.ReadPlace.{ReadPlace}
 use Rattle.hdfs_model.specs.declared.store.Line.{Line}
-use Rattle.hdfs_model.specs.Counts.{NeverFall, Rose}
-use Rattle.hdfs_model.specs.Picture.{Picture, SameFiles, SamePicture}
-use Rattle.hdfs_model.specs.Reading.{ReadsAt, IsSlice, Gives, moved_on}
-use Rattle.hdfs_model.specs.Shown.{Shown, Later, Reading, Given, NotGiven}
+use Rattle.hdfs_model.specs.Counts.{Rose}
+use Rattle.hdfs_model.specs.Picture.{Picture, SameFiles}
+use Rattle.hdfs_model.specs.Reading.{ReadsAt, IsSlice, moved_on}
+use Rattle.hdfs_model.specs.Shown.{Shown, Later, Given, NotGiven}
 use Rattle.hdfs_cluster.specs.declared.namespace.Namespace.{Namespace}
 use Rattle.hdfs_cluster.specs.declared.datanodes.Datanodes.{Datanodes}
 use Rattle.hdfs_cluster.specs.declared.packets.MemRead.{MemRead}

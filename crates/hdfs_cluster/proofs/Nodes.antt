@@ -1,10 +1,10 @@
 -- What a change at one key of a map with text keys does to what is looked up.
-use Rattle.std.proofs.Common.{◌≡◌, ◌≢◌, ℕ, Bool, true, false, cond, List, [], Option, Some, None, IsSome, is_some, unwrap_or, refl, sym, ◌∙◌, ap, subst, arith}
+use Rattle.std.proofs.Common.{◌≡◌, ◌≢◌, ℕ, Bool, true, false, cond, List, [], Option, Some, None, is_some, refl, sym, ◌∙◌, ap, subst}
 use Rattle.std.specs.Str.{bytes_eq}
 use Rattle.std.specs.Map.{update}
 use Rattle.std.proofs.lemmas.Slice.Eq.{bytes_eq-Decides}
 use Rattle.hdfs_cluster.specs.declared.datanode.DataNode.{DataNode}
-use Rattle.hdfs_cluster.specs.Nodes.{faults_of, bytes_in, breaks_in, SameBytes, SameFaults}
+use Rattle.hdfs_cluster.specs.Nodes.{faults_of, bytes_in, breaks_in, SameFaults}
 
 module _ {X : Type 0} (look after : List ℕ → Option X) (key : List ℕ) (w : X) (updates : (q : List ℕ) → after q ≡ update bytes_eq look key (Some w) q) where
   at_test : (b : Bool) (q : List ℕ) → (b ≡ true → key ≡ q) → key ≢ q → cond b (Some w) (look q) ≡ look q

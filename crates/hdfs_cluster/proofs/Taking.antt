@@ -1,6 +1,5 @@
 -- What one more loaded line keeps, and which lines are taken.
-use Rattle.std.proofs.Common.{◌≡◌, ◌⊎◌, inl, inr, ⊎_elim, ℕ, Bool, true, false, ◌&&◌, ◌||◌, eqb, List, [], ◌∷◌, ◌++◌, length, map, Option, Some, None, is_none, Result, Ok, Err, MatchResult, refl, sym, ◌∙◌, ap, subst, arith}
-use Rattle.std.proofs.lemmas.Bool.{false≢true}
+use Rattle.std.proofs.Common.{◌≡◌, ◌⊎◌, inl, inr, ℕ, Bool, true, false, ◌&&◌, ◌||◌, eqb, List, [], ◌∷◌, ◌++◌, length, map, Option, Some, None, is_none, refl, sym, ◌∙◌, ap, arith}
 use Rattle.std.proofs.lemmas.Bool.Decides.{nat_tests}
 use Rattle.std.proofs.lemmas.List.{map-append}
 use Rattle.std.proofs.lemmas.List.Folds.{list_any-append}
@@ -11,7 +10,7 @@ use Rattle.hdfs_model.specs.declared.picture.Entry.{Entry}
 use Rattle.hdfs_model.specs.declared.picture.Entry.TheVariants as entries
 use Rattle.hdfs_model.specs.declared.store.FaultLine.{FaultLine}
 use Rattle.hdfs_model.specs.declared.store.Line.TheVariants as lines
-use Rattle.hdfs_model.specs.Files.{Node, Dir, File, Writing, Files, Content}
+use Rattle.hdfs_model.specs.Files.{Node, Dir, File, Writing, Files}
 use Rattle.hdfs_model.specs.Loading.{takes, is_directory, in_limits}
 use Rattle.hdfs_model.specs.Paths.{is_path, parent_of}
 use Rattle.hdfs_model.specs.Picture.{Picture}

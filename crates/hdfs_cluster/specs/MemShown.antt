@@ -1,5 +1,5 @@
 -- What the cluster in memory shows.
-use Rattle.std.specs.Prelude.{◌≡◌, ◌≢◌, ℕ, ◌+◌, ◌<◌, Bool, true, false, List, [], length, slice_index, map, Option, Some, None, option_map, Result, Ok, Err, if◌then◌else◌}
+use Rattle.std.specs.Prelude.{◌≡◌, ◌≢◌, ℕ, ◌+◌, ◌<◌, Bool, true, false, List, length, slice_index, map, Option, Some, option_map, Result, Ok, Err, if◌then◌else◌}
 use Rattle.std.specs.BTreeMap.{get_by_text}
 use Rattle.slab.specs.Slab as slab
 use Rattle.hdfs_wire.specs.declared.packet.ReadPacket.{ReadPacket}

@@ -1,5 +1,5 @@
 -- How a cluster in memory starts.
-use Rattle.std.specs.Prelude.{◌≡◌, ℕ, List, [], Option, Some, None}
+use Rattle.std.specs.Prelude.{◌≡◌, ℕ, List, [], Some, None}
 use Rattle.hdfs_model.specs.declared.picture.AnswerKind.TheVariants as answer_kinds
 use Rattle.hdfs_model.specs.Picture.{Picture}
 use Rattle.hdfs_model.specs.Shown.{Shown}

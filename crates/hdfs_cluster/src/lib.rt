@@ -13,6 +13,8 @@ mod packets;
 mod seen;
 mod store;
 mod storing;
+#[cfg(test)]
+mod tests;
 
 pub use hdfs_model::{
     AddFault, Answer, AnswerKind, ArgFault, Ask, AskFault, Block, BlockEntry, Cluster, Command,

@@ -1,9 +1,8 @@
 -- The payload is a slice of the base.
-use Rattle.std.proofs.Common.{◌≡◌, ◌⊎◌, ℕ, ℤ, pos, ◌+◌, ◌-◌, ◌≤◌, List, length, take, drop, refl, sym, ◌∙◌, ap, subst, arith, rules, length-drop}
+use Rattle.std.proofs.Common.{◌≡◌, ℕ, ◌+◌, ◌≤◌, List, length, take, drop, sym, ◌∙◌, ap, arith, length-drop}
 use Rattle.std.proofs.lemmas.Int.{ints}
 use Rattle.std.proofs.lemmas.List.{length-take}
 use Rattle.std.specs.List.{slice_range}
-use Rattle.hdfs_model.specs.Reading.{IsSlice}
 use Rattle.hdfs_cluster.proofs.packets.next_packet.Goals as goal
 
 slice_of : (base payload : List ℕ) (place count : ℕ) → payload ≡ slice_range base place (place + count) → place + count ≤ length base → (length payload ≡ count) × (payload ≡ take (length payload) (drop place base))

@@ -1,5 +1,5 @@
 -- One block on the first datanode stores the bytes.
-use Rattle.std.proofs.Common.{◌≡◌, ℕ, List, [], ◌∷◌, ◌++◌, length, sym, ◌∙◌, ap, subst, rules}
+use Rattle.std.proofs.Common.{◌≡◌, ℕ, List, [], ◌∷◌, ◌++◌, length, sym, ◌∙◌, ap, subst}
 use Rattle.hdfs_cluster.specs.Adding.{AddsBlock, StoresBytes}
 use Rattle.hdfs_cluster.specs.Memory.{table_of}
 use Rattle.hdfs_cluster.specs.Nodes.{held_in}

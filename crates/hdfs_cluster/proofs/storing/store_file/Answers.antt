@@ -1,5 +1,5 @@
 -- A file at its place, whose blocks store its bytes.
-use Rattle.std.proofs.Common.{◌≡◌, ℕ, false, Option, Some, List, [], ◌∷◌, refl, sym, ◌∙◌, ap, subst, rules}
+use Rattle.std.proofs.Common.{false, refl, sym, subst}
 use Rattle.std.proofs.lemmas.Result.{on_ok_weaker}
 use Rattle.std.specs.BTreeMap.{get_by_text}
 use Rattle.std.specs.String.{string_bytes}

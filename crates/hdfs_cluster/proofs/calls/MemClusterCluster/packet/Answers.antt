@@ -1,8 +1,7 @@
 -- A packet is a slice of the base of its read, and only its datanode's count may rise.
-use Rattle.std.proofs.Common.{◌≡◌, ℕ, ◌+◌, List, Option, Some, map, refl, sym, ◌∙◌, ap, subst, arith, rules}
+use Rattle.std.proofs.Common.{◌≡◌, ℕ, Some, map, refl, sym, ◌∙◌, ap}
 use Rattle.slab.specs.Slab as slab
 use Rattle.slab.specs.Slab.{Slab, with_value}
-use Rattle.hdfs_cluster.specs.declared.packets.MemRead.{MemRead}
 use Rattle.hdfs_model.specs.Reading.{moved_on}
 use Rattle.hdfs_cluster.specs.Lines.{line_of}
 use Rattle.hdfs_cluster.proofs.Giving.{updates_with, broke_off, gave}

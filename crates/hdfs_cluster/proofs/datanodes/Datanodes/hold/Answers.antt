@@ -1,12 +1,12 @@
 -- The first datanode takes the block, and everything else stays.
-use Rattle.std.proofs.Common.{◌≡◌, ◌≢◌, ℕ, List, [], Option, Some, None, unwrap_or, refl, sym, ap, rules}
+use Rattle.std.proofs.Common.{◌≡◌, ◌≢◌, ℕ, List, [], Option, Some, unwrap_or, refl, sym, ap, rules}
 use Rattle.std.proofs.lemmas.Map.Text.{btree_map_updates_text}
 use Rattle.std.specs.Ordering.{nat_cmp}
 use Rattle.std.specs.BTreeMap.{get_by_text}
 use Rattle.std.specs.BTreeSet.{contains}
 use Rattle.hdfs_cluster.specs.declared.datanode.DataNode.{DataNode}
 use Rattle.hdfs_cluster.specs.Memory.{first_node}
-use Rattle.hdfs_cluster.specs.Nodes.{bytes_in, breaks_in, SameFaults}
+use Rattle.hdfs_cluster.specs.Nodes.{bytes_in, SameFaults}
 use Rattle.hdfs_cluster.proofs.Nodes.{update_related, same_faults_refl}
 use Rattle.hdfs_cluster.proofs.datanodes.Datanodes.hold.Goals as goal
 

@@ -1,14 +1,12 @@
 -- Each datanode is new, and `dn0` is the first of them.
-use Rattle.std.proofs.Common.{◌≡◌, ◌⊎◌, ⊎_elim, inl, inr, ℕ, ◌+◌, ◌<◌, zero, suc, true, List, [], ◌∷◌, ◌++◌, Option, Some, None, is_some, refl, sym, ◌∙◌, ap, subst, rules, arith}
+use Rattle.std.proofs.Common.{◌≡◌, ◌⊎◌, ⊎_elim, inl, inr, ℕ, ◌<◌, zero, suc, List, ◌∷◌, Some, refl, sym, ◌∙◌, ap, subst, rules, arith}
 use Rattle.std.proofs.lemmas.Fmt.{decimal_digit}
 use Rattle.std.proofs.lemmas.Map.Text.{btree_map_updates_text}
-use Rattle.std.proofs.lemmas.Slice.Eq.{bytes_eq-Decides}
 use Rattle.std.specs.Map.{lookup}
 use Rattle.std.specs.Ordering.{nat_cmp}
 use Rattle.std.specs.Cmp.Lexicographic.{slice_cmp}
 use Rattle.std.specs.BTreeMap.{is_at, get_by_text}
 use Rattle.std.specs.String.{string_bytes}
-use Rattle.hdfs_cluster.specs.declared.datanode.DataNode.{DataNode}
 use Rattle.hdfs_cluster.specs.Memory.{first_node, uuid_of}
 use Rattle.hdfs_cluster.proofs.Nodes.{IsNew, new_none, update_all, update_some, update_here}
 use Rattle.hdfs_cluster.proofs.datanodes.Datanodes.new.Goals as goal

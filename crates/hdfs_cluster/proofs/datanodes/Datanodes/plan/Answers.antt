@@ -1,10 +1,9 @@
 -- At most this packet of this datanode is planned, and everything else stays.
-use Rattle.std.proofs.Common.{◌≡◌, ◌≢◌, ◌⊎◌, inl, inr, ⊎_elim, ℕ, true, List, Option, Some, None, refl, sym, ◌∙◌, ap, rules}
+use Rattle.std.proofs.Common.{◌≡◌, ◌⊎◌, inl, inr, ⊎_elim, ℕ, true, Option, Some, refl, sym, ◌∙◌, ap, rules}
 use Rattle.std.proofs.lemmas.Bool.{cases_eq}
 use Rattle.std.proofs.lemmas.Result.{on_err_weaker}
 use Rattle.std.proofs.lemmas.Map.Text.{btree_map_updates_text}
-use Rattle.std.specs.Ordering.{nat_cmp}
-use Rattle.std.specs.BTreeMap.{get, get_by_text}
+use Rattle.std.specs.BTreeMap.{get_by_text}
 use Rattle.hdfs_cluster.specs.declared.datanode.DataNode.{DataNode}
 use Rattle.hdfs_cluster.specs.Memory.{first_node, uuid_of}
 use Rattle.hdfs_cluster.specs.Nodes.{faults_of, breaks_in, SameBytes}

@@ -1,5 +1,5 @@
 -- A new cluster shows the root alone.
-use Rattle.std.proofs.Common.{◌≡◌, ℕ, List, [], Option, Some, None, map, refl, sym, ◌∙◌, ap, rules, arith}
+use Rattle.std.proofs.Common.{None, map, refl, ap}
 use Rattle.std.specs.List.{slice_index_or}
 use Rattle.std.specs.Option.{option_map}
 use Rattle.slab.specs.Slab as slab

@@ -1,5 +1,5 @@
 -- The active namenode answers for the path that is named.
-use Rattle.std.proofs.Common.{◌≡◌, ℕ, List, None, sym, ◌∙◌, ap, subst, rules}
+use Rattle.std.proofs.Common.{ℕ, List, sym, ◌∙◌, ap, subst}
 use Rattle.std.proofs.lemmas.Result.{err_from_is_err_and}
 use Rattle.std.specs.BTreeMap.{get_by_text}
 use Rattle.hdfs_model.specs.Files.{no_file}

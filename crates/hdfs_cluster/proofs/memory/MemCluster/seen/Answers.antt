@@ -1,5 +1,5 @@
 -- A datanode fails only where a fault was loaded for it.
-use Rattle.std.proofs.Common.{◌≡◌, ◌≤◌, ℕ, List, map, rules}
+use Rattle.std.proofs.Common.{◌≤◌, ℕ, List, map}
 use Rattle.hdfs_cluster.specs.declared.memory.MemCluster.{MemCluster}
 use Rattle.hdfs_cluster.specs.Lines.{line_of}
 use Rattle.hdfs_cluster.specs.Memory.{fault_count}

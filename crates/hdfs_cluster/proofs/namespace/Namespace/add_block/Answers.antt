@@ -1,7 +1,6 @@
 -- The new block is listed at an id that had none, and none is taken behind it.
-use Rattle.std.proofs.Common.{◌≡◌, ◌≢◌, ℕ, ◌+◌, ◌≤◌, true, Option, Some, None, is_none, refl, sym, ◌∙◌, ap, subst, arith, rules}
+use Rattle.std.proofs.Common.{◌≡◌, ◌≢◌, ℕ, None, is_none, ◌∙◌, ap, arith}
 use Rattle.hdfs_model.proofs.Loads.{none_from_test}
-use Rattle.hdfs_model.specs.declared.picture.BlockEntry.{BlockEntry}
 use Rattle.std.specs.BTreeMap.{get_by_text}
 use Rattle.hdfs_cluster.specs.Memory.{table_of}
 use Rattle.hdfs_cluster.proofs.Numbers.{is_at_other}

@@ -1,5 +1,5 @@
 -- A file at its place keeps the tree, and its blocks are in the table.
-use Rattle.std.proofs.Common.{◌≡◌, ℕ, true, Option, Some, None, List, Result, Ok, Err, OnOk, OnErr, String, BTreeMap, refl, sym, subst}
+use Rattle.std.proofs.Common.{◌≡◌, ℕ, true, Option, Some, List, Result, Ok, Err, OnOk, OnErr, String, BTreeMap, sym, subst}
 use Rattle.std.proofs.lemmas.Map.Text.{btree_map_updates_text}
 use Rattle.std.specs.BTreeMap.{get_by_text, Updates, IsUnchanged}
 use Rattle.std.specs.String.{string_bytes, string_cmp}

@@ -1,5 +1,5 @@
 -- What stands above a path is what stands above its front, and the front.
-use Rattle.std.proofs.Common.{◌≡◌, ℕ, ◌+◌, ◌<◌, Bool, true, false, ◌||◌, List, [], ◌∷◌, ◌++◌, length, refl, sym, ◌∙◌, ap, arith, length-append, rules}
+use Rattle.std.proofs.Common.{◌≡◌, ℕ, ◌<◌, Bool, true, false, ◌||◌, List, [], ◌∷◌, ◌++◌, length, refl, sym, ◌∙◌, ap, arith, length-append, rules}
 use Rattle.std.specs.List.{list_any}
 use Rattle.hdfs_model.specs.Paths.{ancestors}
 use Rattle.hdfs_model.specs.Files.{is_file}

@@ -1,5 +1,5 @@
 -- A file is taken exactly where the names accept it.
-use Rattle.std.proofs.Common.{◌≡◌, ℕ, true, false, List, length, Result, sym, ◌∙◌, ap, subst, rules}
+use Rattle.std.proofs.Common.{◌∙◌, ap}
 use Rattle.std.proofs.lemmas.Result.{MatchResult-weaker}
 use Rattle.hdfs_model.specs.Loading.{takes}
 use Rattle.hdfs_cluster.specs.MemShown.{picture_of}
