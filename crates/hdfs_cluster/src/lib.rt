@@ -20,7 +20,7 @@ pub use hdfs_model::{
     AddFault, Answer, AnswerKind, ArgFault, Ask, AskFault, Block, BlockEntry, Cluster, Command,
     DatanodeId, DatanodeInfo, Entry, Fault, FaultLine, FileEntry, HdfsError, Line, LinkFault,
     LocatedBlock, LocatedBlocks, OpenRead, ReadAsk, ReadKind, ReadPlace, Reply, ServerDefaults,
-    Settings, Store, Token, TransferFault,
+    Settings, Store, Token, TransferFault, above, is_path, parent,
 };
 pub use memory::{MemCluster, MemSettings};
 pub use seen::Counts;
