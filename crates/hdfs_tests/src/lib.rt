@@ -9,3 +9,5 @@ mod rows;
 mod streams;
 #[cfg(test)]
 mod support;
+#[cfg(test)]
+mod wire;
