@@ -1,0 +1,87 @@
+#!/usr/bin/env python3
+"""Times the wire's code, and prints the figures as ratios.
+
+usage: bench/wire.py PROGRAM
+  PROGRAM  the built program hdfs_bench
+
+Checksums: 1 GB in chunks of 512 bytes and of 1 MiB, beside bench/crc.c, which does the same by the same method and is
+compiled by clang -O2. The ratio is C's time to ours, so above 1 is faster than C.
+Frames: 64 MiB in frames of 1,024 bytes (and 32 MiB), fed in pieces of one size, and in one piece.
+Packets: written, read again and checked, beside the two checksums that each of their bytes goes through.
+Each run is made seven times, those that are compared by turns, and the fastest counts, in processor seconds of the
+process, so that other processes disturb it little.
+"""
+import os
+import subprocess
+import sys
+import tempfile
+
+RUNS = 7
+MIB = 1 << 20
+FRAME = 1024
+
+
+def run(command):
+    """The processor seconds of a command, and the number that it printed."""
+    read, write = os.pipe()
+    child = subprocess.Popen(command, stdout=write)
+    os.close(write)
+    with os.fdopen(read) as out:
+        number = int(out.read())
+    _, status, usage = os.wait4(child.pid, 0)
+    assert os.waitstatus_to_exitcode(status) == 0
+    return usage.ru_utime + usage.ru_stime, number
+
+
+def fastest(*commands):
+    """The fastest seconds of each command, and the numbers that they printed."""
+    seconds = [[] for _ in commands]
+    for _ in range(RUNS):
+        numbers = []
+        for command, times in zip(commands, seconds):
+            taken, number = run([str(word) for word in command])
+            times.append(taken)
+            numbers.append(number)
+    return [min(times) for times in seconds], numbers
+
+
+def sums(program, other, name, size):
+    count = 1_000_000_000 // size
+    (ours, theirs), numbers = fastest([program, name, size, count], [other, name, size, count])
+    assert numbers[0] == numbers[1]
+    speed = size * count / ours / 1e9
+    print(f"{name}, chunks of {size:,} bytes: {theirs / ours:.2f} of C's speed ({speed:.1f} GB per second)")
+
+
+def frames(program, piece):
+    many, few = 64 * MIB // FRAME, 32 * MIB // FRAME
+    (large, small), numbers = fastest([program, "frames", many, piece], [program, "frames", few, piece])
+    assert numbers == [many, few]
+    print(f"frames in pieces of {piece:,}: per byte, 64 MiB against 32 MiB: {large / 2 / small:.2f} times")
+
+
+def packets(program, size):
+    count = 500_000_000 // size
+    words = [program, "packets", size, count], [program, "crc32c", 512, size * count // 512]
+    (whole, sum_only), numbers = fastest(*words)
+    assert numbers[0] == size * count
+    print(f"packets of {size:,}: {whole / 2 / sum_only:.2f} times the two checksums")
+
+
+def main():
+    program = sys.argv[1]
+    source = os.path.join(os.path.dirname(os.path.abspath(__file__)), "crc.c")
+    with tempfile.TemporaryDirectory() as folder:
+        other = os.path.join(folder, "crc")
+        subprocess.run(["clang", "-O2", "-o", other, source], check=True)
+        for name in ["crc32c", "crc32"]:
+            for size in [512, MIB]:
+                sums(program, other, name, size)
+    for piece in [1, 1_000, 65_536, 64 * MIB]:
+        frames(program, piece)
+    for size in [512, 32_256, 64_512]:
+        packets(program, size)
+
+
+if __name__ == "__main__":
+    main()

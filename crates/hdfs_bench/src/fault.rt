@@ -1,0 +1,59 @@
+// Why there is no number.
+use hdfs_wire::{ChecksumFault, NoMemory, WireFault};
+use std::alloc::{AllocError, AllocFailed};
+use std::io;
+use std::num::ParseIntError;
+
+#[derive(Clone, Copy, Debug, PartialEq, Eq)]
+pub(crate) enum Fault {
+    /// The words are none of those that are known.
+    Words,
+    NoMemory,
+    /// A word isn't text, or standard output failed.
+    Stream,
+    /// What was written isn't read again.
+    Wire(WireFault),
+    Checksum,
+}
+
+impl From<ParseIntError> for Fault {
+    fn from(_: ParseIntError) -> Self {
+        Fault::Words
+    }
+}
+
+impl From<AllocError> for Fault {
+    fn from(_: AllocError) -> Self {
+        Fault::NoMemory
+    }
+}
+
+impl<T: Drop> From<AllocFailed<T>> for Fault {
+    fn from(_: AllocFailed<T>) -> Self {
+        Fault::NoMemory
+    }
+}
+
+impl From<NoMemory> for Fault {
+    fn from(_: NoMemory) -> Self {
+        Fault::NoMemory
+    }
+}
+
+impl From<io::Error> for Fault {
+    fn from(_: io::Error) -> Self {
+        Fault::Stream
+    }
+}
+
+impl From<WireFault> for Fault {
+    fn from(fault: WireFault) -> Self {
+        Fault::Wire(fault)
+    }
+}
+
+impl From<ChecksumFault> for Fault {
+    fn from(_: ChecksumFault) -> Self {
+        Fault::Checksum
+    }
+}

@@ -1,0 +1,51 @@
+//! Runs the code of `hdfs_wire` as often as the words say, to time it, and prints a number that came of it.
+//!
+//! Words: `crc32c SIZE TIMES`, `crc32 SIZE TIMES`, `frames COUNT PIECE` or `packets SIZE TIMES`.
+#![tactic(auto)]
+
+mod fault;
+mod frames;
+mod packets;
+mod sums;
+
+use fault::Fault;
+use frames::{count_frames, stream};
+use packets::payload_bytes;
+use std::alloc::Global;
+use std::env;
+use sums::{Kind, folded_sum};
+
+/// What the words name, over two numbers.
+fn measure(alloc: Global, name: &str, first: usize, second: usize) -> Result<u64, Fault> {
+    if name == "crc32c" {
+        return Ok(u64::from(folded_sum(alloc, Kind::Crc32c, first, second)?));
+    }
+    if name == "crc32" {
+        return Ok(u64::from(folded_sum(alloc, Kind::Crc32, first, second)?));
+    }
+    if name == "frames" && second > 0 {
+        return count_frames(alloc, &stream(alloc, first)?, second);
+    }
+    if name == "packets" {
+        return payload_bytes(alloc, first, second);
+    }
+    Err(Fault::Words)
+}
+
+fn main(rt: HostRuntime) -> Result<(), Fault> {
+    let mut words = Vec::new(rt.alloc());
+    for word in env::args(&rt)?.skip(1) {
+        words.push(word)?;
+    }
+    let [name, first, second] = words.as_slice() else {
+        return Err(Fault::Words);
+    };
+    let number = measure(
+        rt.alloc(),
+        name.as_str(),
+        first.as_str().parse()?,
+        second.as_str().parse()?,
+    )?;
+    println!(rt; "{number}")?;
+    Ok(())
+}
