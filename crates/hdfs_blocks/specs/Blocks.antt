@@ -9,6 +9,7 @@ use Rattle.hdfs_model.specs.Namenode.{uuids}
 abbrev pub node_at : LocatedBlock → ℕ → List ℕ
 node_at block k = slice_index_or (uuids block.locs) k []
 
+-- how many datanodes are listed for a block
 abbrev pub node_count : LocatedBlock → ℕ
 node_count block = length block.locs
 

@@ -111,6 +111,7 @@ abbrev pub before_opening : Option OpenRead → ℕ → ℕ
 before_opening None now = now
 before_opening (Some opened) now = opened.before
 
+-- the count before the link was opened, or now where none is open
 abbrev pub before_link : Shown → Option ℕ → ℕ → ℕ
 before_link shown None now = now
 before_link shown (Some link) now = before_opening (shown.reads link) now
@@ -122,6 +123,7 @@ pub record Stage : Type 0 where
   pub before : ℕ
   pub counts : Counts
 
+-- where a reader stands: the datanodes that it tried, and the counts
 abbrev pub stage_of : Shown → BlockRead → Stage
 stage_of shown reader = record {
   tried = tried_of reader;
@@ -166,6 +168,7 @@ pub record Reads (old new : Shown) (reader reader' : BlockRead) : Type 0 where
 abbrev pub AllBlamed : Counts → Shown → LocatedBlock → List ℕ → Type 0
 AllBlamed start shown block bytes = (picture : Picture) → shown.picture ≡ Some picture → (k : ℕ) → k < node_count block → Blamed start shown picture block bytes k
 
+-- an error that a datanode gave, not want of memory
 abbrev pub IsRead : HdfsError → Type 0
 IsRead e = e ≢ errors.NoMemory
 

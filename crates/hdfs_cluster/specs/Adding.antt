@@ -11,6 +11,7 @@ use Rattle.hdfs_model.specs.Picture.{Picture, entry_kind}
 use Rattle.hdfs_model.specs.Stores.{StoresBlocks}
 use Rattle.hdfs_cluster.specs.Memory.{first_node, total, is_length, is_dir}
 
+-- the kind of what stands at each path of a namespace
 abbrev pub kinds_in : (List ℕ → Option Entry) → List ℕ → Option Kind
 kinds_in names path = option_map entry_kind (names path)
 

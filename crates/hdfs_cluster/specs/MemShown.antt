@@ -33,6 +33,7 @@ picture_at space nodes active defaults reads = record {
   reads = reads;
 }
 
+-- the picture of the cluster in memory
 abbrev pub picture_of : MemCluster → Picture
 picture_of m = picture_at m.space m.nodes m.config.active m.config.defaults (λ link. option_map (λ r. r.place) (slab.get m.reads link))
 
@@ -40,6 +41,7 @@ picture_of m = picture_at m.space m.nodes m.config.active m.config.defaults (λ 
 abbrev pub counts_of : Datanodes → Counts
 counts_of nodes = record { calls = λ i. 0; links = 0; nodes = λ d. faults_of (node_at nodes d) }
 
+-- what the cluster in memory shows: always its picture too
 abbrev pub shown_of : MemCluster → Shown
 shown_of m = record {
   picture = Some (picture_of m);

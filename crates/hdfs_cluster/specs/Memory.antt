@@ -22,10 +22,12 @@ plus_length (Some entry) (Some rest) = Some (entry.length + rest)
 plus_length (Some entry) None = None
 plus_length None rest = None
 
+-- the lengths of these blocks together, none where one of them isn't in the table
 abbrev pub total : (ℕ → Option BlockEntry) → List ℕ → Option ℕ
 total table [] = Some 0
 total table (id ∷ ids) = plus_length (table id) (total table ids)
 
+-- whether there is a length, and it is below 2^63
 abbrev pub is_length : Option ℕ → Bool
 is_length None = false
 is_length (Some n) = nat_lt n (2 ^ 63)
@@ -36,9 +38,11 @@ is_sized table None = true
 is_sized table (Some entries.Dir) = true
 is_sized table (Some (entries.File file)) = is_length (total table file.blocks)
 
+-- the block table as a look-up
 abbrev pub table_of : List (ℕ × BlockEntry) → ℕ → Option BlockEntry
 table_of es id = lookup (is_at (nat_cmp id)) es
 
+-- whether a directory stands there
 abbrev pub is_dir : Option Entry → Bool
 is_dir None = false
 is_dir (Some entries.Dir) = true
@@ -64,6 +68,7 @@ abbrev pub is_bare_at : Bool → Option Entry → Bool
 is_bare_at true o = is_dir o
 is_bare_at false o = is_none o
 
+-- whether a list is empty
 abbrev pub is_nil : {X : Type 0} → List X → Bool
 is_nil [] = true
 is_nil (x ∷ xs) = false

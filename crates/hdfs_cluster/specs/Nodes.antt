@@ -26,9 +26,11 @@ abbrev pub packets_of : Option DataNode → ℕ
 packets_of None = 0
 packets_of (Some node) = node.packets
 
+-- the datanode with this uuid
 abbrev pub node_at : Datanodes → List ℕ → Option DataNode
 node_at nodes uuid = get_by_text nodes.by_uuid uuid
 
+-- the bytes that the datanode with this uuid holds of a block
 abbrev pub held_in : Datanodes → List ℕ → ℕ → List ℕ
 held_in nodes uuid block = bytes_in (node_at nodes uuid) block
 

@@ -50,6 +50,7 @@ pub record ByteLost (old : Counts) (new : Shown) (path : List ℕ) (offset len b
 abbrev pub CommandLost : Counts → Shown → List ℕ → Command → ℕ → Type 0
 CommandLost old new path (commands.Read text offset len) byte = ByteLost old new path offset len byte
 
+-- the step does what the command asks
 abbrev pub IsDone : Outcome → Type 0
 IsDone outcome = (reply : Reply) × (next : State) × (outcome ≡ Done reply next)
 
@@ -92,6 +93,7 @@ CauseAt outcome state path command namenodes old new (errors.InvalidArgument (ar
 CauseAt outcome state path command namenodes old new (errors.FileNotFound name) = IsLacking outcome
 CauseAt outcome state path command namenodes old new (errors.RPCError class message) = IsExplained outcome class ⊎ CallsRose namenodes old new.counts
 
+-- the same, from the step of the command over the state
 abbrev pub Cause : World → State → Command → Counts → Shown → HdfsError → Type 0
 Cause world state command old new e = CauseAt (step world state command) state (target_of world command) command new.namenodes old new e
 

@@ -1,6 +1,7 @@
 -- How often the outside has failed. A count never falls, and one that stands at its last value counts as risen.
 use Rattle.std.specs.Prelude.{◌≡◌, ℕ, ◌+◌, ◌-◌, ◌^◌, ◌<◌, ◌≤◌, min, List}
 
+-- the counts of a cluster
 pub record Counts : Type 0 where
   -- of each namenode, by its number
   pub calls : ℕ → ℕ
@@ -9,14 +10,17 @@ pub record Counts : Type 0 where
   -- of each datanode, by its uuid
   pub nodes : List ℕ → ℕ
 
+-- a count rose, or stands at its last value
 abbrev pub Rose : ℕ → ℕ → Type 0
 Rose before now = min (before + 1) (2 ^ 64 - 1) ≤ now
 
+-- no count fell
 pub record NeverFall (before now : Counts) : Type 0 where
   pub calls : (i : ℕ) → before.calls i ≤ now.calls i
   pub links : before.links ≤ now.links
   pub nodes : (d : List ℕ) → before.nodes d ≤ now.nodes d
 
+-- each count is what it was
 pub record SameCounts (before now : Counts) : Type 0 where
   pub calls : (i : ℕ) → now.calls i ≡ before.calls i
   pub links : now.links ≡ before.links

@@ -27,11 +27,13 @@ pub data Kind : Type 0 where
   ClosedFile : Kind
   OpenFile : Kind
 
+-- the kind of a node
 abbrev pub kind_of : Node → Kind
 kind_of Dir = Directory
 kind_of (File content) = ClosedFile
 kind_of (Writing content) = OpenFile
 
+-- the kind of what stands at each path
 abbrev pub kinds_of : Files → List ℕ → Option Kind
 kinds_of files path = option_map kind_of (files path)
 
@@ -56,6 +58,7 @@ pub record IsState (state : State) : Type 0 where
 abbrev pub only_root : Files
 only_root path = if bytes_eq root path then Some Dir else None
 
+-- the root alone, and nothing open
 abbrev pub empty_state : State
 empty_state = record { files = only_root; paths = root ∷ []; opened = [] }
 
@@ -72,6 +75,7 @@ is_file (Some Directory) = false
 is_file (Some ClosedFile) = true
 is_file (Some OpenFile) = true
 
+-- why what stands at a path is no file; an open file is one
 abbrev pub no_file_at : Option Kind → Option NoFile
 no_file_at None = Some Missing
 no_file_at (Some Directory) = Some NotFile

@@ -10,6 +10,7 @@ pub data Folded : Type 0 where
   Ends : List Reply → State → Folded
   Stops : List Reply → State → Refusal → Folded
 
+-- a reply stands before those of the rest
 abbrev pub behind : Reply → Folded → Folded
 behind reply (Ends replies state) = Ends (reply ∷ replies) state
 behind reply (Stops replies state why) = Stops (reply ∷ replies) state why
@@ -19,6 +20,7 @@ abbrev pub and_then : State → Outcome → (State → Folded) → Folded
 and_then state (Refused why) rest = Stops [] state why
 and_then state (Done reply next) rest = behind reply (rest next)
 
+-- each command over the state that the one before it left
 abbrev pub fold : World → State → List Command → Folded
 fold world state [] = Ends [] state
 fold world state (command ∷ commands) = and_then state (step world state command) (λ next. fold world next commands)

@@ -10,6 +10,7 @@ use Rattle.hdfs_model.specs.Picture.{Picture, SamePicture, Told}
 use Rattle.hdfs_model.specs.Shown.{Shown}
 use Rattle.hdfs_model.specs.Stores.{Agrees}
 
+-- whether a directory stands there
 abbrev pub is_directory : Option Node → Bool
 is_directory None = false
 is_directory (Some Dir) = true
@@ -41,6 +42,7 @@ with_line state (lines.File path permission replication block_size bytes) =
     with_file state path (record { bytes = bytes; permission = permission; replication = replication; block_size = block_size })
 with_line state (lines.Fault fault) = state
 
+-- what lines make of the state, one after another
 abbrev pub with_lines : State → List Line → State
 with_lines state [] = state
 with_lines state (line ∷ lines) = with_lines (with_line state line) lines
@@ -51,6 +53,7 @@ pub record LoadsAt (old new : Picture) : Type 0 where
   pub defaults : new.defaults ≡ old.defaults
   pub reads : (link : ℕ) → new.reads link ≡ old.reads link
 
+-- what a line leaves as it was in the picture
 abbrev pub LoadsLine : Line → Picture → Picture → Type 0
 LoadsLine (lines.File path permission replication block_size bytes) old new = LoadsAt old new
 LoadsLine (lines.Fault fault) old new = SamePicture old new

@@ -22,18 +22,23 @@ use Rattle.hdfs_model.specs.Picture.{Picture, SameButActive, SamePicture, kinds}
 abbrev pub standby : List ℕ
 standby = codes "org.apache.hadoop.ipc.StandbyException"
 
+-- an observer namenode sends the caller to the active one
 abbrev pub observer_retry : List ℕ
 observer_retry = codes "org.apache.hadoop.ipc.ObserverRetryOnActiveException"
 
+-- something stands at the path already
 abbrev pub already_exists : List ℕ
 already_exists = codes "org.apache.hadoop.fs.FileAlreadyExistsException"
 
+-- the file is open for writing
 abbrev pub being_created : List ℕ
 being_created = codes "org.apache.hadoop.hdfs.protocol.AlreadyBeingCreatedException"
 
+-- nothing stands at the path
 abbrev pub not_found : List ℕ
 not_found = codes "java.io.FileNotFoundException"
 
+-- a file stands above the path
 abbrev pub parent_not_directory : List ℕ
 parent_not_directory = codes "org.apache.hadoop.fs.ParentNotDirectoryException"
 
@@ -47,6 +52,7 @@ class_kind class =
     else if bytes_eq class not_found then answer_kinds.NotFound
     else answer_kinds.Other
 
+-- the kind of an answer
 abbrev pub kind_of : Result Answer AskFault → AnswerKind
 kind_of (Ok answer) = answer_kinds.Fine
 kind_of (Err faults.NoMemory) = answer_kinds.NoMemory
@@ -113,6 +119,7 @@ ServesByRow risen old i ask (Err (faults.Exception class message)) new =
     ⊎ ((i ≡ old.active) × Excuses old ask class × SamePicture old new)
     ⊎ (risen × SameButActive old new)
 
+-- an answer that is the implementation's own may be any
 abbrev pub ServesTold : Type 0 → Picture → ℕ → Ask → Result Answer AskFault → Picture → Type 0
 ServesTold risen old i ask result new = (IsOwn old ask × KeepsBytes old new) ⊎ ServesByRow risen old i ask result new
 
@@ -122,6 +129,7 @@ abbrev pub Follow : ℕ → ℕ → List LocatedBlock → Type 0
 Follow at end [] = end ≡ at
 Follow at end (block ∷ blocks) = (block.offset ≡ at) × Follow (at + block.b.num_bytes) end blocks
 
+-- the answer's lengths and offsets are in their limits, and the blocks of a whole file follow one another
 abbrev pub IsShaped : Ask → Answer → Type 0
 IsShaped (asks.GetBlockLocations src offset length) (answers.GetBlockLocations None) = Unit {0}
 IsShaped (asks.GetBlockLocations src offset length) (answers.GetBlockLocations (Some found)) =

@@ -7,6 +7,7 @@ use Rattle.std.specs.Str.{bytes_eq}
 abbrev pub root : List ℕ
 root = 47 ∷ []
 
+-- whether a byte is a slash
 abbrev pub is_slash : ℕ → Bool
 is_slash c = c == 47
 

@@ -7,6 +7,7 @@ use Rattle.hdfs_model.specs.declared.picture.ReadPlace.{ReadPlace}
 use Rattle.hdfs_model.specs.declared.messages.ServerDefaults.{ServerDefaults}
 use Rattle.hdfs_model.specs.Files.{Kind, Directory, ClosedFile, OpenFile}
 
+-- the names, the block table, what the datanodes hold, the active namenode, the defaults and the open read links
 pub record Picture : Type 0 where
   -- what stands at each path
   pub names : List ℕ → Option Entry
@@ -20,10 +21,12 @@ pub record Picture : Type 0 where
   -- each open read link
   pub reads : ℕ → Option ReadPlace
 
+-- the kind of what stands at a name
 abbrev pub entry_kind : Entry → Kind
 entry_kind entries.Dir = Directory
 entry_kind (entries.File file) = if file.is_open then OpenFile else ClosedFile
 
+-- the kind of what stands at each path
 abbrev pub kinds : Picture → List ℕ → Option Kind
 kinds p path = option_map entry_kind (p.names path)
 
@@ -39,6 +42,7 @@ pub record SameButActive (old new : Picture) : Type 0 where
   pub files : SameFiles old new
   pub reads : (link : ℕ) → new.reads link ≡ old.reads link
 
+-- nothing of the picture changed
 pub record SamePicture (old new : Picture) : Type 0 where
   pub rest : SameButActive old new
   pub active : new.active ≡ old.active

@@ -16,6 +16,7 @@ use Rattle.hdfs_model.specs.Shown.{Shown}
 use Rattle.hdfs_model.specs.Stores.{Agrees, AgreesBut}
 use Rattle.hdfs_model.specs.Causes.{Cause, IsKind}
 
+-- the world of a session with these settings
 abbrev pub world_of : Settings → Shown → World
 world_of settings shown = record { home = settings.home }
 

@@ -15,6 +15,7 @@ use Rattle.hdfs_model.specs.Picture.{Picture, SameFiles, SamePicture, Told}
 use Rattle.hdfs_model.specs.Namenode.{kind_of, ServesTold}
 use Rattle.hdfs_model.specs.Reading.{ReadsAt, Begins, Gives, Closes}
 
+-- the picture where it is told, the counts, and what else is seen from outside
 pub record Shown : Type 0 where
   -- the picture, where the cluster tells it
   pub picture : Option Picture

@@ -20,6 +20,7 @@ pub data Refusal : Type 0 where
   -- its range ends behind the file
   BadRange : Refusal
 
+-- what a step comes to: a refusal, or a reply and the next state
 pub data Outcome : Type 0 where
   Refused : Refusal → Outcome
   Done : Reply → State → Outcome
@@ -39,15 +40,18 @@ content_of (Some (Writing content)) = Some content
 abbrev pub range_of : List ℕ → ℕ → ℕ → List ℕ
 range_of bytes offset len = take len (drop offset bytes)
 
+-- the range is read where it ends within the content
 abbrev pub read_content : State → Option Content → ℕ → ℕ → Outcome
 read_content state None offset len = Refused (Lacks Missing)
 read_content state (Some content) offset len =
     if nat_lt (length content.bytes) (offset + len) then Refused BadRange else Done (Bytes (range_of content.bytes offset len)) state
 
+-- the range is read where there is a file
 abbrev pub read_file : State → List ℕ → Option NoFile → ℕ → ℕ → Outcome
 read_file state path (Some why) offset len = Refused (Lacks why)
 read_file state path None offset len = read_content state (content_of (state.files path)) offset len
 
+-- a command at its path: refused where the session has the path open
 abbrev pub step_at : State → List ℕ → Command → Outcome
 step_at state path (Read text offset len) =
     if list_any (bytes_eq path) state.opened then Refused WrongState else read_file state path (no_file (kinds_of state.files) path) offset len
@@ -56,6 +60,7 @@ step_at state path (Read text offset len) =
 abbrev pub path_of : Command → List ℕ
 path_of (Read path offset len) = path
 
+-- the path at which a command is done
 abbrev pub target_of : World → Command → List ℕ
 target_of world command = resolved world.home (path_of command)
 

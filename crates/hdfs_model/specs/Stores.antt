@@ -23,6 +23,7 @@ StoresBlocks p [] bytes = bytes ≡ []
 StoresBlocks p (id ∷ ids) bytes =
     (entry : BlockEntry) × (p.table id ≡ Some entry) × (entry.length ≤ length bytes) × StoresBlock p id entry (take entry.length bytes) × StoresBlocks p ids (drop entry.length bytes)
 
+-- a file has the attributes that the state says
 pub record SameAttributes (file : FileEntry) (content : Content) : Type 0 where
   pub permission : file.permission ≡ content.permission
   pub replication : file.replication ≡ content.replication

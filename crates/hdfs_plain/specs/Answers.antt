@@ -10,6 +10,7 @@ use Rattle.hdfs_plain.specs.declared.running.PlainOutcome.{PlainOutcome}
 use Rattle.hdfs_plain.specs.declared.running.PlainOutcome.TheVariants as outcomes
 use Rattle.hdfs_plain.specs.declared.running.PlainFold.{PlainFold}
 
+-- the refusal that a plain one stands for
 abbrev pub refusal_of : PlainRefusal → Refusal
 refusal_of refusals.BadPath = BadPath
 refusal_of refusals.NotDirectory = Lacks NotDirectory
@@ -22,9 +23,11 @@ abbrev pub outcome_of : PlainOutcome → State → Outcome
 outcome_of (outcomes.Refused why) state = Refused (refusal_of why)
 outcome_of (outcomes.Done reply) state = Done reply state
 
+-- a fold that ended, or was stopped by a refusal
 abbrev pub folded : List Reply → Option PlainRefusal → State → Folded
 folded replies None state = Ends replies state
 folded replies (Some why) state = Stops replies state (refusal_of why)
 
+-- the fold that a plain answer stands for
 abbrev pub folded_of : PlainFold → State → Folded
 folded_of answer state = folded answer.replies answer.refused state

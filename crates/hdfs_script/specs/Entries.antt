@@ -30,6 +30,7 @@ abbrev pub read_entry : List ℕ → Option ℕ → Option ℕ → Entry
 read_entry path (Some offset) (Some len) = if is_word path && is_path path then Runs (commands.Read path offset len) else Bad
 read_entry _ _ _ = Bad
 
+-- the entry that the words of a line are
 abbrev pub words_entry : List (List ℕ) → Entry
 words_entry (a ∷ b ∷ c ∷ d ∷ e ∷ f ∷ []) =
     if bytes_eq a (codes "file") then file_entry b (number 8 (2 ^ 32) c) (number 10 (2 ^ 32) d) (number 10 (2 ^ 64) e) (hex_bytes f) else Bad

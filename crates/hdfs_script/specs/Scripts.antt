@@ -16,9 +16,11 @@ use Rattle.hdfs_script.specs.Entries.{entry_of}
 abbrev pub script_limit : ℕ
 script_limit = 16777216
 
+-- the entry of each line
 abbrev pub entries_of : List ℕ → List Entry
 entries_of bytes = map entry_of (slice_split (λ b. b == 10) bytes)
 
+-- the lines that are loaded
 abbrev pub lines_of : List Entry → List Line
 lines_of [] = []
 lines_of (Loads line ∷ entries) = line ∷ lines_of entries
@@ -26,6 +28,7 @@ lines_of (Blank ∷ entries) = lines_of entries
 lines_of (Runs command ∷ entries) = lines_of entries
 lines_of (Bad ∷ entries) = lines_of entries
 
+-- the commands that are run
 abbrev pub commands_of : List Entry → List Command
 commands_of [] = []
 commands_of (Runs command ∷ entries) = command ∷ commands_of entries
@@ -33,6 +36,7 @@ commands_of (Blank ∷ entries) = commands_of entries
 commands_of (Loads line ∷ entries) = commands_of entries
 commands_of (Bad ∷ entries) = commands_of entries
 
+-- whether an entry is allowed
 abbrev pub is_good : Entry → Bool
 is_good Bad = false
 is_good Blank = true
@@ -44,6 +48,7 @@ abbrev pub line_part : Line → ℕ
 line_part (lines.File path permission replication block_size bytes) = 0
 line_part (lines.Fault fault) = 1
 
+-- the part of the script at an entry: a blank line is in any
 abbrev pub part_of : ℕ → Entry → ℕ
 part_of now (Loads line) = line_part line
 part_of now (Runs command) = 2
@@ -69,6 +74,7 @@ is_well_formed bytes =
 abbrev pub parsed : List ℕ → Option Script
 parsed bytes = if is_well_formed bytes then Some (record { lines = lines_of (entries_of bytes); commands = commands_of (entries_of bytes) }) else None
 
+-- the script, where the store takes its lines
 abbrev pub if_taken : Bool → State → Option Script → Option Script
 if_taken fresh state None = None
 if_taken fresh state (Some script) = if takes_all fresh state script.lines then Some script else None

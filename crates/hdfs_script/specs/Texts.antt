@@ -12,6 +12,7 @@ abbrev pub hex_text : List ℕ → List ℕ
 hex_text [] = codes "-"
 hex_text (byte ∷ bytes) = encode_lower (byte ∷ bytes)
 
+-- the line of a reply
 abbrev pub reply_text : Reply → List ℕ
 reply_text (Bytes bytes) = codes "ok bytes " ++ hex_text bytes ++ codes "\n"
 
@@ -20,6 +21,7 @@ abbrev pub replies_text : List Reply → List ℕ
 replies_text [] = []
 replies_text (reply ∷ replies) = reply_text reply ++ replies_text replies
 
+-- the name of an error, without what it carries
 abbrev pub variant_name : HdfsError → List ℕ
 variant_name errors.NoMemory = codes "NoMemory"
 variant_name errors.Failed = codes "Failed"

@@ -23,6 +23,7 @@ Wrote (Some old) bytes (Some new) = new ≡ old ++ bytes
 Wrote None bytes (Some new) = ⊥
 Wrote (Some old) bytes None = ⊥
 
+-- a sink has taken so many bytes from the front, and none where it failed
 abbrev pub Puts : Option (List ℕ) → Result ℕ IoFailed → List ℕ → Option (List ℕ) → Type 0
 Puts old (Ok count) bytes new = Wrote old (take count bytes) new
 Puts old (Err e) bytes new = Wrote old [] new

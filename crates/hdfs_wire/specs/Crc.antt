@@ -21,9 +21,10 @@ enter polynomial register (byte ∷ bytes) = enter polynomial (enter_bits polyno
 unfoldable pub checksum : ℕ → List ℕ → ℕ
 checksum polynomial bytes = bit_xor (enter polynomial 0xffffffff bytes) 0xffffffff
 
--- the two sums, each by its polynomial, lowest power at the top bit
+-- CRC-32C, of the polynomial 1edc6f41, lowest power at the top bit
 abbrev pub crc32c_of : List ℕ → ℕ
 crc32c_of bytes = checksum 0x82f63b78 bytes
 
+-- CRC-32, of the polynomial 04c11db7, lowest power at the top bit
 abbrev pub crc32_of : List ℕ → ℕ
 crc32_of bytes = checksum 0xedb88320 bytes

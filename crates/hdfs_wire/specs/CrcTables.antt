@@ -2,10 +2,11 @@
 use Rattle.std.specs.Prelude.{◌≡◌, ℕ, zero, suc, ◌+◌, ◌<◌, List, [], slice_index, slice_index_or}
 use Rattle.hdfs_wire.specs.Crc.{enter_bits}
 
--- a byte of zeros enters, and many of them
+-- a byte of zeros enters
 abbrev pub zero_byte : ℕ → ℕ → ℕ
 zero_byte polynomial register = enter_bits polynomial 8 register 0
 
+-- the register after so many bytes of zero
 unfoldable pub zero_bytes : ℕ → ℕ → ℕ → ℕ
 zero_bytes polynomial zero register = register
 zero_bytes polynomial (suc count) register = zero_bytes polynomial count (zero_byte polynomial register)

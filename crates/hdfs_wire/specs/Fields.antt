@@ -107,12 +107,14 @@ fields_at bytes = fields_within (length bytes) bytes
 
 -- ---- what has a spelling
 
+-- a value fits the bytes that its wire type has
 abbrev pub FitsValue : Value → Type 0
 FitsValue (Varint n) = n < 2 ^ 64
 FitsValue (Eight n) = n < 2 ^ 64
 FitsValue (Sized bytes) = length bytes < 2 ^ 64
 FitsValue (Four n) = n < 2 ^ 32
 
+-- the number of a field is allowed, and its value fits
 pub record FitsField (f : Field) : Type 0 where
   pub number : IsFieldNumber f.number
   pub value : FitsValue f.value

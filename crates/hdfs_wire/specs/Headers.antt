@@ -12,6 +12,7 @@ use Rattle.hdfs_wire.specs.Fields.{message_spelling, ReadsMessage, fields_at}
 
 -- ---- what is written
 
+-- a field of a number and a value
 abbrev pub field : ℕ → Value → Field
 field number value = record { number = number; value = value }
 
@@ -40,30 +41,35 @@ no_header = record { offset_in_block = pos 0; seqno = pos 0; last_packet_in_bloc
 abbrev pub is_true : ℕ → Bool
 is_true n = if n == 0 then false else true
 
+-- the header with this offset, which has eight bytes
 abbrev pub with_offset : PacketHeader → Value → Result PacketHeader WireFault
 with_offset h (Varint n) = Err BadType
 with_offset h (Eight n) = Ok (record h { offset_in_block = cast_signed w64 n })
 with_offset h (Sized bytes) = Err BadType
 with_offset h (Four n) = Err BadType
 
+-- the header with this number of its packet, which has eight bytes
 abbrev pub with_seqno : PacketHeader → Value → Result PacketHeader WireFault
 with_seqno h (Varint n) = Err BadType
 with_seqno h (Eight n) = Ok (record h { seqno = cast_signed w64 n })
 with_seqno h (Sized bytes) = Err BadType
 with_seqno h (Four n) = Err BadType
 
+-- the header with this mark of the last packet, a varint
 abbrev pub with_last : PacketHeader → Value → Result PacketHeader WireFault
 with_last h (Varint n) = Ok (record h { last_packet_in_block = is_true n })
 with_last h (Eight n) = Err BadType
 with_last h (Sized bytes) = Err BadType
 with_last h (Four n) = Err BadType
 
+-- the header with this length of its payload, which has four bytes
 abbrev pub with_data_len : PacketHeader → Value → Result PacketHeader WireFault
 with_data_len h (Varint n) = Err BadType
 with_data_len h (Eight n) = Err BadType
 with_data_len h (Sized bytes) = Err BadType
 with_data_len h (Four n) = Ok (record h { data_len = cast_signed w32 n })
 
+-- the header with this wish to be synced, a varint
 abbrev pub with_sync : PacketHeader → Value → Result PacketHeader WireFault
 with_sync h (Varint n) = Ok (record h { sync_block = Some (is_true n) })
 with_sync h (Eight n) = Err BadType

@@ -36,6 +36,7 @@ AreBytes bytes = (i : ℕ) → slice_index bytes i < 256
 abbrev pub body_length : List ℕ → ℕ
 body_length bytes = from_be_bytes w32 (take 4 bytes)
 
+-- the length of the header, as the bytes say it
 abbrev pub header_length : List ℕ → ℕ
 header_length bytes = from_be_bytes w16 (take 2 (drop 4 bytes))
 
@@ -48,6 +49,7 @@ abbrev pub is_data_length : ℕ → ℤ → Bool
 is_data_length most (pos n) = nat_le n most
 is_data_length most (negsuc n) = false
 
+-- the length of the payload; below zero it counts as none
 abbrev pub data_length : ℤ → ℕ
 data_length (pos n) = n
 data_length (negsuc n) = 0

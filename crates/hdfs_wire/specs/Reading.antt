@@ -3,8 +3,8 @@ use Rattle.std.specs.Prelude.{◌≡◌, Result, Ok, Err}
 use Rattle.hdfs_wire.specs.declared.fault.WireFault.{WireFault}
 use Rattle.hdfs_wire.specs.declared.fault.WireFault.TheVariants as faults
 
--- a reading, and then another that may use what the first read; the first fault stands for both
 infixl 10 ◌>>=◌
+-- a reading, and then another that may use what the first read; the first fault stands for both
 abbrev pub ◌>>=◌ : {A B : Type 0} → Result A WireFault → (A → Result B WireFault) → Result B WireFault
 (Ok x) >>= f = f x
 (Err e) >>= f = Err e

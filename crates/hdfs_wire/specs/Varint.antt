@@ -48,5 +48,6 @@ groups_at (suc more) (b ∷ rest) =
     if nat_lt b 128 then Ok (b, rest)
     else groups_at more rest >>= λ high. Ok (b - 128 + 128 * high.0, high.1)
 
+-- the varint at the start, of ten groups at the most, and the bytes behind it
 unfoldable pub varint_at : List ℕ → Result (ℕ × List ℕ) WireFault
 varint_at bytes = groups_at 9 bytes
