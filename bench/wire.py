@@ -4,11 +4,11 @@
 usage: bench/wire.py PROGRAM
   PROGRAM  the built program hdfs_bench
 
-Checksums: 1 GB in chunks of 512 bytes and of 1 MiB, beside bench/crc.c, which does the same by the same method and is
+Checksums: 200 MB in chunks of 512 bytes and of 1 MiB, beside bench/crc.c, which does the same by the same method and is
 compiled by clang -O2. The ratio is C's time to ours, so above 1 is faster than C.
 Frames: 64 MiB in frames of 1,024 bytes (and 32 MiB), fed in pieces of one size, and in one piece.
 Packets: written, read again and checked, beside the two checksums that each of their bytes goes through.
-Each run is made seven times, those that are compared by turns, and the fastest counts, in processor seconds of the
+Each run is made fifteen times, those that are compared by turns, and the fastest counts, in processor seconds of the
 process, so that other processes disturb it little.
 """
 import os
@@ -16,7 +16,7 @@ import subprocess
 import sys
 import tempfile
 
-RUNS = 7
+RUNS = 15
 MIB = 1 << 20
 FRAME = 1024
 
@@ -46,7 +46,7 @@ def fastest(*commands):
 
 
 def sums(program, other, name, size):
-    count = 1_000_000_000 // size
+    count = 200_000_000 // size
     (ours, theirs), numbers = fastest([program, name, size, count], [other, name, size, count])
     assert numbers[0] == numbers[1]
     speed = size * count / ours / 1e9
@@ -61,7 +61,7 @@ def frames(program, piece):
 
 
 def packets(program, size):
-    count = 500_000_000 // size
+    count = 100_000_000 // size
     words = [program, "packets", size, count], [program, "crc32c", 512, size * count // 512]
     (whole, sum_only), numbers = fastest(*words)
     assert numbers[0] == size * count
