@@ -10,6 +10,7 @@ pub struct StdSource<R: Read + Drop> {
 }
 
 impl<R: Read + Drop> StdSource<R> {
+    /// A source over this reader, which hasn't failed.
     pub fn new(inner: R) -> StdSource<R> {
         StdSource { inner, faults: 0 }
     }
@@ -41,6 +42,7 @@ pub struct StdSink<W: Write + Drop> {
 }
 
 impl<W: Write + Drop> StdSink<W> {
+    /// A sink over this writer, which hasn't failed.
     pub fn new(inner: W) -> StdSink<W> {
         StdSink { inner, faults: 0 }
     }

@@ -1,5 +1,5 @@
 // Owned text, bytes and lists, each seen by contracts as a list.
-ghost use Rattle.std.specs.Prelude.{◌≡◌, List as Items, ℕ, length, IfOk, ◌++◌, ◌∷◌, [], OnOk, OnErr, string_bytes};
+ghost use Rattle.std.specs.Prelude.{◌≡◌, List as Items, ℕ, length, IfOk, IfErr, ◌++◌, ◌∷◌, [], OnOk, OnErr, string_bytes};
 
 use std::alloc::{AllocError, AllocFailed, Global};
 use std::marker::Model;
@@ -44,27 +44,32 @@ impl<T> List<T> {
         }
     }
 
+    /// The list of these items. It takes no memory.
     pub fn from_vec(items: Vec<T>) -> List<T>
         ensures { result ≡ items.items }
     {
         List { items }
     }
 
+    /// The items. It takes no memory.
     pub fn into_vec(self) -> Vec<T>
         ensures { result.items ≡ self }
     {
         self.items
     }
 
+    /// The items in order.
     pub fn as_slice(&self) -> &[T]
         ensures { result.now ≡ self.now }
     {
         &self.items
     }
 
+    /// Puts an item behind the others. For want of memory the list stays as it was, and the item comes back.
     pub fn push(&mut self, item: T) -> Result<(), AllocFailed<T>>
         ensures ok { OnOk result (self.new ≡ self.old ++ item ∷ []) }
         ensures err { OnErr result (self.new ≡ self.old) }
+        ensures value { IfErr result (λ failed. failed.value ≡ item) }
     {
         self.items.push(item)
     }
@@ -94,12 +99,14 @@ impl Blob {
         }
     }
 
+    /// These bytes as they are. It takes no memory.
     pub fn from_vec(bytes: Vec<u8>) -> Blob
         ensures { result ≡ bytes.items }
     {
         Blob { bytes }
     }
 
+    /// The bytes. It takes no memory.
     pub fn into_vec(self) -> Vec<u8>
         ensures { result.items ≡ self }
     {
@@ -115,6 +122,7 @@ impl Blob {
         })
     }
 
+    /// The bytes in order.
     pub fn as_slice(&self) -> &[u8]
         ensures { result.now ≡ self.now }
     {
@@ -146,6 +154,7 @@ impl Text {
         }
     }
 
+    /// A copy of this text.
     pub fn from_str(alloc: Global, text: &str) -> Result<Text, NoMemory>
         ensures { IfOk result (λ t. t ≡ text.now) }
     {
@@ -154,18 +163,21 @@ impl Text {
         })
     }
 
+    /// This text as it is. It takes no memory.
     pub fn from_string(text: String) -> Text
         ensures { result ≡ string_bytes text }
     {
         Text { text }
     }
 
+    /// The text. It takes no memory.
     pub fn into_string(self) -> String
         ensures { string_bytes result ≡ self }
     {
         self.text
     }
 
+    /// The text as a slice.
     pub fn as_str(&self) -> &str
         ensures { result.now ≡ self.now }
     {

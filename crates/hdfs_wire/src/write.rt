@@ -123,12 +123,14 @@ fn put_packet(
 }
 
 impl WritePacket {
+    /// The header as it stands: its length is that of the payload so far.
     pub fn header(&self) -> &PacketHeader
         ensures { result.now ≡ self.now.header }
     {
         &self.header
     }
 
+    /// The bytes that were written so far.
     pub fn payload(&self) -> &[u8]
         ensures { result.now ≡ self.now.payload }
     {
@@ -178,12 +180,14 @@ impl WritePacket {
         taken
     }
 
+    /// Whether there is no room for another byte.
     pub fn is_full(&self) -> bool
         ensures { IsTrue result ↔ (length self.now.payload ≡ self.now.limit) }
     {
         self.payload.len() == self.limit
     }
 
+    /// Whether no byte was written.
     pub fn is_empty(&self) -> bool
         ensures { IsTrue result ↔ (length self.now.payload ≡ 0) }
     {
