@@ -1,6 +1,6 @@
 -- How prints join.
-use Rattle.std.proofs.Common.{inl, inr, ◌≢◌, MatchResult, suc, zero, codes, decimal, ◌≡◌, ℕ, ◌+◌, ◌/◌, ◌%◌, ◌≤◌, ◌<◌, List, [], ◌∷◌, ◌++◌, length, get_or, take, drop, map, Option, Some, None, Result, Ok, Err, OnOk, OnErr, refl, sym, ◌∙◌, ap, subst, arith, append_assoc, add-zero}
-use Rattle.std.proofs.lemmas.List.{append-nil, take-append-drop, at_drop_more, at_drop_all}
+use Rattle.std.proofs.Common.{inl, inr, ◌≢◌, MatchResult, suc, zero, codes, decimal, ◌≡◌, ℕ, ◌+◌, ◌/◌, ◌%◌, ◌≤◌, ◌<◌, List, [], ◌∷◌, ◌++◌, length, get_or, take, drop, map, Option, Some, None, Result, Ok, Err, refl, sym, ◌∙◌, ap, subst, arith, append_assoc}
+use Rattle.std.proofs.lemmas.List.{append-nil, take-append-drop, at_drop_more}
 use Rattle.std.proofs.Math.Seq.{take-append-add}
 use Rattle.std.specs.List.{concat}
 use Rattle.hex.specs.Hex.{encode_with, encode_lower, lower_digits}
@@ -11,7 +11,7 @@ use Rattle.hdfs_script.specs.Texts.{reply_text, replies_text, fault_text, varian
 use Rattle.hdfs_top.specs.declared.streams.IoFailed.{IoFailed}
 use Rattle.hdfs_top.specs.Streams.{Wrote}
 use Rattle.hdfs_top.specs.Runs.{Tells}
-use Rattle.hdfs_top.specs.Writing.{WrotePart, Prints, bytes_line, fault_line}
+use Rattle.hdfs_top.specs.Writing.{WrotePart, Prints, fault_line}
 
 pub wrote_none : (a : Option (List ℕ)) → Wrote a [] a
 wrote_none None = tt
@@ -34,27 +34,27 @@ part_of zero piece rest = (0, refl)
 part_of (suc n) [] rest = (0, refl)
 part_of (suc n) (x ∷ xs) rest = let p = part_of n xs rest in (suc p.0, ap (λ t. x ∷ t) p.1)
 
--- a part of a text is written, and the rest is left
+-- a part of a text is written, no write failed, and the rest is left
 pub record Printed (before : Option (List ℕ)) (faults_before : ℕ) (text left : List ℕ) (after : Option (List ℕ)) (faults_after : ℕ) : Type 0 where
-  pub later : faults_before ≤ faults_after
+  pub same : faults_after ≡ faults_before
   pub done : List ℕ
   pub whole : text ≡ done ++ left
   pub wrote : Wrote before done after
 
 pub printed_start : (a : Option (List ℕ)) (f : ℕ) (text : List ℕ) → Printed a f text text a f
-printed_start a f text = record { later = omega arith; done = []; whole = refl; wrote = wrote_none a }
+printed_start a f text = record { same = refl; done = []; whole = refl; wrote = wrote_none a }
 
 -- a piece more is written
-pub printed_piece : (a b c : Option (List ℕ)) (f g h : ℕ) (text left piece rest : List ℕ) → left ≡ piece ++ rest → Printed a f text left b g → g ≤ h → Wrote b piece c → Printed a f text rest c h
-printed_piece a b c f g h text left piece rest is p later wrote = record {
-  later = omega (arith, p.later, later);
+pub printed_piece : (a b c : Option (List ℕ)) (f g h : ℕ) (text left piece rest : List ℕ) → left ≡ piece ++ rest → Printed a f text left b g → h ≡ g → Wrote b piece c → Printed a f text rest c h
+printed_piece a b c f g h text left piece rest is p same wrote = record {
+  same = same ∙ p.same;
   done = p.done ++ piece;
   whole = p.whole ∙ ap (λ t. p.done ++ t) is ∙ sym (append_assoc p.done piece rest);
   wrote = wrote_trans a b c p.done piece p.wrote wrote;
 }
 
 pub printed_then : {T : Type 0} (a b c : Option (List ℕ)) (f g h : ℕ) (text left piece rest : List ℕ) (r : Result T IoFailed) (x : T) → left ≡ piece ++ rest → Printed a f text left b g → Prints b g piece r c h → r ≡ Ok x → Printed a f text rest c h
-printed_then a b c f g h text left piece rest (Ok y) x is p prints ok = printed_piece a b c f g h text left piece rest is p prints.later prints.ok
+printed_then a b c f g h text left piece rest (Ok y) x is p prints ok = printed_piece a b c f g h text left piece rest is p prints.fine prints.ok
 printed_then a b c f g h text left piece rest (Err e) x is p prints ok = absurd (cc)
 
 -- a prefix of what is left is written
@@ -64,7 +64,7 @@ printed_part a b c f g text left p n wrote =
     (length p.done + n, wrote_same a c (p.done ++ take n left) _ all (wrote_trans a b c p.done (take n left) p.wrote wrote))
 
 pub prints_failed : {T : Type 0} (a c : Option (List ℕ)) (f h : ℕ) (text : List ℕ) (r : Result T IoFailed) (e : IoFailed) → r ≡ Err e → f ≤ h → Rose f h → WrotePart a text c → Prints a f text r c h
-prints_failed a c f h text (Err d) e is later rose part = record { later = later; ok = tt; failed = rose; part = part }
+prints_failed a c f h text (Err d) e is later rose part = record { later = later; ok = tt; fine = tt; failed = rose; part = part }
 prints_failed a c f h text (Ok x) e is later rose part = absurd (cc)
 
 -- the sink failed at a piece
@@ -72,12 +72,12 @@ pub printed_stop : {T U : Type 0} (a b c : Option (List ℕ)) (f g h : ℕ) (tex
 printed_stop a b c f g h text left piece rest (Ok x) s d e is p prints failed is_err = absurd (cc)
 printed_stop a b c f g h text left piece rest (Err k) s d e is p prints failed is_err =
     let front = part_of prints.part.0 piece rest in
-    prints_failed a c f h text s e is_err (omega (arith, p.later, prints.later)) (omega (arith, p.later, prints.failed))
+    prints_failed a c f h text s e is_err (omega (arith, p.same, prints.later)) (omega (arith, p.same, prints.failed))
     (printed_part a b c f g text left p front.0 (wrote_same b c (take prints.part.0 piece) _ (front.1 ∙ ap (λ t. take front.0 t) (sym is)) prints.part.1))
 
 -- nothing is left
 pub printed_end : {T : Type 0} (a c : Option (List ℕ)) (f h : ℕ) (text left : List ℕ) (r : Result T IoFailed) (x : T) → left ≡ [] → Printed a f text left c h → r ≡ Ok x → Prints a f text r c h
-printed_end a c f h text left (Ok y) x none p is = record { later = p.later; ok = wrote_same a c p.done text (sym (p.whole ∙ ap (λ t. p.done ++ t) none ∙ append-nil p.done)) p.wrote; failed = tt; part = tt }
+printed_end a c f h text left (Ok y) x none p is = record { later = omega (arith, p.same); ok = wrote_same a c p.done text (sym (p.whole ∙ ap (λ t. p.done ++ t) none ∙ append-nil p.done)) p.wrote; fine = p.same; failed = tt; part = tt }
 printed_end a c f h text left (Err e) x none p is = absurd (cc)
 
 -- the same text
@@ -116,12 +116,14 @@ pub tells_from-Prints : {T : Type 0} (good : ℕ) (a c : Option (List ℕ)) (f h
 tells_from-Prints good a c f h text (Ok x) status other p is = record {
   statuses = inl is;
   wrote = λ e. p.ok;
+  fine = λ e. p.fine;
   rose = λ five. absurd (other (sym is ∙ five));
   part = λ five. absurd (other (sym is ∙ five));
 }
 tells_from-Prints good a c f h text (Err e) status other p is = record {
   statuses = inr is;
   wrote = λ e'. absurd (other (sym e' ∙ is));
+  fine = λ e'. absurd (other (sym e' ∙ is));
   rose = λ five. p.failed;
   part = λ five. p.part;
 }

@@ -1,7 +1,7 @@
 -- How reads of a source join.
-use Rattle.std.proofs.Common.{◌≡◌, ℕ, ◌+◌, ◌≤◌, ◌<◌, List, [], ◌∷◌, ◌++◌, length, take, drop, Option, Some, None, Result, Ok, Err, refl, sym, ◌∙◌, ap, subst, arith, append_assoc, add-zero}
-use Rattle.std.proofs.lemmas.List.{append-nil, drop-drop, drop_at, take_all, length-take-le, length-append, take-append-le}
-use Rattle.std.proofs.Math.Seq.{take-append_seam, take-length}
+use Rattle.std.proofs.Common.{◌≡◌, ℕ, ◌+◌, ◌≤◌, ◌<◌, List, [], ◌++◌, length, take, drop, Option, Some, None, Ok, Err, refl, sym, ◌∙◌, ap, subst, arith, append_assoc}
+use Rattle.std.proofs.lemmas.List.{append-nil, drop-drop, drop_at, take_all}
+use Rattle.std.proofs.Math.Seq.{take-append_seam}
 use Rattle.hdfs_top.specs.declared.streams.IoFailed.{IoFailed}
 use Rattle.hdfs_top.specs.Streams.{Takes, TookAtMost}
 use Rattle.hdfs_top.specs.Runs.{Took, IsDry}

@@ -1,6 +1,6 @@
 -- What the steps of the program make together.
-use Rattle.std.proofs.Common.{inl, inr, ⊎_elim, ◌≡◌, ◌≢◌, ◌⊎◌, ℕ, ◌+◌, ◌-◌, ◌≤◌, ◌<◌, Bool, true, false, ◌&&◌, ◌||◌, ◌==◌, List, [], ◌∷◌, ◌++◌, length, get_or, take, codes, Option, Some, None, Result, Ok, Err, refl, sym, ◌∙◌, ap, subst, arith}
-use Rattle.std.specs.List.{list_all, All, Contains}
+use Rattle.std.proofs.Common.{inl, inr, ⊎_elim, ◌≡◌, ◌≢◌, ℕ, Bool, true, false, ◌&&◌, ◌||◌, ◌==◌, List, [], ◌∷◌, length, get_or, codes, Option, Some, None, Err, refl, sym, ◌∙◌, ap, subst, arith}
+use Rattle.std.specs.List.{list_all}
 use Rattle.hdfs_model.specs.declared.session.Command.{Command}
 use Rattle.hdfs_model.specs.declared.session.Command.TheVariants as commands
 use Rattle.hdfs_model.specs.declared.session.Reply.{Reply}
@@ -10,7 +10,7 @@ use Rattle.hdfs_model.specs.declared.session.HdfsError.TheVariants as errors
 use Rattle.hdfs_model.specs.declared.session.TransferFault.TheVariants as transfer
 use Rattle.hdfs_model.specs.declared.session.ArgFault.TheVariants as args
 use Rattle.hdfs_model.specs.declared.session.Settings.{Settings}
-use Rattle.hdfs_model.specs.Counts.{Counts, NeverFall, NoneRose, Rose, SameCounts}
+use Rattle.hdfs_model.specs.Counts.{Counts, NeverFall, NoneRose, SameCounts}
 use Rattle.hdfs_model.specs.Files.{State}
 use Rattle.hdfs_model.specs.Steps.{World, Outcome, step, target_of}
 use Rattle.hdfs_model.specs.Folds.{Folded, Ends, Stops, fold}
@@ -18,7 +18,7 @@ use Rattle.hdfs_model.specs.declared.store.Line.{Line}
 use Rattle.hdfs_model.specs.declared.store.Line.TheVariants as lines
 use Rattle.hdfs_model.specs.Loading.{SameShown, with_lines}
 use Rattle.hdfs_model.specs.Picture.{SamePicture}
-use Rattle.hdfs_model.specs.Causes.{Cause, CauseAt, CommandLost}
+use Rattle.hdfs_model.specs.Causes.{CauseAt}
 use Rattle.hdfs_model.specs.Shown.{Shown, Later}
 use Rattle.hdfs_model.specs.Sessions.{Fits, Ready, Avoids, Stopped, Complete, world_of}
 use Rattle.hdfs_model.proofs.Frames.{told_refl, same_picture_refl, never_fall_refl, never_fall_trans, never_fall_from-SameCounts}
@@ -26,8 +26,7 @@ use Rattle.hdfs_script.specs.declared.entry.Script.{Script}
 use Rattle.hdfs_script.specs.Scripts.{parsed, script, if_taken, takes_all, line_part}
 use Rattle.hdfs_script.specs.Texts.{replies_text, fault_text, refusal_text}
 use Rattle.hdfs_top.specs.Streams.{Wrote}
-use Rattle.hdfs_top.specs.Writing.{WrotePart}
-use Rattle.hdfs_top.specs.Top.{Loaded, Finishes, Halts, Refuses, IsText, StatusOf, world}
+use Rattle.hdfs_top.specs.Top.{Loaded, Finishes, Halts, StatusOf, world}
 use Rattle.hdfs_top.specs.Runs.{Begun, LoadsAll, Tells, Finished, Halted, RanCommands, Ran}
 use Rattle.hdfs_top.proofs.LoadLemmas.{takes_all-fresh}
 
@@ -38,6 +37,10 @@ avoids_none w (commands.Read path offset len) = λ found. omega (arith, found.1)
 ready : (w : World) (old : Shown) (state : State) (commands : List Command) → Begun old state → Ready w [] [] old state commands
 ready w old state commands begun = record { one = begun.one; fits = begun.fits; avoids = λ k d within. avoids_none w (get_or commands k d) }
 
+-- a status other than 5 tells that no write failed
+pub fine_unless_failed : (good : ℕ) (a c : Option (List ℕ)) (f h : ℕ) (text : List ℕ) (status : ℕ) → Tells good a f text status c h → status ≢ 5 → h ≡ f
+fine_unless_failed good a c f h text status tells other = ⊎_elim (λ is. tells.fine is) (λ five. absurd (other five)) tells.statuses
+
 -- a session came to its end
 pub ran_to_end : (w : World) (commands : List Command) (old new : Shown) (a c : Option (List ℕ)) (f h status : ℕ) (replies : List Reply) → w ≡ world → Later old new → ((strangers : List (List ℕ)) (state : State) → Ready w strangers [] old state commands → (last : State) × (fold w state commands ≡ Ends replies last) × Fits strangers [] new last) → Tells 0 a f (replies_text replies) status c h → RanCommands commands old new a f status c h
 ran_to_end w commands old new a c f h status replies is later told tells = record {
@@ -45,6 +48,7 @@ ran_to_end w commands old new a c f h status replies is later told tells = recor
   later = later;
   memory = λ three. absurd (⊎_elim (λ zero. omega arith) (λ five. omega arith) tells.statuses);
   sink = tells.rose;
+  written = fine_unless_failed 0 a c f h (replies_text replies) status tells;
   done = λ zero state begun. (replies_text replies, finished state begun, tells.wrote zero);
   halted = λ two. absurd (⊎_elim (λ zero. omega arith) (λ five. omega arith) tells.statuses);
   part = λ five state begun. (replies_text replies, inl (finished state begun), tells.part five);
@@ -66,12 +70,13 @@ any_memory (Ends replies last) status three = inr three
 any_memory (Stops replies last why) status three = inr three
 
 -- there was no memory, and nothing was printed
-pub ran_no_memory : (commands : List Command) (old new : Shown) (a c : Option (List ℕ)) (f h status : ℕ) → Later old new → status ≡ 3 → Wrote a [] c → RanCommands commands old new a f status c h
-ran_no_memory commands old new a c f h status later three wrote = record {
+pub ran_no_memory : (commands : List Command) (old new : Shown) (a c : Option (List ℕ)) (f h status : ℕ) → Later old new → status ≡ 3 → Wrote a [] c → h ≡ f → RanCommands commands old new a f status c h
+ran_no_memory commands old new a c f h status later three wrote same = record {
   statuses = inr (inr (inl three));
   later = later;
   memory = λ e. wrote;
   sink = λ five. absurd (omega arith);
+  written = λ other. same;
   done = λ zero. absurd (omega arith);
   halted = λ two. absurd (omega arith);
   part = λ five. absurd (omega arith);
@@ -85,6 +90,7 @@ ran_to_fault T w commands old new a c f h status fault is later told complete ot
   later = later;
   memory = λ three. absurd (⊎_elim (λ two. omega arith) (λ five. omega arith) tells.statuses);
   sink = tells.rose;
+  written = fine_unless_failed 2 a c f h (fault_text fault) status tells;
   done = λ zero. absurd (⊎_elim (λ two. omega arith) (λ five. omega arith) tells.statuses);
   halted = λ two state begun. (fault_text fault, halted state begun, tells.wrote two);
   part = λ five state begun. (fault_text fault, inr (halted state begun), tells.part five);
@@ -181,6 +187,7 @@ ran_refused fresh bytes old new a c f h status counts none kept tells = record {
   refused = tells.wrote;
   memory = λ three. absurd (⊎_elim (λ one. omega arith) (λ five. omega arith) tells.statuses);
   sink = tells.rose;
+  written = fine_unless_failed 1 a c f h refusal_text status tells;
   no_script = λ one state begun. none state begun;
   kept = λ one held state begun. kept held state begun;
   done = λ zero. absurd (⊎_elim (λ one. omega arith) (λ five. omega arith) tells.statuses);
@@ -190,14 +197,15 @@ ran_refused fresh bytes old new a c f h status counts none kept tells = record {
 }
 
 -- there was no memory for the script
-pub ran_unparsed : (fresh : Bool) (bytes : List ℕ) (old new : Shown) (a c : Option (List ℕ)) (f h status : ℕ) → NeverFall old.counts new.counts → status ≡ 3 → Wrote a [] c → Ran fresh bytes old new a f status c h
-ran_unparsed fresh bytes old new a c f h status counts three wrote = record {
+pub ran_unparsed : (fresh : Bool) (bytes : List ℕ) (old new : Shown) (a c : Option (List ℕ)) (f h status : ℕ) → NeverFall old.counts new.counts → status ≡ 3 → Wrote a [] c → h ≡ f → Ran fresh bytes old new a f status c h
+ran_unparsed fresh bytes old new a c f h status counts three wrote same = record {
   statuses = omega arith;
   read = λ four. omega arith;
   counts = counts;
   refused = λ one. absurd (omega arith);
   memory = λ e. wrote;
   sink = λ five. absurd (omega arith);
+  written = λ other. same;
   no_script = λ one. absurd (omega arith);
   kept = λ one. absurd (omega arith);
   done = λ zero. absurd (omega arith);
@@ -215,6 +223,7 @@ ran_loaded fresh bytes s old mid new a c f h status is may loads ran = record {
   refused = λ one. absurd (⊎_elim (λ e. omega arith) (⊎_elim (λ e. omega arith) (⊎_elim (λ e. omega arith) (λ e. omega arith))) ran.statuses);
   memory = ran.memory;
   sink = ran.sink;
+  written = ran.written;
   no_script = λ one. absurd (⊎_elim (λ e. omega arith) (⊎_elim (λ e. omega arith) (⊎_elim (λ e. omega arith) (λ e. omega arith))) ran.statuses);
   kept = λ one. absurd (⊎_elim (λ e. omega arith) (⊎_elim (λ e. omega arith) (⊎_elim (λ e. omega arith) (λ e. omega arith))) ran.statuses);
   done = λ zero state begun.

@@ -1,24 +1,22 @@
 -- What the program makes of its words and its source.
-use Rattle.std.proofs.Common.{inl, inr, ⊎_elim, ◌≡◌, ◌≢◌, ◌⊎◌, ℕ, ◌+◌, ◌≤◌, ◌<◌, nat_le, Bool, true, false, ◌&&◌, List, [], ◌∷◌, ◌++◌, length, get_or, take, map, codes, Option, Some, None, refl, sym, ◌∙◌, ap, subst, arith}
-use Rattle.std.specs.String.{string_bytes}
+use Rattle.std.proofs.Common.{⊎_elim, ◌≡◌, ℕ, ◌+◌, ◌<◌, nat_le, Bool, false, List, [], ◌∷◌, length, get_or, take, map, Option, Some, None, refl, sym, ◌∙◌, ap, arith}
 use Rattle.std.proofs.lemmas.List.{take_all, length-take-le}
 use Rattle.std.proofs.lemmas.Bool.{cases_lt}
 use Rattle.std.proofs.lemmas.Bool.Decides.{nat_tests}
-use Rattle.hdfs_model.specs.Counts.{Counts, NeverFall, NoneRose, Rose}
+use Rattle.hdfs_model.specs.Counts.{Rose}
 use Rattle.hdfs_model.specs.Files.{State}
-use Rattle.hdfs_model.specs.Folds.{Folded, Ends, Stops, fold}
+use Rattle.hdfs_model.specs.Folds.{fold}
 use Rattle.hdfs_model.specs.Loading.{with_lines}
 use Rattle.hdfs_model.specs.Shown.{Shown}
-use Rattle.hdfs_script.specs.declared.entry.Script.{Script}
-use Rattle.hdfs_script.specs.Scripts.{parsed, script, script_limit, is_well_formed}
+use Rattle.hdfs_script.specs.Scripts.{parsed, script_limit}
 use Rattle.hdfs_script.specs.Texts.{refusal_text}
-use Rattle.hdfs_top.specs.Streams.{Wrote, TookAtMost}
-use Rattle.hdfs_top.specs.Top.{Starts, Finishes, Halts, IsText, StatusOf, world}
+use Rattle.hdfs_top.specs.Streams.{TookAtMost}
+use Rattle.hdfs_top.specs.Top.{Starts, world}
 use Rattle.hdfs_top.specs.Runs.{Begun, Tells, Ran, RanAll}
 use Rattle.hdfs_model.proofs.Frames.{never_fall_refl}
 use Rattle.hdfs_top.proofs.PrintLemmas.{wrote_none}
 use Rattle.hdfs_top.proofs.ReadLemmas.{took_none, at_most_from-Took}
-use Rattle.hdfs_top.proofs.RunLemmas.{any_memory, same_shown_refl}
+use Rattle.hdfs_top.proofs.RunLemmas.{any_memory, fine_unless_failed, same_shown_refl}
 
 -- bytes that are too many are no script
 parsed_long : (bytes : List ℕ) → script_limit < length bytes → parsed bytes ≡ None
@@ -48,6 +46,8 @@ refused_words session fresh old left reads a c f h status other tells = record {
   source = λ four. absurd (⊎_elim (λ one. omega arith) (λ five. omega arith) tells.statuses);
   unread = λ four. absurd (⊎_elim (λ one. omega arith) (λ five. omega arith) tells.statuses);
   sink = tells.rose;
+  written = fine_unless_failed 1 a c f h refusal_text status tells;
+  read = λ _. refl;
   no_script = λ one is. absurd (other is);
   kept = λ _ _ _ _ _. same_shown_refl old;
   done = λ zero. absurd (⊎_elim (λ one. omega arith) (λ five. omega arith) tells.statuses);
@@ -57,8 +57,8 @@ refused_words session fresh old left reads a c f h status other tells = record {
 }
 
 -- the source was read, and what it gave was run
-pub ran_source : (session : Type 0) (fresh : Bool) (old new : Shown) (left left' : Option (List ℕ)) (reads reads' : ℕ) (a c : Option (List ℕ)) (f h status : ℕ) (items : List ℕ) → session → TookAtMost (script_limit + 1) left left' → ((all : List ℕ) → left ≡ Some all → items ≡ take (script_limit + 1) all) → ((all : List ℕ) → parsed all ≡ parsed items → Ran fresh all old new a f status c h) → RanAll session fresh old new left reads left' reads' a f status c h
-ran_source session fresh old new left left' reads reads' a c f h status items is taken read ran =
+pub ran_source : (session : Type 0) (fresh : Bool) (old new : Shown) (left left' : Option (List ℕ)) (reads reads' : ℕ) (a c : Option (List ℕ)) (f h status : ℕ) (items : List ℕ) → session → reads' ≡ reads → TookAtMost (script_limit + 1) left left' → ((all : List ℕ) → left ≡ Some all → items ≡ take (script_limit + 1) all) → ((all : List ℕ) → parsed all ≡ parsed items → Ran fresh all old new a f status c h) → RanAll session fresh old new left reads left' reads' a f status c h
+ran_source session fresh old new left left' reads reads' a c f h status items is same taken read ran =
     let any = ran items refl in record {
       statuses = any.statuses;
       counts = any.counts;
@@ -69,6 +69,8 @@ ran_source session fresh old new left left' reads reads' a c f h status items is
       source = λ four. absurd (any.read four);
       unread = λ four. absurd (any.read four);
       sink = any.sink;
+      written = any.written;
+      read = λ _. same;
       no_script = λ one _ bytes state starts. (at bytes starts.told).no_script one state (begun left old bytes state starts);
       kept = λ one held bytes state starts. (at bytes starts.told).kept one (held is) state (begun left old bytes state starts);
       done = λ zero bytes state starts. (at bytes starts.told).done zero state (begun left old bytes state starts);
@@ -81,8 +83,8 @@ ran_source session fresh old new left left' reads reads' a c f h status items is
     at bytes told = ran bytes (parsed-take bytes ∙ ap parsed (sym (read bytes told)))
 
 -- there was no memory to read the source
-pub read_no_memory : (session : Type 0) (fresh : Bool) (old : Shown) (left left' : Option (List ℕ)) (reads reads' : ℕ) (a : Option (List ℕ)) (f status : ℕ) → session → TookAtMost (script_limit + 1) left left' → status ≡ 3 → RanAll session fresh old old left reads left' reads' a f status a f
-read_no_memory session fresh old left left' reads reads' a f status is taken three = record {
+pub read_no_memory : (session : Type 0) (fresh : Bool) (old : Shown) (left left' : Option (List ℕ)) (reads reads' : ℕ) (a : Option (List ℕ)) (f status : ℕ) → session → reads' ≡ reads → TookAtMost (script_limit + 1) left left' → status ≡ 3 → RanAll session fresh old old left reads left' reads' a f status a f
+read_no_memory session fresh old left left' reads reads' a f status is same taken three = record {
   statuses = omega arith;
   counts = never_fall_refl old.counts;
   taken = taken;
@@ -92,6 +94,8 @@ read_no_memory session fresh old left left' reads reads' a f status is taken thr
   source = λ four. absurd (omega arith);
   unread = λ four. absurd (omega arith);
   sink = λ five. absurd (omega arith);
+  written = λ _. refl;
+  read = λ _. same;
   no_script = λ one. absurd (omega arith);
   kept = λ one. absurd (omega arith);
   done = λ zero. absurd (omega arith);
@@ -112,6 +116,8 @@ read_failed session fresh old left left' reads reads' a f status is taken rose f
   source = λ e. rose;
   unread = λ e. wrote_none a;
   sink = λ five. absurd (omega arith);
+  written = λ _. refl;
+  read = λ other. absurd (other four);
   no_script = λ one. absurd (omega arith);
   kept = λ one. absurd (omega arith);
   done = λ zero. absurd (omega arith);
@@ -132,6 +138,8 @@ ran_session session fresh old new left left' reads reads' a c f h status is ran 
   source = ran.source;
   unread = ran.unread;
   sink = ran.sink;
+  written = ran.written;
+  read = ran.read;
   no_script = λ one _. ran.no_script one tt;
   kept = λ one held. ran.kept one (λ _. held is);
   done = ran.done;

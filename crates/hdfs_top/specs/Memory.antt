@@ -1,6 +1,5 @@
 -- What a source and a sink in memory show.
 use Rattle.std.specs.Prelude.{ℕ, List, drop}
-use Rattle.hdfs_top.specs.declared.memory.Failing.{Failing}
 use Rattle.hdfs_top.specs.declared.memory.MemSource.{MemSource}
 use Rattle.hdfs_top.specs.declared.memory.MemSink.{MemSink}
 

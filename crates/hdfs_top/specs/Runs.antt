@@ -1,5 +1,5 @@
 -- What the steps of the program have done.
-use Rattle.std.specs.Prelude.{◌≡◌, ◌≢◌, ◌⊎◌, ℕ, ◌+◌, ◌≤◌, Bool, true, false, List, [], ◌++◌, take, drop, Option, Some, None}
+use Rattle.std.specs.Prelude.{◌≡◌, ◌≢◌, ◌⊎◌, ℕ, ◌+◌, ◌≤◌, Bool, true, false, List, [], ◌++◌, take, Option, Some, None}
 use Rattle.hdfs_model.specs.declared.store.Line.{Line}
 use Rattle.hdfs_model.specs.declared.session.Command.{Command}
 use Rattle.hdfs_model.specs.declared.session.Reply.{Reply}
@@ -43,10 +43,12 @@ pub record LoadsAll (old : Shown) (lines : List Line) (new : Shown) : Type 0 whe
   pub taken : (state : State) → Fits [] [] old state → takes_all true state lines ≡ true
   pub fits : (state : State) → Fits [] [] old state → Fits [] [] new (with_lines state lines)
 
--- A text was printed, which is told by a status other than 5; or the sink failed behind a prefix of it, told by 5.
+-- A text was printed and no write failed, which is told by a status other than 5; or the sink failed behind a prefix of the
+-- text, told by 5.
 pub record Tells (good : ℕ) (before : Option (List ℕ)) (faults_before : ℕ) (text : List ℕ) (status : ℕ) (after : Option (List ℕ)) (faults_after : ℕ) : Type 0 where
   pub statuses : (status ≡ good) ⊎ (status ≡ 5)
   pub wrote : status ≡ good → Wrote before text after
+  pub fine : status ≡ good → faults_after ≡ faults_before
   pub rose : status ≡ 5 → Rose faults_before faults_after
   pub part : status ≡ 5 → WrotePart before text after
 
@@ -71,6 +73,7 @@ pub record RanCommands (commands : List Command) (old new : Shown) (before : Opt
   pub later : Later old new
   pub memory : status ≡ 3 → Wrote before [] after
   pub sink : status ≡ 5 → Rose faults_before faults_after
+  pub written : status ≢ 5 → faults_after ≡ faults_before
   pub done : status ≡ 0 → (state : State) → Begun old state → (text : List ℕ) × Finished commands state new text × Wrote before text after
   pub halted : status ≡ 2 → (state : State) → Begun old state → (text : List ℕ) × Halted commands state old new text × Wrote before text after
   pub part : status ≡ 5 → (state : State) → Begun old state → (text : List ℕ) × (Finished commands state new text ⊎ Halted commands state old new text) × WrotePart before text after
@@ -84,6 +87,7 @@ pub record Ran (fresh : Bool) (bytes : List ℕ) (old new : Shown) (before : Opt
   pub refused : status ≡ 1 → Wrote before refusal_text after
   pub memory : status ≡ 3 → Wrote before [] after
   pub sink : status ≡ 5 → Rose faults_before faults_after
+  pub written : status ≢ 5 → faults_after ≡ faults_before
   pub no_script : status ≡ 1 → (state : State) → Begun old state → script fresh state bytes ≡ None
   pub kept : status ≡ 1 → fresh ≡ false → (state : State) → Begun old state → SameShown old new
   pub done : status ≡ 0 → (state : State) → Begun old state → (text : List ℕ) × Finishes fresh state bytes old new text × Wrote before text after
@@ -100,8 +104,10 @@ pub record RanAll (session : Type 0) (fresh : Bool) (old new : Shown) (left_befo
   pub refused : status ≡ 1 → Wrote before refusal_text after
   pub memory : status ≡ 3 → Wrote before [] after
   pub source : status ≡ 4 → Rose reads_before reads_after
+  pub read : status ≢ 4 → reads_after ≡ reads_before
   pub unread : status ≡ 4 → Wrote before [] after
   pub sink : status ≡ 5 → Rose faults_before faults_after
+  pub written : status ≢ 5 → faults_after ≡ faults_before
   pub no_script : status ≡ 1 → session → (bytes : List ℕ) (state : State) → Starts left_before old bytes state → script fresh state bytes ≡ None
   pub kept : status ≡ 1 → (session → fresh ≡ false) → (bytes : List ℕ) (state : State) → Starts left_before old bytes state → SameShown old new
   pub done : status ≡ 0 → (bytes : List ℕ) (state : State) → Starts left_before old bytes state → (text : List ℕ) × Finishes fresh state bytes old new text × Wrote before text after

@@ -1,5 +1,5 @@
 -- What the program writes: the main theorem, for bytes in and bytes out.
-use Rattle.std.specs.Prelude.{◌≡◌, ◌≢◌, ◌⊎◌, ℕ, Bool, List, [], ◌∷◌, ◌++◌, map, take, Option, Some, None, codes, string_bytes, String}
+use Rattle.std.specs.Prelude.{◌≡◌, ◌≢◌, ◌⊎◌, ℕ, Bool, List, [], ◌∷◌, ◌++◌, Option, Some, None, codes}
 use Rattle.hdfs_model.specs.declared.session.Reply.{Reply}
 use Rattle.hdfs_model.specs.declared.session.Fault.{Fault}
 use Rattle.hdfs_model.specs.declared.session.HdfsError.TheVariants as errors

@@ -10,10 +10,11 @@ use Rattle.hdfs_top.specs.Streams.{Wrote}
 abbrev pub WrotePart : Option (List ℕ) → List ℕ → Option (List ℕ) → Type 0
 WrotePart before text after = (count : ℕ) × Wrote before (take count text) after
 
--- The text was written; or the sink failed, behind a prefix of it.
+-- The text was written, and no write failed; or the sink failed, behind a prefix of the text.
 pub record Prints {T : Type 0} (before : Option (List ℕ)) (faults_before : ℕ) (text : List ℕ) (result : Result T IoFailed) (after : Option (List ℕ)) (faults_after : ℕ) : Type 0 where
   pub later : faults_before ≤ faults_after
   pub ok : OnOk result (Wrote before text after)
+  pub fine : OnOk result (faults_after ≡ faults_before)
   pub failed : OnErr result (Rose faults_before faults_after)
   pub part : OnErr result (WrotePart before text after)
 

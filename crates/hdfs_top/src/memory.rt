@@ -14,7 +14,7 @@ struct Failing {
 }
 
 impl Failing {
-    ghost use Rattle.std.specs.Prelude.{◌≡◌, ◌≤◌, OnErr};
+    ghost use Rattle.std.specs.Prelude.{◌≡◌, ◌≤◌, OnErr, OnOk};
     ghost use Rattle.hdfs_model.specs.Counts.{Rose};
     ghost use Rattle.hdfs_top.specs.Streams.{HasCause};
 
@@ -37,7 +37,8 @@ impl Failing {
 
     // Begins the next call, which fails where it is listed.
     fn begin(&mut self) -> Result<(), IoFailed>
-        ensures { HasCause self.old.faults self.new.faults result }
+        ensures cause { HasCause self.old.faults self.new.faults result }
+        ensures fine { OnOk result (self.new.faults ≡ self.old.faults) }
     {
         self.calls = self.calls.saturating_add(1);
         if self.fails.as_slice().contains(&self.calls) {

@@ -1,5 +1,5 @@
 // The program's one call.
-ghost use Rattle.std.specs.Prelude.{◌≡◌, ◌⊎◌, false, ◌<◌, ◌≤◌, ◌+◌, ℕ, List, [], take, map, Some, string_bytes, IsTrue, ◌↔◌, codes};
+ghost use Rattle.std.specs.Prelude.{◌≡◌, ◌≢◌, ◌⊎◌, false, ◌<◌, ◌≤◌, ◌+◌, ℕ, List, [], take, map, Some, string_bytes, IsTrue, ◌↔◌, codes};
 ghost use Rattle.hdfs_top.specs.Runs.{RanAll};
 ghost use Rattle.hdfs_model.specs.Counts.{NeverFall, NoneRose, Rose};
 ghost use Rattle.hdfs_model.specs.Files.{State};
@@ -93,8 +93,10 @@ pub fn top<S: Source, K: Sink, C: Store>(
     ensures refused { result ≡ 1 → Wrote (K.written sink.old) refusal_text (K.written sink.new) }
     ensures memory { result ≡ 3 → Wrote (K.written sink.old) [] (K.written sink.new) }
     ensures source { result ≡ 4 → Rose (S.faults source.old) (S.faults source.new) }
+    ensures no_read_failed { result ≢ 4 → S.faults source.new ≡ S.faults source.old }
     ensures unread { result ≡ 4 → Wrote (K.written sink.old) [] (K.written sink.new) }
     ensures sink { result ≡ 5 → Rose (K.faults sink.old) (K.faults sink.new) }
+    ensures no_write_failed { result ≢ 5 → K.faults sink.new ≡ K.faults sink.old }
 
     // over a source that tells its bytes and a store that agrees with a state
     ensures script { result ≡ 1 → IsSession (map string_bytes words.now) → (bytes : List ℕ) (state : State) → Starts (S.left source.old) (C.shown store.old) bytes state

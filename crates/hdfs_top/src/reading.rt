@@ -46,6 +46,8 @@ fn read_piece<S: Source>(
     requires room { 0 < room }
     ensures later { S.faults source.old ≤ S.faults source.new }
     ensures failed { IfErr result (λ e. e ≡ ReadFault.Failed → Rose (S.faults source.old) (S.faults source.new)) }
+    ensures fine { OnOk result (S.faults source.new ≡ S.faults source.old) }
+    ensures starved { IfErr result (λ e. e ≡ ReadFault.NoMemory → S.faults source.new ≡ S.faults source.old) }
     ensures taken { OnErr result (TookAtMost room (S.left source.old) (S.left source.new)) }
     ensures count { IfOk result (λ count. (count ≤ room) × (vec_len bytes.new ≡ vec_len bytes.old + count)) }
     ensures bytes { IfOk result (λ count. (front : List ℕ) × (length front ≡ count) × (bytes.new.items ≡ bytes.old.items ++ front) × Took (S.left source.old) front (S.left source.new)) }
@@ -70,6 +72,8 @@ fn fill<S: Source>(
     requires empty { bytes.old.items ≡ [] }
     ensures later { S.faults source.old ≤ S.faults source.new }
     ensures failed { IfErr result (λ e. e ≡ ReadFault.Failed → Rose (S.faults source.old) (S.faults source.new)) }
+    ensures fine { OnOk result (S.faults source.new ≡ S.faults source.old) }
+    ensures starved { IfErr result (λ e. e ≡ ReadFault.NoMemory → S.faults source.new ≡ S.faults source.old) }
     ensures taken { TookAtMost most (S.left source.old) (S.left source.new) }
     ensures bytes { OnOk result ((all : List ℕ) → S.left source.old ≡ Some all → bytes.new.items ≡ take most all) }
 {
@@ -98,6 +102,8 @@ pub(crate) fn read_at_most<S: Source>(
 ) -> Result<Vec<u8>, ReadFault>
     ensures later { S.faults source.old ≤ S.faults source.new }
     ensures failed { IfErr result (λ e. e ≡ ReadFault.Failed → Rose (S.faults source.old) (S.faults source.new)) }
+    ensures fine { OnOk result (S.faults source.new ≡ S.faults source.old) }
+    ensures starved { IfErr result (λ e. e ≡ ReadFault.NoMemory → S.faults source.new ≡ S.faults source.old) }
     ensures taken { TookAtMost most (S.left source.old) (S.left source.new) }
     ensures bytes { IfOk result (λ bytes. (all : List ℕ) → S.left source.old ≡ Some all → bytes.items ≡ take most all) }
 {

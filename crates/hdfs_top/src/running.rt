@@ -20,7 +20,7 @@ use std::alloc::Global;
 
 // Prints what a session answered that stopped, but nothing for want of memory.
 fn tell_stop<K: Sink>(sink: &mut K, fault: &Fault) -> u8
-    ensures { ((fault.now.error ≡ errors.NoMemory) × (result ≡ 3) × Wrote (K.written sink.old) [] (K.written sink.new))
+    ensures { ((fault.now.error ≡ errors.NoMemory) × (result ≡ 3) × Wrote (K.written sink.old) [] (K.written sink.new) × (K.faults sink.new ≡ K.faults sink.old))
         ⊎ ((fault.now.error ≢ errors.NoMemory) × Tells 2 (K.written sink.old) (K.faults sink.old) (fault_text fault.now) result (K.written sink.new) (K.faults sink.new)) }
 {
     match fault.error {

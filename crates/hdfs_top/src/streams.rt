@@ -1,5 +1,5 @@
 // Where a script comes from, and where its replies go.
-ghost use Rattle.std.specs.Prelude.{◌≡◌, ◌<◌, ◌≤◌, ℕ, List, Option, length, IfOk};
+ghost use Rattle.std.specs.Prelude.{◌≡◌, ◌<◌, ◌≤◌, ℕ, List, Option, length, IfOk, OnOk};
 ghost use Rattle.hdfs_model.specs.Counts.{Rose};
 ghost use Rattle.hdfs_top.specs.Streams.{Takes, Puts, HasCause};
 
@@ -19,7 +19,8 @@ pub trait Source {
     fn read(&mut self, buf: &mut [u8]) -> Result<usize, IoFailed>
         ensures bound { IfOk result (λ n. n ≤ length buf.old) }
         ensures bytes { Takes (left self.old) result buf.new (left self.new) }
-        ensures cause { HasCause (faults self.old) (faults self.new) result };
+        ensures cause { HasCause (faults self.old) (faults self.new) result }
+        ensures fine { OnOk result (faults self.new ≡ faults self.old) };
 }
 
 /// Where bytes go.
@@ -35,5 +36,6 @@ pub trait Sink {
         ensures bound { IfOk result (λ n. n ≤ length bytes.now) }
         ensures bytes { Puts (written self.old) result bytes.now (written self.new) }
         ensures cause { HasCause (faults self.old) (faults self.new) result }
+        ensures fine { IfOk result (λ n. 0 < n → faults self.new ≡ faults self.old) }
         ensures stuck { IfOk result (λ n. n ≡ 0 → 0 < length bytes.now → Rose (faults self.old) (faults self.new)) };
 }

@@ -1,4 +1,4 @@
-use Rattle.std.proofs.Common.{length, arith}
+use Rattle.std.proofs.Common.{arith}
 use Rattle.hdfs_top.proofs.ReadLemmas.{at_most_then}
 use Rattle.hdfs_top.proofs.reading.fill.Goals as goal
 

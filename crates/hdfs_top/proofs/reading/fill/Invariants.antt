@@ -5,7 +5,7 @@ use Rattle.hdfs_top.proofs.reading.fill.Given as goal
 -- what was read stood first in the source
 abbrev pub invariant-loop-bytes : goal.invariant-loop-bytes
 invariant-loop-bytes g l = record {
-  later : g.S.Source.faults l.fn.source ≤ g.S.Source.faults l.source;
+  same : g.S.Source.faults l.source ≡ g.S.Source.faults l.fn.source;
   some : 0 < length l.piece;
   short : vec_len l.bytes ≤ l.most;
   took : Took (g.S.Source.left l.fn.source) l.bytes.items (g.S.Source.left l.source);

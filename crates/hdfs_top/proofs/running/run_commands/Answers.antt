@@ -12,6 +12,6 @@ returns-in-Ok-run_session g c =
 pub returns : goal.returns
 returns g c =
     ⊎_elim
-    (λ none. ran_no_memory c.args.commands.now _ _ _ _ _ _ _ c.run_session.ensures.later none.1 none.2)
+    (λ none. ran_no_memory c.args.commands.now _ _ _ _ _ _ _ c.run_session.ensures.later none.1 none.2 none.3)
     (λ other. ran_to_fault _ _ c.args.commands.now _ _ _ _ _ _ _ c.in-Err.fault (world_is c.in-Ok.settings (g.C.Cluster.shown c.args.store.now) c.in-Ok.ensures) c.run_session.ensures.later c.in-Err.ensures.err c.in-Err.ensures.complete other.0 other.1)
     c.tell_stop.ensures

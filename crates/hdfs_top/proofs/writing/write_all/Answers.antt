@@ -9,14 +9,14 @@ use Rattle.hdfs_top.proofs.writing.write_all.Goals as goal
 pub returns-in_err-count : goal.returns-in_err-count
 returns-in_err-count g c =
     let p = err_from_is_err_and c.from_residual.result c.from_residual.ensures.1 in
-    prints_failed _ _ _ _ _ c.from_residual.result p.0 p.1 (omega (arith, c.loop-left.invariant.later, c.write.ensures.cause.later)) (omega (arith, c.loop-left.invariant.later, c.in_err-count.ensures.cause.failed)) (printed_part _ _ _ _ _ _ _ c.loop-left.invariant 0 c.in_err-count.ensures.bytes)
+    prints_failed _ _ _ _ _ c.from_residual.result p.0 p.1 (omega (arith, c.loop-left.invariant.same, c.write.ensures.cause.later)) (omega (arith, c.loop-left.invariant.same, c.in_err-count.ensures.cause.failed)) (printed_part _ _ _ _ _ _ _ c.loop-left.invariant 0 c.in_err-count.ensures.bytes)
 
 -- the sink took none of some bytes
 pub returns-then-count-eq0 : goal.returns-then-count-eq0
 returns-then-count-eq0 g c =
     let some : 0 < length c.loop-left.left.now = grind (arith, nat_tests) in
-    prints_failed _ _ _ _ _ _ _ refl (omega (arith, c.loop-left.invariant.later, c.write.ensures.cause.later)) (omega (arith, c.loop-left.invariant.later, c.in_ok-count.ensures.stuck c.if-count-eq0.true some)) (printed_part _ _ _ _ _ _ _ c.loop-left.invariant c.in_ok-count.count c.in_ok-count.ensures.bytes)
+    prints_failed _ _ _ _ _ _ _ refl (omega (arith, c.loop-left.invariant.same, c.write.ensures.cause.later)) (omega (arith, c.loop-left.invariant.same, c.in_ok-count.ensures.stuck c.if-count-eq0.true some)) (printed_part _ _ _ _ _ _ _ c.loop-left.invariant c.in_ok-count.count c.in_ok-count.ensures.bytes)
 
 pub loop-left-preserved : goal.loop-left-preserved
 loop-left-preserved g c =
-    printed_piece _ _ _ _ _ _ _ _ (take c.in_ok-count.count c.loop-left.left.now) c.split_at.result.1.now (sym (take-append-drop c.in_ok-count.count c.loop-left.left.now) ∙ ap (λ t. take c.in_ok-count.count c.loop-left.left.now ++ t) (sym c.split_at.ensures.back)) c.loop-left.invariant c.write.ensures.cause.later c.in_ok-count.ensures.bytes
+    printed_piece _ _ _ _ _ _ _ _ (take c.in_ok-count.count c.loop-left.left.now) c.split_at.result.1.now (sym (take-append-drop c.in_ok-count.count c.loop-left.left.now) ∙ ap (λ t. take c.in_ok-count.count c.loop-left.left.now ++ t) (sym c.split_at.ensures.back)) c.loop-left.invariant (c.in_ok-count.ensures.fine (grind (arith, nat_tests))) c.in_ok-count.ensures.bytes

@@ -1,5 +1,4 @@
-use Rattle.std.proofs.Common.{◌≡◌, ◌++◌, ◌≤◌, ℕ, List, length}
-use Rattle.hdfs_top.specs.Streams.{Wrote}
+use Rattle.std.proofs.Common.{length}
 use Rattle.hdfs_top.proofs.PrintLemmas.{Printed}
 use Rattle.hdfs_top.proofs.writing.write_all.Given as goal
 

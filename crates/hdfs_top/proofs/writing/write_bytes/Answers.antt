@@ -1,8 +1,8 @@
-use Rattle.std.proofs.Common.{[], ◌++◌, codes, refl, sym, append_assoc}
+use Rattle.std.proofs.Common.{codes, refl, sym, append_assoc}
 use Rattle.std.proofs.lemmas.Result.{err_from_is_err_and}
 use Rattle.std.proofs.lemmas.List.{append-nil}
 use Rattle.hdfs_script.specs.Texts.{hex_text}
-use Rattle.hdfs_top.proofs.PrintLemmas.{printed_start, printed_then, printed_stop, printed_end}
+use Rattle.hdfs_top.proofs.PrintLemmas.{printed_start, printed_then, printed_stop}
 use Rattle.hdfs_top.proofs.writing.write_bytes.Goals as goal
 
 pub returns-in_err-write_all : goal.returns-in_err-write_all

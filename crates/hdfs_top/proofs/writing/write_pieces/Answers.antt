@@ -1,6 +1,5 @@
-use Rattle.std.proofs.Common.{refl}
 use Rattle.std.proofs.lemmas.Result.{err_from_is_err_and}
-use Rattle.hdfs_top.proofs.PrintLemmas.{printed_then, printed_stop, printed_end, concat-drop}
+use Rattle.hdfs_top.proofs.PrintLemmas.{printed_then, printed_stop, concat-drop}
 use Rattle.hdfs_top.proofs.writing.write_pieces.Goals as goal
 
 pub returns-in_err-write_all : goal.returns-in_err-write_all

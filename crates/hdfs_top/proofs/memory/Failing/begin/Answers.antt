@@ -1,4 +1,4 @@
 use Rattle.hdfs_top.proofs.memory.Failing.begin.Goals as goal
 
-pub returns-then-contains : goal.returns-then-contains
-returns-then-contains c = record { later = c.raise.ensures.later; failed = c.raise.ensures.rose }
+pub returns-then-contains-clause-cause : goal.returns-then-contains-clause-cause
+returns-then-contains-clause-cause c = record { later = c.raise.ensures.later; failed = c.raise.ensures.rose }
