@@ -94,3 +94,33 @@ fn chunks_without_bytes_hold_over_an_empty_payload_alone(rt: HostRuntime) -> Res
     }
     Ok(())
 }
+
+/// Packets with one byte behind their headers, which say another length of the data each, and why they are refused.
+const PACKETS: [(&[u8], Option<WireFault>); 4] = [
+    (
+        b"\x00\x00\x00\x05\x00\x19\x09\x00\x00\x00\x00\x00\x00\x00\x00\x11\x00\x00\x00\x00\x00\x00\x00\x00\x18\x00\x25\xff\xff\xff\xff\x07",
+        Some(WireFault::BadLength),
+    ),
+    (
+        b"\x00\x00\x00\x05\x00\x19\x09\x00\x00\x00\x00\x00\x00\x00\x00\x11\x00\x00\x00\x00\x00\x00\x00\x00\x18\x00\x25\x00\x00\x00\x00\x07",
+        None,
+    ),
+    (
+        b"\x00\x00\x00\x05\x00\x19\x09\x00\x00\x00\x00\x00\x00\x00\x00\x11\x00\x00\x00\x00\x00\x00\x00\x00\x18\x00\x25\x01\x00\x00\x00\x07",
+        None,
+    ),
+    (
+        b"\x00\x00\x00\x05\x00\x19\x09\x00\x00\x00\x00\x00\x00\x00\x00\x11\x00\x00\x00\x00\x00\x00\x00\x00\x18\x00\x25\x02\x00\x00\x00\x07",
+        Some(WireFault::BadLength),
+    ),
+];
+
+#[test]
+fn data_has_no_length_below_zero_or_above_what_is_there(rt: HostRuntime) -> Result<(), Fail> {
+    let alloc = rt.alloc();
+    for (bytes, wanted) in &PACKETS {
+        let bytes = Bytes::copy_from_slice(alloc, bytes)?;
+        assert_eq!(rt; ReadPacket::parse(alloc, bytes).err(), *wanted);
+    }
+    Ok(())
+}
