@@ -1,10 +1,9 @@
 -- How a session goes on from command to command, and where it stops.
-use Rattle.std.proofs.Common.{◌≡◌, inl, inr, ⊎_elim, ℕ, ◌+◌, ◌-◌, ◌<◌, List, [], ◌∷◌, ◌++◌, length, take, get_or, Option, Err, IsSome, refl, sym, ◌∙◌, ap, subst, arith}
+use Rattle.std.proofs.Common.{◌≡◌, inl, inr, ⊎_elim, ℕ, ◌+◌, ◌-◌, ◌<◌, List, [], ◌∷◌, ◌++◌, length, take, get_or, Err, refl, sym, ◌∙◌, ap, subst, arith}
 use Rattle.std.specs.List.{slice_get}
 use Rattle.std.proofs.lemmas.List.{take_more}
 use Rattle.std.proofs.lemmas.List.Elements.{All-cons, All-nil}
 use Rattle.std.proofs.lemmas.Option.{slice_get_read}
-use Rattle.hdfs_model.specs.declared.picture.OpenRead.{OpenRead}
 use Rattle.hdfs_model.specs.declared.session.Command.{Command}
 use Rattle.hdfs_model.specs.declared.session.Command.TheVariants as commands
 use Rattle.hdfs_model.specs.declared.session.Reply.{Reply}
@@ -22,7 +21,7 @@ use Rattle.hdfs_model.specs.Stores.{AgreesBut}
 use Rattle.hdfs_model.specs.Causes.{ByteLost, CommandLost, CauseAt, Cause}
 use Rattle.hdfs_model.specs.Sessions.{Ready, Fits, Avoids, Stopped, Complete, touched}
 use Rattle.hdfs_model.proofs.Frames.{rose_since}
-use Rattle.hdfs_client.specs.Meeting.{LinksStay}
+use Rattle.hdfs_client.specs.Meeting.{SameLinks}
 use Rattle.hdfs_model.proofs.Folding.{fold-push}
 use Rattle.hdfs_client.proofs.Completing.{complete_command, complete_stopped, none_rose_later}
 
@@ -99,5 +98,5 @@ module _ (w : World) (strangers : List (List ℕ)) (start now : Shown) (state la
         complete_stopped T w state commands i command done last fault below here so_far at (complete_command w strangers now new last command fault.error after.namenodes ready_for cause since)
 
 -- links that stay from time to time stay
-pub links_trans : (a b c : Shown) → LinksStay a b → LinksStay b c → LinksStay a c
-links_trans a b c f g = λ link is_open. g link (subst (λ (o : Option OpenRead). IsSome o) (sym (f link is_open)) is_open) ∙ f link is_open
+pub links_trans : (a b c : Shown) → SameLinks a b → SameLinks b c → SameLinks a c
+links_trans a b c before after = λ link. after link ∙ before link

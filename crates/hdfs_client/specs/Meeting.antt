@@ -1,17 +1,13 @@
 -- A cluster and the state of the files, as one command meets them.
-use Rattle.std.specs.Prelude.{◌≡◌, ℕ, List, [], Some, IsSome}
+use Rattle.std.specs.Prelude.{◌≡◌, ℕ, List, [], Some}
 use Rattle.hdfs_model.specs.Files.{State, Writing, Content, OpenFile}
 use Rattle.hdfs_model.specs.Picture.{Picture, kinds}
 use Rattle.hdfs_model.specs.Shown.{Shown}
 use Rattle.hdfs_model.specs.Stores.{Agrees}
 
--- No link was changed, and none is left open.
+-- no read link was changed, none was closed, and none is left open
 abbrev pub SameLinks : Shown → Shown → Type 0
 SameLinks old new = (link : ℕ) → new.reads link ≡ old.reads link
-
--- links that were open stay as they were
-abbrev pub LinksStay : Shown → Shown → Type 0
-LinksStay old new = (link : ℕ) → IsSome (old.reads link) → new.reads link ≡ old.reads link
 
 -- no client is writing the file at a path
 abbrev pub IsClosed : Picture → List ℕ → Type 0

@@ -12,7 +12,7 @@ ghost use Rattle.hdfs_model.specs.Stores.{AgreesBut};
 ghost use Rattle.hdfs_model.specs.declared.session.Command.{Command};
 ghost use Rattle.hdfs_model.specs.declared.session.Reply.{Reply};
 ghost use Rattle.hdfs_model.specs.declared.session.HdfsError.TheVariants as errors;
-ghost use Rattle.hdfs_client.specs.Meeting.{LinksStay};
+ghost use Rattle.hdfs_client.specs.Meeting.{SameLinks};
 ghost use Rattle.hdfs_client.specs.Session.{settings_of, has_failed};
 
 use crate::session::Session;
@@ -33,7 +33,7 @@ pub fn run_session<C: Cluster>(
 
     // over any cluster
     ensures later { Later (C.shown cluster.old) (C.shown cluster.new) }
-    ensures links { (link : ℕ) → IsSome ((C.shown cluster.old).reads link) → (C.shown cluster.new).reads link ≡ (C.shown cluster.old).reads link }
+    ensures links { SameLinks (C.shown cluster.old) (C.shown cluster.new) }
     ensures count { IfOk result (λ replies. length replies.items ≡ length commands.now) }
     ensures start { IfErr result (λ fault. fault.at ≡ 0 → fault.error ≡ errors.NoMemory) }
     ensures tells { IfErr result (λ fault. fault.at ≢ 0 → (command : Command) × (slice_get commands.now (fault.at - 1) ≡ Some command) × Tells command (C.shown cluster.new) fault.error) }
@@ -89,7 +89,7 @@ fn next_reply<C: Cluster>(
     // over any cluster
     ensures settings { settings_of session.new ≡ settings_of session.old }
     ensures later { Later (C.shown cluster.old) (C.shown cluster.new) }
-    ensures links { LinksStay (C.shown cluster.old) (C.shown cluster.new) }
+    ensures links { SameLinks (C.shown cluster.old) (C.shown cluster.new) }
     ensures fine { OnOk result (has_failed session.new ≡ false) }
     ensures count { OnOk result (length replies.new.items ≡ length replies.old.items + 1) }
     ensures kept { OnErr result (replies.new.items ≡ replies.old.items) }

@@ -87,7 +87,7 @@ impl Session {
         // over any cluster
         ensures settings { settings_of self.new ≡ settings_of self.old }
         ensures later { Later (C.shown cluster.old) (C.shown cluster.new) }
-        ensures links { (link : ℕ) → IsSome ((C.shown cluster.old).reads link) → (C.shown cluster.new).reads link ≡ (C.shown cluster.old).reads link }
+        ensures links { SameLinks (C.shown cluster.old) (C.shown cluster.new) }
         ensures failed { has_failed self.old ≡ true → result ≡ Err errors.Failed }
         ensures fails { OnErr result (has_failed self.new ≡ true) }
         ensures fine { OnOk result (has_failed self.new ≡ false) }

@@ -13,9 +13,8 @@ use Rattle.hdfs_model.specs.declared.picture.Entry.TheVariants as entries
 use Rattle.hdfs_model.specs.declared.picture.FileEntry.{FileEntry}
 use Rattle.hdfs_model.specs.Files.{Directory, ClosedFile, OpenFile, NotFile, no_file, no_file_at, IsTree}
 use Rattle.hdfs_model.specs.Namenode.{Follow, IsShaped, ServesTold}
-use Rattle.hdfs_model.specs.Picture.{Picture, SamePicture, entry_kind, kinds}
+use Rattle.hdfs_model.specs.Picture.{Picture, SamePicture, entry_kind, kinds, kinds_in}
 use Rattle.hdfs_model.proofs.Trees.{no_file_there}
-use Rattle.hdfs_cluster.specs.Adding.{kinds_in}
 use Rattle.hdfs_cluster.specs.Answering.{src_of, LocatesFile, IsExcused, Answers}
 use Rattle.hdfs_cluster.proofs.Locating.{all_within}
 

@@ -17,11 +17,11 @@ use Rattle.hdfs_model.specs.declared.picture.BlockEntry.{BlockEntry}
 use Rattle.hdfs_model.specs.declared.picture.FileEntry.{FileEntry}
 use Rattle.hdfs_model.specs.Files.{Kind, Directory, ClosedFile, OpenFile, IsTree, IsState, Dir, Writing, Content, kind_of, kinds_of, only_root, empty_state}
 use Rattle.hdfs_model.specs.Paths.{root, is_path, ancestors, parent_of}
-use Rattle.hdfs_model.specs.Picture.{entry_kind}
+use Rattle.hdfs_model.specs.Picture.{entry_kind, kinds_in}
 use Rattle.hdfs_model.proofs.Loads.{and_parts, none_from_test}
 use Rattle.hdfs_model.proofs.Trees.{tree_with}
 use Rattle.hdfs_cluster.specs.Memory.{is_dir, is_placed, is_sized, is_length, total, is_bare, is_bare_at, accepts}
-use Rattle.hdfs_cluster.specs.Adding.{kinds_in, IsPlace, Names}
+use Rattle.hdfs_cluster.specs.Adding.{IsPlace, Names}
 
 kind_from_dir : (o : Option Entry) → is_dir o ≡ true → option_map entry_kind o ≡ Some Directory
 kind_from_dir None is = absurd (cc)

@@ -1,19 +1,14 @@
 -- How blocks and files come into a cluster in memory.
-use Rattle.std.specs.Prelude.{◌≡◌, ◌≢◌, ℕ, true, false, List, [], ◌∷◌, Option, Some, None, option_map, if◌then◌else◌}
+use Rattle.std.specs.Prelude.{◌≡◌, ◌≢◌, ℕ, true, false, List, [], ◌∷◌, Option, Some, None, if◌then◌else◌}
 use Rattle.std.specs.Str.{bytes_eq}
 use Rattle.hdfs_model.specs.declared.picture.Entry.{Entry}
 use Rattle.hdfs_model.specs.declared.picture.Entry.TheVariants as entries
 use Rattle.hdfs_model.specs.declared.picture.BlockEntry.{BlockEntry}
 use Rattle.hdfs_model.specs.declared.picture.FileEntry.{FileEntry}
-use Rattle.hdfs_model.specs.Files.{Kind}
 use Rattle.hdfs_model.specs.Paths.{is_path, parent_of}
-use Rattle.hdfs_model.specs.Picture.{Picture, entry_kind}
+use Rattle.hdfs_model.specs.Picture.{Picture}
 use Rattle.hdfs_model.specs.Stores.{StoresBlocks}
 use Rattle.hdfs_cluster.specs.Memory.{first_node, total, is_length, is_dir}
-
--- the kind of what stands at each path of a namespace
-abbrev pub kinds_in : (List ℕ → Option Entry) → List ℕ → Option Kind
-kinds_in names path = option_map entry_kind (names path)
 
 -- a file can stand at the path: it is new, and its parent is a directory
 pub record IsPlace (names : List ℕ → Option Entry) (path : List ℕ) : Type 0 where

@@ -6,7 +6,7 @@ ghost use Rattle.hdfs_model.specs.Files.{no_file, is_file};
 ghost use Rattle.hdfs_model.specs.Namenode as namenode;
 ghost use Rattle.hdfs_model.specs.Namenode.{kind_of, LocatesBlock, LocatesBlocks, Follow, uuids};
 ghost use Rattle.hdfs_model.specs.Paths.{ancestors};
-ghost use Rattle.hdfs_cluster.specs.Adding.{kinds_in};
+ghost use Rattle.hdfs_model.specs.Picture.{kinds_in};
 ghost use Rattle.hdfs_cluster.specs.Answering.{LocatesFile, IsExcused};
 ghost use Rattle.hdfs_cluster.specs.Memory.{table_of, total, is_length};
 

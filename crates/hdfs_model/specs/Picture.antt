@@ -26,9 +26,13 @@ abbrev pub entry_kind : Entry → Kind
 entry_kind entries.Dir = Directory
 entry_kind (entries.File file) = if file.is_open then OpenFile else ClosedFile
 
+-- the kind of what stands at each path of these names
+abbrev pub kinds_in : (List ℕ → Option Entry) → List ℕ → Option Kind
+kinds_in names path = option_map entry_kind (names path)
+
 -- the kind of what stands at each path
 abbrev pub kinds : Picture → List ℕ → Option Kind
-kinds p path = option_map entry_kind (p.names path)
+kinds p path = kinds_in p.names path
 
 -- the files, the blocks, what the datanodes hold and the defaults stay
 pub record SameFiles (old new : Picture) : Type 0 where

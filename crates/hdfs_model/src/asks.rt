@@ -8,20 +8,20 @@ use hdfs_wire::{NoMemory, Text};
 use std::alloc::{AllocError, AllocFailed};
 
 /// What is asked of a namenode, by the name of ClientProtocol's call.
-#[derive(Drop)]
+#[derive(Debug, Drop)]
 pub enum Ask {
     /// The blocks of the file `src` that lie in `length` bytes from `offset` on.
     GetBlockLocations { src: Text, offset: u64, length: u64 },
 }
 
 /// What a namenode answers to the ask of the same name.
-#[derive(Drop)]
+#[derive(Debug, Drop)]
 pub enum Answer {
     GetBlockLocations(Option<LocatedBlocks>),
 }
 
 /// Why an ask has no answer.
-#[derive(Drop)]
+#[derive(Debug, Drop)]
 pub enum AskFault {
     NoMemory,
     /// The namenode's exception, by its Java class.

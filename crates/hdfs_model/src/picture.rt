@@ -4,7 +4,7 @@ use bytes::Bytes;
 use hdfs_wire::{List, Text};
 
 /// A file: its attributes and the ids of its blocks in order. It is open while a client holds its lease.
-#[derive(Drop)]
+#[derive(Debug, Drop)]
 pub struct FileEntry {
     pub permission: u32,
     pub replication: u32,
@@ -14,14 +14,14 @@ pub struct FileEntry {
 }
 
 /// What stands at a path.
-#[derive(Drop)]
+#[derive(Debug, Drop)]
 pub enum Entry {
     Dir,
     File(FileEntry),
 }
 
 /// A block: its length in bytes, its generation stamp, and the uuids of the datanodes that are listed for it.
-#[derive(Drop)]
+#[derive(Debug, Drop)]
 pub struct BlockEntry {
     pub length: u64,
     pub stamp: u64,
@@ -29,7 +29,7 @@ pub struct BlockEntry {
 }
 
 /// What every cluster tells of an open read link: its datanode, and that node's count just before the opening.
-#[derive(Drop)]
+#[derive(Debug, Drop)]
 pub struct OpenRead {
     pub node: DatanodeId,
     pub before: u64,
@@ -37,7 +37,7 @@ pub struct OpenRead {
 
 /// What the picture shows besides: the block, the range that was asked for, the bytes that the datanode held when the
 /// read was opened, and the place in them up to which packets were given.
-#[derive(Drop)]
+#[derive(Debug, Drop)]
 pub struct ReadPlace {
     pub block: u64,
     pub offset: u64,

@@ -6,21 +6,21 @@ use hdfs_wire::{Blob, List, NoMemory, Text};
 use std::alloc::{AllocError, AllocFailed};
 
 /// Why bytes could not be moved from or to datanodes.
-#[derive(Drop)]
+#[derive(Debug, Drop)]
 pub enum TransferFault {
     /// No listed datanode gave the byte at this offset of its block.
     Read { offset: u64 },
 }
 
 /// Why an argument is refused.
-#[derive(Drop)]
+#[derive(Debug, Drop)]
 pub enum ArgFault {
     /// `offset + len` is above the file's `length`.
     Range { offset: u64, len: u64, length: u64 },
 }
 
 /// The errors of the client, by the names of the Rust crate's `HdfsError`.
-#[derive(Drop)]
+#[derive(Debug, Drop)]
 pub enum HdfsError {
     NoMemory,
     /// An earlier call of the same object failed.
@@ -34,27 +34,27 @@ pub enum HdfsError {
 }
 
 /// What a session is run with. `home` is the directory under which relative paths stand.
-#[derive(Drop)]
+#[derive(Debug, Drop)]
 pub struct Settings {
     pub home: Text,
 }
 
 /// One command of a session.
-#[derive(Drop)]
+#[derive(Debug, Drop)]
 pub enum Command {
     /// Reads `len` bytes from `offset` of the file at `path`.
     Read { path: Text, offset: u64, len: u64 },
 }
 
 /// The reply to the command of the same kind.
-#[derive(Drop)]
+#[derive(Debug, Drop)]
 pub enum Reply {
     Bytes { bytes: Blob },
 }
 
 /// Where a session stopped: at which command, counted from 1, or at 0 before the first; with which error; and with which
 /// replies to the commands before it.
-#[derive(Drop)]
+#[derive(Debug, Drop)]
 pub struct Fault {
     pub at: u64,
     pub error: HdfsError,

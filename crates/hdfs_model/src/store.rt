@@ -25,7 +25,7 @@ pub enum FaultLine {
 }
 
 /// A line that a store takes.
-#[derive(Drop)]
+#[derive(Debug, Drop)]
 pub enum Line {
     /// A closed file.
     File {

@@ -1,4 +1,6 @@
 // Sources and sinks over std's readers and writers, which tell nothing of their bytes.
+ghost use Rattle.std.specs.Prelude.{◌≡◌};
+
 use crate::streams::{IoFailed, Sink, Source};
 use std::io::{Read, Write};
 
@@ -11,7 +13,9 @@ pub struct StdSource<R: Read + Drop> {
 
 impl<R: Read + Drop> StdSource<R> {
     /// A source over this reader, which hasn't failed.
-    pub fn new(inner: R) -> StdSource<R> {
+    pub fn new(inner: R) -> StdSource<R>
+        ensures { ⟦<StdSource<R> as Source>⟧.faults result ≡ 0 }
+    {
         StdSource { inner, faults: 0 }
     }
 }
@@ -43,7 +47,9 @@ pub struct StdSink<W: Write + Drop> {
 
 impl<W: Write + Drop> StdSink<W> {
     /// A sink over this writer, which hasn't failed.
-    pub fn new(inner: W) -> StdSink<W> {
+    pub fn new(inner: W) -> StdSink<W>
+        ensures { ⟦<StdSink<W> as Sink>⟧.faults result ≡ 0 }
+    {
         StdSink { inner, faults: 0 }
     }
 }

@@ -1,4 +1,4 @@
-//! Owned text, bytes and lists that contracts see as lists, and packets as a reader sees them.
+//! Owned text, bytes and lists that contracts see as lists; varints, fields, frames, packets and their checksums.
 #![tactic(auto)]
 
 mod check;

@@ -21,7 +21,7 @@ impl<T: Drop> From<AllocFailed<T>> for NoMemory {
 }
 
 /// A list of values.
-#[derive(Drop)]
+#[derive(Debug, Drop)]
 pub struct List<T> {
     items: Vec<T>,
 }
@@ -76,7 +76,7 @@ impl<T> List<T> {
 }
 
 /// Owned bytes.
-#[derive(Drop)]
+#[derive(Debug, Drop)]
 pub struct Blob {
     bytes: Vec<u8>,
 }
@@ -131,7 +131,7 @@ impl Blob {
 }
 
 /// Owned text in UTF-8, seen as its bytes.
-#[derive(Drop)]
+#[derive(Debug, Drop)]
 pub struct Text {
     text: String,
 }

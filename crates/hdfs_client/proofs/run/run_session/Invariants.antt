@@ -3,14 +3,14 @@ use Rattle.hdfs_model.specs.Files.{State}
 use Rattle.hdfs_model.specs.Folds.{Ends, fold}
 use Rattle.hdfs_model.specs.Sessions.{Ready, Fits, world_of}
 use Rattle.hdfs_model.specs.Shown.{Later}
-use Rattle.hdfs_client.specs.Meeting.{LinksStay}
+use Rattle.hdfs_client.specs.Meeting.{SameLinks}
 use Rattle.hdfs_client.specs.Session.{settings_of, has_failed}
 use Rattle.hdfs_client.proofs.run.run_session.Given as goal
 
 abbrev pub invariant-loop-command : goal.invariant-loop-command
 invariant-loop-command g l = record {
   later : Later (g.C.Cluster.shown l.fn.cluster) (g.C.Cluster.shown l.cluster);
-  links : LinksStay (g.C.Cluster.shown l.fn.cluster) (g.C.Cluster.shown l.cluster);
+  links : SameLinks (g.C.Cluster.shown l.fn.cluster) (g.C.Cluster.shown l.cluster);
   fine : has_failed l.session ≡ false;
   settings : settings_of l.session ≡ l.fn.settings;
   count : length l.replies.items ≡ l.command-index;

@@ -3,7 +3,7 @@ use Rattle.std.proofs.Common.{ℕ, List, sym, ◌∙◌, ap, subst}
 use Rattle.std.proofs.lemmas.Result.{err_from_is_err_and}
 use Rattle.std.specs.BTreeMap.{get_by_text}
 use Rattle.hdfs_model.specs.Files.{no_file}
-use Rattle.hdfs_cluster.specs.Adding.{kinds_in}
+use Rattle.hdfs_model.specs.Picture.{kinds_in}
 use Rattle.hdfs_cluster.specs.Answering.{LocatesFile, IsExcused}
 use Rattle.hdfs_cluster.specs.Memory.{table_of}
 use Rattle.hdfs_cluster.specs.MemShown.{picture_of}

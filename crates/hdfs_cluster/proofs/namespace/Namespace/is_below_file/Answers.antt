@@ -3,7 +3,7 @@ use Rattle.std.proofs.Common.{◌≡◌, ℕ, ◌<◌, Bool, true, false, ◌||�
 use Rattle.std.specs.List.{list_any}
 use Rattle.hdfs_model.specs.Paths.{ancestors}
 use Rattle.hdfs_model.specs.Files.{is_file}
-use Rattle.hdfs_cluster.specs.Adding.{kinds_in}
+use Rattle.hdfs_model.specs.Picture.{kinds_in}
 use Rattle.std.specs.BTreeMap.{get_by_text}
 use Rattle.std.proofs.lemmas.List.Folds.{list_any-append}
 use Rattle.hdfs_cluster.proofs.namespace.Namespace.is_below_file.Goals as goal

@@ -5,7 +5,7 @@ use Rattle.std.specs.List.{list_any}
 use Rattle.std.specs.BTreeMap.{get_by_text}
 use Rattle.hdfs_model.specs.Files.{is_file}
 use Rattle.hdfs_model.specs.Paths.{ancestors}
-use Rattle.hdfs_cluster.specs.Adding.{kinds_in}
+use Rattle.hdfs_model.specs.Picture.{kinds_in}
 use Rattle.hdfs_cluster.proofs.namespace.Namespace.is_below_file.Given as goal
 
 abbrev pub invariant-loop-front : goal.invariant-loop-front
