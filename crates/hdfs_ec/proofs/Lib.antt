@@ -1,0 +1,13 @@
+pub mod Cauchy
+pub mod Codes
+pub mod Gaps
+pub mod Independence
+pub mod Choices
+pub mod Occupancy
+pub mod Decoding
+pub mod Filling
+pub mod Gathering
+pub mod ShareLengths
+pub mod ShareBytes
+pub mod ShareCells
+pub mod SharePlaces

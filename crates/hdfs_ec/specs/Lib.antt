@@ -1,0 +1,6 @@
+pub mod Coding
+pub mod Steps
+pub mod Places
+pub mod Striping
+pub mod Policies
+pub mod Refusals

@@ -1,0 +1,12 @@
+pub mod Reduced
+pub mod Residues
+pub mod FieldValues
+pub mod Totals
+pub mod Grids
+pub mod Writes
+pub mod Selection
+pub mod Kernels
+pub mod Columns
+pub mod Inverses
+pub mod Reductions
+pub mod Combining

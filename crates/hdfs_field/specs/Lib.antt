@@ -1,0 +1,14 @@
+pub mod Rings
+pub mod Wrapping
+pub mod Polynomials
+pub mod Elements
+pub mod Matrices
+pub mod Rows
+pub mod Elimination
+pub mod Lending
+pub mod Below
+pub mod Products
+pub mod Inverses
+pub mod FieldLaws
+pub mod WrappingLaws
+pub mod Slices

@@ -1,0 +1,17 @@
+//! Rings and fields, the field of 256 elements, and matrices over them.
+#![tactic(auto)]
+
+mod gf256;
+mod invert;
+mod matrix;
+mod ring;
+mod slices;
+mod wrap32;
+
+pub use gf256::{GF256, products_are_unique};
+pub use matrix::Matrix;
+pub use ring::{Field, Ring};
+pub use wrap32::Wrap32;
+
+#[cfg(test)]
+mod tests;
