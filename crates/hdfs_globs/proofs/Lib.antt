@@ -1,0 +1,16 @@
+pub mod Grown
+pub mod Pieces
+pub mod Unescaped
+pub mod SetTexts
+pub mod SetRanges
+pub mod Wildcards
+pub mod SignsRead
+pub mod Marked
+pub mod Standing
+pub mod Cuts
+pub mod Asked
+pub mod Balanced
+pub mod Matching
+pub mod GroupsRead
+pub mod CutsRead
+pub mod Opened

@@ -1,0 +1,11 @@
+pub mod Escapes
+pub mod Expansions
+pub mod Globs
+pub mod Fits
+pub mod Patterns
+pub mod SetSigns
+pub mod NextSigns
+pub mod Places
+pub mod GroupScans
+pub mod CutScans
+pub mod Openings

@@ -1,0 +1,136 @@
+use super::*;
+use std::alloc::{AllocError, Global};
+use std::test::*;
+
+/// The texts, with a space between each two.
+fn joined(alloc: Global, texts: &[String]) -> Result<String, AllocError> {
+    let mut all = String::new(alloc);
+    for text in texts {
+        if !all.is_empty() {
+            all.push(' ')?;
+        }
+        all.push_str(text.as_str())?;
+    }
+    Ok(all)
+}
+
+/// What the pattern opens to, or that it is refused, and with which text.
+fn opened(alloc: Global, pattern: &str) -> Result<String, AllocError> {
+    match expand_glob(alloc, pattern) {
+        Ok(texts) => joined(alloc, &texts),
+        Err(NamesFault::InvalidPath(text)) => format!(in alloc; "refused {}", text.as_str()),
+        Err(_) => format!(in alloc; "other"),
+    }
+}
+
+/// Whether the glob matches the text; none where the glob is refused.
+fn matched(alloc: Global, glob: &str, text: &str) -> Option<bool> {
+    match GlobPattern::new(alloc, glob) {
+        Ok(pattern) => pattern.matches(alloc, text).ok(),
+        Err(_) => None,
+    }
+}
+
+/// Whether a wildcard stands in the glob; none where the glob is refused.
+fn wild(alloc: Global, glob: &str) -> Option<bool> {
+    match GlobPattern::new(alloc, glob) {
+        Ok(pattern) => Some(pattern.has_wildcard()),
+        Err(_) => None,
+    }
+}
+
+/// Whether the glob is refused, and the refusal keeps it.
+fn is_refused(alloc: Global, glob: &str) -> bool {
+    match GlobPattern::new(alloc, glob) {
+        Err(NamesFault::InvalidPath(text)) => text.as_str() == glob,
+        _ => false,
+    }
+}
+
+#[test]
+fn patterns_are_opened(rt: HostRuntime) -> Result<(), Fail> {
+    let alloc = rt.alloc();
+    for (pattern, wanted) in [
+        ("{a/b}", "a/b"),
+        ("{a/b,c/d}", "a/b c/d"),
+        ("p{a/b,c/d}s", "pa/bs pc/ds"),
+        ("{a,b}/{b,{c/d,e/f}}", "{a,b}/b {a,b}/c/d {a,b}/e/f"),
+        ("{a/b,c/d,{e,f}}", "a/b c/d {e,f}"),
+        ("/}{a/b}", "/}a/b"),
+        ("{a,b}/{c/\\d}", "{a,b}/c/d"),
+        (
+            "/path/{to/nested,{file,other}}",
+            "/path/to/nested /path/{file,other}",
+        ),
+        ("/path/{to,{file,other}}", "/path/{to,{file,other}}"),
+        ("/path/{to,{file/other}}", "/path/to /path/file/other"),
+        ("a\\", "refused a\\"),
+        ("{a/b\\", "refused {a/b\\"),
+        ("{a/\\\\}", "refused {a/\\\\}"),
+    ] {
+        assert_eq!(rt; opened(alloc, pattern)?.as_str(), wanted);
+    }
+    let pieces = get_path_components(alloc, "/a//b")?;
+    assert_eq!(rt; pieces.len(), 2);
+    assert_eq!(rt; pieces[0], "a");
+    assert_eq!(rt; pieces[1], "b");
+    assert_eq!(rt; unescape_component(alloc, "a\\*")?.as_str(), "a*");
+    Ok(())
+}
+
+#[test]
+fn globs_are_matched(rt: HostRuntime) {
+    let alloc = rt.alloc();
+    for (glob, texts, others) in [
+        ("*.txt", "file.txt", "file.jpg"),
+        ("data?.csv", "data1.csv", "data12.csv"),
+        ("[abc].txt", "a.txt", "d.txt"),
+        ("file[0-9].txt", "file1.txt", "filex.txt"),
+        ("?end", "aend", "xxend"),
+        ("a*b", "ab axxb", "ac"),
+        ("file\\.txt", "file.txt", ""),
+        ("bang!", "bang!", ""),
+        ("a{b,c}d", "abd acd", "abcd"),
+        ("\\d", "d", "7"),
+        ("[!a].txt", "b.txt", "a.txt"),
+        ("{a,{b,c}d}e", "ae bde cde", "be"),
+        ("{a,{b,{c,d}}}", "a b c d", "ab"),
+        ("{,x}y", "y xy", "x"),
+        ("**", "abc", ""),
+        ("[a-]", "- a", "b"),
+        ("[-a]", "- a", "b"),
+        ("[!^a]", "b", "^ a"),
+        ("?", "é", "éé"),
+        ("caf?", "café", "caf"),
+        ("[é-ü]", "ö", "z"),
+        (
+            "a*a*a*a*a*a*a*a*b",
+            "aaaaaaaab",
+            "aaaaaaaaaaaaaaaaaaaaaaaaaaaaaaaaaaaaaaaaaaaaaaaaaaaaaaaaaaaaaaaaaaaaaaaaaaaaaaaa",
+        ),
+    ] {
+        for text in texts.split(' ') {
+            assert_eq!(rt; matched(alloc, glob, text), Some(true), "{glob} {text}");
+        }
+        for text in others.split_whitespace() {
+            assert_eq!(rt; matched(alloc, glob, text), Some(false), "{glob} {text}");
+        }
+    }
+    assert_eq!(rt; matched(alloc, "**", ""), Some(true));
+}
+
+#[test]
+fn globs_are_refused(rt: HostRuntime) {
+    let alloc = rt.alloc();
+    for glob in ["a{b", "file[", "abc\\", "[]a]", "[z-a]", "[a[b]", "[!]"] {
+        assert!(rt; is_refused(alloc, glob), "{glob}");
+    }
+    for (glob, wanted) in [
+        ("a\\*", false),
+        ("a*", true),
+        ("[a]", true),
+        ("a,b}", false),
+    ] {
+        assert_eq!(rt; wild(alloc, glob), Some(wanted), "{glob}");
+    }
+}
