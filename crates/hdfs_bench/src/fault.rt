@@ -1,4 +1,6 @@
 // Why there is no number.
+use hdfs_ec::EcFault;
+use hdfs_names::NamesFault;
 use hdfs_wire::{ChecksumFault, NoMemory, WireFault};
 use std::alloc::{AllocError, AllocFailed};
 use std::io;
@@ -14,6 +16,8 @@ pub(crate) enum Fault {
     /// What was written isn't read again.
     Wire(WireFault),
     Checksum,
+    /// A glob or a shard was refused.
+    Refused,
 }
 
 impl From<ParseIntError> for Fault {
@@ -55,5 +59,26 @@ impl From<WireFault> for Fault {
 impl From<ChecksumFault> for Fault {
     fn from(_: ChecksumFault) -> Self {
         Fault::Checksum
+    }
+}
+
+impl From<EcFault> for Fault {
+    fn from(fault: EcFault) -> Self {
+        match fault {
+            EcFault::NoMemory => Fault::NoMemory,
+            EcFault::ErasureCodingError(_) | EcFault::UnsupportedErasureCodingPolicy(_) =>
+                Fault::Refused,
+        }
+    }
+}
+
+impl From<NamesFault> for Fault {
+    fn from(fault: NamesFault) -> Self {
+        match fault {
+            NamesFault::NoMemory => Fault::NoMemory,
+            NamesFault::InvalidPath(_)
+            | NamesFault::InvalidArgument(_)
+            | NamesFault::ResolveNeeded => Fault::Refused,
+        }
     }
 }

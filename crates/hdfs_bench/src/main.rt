@@ -1,16 +1,21 @@
-//! Runs the code of `hdfs_wire` as often as the words say, to time it, and prints a number that came of it.
+//! Runs the code of the libraries as often as the words say, to time it, and prints a number that came of it.
 //!
-//! Words: `crc32c SIZE TIMES`, `crc32 SIZE TIMES`, `frames COUNT PIECE` or `packets SIZE TIMES`.
+//! Words: `crc32c SIZE TIMES`, `crc32 SIZE TIMES`, `frames COUNT PIECE`, `packets SIZE TIMES`, `encode SIZE TIMES`,
+//! `decode SIZE TIMES` or `stars STARS LENGTH`.
 #![tactic(auto)]
 
 mod fault;
 mod frames;
+mod globs;
 mod packets;
+mod shards;
 mod sums;
 
 use fault::Fault;
 use frames::{count_frames, stream};
+use globs::match_stars;
 use packets::payload_bytes;
+use shards::{decode, encode};
 use std::alloc::Global;
 use std::env;
 use sums::{Kind, folded_sum};
@@ -28,6 +33,15 @@ fn measure(alloc: Global, name: &str, first: usize, second: usize) -> Result<u64
     }
     if name == "packets" {
         return payload_bytes(alloc, first, second);
+    }
+    if name == "encode" {
+        return encode(alloc, first, second);
+    }
+    if name == "decode" {
+        return decode(alloc, first, second);
+    }
+    if name == "stars" {
+        return match_stars(alloc, first, second);
     }
     Err(Fault::Words)
 }
