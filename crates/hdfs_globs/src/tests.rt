@@ -119,6 +119,32 @@ fn globs_are_matched(rt: HostRuntime) {
     assert_eq!(rt; matched(alloc, "**", ""), Some(true));
 }
 
+/// So many times the letter a.
+fn letters(alloc: Global, count: usize) -> Result<String, AllocError> {
+    let mut text = String::new(alloc);
+    for _ in 0..count {
+        text.push('a')?;
+    }
+    Ok(text)
+}
+
+#[test]
+fn stars_pass_long_texts(rt: HostRuntime) -> Result<(), Fail> {
+    let text = letters(rt.alloc(), 10_000)?;
+    for (glob, wanted) in [
+        ("a*b*c", false),
+        ("a*a*a*a*a*a*a*a*b", false),
+        ("a*a*a*a*a*a*a*a*", true),
+    ] {
+        assert_eq!(rt;
+            matched(rt.alloc(), glob, text.as_str()),
+            Some(wanted),
+            "{glob}"
+        );
+    }
+    Ok(())
+}
+
 #[test]
 fn globs_are_refused(rt: HostRuntime) {
     let alloc = rt.alloc();
