@@ -44,9 +44,9 @@ def fastest(*commands):
 
 def shards(program, name, bytes_of):
     large, small = 512 * KIB, 256 * KIB
-    (whole, half), numbers = fastest([program, name, large, 8], [program, name, small, 8])
-    assert numbers == [bytes_of * large * 8, bytes_of * small * 8]
-    speed = 6 * large * 8 / whole / 1e6
+    (whole, half), numbers = fastest([program, name, large, 40], [program, name, small, 40])
+    assert numbers == [bytes_of * large * 40, bytes_of * small * 40]
+    speed = 6 * large * 40 / whole / 1e6
     print(f"{name} 6+3, shards of 512 KiB against 256 KiB: {whole / half:.2f} times ({speed:.0f} MB of data per second)")
 
 
