@@ -59,6 +59,23 @@ fn resolved(
 }
 
 #[test]
+fn schemas_are_copied(rt: HostRuntime) -> Result<(), Fail> {
+    let schema = EcSchema {
+        codec_name: Text::from_str(rt.alloc(), "rs")?,
+        data_units: 6,
+        parity_units: 3,
+        cell_size: 1024,
+    };
+    let copy = schema.copy(rt.alloc())?;
+    assert_eq!(rt; copy.codec_name.as_str(), "rs");
+    assert_eq!(rt;
+        [copy.data_units, copy.parity_units, copy.cell_size],
+        [6, 3, 1024]
+    );
+    Ok(())
+}
+
+#[test]
 fn policies_resolve(rt: HostRuntime) -> Result<(), Fail> {
     for (id, schema, cell_size, wanted) in [
         (2, None, 0, "rs 3+2 1048576"),

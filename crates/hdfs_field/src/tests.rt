@@ -77,6 +77,8 @@ fn matrices_are_inverted_where_they_can_be(rt: HostRuntime) -> Result<(), Fail> 
     let same = exchange.copy(alloc)?;
     let inverse = exchange.invert(alloc)?;
     assert!(rt; inverse == Some(same));
+    let one = Matrix::new(alloc, &[row(alloc, &[1, 0])?, row(alloc, &[0, 1])?])?;
+    assert!(rt; Matrix::identity(alloc, 2)? == one);
     let twice = Matrix::new(alloc, &[row(alloc, &[1, 3])?, row(alloc, &[2, 6])?])?;
     assert_eq!(rt; twice.cols(), twice.rows());
     assert!(rt; twice.invert(alloc)?.is_none());
