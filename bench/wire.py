@@ -16,38 +16,16 @@ import subprocess
 import sys
 import tempfile
 
+from timing import fastest
+
 RUNS = 15
 MIB = 1 << 20
 FRAME = 1024
 
 
-def run(command):
-    """The processor seconds of a command, and the number that it printed."""
-    read, write = os.pipe()
-    child = subprocess.Popen(command, stdout=write)
-    os.close(write)
-    with os.fdopen(read) as out:
-        number = int(out.read())
-    _, status, usage = os.wait4(child.pid, 0)
-    assert os.waitstatus_to_exitcode(status) == 0
-    return usage.ru_utime + usage.ru_stime, number
-
-
-def fastest(*commands):
-    """The fastest seconds of each command, and the numbers that they printed."""
-    seconds = [[] for _ in commands]
-    for _ in range(RUNS):
-        numbers = []
-        for command, times in zip(commands, seconds):
-            taken, number = run([str(word) for word in command])
-            times.append(taken)
-            numbers.append(number)
-    return [min(times) for times in seconds], numbers
-
-
 def sums(program, other, name, size):
     count = 200_000_000 // size
-    (ours, theirs), numbers = fastest([program, name, size, count], [other, name, size, count])
+    (ours, theirs), numbers = fastest(RUNS, [program, name, size, count], [other, name, size, count])
     assert numbers[0] == numbers[1]
     speed = size * count / ours / 1e9
     print(f"{name}, chunks of {size:,} bytes: {theirs / ours:.2f} of C's speed ({speed:.1f} GB per second)")
@@ -55,7 +33,7 @@ def sums(program, other, name, size):
 
 def frames(program, piece):
     many, few = 64 * MIB // FRAME, 32 * MIB // FRAME
-    (large, small), numbers = fastest([program, "frames", many, piece], [program, "frames", few, piece])
+    (large, small), numbers = fastest(RUNS, [program, "frames", many, piece], [program, "frames", few, piece])
     assert numbers == [many, few]
     print(f"frames in pieces of {piece:,}: per byte, 64 MiB against 32 MiB: {large / 2 / small:.2f} times")
 
@@ -63,7 +41,7 @@ def frames(program, piece):
 def packets(program, size):
     count = 100_000_000 // size
     words = [program, "packets", size, count], [program, "crc32c", 512, size * count // 512]
-    (whole, sum_only), numbers = fastest(*words)
+    (whole, sum_only), numbers = fastest(RUNS, *words)
     assert numbers[0] == size * count
     print(f"packets of {size:,}: {whole / 2 / sum_only:.2f} times the two checksums")
 
