@@ -1,8 +1,8 @@
 -- A fold goes on by one command, or stops at it.
 use Rattle.std.proofs.Common.{◌≡◌, ℕ, ◌+◌, ◌<◌, ◌≤◌, List, [], ◌∷◌, ◌++◌, length, take, drop, get_or, refl, sym, ◌∙◌, ap, subst, arith, take-append-drop}
 use Rattle.std.proofs.lemmas.List.{append-nil, drop_more}
-use Rattle.hdfs_model.specs.declared.session.Command.{Command}
-use Rattle.hdfs_model.specs.declared.session.Reply.{Reply}
+use Rattle.hdfs_model.specs.declared.commands.Command.{Command}
+use Rattle.hdfs_model.specs.declared.commands.Reply.{Reply}
 use Rattle.hdfs_model.specs.Files.{State}
 use Rattle.hdfs_model.specs.Steps.{World, Outcome, Refused, Refusal, Done, step}
 use Rattle.hdfs_model.specs.Folds.{Folded, Ends, Stops, fold, and_then, behind}

@@ -1,23 +1,23 @@
 -- How what the calls of a cluster keep joins from call to call.
 use Rattle.std.proofs.Common.{◌≡◌, ◌≢◌, ◌⊎◌, ℕ, ◌≤◌, List, Option, Some, None, refl, sym, ◌∙◌, ap, subst, arith}
-use Rattle.hdfs_model.specs.Counts.{Counts, NeverFall, SameCounts, Rose}
+use Rattle.hdfs_model.specs.Counts.{FaultCounts, NeverFall, SameCounts, Rose}
 use Rattle.hdfs_model.specs.Picture.{Picture, SameFiles, SameButActive, SamePicture, Told}
 use Rattle.hdfs_model.specs.Reading.{ReadsAt}
-use Rattle.hdfs_model.specs.Shown.{Shown, Later, OnlyReads, Reading, NotOpened, NotGiven}
+use Rattle.hdfs_model.specs.Shown.{Shown, Later, SameLinks, SamePlaces, OnlyReads, Reading, NotOpened, NotGiven}
 
 pub rose_since : (a b c d : ℕ) → a ≤ b → Rose b c → c ≤ d → Rose a d
 rose_since a b c d before rose after = omega (arith, rose)
 
-pub never_fall_refl : (a : Counts) → NeverFall a a
+pub never_fall_refl : (a : FaultCounts) → NeverFall a a
 never_fall_refl a = record { calls = λ i. omega arith; links = omega arith; nodes = λ d. omega arith }
 
-pub never_fall_trans : (a b c : Counts) → NeverFall a b → NeverFall b c → NeverFall a c
+pub never_fall_trans : (a b c : FaultCounts) → NeverFall a b → NeverFall b c → NeverFall a c
 never_fall_trans a b c f g = record { calls = λ i. omega (arith, f.calls i, g.calls i); links = omega (arith, f.links, g.links); nodes = λ d. omega (arith, f.nodes d, g.nodes d) }
 
-pub never_fall_from-SameCounts : (a b : Counts) → SameCounts a b → NeverFall a b
+pub never_fall_from-SameCounts : (a b : FaultCounts) → SameCounts a b → NeverFall a b
 never_fall_from-SameCounts a b same = record { calls = λ i. omega (arith, same.calls i); links = omega (arith, same.links); nodes = λ d. omega (arith, same.nodes d) }
 
-pub same_counts_trans : (a b c : Counts) → SameCounts a b → SameCounts b c → SameCounts a c
+pub same_counts_trans : (a b c : FaultCounts) → SameCounts a b → SameCounts b c → SameCounts a c
 same_counts_trans a b c f g = record { calls = λ i. g.calls i ∙ f.calls i; links = g.links ∙ f.links; nodes = λ d. g.nodes d ∙ f.nodes d }
 
 pub later_refl : (a : Shown) → Later a a
@@ -77,3 +77,12 @@ only_reads_from-Reading link a b f = record { later = f.later; last = f.last; fi
 -- the same picture
 pub only_reads_from-same : (a b : Shown) → Later a b → b.last ≡ a.last → Told SamePicture a.picture b.picture → OnlyReads a b
 only_reads_from-same a b later last same = record { later = later; last = last; files = told_weaker SamePicture SameFiles a.picture b.picture (λ p q h. h.rest.files) same }
+
+pub same_links_refl : (a : Shown) → SameLinks a a
+same_links_refl a = record { links = λ link. refl; places = told_refl SamePlaces a.picture (λ p link. refl) }
+
+pub same_links_trans : (a b c : Shown) → SameLinks a b → SameLinks b c → SameLinks a c
+same_links_trans a b c f g = record {
+  links = λ link. g.links link ∙ f.links link;
+  places = told_trans SamePlaces a.picture b.picture c.picture (λ p q r first then link. then link ∙ first link) f.places g.places;
+}

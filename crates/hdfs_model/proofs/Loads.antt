@@ -4,11 +4,13 @@ use Rattle.std.proofs.lemmas.Slice.Eq.{bytes_eq-Decides}
 use Rattle.std.specs.List.{Contains}
 use Rattle.std.specs.Option.{option_map}
 use Rattle.std.specs.Str.{bytes_eq}
+use Rattle.hdfs_model.specs.declared.attributes.Attributes.{Attributes}
 use Rattle.hdfs_model.specs.declared.store.Line.{Line}
 use Rattle.hdfs_model.specs.declared.store.Line.TheVariants as lines
 use Rattle.hdfs_model.specs.Paths.{root, is_path, parent_of}
 use Rattle.hdfs_model.specs.Files.{Files, Node, Dir, File, Writing, Content, Kind, Directory, ClosedFile, kind_of, kinds_of, IsTree, State, IsState}
-use Rattle.hdfs_model.specs.Loading.{takes, is_directory, in_limits, with_file, with_line, Loads}
+use Rattle.hdfs_model.specs.Limits.{in_limits}
+use Rattle.hdfs_model.specs.Loading.{takes, is_directory, with_file, with_line, Loads}
 use Rattle.hdfs_model.specs.Shown.{Shown}
 use Rattle.hdfs_model.specs.Sessions.{Fits}
 use Rattle.hdfs_model.proofs.Trees.{tree_with}
@@ -52,33 +54,29 @@ pub record Takes (files : Files) (path : List ℕ) : Type 0 where
   pub is_new : files path ≡ None
   pub parent : kinds_of files (parent_of path) ≡ Some Directory
 
-pub takes_file : (files : Files) (path : List ℕ) (permission replication block_size : ℕ) (bytes : List ℕ) → takes files (lines.File path permission replication block_size bytes) ≡ true → Takes files path
-takes_file files path permission replication block_size bytes is =
-    let all = and_parts (is_path path && is_none (files path) && is_directory (files (parent_of path))) (in_limits permission replication block_size (length bytes)) is in
+pub takes_file : (files : Files) (path : List ℕ) (attributes : Attributes) (bytes : List ℕ) → takes files (lines.File path attributes bytes) ≡ true → Takes files path
+takes_file files path attributes bytes is =
+    let all = and_parts (is_path path && is_none (files path) && is_directory (files (parent_of path))) (in_limits attributes (length bytes)) is in
     let front = and_parts (is_path path && is_none (files path)) (is_directory (files (parent_of path))) all.0 in
     let first = and_parts (is_path path) (is_none (files path)) front.0 in
     record { named = first.0; is_new = none_from_test (files path) first.1; parent = directory_from_test (files (parent_of path)) front.1 }
 
 pub state_with_line : (state : State) (line : Line) → IsState state → takes state.files line ≡ true → IsState (with_line state line)
-state_with_line state (lines.File path permission replication block_size bytes) is taken =
-    let t = takes_file state.files path permission replication block_size bytes taken in
-    state_with_file state path (record { bytes = bytes; permission = permission; replication = replication; block_size = block_size }) is t.named t.is_new t.parent
+state_with_line state (lines.File path attributes bytes) is taken =
+    let t = takes_file state.files path attributes bytes taken in
+    state_with_file state path (record { bytes = bytes; attributes = attributes }) is t.named t.is_new t.parent
 state_with_line state (lines.Fault fault) is taken = is
 
-opened_line : (state : State) (line : Line) → (with_line state line).opened ≡ state.opened
-opened_line state (lines.File path permission replication block_size bytes) = refl
+-- a line opens nothing
+pub opened_line : (state : State) (line : Line) → (with_line state line).opened ≡ state.opened
+opened_line state (lines.File path attributes bytes) = refl
 opened_line state (lines.Fault fault) = refl
 
-written_line : (state : State) (line : Line) (q : List ℕ) (content : Content) → (with_line state line).files q ≡ Some (Writing content) → state.files q ≡ Some (Writing content)
-written_line state (lines.File path permission replication block_size bytes) q content is =
-    writing_at state path (record { bytes = bytes; permission = permission; replication = replication; block_size = block_size }) (bytes_eq path q) q content is
+-- a file that is being written behind a line was being written before it
+pub written_line : (state : State) (line : Line) (q : List ℕ) (content : Content) → (with_line state line).files q ≡ Some (Writing content) → state.files q ≡ Some (Writing content)
+written_line state (lines.File path attributes bytes) q content is = writing_at state path (record { bytes = bytes; attributes = attributes }) (bytes_eq path q) q content is
 written_line state (lines.Fault fault) q content is = is
 
 -- a store that fits a state fits it with the line, once that is loaded
-pub fits_line : (strangers writers : List (List ℕ)) (old new : Shown) (state : State) (line : Line) → Fits strangers writers old state → takes state.files line ≡ true → Loads old line new → Fits strangers writers new (with_line state line)
-fits_line strangers writers old new state line fits taken loads = record {
-  is_state = state_with_line state line fits.is_state taken;
-  agrees = loads.files state fits.agrees;
-  opened = opened_line state line ∙ fits.opened;
-  being_written = λ q content is. fits.being_written q content (written_line state line q content is);
-}
+pub fits_line : (old new : Shown) (state : State) (line : Line) → Fits old state → takes state.files line ≡ true → Loads old line new → Fits new (with_line state line)
+fits_line old new state line fits taken loads = record { is_state = state_with_line state line fits.is_state taken; agrees = loads.files state fits.agrees }

@@ -2,7 +2,7 @@
 use Rattle.std.specs.Prelude.{◌≡◌, ℕ, ◌+◌, ◌-◌, ◌^◌, ◌<◌, ◌≤◌, min, List}
 
 -- the counts of a cluster
-pub record Counts : Type 0 where
+pub record FaultCounts : Type 0 where
   -- of each namenode, by its number
   pub calls : ℕ → ℕ
   -- of the write links together
@@ -15,19 +15,19 @@ abbrev pub Rose : ℕ → ℕ → Type 0
 Rose before now = min (before + 1) (2 ^ 64 - 1) ≤ now
 
 -- no count fell
-pub record NeverFall (before now : Counts) : Type 0 where
+pub record NeverFall (before now : FaultCounts) : Type 0 where
   pub calls : (i : ℕ) → before.calls i ≤ now.calls i
   pub links : before.links ≤ now.links
   pub nodes : (d : List ℕ) → before.nodes d ≤ now.nodes d
 
 -- each count is what it was
-pub record SameCounts (before now : Counts) : Type 0 where
+pub record SameCounts (before now : FaultCounts) : Type 0 where
   pub calls : (i : ℕ) → now.calls i ≡ before.calls i
   pub links : now.links ≡ before.links
   pub nodes : (d : List ℕ) → now.nodes d ≡ before.nodes d
 
 -- no count of so many namenodes, of the links or of a datanode rose
-pub record NoneRose (namenodes : ℕ) (before now : Counts) : Type 0 where
+pub record NoneRose (namenodes : ℕ) (before now : FaultCounts) : Type 0 where
   pub calls : (i : ℕ) → i < namenodes → Rose (before.calls i) (now.calls i) → ⊥
   pub links : Rose before.links now.links → ⊥
   pub nodes : (d : List ℕ) → Rose (before.nodes d) (now.nodes d) → ⊥

@@ -2,6 +2,8 @@ pub mod Causes
 pub mod Counts
 pub mod Files
 pub mod Folds
+pub mod Headline
+pub mod Limits
 pub mod Loading
 pub mod Namenode
 pub mod Paths

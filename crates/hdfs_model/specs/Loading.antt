@@ -3,6 +3,7 @@ use Rattle.std.specs.Prelude.{◌≡◌, ℕ, ◌^◌, nat_le, nat_lt, Bool, tru
 use Rattle.std.specs.Str.{bytes_eq}
 use Rattle.hdfs_model.specs.declared.store.Line.{Line}
 use Rattle.hdfs_model.specs.declared.store.Line.TheVariants as lines
+use Rattle.hdfs_model.specs.Limits.{in_limits}
 use Rattle.hdfs_model.specs.Paths.{is_path, parent_of}
 use Rattle.hdfs_model.specs.Files.{Files, Content, Node, Dir, File, Writing, State}
 use Rattle.hdfs_model.specs.Counts.{SameCounts}
@@ -17,15 +18,9 @@ is_directory (Some Dir) = true
 is_directory (Some (File content)) = false
 is_directory (Some (Writing content)) = false
 
--- permission bits up to 7777 in octal, one replica, a block size from 1 to 2^63 - 1, and no more bytes than one block has
-abbrev pub in_limits : ℕ → ℕ → ℕ → ℕ → Bool
-in_limits permission replication block_size count =
-    nat_le permission 4095 && (replication == 1) && nat_le 1 block_size && nat_lt block_size (2 ^ 63) && nat_le count block_size
-
 -- A file is taken at a new path whose parent is a directory; a line with a fault always.
 abbrev pub takes : Files → Line → Bool
-takes files (lines.File path permission replication block_size bytes) =
-    is_path path && is_none (files path) && is_directory (files (parent_of path)) && in_limits permission replication block_size (length bytes)
+takes files (lines.File path attributes bytes) = is_path path && is_none (files path) && is_directory (files (parent_of path)) && in_limits attributes (length bytes)
 takes files (lines.Fault fault) = true
 
 -- the state with one more file
@@ -38,8 +33,7 @@ with_file state path content = record {
 
 -- what a line makes of the state
 abbrev pub with_line : State → Line → State
-with_line state (lines.File path permission replication block_size bytes) =
-    with_file state path (record { bytes = bytes; permission = permission; replication = replication; block_size = block_size })
+with_line state (lines.File path attributes bytes) = with_file state path (record { bytes = bytes; attributes = attributes })
 with_line state (lines.Fault fault) = state
 
 -- what lines make of the state, one after another
@@ -55,7 +49,7 @@ pub record LoadsAt (old new : Picture) : Type 0 where
 
 -- what a line leaves as it was in the picture
 abbrev pub LoadsLine : Line → Picture → Picture → Type 0
-LoadsLine (lines.File path permission replication block_size bytes) old new = LoadsAt old new
+LoadsLine (lines.File path attributes bytes) old new = LoadsAt old new
 LoadsLine (lines.Fault fault) old new = SamePicture old new
 
 -- everything but the picture and the lines stays
@@ -71,6 +65,13 @@ pub record Loads (old : Shown) (line : Line) (new : Shown) : Type 0 where
   pub lines : new.loaded ≡ old.loaded ++ line ∷ []
   pub picture : Told (LoadsLine line) old.picture new.picture
   pub files : (state : State) → Agrees old.picture state.files → Agrees new.picture (with_line state line).files
+
+-- A line was not loaded. What the files of the picture agree with, they still agree with.
+pub record LoadsNothing (old new : Shown) : Type 0 where
+  pub rest : SameRest old new
+  pub lines : new.loaded ≡ old.loaded
+  pub picture : Told LoadsAt old.picture new.picture
+  pub files : (state : State) → Agrees old.picture state.files → Agrees new.picture state.files
 
 -- nothing changed
 pub record SameShown (old new : Shown) : Type 0 where

@@ -7,12 +7,12 @@ use Rattle.hdfs_model.specs.declared.asks.Answer.{Answer}
 use Rattle.hdfs_model.specs.declared.asks.AskFault.{AskFault}
 use Rattle.hdfs_model.specs.declared.asks.LinkFault.{LinkFault}
 use Rattle.hdfs_model.specs.declared.asks.LinkFault.TheVariants as faults
-use Rattle.hdfs_model.specs.declared.picture.AnswerKind.{AnswerKind}
+use Rattle.hdfs_model.specs.declared.picture.LastAnswer.{LastAnswer}
 use Rattle.hdfs_model.specs.declared.picture.OpenRead.{OpenRead}
 use Rattle.hdfs_model.specs.declared.store.Line.{Line}
-use Rattle.hdfs_model.specs.Counts.{Counts, NeverFall, Rose}
+use Rattle.hdfs_model.specs.Counts.{FaultCounts, NeverFall, Rose}
 use Rattle.hdfs_model.specs.Picture.{Picture, SameFiles, SamePicture, Told}
-use Rattle.hdfs_model.specs.Namenode.{kind_of, ServesTold}
+use Rattle.hdfs_model.specs.Namenode.{last_of, ServesTold}
 use Rattle.hdfs_model.specs.Reading.{ReadsAt, Begins, Gives, Closes}
 
 -- the picture where it is told, the counts, and what else is seen from outside
@@ -20,9 +20,9 @@ pub record Shown : Type 0 where
   -- the picture, where the cluster tells it
   pub picture : Option Picture
   -- how often it has failed
-  pub counts : Counts
-  -- the kind of the last ask's answer
-  pub last : AnswerKind
+  pub counts : FaultCounts
+  -- the answer to the last ask
+  pub last : LastAnswer
   -- how many namenodes it has
   pub namenodes : ℕ
   -- its open read links
@@ -36,13 +36,26 @@ pub record Later (old new : Shown) : Type 0 where
   pub namenodes : new.namenodes ≡ old.namenodes
   pub loaded : new.loaded ≡ old.loaded
 
+-- no datanode has failed
+abbrev pub SameNodes : Shown → Shown → Type 0
+SameNodes old new = (d : List ℕ) → new.counts.nodes d ≡ old.counts.nodes d
+
+-- the places of all read links stay
+abbrev pub SamePlaces : Picture → Picture → Type 0
+SamePlaces old new = (link : ℕ) → new.reads link ≡ old.reads link
+
+-- no read link was changed, none was closed, and none is left open
+pub record SameLinks (old new : Shown) : Type 0 where
+  pub links : (link : ℕ) → new.reads link ≡ old.reads link
+  pub places : Told SamePlaces old.picture new.picture
+
 -- An ask of namenode i. It raises no count of a link or a datanode.
 pub record Served (old : Shown) (i : ℕ) (ask : Ask) (result : Result Answer AskFault) (new : Shown) : Type 0 where
   pub later : Later old new
-  pub last : new.last ≡ kind_of result
+  pub last : new.last ≡ last_of result
   pub reads : (link : ℕ) → new.reads link ≡ old.reads link
   pub links : new.counts.links ≡ old.counts.links
-  pub nodes : (d : List ℕ) → new.counts.nodes d ≡ old.counts.nodes d
+  pub nodes : SameNodes old new
   pub picture : Told (λ p q. ServesTold (Rose (old.counts.calls i) (new.counts.calls i)) p i ask result q) old.picture new.picture
 
 -- a call that names one read link, and changes nothing else
@@ -60,7 +73,7 @@ pub record IsUnused (link : ℕ) (shown : Shown) : Type 0 where
 pub record Opened (old : Shown) (ask : ReadAsk) (link : ℕ) (new : Shown) : Type 0 where
   pub reading : Reading link old new
   pub fresh : IsUnused link old
-  pub opened : new.reads link ≡ Some (record { node = ask.node; before = old.counts.nodes ask.node.datanode_uuid })
+  pub opened : new.reads link ≡ Some (record { node = ask.node; block = ask.block; token = ask.token; before = old.counts.nodes ask.node.datanode_uuid })
   pub begins : Told (Begins ask link) old.picture new.picture
 
 -- No read was opened. Beside want of memory this comes only where the datanode's count rose.

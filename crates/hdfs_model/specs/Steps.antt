@@ -2,10 +2,10 @@
 use Rattle.std.specs.Prelude.{◌≡◌, ℕ, ◌+◌, nat_lt, Bool, List, take, drop, length, Option, Some, None, if◌then◌else◌}
 use Rattle.std.specs.List.{list_any}
 use Rattle.std.specs.Str.{bytes_eq}
-use Rattle.hdfs_model.specs.declared.session.Command.{Command}
-use Rattle.hdfs_model.specs.declared.session.Command.TheVariants.{Read}
-use Rattle.hdfs_model.specs.declared.session.Reply.{Reply}
-use Rattle.hdfs_model.specs.declared.session.Reply.TheVariants.{Bytes}
+use Rattle.hdfs_model.specs.declared.commands.Command.{Command}
+use Rattle.hdfs_model.specs.declared.commands.Command.TheVariants.{Read}
+use Rattle.hdfs_model.specs.declared.commands.Reply.{Reply}
+use Rattle.hdfs_model.specs.declared.commands.Reply.TheVariants.{Bytes}
 use Rattle.hdfs_model.specs.Paths.{is_path, resolved}
 use Rattle.hdfs_model.specs.Files.{State, Node, Dir, File, Writing, Content, NoFile, Missing, no_file, kinds_of}
 

@@ -23,24 +23,14 @@ StoresBlocks p [] bytes = bytes ≡ []
 StoresBlocks p (id ∷ ids) bytes =
     (entry : BlockEntry) × (p.table id ≡ Some entry) × (entry.length ≤ length bytes) × StoresBlock p id entry (take entry.length bytes) × StoresBlocks p ids (drop entry.length bytes)
 
--- a file has the attributes that the state says
-pub record SameAttributes (file : FileEntry) (content : Content) : Type 0 where
-  pub permission : file.permission ≡ content.permission
-  pub replication : file.replication ≡ content.replication
-  pub block_size : file.block_size ≡ content.block_size
-
 -- a directory for a directory; for a file a closed file with its attributes that stores its bytes; for a file that is being
 -- written an open file with its attributes
 abbrev pub AgreesAt : Picture → Option Entry → Option Node → Type 0
 AgreesAt p None None = Unit {0}
 AgreesAt p (Some entries.Dir) (Some Dir) = Unit {0}
-AgreesAt p (Some (entries.File file)) (Some (File content)) = (file.is_open ≡ false) × SameAttributes file content × StoresBlocks p file.blocks content.bytes
-AgreesAt p (Some (entries.File file)) (Some (Writing content)) = (file.is_open ≡ true) × SameAttributes file content
-AgreesAt p None (Some node) = ⊥
-AgreesAt p (Some entry) None = ⊥
-AgreesAt p (Some entries.Dir) (Some (File content)) = ⊥
-AgreesAt p (Some entries.Dir) (Some (Writing content)) = ⊥
-AgreesAt p (Some (entries.File file)) (Some Dir) = ⊥
+AgreesAt p (Some (entries.File file)) (Some (File content)) = (file.is_open ≡ false) × (file.attributes ≡ content.attributes) × StoresBlocks p file.blocks content.bytes
+AgreesAt p (Some (entries.File file)) (Some (Writing content)) = (file.is_open ≡ true) × (file.attributes ≡ content.attributes)
+AgreesAt p entry node = ⊥
 
 -- the picture is told, and it has the same paths as the map, and at each the same
 abbrev pub Agrees : Option Picture → Files → Type 0

@@ -1,4 +1,4 @@
-// What is asked of a namenode, and what namenodes and datanodes answer.
+//! What is asked of a namenode, and what namenodes and datanodes answer.
 ghost use Rattle.std.specs.Prelude.{◌≡◌};
 ghost use Rattle.hdfs_model.specs.declared.asks.AskFault.TheVariants as ask_faults;
 ghost use Rattle.hdfs_model.specs.declared.asks.LinkFault.TheVariants as link_faults;

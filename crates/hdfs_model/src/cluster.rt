@@ -1,4 +1,4 @@
-// The outside: namenodes that are asked, and datanodes that are read.
+//! The outside: namenodes that are asked, and datanodes that are read.
 ghost use Rattle.std.specs.Prelude.{◌≡◌, ◌<◌, ℕ, Bool, true, false, Some, None, Result, IfOk, IfErr, IsSome, IsNone, IsTrue};
 ghost use Rattle.hdfs_model.specs.Namenode.{IsShaped};
 ghost use Rattle.hdfs_model.specs.Picture.{Picture};

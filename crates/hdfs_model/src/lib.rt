@@ -2,19 +2,23 @@
 #![tactic(auto)]
 
 mod asks;
+mod attributes;
 mod cluster;
+mod commands;
+mod errors;
 mod messages;
 mod paths;
 mod picture;
-mod session;
 mod store;
 
 pub use asks::{Answer, Ask, AskFault, LinkFault};
+pub use attributes::Attributes;
 pub use cluster::Cluster;
+pub use commands::{Command, Reply, Settings};
+pub use errors::{ArgFault, Fault, HdfsError, TransferFault};
 pub use messages::{
     Block, DatanodeId, DatanodeInfo, LocatedBlock, LocatedBlocks, ReadAsk, ServerDefaults, Token,
 };
 pub use paths::{above, is_path, parent};
-pub use picture::{AnswerKind, BlockEntry, Entry, FileEntry, OpenRead, ReadPlace};
-pub use session::{ArgFault, Command, Fault, HdfsError, Reply, Settings, TransferFault};
+pub use picture::{BlockEntry, Entry, FileEntry, LastAnswer, OpenRead, ReadPlace};
 pub use store::{AddFault, FaultLine, Line, ReadKind, Store};

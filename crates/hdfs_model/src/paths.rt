@@ -1,4 +1,4 @@
-// The path rule.
+//! The path rule.
 ghost use Rattle.std.specs.Prelude.{◌≡◌, ◌++◌, ◌∷◌, [], MatchOption};
 ghost use Rattle.std.specs.List.{list_all, slice_split};
 ghost use Rattle.hdfs_model.specs.Paths as spec;

@@ -1,14 +1,13 @@
-// What a cluster shows of one path, one block and one read link.
-use crate::messages::DatanodeId;
+//! What a cluster shows of one path, one block and one read link.
+use crate::attributes::Attributes;
+use crate::messages::{Block, DatanodeId, Token};
 use bytes::Bytes;
 use hdfs_wire::{List, Text};
 
 /// A file: its attributes and the ids of its blocks in order. It is open while a client holds its lease.
 #[derive(Debug, Drop)]
 pub struct FileEntry {
-    pub permission: u32,
-    pub replication: u32,
-    pub block_size: u64,
+    pub attributes: Attributes,
     pub blocks: List<u64>,
     pub is_open: bool,
 }
@@ -28,10 +27,13 @@ pub struct BlockEntry {
     pub nodes: List<Text>,
 }
 
-/// What every cluster tells of an open read link: its datanode, and that node's count just before the opening.
+/// What every cluster tells of an open read link: the datanode, the block and the token that it was opened with, and the
+/// datanode's count just before the opening.
 #[derive(Debug, Drop)]
 pub struct OpenRead {
     pub node: DatanodeId,
+    pub block: Block,
+    pub token: Token,
     pub before: u64,
 }
 
@@ -46,13 +48,13 @@ pub struct ReadPlace {
     pub place: u64,
 }
 
-/// The kind of an ask's answer. `Fine` is an answer that is no fault; the kinds of exceptions go by their class.
-#[derive(Clone, Copy, Debug, PartialEq, Eq)]
-pub enum AnswerKind {
+/// How the last ask of a namenode ended.
+#[derive(Debug, Drop)]
+pub enum LastAnswer {
+    /// With an answer. It is so too before the first ask.
     Fine,
+    /// For want of memory.
     NoMemory,
-    Retriable,
-    Exists,
-    NotFound,
-    Other,
+    /// With an exception, by its Java class.
+    Exception { class: Text, message: Text },
 }

@@ -1,12 +1,12 @@
-// A cluster that files and faults can be loaded into.
-ghost use Rattle.std.specs.Prelude.{◌≡◌, ◌↔◌, Bool, IsTrue, [], Some, OnOk, IsErrOf, MatchResult, true, false};
-ghost use Rattle.hdfs_model.specs.Loading.{Loads, SameShown, takes};
+//! A cluster that files and faults can be loaded into.
+ghost use Rattle.std.specs.Prelude.{◌≡◌, ◌↔◌, Bool, IsTrue, [], Some, OnOk, OnErr, IsErrOf, MatchResult, true, false};
+ghost use Rattle.hdfs_model.specs.Loading.{Loads, LoadsNothing, SameShown, takes};
 ghost use Rattle.hdfs_model.specs.Files.{State, only_root};
-ghost use Rattle.hdfs_model.specs.Counts.{SameCounts};
 ghost use Rattle.hdfs_model.specs.Picture.{Picture};
 ghost use Rattle.hdfs_model.specs.Shown.{Shown};
 ghost use Rattle.hdfs_model.specs.Stores.{Agrees};
 
+use crate::attributes::Attributes;
 use crate::cluster::Cluster;
 use hdfs_wire::{Blob, Text};
 
@@ -30,9 +30,7 @@ pub enum Line {
     /// A closed file.
     File {
         path: Text,
-        permission: u32,
-        replication: u32,
-        block_size: u64,
+        attributes: Attributes,
         bytes: Blob,
     },
     Fault(FaultLine),
@@ -54,12 +52,12 @@ pub trait Store: Cluster {
     fn fresh(&self) -> bool
         ensures { result ≡ is_fresh self.now };
 
-    /// Loads a line.
+    /// Loads a line. Where it isn't taken, the files are what they were.
     fn load(&mut self, line: Line) -> Result<(), AddFault>
         ensures ok { OnOk result (Loads (Self.shown self.old) line (Self.shown self.new)) }
         ensures refused { IsErrOf result AddFault.Refused → SameShown (Self.shown self.old) (Self.shown self.new) }
         ensures exact { (state : State) → Agrees (Self.shown self.old).picture state.files → MatchResult result (λ done. takes state.files line ≡ true) (λ fault. fault ≡ AddFault.Refused → takes state.files line ≡ false) }
-        ensures counts { SameCounts (Self.shown self.old).counts (Self.shown self.new).counts };
+        ensures err { OnErr result (LoadsNothing (Self.shown self.old) (Self.shown self.new)) };
 
     /// A fresh store that tells its picture has the root alone and no line, and no other store has.
     ghost fresh_is: { (s : Self) (p : Picture) → (Self.shown s).picture ≡ Some p → IsTrue (is_fresh s) ↔ (((Self.shown s).loaded ≡ []) × Agrees (Some p) only_root) };

@@ -1,8 +1,9 @@
-// Commands, replies and errors of a session.
+//! Errors of the client, and where a session stops by one.
 ghost use Rattle.std.specs.Prelude.{◌≡◌};
-ghost use Rattle.hdfs_model.specs.declared.session.HdfsError.TheVariants as errors;
+ghost use Rattle.hdfs_model.specs.declared.errors.HdfsError.TheVariants as errors;
 
-use hdfs_wire::{Blob, List, NoMemory, Text};
+use crate::commands::Reply;
+use hdfs_wire::{List, NoMemory, Text};
 use std::alloc::{AllocError, AllocFailed};
 
 /// Why bytes could not be moved from or to datanodes.
@@ -31,25 +32,6 @@ pub enum HdfsError {
     FileNotFound(Text),
     /// A namenode's exception: its class and its message.
     RPCError(Text, Text),
-}
-
-/// What a session is run with. `home` is the directory under which relative paths stand.
-#[derive(Debug, Drop)]
-pub struct Settings {
-    pub home: Text,
-}
-
-/// One command of a session.
-#[derive(Debug, Drop)]
-pub enum Command {
-    /// Reads `len` bytes from `offset` of the file at `path`.
-    Read { path: Text, offset: u64, len: u64 },
-}
-
-/// The reply to the command of the same kind.
-#[derive(Debug, Drop)]
-pub enum Reply {
-    Bytes { bytes: Blob },
 }
 
 /// Where a session stopped: at which command, counted from 1, or at 0 before the first; with which error; and with which

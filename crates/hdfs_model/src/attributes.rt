@@ -1,0 +1,32 @@
+//! The attributes of a file.
+ghost use Rattle.std.specs.Prelude.{◌≡◌};
+
+/// What a file is made with: its permission bits, its replication, and the size of its blocks in bytes.
+#[derive(Clone, Copy, Debug, PartialEq, Eq)]
+pub struct Attributes {
+    pub permission: u32,
+    pub replication: u32,
+    pub block_size: u64,
+}
+
+/// The greatest permission, 7777 in octal.
+const MAX_PERMISSION: u32 = 0o7777;
+
+/// The greatest block size in bytes, 2^63 - 1.
+const MAX_BLOCK_SIZE: u64 = i64::MAX as u64;
+
+impl Attributes {
+    ghost use Rattle.hdfs_model.specs.Limits.{in_limits};
+
+    /// Whether a stored file may have these attributes and so many bytes: permission bits up to 7777 in octal, one
+    /// replica, a block size from 1 to 2^63 - 1, and no more bytes than one block has.
+    pub fn in_limits(&self, count: u64) -> bool
+        ensures { result ≡ in_limits self.now count }
+    {
+        self.permission <= MAX_PERMISSION
+            && self.replication == 1
+            && 1 <= self.block_size
+            && self.block_size <= MAX_BLOCK_SIZE
+            && count <= self.block_size
+    }
+}
