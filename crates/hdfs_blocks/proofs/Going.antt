@@ -2,11 +2,12 @@
 use Rattle.std.proofs.Common.{◌≡◌, ◌≢◌, ◌⊎◌, inl, inr, ⊎_elim, ℕ, zero, suc, ℤ, pos, ◌+◌, ◌-◌, ◌<◌, ◌≤◌, List, length, take, Option, Some, None, IsSome, refl, sym, ◌∙◌, ap, subst, arith}
 use Rattle.std.proofs.lemmas.Bool.{cases_eq}
 use Rattle.hdfs_model.specs.declared.messages.ReadAsk.{ReadAsk}
+use Rattle.hdfs_model.specs.declared.messages.Block.{Block}
 use Rattle.hdfs_model.specs.declared.messages.LocatedBlock.{LocatedBlock}
 use Rattle.hdfs_model.specs.declared.asks.LinkFault.{LinkFault}
 use Rattle.hdfs_model.specs.declared.asks.LinkFault.TheVariants as faults
 use Rattle.hdfs_model.specs.declared.picture.OpenRead.{OpenRead}
-use Rattle.hdfs_model.specs.Counts.{Counts, Rose}
+use Rattle.hdfs_model.specs.Counts.{FaultCounts, Rose}
 use Rattle.hdfs_model.specs.Picture.{Picture, SameFiles, SamePicture, Told}
 use Rattle.hdfs_model.specs.Reading.{ReadsAt, Begins, Gives, moved_on}
 use Rattle.hdfs_model.specs.Shown.{Shown, Later, OnlyReads, Opened, NotOpened, Given}
@@ -15,7 +16,7 @@ use Rattle.hdfs_model.specs.Stores.{HoldsPrefix}
 use Rattle.hdfs_model.proofs.Frames.{told_after, told_before, told_weaker, only_reads_from-Reading, only_reads_from-same, never_fall_refl}
 use Rattle.hdfs_wire.specs.declared.packet.ReadPacket.{ReadPacket}
 use Rattle.hdfs_blocks.specs.Blocks.{node_at, node_count, held_at, IsToBlame}
-use Rattle.hdfs_blocks.specs.Reader.{Holds, LinkHolds, SamePlaces, PlaceIs, PlacedIn, ShowsBlock, stage_of, before_opening, before_link}
+use Rattle.hdfs_blocks.specs.Reader.{Holds, LinkHolds, IsOpenedOn, OthersStay, PlaceIs, PlacedIn, ShowsBlock, stage_of, before_opening, before_link}
 use Rattle.hdfs_blocks.specs.Going.{Frame, Goes, Accepts, IsPartOf, GivesOrGivesUp}
 use Rattle.hdfs_blocks.specs.declared.block_read.BlockRead.{BlockRead}
 use Rattle.hdfs_blocks.specs.declared.packets.Step.{Step}
@@ -73,7 +74,7 @@ module _ (s t : Shown) (r : BlockRead) (holds : Holds s r) (later : Later s t) (
     end = refl;
     only = still_only;
     others = λ l other is. reads l;
-    places = told_weaker SamePicture (SamePlaces s r) s.picture t.picture (λ p q same l other is. same.rest.reads l) picture;
+    places = told_weaker SamePicture (OthersStay s r) s.picture t.picture (λ p q same l other is. same.rest.reads l) picture;
     own = λ l is. inl is;
     frees = λ l not_its free. ⊎_elim (λ its. absurd (not_its its)) (λ none. reads l ∙ none) free;
     holds = record { range = holds.range; tried = holds.tried; link = λ l is. still_link l (holds.link l is); position = holds.position };
@@ -160,7 +161,7 @@ not_opened_goes s s' t r r' ask fault holds idle n is node frame made =
     inl (omega (arith, before, rose, later)))
 
 -- a read was opened on the location that is tried
-module _ (s t : Shown) (r : BlockRead) (ask : ReadAsk) (l : ℕ) (holds : Holds s r) (idle : r.link ≡ None) (left : r.tried < node_count r.block) (opened : Opened s ask l t) (node : ask.node.datanode_uuid ≡ node_at r.block r.tried) where
+module _ (s t : Shown) (r : BlockRead) (ask : ReadAsk) (l : ℕ) (holds : Holds s r) (idle : r.link ≡ None) (left : r.tried < node_count r.block) (opened : Opened s ask l t) (node : ask.node.datanode_uuid ≡ node_at r.block r.tried) (block : ask.block ≡ r.block.b) (token : ask.token ≡ r.block.block_token) where
   -- only a read was opened
   opened_only : OnlyReads s t
   opened_only = only_reads_from-Reading l s t opened.reading
@@ -173,9 +174,9 @@ module _ (s t : Shown) (r : BlockRead) (ask : ReadAsk) (l : ℕ) (holds : Holds 
   opened_link : (m : ℕ) → l ≡ m → LinkHolds t (record r { link = Some l; position = None }) m
   opened_link m same = (
     left,
-    record { node = ask.node; before = s.counts.nodes ask.node.datanode_uuid },
+    record { node = ask.node; block = ask.block; token = ask.token; before = s.counts.nodes ask.node.datanode_uuid },
     ap t.reads (sym same) ∙ opened.opened,
-    node,
+    record { node = node; same_block = block; token = token },
     subst (λ (d : List ℕ). s.counts.nodes d ≤ t.counts.nodes (node_at r.block r.tried)) (sym node) (opened_only.later.counts.nodes (node_at r.block r.tried)),
   )
 
@@ -186,13 +187,13 @@ module _ (s t : Shown) (r : BlockRead) (ask : ReadAsk) (l : ℕ) (holds : Holds 
     end = refl;
     only = opened_only;
     others = λ m no is. opened.reading.others m (apart m is);
-    places = told_weaker (ReadsAt l) (SamePlaces s r) s.picture t.picture (λ p q at m no is. at.others m (apart m is)) opened.reading.picture;
+    places = told_weaker (ReadsAt l) (OthersStay s r) s.picture t.picture (λ p q at m no is. at.others m (apart m is)) opened.reading.picture;
     own = λ m is. inr (let same : l ≡ m = cc in ap s.reads (sym same) ∙ opened.fresh.read);
     frees = λ m not_its free. ⊎_elim (λ its. absurd (cc (idle, its))) (λ none. opened.reading.others m (λ same. not_its (ap Some (sym same))) ∙ none) free;
     holds = record { range = holds.range; tried = holds.tried; link = λ m is. opened_link m (let e : l ≡ m = cc in e); position = λ at is. absurd (cc) };
   }
 
-  module _ (more : r.wanted < r.end) (id : ask.block.block_id ≡ r.block.b.block_id) (offset : ask.offset ≡ r.wanted) (len : ask.len ≡ r.end - r.wanted) where
+  module _ (more : r.wanted < r.end) (offset : ask.offset ≡ r.wanted) (len : ask.len ≡ r.end - r.wanted) where
     -- the place of the new link
     opened_placed : (q : Picture) → t.picture ≡ Some q → PlacedIn q (record r { link = Some l; position = None })
     opened_placed q told m is =
@@ -201,7 +202,7 @@ module _ (s t : Shown) (r : BlockRead) (ask : ReadAsk) (l : ℕ) (holds : Holds 
         let same : l ≡ m = cc in (
           record { block = ask.block.block_id; offset = ask.offset; len = ask.len; base = before.0.held ask.node.datanode_uuid ask.block.block_id; place = begins.place },
           ap q.reads (sym same) ∙ begins.at,
-          ap (λ (n : List ℕ). before.0.held n ask.block.block_id) node ∙ ap (before.0.held (node_at r.block r.tried)) id ∙ sym (begins.rest.files.held (node_at r.block r.tried) r.block.b.block_id),
+          ap (λ (n : List ℕ). before.0.held n ask.block.block_id) node ∙ ap (before.0.held (node_at r.block r.tried)) (ap (λ (b : Block). b.block_id) block) ∙ sym (begins.rest.files.held (node_at r.block r.tried) r.block.b.block_id),
           omega (arith, offset, len, more),
           omega (arith, offset, begins.behind),
         )
@@ -253,7 +254,7 @@ module _ (s t : Shown) (r : BlockRead) (l : ℕ) (packet : ReadPacket) (holds : 
   same_reads m = ⊎_elim (λ e. ap t.reads e ∙ given.still_open ∙ sym (ap s.reads e)) (λ ne. given.reading.others m ne) (cases_eq m l)
 
   -- other links keep their places
-  same_places : (p q : Picture) → ReadsAt l p q → SamePlaces s r p q
+  same_places : (p q : Picture) → ReadsAt l p q → OthersStay s r p q
   same_places p q at m other some = at.others m (λ same. other (is_link' ∙ ap Some (sym same)))
 
   -- the kept link still holds
@@ -267,7 +268,7 @@ module _ (s t : Shown) (r : BlockRead) (l : ℕ) (packet : ReadPacket) (holds : 
     end = refl;
     only = given_only;
     others = λ m other is. same_reads m;
-    places = told_weaker (ReadsAt l) (SamePlaces s r) s.picture t.picture same_places given.reading.picture;
+    places = told_weaker (ReadsAt l) (OthersStay s r) s.picture t.picture same_places given.reading.picture;
     own = λ m is. inl is;
     frees = λ m not_its free. ⊎_elim (λ its. absurd (not_its its)) (λ none. same_reads m ∙ none) free;
     holds = record { range = holds.range; tried = holds.tried; link = λ m is. given_link m (holds.link m is); position = holds.position };
@@ -285,7 +286,7 @@ module _ (s t : Shown) (r : BlockRead) (l : ℕ) (packet : ReadPacket) (holds : 
 
   -- A packet that can't stand there is empty, since the node doesn't hold the block whole.
   pub misplaced_blame : r.wanted < r.end → ((start : ℕ) → packet.header.offset_in_block ≡ pos start → start ≤ r.wanted → ((at : ℕ) → r.position ≡ Some at → start ≡ at) → 0 < length packet.payload → ⊥)
-      → (bytes : List ℕ) (shows : ShowsBlock s r bytes) (before : ℕ) (now : Counts) → IsToBlame shows.picture r.block bytes r.tried before now
+      → (bytes : List ℕ) (shows : ShowsBlock s r bytes) (before : ℕ) (now : FaultCounts) → IsToBlame shows.picture r.block bytes r.tried before now
   misplaced_blame more never bytes shows before now =
       let after = told_after (Gives l ⊥ packet) s.picture t.picture shows.picture given.gives shows.told in
       let here = shows.placed l is_link' in
@@ -326,8 +327,8 @@ module _ (s t : Shown) (r : BlockRead) (l : ℕ) (packet : ReadPacket) (holds : 
     accepted_link : (m : ℕ) → r'.link ≡ Some m → LinkHolds t r' m
     accepted_link m is =
         let h = given_link m (holds.link m (sym same.link ∙ is)) in
-        subst (λ (b : LocatedBlock). (r'.tried < node_count b) × (opened : OpenRead) × (t.reads m ≡ Some opened) × (opened.node.datanode_uuid ≡ node_at b r'.tried) × (opened.before ≤ t.counts.nodes (node_at b r'.tried))) (sym same.block)
-        (subst (λ (k : ℕ). (k < node_count r.block) × (opened : OpenRead) × (t.reads m ≡ Some opened) × (opened.node.datanode_uuid ≡ node_at r.block k) × (opened.before ≤ t.counts.nodes (node_at r.block k))) (sym same.tried) h)
+        subst (λ (b : LocatedBlock). (r'.tried < node_count b) × (opened : OpenRead) × (t.reads m ≡ Some opened) × IsOpenedOn b r'.tried opened × (opened.before ≤ t.counts.nodes (node_at b r'.tried))) (sym same.block)
+        (subst (λ (k : ℕ). (k < node_count r.block) × (opened : OpenRead) × (t.reads m ≡ Some opened) × IsOpenedOn r.block k opened × (opened.before ≤ t.counts.nodes (node_at r.block k))) (sym same.tried) h)
 
     -- so the reader goes on
     pub accepted_goes : r'.wanted ≤ r'.end → (r'.wanted < r'.end → end ≤ r'.wanted) → Goes s t r r'
@@ -337,7 +338,7 @@ module _ (s t : Shown) (r : BlockRead) (l : ℕ) (packet : ReadPacket) (holds : 
         end = same.end;
         only = given_only;
         others = λ m other is. same_reads m;
-        places = told_weaker (ReadsAt l) (SamePlaces s r) s.picture t.picture same_places given.reading.picture;
+        places = told_weaker (ReadsAt l) (OthersStay s r) s.picture t.picture same_places given.reading.picture;
         own = λ m is. inl (sym same.link ∙ is);
         frees = λ m not_its free. ⊎_elim (λ its. absurd (not_its (same.link ∙ its))) (λ none. same_reads m ∙ none) free;
         holds = record {

@@ -3,12 +3,12 @@ use Rattle.std.proofs.Common.{◌≡◌, ◌≢◌, ◌⊎◌, inl, inr, ⊎_eli
 use Rattle.std.proofs.lemmas.Bool.{cases_eq}
 use Rattle.hdfs_model.specs.declared.picture.OpenRead.{OpenRead}
 use Rattle.hdfs_model.specs.declared.messages.LocatedBlock.{LocatedBlock}
-use Rattle.hdfs_model.specs.Counts.{Counts}
+use Rattle.hdfs_model.specs.Counts.{FaultCounts}
 use Rattle.hdfs_model.specs.Picture.{Picture, SameFiles, Told}
 use Rattle.hdfs_model.specs.Shown.{Shown, OnlyReads}
 use Rattle.hdfs_model.proofs.Frames.{told_after, only_reads_trans, never_fall_trans}
 use Rattle.hdfs_blocks.specs.Blocks.{node_at}
-use Rattle.hdfs_blocks.specs.Reader.{Stands, SamePlaces, Keeps, Reads, Over, Blamed, stage_of, GaveUp, GivesUp}
+use Rattle.hdfs_blocks.specs.Reader.{Stands, OthersStay, Keeps, Reads, Over, Blamed, stage_of, GaveUp, GivesUp}
 use Rattle.hdfs_blocks.specs.Going.{Frame, Goes}
 use Rattle.hdfs_blocks.specs.declared.block_read.BlockRead.{BlockRead}
 use Rattle.hdfs_blocks.proofs.Listing.{gave_up_before, gave_up_trans, gave_up_opened, gave_up_blamed, blame_after}
@@ -65,9 +65,9 @@ module _ (s t u : Shown) (q r w : BlockRead) where
   others_trans f g l other some = g.others l (not_taken f l other some) (still_open f l other some) ∙ f.others l other some
 
   -- its place too
-  places_trans : Frame s t q r → Frame t u r w → Told (SamePlaces s q) s.picture u.picture
+  places_trans : Frame s t q r → Frame t u r w → Told (OthersStay s q) s.picture u.picture
   places_trans f g =
-      told_join (SamePlaces s q) (SamePlaces t r) (SamePlaces s q) s.picture t.picture u.picture
+      told_join (OthersStay s q) (OthersStay t r) (OthersStay s q) s.picture t.picture u.picture
       (λ a b c before after l other some. after l (not_taken f l other some) (still_open f l other some) ∙ before l other some) f.places g.places
 
   -- a link that the reader used isn't left open
@@ -108,7 +108,7 @@ module _ (s t u : Shown) (q r w : BlockRead) where
 
 module _ (s t : Shown) (r r' : BlockRead) (goes : Goes s t r r') where
   -- each location that was given up is still to blame since the start
-  pub over_goes : (start : Counts) (bytes : List ℕ) → Over start s r bytes → Over start t r' bytes
+  pub over_goes : (start : FaultCounts) (bytes : List ℕ) → Over start s r bytes → Over start t r' bytes
   over_goes start bytes o =
       let after = goes.shows bytes o.shows in
       let same = same_files_shown s t o.shows.picture after.picture goes.frame.only o.shows.told after.told in
@@ -124,7 +124,7 @@ module _ (s t : Shown) (r r' : BlockRead) (goes : Goes s t r r') where
 
   -- what the public clauses say of it
   pub reads_from-Goes : Reads s t r r'
-  reads_from-Goes = record { shows = goes.shows; over = over_goes }
+  reads_from-Goes = record { shows = goes.shows; over = over_goes; gives_up = goes.gives_up }
 
   pub keeps_from-Goes : Stands t r' → Keeps s t r r'
   keeps_from-Goes stands = record {

@@ -1,24 +1,24 @@
 -- The list of locations that were given up.
 use Rattle.std.proofs.Common.{◌≡◌, inl, inr, ⊎_elim, ℕ, zero, suc, ◌+◌, ◌<◌, ◌≤◌, List, length, sym, ◌∙◌, ap, subst, arith, below_more}
 use Rattle.hdfs_model.specs.declared.messages.LocatedBlock.{LocatedBlock}
-use Rattle.hdfs_model.specs.Counts.{Counts, NeverFall}
+use Rattle.hdfs_model.specs.Counts.{FaultCounts, NeverFall}
 use Rattle.hdfs_model.specs.Picture.{Picture, SameFiles}
 use Rattle.hdfs_model.proofs.Frames.{rose_since, never_fall_refl, never_fall_trans}
 use Rattle.hdfs_blocks.specs.Blocks.{node_at, IsToBlame}
 use Rattle.hdfs_blocks.specs.Reader.{Stage, GaveUp}
 
 -- who is to blame is so from an earlier count on, and later
-pub blame_later : (picture : Picture) (block : LocatedBlock) (bytes : List ℕ) (k before before' : ℕ) (now now' : Counts) → before ≤ before' → NeverFall now now' → IsToBlame picture block bytes k before' now → IsToBlame picture block bytes k before now'
+pub blame_later : (picture : Picture) (block : LocatedBlock) (bytes : List ℕ) (k before before' : ℕ) (now now' : FaultCounts) → before ≤ before' → NeverFall now now' → IsToBlame picture block bytes k before' now → IsToBlame picture block bytes k before now'
 blame_later picture block bytes k before before' now now' earlier later was =
     ⊎_elim (λ rose. inl (rose_since before before' (now.nodes (node_at block k)) (now'.nodes (node_at block k)) earlier rose (later.nodes (node_at block k)))) (λ short. inr short) was
 
 -- and in a picture with the same held bytes
-pub blame_before : (p q : Picture) (block : LocatedBlock) (bytes : List ℕ) (k before : ℕ) (now : Counts) → SameFiles p q → IsToBlame q block bytes k before now → IsToBlame p block bytes k before now
+pub blame_before : (p q : Picture) (block : LocatedBlock) (bytes : List ℕ) (k before : ℕ) (now : FaultCounts) → SameFiles p q → IsToBlame q block bytes k before now → IsToBlame p block bytes k before now
 blame_before p q block bytes k before now same was =
     ⊎_elim (λ rose. inl rose) (λ short. inr (omega (arith, short, ap length (same.held (node_at block k) block.b.block_id)))) was
 
 -- and the other way round
-pub blame_after : (p q : Picture) (block : LocatedBlock) (bytes : List ℕ) (k before : ℕ) (now : Counts) → SameFiles p q → IsToBlame p block bytes k before now → IsToBlame q block bytes k before now
+pub blame_after : (p q : Picture) (block : LocatedBlock) (bytes : List ℕ) (k before : ℕ) (now : FaultCounts) → SameFiles p q → IsToBlame p block bytes k before now → IsToBlame q block bytes k before now
 blame_after p q block bytes k before now same was =
     ⊎_elim (λ rose. inl rose) (λ short. inr (omega (arith, short, ap length (same.held (node_at block k) block.b.block_id)))) was
 
@@ -46,7 +46,7 @@ module _ (picture : Picture) (block : LocatedBlock) (bytes : List ℕ) where
       let rest = gave_up_trans n m (record { tried = a.tried + 1; before = f.0.nodes (node_at block (a.tried + 1)); counts = f.0 }) b c f.3 g in
       (suc rest.0, (f.0, f.1, f.2, rest.1))
 
-  module _ (start : Counts) where
+  module _ (start : FaultCounts) where
     -- the link is still one that was opened since the start
     pub gave_up_opened : (n : ℕ) (a b : Stage) → NeverFall start a.counts → start.nodes (node_at block a.tried) ≤ a.before → GaveUp picture block bytes n a b → start.nodes (node_at block b.tried) ≤ b.before
     gave_up_opened zero a b since opened f =

@@ -1,7 +1,7 @@
 -- The datanodes that are listed for a block, its locations.
 use Rattle.std.specs.Prelude.{◌⊎◌, ℕ, ◌<◌, List, [], length, slice_index_or}
 use Rattle.hdfs_model.specs.declared.messages.LocatedBlock.{LocatedBlock}
-use Rattle.hdfs_model.specs.Counts.{Counts, Rose}
+use Rattle.hdfs_model.specs.Counts.{FaultCounts, Rose}
 use Rattle.hdfs_model.specs.Picture.{Picture}
 use Rattle.hdfs_model.specs.Namenode.{uuids}
 
@@ -19,5 +19,5 @@ held_at picture block k = picture.held (node_at block k) block.b.block_id
 
 -- The k-th location is to blame for not giving the block's bytes: its datanode has failed since its count was `before`, or
 -- doesn't hold the block whole.
-abbrev pub IsToBlame : Picture → LocatedBlock → List ℕ → ℕ → ℕ → Counts → Type 0
+abbrev pub IsToBlame : Picture → LocatedBlock → List ℕ → ℕ → ℕ → FaultCounts → Type 0
 IsToBlame picture block bytes k before now = Rose before (now.nodes (node_at block k)) ⊎ (length (held_at picture block k) < length bytes)

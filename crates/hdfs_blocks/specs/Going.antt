@@ -1,9 +1,10 @@
 -- How a reader goes on from call to call of a cluster. No public clause cites this module.
-use Rattle.std.specs.Prelude.{◌≡◌, ◌≢◌, ◌⊎◌, ℕ, ◌+◌, ◌-◌, ◌<◌, ◌≤◌, List, length, Option, Some, None, IsSome, option_map, unwrap_or}
+use Rattle.std.specs.Prelude.{◌≡◌, ◌≢◌, ◌⊎◌, ℕ, ◌+◌, ◌-◌, ◌<◌, ◌≤◌, List, length, Option, Some, None, IsSome, Result, IfOk, option_map, unwrap_or}
+use Rattle.hdfs_wire.specs.declared.values.NoMemory.{NoMemory}
 use Rattle.hdfs_model.specs.Picture.{Told}
 use Rattle.hdfs_model.specs.Shown.{Shown, OnlyReads}
 use Rattle.hdfs_model.specs.Steps.{range_of}
-use Rattle.hdfs_blocks.specs.Reader.{Holds, SamePlaces, ShowsBlock, GivesUp}
+use Rattle.hdfs_blocks.specs.Reader.{Holds, OthersStay, ShowsBlock, GivesUp, IsPieceOf}
 use Rattle.hdfs_blocks.specs.declared.block_read.BlockRead.{BlockRead}
 use Rattle.hdfs_blocks.specs.declared.packets.Step.{Step}
 use Rattle.hdfs_blocks.specs.declared.packets.Step.TheVariants as steps
@@ -14,7 +15,7 @@ pub record Frame (old new : Shown) (reader reader' : BlockRead) : Type 0 where
   pub end : reader'.end ≡ reader.end
   pub only : OnlyReads old new
   pub others : (link : ℕ) → reader.link ≢ Some link → IsSome (old.reads link) → new.reads link ≡ old.reads link
-  pub places : Told (SamePlaces old reader) old.picture new.picture
+  pub places : Told (OthersStay old reader) old.picture new.picture
   pub own : (link : ℕ) → reader'.link ≡ Some link → (reader.link ≡ Some link) ⊎ (old.reads link ≡ None)
   pub frees : (link : ℕ) → reader'.link ≢ Some link → (reader.link ≡ Some link) ⊎ (old.reads link ≡ None) → new.reads link ≡ None
   pub holds : Holds new reader'
@@ -58,3 +59,10 @@ IsPartOf block from steps.Failed = Unit {0}
 abbrev pub GivesOrGivesUp : BlockRead → Option (List ℕ) → BlockRead → Type 0
 GivesOrGivesUp reader (Some bytes) reader' = (reader'.wanted ≡ reader.wanted + length bytes) × (0 < length bytes)
 GivesOrGivesUp reader None reader' = (reader'.wanted ≡ reader.wanted) × (reader'.link ≡ None) × (reader'.tried ≡ reader.tried + 1)
+
+-- What reading from one location comes to: it goes on, and gives the next bytes of the range, or the location is given up.
+pub record ReadsLocation (old new : Shown) (reader reader' : BlockRead) (result : Result (Option (List ℕ)) NoMemory) : Type 0 where
+  pub goes : Goes old new reader reader'
+  pub failed : reader'.failed ≡ reader.failed
+  pub piece : IfOk result (λ piece. GivesOrGivesUp reader piece reader')
+  pub bytes : IfOk result (λ piece. (block : List ℕ) → ShowsBlock old reader block → IsPieceOf block reader.wanted piece)

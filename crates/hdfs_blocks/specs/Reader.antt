@@ -1,14 +1,15 @@
 -- A reader of a block, the cluster that it reads from, and the bytes of the block.
-use Rattle.std.specs.Prelude.{◌≡◌, ◌≢◌, ◌⊎◌, ℕ, zero, suc, ◌+◌, ◌<◌, ◌≤◌, Bool, true, List, length, Option, Some, None, IsSome}
+use Rattle.std.specs.Prelude.{◌≡◌, ◌≢◌, ◌⊎◌, ℕ, zero, suc, ◌+◌, ◌<◌, ◌≤◌, Bool, true, false, List, length, Option, Some, None, IsSome}
 use Rattle.hdfs_model.specs.declared.messages.LocatedBlock.{LocatedBlock}
 use Rattle.hdfs_model.specs.declared.picture.ReadPlace.{ReadPlace}
 use Rattle.hdfs_model.specs.declared.picture.OpenRead.{OpenRead}
-use Rattle.hdfs_model.specs.declared.session.HdfsError.{HdfsError}
-use Rattle.hdfs_model.specs.declared.session.HdfsError.TheVariants as errors
-use Rattle.hdfs_model.specs.declared.session.TransferFault.TheVariants as transfer
-use Rattle.hdfs_model.specs.Counts.{Counts, NeverFall}
+use Rattle.hdfs_model.specs.declared.errors.HdfsError.{HdfsError}
+use Rattle.hdfs_model.specs.declared.errors.HdfsError.TheVariants as errors
+use Rattle.hdfs_model.specs.declared.errors.TransferFault.TheVariants as transfer
+use Rattle.hdfs_model.specs.Counts.{FaultCounts, NeverFall}
 use Rattle.hdfs_model.specs.Picture.{Picture, Told}
 use Rattle.hdfs_model.specs.Shown.{Shown, OnlyReads}
+use Rattle.hdfs_model.specs.Steps.{range_of}
 use Rattle.hdfs_model.specs.Stores.{HoldsPrefix}
 use Rattle.hdfs_blocks.specs.Blocks.{node_at, node_count, held_at, IsToBlame}
 use Rattle.hdfs_blocks.specs.declared.block_read.BlockRead.{BlockRead}
@@ -45,13 +46,19 @@ has_failed reader = reader.failed
 abbrev pub IsOver : BlockRead → Type 0
 IsOver reader = (has_failed reader ≡ true) ⊎ (wanted_of reader ≡ end_of reader)
 
+-- a read was opened on the k-th location of a block, with the block's stamp, pool and token as they were answered
+pub record IsOpenedOn (block : LocatedBlock) (k : ℕ) (opened : OpenRead) : Type 0 where
+  pub node : opened.node.datanode_uuid ≡ node_at block k
+  pub same_block : opened.block ≡ block.b
+  pub token : opened.token ≡ block.block_token
+
 -- The link was opened on the location that the reader tries, when its node's count was at most what it is now.
 abbrev pub LinkHolds : Shown → BlockRead → ℕ → Type 0
 LinkHolds shown reader link =
     (reader.tried < node_count reader.block)
     × (opened : OpenRead)
     × (shown.reads link ≡ Some opened)
-    × (opened.node.datanode_uuid ≡ node_at reader.block reader.tried)
+    × IsOpenedOn reader.block reader.tried opened
     × (opened.before ≤ shown.counts.nodes (node_at reader.block reader.tried))
 
 -- The reader's place is in its range and its list, and the link that it keeps is open.
@@ -67,8 +74,8 @@ pub record Stands (shown : Shown) (reader : BlockRead) : Type 0 where
   pub idle : IsOver reader → link_of reader ≡ None
 
 -- the places of the links that were open and aren't the reader's own stay
-abbrev pub SamePlaces : Shown → BlockRead → Picture → Picture → Type 0
-SamePlaces old reader p q = (link : ℕ) → link_of reader ≢ Some link → IsSome (old.reads link) → q.reads link ≡ p.reads link
+abbrev pub OthersStay : Shown → BlockRead → Picture → Picture → Type 0
+OthersStay old reader p q = (link : ℕ) → link_of reader ≢ Some link → IsSome (old.reads link) → q.reads link ≡ p.reads link
 
 -- What every call of a reader keeps. Links that were open and aren't its own stay as they were. The link that it keeps
 -- is the same or a fresh one, and no other link that it used is left open.
@@ -77,7 +84,7 @@ pub record Keeps (old new : Shown) (reader reader' : BlockRead) : Type 0 where
   pub end : end_of reader' ≡ end_of reader
   pub only : OnlyReads old new
   pub others : (link : ℕ) → link_of reader ≢ Some link → IsSome (old.reads link) → new.reads link ≡ old.reads link
-  pub places : Told (SamePlaces old reader) old.picture new.picture
+  pub places : Told (OthersStay old reader) old.picture new.picture
   pub own : (link : ℕ) → link_of reader' ≡ Some link → (link_of reader ≡ Some link) ⊎ (old.reads link ≡ None)
   pub frees : (link : ℕ) → link_of reader' ≢ Some link → (link_of reader ≡ Some link) ⊎ (old.reads link ≡ None) → new.reads link ≡ None
   pub stands : Stands new reader'
@@ -121,7 +128,7 @@ before_link shown (Some link) now = before_opening (shown.reads link) now
 pub record Stage : Type 0 where
   pub tried : ℕ
   pub before : ℕ
-  pub counts : Counts
+  pub counts : FaultCounts
 
 -- where a reader stands: the datanodes that it tried, and the counts
 abbrev pub stage_of : Shown → BlockRead → Stage
@@ -136,7 +143,7 @@ stage_of shown reader = record {
 abbrev pub GaveUp : Picture → LocatedBlock → List ℕ → ℕ → Stage → Stage → Type 0
 GaveUp picture block bytes zero old new = (new.tried ≡ old.tried) × (old.before ≤ new.before) × NeverFall old.counts new.counts
 GaveUp picture block bytes (suc n) old new =
-    (mid : Counts)
+    (mid : FaultCounts)
     × NeverFall old.counts mid
     × IsToBlame picture block bytes old.tried old.before mid
     × GaveUp picture block bytes n (record { tried = old.tried + 1; before = mid.nodes (node_at block (old.tried + 1)); counts = mid }) new
@@ -148,30 +155,46 @@ GivesUp old new reader reader' =
     → (n : ℕ) × GaveUp shows.picture (block_of reader) bytes n (stage_of old reader) (stage_of new reader')
 
 -- the k-th location is to blame since these counts
-abbrev pub Blamed : Counts → Shown → Picture → LocatedBlock → List ℕ → ℕ → Type 0
+abbrev pub Blamed : FaultCounts → Shown → Picture → LocatedBlock → List ℕ → ℕ → Type 0
 Blamed start shown picture block bytes k = IsToBlame picture block bytes k (start.nodes (node_at block k)) shown.counts
 
 -- Over a told picture each location that was given up is to blame since the start, and the reader's link was opened since
 -- then.
-pub record Over (start : Counts) (shown : Shown) (reader : BlockRead) (bytes : List ℕ) : Type 0 where
+pub record Over (start : FaultCounts) (shown : Shown) (reader : BlockRead) (bytes : List ℕ) : Type 0 where
   pub shows : ShowsBlock shown reader bytes
   pub since : NeverFall start shown.counts
   pub opened : start.nodes (node_at (block_of reader) (tried_of reader)) ≤ (stage_of shown reader).before
   pub blamed : (k : ℕ) → k < tried_of reader → Blamed start shown shows.picture (block_of reader) bytes k
 
--- what a call keeps over a told picture
+-- What a call keeps over a told picture; a location is given up only where its node has failed since it was opened, or
+-- doesn't hold the block whole.
 pub record Reads (old new : Shown) (reader reader' : BlockRead) : Type 0 where
   pub shows : (bytes : List ℕ) → ShowsBlock old reader bytes → ShowsBlock new reader' bytes
-  pub over : (start : Counts) (bytes : List ℕ) → Over start old reader bytes → Over start new reader' bytes
+  pub over : (start : FaultCounts) (bytes : List ℕ) → Over start old reader bytes → Over start new reader' bytes
+  pub gives_up : GivesUp old new reader reader'
 
 -- each location is to blame since the start
-abbrev pub AllBlamed : Counts → Shown → LocatedBlock → List ℕ → Type 0
+abbrev pub AllBlamed : FaultCounts → Shown → LocatedBlock → List ℕ → Type 0
 AllBlamed start shown block bytes = (picture : Picture) → shown.picture ≡ Some picture → (k : ℕ) → k < node_count block → Blamed start shown picture block bytes k
 
 -- an error that a datanode gave, not want of memory
 abbrev pub IsRead : HdfsError → Type 0
 IsRead e = e ≢ errors.NoMemory
 
--- the errors of a read: want of memory, or the first wanted offset that no node gave
-abbrev pub IsReadError : ℕ → HdfsError → Type 0
-IsReadError offset e = (e ≡ errors.NoMemory) ⊎ (e ≡ errors.DataTransferError (transfer.Read offset))
+-- What a call gave: bytes, by which the wanted offset moves on; or none, and the reader is what it was.
+abbrev pub GivesPiece : BlockRead → Option (List ℕ) → BlockRead → Type 0
+GivesPiece reader None reader' = reader' ≡ reader
+GivesPiece reader (Some bytes) reader' = (wanted_of reader' ≡ wanted_of reader + length bytes) × (0 < length bytes) × (has_failed reader' ≡ false)
+
+-- the bytes stand in the block at the offset that was wanted
+abbrev pub IsPieceOf : List ℕ → ℕ → Option (List ℕ) → Type 0
+IsPieceOf block from None = Unit {0}
+IsPieceOf block from (Some bytes) = bytes ≡ range_of block from (length bytes)
+
+-- A read fails inside of its range and for good: for want of memory, or once no location is left, with the offset of the
+-- first wanted byte, which none of them gave.
+pub record Fails (reader : BlockRead) (error : HdfsError) (reader' : BlockRead) : Type 0 where
+  pub failed : has_failed reader' ≡ true
+  pub inside : wanted_of reader < end_of reader
+  pub is : (error ≡ errors.NoMemory) ⊎ (error ≡ errors.DataTransferError (transfer.Read (wanted_of reader)))
+  pub all_tried : IsRead error → tried_of reader' ≡ node_count (block_of reader)

@@ -1,7 +1,7 @@
-// A range of one block, read from the nodes that are listed for it, in order.
-ghost use Rattle.std.specs.Prelude.{◌≡◌, ◌≢◌, ◌<◌, ◌≤◌, ◌+◌, ◌-◌, ◌^◌, ◌⊎◌, ℕ, List, Option, Some, None, Ok, IfOk, OnOk, OnErr, IfErr, IsSome, IfSome, MatchOption, length, true, false};
+//! A range of one block, read from the nodes that are listed for it, in order.
+ghost use Rattle.std.specs.Prelude.{◌≡◌, ◌↔◌, ◌<◌, ◌≤◌, ◌+◌, ◌-◌, ◌^◌, ◌⊎◌, ℕ, List, Option, Some, None, Ok, IfOk, OnOk, OnErr, IfErr, IsSome, IfSome, MatchOption, length, true, false};
 ghost use Rattle.hdfs_blocks.specs.Blocks.{node_count};
-ghost use Rattle.hdfs_model.specs.declared.session.HdfsError.TheVariants as errors;
+ghost use Rattle.hdfs_model.specs.declared.errors.HdfsError.TheVariants as errors;
 
 use crate::packets::{Step, read_ask, span_of};
 use bytes::Bytes;
@@ -26,11 +26,11 @@ pub struct BlockRead {
 }
 
 impl BlockRead {
-    ghost use Rattle.hdfs_model.specs.Counts.{Counts};
+    ghost use Rattle.hdfs_model.specs.Counts.{FaultCounts};
     ghost use Rattle.hdfs_model.specs.Shown.{Shown};
     ghost use Rattle.hdfs_model.specs.Steps.{range_of};
-    ghost use Rattle.hdfs_blocks.specs.Reader.{block_of, client_of, wanted_of, end_of, tried_of, link_of, has_failed, IsOver, Holds, Stands, Keeps, ShowsBlock, Over, Reads, GivesUp, AllBlamed, IsRead, IsReadError};
-    ghost use Rattle.hdfs_blocks.specs.Going.{Frame, Goes, Accepts, Steps, IsPartOf, GivesOrGivesUp};
+    ghost use Rattle.hdfs_blocks.specs.Reader.{block_of, client_of, wanted_of, end_of, tried_of, link_of, has_failed, IsOver, Holds, Stands, Keeps, ShowsBlock, Over, Reads, AllBlamed, IsRead, GivesPiece, IsPieceOf, Fails};
+    ghost use Rattle.hdfs_blocks.specs.Going.{Frame, Goes, Accepts, Steps, IsPartOf, ReadsLocation};
 
     /// A read of `len` bytes from `offset` on of a block that is held in whole by each of its locations. `client` is the
     /// name by which datanodes know the reader. It fails for want of memory alone.
@@ -65,30 +65,20 @@ impl BlockRead {
     /// The next bytes of the range, at least one. None comes once the range is given, and for good after an error.
     ///
     /// Beside want of memory the error is `DataTransferError`, with the offset in the block of the first byte that no
-    /// location gave. Either way the reader's link is ended.
+    /// location gave. It comes only once no location is left. Either way the reader's link is ended.
     pub fn next<C: Cluster>(&mut self, cluster: &mut C) -> Result<Option<Bytes>, HdfsError>
         requires { Stands (C.shown cluster.old) self.old }
         ensures keeps { Keeps (C.shown cluster.old) (C.shown cluster.new) self.old self.new }
-        ensures given { IfOk result (λ piece. MatchOption piece
-            (self.new ≡ self.old)
-            (λ bytes. (wanted_of self.new ≡ wanted_of self.old + length bytes) × (0 < length bytes) × (has_failed self.new ≡ false))) }
-        ensures ended { IsOver self.old → result ≡ Ok None }
-        ensures goes_on { result ≡ Ok None → IsOver self.old }
+        ensures given { IfOk result (λ piece. GivesPiece self.old piece self.new) }
+        ensures ended { (result ≡ Ok None) ↔ IsOver self.old }
         ensures still { result ≡ Ok None → cluster.new ≡ cluster.old }
+        ensures failed { IfErr result (λ error. Fails self.old error self.new) }
 
-        // The error names the offset that was wanted, and comes only once no location is left.
-        ensures failed { IfErr result (λ e. (has_failed self.new ≡ true)
-            × (wanted_of self.old < end_of self.old)
-            × IsReadError (wanted_of self.old) e) }
-        ensures all_tried { IfErr result (λ e. IsRead e → tried_of self.new ≡ node_count (block_of self.old)) }
-
-        // Over a told picture the pieces are those of the block's bytes, and a location is given up only where its node
-        // has failed since it was opened, or doesn't hold the block whole.
+        // Over a told picture the pieces are those of the block's bytes, and each location has a cause to be given up.
         ensures reads { Reads (C.shown cluster.old) (C.shown cluster.new) self.old self.new }
-        ensures gives_up { GivesUp (C.shown cluster.old) (C.shown cluster.new) self.old self.new }
         ensures bytes { IfOk result (λ piece. (block : List ℕ) → ShowsBlock (C.shown cluster.old) self.old block
-            → IfSome piece (λ bytes. bytes ≡ range_of block (wanted_of self.old) (length bytes))) }
-        ensures cause { IfErr result (λ e. IsRead e → (start : Counts) (block : List ℕ) → Over start (C.shown cluster.old) self.old block
+            → IsPieceOf block (wanted_of self.old) piece) }
+        ensures cause { IfErr result (λ e. IsRead e → (start : FaultCounts) (block : List ℕ) → Over start (C.shown cluster.old) self.old block
             → AllBlamed start (C.shown cluster.new) (block_of self.old) block) }
     {
         if self.failed || self.wanted == self.end {
@@ -263,11 +253,7 @@ impl BlockRead {
         requires holds { Holds (C.shown cluster.old) self.old }
         requires link { self.old.link ≡ Some link }
         requires more { self.old.wanted < self.old.end }
-        ensures goes { Goes (C.shown cluster.old) (C.shown cluster.new) self.old self.new }
-        ensures failed { self.new.failed ≡ self.old.failed }
-        ensures piece { IfOk result (λ piece. GivesOrGivesUp self.old piece self.new) }
-        ensures bytes { IfOk result (λ piece. (block : List ℕ) → ShowsBlock (C.shown cluster.old) self.old block
-            → IfSome piece (λ bytes. bytes ≡ range_of block self.old.wanted (length bytes))) }
+        ensures { ReadsLocation (C.shown cluster.old) (C.shown cluster.new) self.old self.new result }
     {
         'packets: loop {
             match self.take_packet(cluster, link)? {
@@ -283,11 +269,7 @@ impl BlockRead {
         requires holds { Holds (C.shown cluster.old) self.old }
         requires left { self.old.tried < node_count self.old.block }
         requires more { self.old.wanted < self.old.end }
-        ensures goes { Goes (C.shown cluster.old) (C.shown cluster.new) self.old self.new }
-        ensures failed { self.new.failed ≡ self.old.failed }
-        ensures piece { IfOk result (λ piece. GivesOrGivesUp self.old piece self.new) }
-        ensures bytes { IfOk result (λ piece. (block : List ℕ) → ShowsBlock (C.shown cluster.old) self.old block
-            → IfSome piece (λ bytes. bytes ≡ range_of block self.old.wanted (length bytes))) }
+        ensures { ReadsLocation (C.shown cluster.old) (C.shown cluster.new) self.old self.new result }
     {
         if let Some(link) = self.link {
             return self.read_on(cluster, link);
@@ -308,7 +290,7 @@ impl BlockRead {
             ((self.new.tried ≡ node_count self.old.block) × (self.new.wanted ≡ self.old.wanted))
             (λ bytes. (self.new.wanted ≡ self.old.wanted + length bytes) × (0 < length bytes))) }
         ensures bytes { IfOk result (λ piece. (block : List ℕ) → ShowsBlock (C.shown cluster.old) self.old block
-            → IfSome piece (λ bytes. bytes ≡ range_of block self.old.wanted (length bytes))) }
+            → IsPieceOf block self.old.wanted piece) }
     {
         'locations: while self.tried < self.block.locs.as_slice().len() {
             if let Some(bytes) = self.read_location(cluster)? {

@@ -1,13 +1,12 @@
-use Rattle.std.proofs.Common.{◌≢◌, ap, rules}
-use Rattle.hdfs_model.specs.declared.messages.Block.{Block}
+use Rattle.std.proofs.Common.{◌≢◌, rules}
 use Rattle.hdfs_model.specs.declared.asks.LinkFault.TheVariants as faults
 use Rattle.hdfs_blocks.proofs.Going.{still_goes, opened_goes, not_opened_goes}
 use Rattle.hdfs_blocks.proofs.block_read.BlockRead.open.Goals as goal
 
 pub returns-in-Ok-clause-goes : goal.returns-in-Ok-clause-goes
 returns-in-Ok-clause-goes g c =
-    opened_goes (g.C.Cluster.shown c.args.cluster.now) (g.C.Cluster.shown c.open_read.new.self) c.args.self.now c.in_ok-ask.ask c.in-Ok.link c.requires.holds c.requires.idle c.requires.left c.in-Ok.ensures.ok c.in_ok-ask.ensures.node
-    c.requires.more (ap (λ (b : Block). b.block_id) c.in_ok-ask.ensures.block) c.in_ok-ask.ensures.range.0 c.in_ok-ask.ensures.range.1
+    opened_goes (g.C.Cluster.shown c.args.cluster.now) (g.C.Cluster.shown c.open_read.new.self) c.args.self.now c.in_ok-ask.ask c.in-Ok.link c.requires.holds c.requires.idle c.requires.left c.in-Ok.ensures.ok c.in_ok-ask.ensures.node c.in_ok-ask.ensures.block c.in_ok-ask.ensures.token
+    c.requires.more c.in_ok-ask.ensures.range.0 c.in_ok-ask.ensures.range.1
 
 pub returns-clause-goes : goal.returns-clause-goes
 returns-clause-goes g c =

@@ -1,5 +1,6 @@
-use Rattle.std.proofs.Common.{◌≡◌, ℕ, List, Option, IfSome, length, subst, rules}
+use Rattle.std.proofs.Common.{◌≡◌, ℕ, length, subst, rules}
 use Rattle.hdfs_model.specs.Steps.{range_of}
+use Rattle.hdfs_blocks.specs.Reader.{IsPieceOf}
 use Rattle.hdfs_blocks.proofs.Joining.{goes_trans}
 use Rattle.hdfs_blocks.proofs.block_read.BlockRead.piece.Goals as goal
 
@@ -15,7 +16,7 @@ pub returns-in-Some-clause-bytes : goal.returns-in-Some-clause-bytes
 returns-in-Some-clause-bytes g c = λ block shows.
     let so_far = c.locations.invariant in
     let part = c.in_ok-bytes.ensures.bytes block (so_far.goes.shows block shows) in
-    subst (λ (w : ℕ). c.in-Some.bytes ≡ range_of block w (length c.in-Some.bytes)) so_far.wanted (subst (λ (piece : Option (List ℕ)). IfSome piece (λ bytes. bytes ≡ range_of block c.locations.self.wanted (length bytes))) c.in-Some.is part)
+    subst (λ (w : ℕ). c.in-Some.bytes ≡ range_of block w (length c.in-Some.bytes)) so_far.wanted (subst (IsPieceOf block c.locations.self.wanted) c.in-Some.is part)
 
 pub locations-preserved : goal.locations-preserved
 locations-preserved g c = record {

@@ -1,14 +1,20 @@
-use Rattle.std.proofs.Common.{◌≡◌, rules}
+-- A link that is open is read on, else one is opened first.
+use Rattle.std.proofs.Common.{◌≡◌, ℕ, subst, rules}
 use Rattle.std.proofs.lemmas.Result.{IfOk-weaker}
+use Rattle.hdfs_blocks.specs.Reader.{IsPieceOf}
 use Rattle.hdfs_blocks.proofs.Going.{gives_from}
 use Rattle.hdfs_blocks.proofs.Joining.{goes_trans}
 use Rattle.hdfs_blocks.proofs.block_read.BlockRead.read_location.Goals as goal
 
-pub returns-in-Some-2-clause-goes : goal.returns-in-Some-2-clause-goes
-returns-in-Some-2-clause-goes g c =
-    goes_trans (g.C.Cluster.shown c.args.cluster.now) (g.C.Cluster.shown c.open.new.cluster) (g.C.Cluster.shown c.read_on-in-Some-2.new.cluster) c.args.self.now c.open.new.self c.read_on-in-Some-2.new.self c.open.ensures.goes c.read_on-in-Some-2.ensures.goes
-
-pub returns-in-Some-2-clause-piece : goal.returns-in-Some-2-clause-piece
-returns-in-Some-2-clause-piece g c =
+pub returns-in-Some-2 : goal.returns-in-Some-2
+returns-in-Some-2 g c =
+    let shown = g.C.Cluster.shown in
+    let opened = c.open.ensures in
+    let read = c.read_on-in-Some-2.ensures in
     let tried : c.open.new.self.tried ≡ c.args.self.now.tried = search rules in
-    IfOk-weaker c.read_on-in-Some-2.result _ _ (λ piece. gives_from c.args.self.now c.open.new.self c.read_on-in-Some-2.new.self piece c.open.ensures.same.0 tried) c.read_on-in-Some-2.ensures.piece
+    record {
+      goes = goes_trans (shown c.args.cluster.now) (shown c.open.new.cluster) (shown c.read_on-in-Some-2.new.cluster) c.args.self.now c.open.new.self c.read_on-in-Some-2.new.self opened.goes read.goes;
+      failed = search rules;
+      piece = IfOk-weaker c.read_on-in-Some-2.result _ _ (λ piece. gives_from c.args.self.now c.open.new.self c.read_on-in-Some-2.new.self piece opened.same.0 tried) read.piece;
+      bytes = IfOk-weaker c.read_on-in-Some-2.result _ _ (λ piece here block shows. subst (λ (w : ℕ). IsPieceOf block w piece) opened.same.0 (here block (opened.goes.shows block shows))) read.bytes;
+    }
