@@ -6,7 +6,7 @@ use Rattle.hdfs_model.specs.declared.messages.LocatedBlock.{LocatedBlock}
 use Rattle.hdfs_model.specs.Counts.{FaultCounts}
 use Rattle.hdfs_model.specs.Picture.{Picture, SameFiles, Told}
 use Rattle.hdfs_model.specs.Shown.{Shown, OnlyReads}
-use Rattle.hdfs_model.proofs.Frames.{told_after, only_reads_trans, never_fall_trans}
+use Rattle.hdfs_model.proofs.Frames.{told_after, told_join, only_reads_trans, never_fall_trans}
 use Rattle.hdfs_blocks.specs.Blocks.{node_at}
 use Rattle.hdfs_blocks.specs.Reader.{Stands, OthersStay, Keeps, Reads, Over, Blamed, stage_of, GaveUp, GivesUp}
 use Rattle.hdfs_blocks.specs.Going.{Frame, Goes}
@@ -34,15 +34,6 @@ same_files_shown s t p q only before after =
     let found = told_after SameFiles s.picture t.picture p only.files before in
     let same : found.0 ≡ q = cc (found.1, after) in
     subst (λ (x : Picture). SameFiles p x) same found.2
-
--- one step of told pictures behind another
-pub told_join : (P Q R : Picture → Picture → Type 0) (a b c : Option Picture) → ((p q r : Picture) → P p q → Q q r → R p r) → Told P a b → Told Q b c → Told R a c
-told_join P Q R None None None join f g = tt
-told_join P Q R (Some a) (Some b) (Some c) join f g = join a b c f g
-told_join P Q R None (Some b) c join f g = absurd f
-told_join P Q R (Some a) None c join f g = absurd f
-told_join P Q R None None (Some c) join f g = absurd g
-told_join P Q R (Some a) (Some b) None join f g = absurd g
 
 module _ (s t u : Shown) (q r w : BlockRead) where
   -- the kept link is the first one, or was not open at first

@@ -4,14 +4,13 @@ use Rattle.std.proofs.lemmas.List.Elements.{All-weaker}
 use Rattle.hdfs_model.specs.declared.picture.Entry.{Entry}
 use Rattle.hdfs_model.specs.declared.picture.Entry.TheVariants as entries
 use Rattle.hdfs_model.specs.declared.picture.BlockEntry.{BlockEntry}
-use Rattle.hdfs_model.specs.Counts.{Counts}
+use Rattle.hdfs_model.specs.Counts.{FaultCounts}
 use Rattle.hdfs_model.specs.Files.{Files, Node, Dir, File, Writing}
 use Rattle.hdfs_model.specs.Picture.{Picture, SameFiles, Told}
 use Rattle.hdfs_model.specs.declared.messages.LocatedBlock.{LocatedBlock}
 use Rattle.hdfs_model.specs.Namenode.{LocatesBlocks}
 use Rattle.hdfs_model.specs.Stores.{Agrees, AgreesBut, AgreesAt, StoresBlocks, StoresBlock, HoldsPrefix}
-use Rattle.hdfs_model.specs.Causes.{LiesAt, AllFailed}
-use Rattle.hdfs_client.specs.Ranges.{IsLost}
+use Rattle.hdfs_model.specs.Causes.{LiesAt, AllFailed, ByteLost}
 
 module _ (p q : Picture) (same : SameFiles p q) where
   stores_block : (id : ℕ) (entry : BlockEntry) (bytes : List ℕ) → StoresBlock p id entry bytes → StoresBlock q id entry bytes
@@ -47,12 +46,12 @@ module _ (p q : Picture) (same : SameFiles p q) where
   lies_at from (first ∷ ids) id at h =
       ⊎_elim (λ here. inl here) (λ rest. inr (rest.0, same.table first ∙ rest.1, lies_at (from + rest.0.length) ids id at rest.2)) h
 
-  pub all_failed : (old new : Counts) (id : ℕ) (entry : BlockEntry) → AllFailed old new p id entry → AllFailed old new q id entry
+  pub all_failed : (old new : FaultCounts) (id : ℕ) (entry : BlockEntry) → AllFailed old new p id entry → AllFailed old new q id entry
   all_failed old new id entry h = λ k below whole. h k below (ap length (sym (same.held (get_or entry.nodes k []) id)) ∙ whole)
 
   -- a byte that is lost is lost in the picture that comes later
-  pub is_lost : (ids : List ℕ) (offset end : ℕ) (old new : Counts) (byte : ℕ) → IsLost p ids offset end old new byte → IsLost q ids offset end old new byte
-  is_lost ids offset end old new byte h = record {
+  pub byte_lost : (ids : List ℕ) (from end : ℕ) (old new : FaultCounts) (byte : ℕ) → ByteLost p ids from end (AllFailed old new p) byte → ByteLost q ids from end (AllFailed old new q) byte
+  byte_lost ids from end old new byte h = record {
     id = h.id;
     at = h.at;
     lies = lies_at 0 ids h.id h.at h.lies;
@@ -61,7 +60,7 @@ module _ (p q : Picture) (same : SameFiles p q) where
     behind = h.behind;
     before = h.before;
     inside = h.inside;
-    failed = all_failed old new h.id h.entry h.failed;
+    all_failed = all_failed old new h.id h.entry h.all_failed;
   }
 
 -- what agrees at every path

@@ -6,25 +6,27 @@ use Rattle.hdfs_model.specs.declared.picture.Entry.{Entry}
 use Rattle.hdfs_model.specs.declared.picture.Entry.TheVariants as entries
 use Rattle.hdfs_model.specs.declared.picture.BlockEntry.{BlockEntry}
 use Rattle.hdfs_model.specs.declared.picture.FileEntry.{FileEntry}
-use Rattle.hdfs_model.specs.declared.session.Command.{Command}
-use Rattle.hdfs_model.specs.declared.session.Command.TheVariants as commands
-use Rattle.hdfs_model.specs.declared.session.Reply.{Reply}
-use Rattle.hdfs_model.specs.declared.session.Fault.{Fault}
-use Rattle.hdfs_model.specs.declared.session.HdfsError.{HdfsError}
-use Rattle.hdfs_model.specs.declared.session.HdfsError.TheVariants as errors
-use Rattle.hdfs_model.specs.declared.session.ArgFault.TheVariants as args
-use Rattle.hdfs_model.specs.declared.session.TransferFault.TheVariants as transfer
-use Rattle.hdfs_model.specs.Counts.{Counts, NeverFall, NoneRose}
+use Rattle.hdfs_model.specs.declared.commands.Command.{Command}
+use Rattle.hdfs_model.specs.declared.commands.Command.TheVariants as commands
+use Rattle.hdfs_model.specs.declared.commands.Reply.{Reply}
+use Rattle.hdfs_model.specs.declared.errors.Fault.{Fault}
+use Rattle.hdfs_model.specs.declared.errors.HdfsError.{HdfsError}
+use Rattle.hdfs_model.specs.declared.errors.HdfsError.TheVariants as errors
+use Rattle.hdfs_model.specs.declared.errors.ArgFault.TheVariants as args
+use Rattle.hdfs_model.specs.declared.errors.TransferFault.TheVariants as transfer
+use Rattle.hdfs_model.specs.Counts.{FaultCounts, NeverFall, NoneRose}
 use Rattle.hdfs_model.specs.Files.{State, Node, Dir, File, Writing, Content}
 use Rattle.hdfs_model.specs.Steps.{World, Outcome, Refused, Done, step, target_of}
 use Rattle.hdfs_model.specs.Folds.{Folded, Ends, Stops, fold}
 use Rattle.hdfs_model.specs.Picture.{Picture}
 use Rattle.hdfs_model.specs.Shown.{Shown}
 use Rattle.hdfs_model.specs.Stores.{Agrees, AgreesAt, AgreesBut, StoresBlocks, StoresBlock}
-use Rattle.hdfs_model.specs.Causes.{LiesAt, AllFailed, ByteLost, CommandLost, CauseAt, Cause}
-use Rattle.hdfs_model.specs.Sessions.{Ready, Answers, Complete, touched}
+use Rattle.hdfs_model.specs.Causes.{LiesAt, AllFailed, FileLost, CommandLost, Cause}
+use Rattle.hdfs_model.specs.Sessions.{Answers, Complete, spared}
+use Rattle.hdfs_model.specs.Headline.{Ready}
 use Rattle.hdfs_model.proofs.Frames.{rose_since}
 use Rattle.hdfs_client.proofs.Agreeing.{agrees_from-AgreesBut, agrees_told}
+use Rattle.hdfs_client.proofs.Stepping.{reading, closed_at}
 use Rattle.hdfs_model.proofs.Folding.{fold-stop, stops_behind, length-fold}
 
 -- the bytes that a block of a stored file stores
@@ -38,7 +40,7 @@ block_of p from (first ∷ ids) bytes id at entry stored lies is =
     lies
 
 -- some node holds the block whole, so not all of them failed
-some_stands : (p : Picture) (id : ℕ) (entry : BlockEntry) (held : List ℕ) (n : ℕ) (old new : Counts) → StoresBlock p id entry held → NoneRose n old new → AllFailed old new p id entry → ⊥
+some_stands : (p : Picture) (id : ℕ) (entry : BlockEntry) (held : List ℕ) (n : ℕ) (old new : FaultCounts) → StoresBlock p id entry held → NoneRose n old new → AllFailed old new p id entry → ⊥
 some_stands p id entry held n old new stores none failed =
     let k = stores.whole.0 in
     let node : get_or entry.nodes k [] ≡ stores.whole.1 = get_or_default entry.nodes k [] stores.whole.1 stores.whole.2 ∙ stores.whole.3 in
@@ -51,47 +53,37 @@ file_at p file (Some Dir) closed h = absurd h
 file_at p file (Some (Writing content)) closed h = absurd (closed content refl)
 file_at p file (Some (File content)) closed h = (content, h.2)
 
-not_lost : (state : State) (n : ℕ) (old : Counts) (new : Shown) (path : List ℕ) (offset len byte : ℕ) → ((content : Content) → state.files path ≡ Some (Writing content) → ⊥) → Agrees new.picture state.files → NoneRose n old new.counts → ByteLost old new path offset len byte → ⊥
-not_lost state n old new path offset len byte closed agrees none lost =
+not_lost : (state : State) (n : ℕ) (old : FaultCounts) (new : Shown) (path : List ℕ) (from end byte : ℕ) → ((content : Content) → state.files path ≡ Some (Writing content) → ⊥) → Agrees new.picture state.files → NoneRose n old new.counts → FileLost old new path from end byte → ⊥
+not_lost state n old new path from end byte closed agrees none lost =
     let here = subst (λ (o : Option Entry). AgreesAt lost.picture o (state.files path)) lost.named (agrees_told new.picture lost.picture state.files agrees lost.told path) in
     let content = file_at lost.picture lost.file (state.files path) closed here in
-    let block = block_of lost.picture 0 lost.file.blocks content.0.bytes lost.id lost.at lost.entry content.1 lost.lies lost.is in
-    some_stands lost.picture lost.id lost.entry block.0 n old new.counts block.1 none lost.failed
-
-command_not_lost : (state : State) (n : ℕ) (old : Counts) (new : Shown) (path : List ℕ) (command : Command) (byte : ℕ) → ((content : Content) → state.files path ≡ Some (Writing content) → ⊥) → AgreesBut (touched command) new.picture state.files → NoneRose n old new.counts → CommandLost old new path command byte → ⊥
-command_not_lost state n old new path (commands.Read text offset len) byte closed agrees none lost =
-    not_lost state n old new path offset len byte closed (agrees_from-AgreesBut (touched (commands.Read text offset len)) new.picture state.files (λ q. refl) agrees) none lost
+    let block = block_of lost.picture 0 lost.file.blocks content.0.bytes lost.lost.id lost.lost.at lost.lost.entry content.1 lost.lost.lies lost.lost.is in
+    some_stands lost.picture lost.lost.id lost.lost.entry block.0 n old new.counts block.1 none lost.lost.all_failed
 
 memory_answers : (o : Outcome) → Answers o errors.NoMemory
 memory_answers (Done reply next) = refl
 memory_answers (Refused why) = inl refl
 
+command_not_lost : (w : World) (state : State) (n : ℕ) (old : FaultCounts) (new : Shown) (path : List ℕ) (command : Command) (error : HdfsError) (byte : ℕ) → ((content : Content) → state.files path ≡ Some (Writing content) → ⊥) → AgreesBut (spared w state command error) new.picture state.files → NoneRose n old new.counts → CommandLost old new path command byte → ⊥
+command_not_lost w state n old new path (commands.Read text offset len) error byte closed agrees none lost =
+    not_lost state n old new path offset (offset + len) byte closed (agrees_from-AgreesBut (spared w state (commands.Read text offset len) error) new.picture state.files (λ q. refl) agrees) none lost
+
 -- where no count rose, a cause is that of the step's outcome
-answers_at : (o : Outcome) (state : State) (path : List ℕ) (command : Command) (n : ℕ) (old : Counts) (new : Shown) (e : HdfsError) → ((content : Content) → state.files path ≡ Some (Writing content) → ⊥) → AgreesBut (touched command) new.picture state.files → NoneRose n old new.counts → CauseAt o state path command n old new e → Answers o e
-answers_at o state path command n old new errors.NoMemory closed agrees none h = memory_answers o
-answers_at o state path command n old new errors.Failed closed agrees none h = absurd h
-answers_at o state path command n old new (errors.DataTransferError (transfer.Read byte)) closed agrees none h = absurd (command_not_lost state n old new path command byte closed agrees none h.1)
-answers_at o state path command n old new (errors.InvalidArgument (args.Range offset len long)) closed agrees none h =
-    subst (λ (x : Outcome). Answers x (errors.InvalidArgument (args.Range offset len long))) (sym h.0) (inr (offset, len, long, refl))
-answers_at o state path command n old new (errors.FileNotFound name) closed agrees none h =
-    subst (λ (x : Outcome). Answers x (errors.FileNotFound name)) (sym h.1) (inr (inl (name, refl)))
-answers_at o state path command n old new (errors.RPCError class message) closed agrees none h =
-    ⊎_elim (λ explained. subst (λ (x : Outcome). Answers x (errors.RPCError class message)) (sym explained.1) (inr (inr (class, message, refl))))
-    (λ rose. absurd (none.calls rose.0 rose.1 rose.2)) h
-
--- nobody writes the file of a command that a session is ready for
-closed_at : (w : World) (strangers : List (List ℕ)) (s : Shown) (state : State) (command : Command) → Ready w strangers [] s state (command ∷ []) → (content : Content) → state.files (target_of w command) ≡ Some (Writing content) → ⊥
-closed_at w strangers s state (commands.Read path offset len) ready content writing =
-    ⊎_elim (λ own. absurd (omega (arith, own.1))) (λ stranger. ready.avoids 0 (commands.Read path offset len) (omega arith) stranger) (ready.fits.being_written (target_of w (commands.Read path offset len)) content writing)
-
-pub complete_command : (w : World) (strangers : List (List ℕ)) (s s' : Shown) (state : State) (command : Command) (e : HdfsError) → s'.namenodes ≡ s.namenodes → Ready w strangers [] s state (command ∷ [])
-    → Cause w state command s.counts s' e × AgreesBut (touched command) s'.picture state.files → NoneRose s.namenodes s.counts s'.counts → Answers (step w state command) e
-complete_command w strangers s s' state command e size ready h none =
-    answers_at (step w state command) state (target_of w command) command s.namenodes s.counts s' e (closed_at w strangers s state command ready) h.1 none
-    (subst (λ (n : ℕ). CauseAt (step w state command) state (target_of w command) command n s.counts s' e) size h.0)
+pub complete_command : (w : World) (s s' : Shown) (state : State) (command : Command) (e : HdfsError) → s'.namenodes ≡ s.namenodes → Ready w (reading s) state (command ∷ [])
+    → Cause w state command s s' e × AgreesBut (spared w state command e) s'.picture state.files → NoneRose s.namenodes s.counts s'.counts → Answers (step w state command) e
+complete_command w s s' state command errors.NoMemory size ready h none = memory_answers (step w state command)
+complete_command w s s' state command errors.Failed size ready h none = absurd h.0
+complete_command w s s' state command (errors.DataTransferError (transfer.Read byte)) size ready h none =
+    absurd (command_not_lost w state s.namenodes s.counts s' (target_of w command) command (errors.DataTransferError (transfer.Read byte)) byte (closed_at w s state command ready) h.1 none h.0.1)
+complete_command w s s' state command (errors.InvalidArgument (args.Range offset len long)) size ready h none =
+    subst (λ (x : Outcome). Answers x (errors.InvalidArgument (args.Range offset len long))) (sym h.0.0) (inr tt)
+complete_command w s s' state command (errors.FileNotFound name) size ready h none = subst (λ (x : Outcome). Answers x (errors.FileNotFound name)) (sym h.0.1) (inr tt)
+complete_command w s s' state command (errors.RPCError class message) size ready h none =
+    ⊎_elim (λ stands. subst (λ (x : Outcome). Answers x (errors.RPCError class message)) (sym stands.1) (inr tt))
+    (λ rose. absurd (none.calls rose.0 (omega (arith, rose.1, size)) rose.2)) h.0
 
 -- counts that did not rise from the start did not rise from a later time on
-pub none_rose_later : (n : ℕ) (a b c : Counts) → NeverFall a b → NoneRose n a c → NoneRose n b c
+pub none_rose_later : (n : ℕ) (a b c : FaultCounts) → NeverFall a b → NoneRose n a c → NoneRose n b c
 none_rose_later n a b c before none = record {
   calls = λ i below rose. none.calls i below (rose_since (a.calls i) (b.calls i) (c.calls i) (c.calls i) (before.calls i) rose (omega arith));
   links = λ rose. none.links (rose_since a.links b.links c.links c.links before.links rose (omega arith));

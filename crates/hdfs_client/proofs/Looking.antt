@@ -7,53 +7,72 @@ use Rattle.hdfs_model.specs.declared.asks.Answer.{Answer}
 use Rattle.hdfs_model.specs.declared.asks.Answer.TheVariants as answers
 use Rattle.hdfs_model.specs.declared.asks.AskFault.{AskFault}
 use Rattle.hdfs_model.specs.declared.asks.AskFault.TheVariants as faults
-use Rattle.hdfs_model.specs.declared.session.Command.TheVariants as commands
-use Rattle.hdfs_model.specs.declared.session.HdfsError.{HdfsError}
-use Rattle.hdfs_model.specs.declared.session.HdfsError.TheVariants as errors
+use Rattle.hdfs_model.specs.declared.commands.Command.TheVariants as commands
+use Rattle.hdfs_model.specs.declared.errors.HdfsError.{HdfsError}
+use Rattle.hdfs_model.specs.declared.errors.HdfsError.TheVariants as errors
 use Rattle.hdfs_model.specs.Counts.{Rose}
-use Rattle.hdfs_model.specs.Picture.{Picture, SameFiles}
-use Rattle.hdfs_model.specs.Namenode.{Locates, ServesTold, ServesByRow}
-use Rattle.hdfs_model.specs.Shown.{Shown, Served}
+use Rattle.hdfs_model.specs.Picture.{Picture, SameFiles, SameButActive, kinds}
+use Rattle.hdfs_model.specs.Namenode.{Locates, Row, ServesTold, IsNoFile, StandsForNoFile}
+use Rattle.hdfs_model.specs.Shown.{Shown, Served, SameLinks, SamePlaces}
 use Rattle.hdfs_model.specs.Causes.{CallsRose, Tells}
-use Rattle.hdfs_model.proofs.Frames.{told_after}
+use Rattle.hdfs_model.proofs.Frames.{told_after, told_weaker}
 use Rattle.hdfs_client.specs.Meeting.{IsClosed}
-use Rattle.hdfs_client.specs.Looking.{TellsLook, Lacking, Explains}
+use Rattle.hdfs_client.specs.Looking.{TellsLook}
 
--- files stay, whatever is answered
-row_files : (risen : Type 0) (p q : Picture) (i : ℕ) (ask : Ask) (result : Result Answer AskFault) → ServesByRow risen p i ask result q → SameFiles p q
-row_files risen p q i ask (Ok answer) h = h.2.files
-row_files risen p q i ask (Err faults.NoMemory) h = h.rest.files
-row_files risen p q i ask (Err (faults.Exception class message)) h = ⊎_elim (λ standby. standby.2.rest.files) (λ rest. ⊎_elim (λ excused. excused.2.rest.files) (λ rose. rose.1.files) rest) h
+-- a look-up by its row leaves the picture, but for which namenode is active
+row_same : (p q : Picture) (ask : Ask) (answer : Answer) → Row p ask answer q → SameButActive p q
+row_same p q (asks.GetBlockLocations src offset length) (answers.GetBlockLocations None) row = row.1
+row_same p q (asks.GetBlockLocations src offset length) (answers.GetBlockLocations (Some found)) row = row.1
 
-module _ (old new : Shown) (i : ℕ) (src : List ℕ) (offset length : ℕ) (result : Result Answer AskFault) (served : Served old i (asks.GetBlockLocations src offset length) result new) (p : Picture) (told : old.picture ≡ Some p) (closed : IsClosed p src) where
-  -- the ask goes by its row
-  by_row : (q : Picture) × (new.picture ≡ Some q) × ServesByRow (Rose (old.counts.calls i) (new.counts.calls i)) p i (asks.GetBlockLocations src offset length) result q
-  by_row =
-      let after = told_after (λ p q. ServesTold (Rose (old.counts.calls i) (new.counts.calls i)) p i (asks.GetBlockLocations src offset length) result q) old.picture new.picture p served.picture told in
-      (after.0, after.1, ⊎_elim (λ own. absurd (closed own.0)) (λ row. row) after.2)
+-- the read links keep their places, whatever is answered
+places_stay : (risen : Type 0) (p q : Picture) (i : ℕ) (ask : Ask) (result : Result Answer AskFault) → ServesTold risen p i ask result q → (link : ℕ) → q.reads link ≡ p.reads link
+places_stay risen p q i ask (Ok answer) h link = ⊎_elim (λ row. (row_same p q ask answer row).reads link) (λ own. own.1.reads link) h.2
+places_stay risen p q i ask (Err faults.NoMemory) h link = h.rest.reads link
+places_stay risen p q i ask (Err (faults.Exception class message)) h link =
+    ⊎_elim (λ standby. standby.2.rest.reads link) (λ rest. ⊎_elim (λ refused. refused.2.rest.reads link) (λ more. ⊎_elim (λ own. own.2.1.reads link) (λ rose. ⊎_elim (λ same. same.reads link) (λ own. own.1.reads link) rose.1) more) rest) h
 
-  pub files_stay : (q : Picture) × (new.picture ≡ Some q) × SameFiles p q
-  files_stay = (by_row.0, by_row.1, row_files (Rose (old.counts.calls i) (new.counts.calls i)) p by_row.0 i (asks.GetBlockLocations src offset length) result by_row.2)
+-- so an ask leaves all links
+pub links_from-Served : (old new : Shown) (i : ℕ) (ask : Ask) (result : Result Answer AskFault) → Served old i ask result new → SameLinks old new
+links_from-Served old new i ask result served = record {
+  links = served.reads;
+  places = told_weaker (λ p q. ServesTold (Rose (old.counts.calls i) (new.counts.calls i)) p i ask result q) (SamePlaces old) old.picture new.picture
+      (λ p q h link is. places_stay (Rose (old.counts.calls i) (new.counts.calls i)) p q i ask result h link) served.picture;
+}
+
+-- files stay, where nobody writes the one that is asked for
+files_of : (risen : Type 0) (p q : Picture) (i : ℕ) (src : List ℕ) (offset length : ℕ) (result : Result Answer AskFault) → IsClosed p src → ServesTold risen p i (asks.GetBlockLocations src offset length) result q → SameFiles p q
+files_of risen p q i src offset length (Ok answer) closed h = ⊎_elim (λ row. (row_same p q (asks.GetBlockLocations src offset length) answer row).files) (λ own. absurd (closed own.0)) h.2
+files_of risen p q i src offset length (Err faults.NoMemory) closed h = h.rest.files
+files_of risen p q i src offset length (Err (faults.Exception class message)) closed h =
+    ⊎_elim (λ standby. standby.2.rest.files) (λ rest. ⊎_elim (λ refused. refused.2.rest.files) (λ more. ⊎_elim (λ own. absurd (closed own.2.0)) (λ rose. ⊎_elim (λ same. same.files) (λ own. absurd (closed own.0)) rose.1) more) rest) h
+
+module _ (old new : Shown) (i : ℕ) (src : List ℕ) (offset length : ℕ) (result : Result Answer AskFault) (served : Served old i (asks.GetBlockLocations src offset length) result new) (p : Picture) (told : old.picture ≡ Some p) where
+  -- what the ask did to the picture
+  serves : (q : Picture) × (new.picture ≡ Some q) × ServesTold (Rose (old.counts.calls i) (new.counts.calls i)) p i (asks.GetBlockLocations src offset length) result q
+  serves = told_after (λ p q. ServesTold (Rose (old.counts.calls i) (new.counts.calls i)) p i (asks.GetBlockLocations src offset length) result q) old.picture new.picture p served.picture told
+
+  pub files_stay : IsClosed p src → (q : Picture) × (new.picture ≡ Some q) × SameFiles p q
+  files_stay closed = (serves.0, serves.1, files_of (Rose (old.counts.calls i) (new.counts.calls i)) p serves.0 i src offset length result closed serves.2)
 
 module _ (old new : Shown) (src : List ℕ) (offset length : ℕ) (p : Picture) (told : old.picture ≡ Some p) (closed : IsClosed p src) where
   pub found_there : (found : LocatedBlocks) → Served old 0 (asks.GetBlockLocations src offset length) (Ok (answers.GetBlockLocations (Some found))) new → Locates p src found
-  found_there found served = (by_row old new 0 src offset length (Ok (answers.GetBlockLocations (Some found))) served p told closed).2.1
+  found_there found served = ⊎_elim (λ row. row.0) (λ own. absurd (closed own.0)) (serves old new 0 src offset length (Ok (answers.GetBlockLocations (Some found))) served p told).2.2
 
-  pub missing_there : Served old 0 (asks.GetBlockLocations src offset length) (Ok (answers.GetBlockLocations None)) new → Lacking p src
-  missing_there served = (by_row old new 0 src offset length (Ok (answers.GetBlockLocations None)) served p told closed).2.1
+  pub missing_there : Served old 0 (asks.GetBlockLocations src offset length) (Ok (answers.GetBlockLocations None)) new → IsNoFile p src
+  missing_there served = ⊎_elim (λ row. row.0) (λ own. absurd (closed own.0)) (serves old new 0 src offset length (Ok (answers.GetBlockLocations None)) served p told).2.2
 
   -- an exception of the one namenode, which is active, has a cause
-  pub exception_there : (class message : List ℕ) → Served old 0 (asks.GetBlockLocations src offset length) (Err (faults.Exception class message)) new → old.namenodes ≡ 1 → p.active < old.namenodes → Explains p src class ⊎ CallsRose new.namenodes old.counts new.counts
+  pub exception_there : (class message : List ℕ) → Served old 0 (asks.GetBlockLocations src offset length) (Err (faults.Exception class message)) new → old.namenodes ≡ 1 → p.active < old.namenodes → StandsForNoFile (kinds p) src class ⊎ CallsRose old.counts new
   exception_there class message served one below =
       ⊎_elim (λ standby. absurd (standby.0 (omega (arith, one, below))))
-      (λ rest. ⊎_elim (λ excused. inl excused.1) (λ rose. inr (0, omega (arith, one, served.later.namenodes), rose.0)) rest)
-      (by_row old new 0 src offset length (Err (faults.Exception class message)) served p told closed).2
+      (λ rest. ⊎_elim (λ refused. inl refused.1) (λ more. ⊎_elim (λ own. absurd (closed own.2.0)) (λ rose. inr (0, omega (arith, one, served.later.namenodes), rose.0)) more) rest)
+      (serves old new 0 src offset length (Err (faults.Exception class message)) served p told).2
 
 -- what holds of an error of the look-up holds of it as the command's
-pub tells_from-TellsLook : (path : List ℕ) (offset len : ℕ) (new : Shown) (e : HdfsError) → TellsLook path new e → Tells (commands.Read path offset len) new e
-tells_from-TellsLook path offset len new errors.NoMemory h = tt
-tells_from-TellsLook path offset len new errors.Failed h = absurd h
-tells_from-TellsLook path offset len new (errors.DataTransferError fault) h = absurd h
-tells_from-TellsLook path offset len new (errors.InvalidArgument fault) h = absurd h
-tells_from-TellsLook path offset len new (errors.FileNotFound name) h = h
-tells_from-TellsLook path offset len new (errors.RPCError class message) h = h
+pub tells_from-TellsLook : (path : List ℕ) (offset len : ℕ) (old new : Shown) (e : HdfsError) → TellsLook path new e → Tells (commands.Read path offset len) old new e
+tells_from-TellsLook path offset len old new errors.NoMemory h = tt
+tells_from-TellsLook path offset len old new errors.Failed h = absurd h
+tells_from-TellsLook path offset len old new (errors.DataTransferError fault) h = absurd h
+tells_from-TellsLook path offset len old new (errors.InvalidArgument fault) h = absurd h
+tells_from-TellsLook path offset len old new (errors.FileNotFound name) h = h
+tells_from-TellsLook path offset len old new (errors.RPCError class message) h = h

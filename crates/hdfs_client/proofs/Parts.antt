@@ -4,21 +4,21 @@ use Rattle.std.proofs.lemmas.Bool.{cases_lt}
 use Rattle.std.proofs.lemmas.List.{append-nil, length-map, drop-drop, length-drop, length-take}
 use Rattle.hdfs_model.specs.declared.messages.LocatedBlock.{LocatedBlock}
 use Rattle.hdfs_model.specs.declared.picture.BlockEntry.{BlockEntry}
-use Rattle.hdfs_model.specs.declared.session.HdfsError.{HdfsError}
-use Rattle.hdfs_model.specs.declared.session.HdfsError.TheVariants as errors
-use Rattle.hdfs_model.specs.declared.session.TransferFault.TheVariants as transfer
+use Rattle.hdfs_model.specs.declared.errors.HdfsError.{HdfsError}
+use Rattle.hdfs_model.specs.declared.errors.HdfsError.TheVariants as errors
+use Rattle.hdfs_model.specs.declared.errors.TransferFault.TheVariants as transfer
 use Rattle.hdfs_model.specs.Counts.{Rose}
 use Rattle.hdfs_model.specs.Picture.{Picture, SameFiles}
 use Rattle.hdfs_model.specs.Namenode.{LocatesBlock, LocatesBlocks}
 use Rattle.hdfs_model.specs.Shown.{Shown, OnlyReads}
 use Rattle.hdfs_model.specs.Steps.{range_of}
 use Rattle.hdfs_model.specs.Stores.{StoresBlock, StoresBlocks, HoldsPrefix}
-use Rattle.hdfs_model.specs.Causes.{LiesAt}
+use Rattle.hdfs_model.specs.Causes.{LiesAt, AllFailed, ByteLost}
 use Rattle.hdfs_model.proofs.Frames.{told_after, rose_since}
 use Rattle.hdfs_blocks.specs.Blocks.{node_at, node_count}
 use Rattle.hdfs_blocks.specs.Reader.{AllBlamed, IsRead}
 use Rattle.hdfs_blocks.proofs.Ranges.{range_of-range}
-use Rattle.hdfs_client.specs.Ranges.{HoldsBlock, FailsAt, LiesIn, IsLost, part_of}
+use Rattle.hdfs_client.specs.Ranges.{HoldsBlock, FailsAt, LiesIn, part_of}
 use Rattle.hdfs_client.proofs.Pieces.{range_of-append}
 
 none_to_read : (bytes : List ℕ) (from count : ℕ) → count ≡ 0 → range_of bytes from count ≡ []
@@ -171,7 +171,7 @@ module _ (start now : Shown) (p : Picture) (told : start.picture ≡ Some p) (on
       }
 
   -- a byte that its nodes did not give is lost
-  first_lost : (new : Shown) (byte : ℕ) → OnlyReads now new → LiesIn block offset end byte → ((g : List ℕ) → HoldsBlock now block g → length g ≡ block.b.num_bytes → AllBlamed now.counts new block g) → IsLost p ids offset end start.counts new.counts byte
+  first_lost : (new : Shown) (byte : ℕ) → OnlyReads now new → LiesIn block offset end byte → ((g : List ℕ) → HoldsBlock now block g → length g ≡ block.b.num_bytes → AllBlamed now.counts new block g) → ByteLost p ids offset end (AllFailed start.counts new.counts p) byte
   first_lost new byte only' lies blames =
       let blamed = blames bytes_of_first holds_first (omega (arith, first_long, num_is)) in
       let after = told_after SameFiles now.picture new.picture there.0 only'.files there.1 in
@@ -185,7 +185,7 @@ module _ (start now : Shown) (p : Picture) (told : start.picture ≡ Some p) (on
         behind = omega (arith, lies.behind, offset_is);
         before = omega (arith, lies.before, offset_is);
         inside = omega (arith, lies.inside, num_is);
-        failed = λ k below whole.
+        all_failed = λ k below whole.
             (let held : after.0.held (node_at block k) block.b.block_id ≡ p.held (get_or first.entry.nodes k []) first.id = after.2.held (node_at block k) block.b.block_id ∙ held_is there.0 k there.2 in
             ⊎_elim
             (λ rose. subst (λ (d : List ℕ). Rose (start.counts.nodes d) (new.counts.nodes d)) (node_is k)
@@ -194,7 +194,7 @@ module _ (start now : Shown) (p : Picture) (told : start.picture ≡ Some p) (on
             (blamed after.0 after.1 k (omega (arith, below, count_is))));
       }
 
-  pub fails_first : (new : Shown) (e : HdfsError) → OnlyReads now new → FailsAt (LiesIn block offset end) e → (IsRead e → (g : List ℕ) → HoldsBlock now block g → length g ≡ block.b.num_bytes → AllBlamed now.counts new block g) → FailsAt (IsLost p ids offset end start.counts new.counts) e
+  pub fails_first : (new : Shown) (e : HdfsError) → OnlyReads now new → FailsAt (LiesIn block offset end) e → (IsRead e → (g : List ℕ) → HoldsBlock now block g → length g ≡ block.b.num_bytes → AllBlamed now.counts new block g) → FailsAt (ByteLost p ids offset end (AllFailed start.counts new.counts p)) e
   fails_first new errors.NoMemory only' lies blames = tt
   fails_first new errors.Failed only' lies blames = lies
   fails_first new (errors.DataTransferError (transfer.Read byte)) only' lies blames = first_lost new byte only' lies (blames (λ same. absurd (cc)))

@@ -1,16 +1,19 @@
 -- What calls of a block's reader keep, joined, and a reader that begins.
-use Rattle.std.proofs.Common.{◌≡◌, inr, ⊎_elim, ℕ, ◌+◌, ◌-◌, ◌≤◌, List, ◌++◌, length, None, sym, ◌∙◌, ap, subst, arith}
+use Rattle.std.proofs.Common.{◌≡◌, inr, ⊎_elim, ℕ, ◌+◌, ◌-◌, ◌<◌, ◌≤◌, List, ◌++◌, length, None, sym, ◌∙◌, ap, subst, arith}
 use Rattle.hdfs_model.specs.declared.messages.LocatedBlock.{LocatedBlock}
-use Rattle.hdfs_model.specs.Counts.{Counts}
-use Rattle.hdfs_model.specs.Shown.{Shown}
+use Rattle.hdfs_model.specs.declared.errors.HdfsError.{HdfsError}
+use Rattle.hdfs_model.specs.declared.errors.HdfsError.TheVariants as errors
+use Rattle.hdfs_model.specs.declared.errors.TransferFault.TheVariants as transfer
+use Rattle.hdfs_model.specs.Counts.{FaultCounts}
+use Rattle.hdfs_model.specs.Shown.{Shown, SameLinks, SamePlaces}
 use Rattle.hdfs_model.specs.Steps.{range_of}
-use Rattle.hdfs_blocks.specs.Going.{Frame}
-use Rattle.hdfs_blocks.specs.Reader.{block_of, wanted_of, end_of, link_of, tried_of, Keeps, Reads, ShowsBlock, Over, AllBlamed}
+use Rattle.hdfs_model.proofs.Frames.{told_weaker}
+use Rattle.hdfs_blocks.specs.Going.{Frame, Goes}
+use Rattle.hdfs_blocks.specs.Reader.{block_of, wanted_of, end_of, link_of, tried_of, OthersStay, Keeps, Reads, ShowsBlock, Over, AllBlamed}
 use Rattle.hdfs_blocks.specs.declared.block_read.BlockRead.{BlockRead}
-use Rattle.hdfs_blocks.proofs.Joining.{frame_trans, some_or_none}
+use Rattle.hdfs_blocks.proofs.Joining.{frame_trans, goes_trans, reads_from-Goes, some_or_none}
 use Rattle.hdfs_blocks.proofs.Starting.{shows_new, over_new}
-use Rattle.hdfs_client.specs.Meeting.{SameLinks}
-use Rattle.hdfs_client.specs.Ranges.{HoldsBlock}
+use Rattle.hdfs_client.specs.Ranges.{HoldsBlock, FailsAt}
 
 frame_of : (s t : Shown) (q r : BlockRead) → Keeps s t q r → Frame s t q r
 frame_of s t q r k = record { block = k.block; end = k.end; only = k.only; others = k.others; places = k.places; own = k.own; frees = k.frees; holds = k.stands.holds }
@@ -21,13 +24,18 @@ module _ (s t u : Shown) (q r w : BlockRead) where
       let joined = frame_trans s t u q r w (frame_of s t q r f) (frame_of t u r w g) in
       record { block = joined.block; end = joined.end; only = joined.only; others = joined.others; places = joined.places; own = joined.own; frees = joined.frees; stands = g.stands }
 
-  pub reads_trans : Reads s t q r → Reads t u r w → Reads s u q w
-  reads_trans f g = record { shows = λ bytes shows. g.shows bytes (f.shows bytes shows); over = λ start bytes over. g.over start bytes (f.over start bytes over) }
+  pub reads_trans : Keeps s t q r → Keeps t u r w → Reads s t q r → Reads t u r w → Reads s u q w
+  reads_trans k l f g =
+      let first : Goes s t q r = record { frame = frame_of s t q r k; shows = f.shows; gives_up = f.gives_up } in
+      let second : Goes t u r w = record { frame = frame_of t u r w l; shows = g.shows; gives_up = g.gives_up } in
+      reads_from-Goes s u q w (goes_trans s t u q r w first second)
 
 -- a reader that keeps no link before and after leaves all links
 pub links_from-Keeps : (s t : Shown) (r r' : BlockRead) → Keeps s t r r' → link_of r ≡ None → link_of r' ≡ None → SameLinks s t
-links_from-Keeps s t r r' k before after = λ link.
-    ⊎_elim (λ some. k.others link (λ its. cc (before, its)) some) (λ none. k.frees link (λ its. cc (after, its)) (inr none) ∙ sym none) (some_or_none (s.reads link))
+links_from-Keeps s t r r' k before after = record {
+  links = λ link. ⊎_elim (λ some. k.others link (λ its. cc (before, its)) some) (λ none. k.frees link (λ its. cc (after, its)) (inr none) ∙ sym none) (some_or_none (s.reads link));
+  places = told_weaker (OthersStay s r) (SamePlaces s) s.picture t.picture (λ p q stay link is. stay link (λ its. cc (before, its)) is) k.places;
+}
 
 -- a new reader
 module _ (s : Shown) (r : BlockRead) (block : LocatedBlock) (offset len : ℕ) (same : block_of r ≡ block) (wanted : wanted_of r ≡ offset) (end : end_of r ≡ offset + len) (idle : link_of r ≡ None) (new : tried_of r ≡ 0) where
@@ -42,7 +50,16 @@ module _ (s : Shown) (r : BlockRead) (block : LocatedBlock) (offset len : ℕ) (
       let long : end_of r - wanted_of r ≡ len = omega (arith, end, wanted) in
       h g (shows_held g holds within) ∙ ap (λ (w : ℕ). out0 ++ range_of g w (end_of r - wanted_of r)) wanted ∙ ap (λ (n : ℕ). out0 ++ range_of g offset n) long
 
-  pub cause_new : (s' : Shown) → ((start : Counts) (g : List ℕ) → Over start s r g → AllBlamed start s' (block_of r) g)
+  pub cause_new : (s' : Shown) → ((start : FaultCounts) (g : List ℕ) → Over start s r g → AllBlamed start s' (block_of r) g)
       → (g : List ℕ) → HoldsBlock s block g → offset + len ≤ length g → AllBlamed s.counts s' block g
   cause_new s' h g holds within =
       subst (λ (b : LocatedBlock). AllBlamed s.counts s' b g) same (h s.counts g (over_new s r g idle new (shows_held g holds within)))
+
+-- a byte of what is left of a range is one of what was left of it before
+pub fails_from : (r q : BlockRead) (e : HdfsError) → wanted_of q ≤ wanted_of r → end_of r ≡ end_of q → FailsAt (λ byte. (wanted_of r ≤ byte) × (byte < end_of r)) e → FailsAt (λ byte. (wanted_of q ≤ byte) × (byte < end_of q)) e
+fails_from r q errors.NoMemory on end h = tt
+fails_from r q errors.Failed on end h = h
+fails_from r q (errors.DataTransferError (transfer.Read byte)) on end h = (omega (arith, on, h.0), omega (arith, end, h.1))
+fails_from r q (errors.InvalidArgument fault) on end h = h
+fails_from r q (errors.FileNotFound name) on end h = h
+fails_from r q (errors.RPCError class message) on end h = h

@@ -1,6 +1,6 @@
 -- What a step says of a path, over a picture that agrees with the files.
-use Rattle.std.proofs.Common.{◌≡◌, ⊎_elim, ℕ, ◌+◌, ◌<◌, ◌≤◌, nat_lt, Bool, true, false, cond, ◌||◌, ◌&&◌, ◌++◌, List, [], ◌∷◌, length, drop, Option, Some, None, option_map, refl, sym, ◌∙◌, ap, subst, arith}
-use Rattle.std.specs.List.{list_any, list_all, slice_split, Contains}
+use Rattle.std.proofs.Common.{◌≡◌, ℕ, ◌+◌, ◌<◌, ◌≤◌, nat_lt, Bool, true, false, cond, ◌||◌, ◌&&◌, ◌++◌, List, [], ◌∷◌, length, drop, Option, Some, None, option_map, refl, sym, ◌∙◌, ap, subst, arith}
+use Rattle.std.specs.List.{list_any, list_all, slice_split}
 use Rattle.std.specs.Str.{bytes_eq}
 use Rattle.std.proofs.lemmas.Bool.Decides.{nat_tests}
 use Rattle.std.proofs.lemmas.List.{length-drop}
@@ -10,10 +10,10 @@ use Rattle.hdfs_model.specs.declared.picture.BlockEntry.{BlockEntry}
 use Rattle.hdfs_model.specs.declared.picture.FileEntry.{FileEntry}
 use Rattle.hdfs_model.specs.declared.messages.LocatedBlock.{LocatedBlock}
 use Rattle.hdfs_model.specs.declared.messages.LocatedBlocks.{LocatedBlocks}
-use Rattle.hdfs_model.specs.declared.session.Command.{Command}
-use Rattle.hdfs_model.specs.declared.session.Command.TheVariants as commands
-use Rattle.hdfs_model.specs.declared.session.Reply.{Reply}
-use Rattle.hdfs_model.specs.declared.session.Reply.TheVariants as replies
+use Rattle.hdfs_model.specs.declared.commands.Command.{Command}
+use Rattle.hdfs_model.specs.declared.commands.Command.TheVariants as commands
+use Rattle.hdfs_model.specs.declared.commands.Reply.{Reply}
+use Rattle.hdfs_model.specs.declared.commands.Reply.TheVariants as replies
 use Rattle.hdfs_model.specs.Paths.{is_path, is_slash, is_component, ancestors, resolved}
 use Rattle.hdfs_model.specs.Files.{Node, Dir, File, Writing, Content, Kind, ClosedFile, OpenFile, State, NoFile, NotDirectory, kinds_of, kind_of, no_file, no_file_at, is_file}
 use Rattle.hdfs_model.specs.Steps.{World, Outcome, Refused, Done, Refusal, WrongState, Lacks, BadRange, BadPath, content_of, range_of, read_content, read_file, step_at, step, target_of}
@@ -21,7 +21,8 @@ use Rattle.hdfs_model.specs.Picture.{Picture, kinds, entry_kind}
 use Rattle.hdfs_model.specs.Namenode.{Locates, LocatesBlocks}
 use Rattle.hdfs_model.specs.Shown.{Shown}
 use Rattle.hdfs_model.specs.Stores.{AgreesAt, StoresBlocks}
-use Rattle.hdfs_model.specs.Sessions.{Ready}
+use Rattle.hdfs_model.specs.Sessions.{SameOpened, none_open}
+use Rattle.hdfs_model.specs.Headline.{Scene, Ready}
 use Rattle.hdfs_client.specs.Meeting.{Meets, IsClosed}
 use Rattle.hdfs_client.proofs.Agreeing.{agrees_told}
 
@@ -79,8 +80,8 @@ total_is p at total (id ∷ ids) (b ∷ blocks) bytes located stored =
 total_is p at total [] (b ∷ blocks) bytes located stored = absurd located
 total_is p at total (id ∷ ids) [] bytes located stored = absurd located
 
-no_opened : (state : State) (path : List ℕ) (o : Outcome) → state.opened ≡ [] → cond (list_any (bytes_eq path) state.opened) (Refused WrongState) o ≡ o
-no_opened state path o none = ap (λ (l : List (List ℕ)). cond (list_any (bytes_eq path) l) (Refused WrongState) o) none
+no_opened : (state : State) (path : List ℕ) (o : Outcome) → SameOpened none_open state → cond (list_any (bytes_eq path) state.opened) (Refused WrongState) o ≡ o
+no_opened state path o none = ap (λ (b : Bool). cond b (Refused WrongState) o) (none path)
 
 module _ (s : Shown) (state : State) (path : List ℕ) (meets : Meets s state path) (p : Picture) (told : s.picture ≡ Some p) where
   kinds_same : (q : List ℕ) → kinds p q ≡ kinds_of state.files q
@@ -144,15 +145,23 @@ step_is w state path offset len is =
     ap (λ (q : List ℕ). cond (is_path q) (step_at state q (commands.Read path offset len)) (Refused BadPath)) (resolved_path w.home path is)
     ∙ ap (λ (b : Bool). cond b (step_at state path (commands.Read path offset len)) (Refused BadPath)) is
 
+-- a session that has nothing open, over what is shown
+abbrev pub reading : Shown → Scene
+reading shown = record { opened = none_open; shown = shown }
+
+-- nobody writes the file of a command that a session is ready for
+pub closed_at : (w : World) (s : Shown) (state : State) (command : Command) → Ready w (reading s) state (command ∷ []) → (content : Content) → state.files (target_of w command) ≡ Some (Writing content) → ⊥
+closed_at w s state (commands.Read path offset len) ready content writing =
+    ready.avoids 0 (commands.Read path offset len) (omega arith) (content, writing, ready.opened (target_of w (commands.Read path offset len)))
+
 -- a command that a session is ready for meets the files at its path
-pub meets_from-Ready : (w : World) (strangers : List (List ℕ)) (s : Shown) (state : State) (path : List ℕ) (offset len : ℕ) → is_path path ≡ true → Ready w strangers [] s state (commands.Read path offset len ∷ []) → Meets s state path
-meets_from-Ready w strangers s state path offset len is ready = record {
+pub meets_from-Ready : (w : World) (s : Shown) (state : State) (path : List ℕ) (offset len : ℕ) → is_path path ≡ true → Ready w (reading s) state (commands.Read path offset len ∷ []) → Meets s state path
+meets_from-Ready w s state path offset len is ready = record {
   one = ready.one;
   agrees = ready.fits.agrees;
-  none_open = ready.fits.opened;
-  closed = λ content writing. ⊎_elim (λ own. absurd (omega (arith, own.1)))
-      (λ stranger. ready.avoids 0 (commands.Read path offset len) (omega arith) (subst (λ (q : List ℕ). Contains strangers q) (sym (resolved_path w.home path is)) stranger))
-      (ready.fits.being_written path content writing);
+  none_open = ready.opened;
+  absolute = is;
+  closed = λ content writing. closed_at w s state (commands.Read path offset len) ready content (subst (λ (q : List ℕ). state.files q ≡ Some (Writing content)) (sym (resolved_path w.home path is)) writing);
 }
 
 -- a read that is done leaves the state

@@ -1,18 +1,18 @@
 -- Ranges of files that are stored in blocks.
-use Rattle.std.specs.Prelude.{◌≡◌, ℕ, ◌+◌, ◌-◌, ◌<◌, ◌≤◌, min, max, List, length, Some}
+use Rattle.std.specs.Prelude.{◌≡◌, ℕ, ◌+◌, ◌-◌, ◌<◌, ◌≤◌, min, max, List, length, Some, None}
 use Rattle.hdfs_model.specs.declared.messages.LocatedBlock.{LocatedBlock}
-use Rattle.hdfs_model.specs.declared.picture.BlockEntry.{BlockEntry}
-use Rattle.hdfs_model.specs.declared.session.HdfsError.{HdfsError}
-use Rattle.hdfs_model.specs.declared.session.HdfsError.TheVariants as errors
-use Rattle.hdfs_model.specs.declared.session.TransferFault.TheVariants as transfer
-use Rattle.hdfs_model.specs.Counts.{Counts}
+use Rattle.hdfs_model.specs.declared.errors.HdfsError.{HdfsError}
+use Rattle.hdfs_model.specs.declared.errors.HdfsError.TheVariants as errors
+use Rattle.hdfs_model.specs.declared.errors.TransferFault.TheVariants as transfer
+use Rattle.hdfs_model.specs.Counts.{FaultCounts}
 use Rattle.hdfs_model.specs.Picture.{Picture}
 use Rattle.hdfs_model.specs.Namenode.{LocatesBlocks}
 use Rattle.hdfs_model.specs.Shown.{Shown}
 use Rattle.hdfs_model.specs.Steps.{range_of}
 use Rattle.hdfs_model.specs.Stores.{StoresBlocks, HoldsPrefix}
-use Rattle.hdfs_model.specs.Causes.{LiesAt, AllFailed}
 use Rattle.hdfs_blocks.specs.Blocks.{node_at, node_count}
+use Rattle.hdfs_blocks.specs.Reader.{block_of, wanted_of, end_of, link_of, Over, AllBlamed, IsRead}
+use Rattle.hdfs_blocks.specs.declared.block_read.BlockRead.{BlockRead}
 
 -- the blocks of a whole file, and the bytes that they store
 pub record Stored (shown : Shown) (blocks : List LocatedBlock) (content : List ℕ) : Type 0 where
@@ -36,11 +36,8 @@ part_of bytes at offset end = range_of bytes (offset - at) (min end (at + length
 -- The only errors are want of memory, and a byte that no datanode gave, of which this holds.
 abbrev pub FailsAt : (ℕ → Type 0) → HdfsError → Type 0
 FailsAt P errors.NoMemory = Unit {0}
-FailsAt P errors.Failed = ⊥
 FailsAt P (errors.DataTransferError (transfer.Read byte)) = P byte
-FailsAt P (errors.InvalidArgument fault) = ⊥
-FailsAt P (errors.FileNotFound path) = ⊥
-FailsAt P (errors.RPCError class message) = ⊥
+FailsAt P error = ⊥
 
 -- no byte of a block lies in the range of the file
 abbrev pub IsOutside : LocatedBlock → ℕ → ℕ → Type 0
@@ -52,15 +49,9 @@ pub record LiesIn (block : LocatedBlock) (offset end byte : ℕ) : Type 0 where
   pub before : block.offset + byte < end
   pub inside : byte < block.b.num_bytes
 
--- The byte at this offset of some block of a file lies in the range, and each listed datanode that holds the block whole
--- has failed.
-pub record IsLost (p : Picture) (ids : List ℕ) (offset end : ℕ) (old new : Counts) (byte : ℕ) : Type 0 where
-  pub id : ℕ
-  pub at : ℕ
-  pub lies : LiesAt p.table 0 ids id at
-  pub entry : BlockEntry
-  pub is : p.table id ≡ Some entry
-  pub behind : offset ≤ at + byte
-  pub before : at + byte < end
-  pub inside : byte < entry.length
-  pub failed : AllFailed old new p id entry
+-- An error of a reader: its byte lies in what was left of the range, each location is to blame where it isn't want of
+-- memory, and no link is kept.
+pub record FailsToRead (old new : Shown) (reader reader' : BlockRead) (error : HdfsError) : Type 0 where
+  pub fails : FailsAt (λ byte. (wanted_of reader ≤ byte) × (byte < end_of reader)) error
+  pub cause : IsRead error → (start : FaultCounts) (block : List ℕ) → Over start old reader block → AllBlamed start new (block_of reader) block
+  pub idle : link_of reader' ≡ None

@@ -1,6 +1,9 @@
 -- What callers see of a session.
-use Rattle.std.specs.Prelude.{ℕ, Bool, List, []}
-use Rattle.hdfs_model.specs.declared.session.Settings.{Settings}
+use Rattle.std.specs.Prelude.{ℕ, Bool, List}
+use Rattle.hdfs_model.specs.declared.commands.Settings.{Settings}
+use Rattle.hdfs_model.specs.Headline.{Scene}
+use Rattle.hdfs_model.specs.Sessions.{none_open}
+use Rattle.hdfs_model.specs.Shown.{Shown}
 use Rattle.hdfs_client.specs.declared.session.Session.{Session}
 
 -- what it is run with
@@ -12,5 +15,9 @@ abbrev pub has_failed : Session → Bool
 has_failed session = session.failed
 
 -- the paths that it has open: none, since no command opens one
-abbrev pub writers_of : Session → List (List ℕ)
-writers_of session = []
+abbrev pub opened_of : Session → List ℕ → Bool
+opened_of session = none_open
+
+-- a session and what its cluster shows
+abbrev pub scene_of : Session → Shown → Scene
+scene_of session shown = record { opened = opened_of session; shown = shown }

@@ -1,11 +1,8 @@
-// Where the bytes of a file lie.
-ghost use Rattle.std.specs.Prelude.{◌≡◌, ◌<◌, ◌^◌, ℕ, List, Some, Err, IfOk, IfErr};
-ghost use Rattle.hdfs_model.specs.declared.asks.Ask.TheVariants as asks;
-ghost use Rattle.hdfs_model.specs.declared.asks.AskFault.TheVariants as ask_faults;
-ghost use Rattle.hdfs_model.specs.declared.session.HdfsError.TheVariants as errors;
+//! Where the bytes of a file lie.
+ghost use Rattle.std.specs.Prelude.{◌≡◌, ◌<◌, ◌^◌, Some, IfOk, IfErr};
 ghost use Rattle.hdfs_model.specs.Namenode.{Locates};
 ghost use Rattle.hdfs_model.specs.Picture.{Picture, SameFiles};
-ghost use Rattle.hdfs_model.specs.Shown.{Later};
+ghost use Rattle.hdfs_model.specs.Shown.{Later, SameLinks, SameNodes};
 ghost use Rattle.hdfs_client.specs.Looking.{TellsLook, CauseOfLook};
 ghost use Rattle.hdfs_client.specs.Meeting.{IsClosed};
 
@@ -26,18 +23,17 @@ pub(crate) fn locate<C: Cluster>(
 
     // over any cluster
     ensures later { Later (C.shown cluster.old) (C.shown cluster.new) }
-    ensures links { (link : ℕ) → (C.shown cluster.new).reads link ≡ (C.shown cluster.old).reads link }
+    ensures links { SameLinks (C.shown cluster.old) (C.shown cluster.new) }
+    ensures nodes { SameNodes (C.shown cluster.old) (C.shown cluster.new) }
     ensures length { IfOk result (λ found. found.file_length < 2 ^ 63) }
     ensures tells { IfErr result (TellsLook path.now (C.shown cluster.new)) }
-    ensures served { (class message : List ℕ) → result ≡ Err (errors.RPCError class message)
-        → C.serves cluster.old 0 (asks.GetBlockLocations path.now 0 WHOLE_FILE) (Err (ask_faults.Exception class message)) cluster.new }
 
     // over a told picture, where nobody writes the file
     ensures files { (p : Picture) → (C.shown cluster.old).picture ≡ Some p → IsClosed p path.now
         → (q : Picture) × ((C.shown cluster.new).picture ≡ Some q) × SameFiles p q }
     ensures found { IfOk result (λ found. (p : Picture) → (C.shown cluster.old).picture ≡ Some p → IsClosed p path.now → Locates p path.now found) }
-    ensures cause { IfErr result (λ e. (p : Picture) → (C.shown cluster.old).picture ≡ Some p → (C.shown cluster.old).namenodes ≡ 1 → IsClosed p path.now
-        → CauseOfLook p path.now (C.shown cluster.old).counts (C.shown cluster.new) e) }
+    ensures cause { IfErr result (λ e. (p : Picture) → (C.shown cluster.old).picture ≡ Some p → (C.shown cluster.old).namenodes ≡ 1
+        → IsClosed p path.now → CauseOfLook p path.now (C.shown cluster.old) (C.shown cluster.new) e) }
 {
     let ask = Ask::GetBlockLocations {
         src: path.copy(alloc)?,

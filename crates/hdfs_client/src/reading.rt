@@ -1,14 +1,14 @@
-// The bytes of a range of a file, block by block.
-ghost use Rattle.std.specs.Prelude.{◌≡◌, ◌<◌, ◌≤◌, ◌+◌, ◌-◌, ◌^◌, ◌++◌, ℕ, List, None, OnOk, OnErr, IfOk, IfErr, MatchBool, length, false};
-ghost use Rattle.hdfs_blocks.specs.Reader.{block_of, wanted_of, end_of, link_of, has_failed, Stands, Keeps, Reads, ShowsBlock, Over, AllBlamed, IsRead};
-ghost use Rattle.hdfs_model.specs.Causes.{CauseAt, Tells};
-ghost use Rattle.hdfs_model.specs.Counts.{Counts};
+//! The bytes of a range of a file, block by block.
+ghost use Rattle.std.specs.Prelude.{◌≡◌, ◌<◌, ◌≤◌, ◌+◌, ◌-◌, ◌^◌, ◌++◌, ℕ, List, None, OnOk, IfOk, IfErr, MatchBool, length, false};
+ghost use Rattle.hdfs_blocks.specs.Reader.{wanted_of, end_of, link_of, has_failed, Stands, Keeps, Reads, ShowsBlock, AllBlamed, IsRead};
+ghost use Rattle.hdfs_model.specs.Anywhere.{Applies};
+ghost use Rattle.hdfs_model.specs.Causes.{Cause, AllFailed, ByteLost};
 ghost use Rattle.hdfs_model.specs.Files.{State};
-ghost use Rattle.hdfs_model.specs.Shown.{Later, OnlyReads};
-ghost use Rattle.hdfs_model.specs.Steps.{Done, step_at, range_of};
+ghost use Rattle.hdfs_model.specs.Shown.{OnlyReads, SameLinks};
+ghost use Rattle.hdfs_model.specs.Steps.{World, Done, step, range_of};
 ghost use Rattle.hdfs_model.specs.Stores.{Agrees};
-ghost use Rattle.hdfs_client.specs.Meeting.{SameLinks, Meets};
-ghost use Rattle.hdfs_client.specs.Ranges.{Stored, HoldsBlock, FailsAt, LiesIn, IsLost, IsOutside, part_of};
+ghost use Rattle.hdfs_client.specs.Meeting.{Meets};
+ghost use Rattle.hdfs_client.specs.Ranges.{Stored, HoldsBlock, FailsAt, FailsToRead, LiesIn, IsOutside, part_of};
 
 use crate::locate::locate;
 use hdfs_blocks::BlockRead;
@@ -33,15 +33,12 @@ fn append_next<C: Cluster>(
     ensures more { IfOk result (λ more. MatchBool more (wanted_of reader.old < wanted_of reader.new) (wanted_of reader.new ≡ end_of reader.new)) }
     ensures fine { OnOk result (has_failed reader.new ≡ false) }
     ensures on { OnOk result (wanted_of reader.old ≤ wanted_of reader.new) }
-    ensures fails { IfErr result (FailsAt (λ byte. (wanted_of reader.old ≤ byte) × (byte < end_of reader.old))) }
-    ensures idle { OnErr result (link_of reader.new ≡ None) }
+    ensures err { IfErr result (FailsToRead (C.shown cluster.old) (C.shown cluster.new) reader.old reader.new) }
 
     // over a told picture
     ensures reads { Reads (C.shown cluster.old) (C.shown cluster.new) reader.old reader.new }
     ensures bytes { OnOk result ((block : List ℕ) → ShowsBlock (C.shown cluster.old) reader.old block
         → out.new.items ≡ out.old.items ++ range_of block (wanted_of reader.old) (wanted_of reader.new - wanted_of reader.old)) }
-    ensures cause { IfErr result (λ e. IsRead e → (start : Counts) (block : List ℕ) → Over start (C.shown cluster.old) reader.old block
-        → AllBlamed start (C.shown cluster.new) (block_of reader.old) block) }
 {
     match reader.next(cluster) {
         Ok(Some(bytes)) => match out.extend_from_slice(&bytes) {
@@ -67,14 +64,12 @@ fn read_all<C: Cluster>(
 
     // over any cluster
     ensures keeps { Keeps (C.shown cluster.old) (C.shown cluster.new) reader.old reader.new }
-    ensures fails { IfErr result (FailsAt (λ byte. (wanted_of reader.old ≤ byte) × (byte < end_of reader.old))) }
+    ensures err { IfErr result (FailsToRead (C.shown cluster.old) (C.shown cluster.new) reader.old reader.new) }
     ensures idle { link_of reader.new ≡ None }
 
     // over a told picture
     ensures bytes { OnOk result ((block : List ℕ) → ShowsBlock (C.shown cluster.old) reader.old block
         → out.new.items ≡ out.old.items ++ range_of block (wanted_of reader.old) (end_of reader.old - wanted_of reader.old)) }
-    ensures cause { IfErr result (λ e. IsRead e → (start : Counts) (block : List ℕ) → Over start (C.shown cluster.old) reader.old block
-        → AllBlamed start (C.shown cluster.new) (block_of reader.old) block) }
 {
     'pieces: while append_next(cluster, out, reader)? {}
     Ok(())
@@ -159,7 +154,8 @@ fn read_blocks<C: Cluster>(
     ensures bytes { OnOk result ((content : List ℕ) → Stored (C.shown cluster.old) blocks.items content → end ≤ length content
         → out.new.items ≡ out.old.items ++ range_of content offset (end - offset)) }
     ensures lost { IfErr result (λ e. (content : List ℕ) (stored : Stored (C.shown cluster.old) blocks.items content)
-        → FailsAt (IsLost stored.picture stored.ids offset end (C.shown cluster.old).counts (C.shown cluster.new).counts) e) }
+        → FailsAt (ByteLost stored.picture stored.ids offset end
+        (AllFailed (C.shown cluster.old).counts (C.shown cluster.new).counts stored.picture)) e) }
 {
     for block in blocks {
         read_part(alloc, cluster, out, block, offset, end)?;
@@ -183,17 +179,11 @@ pub(crate) fn read_file<C: Cluster>(
     len: u64,
 ) -> Result<Reply, HdfsError>
     requires { 0 < (C.shown cluster.old).namenodes }
-
-    // over any cluster
-    ensures later { Later (C.shown cluster.old) (C.shown cluster.new) }
-    ensures links { SameLinks (C.shown cluster.old) (C.shown cluster.new) }
-    ensures tells { IfErr result (Tells (Command.Read path.now offset len) (C.shown cluster.new)) }
-
-    // over a cluster that agrees with a state
-    ensures ok { IfOk result (λ reply. (state : State) → Meets (C.shown cluster.old) state path.now
-        → (step_at state path.now (Command.Read path.now offset len) ≡ Done reply state) × Agrees (C.shown cluster.new).picture state.files) }
-    ensures err { IfErr result (λ e. (state : State) → Meets (C.shown cluster.old) state path.now
-        → CauseAt (step_at state path.now (Command.Read path.now offset len)) state path.now (Command.Read path.now offset len) (C.shown cluster.new).namenodes (C.shown cluster.old).counts (C.shown cluster.new) e
+    ensures anywhere { Applies (Command.Read path.now offset len) (C.shown cluster.old) (C.shown cluster.new) result }
+    ensures ok { IfOk result (λ reply. (world : World) (state : State) → Meets (C.shown cluster.old) state path.now
+        → (step world state (Command.Read path.now offset len) ≡ Done reply state) × Agrees (C.shown cluster.new).picture state.files) }
+    ensures err { IfErr result (λ e. (world : World) (state : State) → Meets (C.shown cluster.old) state path.now
+        → Cause world state (Command.Read path.now offset len) (C.shown cluster.old) (C.shown cluster.new) e
         × Agrees (C.shown cluster.new).picture state.files) }
 {
     let found = locate(alloc, cluster, path)?;

@@ -1,14 +1,9 @@
-// Sessions: commands over the files of one service.
-ghost use Rattle.std.specs.Prelude.{◌≡◌, ◌<◌, ℕ, List, [], ◌∷◌, IsSome, Err, IfOk, IfErr, OnOk, OnErr, true, false};
-ghost use Rattle.hdfs_model.specs.Causes.{Cause, Tells};
-ghost use Rattle.hdfs_model.specs.Counts.{NoneRose};
-ghost use Rattle.hdfs_model.specs.Files.{State};
-ghost use Rattle.hdfs_model.specs.Sessions.{Ready, Fits, Answers, world_of, has_path, touched};
-ghost use Rattle.hdfs_model.specs.Shown.{Later};
-ghost use Rattle.hdfs_model.specs.Steps.{Done, step};
-ghost use Rattle.hdfs_model.specs.Stores.{AgreesBut};
-ghost use Rattle.hdfs_model.specs.declared.session.HdfsError.TheVariants as errors;
-ghost use Rattle.hdfs_client.specs.Meeting.{SameLinks};
+//! One session of commands.
+ghost use Rattle.std.specs.Prelude.{◌≡◌, ◌<◌, [], ◌∷◌, Err, IfOk, IfErr, OnOk, OnErr, true, false};
+ghost use Rattle.hdfs_model.specs.Anywhere.{Applies};
+ghost use Rattle.hdfs_model.specs.Headline.{WhereReady, Applied};
+ghost use Rattle.hdfs_model.specs.Sessions.{world_of, has_path, none_open};
+ghost use Rattle.hdfs_model.specs.declared.errors.HdfsError.TheVariants as errors;
 
 use crate::reading::read_file;
 use hdfs_model::{Cluster, Command, HdfsError, Reply, Settings};
@@ -23,7 +18,7 @@ pub struct Session {
 }
 
 impl Session {
-    ghost use Rattle.hdfs_client.specs.Session.{settings_of, has_failed, writers_of};
+    ghost use Rattle.hdfs_client.specs.Session.{settings_of, has_failed, opened_of, scene_of};
 
     /// A session over a cluster, which it doesn't ask yet. It fails for want of memory alone.
     pub fn new<C: Cluster>(
@@ -34,7 +29,7 @@ impl Session {
         requires { 0 < (C.shown cluster.now).namenodes }
         ensures settings { IfOk result (λ session. settings_of session ≡ settings.now) }
         ensures fine { IfOk result (λ session. has_failed session ≡ false) }
-        ensures writers { IfOk result (λ session. writers_of session ≡ []) }
+        ensures opened { IfOk result (λ session. opened_of session ≡ none_open) }
         ensures err { IfErr result (λ e. e ≡ errors.NoMemory) }
     {
         Ok(Session {
@@ -48,17 +43,11 @@ impl Session {
     fn run<C: Cluster>(&self, cluster: &mut C, command: &Command) -> Result<Reply, HdfsError>
         requires namenode { 0 < (C.shown cluster.old).namenodes }
         requires path { has_path command.now ≡ true }
-
-        // over any cluster
-        ensures later { Later (C.shown cluster.old) (C.shown cluster.new) }
-        ensures links { SameLinks (C.shown cluster.old) (C.shown cluster.new) }
-        ensures tells { IfErr result (Tells command.now (C.shown cluster.new)) }
-
-        // over a cluster that agrees with a state
-        ensures ok { IfOk result (λ reply. (strangers : List (List ℕ)) (state : State) → Ready (world_of (settings_of self.now) (C.shown cluster.old)) strangers [] (C.shown cluster.old) state (command.now ∷ [])
-            → (next : State) × (step (world_of (settings_of self.now) (C.shown cluster.old)) state command.now ≡ Done reply next) × Fits strangers [] (C.shown cluster.new) next) }
-        ensures err { IfErr result (λ e. (strangers : List (List ℕ)) (state : State) → Ready (world_of (settings_of self.now) (C.shown cluster.old)) strangers [] (C.shown cluster.old) state (command.now ∷ [])
-            → Cause (world_of (settings_of self.now) (C.shown cluster.old)) state command.now (C.shown cluster.old).counts (C.shown cluster.new) e × AgreesBut (touched command.now) (C.shown cluster.new).picture state.files) }
+        ensures anywhere { Applies command.now (C.shown cluster.old) (C.shown cluster.new) result }
+        ensures applied { let old = scene_of self.now (C.shown cluster.old) in
+            let world = world_of (settings_of self.now) old.shown in
+            WhereReady world old (command.now ∷ [])
+            (λ state. Applied world state command.now old (scene_of self.now (C.shown cluster.new)) result) }
     {
         match command {
             Command::Read { path, offset, len } => {
@@ -67,7 +56,8 @@ impl Session {
         }
     }
 
-    /// Runs one command, whose path is absolute, and answers its reply. After an error it answers `Failed` for good.
+    /// Runs one command, whose path is absolute, and answers its reply. After an error it answers `Failed` for good, and
+    /// leaves the cluster as it is. What `Applied` says is the contract, for one command.
     ///
     /// | Error | Comes |
     /// |---|---|
@@ -84,22 +74,18 @@ impl Session {
         requires namenode { 0 < (C.shown cluster.old).namenodes }
         requires path { has_path command.now ≡ true }
 
-        // over any cluster
-        ensures settings { settings_of self.new ≡ settings_of self.old }
-        ensures later { Later (C.shown cluster.old) (C.shown cluster.new) }
-        ensures links { SameLinks (C.shown cluster.old) (C.shown cluster.new) }
-        ensures failed { has_failed self.old ≡ true → result ≡ Err errors.Failed }
+        // Over any cluster, and over one that agrees with a state.
+        ensures anywhere { has_failed self.old ≡ false → Applies command.now (C.shown cluster.old) (C.shown cluster.new) result }
+        ensures applied { let old = scene_of self.old (C.shown cluster.old) in
+            let world = world_of (settings_of self.old) old.shown in
+            has_failed self.old ≡ false → WhereReady world old (command.now ∷ [])
+            (λ state. Applied world state command.now old (scene_of self.new (C.shown cluster.new)) result) }
+
+        // After an error nothing more happens.
+        ensures failed { has_failed self.old ≡ true → (result ≡ Err errors.Failed) × (cluster.new ≡ cluster.old) }
         ensures fails { OnErr result (has_failed self.new ≡ true) }
         ensures fine { OnOk result (has_failed self.new ≡ false) }
-        ensures tells { IfErr result (λ e. has_failed self.old ≡ false → Tells command.now (C.shown cluster.new) e) }
-
-        // over a cluster that agrees with a state
-        ensures ok { IfOk result (λ reply. (strangers : List (List ℕ)) (state : State) → Ready (world_of (settings_of self.old) (C.shown cluster.old)) strangers (writers_of self.old) (C.shown cluster.old) state (command.now ∷ [])
-            → (next : State) × (step (world_of (settings_of self.old) (C.shown cluster.old)) state command.now ≡ Done reply next) × Fits strangers (writers_of self.new) (C.shown cluster.new) next) }
-        ensures err { IfErr result (λ e. has_failed self.old ≡ false → (strangers : List (List ℕ)) (state : State) → Ready (world_of (settings_of self.old) (C.shown cluster.old)) strangers (writers_of self.old) (C.shown cluster.old) state (command.now ∷ [])
-            → Cause (world_of (settings_of self.old) (C.shown cluster.old)) state command.now (C.shown cluster.old).counts (C.shown cluster.new) e × AgreesBut (touched command.now) (C.shown cluster.new).picture state.files) }
-        ensures complete { IfErr result (λ e. has_failed self.old ≡ false → (strangers : List (List ℕ)) (state : State) → Ready (world_of (settings_of self.old) (C.shown cluster.old)) strangers (writers_of self.old) (C.shown cluster.old) state (command.now ∷ [])
-            → NoneRose (C.shown cluster.old).namenodes (C.shown cluster.old).counts (C.shown cluster.new).counts → Answers (step (world_of (settings_of self.old) (C.shown cluster.old)) state command.now) e) }
+        ensures settings { settings_of self.new ≡ settings_of self.old }
     {
         if self.failed {
             return Err(HdfsError::Failed);

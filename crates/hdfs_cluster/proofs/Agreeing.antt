@@ -9,16 +9,15 @@ use Rattle.hdfs_model.specs.declared.picture.Entry.TheVariants as entries
 use Rattle.hdfs_model.specs.declared.picture.BlockEntry.{BlockEntry}
 use Rattle.hdfs_model.specs.Files.{Node, Dir, File, Writing, Content, State}
 use Rattle.hdfs_model.specs.Picture.{Picture}
-use Rattle.hdfs_cluster.specs.Adding.{AddsBlock, StoresBytes, blocks_picture}
+use Rattle.hdfs_cluster.specs.Adding.{AddsBlock, KeepsBlocks, StoresBytes, blocks_picture}
 use Rattle.hdfs_cluster.specs.Memory.{first_node}
 use Rattle.hdfs_cluster.proofs.Sizing.{sized_one, keeps_from-AddsBlock}
 use Rattle.hdfs_model.specs.Loading.{with_file}
 use Rattle.hdfs_model.specs.Stores.{Agrees, AgreesAt, StoresBlocks, StoresBlock, HoldsPrefix}
 
--- the blocks of the old table are in the new one, and each node holds the same of them
-pub record Extends (p p' : Picture) : Type 0 where
-  pub table : (id : ℕ) (entry : BlockEntry) → p.table id ≡ Some entry → p'.table id ≡ Some entry
-  pub held : (id : ℕ) (entry : BlockEntry) → p.table id ≡ Some entry → (node : List ℕ) → p'.held node id ≡ p.held node id
+-- the blocks of the old picture are in the new one, and each node holds the same of them
+abbrev pub Extends : Picture → Picture → Type 0
+Extends p p' = KeepsBlocks p.table p'.table p.held p'.held
 
 module _ (p p' : Picture) (ext : Extends p p') where
   stores_block : (id : ℕ) (entry : BlockEntry) (bytes : List ℕ) → p.table id ≡ Some entry → StoresBlock p id entry bytes → StoresBlock p' id entry bytes
@@ -52,10 +51,14 @@ pub agrees_with_file : (p p' : Picture) (state : State) (path : List ℕ) (conte
 agrees_with_file p p' state path content entry was ext names here q =
     subst (λ (o : Option Entry). AgreesAt p' o ((with_file state path content).files q)) (sym (names q)) (at_path p' (bytes_eq path q) entry (File content) (p.names q) (state.files q) here (agrees_at p p' ext (p.names q) (state.files q) (was q)))
 
-module _ (t t' : ℕ → Option BlockEntry) (held held' : List ℕ → ℕ → List ℕ) (id : ℕ) (bytes : List ℕ) (adds : AddsBlock t t' id (length bytes)) (holds : held' first_node id ≡ bytes) (others : (d : List ℕ) (q : ℕ) → q ≢ id → held' d q ≡ held d q) (short : length bytes < 2 ^ 63) where
-  apart : (q : ℕ) (entry : BlockEntry) → t q ≡ Some entry → q ≢ id
-  apart q entry is same = let none : t q ≡ None = ap t same ∙ adds.absent in absurd (cc (none, is))
+-- where a block is added, the others stay
+pub kept_block : (t t' : ℕ → Option BlockEntry) (held held' : List ℕ → ℕ → List ℕ) (id length : ℕ) → AddsBlock t t' id length → ((d : List ℕ) (q : ℕ) → q ≢ id → held' d q ≡ held d q) → KeepsBlocks t t' held held'
+kept_block t t' held held' id length adds others = record {
+  table = keeps_from-AddsBlock t t' id length adds;
+  held = λ q entry is d. others d q (λ same. (let none : t q ≡ None = ap t same ∙ adds.absent in absurd (cc (none, is))));
+}
 
+module _ (t t' : ℕ → Option BlockEntry) (held held' : List ℕ → ℕ → List ℕ) (id : ℕ) (bytes : List ℕ) (adds : AddsBlock t t' id (length bytes)) (holds : held' first_node id ≡ bytes) (others : (d : List ℕ) (q : ℕ) → q ≢ id → held' d q ≡ held d q) (short : length bytes < 2 ^ 63) where
   abbrev p' : Picture
   p' = blocks_picture t' held'
 
@@ -77,22 +80,19 @@ module _ (t t' : ℕ → Option BlockEntry) (held held' : List ℕ → ℕ → L
       )
 
   -- a block on the first datanode stores its bytes
-  pub stored_one : StoresBytes t t' held held' (id ∷ []) bytes
+  pub stored_one : StoresBytes t' held' (id ∷ []) bytes
   stored_one = record {
-    table = keeps_from-AddsBlock t t' id (length bytes) adds;
-    others = λ q entry is d. others d q (apart q entry is);
     sized = sized_one t' id (length bytes) adds.entry adds.listed adds.has_length short;
     stores = stores_added;
   }
 
 -- no bytes take no block
-pub stored_none : (t : ℕ → Option BlockEntry) (held : List ℕ → ℕ → List ℕ) (bytes : List ℕ) → bytes ≡ [] → StoresBytes t t held held [] bytes
-stored_none t held bytes none = record {
-  table = λ id entry is. is;
-  others = λ id entry is node. refl;
-  sized = refl;
-  stores = none;
-}
+pub stored_none : (t : ℕ → Option BlockEntry) (held : List ℕ → ℕ → List ℕ) (bytes : List ℕ) → bytes ≡ [] → StoresBytes t held [] bytes
+stored_none t held bytes none = record { sized = refl; stores = none }
+
+-- a picture with the same names, in which the blocks are kept, agrees with the same files
+pub agrees_kept : (p p' : Picture) (state : State) → Extends p p' → ((q : List ℕ) → p'.names q ≡ p.names q) → Agrees (Some p) state.files → Agrees (Some p') state.files
+agrees_kept p p' state ext names was q = subst (λ (o : Option Entry). AgreesAt p' o (state.files q)) (sym (names q)) (agrees_at p p' ext (p.names q) (state.files q) (was q))
 
 -- blocks that store bytes in a picture of blocks alone do so in each picture of these blocks
 pub stores_in : (p : Picture) (ids bytes : List ℕ) → StoresBlocks (blocks_picture p.table p.held) ids bytes → StoresBlocks p ids bytes

@@ -12,10 +12,10 @@ use Rattle.hdfs_model.specs.declared.picture.Entry.{Entry}
 use Rattle.hdfs_model.specs.declared.picture.Entry.TheVariants as entries
 use Rattle.hdfs_model.specs.declared.picture.FileEntry.{FileEntry}
 use Rattle.hdfs_model.specs.Files.{Directory, ClosedFile, OpenFile, NotFile, no_file, no_file_at, IsTree}
-use Rattle.hdfs_model.specs.Namenode.{Follow, IsShaped, ServesTold}
+use Rattle.hdfs_model.specs.Namenode.{Follow, IsShaped, ServesTold, src_of}
 use Rattle.hdfs_model.specs.Picture.{Picture, SamePicture, entry_kind, kinds, kinds_in}
 use Rattle.hdfs_model.proofs.Trees.{no_file_there}
-use Rattle.hdfs_cluster.specs.Answering.{src_of, LocatesFile, IsExcused, Answers}
+use Rattle.hdfs_cluster.specs.Answering.{LocatesFile, StandsForRefusal, Answers}
 use Rattle.hdfs_cluster.proofs.Locating.{all_within}
 
 module _ (names : List ℕ → Option Entry) (tree : IsTree (kinds_in names)) (src : List ℕ) where
@@ -32,17 +32,18 @@ module _ (names : List ℕ → Option Entry) (tree : IsTree (kinds_in names)) (s
 -- what a namenode of a cluster in memory has to show of its answer
 module _ (p : Picture) (i : ℕ) (active : i ≡ p.active) where
   pub answers_found : (ask : Ask) (found : LocatedBlocks) → LocatesFile p.names p.table (src_of ask) found → no_file (kinds p) (src_of ask) ≡ None → Answers p i ask (Ok (answers.GetBlockLocations (Some found)))
-  answers_found (asks.GetBlockLocations src offset length) found h allowed = (active, record { allowed = allowed; file = h.file; named = h.named; blocks = h.blocks }, h)
+  answers_found (asks.GetBlockLocations src offset length) found h allowed = (active, record { allowed = allowed; file = h.file; named = h.named; blocks = h.blocks })
 
-  pub answers_excused : (ask : Ask) (fault : AskFault) → IsExcused (kinds p) (src_of ask) fault → Answers p i ask (Err fault)
+  pub answers_excused : (ask : Ask) (fault : AskFault) → StandsForRefusal (kinds p) (src_of ask) fault → Answers p i ask (Err fault)
   answers_excused (asks.GetBlockLocations src offset length) faults.NoMemory h = tt
-  answers_excused (asks.GetBlockLocations src offset length) (faults.Exception class message) h = inr (active, (h.0, h.1, h.2))
+  answers_excused (asks.GetBlockLocations src offset length) (faults.Exception class message) h = inr (active, (h.0, h.1, h.2), h.3)
 
 pub shaped_found : (ask : Ask) (found : LocatedBlocks) → found.file_length < 2 ^ 63 → Follow 0 found.file_length found.blocks → IsShaped ask (answers.GetBlockLocations (Some found))
 shaped_found (asks.GetBlockLocations src offset length) found short follow = (short, all_within 0 found.file_length found.blocks follow short, λ from whole. follow)
 
 -- what is answered so is served by the rows, where the picture stays
 pub serves_answer : (risen : Type 0) (p q : Picture) (i : ℕ) (ask : Ask) (result : Result Answer AskFault) → SamePicture p q → Answers p i ask result → ServesTold risen p i ask result q
-serves_answer risen p q i ask (Ok answer) same h = inr (inl h.0, h.1, same.rest, inl same.active)
-serves_answer risen p q i ask (Err faults.NoMemory) same h = inr same
-serves_answer risen p q i ask (Err (faults.Exception class message)) same h = inr (⊎_elim (λ l. inl (l.0, l.1, same)) (λ r. inr (inl (r.0, r.1, same))) h)
+serves_answer risen p q i (asks.GetBlockLocations src offset length) (Ok (answers.GetBlockLocations (Some found))) same h = (inl h.0, inl same.active, inl (h.1, same.rest))
+serves_answer risen p q i (asks.GetBlockLocations src offset length) (Ok (answers.GetBlockLocations None)) same h = absurd h.1
+serves_answer risen p q i ask (Err faults.NoMemory) same h = same
+serves_answer risen p q i ask (Err (faults.Exception class message)) same h = ⊎_elim (λ l. inl (l.0, l.1, same)) (λ r. inr (inl (r.0, r.1, same))) h

@@ -5,7 +5,7 @@ use Rattle.std.proofs.lemmas.Bool.Decides.{nat_tests}
 use Rattle.std.proofs.lemmas.List.Sums.{sum_by-cons}
 use Rattle.hdfs_model.specs.declared.store.Line.{Line}
 use Rattle.hdfs_model.specs.declared.store.Line.TheVariants as lines
-use Rattle.hdfs_cluster.specs.declared.datanode.DataNode.{DataNode}
+use Rattle.hdfs_cluster.specs.declared.datanode.Datanode.{Datanode}
 use Rattle.hdfs_cluster.specs.Nodes.{faults_of, breaks_in}
 use Rattle.hdfs_cluster.specs.Memory.{failed, uuid_of, node_of, nth_of, is_fault_of, breaks_at, breaks, fault_count}
 
@@ -73,7 +73,7 @@ failed-only m (suc n) = by_test (eqb m (suc n)) refl (failed-only m n)
     by_test false is before = omega (arith, before, ap one is)
 
 failed-line : (uuid : List ℕ) (line : Line) (n : ℕ) → failed (λ k. breaks_at uuid k line) n ≤ one (is_fault_of uuid line)
-failed-line uuid (lines.File path permission replication block_size bytes) n = omega (arith, failed-never n)
+failed-line uuid (lines.File path attributes bytes) n = omega (arith, failed-never n)
 failed-line uuid (lines.Fault fault) n = by_test (bytes_eq (uuid_of (node_of fault)) uuid)
   where
     by_test : (b : Bool) → failed (λ k. b && eqb (nth_of fault) k) n ≤ one b
@@ -89,7 +89,7 @@ failed-breaks uuid (line ∷ loaded) n =
     omega (arith, parts, counts, failed-line uuid line n, failed-breaks uuid loaded n)
 
 -- no datanode has failed more often than faults were loaded for it
-pub faults-le : (loaded : List Line) (uuid : List ℕ) (o : Option DataNode) → ((packet : ℕ) → breaks_in o packet ≡ true → breaks loaded uuid packet ≡ true) → faults_of o ≤ fault_count loaded uuid
+pub faults-le : (loaded : List Line) (uuid : List ℕ) (o : Option Datanode) → ((packet : ℕ) → breaks_in o packet ≡ true → breaks loaded uuid packet ≡ true) → faults_of o ≤ fault_count loaded uuid
 faults-le loaded uuid None planned = omega arith
 faults-le loaded uuid (Some node) planned =
     omega (arith, node.counted, failed-more (breaks_in (Some node)) (breaks loaded uuid) node.packets planned, failed-breaks uuid loaded node.packets)

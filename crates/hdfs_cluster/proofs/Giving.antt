@@ -1,5 +1,5 @@
 -- What a packet that was asked for does to what a cluster shows.
-use Rattle.std.proofs.Common.{◌≡◌, ◌≢◌, inl, ⊎_elim, ℕ, pos, ◌+◌, ◌<◌, ◌≤◌, Bool, true, false, cond, List, [], ◌∷◌, length, get_or, Option, Some, None, IfSome, refl, sym, ◌∙◌, ap, subst, arith, zero, suc, unwrap_or}
+use Rattle.std.proofs.Common.{◌≡◌, ◌≢◌, inl, ⊎_elim, ℕ, pos, ◌+◌, ◌<◌, ◌≤◌, Bool, true, false, cond, List, [], ◌∷◌, length, get_or, Option, Some, None, IfSome, Result, map, refl, sym, ◌∙◌, ap, subst, arith, zero, suc, unwrap_or}
 use Rattle.std.proofs.lemmas.List.{get_or-set_same, get_or-set_other}
 use Rattle.std.proofs.lemmas.Bool.{cases_eq, false≢true}
 use Rattle.std.proofs.lemmas.Slice.Eq.{bytes_eq-Decides}
@@ -8,21 +8,27 @@ use Rattle.std.specs.Str.{bytes_eq}
 use Rattle.slab.specs.Slab as slab
 use Rattle.slab.specs.Slab.{Slab, Updates, with_value}
 use Rattle.hdfs_wire.specs.declared.packet.ReadPacket.{ReadPacket}
+use Rattle.hdfs_model.specs.declared.asks.LinkFault.{LinkFault}
 use Rattle.hdfs_model.specs.declared.asks.LinkFault.TheVariants as link_faults
+use Rattle.hdfs_model.specs.declared.messages.ReadAsk.{ReadAsk}
 use Rattle.hdfs_model.specs.declared.messages.ServerDefaults.{ServerDefaults}
-use Rattle.hdfs_model.specs.declared.picture.AnswerKind.{AnswerKind}
+use Rattle.hdfs_model.specs.declared.picture.LastAnswer.{LastAnswer}
 use Rattle.hdfs_model.specs.declared.picture.OpenRead.{OpenRead}
 use Rattle.hdfs_model.specs.declared.picture.ReadPlace.{ReadPlace}
 use Rattle.hdfs_model.specs.declared.store.Line.{Line}
 use Rattle.hdfs_model.specs.Counts.{Rose}
 use Rattle.hdfs_model.specs.Picture.{Picture, SameFiles}
 use Rattle.hdfs_model.specs.Reading.{ReadsAt, IsSlice, moved_on}
-use Rattle.hdfs_model.specs.Shown.{Shown, Later, Given, NotGiven}
+use Rattle.hdfs_model.specs.Shown.{Shown, Later, Opened, Given, NotGiven}
 use Rattle.hdfs_cluster.specs.declared.namespace.Namespace.{Namespace}
 use Rattle.hdfs_cluster.specs.declared.datanodes.Datanodes.{Datanodes}
-use Rattle.hdfs_cluster.specs.declared.packets.MemRead.{MemRead}
-use Rattle.hdfs_cluster.specs.MemShown.{picture_at, counts_of}
-use Rattle.hdfs_cluster.specs.Nodes.{node_at, faults_of, SameBytes}
+use Rattle.hdfs_cluster.specs.declared.read_link.MemRead.{MemRead}
+use Rattle.hdfs_cluster.specs.declared.mem_cluster.MemCluster.{MemCluster}
+use Rattle.hdfs_cluster.specs.Lines.{line_of}
+use Rattle.hdfs_cluster.specs.Memory.{breaks}
+use Rattle.hdfs_cluster.specs.MemShown.{picture_at, counts_of, packets_at, is_broken, is_counted, AsksPacket}
+use Rattle.hdfs_model.proofs.Frames.{never_fall_refl}
+use Rattle.hdfs_cluster.specs.Nodes.{node_at, held_in, faults_of, packets_of, breaks_in, SameBytes, Asked}
 
 past_none : {X : Type 0} (slots : List (Option X)) (key : ℕ) (v : X) → get_or slots key None ≡ Some v → key < length slots
 past_none [] key v is = absurd (cc)
@@ -36,7 +42,7 @@ updates_with s key v w was =
     record { changed = get_or-set_same s.slots key (Some w) None within; others = λ other apart. get_or-set_other s.slots key other (Some w) None apart }
 
 -- what a cluster with these parts shows
-abbrev pub shown_at : Namespace → ℕ → ServerDefaults → AnswerKind → ℕ → List Line → Datanodes → Slab MemRead → Shown
+abbrev pub shown_at : Namespace → ℕ → ServerDefaults → LastAnswer → ℕ → List Line → Datanodes → Slab MemRead → Shown
 shown_at space active defaults last namenodes loaded nodes s = record {
   picture = Some (picture_at space nodes active defaults (λ link. option_map (λ r. r.place) (slab.get s link)));
   counts = counts_of nodes;
@@ -46,7 +52,28 @@ shown_at space active defaults last namenodes loaded nodes s = record {
   loaded = loaded;
 }
 
-module _ (space : Namespace) (active : ℕ) (defaults : ServerDefaults) (last : AnswerKind) (namenodes : ℕ) (loaded : List Line) (nodes nodes' : Datanodes) (s s' : Slab MemRead) (link : ℕ) (v w : MemRead) (broke : Bool)
+-- a read was opened
+pub opened_read : (space : Namespace) (active : ℕ) (defaults : ServerDefaults) (last : LastAnswer) (namenodes : ℕ) (loaded : List Line) (nodes : Datanodes) (s s' : Slab MemRead) (link : ℕ) (v : MemRead) (ask : ReadAsk) (place : ℕ)
+    → slab.get s link ≡ None → Updates s s' link (Some v)
+    → v.told ≡ record { node = ask.node; block = ask.block; token = ask.token; before = faults_of (node_at nodes ask.node.datanode_uuid) }
+    → v.place ≡ record { block = ask.block.block_id; offset = ask.offset; len = ask.len; base = held_in nodes ask.node.datanode_uuid ask.block.block_id; place = place } → place ≤ ask.offset
+    → Opened (shown_at space active defaults last namenodes loaded nodes s) ask link (shown_at space active defaults last namenodes loaded nodes s')
+opened_read space active defaults last namenodes loaded nodes s s' link v ask place vacant updates told is behind =
+    let rest : ReadsAt link (picture_at space nodes active defaults (λ l. option_map (λ r. r.place) (slab.get s l))) (picture_at space nodes active defaults (λ l. option_map (λ r. r.place) (slab.get s' l))) =
+    record { files = record { names = λ path. refl; table = λ id. refl; held = λ node id. refl; defaults = refl }; active = refl; others = λ l apart. ap (option_map (λ r. r.place)) (updates.others l apart) } in
+    record {
+      reading = record {
+        later = record { counts = never_fall_refl (counts_of nodes); namenodes = refl; loaded = refl };
+        last = refl;
+        others = λ l apart. ap (option_map (λ r. r.told)) (updates.others l apart);
+        picture = rest;
+      };
+      fresh = record { read = ap (option_map (λ r. r.told)) vacant };
+      opened = ap (option_map (λ r. r.told)) updates.changed ∙ ap Some told;
+      begins = record { rest = rest; place = place; behind = behind; at = ap (option_map (λ r. r.place)) updates.changed ∙ ap Some is };
+    }
+
+module _ (space : Namespace) (active : ℕ) (defaults : ServerDefaults) (last : LastAnswer) (namenodes : ℕ) (loaded : List Line) (nodes nodes' : Datanodes) (s s' : Slab MemRead) (link : ℕ) (v w : MemRead) (broke : Bool)
     (was : slab.get s link ≡ Some v) (updates : Updates s s' link (Some w)) (told : w.told ≡ v.told)
     (held : (d : List ℕ) → SameBytes (node_at nodes d) (node_at nodes' d))
     (uuid : List ℕ) (key : uuid ≡ v.told.node.datanode_uuid)
@@ -128,3 +155,29 @@ module _ (space : Namespace) (active : ℕ) (defaults : ServerDefaults) (last : 
           inl (subst (λ (r : ReadPlace). IsSlice r packet) same slice, ap (option_map (λ r. r.place)) updates.changed ∙ ap Some place ∙ ap (λ (r : ReadPlace). Some (moved_on r (length packet.payload))) same));
     };
   }
+
+same_bools : (a b : Bool) → (a ≡ true → b ≡ true) → (b ≡ true → a ≡ true) → a ≡ b
+same_bools true b first then = sym (first refl)
+same_bools false true first then = absurd (false≢true (then refl))
+same_bools false false first then = refl
+
+-- a packet that was counted breaks exactly where a line says so
+pub asks_packet : (m m' : MemCluster) (node : List ℕ) (result : Result ReadPacket LinkFault) → Asked (node_at m.nodes node) (is_broken result) (node_at m'.nodes node) → is_counted result ≡ true
+    → ((d : List ℕ) → d ≢ node → node_at m'.nodes d ≡ node_at m.nodes d) → AsksPacket m m' node result
+asks_packet m m' node result asked counted others = record {
+  number = λ there small. (let one : cond (is_counted result) 1 0 ≡ 1 = ap {B = ℕ} (λ (b : Bool). cond b 1 0) counted in omega (arith, asked.packets there, one, small));
+  breaks = λ there small is. asked.breaks small ∙ same_bools (breaks_in (node_at m.nodes node) (packets_at m node + 1)) (breaks (map line_of m.loaded.items) node (packets_at m node + 1))
+      (m.planned node (packets_at m node + 1))
+      (m.acts node (packets_at m node + 1) there (omega arith));
+  own = asked.faults;
+  others = λ d apart. (ap packets_of (others d apart), ap faults_of (others d apart));
+}
+
+-- the same of the datanode of a link
+pub asks_on : (m m' : MemCluster) (link : ℕ) (v : MemRead) (node : List ℕ) (broke : Bool) (result : Result ReadPacket LinkFault) → slab.get m.reads link ≡ Some v → node ≡ v.told.node.datanode_uuid
+    → Asked (node_at m.nodes node) broke (node_at m'.nodes node) → broke ≡ is_broken result → is_counted result ≡ true → ((d : List ℕ) → d ≢ node → node_at m'.nodes d ≡ node_at m.nodes d)
+    → IfSome (option_map (λ r. r.told) (slab.get m.reads link)) (λ read. AsksPacket m m' read.node.datanode_uuid result)
+asks_on m m' link v node broke result was key asked is counted others =
+    subst (λ (o : Option OpenRead). IfSome o (λ read. AsksPacket m m' read.node.datanode_uuid result)) (sym (ap (option_map (λ r. r.told)) was))
+    (subst (λ (d : List ℕ). AsksPacket m m' d result) key
+    (asks_packet m m' node result (subst (λ (b : Bool). Asked (node_at m.nodes node) b (node_at m'.nodes node)) is asked) counted others))

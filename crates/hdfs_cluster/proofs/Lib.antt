@@ -5,6 +5,7 @@ pub mod Giving
 pub mod Locating
 pub mod Naming
 pub mod Nodes
+pub mod NothingLoaded
 pub mod Numbers
 pub mod Sizing
 pub mod Taking

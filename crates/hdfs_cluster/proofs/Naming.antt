@@ -11,6 +11,7 @@ use Rattle.std.specs.Cmp.Lexicographic.{slice_cmp}
 use Rattle.std.specs.BTreeMap.{is_at}
 use Rattle.std.specs.Str.{bytes_eq}
 use Rattle.std.specs.String.{string_bytes}
+use Rattle.hdfs_model.specs.declared.attributes.Attributes.{Attributes}
 use Rattle.hdfs_model.specs.declared.picture.Entry.{Entry}
 use Rattle.hdfs_model.specs.declared.picture.Entry.TheVariants as entries
 use Rattle.hdfs_model.specs.declared.picture.BlockEntry.{BlockEntry}
@@ -103,8 +104,8 @@ module _ (names names' : List ℕ → Option Entry) (table : ℕ → Option Bloc
         sized = λ q. ap (is_sized table) (now q) ∙ sized_at (bytes_eq path q) (names q) sized (sound.sized q);
       }
 
-pub place_from_test : (names : List ℕ → Option Entry) (path : List ℕ) (permission replication block_size count : ℕ) → accepts names path permission replication block_size count ≡ true → IsPlace names path
-place_from_test names path permission replication block_size count is =
+pub place_from_test : (names : List ℕ → Option Entry) (path : List ℕ) (attributes : Attributes) (count : ℕ) → accepts names path attributes count ≡ true → IsPlace names path
+place_from_test names path attributes count is =
     let all = and_parts (is_path path && is_none (names path) && is_dir (names (parent_of path))) _ is in
     let front = and_parts (is_path path && is_none (names path)) (is_dir (names (parent_of path))) all.0 in
     let first = and_parts (is_path path) (is_none (names path)) front.0 in

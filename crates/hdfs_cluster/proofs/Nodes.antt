@@ -1,15 +1,23 @@
 -- What a change at one key of a map with text keys does to what is looked up.
-use Rattle.std.proofs.Common.{◌≡◌, ◌≢◌, ℕ, Bool, true, false, cond, List, [], Option, Some, None, is_some, refl, sym, ◌∙◌, ap, subst}
+use Rattle.std.proofs.Common.{◌≡◌, ◌≢◌, ℕ, Bool, true, false, cond, List, [], Option, Some, None, is_some, refl, sym, ◌∙◌, ap, subst, arith}
 use Rattle.std.specs.Str.{bytes_eq}
 use Rattle.std.specs.Map.{update}
 use Rattle.std.proofs.lemmas.Slice.Eq.{bytes_eq-Decides}
-use Rattle.hdfs_cluster.specs.declared.datanode.DataNode.{DataNode}
-use Rattle.hdfs_cluster.specs.Nodes.{faults_of, bytes_in, breaks_in, SameFaults}
+use Rattle.hdfs_cluster.specs.declared.datanode.Datanode.{Datanode}
+use Rattle.hdfs_cluster.specs.Nodes.{faults_of, bytes_in, breaks_in, SameFaults, PlansOnly, CountsOnly}
 
 module _ {X : Type 0} (look after : List ℕ → Option X) (key : List ℕ) (w : X) (updates : (q : List ℕ) → after q ≡ update bytes_eq look key (Some w) q) where
   at_test : (b : Bool) (q : List ℕ) → (b ≡ true → key ≡ q) → key ≢ q → cond b (Some w) (look q) ≡ look q
   at_test true q is apart = absurd (apart (is refl))
   at_test false q is apart = refl
+
+  true_at : (b : Bool) (o : Option X) → b ≡ true → cond b (Some w) o ≡ Some w
+  true_at true o is = refl
+  true_at false o is = absurd (cc)
+
+  -- the key has the new value
+  pub update_at : after key ≡ Some w
+  update_at = updates key ∙ true_at (bytes_eq key key) (look key) ((bytes_eq-Decides key key).1 refl)
 
   -- another key keeps what it has
   pub update_other : (q : List ℕ) → q ≢ key → after q ≡ look q
@@ -51,7 +59,7 @@ module _ {X : Type 0} (look after : List ℕ → Option X) (key : List ℕ) (w :
     update_all here there q = subst (P q) (sym (updates q)) (new_at (bytes_eq key q) q (bytes_eq-Decides key q).0 here (there q))
 
 -- a datanode that fails at nothing and holds nothing
-pub record IsNew (o : Option DataNode) : Type 0 where
+pub record IsNew (o : Option Datanode) : Type 0 where
   pub bytes : (block : ℕ) → bytes_in o block ≡ []
   pub faults : faults_of o ≡ 0
   pub breaks : (packet : ℕ) → breaks_in o packet ≡ false
@@ -59,5 +67,11 @@ pub record IsNew (o : Option DataNode) : Type 0 where
 pub new_none : IsNew None
 new_none = record { bytes = λ block. refl; faults = refl; breaks = λ packet. refl }
 
-pub same_faults_refl : (o : Option DataNode) → SameFaults o o
-same_faults_refl o = record { faults = refl; breaks = λ packet. refl }
+pub same_faults_refl : (o : Option Datanode) → SameFaults o o
+same_faults_refl o = record { there = refl; faults = refl; packets = refl; breaks = λ packet. refl }
+
+pub plans_only_refl : (o : Option Datanode) → PlansOnly o o
+plans_only_refl o = record { there = refl; bytes = λ block. refl; faults = refl; packets = refl }
+
+pub counts_only_refl : (o : Option Datanode) → CountsOnly o o
+counts_only_refl o = record { there = refl; bytes = λ block. refl; packets = omega arith; breaks = λ packet. refl }

@@ -44,9 +44,12 @@ blocks_picture table held = record {
   reads = λ link. None;
 }
 
--- blocks with these ids, of fewer than 2^63 bytes, store these bytes; all other blocks stay, and their bytes
-pub record StoresBytes (old new : ℕ → Option BlockEntry) (held held' : List ℕ → ℕ → List ℕ) (ids bytes : List ℕ) : Type 0 where
+-- the blocks that were there are there, and each datanode holds the same of them
+pub record KeepsBlocks (old new : ℕ → Option BlockEntry) (was now : List ℕ → ℕ → List ℕ) : Type 0 where
   pub table : Keeps old new
-  pub others : (id : ℕ) (entry : BlockEntry) → old id ≡ Some entry → (node : List ℕ) → held' node id ≡ held node id
+  pub held : (id : ℕ) (entry : BlockEntry) → old id ≡ Some entry → (node : List ℕ) → now node id ≡ was node id
+
+-- blocks with these ids, of fewer than 2^63 bytes, store these bytes
+pub record StoresBytes (new : ℕ → Option BlockEntry) (held' : List ℕ → ℕ → List ℕ) (ids bytes : List ℕ) : Type 0 where
   pub sized : is_length (total new ids) ≡ true
   pub stores : StoresBlocks (blocks_picture new held') ids bytes

@@ -12,12 +12,8 @@ use Rattle.hdfs_model.specs.declared.picture.Entry.{Entry}
 use Rattle.hdfs_model.specs.declared.picture.Entry.TheVariants as entries
 use Rattle.hdfs_model.specs.declared.picture.FileEntry.{FileEntry}
 use Rattle.hdfs_model.specs.Files.{Kind, NoFile, no_file}
-use Rattle.hdfs_model.specs.Namenode.{LocatesBlocks, Row, Excuses, class_for, standby}
+use Rattle.hdfs_model.specs.Namenode.{LocatesBlocks, Locates, IsRefusal, class_for, standby}
 use Rattle.hdfs_model.specs.Picture.{Picture}
-
--- the path that an ask names
-abbrev pub src_of : Ask → List ℕ
-src_of (asks.GetBlockLocations src offset length) = src
 
 -- the answer has the length and the blocks of the file at the path
 pub record LocatesFile (names : List ℕ → Option Entry) (table : ℕ → Option BlockEntry) (src : List ℕ) (found : LocatedBlocks) : Type 0 where
@@ -26,18 +22,18 @@ pub record LocatesFile (names : List ℕ → Option Entry) (table : ℕ → Opti
   pub blocks : LocatesBlocks table 0 found.file_length file.blocks found.blocks
 
 -- the exception stands for the refusal that holds, and has no message
-abbrev pub IsExcused : (List ℕ → Option Kind) → List ℕ → AskFault → Type 0
-IsExcused kinds src faults.NoMemory = Unit {0}
-IsExcused kinds src (faults.Exception class message) = (why : NoFile) × (no_file kinds src ≡ Some why) × (class ≡ class_for why) × (message ≡ [])
+abbrev pub StandsForRefusal : (List ℕ → Option Kind) → List ℕ → AskFault → Type 0
+StandsForRefusal kinds src faults.NoMemory = Unit {0}
+StandsForRefusal kinds src (faults.Exception class message) = (why : NoFile) × (no_file kinds src ≡ Some why) × (class ≡ class_for why) × (message ≡ [])
 
--- an answer that locates a file does so as for a closed file, also where the file is being written
+-- an answer locates a file as a closed one, also where the file is being written, and it is never that there is none
 abbrev pub Located : Picture → Ask → Answer → Type 0
 Located p (asks.GetBlockLocations src offset length) (answers.GetBlockLocations None) = ⊥
-Located p (asks.GetBlockLocations src offset length) (answers.GetBlockLocations (Some found)) = LocatesFile p.names p.table src found
+Located p (asks.GetBlockLocations src offset length) (answers.GetBlockLocations (Some found)) = Locates p src found
 
 -- the active namenode answers by the picture, and another one with the exception of a standby; beside that only want of
 -- memory comes
 abbrev pub Answers : Picture → ℕ → Ask → Result Answer AskFault → Type 0
-Answers p i ask (Ok answer) = (i ≡ p.active) × Row p ask answer × Located p ask answer
+Answers p i ask (Ok answer) = (i ≡ p.active) × Located p ask answer
 Answers p i ask (Err faults.NoMemory) = Unit {0}
-Answers p i ask (Err (faults.Exception class message)) = ((i ≢ p.active) × (class ≡ standby)) ⊎ ((i ≡ p.active) × Excuses p ask class)
+Answers p i ask (Err (faults.Exception class message)) = ((i ≢ p.active) × (class ≡ standby) × (message ≡ [])) ⊎ ((i ≡ p.active) × IsRefusal p ask class × (message ≡ []))

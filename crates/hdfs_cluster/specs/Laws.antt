@@ -8,7 +8,7 @@ use Rattle.hdfs_model.specs.Files.{Dir, only_root}
 use Rattle.hdfs_model.specs.Paths.{root}
 use Rattle.hdfs_model.specs.Picture.{Picture}
 use Rattle.hdfs_model.specs.Stores.{Agrees, AgreesAt}
-use Rattle.hdfs_cluster.specs.declared.memory.MemCluster.{MemCluster}
+use Rattle.hdfs_cluster.specs.declared.mem_cluster.MemCluster.{MemCluster}
 use Rattle.hdfs_cluster.specs.Lines.{line_of}
 use Rattle.hdfs_cluster.specs.Memory.{is_bare_at, is_nil}
 use Rattle.hdfs_cluster.specs.MemShown.{picture_of, shown_of, is_fresh_of}

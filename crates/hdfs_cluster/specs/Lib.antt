@@ -5,4 +5,5 @@ pub mod Lines
 pub mod MemShown
 pub mod Memory
 pub mod Nodes
+pub mod Settings
 pub mod Starting

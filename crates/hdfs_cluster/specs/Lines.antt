@@ -1,10 +1,10 @@
 -- The lines that a cluster in memory keeps.
 use Rattle.hdfs_model.specs.declared.store.Line.{Line}
 use Rattle.hdfs_model.specs.declared.store.Line.TheVariants as lines
-use Rattle.hdfs_cluster.specs.declared.kept.Kept.{Kept}
-use Rattle.hdfs_cluster.specs.declared.kept.Kept.TheVariants as keeps
+use Rattle.hdfs_cluster.specs.declared.loaded.Kept.{Kept}
+use Rattle.hdfs_cluster.specs.declared.loaded.Kept.TheVariants as keeps
 
 -- the line that was loaded
 abbrev pub line_of : Kept → Line
-line_of (keeps.File path attributes bytes) = lines.File path attributes.permission attributes.replication attributes.block_size bytes
+line_of (keeps.File path attributes bytes) = lines.File path attributes bytes
 line_of (keeps.Fault fault) = lines.Fault fault

@@ -1,5 +1,5 @@
 -- What the cluster in memory shows.
-use Rattle.std.specs.Prelude.{◌≡◌, ◌≢◌, ℕ, ◌+◌, ◌<◌, Bool, true, false, List, length, slice_index, map, Option, Some, option_map, Result, Ok, Err, if◌then◌else◌}
+use Rattle.std.specs.Prelude.{◌≡◌, ◌≢◌, ℕ, ◌+◌, ◌^◌, ◌<◌, IsSome, Bool, true, false, List, length, slice_index, map, Option, Some, option_map, Result, Ok, Err, if◌then◌else◌}
 use Rattle.std.specs.BTreeMap.{get_by_text}
 use Rattle.slab.specs.Slab as slab
 use Rattle.hdfs_wire.specs.declared.packet.ReadPacket.{ReadPacket}
@@ -10,17 +10,17 @@ use Rattle.hdfs_model.specs.declared.asks.LinkFault.{LinkFault}
 use Rattle.hdfs_model.specs.declared.asks.LinkFault.TheVariants as link_faults
 use Rattle.hdfs_model.specs.declared.messages.ServerDefaults.{ServerDefaults}
 use Rattle.hdfs_model.specs.declared.picture.ReadPlace.{ReadPlace}
-use Rattle.hdfs_model.specs.Counts.{Counts, SameCounts}
+use Rattle.hdfs_model.specs.Counts.{FaultCounts, SameCounts}
 use Rattle.hdfs_model.specs.Picture.{Picture, SamePicture}
 use Rattle.hdfs_model.specs.Shown.{Shown, Served}
 use Rattle.hdfs_cluster.specs.declared.namespace.Namespace.{Namespace}
 use Rattle.hdfs_cluster.specs.declared.datanodes.Datanodes.{Datanodes}
-use Rattle.hdfs_cluster.specs.declared.memory.MemCluster.{MemCluster}
-use Rattle.hdfs_cluster.specs.declared.seen.Counts.{Counts as SeenCounts}
+use Rattle.hdfs_cluster.specs.declared.mem_cluster.MemCluster.{MemCluster}
+use Rattle.hdfs_cluster.specs.declared.counts.Counts.{Counts as SeenCounts}
 use Rattle.hdfs_cluster.specs.Answering.{Answers}
 use Rattle.hdfs_cluster.specs.Lines.{line_of}
-use Rattle.hdfs_cluster.specs.Memory.{table_of, is_nil, uuid_of}
-use Rattle.hdfs_cluster.specs.Nodes.{node_at, held_in, faults_of}
+use Rattle.hdfs_cluster.specs.Memory.{table_of, is_nil, uuid_of, breaks}
+use Rattle.hdfs_cluster.specs.Nodes.{node_at, held_in, faults_of, packets_of}
 
 -- the picture of these names, blocks and bytes
 abbrev pub picture_at : Namespace → Datanodes → ℕ → ServerDefaults → (ℕ → Option ReadPlace) → Picture
@@ -38,7 +38,7 @@ abbrev pub picture_of : MemCluster → Picture
 picture_of m = picture_at m.space m.nodes m.config.active m.config.defaults (λ link. option_map (λ r. r.place) (slab.get m.reads link))
 
 -- no count of a namenode or of the links ever rises
-abbrev pub counts_of : Datanodes → Counts
+abbrev pub counts_of : Datanodes → FaultCounts
 counts_of nodes = record { calls = λ i. 0; links = 0; nodes = λ d. faults_of (node_at nodes d) }
 
 -- what the cluster in memory shows: always its picture too
@@ -56,10 +56,23 @@ shown_of m = record {
 abbrev pub is_fresh_of : MemCluster → Bool
 is_fresh_of m = is_nil (shown_of m).loaded
 
--- What an ask does, exactly: it is served, no count rises, the picture stays, and the answer is that of the picture.
+-- how many packets were asked of a datanode
+abbrev pub packets_at : MemCluster → List ℕ → ℕ
+packets_at m node = packets_of (node_at m.nodes node)
+
+-- it is one of the cluster's datanodes
+abbrev pub HasNode : MemCluster → List ℕ → Type 0
+HasNode m node = IsSome (node_at m.nodes node)
+
+-- no count rose, and no packet was asked for
+pub record CountsNothing (old new : MemCluster) : Type 0 where
+  pub counts : SameCounts (shown_of old).counts (shown_of new).counts
+  pub packets : (d : List ℕ) → packets_at new d ≡ packets_at old d
+
+-- What an ask does, exactly: it is served, nothing is counted, the picture stays, and the answer is that of the picture.
 pub record MemServes (old : MemCluster) (i : ℕ) (ask : Ask) (result : Result Answer AskFault) (new : MemCluster) : Type 0 where
   pub served : Served (shown_of old) i ask result (shown_of new)
-  pub counts : SameCounts (shown_of old).counts (shown_of new).counts
+  pub counted : CountsNothing old new
   pub picture : SamePicture (picture_of old) (picture_of new)
   pub answers : Answers (picture_of old) i ask result
 
@@ -70,16 +83,25 @@ is_broken (Err link_faults.NoMemory) = false
 is_broken (Err link_faults.Broken) = true
 is_broken (Err link_faults.Refused) = false
 
--- a packet was asked of a datanode: its count rises by one where the connection broke, and no other count does
-pub record CountsPacket (old new : Counts) (node : List ℕ) (broke : Bool) : Type 0 where
-  pub own : new.nodes node ≡ old.nodes node + (if broke then 1 else 0)
-  pub others : (d : List ℕ) → d ≢ node → new.nodes d ≡ old.nodes d
-  pub calls : (i : ℕ) → new.calls i ≡ old.calls i
-  pub links : new.links ≡ old.links
+-- the packet is counted: there was memory for it
+abbrev pub is_counted : Result ReadPacket LinkFault → Bool
+is_counted (Ok packet) = true
+is_counted (Err link_faults.NoMemory) = false
+is_counted (Err link_faults.Broken) = true
+is_counted (Err link_faults.Refused) = true
+
+-- A packet was asked of a datanode. It has the datanode's next number, and breaks exactly where a line says so of that
+-- number; then the datanode's count rises by one. Nothing else is counted.
+pub record AsksPacket (old new : MemCluster) (node : List ℕ) (result : Result ReadPacket LinkFault) : Type 0 where
+  pub number : HasNode old node → packets_at old node + 1 < 2 ^ 64 → packets_at new node ≡ packets_at old node + (if is_counted result then 1 else 0)
+  pub breaks : HasNode old node → packets_at old node + 1 < 2 ^ 64 → is_counted result ≡ true
+      → is_broken result ≡ breaks (shown_of old).loaded node (packets_at old node + 1)
+  pub own : (shown_of new).counts.nodes node ≡ (shown_of old).counts.nodes node + (if is_broken result then 1 else 0)
+  pub others : (d : List ℕ) → d ≢ node → (packets_at new d ≡ packets_at old d) × ((shown_of new).counts.nodes d ≡ (shown_of old).counts.nodes d)
 
 -- how many datanodes it has
 abbrev pub nodes_of : MemCluster → ℕ
-nodes_of m = m.config.nodes
+nodes_of m = m.nodes.count
 
 -- the counts of each namenode and each datanode, by their numbers
 pub record Sees (m : MemCluster) (seen : SeenCounts) : Type 0 where

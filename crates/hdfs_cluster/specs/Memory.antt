@@ -6,6 +6,7 @@ use Rattle.std.specs.Ordering.{nat_cmp}
 use Rattle.std.specs.Str.{bytes_eq}
 use Rattle.std.specs.BTreeMap.{is_at}
 use Rattle.std.specs.Fmt.{decimal}
+use Rattle.hdfs_model.specs.declared.attributes.Attributes.{Attributes}
 use Rattle.hdfs_model.specs.declared.picture.Entry.{Entry}
 use Rattle.hdfs_model.specs.declared.picture.Entry.TheVariants as entries
 use Rattle.hdfs_model.specs.declared.picture.BlockEntry.{BlockEntry}
@@ -14,7 +15,7 @@ use Rattle.hdfs_model.specs.declared.store.Line.TheVariants as lines
 use Rattle.hdfs_model.specs.declared.store.FaultLine.{FaultLine}
 use Rattle.hdfs_model.specs.declared.store.FaultLine.TheVariants as fault_lines
 use Rattle.hdfs_model.specs.Paths.{root, is_path, ancestors, parent_of}
-use Rattle.hdfs_model.specs.Loading.{in_limits}
+use Rattle.hdfs_model.specs.Limits.{in_limits}
 
 -- the length of the blocks together, where each of them is there
 abbrev pub plus_length : Option BlockEntry → Option ℕ → Option ℕ
@@ -53,9 +54,9 @@ abbrev pub is_placed : (List ℕ → Option Entry) → List ℕ → Bool
 is_placed names path = is_none (names path) || (is_path path && list_all (λ ancestor. is_dir (names ancestor)) (ancestors path))
 
 -- whether a file is taken: at a new path below a directory, within the limits
-abbrev pub accepts : (List ℕ → Option Entry) → List ℕ → ℕ → ℕ → ℕ → ℕ → Bool
-accepts names path permission replication block_size count =
-    is_path path && is_none (names path) && is_dir (names (parent_of path)) && in_limits permission replication block_size count
+abbrev pub accepts : (List ℕ → Option Entry) → List ℕ → Attributes → ℕ → Bool
+accepts names path attributes count =
+    is_path path && is_none (names path) && is_dir (names (parent_of path)) && in_limits attributes count
 
 -- the root is all that is named
 abbrev pub is_bare : {A : Type 0} → List (String A × Entry) → Bool
@@ -96,12 +97,12 @@ nth_of (fault_lines.ReadOf node nth kind) = nth
 
 -- the line is one with a fault of this datanode
 abbrev pub is_fault_of : List ℕ → Line → Bool
-is_fault_of uuid (lines.File path permission replication block_size bytes) = false
+is_fault_of uuid (lines.File path attributes bytes) = false
 is_fault_of uuid (lines.Fault fault) = bytes_eq (uuid_of (node_of fault)) uuid
 
 -- the line breaks this packet of this datanode
 abbrev pub breaks_at : List ℕ → ℕ → Line → Bool
-breaks_at uuid packet (lines.File path permission replication block_size bytes) = false
+breaks_at uuid packet (lines.File path attributes bytes) = false
 breaks_at uuid packet (lines.Fault fault) = bytes_eq (uuid_of (node_of fault)) uuid && (nth_of fault == packet)
 
 -- one of the lines breaks this packet of this datanode

@@ -1,9 +1,9 @@
 -- How a cluster in memory starts.
 use Rattle.std.specs.Prelude.{◌≡◌, ℕ, List, [], Some, None}
-use Rattle.hdfs_model.specs.declared.picture.AnswerKind.TheVariants as answer_kinds
+use Rattle.hdfs_model.specs.declared.picture.LastAnswer.TheVariants as last_answers
 use Rattle.hdfs_model.specs.Picture.{Picture}
 use Rattle.hdfs_model.specs.Shown.{Shown}
-use Rattle.hdfs_cluster.specs.declared.memory.MemSettings.{MemSettings}
+use Rattle.hdfs_cluster.specs.declared.mem_settings.MemSettings.{MemSettings}
 
 -- it has the namenodes and the defaults of its settings, and nothing was asked of it, read or loaded, or has failed
 pub record Starts (settings : MemSettings) (shown : Shown) : Type 0 where
@@ -15,7 +15,7 @@ pub record Starts (settings : MemSettings) (shown : Shown) : Type 0 where
   pub no_bytes : (node : List ℕ) (id : ℕ) → picture.held node id ≡ []
   pub no_place : (link : ℕ) → picture.reads link ≡ None
   pub namenodes : shown.namenodes ≡ settings.namenodes
-  pub last : shown.last ≡ answer_kinds.Fine
+  pub last : shown.last ≡ last_answers.Fine
   pub no_read : (link : ℕ) → shown.reads link ≡ None
   pub no_line : shown.loaded ≡ []
   pub calls : (i : ℕ) → shown.counts.calls i ≡ 0

@@ -1,5 +1,5 @@
-// A datanode in memory: the blocks that it holds, and which of its packets break.
-ghost use Rattle.std.specs.Prelude.{◌≡◌, ◌≢◌, ◌+◌, ◌-◌, ◌^◌, ◌<◌, ℕ, [], true, false, Bool, Some, None, unwrap_or, min, OnOk, OnErr, IfOk, option_map, if◌then◌else◌};
+//! A datanode in memory: the blocks that it holds, and which of its packets break.
+ghost use Rattle.std.specs.Prelude.{◌≡◌, ◌≢◌, ◌+◌, ◌-◌, ◌^◌, ◌<◌, ◌≤◌, ℕ, [], true, false, Bool, Some, None, unwrap_or, min, OnOk, OnErr, IfOk, option_map, if◌then◌else◌};
 ghost use Rattle.std.specs.Ordering.{nat_cmp};
 ghost use Rattle.std.specs.BTreeMap.{get};
 ghost use Rattle.std.specs.BTreeSet.{contains};
@@ -13,7 +13,7 @@ use std::collections::{BTreeMap, BTreeSet};
 /// A datanode: the bytes that it holds of each block, how often it has failed, how many packets were asked of it, and
 /// which of them break.
 #[derive(Drop)]
-pub struct DataNode {
+pub struct Datanode {
     pub(crate) blocks: BTreeMap<u64, Bytes>,
     pub(crate) faults: u64,
     pub(crate) packets: u64,
@@ -21,14 +21,14 @@ pub struct DataNode {
     ghost counted: { faults ≡ failed (contains nat_cmp broken) packets },
 }
 
-impl DataNode {
+impl Datanode {
     /// A datanode that holds nothing and never fails.
-    pub(crate) fn new(alloc: Global) -> DataNode
+    pub(crate) fn new(alloc: Global) -> Datanode
         ensures blocks { (block : ℕ) → get nat_cmp result.blocks block ≡ None }
         ensures faults { result.faults ≡ 0 }
         ensures broken { (nth : ℕ) → contains nat_cmp result.broken nth ≡ false }
     {
-        DataNode {
+        Datanode {
             blocks: BTreeMap::new(alloc),
             faults: 0,
             packets: 0,
@@ -40,8 +40,7 @@ impl DataNode {
     pub(crate) fn hold(&mut self, block: u64, bytes: Bytes) -> Result<(), NoMemory>
         ensures held { OnOk result (get nat_cmp self.new.blocks block ≡ Some bytes) }
         ensures others { (other : ℕ) → other ≢ block → get nat_cmp self.new.blocks other ≡ get nat_cmp self.old.blocks other }
-        ensures faults { self.new.faults ≡ self.old.faults }
-        ensures broken { self.new.broken ≡ self.old.broken }
+        ensures same { (self.new.faults ≡ self.old.faults) × (self.new.packets ≡ self.old.packets) × (self.new.broken ≡ self.old.broken) }
     {
         self.blocks.insert(block, bytes)?;
         Ok(())
@@ -52,8 +51,8 @@ impl DataNode {
         ensures planned { OnOk result (self.old.packets < nth → contains nat_cmp self.new.broken nth ≡ true) }
         ensures others { (other : ℕ) → other ≢ nth → contains nat_cmp self.new.broken other ≡ contains nat_cmp self.old.broken other }
         ensures failed { OnErr result ((packet : ℕ) → contains nat_cmp self.new.broken packet ≡ contains nat_cmp self.old.broken packet) }
-        ensures blocks { self.new.blocks ≡ self.old.blocks }
-        ensures faults { self.new.faults ≡ self.old.faults }
+        ensures kept { contains nat_cmp self.old.broken nth ≡ true → contains nat_cmp self.new.broken nth ≡ true }
+        ensures same { (self.new.blocks ≡ self.old.blocks) × (self.new.faults ≡ self.old.faults) × (self.new.packets ≡ self.old.packets) }
     {
         if nth > self.packets {
             self.broken.insert(nth)?;
@@ -61,10 +60,11 @@ impl DataNode {
         Ok(())
     }
 
-    /// Counts a packet, and says whether it breaks.
+    /// FaultCounts a packet, and says whether it breaks.
     pub(crate) fn count_packet(&mut self) -> bool
         ensures packets { self.new.packets ≡ min (self.old.packets + 1) (2 ^ 64 - 1) }
-        ensures breaks { result ≡ true → contains nat_cmp self.old.broken self.new.packets ≡ true }
+        ensures grows { self.old.packets ≤ self.new.packets }
+        ensures breaks { self.old.packets + 1 < 2 ^ 64 → result ≡ contains nat_cmp self.old.broken (self.old.packets + 1) }
         ensures faults { self.new.faults ≡ self.old.faults + (if result then 1 else 0) }
         ensures blocks { self.new.blocks ≡ self.old.blocks }
         ensures broken { self.new.broken ≡ self.old.broken }

@@ -1,9 +1,9 @@
-// The datanodes of a cluster in memory.
-ghost use Rattle.std.specs.Prelude.{◌≡◌, ◌≢◌, ◌⊎◌, ◌+◌, ◌-◌, ◌^◌, ◌<◌, ℕ, [], true, false, Bool, List, Some, None, IsSome, is_some, string_bytes, min, OnOk, OnErr, IfOk, if◌then◌else◌};
+//! The datanodes of a cluster in memory.
+ghost use Rattle.std.specs.Prelude.{◌≡◌, ◌≢◌, ◌⊎◌, ◌<◌, ℕ, [], true, false, List, IsSome, is_some, string_bytes, OnOk, OnErr, IfOk};
 ghost use Rattle.std.specs.BTreeMap.{get_by_text};
 ghost use Rattle.hdfs_cluster.specs.Memory.{first_node, uuid_of};
 
-use crate::datanode::DataNode;
+use crate::datanode::Datanode;
 use bytes::Bytes;
 use hdfs_wire::NoMemory;
 use std::alloc::Global;
@@ -12,8 +12,10 @@ use std::collections::BTreeMap;
 /// The datanodes by their uuids, `dn0`, `dn1` and so on. The first holds the blocks.
 #[derive(Drop)]
 pub struct Datanodes {
-    pub(crate) by_uuid: BTreeMap<String, DataNode>,
+    pub(crate) by_uuid: BTreeMap<String, Datanode>,
+    pub(crate) count: u32,
     ghost first: { is_some (get_by_text by_uuid first_node) ≡ true },
+    ghost numbered: { (k : ℕ) → k < count → is_some (get_by_text by_uuid (uuid_of k)) ≡ true },
 }
 
 const FIRST_NODE: &str = "dn0";
@@ -25,20 +27,21 @@ fn uuid(alloc: Global, number: u32) -> Result<String, NoMemory>
 }
 
 impl Datanodes {
-    ghost use Rattle.hdfs_cluster.specs.Nodes.{faults_of, breaks_in, packets_of, node_at, held_in, SameBytes, SameFaults};
+    ghost use Rattle.hdfs_cluster.specs.Nodes.{faults_of, breaks_in, packets_of, node_at, held_in, SameFaults, PlansOnly, CountsOnly, Asked};
 
     /// So many datanodes that hold nothing and never fail.
     pub(crate) fn new(alloc: Global, count: u32) -> Result<Datanodes, NoMemory>
         requires { 0 < count }
+        ensures count { IfOk result (λ nodes. nodes.count ≡ count) }
         ensures held { IfOk result (λ nodes. (d : List ℕ) (block : ℕ) → held_in nodes d block ≡ []) }
         ensures faults { IfOk result (λ nodes. (d : List ℕ) → faults_of (node_at nodes d) ≡ 0) }
         ensures breaks { IfOk result (λ nodes. (d : List ℕ) (packet : ℕ) → breaks_in (node_at nodes d) packet ≡ false) }
     {
         let mut by_uuid = BTreeMap::new(alloc);
         for number in 0..count {
-            by_uuid.insert(uuid(alloc, number)?, DataNode::new(alloc))?;
+            by_uuid.insert(uuid(alloc, number)?, Datanode::new(alloc))?;
         }
-        Ok(Datanodes { by_uuid })
+        Ok(Datanodes { by_uuid, count })
     }
 
     /// Gives the first datanode the bytes of a block.
@@ -46,6 +49,7 @@ impl Datanodes {
         ensures held { OnOk result (held_in self.new first_node block ≡ bytes) }
         ensures others { (d : List ℕ) (other : ℕ) → other ≢ block → held_in self.new d other ≡ held_in self.old d other }
         ensures faults { (d : List ℕ) → SameFaults (node_at self.old d) (node_at self.new d) }
+        ensures count { self.new.count ≡ self.old.count }
     {
         let Some(node) = self.by_uuid.get_mut(FIRST_NODE) else {
             unreachable!();
@@ -59,8 +63,9 @@ impl Datanodes {
         ensures planned { OnOk result (IsSome (node_at self.old (uuid_of number)) → packets_of (node_at self.old (uuid_of number)) < nth → breaks_in (node_at self.new (uuid_of number)) nth ≡ true) }
         ensures others { (d : List ℕ) (packet : ℕ) → breaks_in (node_at self.new d) packet ≡ true → (breaks_in (node_at self.old d) packet ≡ true) ⊎ ((d ≡ uuid_of number) × (packet ≡ nth)) }
         ensures failed { OnErr result ((d : List ℕ) (packet : ℕ) → breaks_in (node_at self.new d) packet ≡ breaks_in (node_at self.old d) packet) }
-        ensures held { (d : List ℕ) → SameBytes (node_at self.old d) (node_at self.new d) }
-        ensures faults { (d : List ℕ) → faults_of (node_at self.new d) ≡ faults_of (node_at self.old d) }
+        ensures kept { (d : List ℕ) (packet : ℕ) → breaks_in (node_at self.old d) packet ≡ true → breaks_in (node_at self.new d) packet ≡ true }
+        ensures rest { (d : List ℕ) → PlansOnly (node_at self.old d) (node_at self.new d) }
+        ensures count { self.new.count ≡ self.old.count }
     {
         let uuid = uuid(alloc, number)?;
         let Some(node) = self.by_uuid.get_mut(uuid.as_str()) else {
@@ -69,13 +74,12 @@ impl Datanodes {
         node.plan(nth)
     }
 
-    /// Counts a packet of a datanode, and says whether it breaks.
+    /// FaultCounts a packet of a datanode, and says whether it breaks.
     pub(crate) fn count_packet(&mut self, uuid: &str) -> bool
-        ensures packets { IsSome (node_at self.old uuid.now) → packets_of (node_at self.new uuid.now) ≡ min (packets_of (node_at self.old uuid.now) + 1) (2 ^ 64 - 1) }
-        ensures own { faults_of (node_at self.new uuid.now) ≡ faults_of (node_at self.old uuid.now) + (if result then 1 else 0) }
+        ensures asked { Asked (node_at self.old uuid.now) result (node_at self.new uuid.now) }
         ensures others { (d : List ℕ) → d ≢ uuid.now → node_at self.new d ≡ node_at self.old d }
-        ensures breaks { (d : List ℕ) (packet : ℕ) → breaks_in (node_at self.new d) packet ≡ breaks_in (node_at self.old d) packet }
-        ensures held { (d : List ℕ) → SameBytes (node_at self.old d) (node_at self.new d) }
+        ensures rest { (d : List ℕ) → CountsOnly (node_at self.old d) (node_at self.new d) }
+        ensures count { self.new.count ≡ self.old.count }
     {
         match self.by_uuid.get_mut(uuid) {
             Some(node) => node.count_packet(),

@@ -1,26 +1,27 @@
 //! A cluster in memory: namenodes and datanodes that hold the files and faults that were loaded into them.
 #![tactic(auto)]
 
-mod calls;
+mod as_cluster;
+mod as_store;
+mod counts;
 mod datanode;
 mod datanodes;
-mod kept;
-mod memory;
+mod loaded;
+mod mem_cluster;
+mod mem_settings;
 mod namenode;
 mod namespace;
-mod new;
-mod packets;
-mod seen;
-mod store;
+mod read_link;
 mod storing;
 #[cfg(test)]
 mod tests;
 
+pub use counts::Counts;
 pub use hdfs_model::{
-    AddFault, Answer, AnswerKind, ArgFault, Ask, AskFault, Block, BlockEntry, Cluster, Command,
-    DatanodeId, DatanodeInfo, Entry, Fault, FaultLine, FileEntry, HdfsError, Line, LinkFault,
-    LocatedBlock, LocatedBlocks, OpenRead, ReadAsk, ReadKind, ReadPlace, Reply, ServerDefaults,
-    Settings, Store, Token, TransferFault, above, is_path, parent,
+    AddFault, Answer, ArgFault, Ask, AskFault, Attributes, Block, BlockEntry, Cluster, Command,
+    DatanodeId, DatanodeInfo, Entry, Fault, FaultLine, FileEntry, HdfsError, LastAnswer, Line,
+    LinkFault, LocatedBlock, LocatedBlocks, OpenRead, ReadAsk, ReadKind, ReadPlace, Reply,
+    ServerDefaults, Settings, Store, Token, TransferFault, above, is_path, parent,
 };
-pub use memory::{MemCluster, MemSettings};
-pub use seen::Counts;
+pub use mem_cluster::MemCluster;
+pub use mem_settings::MemSettings;

@@ -1,18 +1,17 @@
-// What the namenodes of a cluster in memory answer.
+//! What the namenodes of a cluster in memory answer.
 ghost use Rattle.std.specs.Prelude.{◌≡◌, ◌⊎◌, ◌<◌, ◌^◌, ℕ, [], true, Bool, List, Option, None, IfOk, IfErr, OnOk};
 ghost use Rattle.std.specs.List.{list_any};
 ghost use Rattle.std.specs.BTreeMap.{get_by_text};
 ghost use Rattle.hdfs_model.specs.Files.{no_file, is_file};
-ghost use Rattle.hdfs_model.specs.Namenode as namenode;
-ghost use Rattle.hdfs_model.specs.Namenode.{kind_of, LocatesBlock, LocatesBlocks, Follow, uuids};
+ghost use Rattle.hdfs_model.specs.Namenode.{last_of, LocatesBlock, LocatesBlocks, Follow, uuids};
 ghost use Rattle.hdfs_model.specs.Paths.{ancestors};
 ghost use Rattle.hdfs_model.specs.Picture.{kinds_in};
-ghost use Rattle.hdfs_cluster.specs.Answering.{LocatesFile, IsExcused};
+ghost use Rattle.hdfs_cluster.specs.Answering.{LocatesFile, StandsForRefusal};
 ghost use Rattle.hdfs_cluster.specs.Memory.{table_of, total, is_length};
 
 use crate::namespace::Namespace;
 use hdfs_model::{
-    Answer, AnswerKind, AskFault, Block, BlockEntry, DatanodeId, DatanodeInfo, Entry, FileEntry,
+    Answer, AskFault, Block, BlockEntry, DatanodeId, DatanodeInfo, Entry, FileEntry, LastAnswer,
     LocatedBlock, LocatedBlocks, Token, above,
 };
 use hdfs_wire::{Blob, List, NoMemory, Text};
@@ -21,12 +20,6 @@ use std::collections::BTreeMap;
 
 pub(crate) const STANDBY: &str = "org.apache.hadoop.ipc.StandbyException";
 
-const OBSERVER_RETRY: &str = "org.apache.hadoop.ipc.ObserverRetryOnActiveException";
-
-const ALREADY_EXISTS: &str = "org.apache.hadoop.fs.FileAlreadyExistsException";
-
-const BEING_CREATED: &str = "org.apache.hadoop.hdfs.protocol.AlreadyBeingCreatedException";
-
 const NOT_FOUND: &str = "java.io.FileNotFoundException";
 
 const PARENT_NOT_DIRECTORY: &str = "org.apache.hadoop.fs.ParentNotDirectoryException";
@@ -34,32 +27,20 @@ const PARENT_NOT_DIRECTORY: &str = "org.apache.hadoop.fs.ParentNotDirectoryExcep
 /// The port on which datanodes give their blocks.
 const TRANSFER_PORT: u32 = 9866;
 
-/// The kind of an answer, by the class of an exception.
-pub(crate) fn answer_kind(answer: &Result<Answer, AskFault>) -> AnswerKind
-    ensures { result ≡ kind_of answer.now }
+/// What is told of an answer.
+pub(crate) fn last_answer(
+    alloc: Global,
+    answer: &Result<Answer, AskFault>,
+) -> Result<LastAnswer, NoMemory>
+    ensures { IfOk result (λ last. last ≡ last_of answer.now) }
 {
     match answer {
-        Ok(_) => AnswerKind::Fine,
-        Err(AskFault::NoMemory) => AnswerKind::NoMemory,
-        Err(AskFault::Exception { class, .. }) => class_kind(class.as_str()),
-    }
-}
-
-fn class_kind(class: &str) -> AnswerKind
-    ensures { result ≡ namenode.class_kind class.now }
-{
-    if class == STANDBY {
-        AnswerKind::Retriable
-    } else if class == OBSERVER_RETRY {
-        AnswerKind::Retriable
-    } else if class == ALREADY_EXISTS {
-        AnswerKind::Exists
-    } else if class == BEING_CREATED {
-        AnswerKind::Exists
-    } else if class == NOT_FOUND {
-        AnswerKind::NotFound
-    } else {
-        AnswerKind::Other
+        Ok(_) => Ok(LastAnswer::Fine),
+        Err(AskFault::NoMemory) => Ok(LastAnswer::NoMemory),
+        Err(AskFault::Exception { class, message }) => Ok(LastAnswer::Exception {
+            class: class.copy(alloc)?,
+            message: message.copy(alloc)?,
+        }),
     }
 }
 
@@ -166,7 +147,7 @@ impl Namespace {
     pub(crate) fn locations(&self, alloc: Global, src: &str) -> Result<LocatedBlocks, AskFault>
         ensures located { IfOk result (LocatesFile (get_by_text self.now.names) (table_of self.now.table.entries) src.now) }
         ensures allowed { OnOk result (no_file (kinds_in (get_by_text self.now.names)) src.now ≡ None) }
-        ensures excused { IfErr result (IsExcused (kinds_in (get_by_text self.now.names)) src.now) }
+        ensures excused { IfErr result (StandsForRefusal (kinds_in (get_by_text self.now.names)) src.now) }
         ensures length { IfOk result (λ found. found.file_length < 2 ^ 63) }
         ensures follow { IfOk result (λ found. Follow 0 found.file_length found.blocks) }
     {
@@ -180,7 +161,7 @@ impl Namespace {
     /// Why nothing stands at a path: a file stands above it, or it is missing.
     fn absent(&self, alloc: Global, src: &str) -> Result<AskFault, NoMemory>
         requires { get_by_text self.now.names src.now ≡ None }
-        ensures { IfOk result (IsExcused (kinds_in (get_by_text self.now.names)) src.now) }
+        ensures { IfOk result (StandsForRefusal (kinds_in (get_by_text self.now.names)) src.now) }
     {
         if self.is_below_file(src) {
             exception(alloc, PARENT_NOT_DIRECTORY)

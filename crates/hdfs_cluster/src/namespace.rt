@@ -1,14 +1,12 @@
-// The names and the blocks of a cluster in memory.
+//! The names and the blocks of a cluster in memory.
 ghost use Rattle.std.specs.Prelude.{◌≡◌, ◌≤◌, ◌+◌, ◌^◌, ◌<◌, ℕ, List, [], ◌∷◌, true, Some, None, is_none, string_bytes, OnOk, OnErr, IfOk};
 ghost use Rattle.std.specs.BTreeMap.{get_by_text};
 ghost use Rattle.std.specs.Str.{bytes_eq};
 ghost use Rattle.hdfs_model.specs.Paths.{root};
-ghost use Rattle.hdfs_model.specs.Loading as loading;
 ghost use Rattle.hdfs_cluster.specs.Memory.{table_of, total, is_length, is_sized, is_dir, is_placed, is_bare_at, accepts, first_node};
 ghost use Rattle.hdfs_cluster.specs.Adding.{IsPlace, AddsBlock, Keeps, Names};
 
-use crate::kept::Attributes;
-use hdfs_model::{BlockEntry, Entry, FileEntry, is_path, parent};
+use hdfs_model::{Attributes, BlockEntry, Entry, FileEntry, is_path, parent};
 use hdfs_wire::{List, NoMemory, Text};
 use std::alloc::Global;
 use std::collections::BTreeMap;
@@ -39,17 +37,6 @@ fn first_nodes(alloc: Global) -> Result<List<Text>, NoMemory>
     Ok(nodes)
 }
 
-/// Whether a file with these attributes and so many bytes is within the limits.
-fn in_limits(attributes: &Attributes, count: u64) -> bool
-    ensures { result ≡ loading.in_limits attributes.now.permission attributes.now.replication attributes.now.block_size count }
-{
-    attributes.permission <= 0o7777
-        && attributes.replication == 1
-        && attributes.block_size >= 1
-        && attributes.block_size < 1 << 63
-        && count <= attributes.block_size
-}
-
 impl Namespace {
     /// The root alone.
     pub(crate) fn new(alloc: Global) -> Result<Namespace, NoMemory>
@@ -77,12 +64,12 @@ impl Namespace {
 
     /// Whether a file can be loaded: at a new path whose parent is a directory, and within the limits.
     pub(crate) fn accepts(&self, path: &str, attributes: &Attributes, count: u64) -> bool
-        ensures { result ≡ accepts (get_by_text self.now.names) path.now attributes.now.permission attributes.now.replication attributes.now.block_size count }
+        ensures { result ≡ accepts (get_by_text self.now.names) path.now attributes.now count }
     {
         is_path(path)
             && !self.names.contains_key(path)
             && self.is_directory(parent(path))
-            && in_limits(attributes, count)
+            && attributes.in_limits(count)
     }
 
     /// Lists a new block on the first datanode, and answers its id.

@@ -1,4 +1,4 @@
-// How a file comes into a cluster in memory.
+//! How a file comes into a cluster in memory.
 ghost use Rattle.std.specs.Prelude.{◌≡◌, ◌<◌, ◌^◌, ℕ, List, Option, Some, length, string_bytes, IfOk, OnOk, OnErr};
 ghost use Rattle.std.specs.BTreeMap.{get_by_text};
 ghost use Rattle.hdfs_model.specs.declared.messages.ServerDefaults.{ServerDefaults};
@@ -6,16 +6,15 @@ ghost use Rattle.hdfs_model.specs.declared.picture.ReadPlace.{ReadPlace};
 ghost use Rattle.hdfs_model.specs.Files.{State};
 ghost use Rattle.hdfs_model.specs.Loading.{with_file};
 ghost use Rattle.hdfs_model.specs.Stores.{Agrees};
-ghost use Rattle.hdfs_cluster.specs.Adding.{IsPlace, StoresBytes};
+ghost use Rattle.hdfs_cluster.specs.Adding.{IsPlace, KeepsBlocks, StoresBytes};
 ghost use Rattle.hdfs_cluster.specs.MemShown.{picture_at};
 ghost use Rattle.hdfs_cluster.specs.Memory.{table_of};
 ghost use Rattle.hdfs_cluster.specs.Nodes.{node_at, held_in, SameFaults};
 
 use crate::datanodes::Datanodes;
-use crate::kept::Attributes;
 use crate::namespace::Namespace;
 use bytes::Bytes;
-use hdfs_model::FileEntry;
+use hdfs_model::{Attributes, FileEntry};
 use hdfs_wire::{List, NoMemory};
 use std::alloc::Global;
 
@@ -27,7 +26,8 @@ fn store_bytes(
     bytes: Bytes,
 ) -> Result<List<u64>, NoMemory>
     requires { length bytes < 2 ^ 63 }
-    ensures stores { IfOk result (λ ids. StoresBytes (table_of space.old.table.entries) (table_of space.new.table.entries) (held_in nodes.old) (held_in nodes.new) ids bytes) }
+    ensures stores { IfOk result (λ ids. StoresBytes (table_of space.new.table.entries) (held_in nodes.new) ids bytes) }
+    ensures kept { KeepsBlocks (table_of space.old.table.entries) (table_of space.new.table.entries) (held_in nodes.old) (held_in nodes.new) }
     ensures names { space.new.names ≡ space.old.names }
     ensures faults { (d : List ℕ) → SameFaults (node_at nodes.old d) (node_at nodes.new d) }
 {
@@ -55,15 +55,14 @@ pub(crate) fn store_file(
     ensures files { OnOk result ((active : ℕ) (defaults : ServerDefaults) (reads : ℕ → Option ReadPlace) (state : State)
         → Agrees (Some (picture_at space.old nodes.old active defaults reads)) state.files
         → Agrees (Some (picture_at space.new nodes.new active defaults reads)) (with_file state (string_bytes path)
-        (record { bytes = bytes; permission = attributes.now.permission; replication = attributes.now.replication; block_size = attributes.now.block_size })).files) }
+        (record { bytes = bytes; attributes = attributes.now })).files) }
     ensures faults { (d : List ℕ) → SameFaults (node_at nodes.old d) (node_at nodes.new d) }
+    ensures kept { KeepsBlocks (table_of space.old.table.entries) (table_of space.new.table.entries) (held_in nodes.old) (held_in nodes.new) }
     ensures err { OnErr result (space.new.names.entries ≡ space.old.names.entries) }
 {
     let blocks = store_bytes(alloc, space, nodes, bytes)?;
     let file = FileEntry {
-        permission: attributes.permission,
-        replication: attributes.replication,
-        block_size: attributes.block_size,
+        attributes: *attributes,
         blocks,
         is_open: false,
     };

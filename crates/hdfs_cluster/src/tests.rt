@@ -1,10 +1,10 @@
-// A file and a fault are loaded, and the file is read.
+//! A file and a fault are loaded, and the file is read.
 ghost use Rattle.std.specs.Prelude.{◌≡◌, IfOk, OnOk, IsSome};
 ghost use Rattle.hdfs_cluster.specs.MemShown.{shown_of};
 
 use crate::{
-    Answer, Ask, Cluster, FaultLine, Line, LinkFault, LocatedBlocks, MemCluster, MemSettings,
-    ReadAsk, ReadKind, ServerDefaults, Store,
+    Answer, Ask, Attributes, Cluster, FaultLine, Line, LinkFault, LocatedBlocks, MemCluster,
+    MemSettings, ReadAsk, ReadKind, ServerDefaults, Store,
 };
 use bytes::Bytes;
 use hdfs_wire::{Blob, Text};
@@ -32,9 +32,11 @@ fn loaded(alloc: Global) -> Result<MemCluster, Fail>
     let bytes = vec![in alloc; 0, 1, 2, 3, 4, 5, 6, 7, 8, 9]?;
     cluster.load(Line::File {
         path: Text::from_str(alloc, "/a")?,
-        permission: 0o644,
-        replication: 1,
-        block_size: 16,
+        attributes: Attributes {
+            permission: 0o644,
+            replication: 1,
+            block_size: 16,
+        },
         bytes: Blob::from_vec(bytes),
     })?;
     let fault = FaultLine::ReadOf {

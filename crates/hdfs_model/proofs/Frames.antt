@@ -1,5 +1,5 @@
 -- How what the calls of a cluster keep joins from call to call.
-use Rattle.std.proofs.Common.{◌≡◌, ◌≢◌, ◌⊎◌, ℕ, ◌≤◌, List, Option, Some, None, refl, sym, ◌∙◌, ap, subst, arith}
+use Rattle.std.proofs.Common.{◌≡◌, ◌≢◌, ◌⊎◌, ℕ, ◌≤◌, List, Option, Some, None, IsSome, refl, sym, ◌∙◌, ap, subst, arith}
 use Rattle.hdfs_model.specs.Counts.{FaultCounts, NeverFall, SameCounts, Rose}
 use Rattle.hdfs_model.specs.Picture.{Picture, SameFiles, SameButActive, SamePicture, Told}
 use Rattle.hdfs_model.specs.Reading.{ReadsAt}
@@ -51,6 +51,15 @@ told_trans P (Some a) None c join f g = absurd f
 told_trans P None None (Some c) join f g = absurd g
 told_trans P (Some a) (Some b) None join f g = absurd g
 
+-- one step of told pictures behind another
+pub told_join : (P Q R : Picture → Picture → Type 0) (a b c : Option Picture) → ((p q r : Picture) → P p q → Q q r → R p r) → Told P a b → Told Q b c → Told R a c
+told_join P Q R None None None join f g = tt
+told_join P Q R (Some a) (Some b) (Some c) join f g = join a b c f g
+told_join P Q R None (Some b) c join f g = absurd f
+told_join P Q R (Some a) None c join f g = absurd f
+told_join P Q R None None (Some c) join f g = absurd g
+told_join P Q R (Some a) (Some b) None join f g = absurd g
+
 pub told_refl : (P : Picture → Picture → Type 0) (a : Option Picture) → ((p : Picture) → P p p) → Told P a a
 told_refl P None same = tt
 told_refl P (Some a) same = same a
@@ -79,10 +88,10 @@ pub only_reads_from-same : (a b : Shown) → Later a b → b.last ≡ a.last →
 only_reads_from-same a b later last same = record { later = later; last = last; files = told_weaker SamePicture SameFiles a.picture b.picture (λ p q h. h.rest.files) same }
 
 pub same_links_refl : (a : Shown) → SameLinks a a
-same_links_refl a = record { links = λ link. refl; places = told_refl SamePlaces a.picture (λ p link. refl) }
+same_links_refl a = record { links = λ link. refl; places = told_refl (SamePlaces a) a.picture (λ p link is. refl) }
 
 pub same_links_trans : (a b c : Shown) → SameLinks a b → SameLinks b c → SameLinks a c
 same_links_trans a b c f g = record {
   links = λ link. g.links link ∙ f.links link;
-  places = told_trans SamePlaces a.picture b.picture c.picture (λ p q r first then link. then link ∙ first link) f.places g.places;
+  places = told_join (SamePlaces a) (SamePlaces b) (SamePlaces a) a.picture b.picture c.picture (λ p q r first then link is. then link (subst IsSome (sym (f.links link)) is) ∙ first link is) f.places g.places;
 }

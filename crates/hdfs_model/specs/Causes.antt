@@ -16,7 +16,7 @@ use Rattle.hdfs_model.specs.Files.{State, Content, NoFile}
 use Rattle.hdfs_model.specs.Steps.{World, Outcome, Refused, Done, Refusal, Lacks, BadRange, content_of, step, path_of, target_of}
 use Rattle.hdfs_model.specs.Picture.{Picture}
 use Rattle.hdfs_model.specs.Namenode.{class_for}
-use Rattle.hdfs_model.specs.Shown.{Shown, SameNodes}
+use Rattle.hdfs_model.specs.Shown.{Shown}
 
 -- the block with this id begins at this offset of a file with these blocks, the first of which begins at `from`
 abbrev pub LiesAt : (ℕ → Option BlockEntry) → ℕ → List ℕ → ℕ → ℕ → Type 0
@@ -83,15 +83,22 @@ AsksNothing (commands.Read path offset len) = len ≡ 0
 abbrev pub HasLength : State → List ℕ → ℕ → Type 0
 HasLength state path n = (content : Content) × (content_of (state.files path) ≡ Some content) × (n ≡ length content.bytes)
 
--- What holds of an error of a command over any cluster, told or not, once the command has ended. A refusal comes before
--- any datanode is asked.
+-- What holds of an error of a command over any cluster, told or not, from what is shown before the command, or before an
+-- earlier one, to what is shown once it has ended.
 abbrev pub Tells : Command → Shown → Shown → HdfsError → Type 0
 Tells command old new errors.NoMemory = Unit {0}
 Tells command old new (errors.DataTransferError (transfer.Read byte)) = (offset : ℕ) × (len : ℕ) × Asks command offset len × (0 < len)
-Tells command old new (errors.InvalidArgument (args.Range offset len length)) = Asks command offset len × (length < offset + len) × SameNodes old new
-Tells command old new (errors.FileNotFound path) = (path ≡ path_of command) × (new.last ≡ last_answers.Fine) × SameNodes old new
-Tells command old new (errors.RPCError class message) = (new.last ≡ last_answers.Exception class message) × SameNodes old new
+Tells command old new (errors.InvalidArgument (args.Range offset len length)) = Asks command offset len × (length < offset + len)
+Tells command old new (errors.FileNotFound path) = (path ≡ path_of command) × (new.last ≡ last_answers.Fine)
+Tells command old new (errors.RPCError class message) = new.last ≡ last_answers.Exception class message
 Tells command old new error = ⊥
+
+-- the error is a refusal, which comes before any datanode is asked
+abbrev pub IsEarly : HdfsError → Type 0
+IsEarly (errors.InvalidArgument fault) = Unit {0}
+IsEarly (errors.FileNotFound path) = Unit {0}
+IsEarly (errors.RPCError class message) = Unit {0}
+IsEarly error = ⊥
 
 -- The cause of an error of a command over a state, from what is shown before the command to what is shown once it has
 -- ended. Want of memory has none.

@@ -28,6 +28,10 @@ pub record Ready (world : World) (scene : Scene) (state : State) (commands : Lis
   pub opened : SameOpened scene.opened state
   pub avoids : All (Avoids world state) commands
 
+-- it holds of each state over which a session is ready to run these commands
+abbrev pub WhereReady : World → Scene → List Command → (State → Type 0) → Type 0
+WhereReady world scene commands P = (state : State) → Ready world scene state commands → P state
+
 -- One command, over a state: a reply is that of the step, and the cluster agrees with the next state. An error has its
 -- cause, and the files stand as they stood. Where nothing failed, the step decides.
 pub record Applied (world : World) (state : State) (command : Command) (old new : Scene) (result : Result Reply HdfsError) : Type 0 where

@@ -1,3 +1,4 @@
+pub mod Anywhere
 pub mod Causes
 pub mod Counts
 pub mod Files

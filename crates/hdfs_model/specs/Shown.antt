@@ -1,5 +1,5 @@
 -- What a cluster shows of itself, and what each of its calls does to that.
-use Rattle.std.specs.Prelude.{◌≡◌, ◌≢◌, ℕ, ℤ, pos, List, length, Option, Some, None, Result, IfSome}
+use Rattle.std.specs.Prelude.{◌≡◌, ◌≢◌, ℕ, ℤ, pos, List, length, Option, Some, None, IsSome, Result, IfSome}
 use Rattle.hdfs_wire.specs.declared.packet.ReadPacket.{ReadPacket}
 use Rattle.hdfs_model.specs.declared.messages.ReadAsk.{ReadAsk}
 use Rattle.hdfs_model.specs.declared.asks.Ask.{Ask}
@@ -40,14 +40,14 @@ pub record Later (old new : Shown) : Type 0 where
 abbrev pub SameNodes : Shown → Shown → Type 0
 SameNodes old new = (d : List ℕ) → new.counts.nodes d ≡ old.counts.nodes d
 
--- the places of all read links stay
-abbrev pub SamePlaces : Picture → Picture → Type 0
-SamePlaces old new = (link : ℕ) → new.reads link ≡ old.reads link
+-- the places of the read links that are open stay
+abbrev pub SamePlaces : Shown → Picture → Picture → Type 0
+SamePlaces shown old new = (link : ℕ) → IsSome (shown.reads link) → new.reads link ≡ old.reads link
 
 -- no read link was changed, none was closed, and none is left open
 pub record SameLinks (old new : Shown) : Type 0 where
   pub links : (link : ℕ) → new.reads link ≡ old.reads link
-  pub places : Told SamePlaces old.picture new.picture
+  pub places : Told (SamePlaces old) old.picture new.picture
 
 -- An ask of namenode i. It raises no count of a link or a datanode.
 pub record Served (old : Shown) (i : ℕ) (ask : Ask) (result : Result Answer AskFault) (new : Shown) : Type 0 where

@@ -30,7 +30,11 @@ AgreesAt p None None = Unit {0}
 AgreesAt p (Some entries.Dir) (Some Dir) = Unit {0}
 AgreesAt p (Some (entries.File file)) (Some (File content)) = (file.is_open ≡ false) × (file.attributes ≡ content.attributes) × StoresBlocks p file.blocks content.bytes
 AgreesAt p (Some (entries.File file)) (Some (Writing content)) = (file.is_open ≡ true) × (file.attributes ≡ content.attributes)
-AgreesAt p entry node = ⊥
+AgreesAt p None (Some node) = ⊥
+AgreesAt p (Some entry) None = ⊥
+AgreesAt p (Some entries.Dir) (Some (File content)) = ⊥
+AgreesAt p (Some entries.Dir) (Some (Writing content)) = ⊥
+AgreesAt p (Some (entries.File file)) (Some Dir) = ⊥
 
 -- the picture is told, and it has the same paths as the map, and at each the same
 abbrev pub Agrees : Option Picture → Files → Type 0

@@ -51,7 +51,7 @@ no_file_same f g path same =
 
 -- a file that is there is read
 pub reads_file : (look : List ℕ → Option PlainNode) (state : State) (path : List ℕ) (file : PlainFile) (offset len : ℕ) → Holds look state → look path ≡ Some (nodes.File file) → list_any (λ a. is_file (kinds_of (files_of look) a)) (ancestors path) ≡ false
-    → read_file state path (no_file (kinds_of state.files) path) offset len ≡ read_content state (Some (record { bytes = file.bytes; permission = file.permission; replication = file.replication; block_size = file.block_size })) offset len
+    → read_file state path (no_file (kinds_of state.files) path) offset len ≡ read_content state (Some (record { bytes = file.bytes; attributes = file.attributes })) offset len
 reads_file look state path file offset len holds there free =
     ap (λ (o : Option NoFile). read_file state path o offset len)
     (no_file_same (kinds_of state.files) (kinds_of (files_of look)) path (λ q. ap (option_map kind_of) (holds.files q))

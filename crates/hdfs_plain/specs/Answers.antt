@@ -1,6 +1,6 @@
 -- What the plain program answers, in the words of the fold.
 use Rattle.std.specs.Prelude.{List, Option, Some, None}
-use Rattle.hdfs_model.specs.declared.session.Reply.{Reply}
+use Rattle.hdfs_model.specs.declared.commands.Reply.{Reply}
 use Rattle.hdfs_model.specs.Files.{State, NotDirectory, Missing, NotFile}
 use Rattle.hdfs_model.specs.Steps.{Refusal, BadPath, Lacks, BadRange, Outcome, Refused, Done}
 use Rattle.hdfs_model.specs.Folds.{Folded, Ends, Stops}

@@ -7,7 +7,7 @@ use Rattle.hdfs_model.specs.Files.{Files, Node, Dir, File, State}
 -- the node that a plain one stands for
 abbrev pub node_of : PlainNode → Node
 node_of nodes.Dir = Dir
-node_of (nodes.File file) = File (record { bytes = file.bytes; permission = file.permission; replication = file.replication; block_size = file.block_size })
+node_of (nodes.File file) = File (record { bytes = file.bytes; attributes = file.attributes })
 
 -- the files that a look-up of plain nodes stands for
 abbrev pub files_of : (List ℕ → Option PlainNode) → Files

@@ -1,13 +1,13 @@
-// The files as a map.
+//! The files as a map.
 ghost use Rattle.std.specs.Prelude.{◌≡◌, ℕ, List as Items, Some, None, true, false, ◌↔◌, IfOk, IsTrue, MatchBool, ◌&&◌, is_none, option_copied, option_map};
 ghost use Rattle.std.specs.List.{list_any};
 ghost use Rattle.std.specs.BTreeMap.{get_by_text};
 ghost use Rattle.hdfs_model.specs.Files as spec;
-ghost use Rattle.hdfs_model.specs.Loading.{takes, in_limits, is_directory, with_line};
+ghost use Rattle.hdfs_model.specs.Loading.{takes, is_directory, with_line};
 ghost use Rattle.hdfs_model.specs.Paths.{ancestors, parent_of, is_path as spec_is_path};
 ghost use Rattle.hdfs_plain.specs.Plain.{Holds, files_of};
 
-use hdfs_model::{Line, above, is_path, parent};
+use hdfs_model::{Attributes, Line, above, is_path, parent};
 use hdfs_wire::{Blob, NoMemory};
 use std::alloc::Global;
 use std::collections::BTreeMap;
@@ -16,9 +16,7 @@ use std::collections::BTreeMap;
 #[derive(Drop)]
 pub struct PlainFile {
     pub bytes: Blob,
-    pub permission: u32,
-    pub replication: u32,
-    pub block_size: u64,
+    pub attributes: Attributes,
 }
 
 /// What stands at a path.
@@ -66,14 +64,10 @@ impl PlainFiles {
         match line {
             Line::File {
                 path,
-                permission,
-                replication,
-                block_size,
+                attributes,
                 bytes,
             } => {
-                let count = bytes.as_slice().len() as u64;
-                self.is_free(path.as_str())
-                    && is_in_limits(*permission, *replication, *block_size, count)
+                self.is_free(path.as_str()) && attributes.in_limits(bytes.as_slice().len() as u64)
             }
             Line::Fault(_) => true,
         }
@@ -107,17 +101,10 @@ impl PlainFiles {
         match line {
             Line::File {
                 path,
-                permission,
-                replication,
-                block_size,
+                attributes,
                 bytes,
             } => {
-                let file = PlainFile {
-                    bytes,
-                    permission,
-                    replication,
-                    block_size,
-                };
+                let file = PlainFile { bytes, attributes };
                 self.nodes
                     .insert(path.into_string(), PlainNode::File(file))?;
                 Ok(())
@@ -125,14 +112,4 @@ impl PlainFiles {
             Line::Fault(_) => Ok(()),
         }
     }
-}
-
-fn is_in_limits(permission: u32, replication: u32, block_size: u64, count: u64) -> bool
-    ensures { result ≡ in_limits permission replication block_size count }
-{
-    permission <= 0o7777
-        && replication == 1
-        && block_size >= 1
-        && block_size < 1 << 63
-        && count <= block_size
 }

@@ -1,4 +1,4 @@
-// Commands one after another.
+//! Commands one after another.
 ghost use Rattle.std.specs.Prelude.{◌≡◌, ◌++◌, ◌∷◌, [], ℕ, List as Items, take, Option, Some, None, IfOk, string_bytes, option_map};
 ghost use Rattle.std.specs.BTreeMap.{get_by_text};
 ghost use Rattle.hdfs_model.specs.Files as spec;

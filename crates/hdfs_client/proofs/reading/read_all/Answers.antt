@@ -4,16 +4,21 @@ use Rattle.hdfs_model.specs.declared.messages.LocatedBlock.{LocatedBlock}
 use Rattle.hdfs_model.specs.Steps.{range_of}
 use Rattle.hdfs_blocks.specs.Reader.{wanted_of, end_of, AllBlamed}
 use Rattle.hdfs_client.proofs.Pieces.{pieces_join}
-use Rattle.hdfs_client.proofs.Readers.{keeps_trans, reads_trans}
+use Rattle.hdfs_client.proofs.Readers.{keeps_trans, reads_trans, fails_from}
 use Rattle.hdfs_client.proofs.reading.read_all.Goals as goal
 
-pub returns-in_err-append_next-clause-cause : goal.returns-in_err-append_next-clause-cause
-returns-in_err-append_next-clause-cause g c =
+pub returns-in_err-append_next-clause-err : goal.returns-in_err-append_next-clause-err
+returns-in_err-append_next-clause-err g c =
     let p = err_from_is_err_and c.from_residual.result c.from_residual.ensures.1 in
     let before = c.pieces.invariant in
-    rw (p.1, p.2) (λ is from block over.
-    subst (λ (x : LocatedBlock). AllBlamed from (g.C.Cluster.shown c.append_next.new.cluster) x block) before.keeps.block
-    (c.in_err-append_next.ensures.cause is from block (before.reads.over from block over)))
+    let failed = c.in_err-append_next.ensures.err in
+    rw (p.1, p.2) (record {
+      fails = fails_from c.pieces.reader c.args.reader.now c.in_err-append_next.field-0.0 before.on before.keeps.end failed.fails;
+      cause = λ is from block over.
+          subst (λ (x : LocatedBlock). AllBlamed from (g.C.Cluster.shown c.append_next.new.cluster) x block) before.keeps.block
+          (failed.cause is from block (before.reads.over from block over));
+      idle = failed.idle;
+    })
 
 pub pieces-preserved : goal.pieces-preserved
 pieces-preserved g c =
@@ -27,7 +32,7 @@ pieces-preserved g c =
     let now = c.in_ok-append_next.ensures in
     record {
       keeps = keeps_trans s t u q r w before.keeps now.keeps;
-      reads = reads_trans s t u q r w before.reads now.reads;
+      reads = reads_trans s t u q r w before.keeps now.keeps before.reads now.reads;
       on = omega (arith, before.on, now.on);
       fine = now.fine;
       so_far = λ block shows. pieces_join c.args.out.now.items c.pieces.out.items c.append_next.new.out.items block (wanted_of q) (wanted_of r) (wanted_of w) (before.so_far block shows) (now.bytes block (before.reads.shows block shows)) before.on now.on;

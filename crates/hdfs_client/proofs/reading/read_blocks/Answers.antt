@@ -6,7 +6,7 @@ use Rattle.std.proofs.lemmas.List.{drop_all, length_push}
 use Rattle.std.proofs.lemmas.Result.{err_from_is_err_and}
 use Rattle.std.proofs.Math.Seq.{drop-cons}
 use Rattle.hdfs_model.specs.declared.messages.LocatedBlock.{LocatedBlock}
-use Rattle.hdfs_model.proofs.Frames.{only_reads_trans}
+use Rattle.hdfs_model.proofs.Frames.{only_reads_trans, same_links_trans}
 use Rattle.hdfs_client.proofs.Parts.{Left, left_next, left_end, fails_first}
 use Rattle.hdfs_client.proofs.reading.read_blocks.Goals as goal
 
@@ -27,7 +27,7 @@ loop-block-preserved g c =
     (YieldsList-turn (YieldsList-from_vec {s = c.into_iter-block-iterator.result} c.args.blocks.items given.0 (given.1 ∙ c.args.blocks.ok.0)) c.loop-block.yielded c.loop-block.block-iterator c.loop-block.yielded_by c.next.result c.next.new.self c.in-Some.block c.in-Some.is c.next.ensures.steps) in
     record {
       only = only_reads_trans s t u c.loop-block.invariant.only part.only;
-      links = λ link. part.links link ∙ c.loop-block.invariant.links link;
+      links = same_links_trans s t u c.loop-block.invariant.links part.links;
       none = λ empty. part.outside (omega (arith, empty)) ∙ c.loop-block.invariant.none empty;
       left = λ content st.
           left_next s t st.picture st.told c.loop-block.invariant.only st.ids st.total content c.in-Some.block (drop (length (c.loop-block.yielded ++ c.in-Some.block ∷ [])) c.args.blocks.items) c.args.offset c.args.end c.args.out.now.items c.loop-block.out.items

@@ -1,6 +1,5 @@
 use Rattle.std.proofs.Common.{◌≡◌, ℕ, List, length, drop}
-use Rattle.hdfs_model.specs.Shown.{OnlyReads}
-use Rattle.hdfs_client.specs.Meeting.{SameLinks}
+use Rattle.hdfs_model.specs.Shown.{OnlyReads, SameLinks}
 use Rattle.hdfs_client.specs.Ranges.{Stored}
 use Rattle.hdfs_client.proofs.Parts.{Left}
 use Rattle.hdfs_client.proofs.reading.read_blocks.Given as goal

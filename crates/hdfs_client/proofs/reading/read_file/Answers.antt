@@ -2,7 +2,8 @@ use Rattle.std.proofs.Common.{◌≡◌, ℕ, ◌+◌, ◌-◌, ◌<◌, ◌≤�
 use Rattle.std.proofs.lemmas.Result.{err_from_is_err_and}
 use Rattle.hdfs_model.specs.declared.messages.LocatedBlock.{LocatedBlock}
 use Rattle.hdfs_model.specs.Steps.{range_of}
-use Rattle.hdfs_client.specs.Ranges.{Stored, FailsAt, IsLost}
+use Rattle.hdfs_client.specs.Ranges.{Stored, FailsAt}
+use Rattle.hdfs_model.specs.Causes.{AllFailed, ByteLost}
 use Rattle.hdfs_client.proofs.Causing.{look_cause, agrees_looked, range_cause, read_done, blocks_cause, agrees_read}
 use Rattle.hdfs_client.proofs.reading.read_file.Goals as goal
 
@@ -12,7 +13,7 @@ returns-in_err-found-clause-err g c =
     let s = g.C.Cluster.shown c.args.cluster.now in
     let s' = g.C.Cluster.shown c.locate.new.cluster in
     let h = c.in_err-found.ensures in
-    rw (p.1, p.2) (λ state meets. (look_cause s s' state c.args.path.now c.args.offset c.args.len meets c.in_err-found.field-0.0 h.cause, agrees_looked s s' state c.args.path.now c.args.offset c.args.len meets h.files))
+    rw (p.1, p.2) (λ w state meets. (look_cause w s s' state c.args.path.now c.args.offset c.args.len meets c.in_err-found.field-0.0 h.cause, agrees_looked w s s' state c.args.path.now c.args.offset c.args.len meets h.files))
 
 pub returns-then-not-is_within-clause-err : goal.returns-then-not-is_within-clause-err
 returns-then-not-is_within-clause-err g c =
@@ -20,7 +21,7 @@ returns-then-not-is_within-clause-err g c =
     let s' = g.C.Cluster.shown c.locate.new.cluster in
     let h = c.in_ok-found.ensures in
     let past : c.in_ok-found.found.file_length < c.args.offset + c.args.len = search rules in
-    λ state meets. (range_cause s s' state c.args.path.now c.args.offset c.args.len meets h.files c.in_ok-found.found h.found past, agrees_looked s s' state c.args.path.now c.args.offset c.args.len meets h.files)
+    λ w state meets. (range_cause w s s' state c.args.path.now c.args.offset c.args.len meets h.files c.in_ok-found.found h.found past, agrees_looked w s s' state c.args.path.now c.args.offset c.args.len meets h.files)
 
 pub returns-in_err-out-clause-err : goal.returns-in_err-out-clause-err
 returns-in_err-out-clause-err g c =
@@ -28,7 +29,7 @@ returns-in_err-out-clause-err g c =
     let s = g.C.Cluster.shown c.args.cluster.now in
     let s' = g.C.Cluster.shown c.locate.new.cluster in
     let h = c.in_ok-found.ensures in
-    rw (p.1, p.2) (λ state meets. (tt, agrees_looked s s' state c.args.path.now c.args.offset c.args.len meets h.files))
+    rw (p.1, p.2) (λ w state meets. (tt, agrees_looked w s s' state c.args.path.now c.args.offset c.args.len meets h.files))
 
 pub returns-in_err-read_blocks-clause-err : goal.returns-in_err-read_blocks-clause-err
 returns-in_err-read_blocks-clause-err g c =
@@ -39,11 +40,11 @@ returns-in_err-read_blocks-clause-err g c =
     let h = c.in_ok-found.ensures in
     let e = c.in_err-read_blocks.field-0.0 in
     let within : c.args.offset + c.args.len ≤ c.in_ok-found.found.file_length = search rules in
-    let lost : (content : List ℕ) (stored : Stored s' c.in_ok-found.found.blocks content) → FailsAt (IsLost stored.picture stored.ids c.args.offset (c.args.offset + c.args.len) s'.counts u.counts) e
-    = subst (λ (bs : List LocatedBlock). (content : List ℕ) (stored : Stored s' bs content) → FailsAt (IsLost stored.picture stored.ids c.args.offset (c.args.offset + c.args.len) s'.counts u.counts) e) c.into_vec.ensures c.in_err-read_blocks.ensures.lost in
-    rw (p.1, p.2) (λ state meets. (
-      blocks_cause s s' state c.args.path.now c.args.offset c.args.len meets h.files c.in_ok-found.found h.found u h.later c.in_err-read_blocks.ensures.only within e lost,
-      agrees_read s s' state c.args.path.now c.args.offset c.args.len meets h.files c.in_ok-found.found h.found u c.in_err-read_blocks.ensures.only,
+    let lost : (content : List ℕ) (stored : Stored s' c.in_ok-found.found.blocks content) → FailsAt (ByteLost stored.picture stored.ids c.args.offset (c.args.offset + c.args.len) (AllFailed s'.counts u.counts stored.picture)) e
+    = subst (λ (bs : List LocatedBlock). (content : List ℕ) (stored : Stored s' bs content) → FailsAt (ByteLost stored.picture stored.ids c.args.offset (c.args.offset + c.args.len) (AllFailed s'.counts u.counts stored.picture)) e) c.into_vec.ensures c.in_err-read_blocks.ensures.lost in
+    rw (p.1, p.2) (λ w state meets. (
+      blocks_cause w s s' state c.args.path.now c.args.offset c.args.len meets h.files c.in_ok-found.found h.found u h.later c.in_err-read_blocks.ensures.only within e lost,
+      agrees_read w s s' state c.args.path.now c.args.offset c.args.len meets h.files c.in_ok-found.found h.found u c.in_err-read_blocks.ensures.only,
     ))
 
 pub returns-clause-ok : goal.returns-clause-ok
@@ -53,11 +54,11 @@ returns-clause-ok g c =
     let u = g.C.Cluster.shown c.read_blocks.new.cluster in
     let h = c.in_ok-found.ensures in
     let within : c.args.offset + c.args.len ≤ c.in_ok-found.found.file_length = search rules in
-    λ state meets. (
-      read_done s s' state c.args.path.now c.args.offset c.args.len meets h.files c.in_ok-found.found h.found c.from_vec.result within
+    λ w state meets. (
+      read_done w s s' state c.args.path.now c.args.offset c.args.len meets h.files c.in_ok-found.found h.found c.from_vec.result within
           (λ content st inside.
           (let out : c.read_blocks.new.out.items ≡ c.in_ok-out.out.items ++ range_of content c.args.offset (c.args.offset + c.args.len - c.args.offset) =
           c.in_ok-read_blocks.ensures.bytes content (subst (λ (bs : List LocatedBlock). Stored s' bs content) (sym c.into_vec.ensures) st) inside in
           c.from_vec.ensures ∙ out ∙ ap (λ (l : List ℕ). l ++ range_of content c.args.offset (c.args.offset + c.args.len - c.args.offset)) c.in_ok-out.ensures.items)),
-      agrees_read s s' state c.args.path.now c.args.offset c.args.len meets h.files c.in_ok-found.found h.found u c.in_ok-read_blocks.ensures.only,
+      agrees_read w s s' state c.args.path.now c.args.offset c.args.len meets h.files c.in_ok-found.found h.found u c.in_ok-read_blocks.ensures.only,
     )

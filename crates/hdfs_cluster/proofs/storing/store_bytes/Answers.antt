@@ -15,5 +15,4 @@ returns-clause-stores c =
     let id = c.in_ok-id.id in
     let ids : c.push.new.self ≡ id ∷ [] = c.in_ok-push.ensures.ok ∙ ap (λ (l : List ℕ). l ++ id ∷ []) c.new-ids.ensures in
     let adds : AddsBlock t t' id (length c.args.bytes) = subst (AddsBlock t t' id) c.len.ensures.value c.in_ok-id.ensures.added in
-    subst (λ (l : List ℕ). StoresBytes t t' held held' l c.args.bytes) (sym ids)
-    (stored_one t t' held held' id c.args.bytes adds c.in_ok-hold.ensures.held c.hold.ensures.others c.requires)
+    subst (λ (l : List ℕ). StoresBytes t' held' l c.args.bytes) (sym ids) (stored_one t t' held held' id c.args.bytes adds c.in_ok-hold.ensures.held c.hold.ensures.others c.requires)

@@ -1,7 +1,7 @@
 use Rattle.std.proofs.Common.{◌≡◌, ◌+◌, List, [], ◌∷◌, ◌++◌, take, sym, ◌∙◌, ap}
 use Rattle.std.proofs.lemmas.List.{take_more}
-use Rattle.hdfs_model.specs.declared.session.Command.{Command}
-use Rattle.hdfs_model.specs.declared.session.Reply.{Reply}
+use Rattle.hdfs_model.specs.declared.commands.Command.{Command}
+use Rattle.hdfs_model.specs.declared.commands.Reply.{Reply}
 use Rattle.hdfs_model.specs.Steps.{World, Done, Refused, step}
 use Rattle.hdfs_model.specs.Folds.{Ends, Stops, fold}
 use Rattle.hdfs_plain.specs.declared.running.PlainOutcome.{PlainOutcome}

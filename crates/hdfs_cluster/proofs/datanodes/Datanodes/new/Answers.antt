@@ -1,5 +1,6 @@
 -- Each datanode is new, and `dn0` is the first of them.
 use Rattle.std.proofs.Common.{◌≡◌, ◌⊎◌, ⊎_elim, inl, inr, ℕ, ◌<◌, zero, suc, List, ◌∷◌, Some, refl, sym, ◌∙◌, ap, subst, rules, arith}
+use Rattle.std.proofs.lemmas.Bool.{cases_eq}
 use Rattle.std.proofs.lemmas.Fmt.{decimal_digit}
 use Rattle.std.proofs.lemmas.Map.Text.{btree_map_updates_text}
 use Rattle.std.specs.Map.{lookup}
@@ -22,6 +23,7 @@ pub loop-number-init : goal.loop-number-init
 loop-number-init c = record {
   are_new = λ d. subst IsNew (sym (ap (lookup (is_at (λ k. slice_cmp nat_cmp d (string_bytes k)))) c.new-by_uuid.ensures.empty)) new_none;
   first = λ below. absurd (omega arith);
+  numbered = λ k below. absurd (omega (arith, below));
 }
 
 pub loop-number-preserved : goal.loop-number-preserved
@@ -37,10 +39,14 @@ loop-number-preserved c =
           (λ none. update_here look after key w updates first_node (c.in_ok-uuid.ensures ∙ first_uuid c.loop-number.number none))
           (λ more. update_some look after key w updates first_node (c.loop-number.invariant.first more))
           (zero_or_more c.loop-number.number);
+      numbered = λ k below. ⊎_elim
+          (λ same. update_here look after key w updates (uuid_of k) (c.in_ok-uuid.ensures ∙ ap uuid_of (sym same)))
+          (λ apart. update_some look after key w updates (uuid_of k) (c.loop-number.invariant.numbered k (omega (arith, below, apart))))
+          (cases_eq k c.loop-number.number);
     }
 
 pub invariant_of-result : goal.invariant_of-result
-invariant_of-result c = record { first = c.loop-number.invariant.first (omega arith) }
+invariant_of-result c = record { first = c.loop-number.invariant.first (omega arith); numbered = λ k below. c.loop-number.invariant.numbered k (omega (arith, below)) }
 
 pub returns-clause-held : goal.returns-clause-held
 returns-clause-held c = λ d. (c.loop-number.invariant.are_new d).bytes

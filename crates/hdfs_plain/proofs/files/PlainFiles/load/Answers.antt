@@ -16,8 +16,8 @@ pub returns-in_ok-insert-in-File : goal.returns-in_ok-insert-in-File
 returns-in_ok-insert-in-File c = λ state holds.
     let f = c.in-File in
     let old = c.args.self.now.nodes in
-    let content : Content = record { bytes = f.bytes; permission = f.permission; replication = f.replication; block_size = f.block_size } in
-    let node : PlainNode = nodes.File (record { bytes = f.bytes; permission = f.permission; replication = f.replication; block_size = f.block_size }) in
+    let content : Content = record { bytes = f.bytes; attributes = f.attributes } in
+    let node : PlainNode = nodes.File (record { bytes = f.bytes; attributes = f.attributes }) in
     let updates = btree_map_updates_text (string_bytes c.into_string.result) old c.insert.new.self (Some node) c.in_ok-insert-in-File.ensures.updates in
     subst (λ (line : Line). Holds (get_by_text c.insert.new.self) (with_line state line)) (sym f.is)
     (holds_with_file (get_by_text old) (get_by_text c.insert.new.self) state f.path node content holds refl (λ q. updates q ∙ ap (λ (l : List ℕ). cond (bytes_eq l q) (Some node) (get_by_text old q)) c.into_string.ensures))

@@ -1,0 +1,15 @@
+//! What a cluster in memory keeps of the lines that were loaded into it.
+use bytes::Bytes;
+use hdfs_model::{Attributes, FaultLine};
+use hdfs_wire::Text;
+
+/// A line that was loaded. The bytes of a file are shared with the datanode that holds them.
+#[derive(Drop)]
+pub enum Kept {
+    File {
+        path: Text,
+        attributes: Attributes,
+        bytes: Bytes,
+    },
+    Fault(FaultLine),
+}

@@ -1,0 +1,61 @@
+//! A cluster in memory, and how it is made.
+ghost use Rattle.std.specs.Prelude.{◌≡◌, ◌<◌, ℕ, List, true, is_some, map, IfOk};
+ghost use Rattle.std.specs.BTreeMap.{get_by_text};
+ghost use Rattle.std.specs.Str.{bytes_eq};
+ghost use Rattle.hdfs_model.specs.Files.{empty_state};
+ghost use Rattle.hdfs_model.specs.Paths.{root};
+ghost use Rattle.hdfs_model.specs.Sessions.{Fits};
+ghost use Rattle.hdfs_cluster.specs.Lines.{line_of};
+ghost use Rattle.hdfs_cluster.specs.Memory.{is_bare_at, is_nil, breaks};
+ghost use Rattle.hdfs_cluster.specs.Settings.{AreValid};
+ghost use Rattle.hdfs_cluster.specs.Nodes.{node_at, breaks_in, packets_of};
+
+use crate::datanodes::Datanodes;
+use crate::loaded::Kept;
+use crate::mem_settings::{Config, MemSettings};
+use crate::namespace::Namespace;
+use crate::read_link::MemRead;
+use hdfs_model::LastAnswer;
+use hdfs_wire::NoMemory;
+use slab::Slab;
+use std::alloc::Global;
+
+/// A cluster in memory: files, the datanodes that hold their blocks, and the faults that were loaded for these.
+#[derive(Drop)]
+pub struct MemCluster {
+    pub(crate) alloc: Global,
+    pub(crate) config: Config,
+    pub(crate) last: LastAnswer,
+    pub(crate) space: Namespace,
+    pub(crate) nodes: Datanodes,
+    pub(crate) reads: Slab<MemRead>,
+    pub(crate) loaded: Vec<Kept>,
+    ghost bare: { (p : is_nil loaded.items ≡ true) (q : List ℕ) → is_bare_at (bytes_eq root q) (get_by_text space.names q) ≡ true },
+    ghost planned: { (d : List ℕ) (packet : ℕ) → breaks_in (node_at nodes d) packet ≡ true → breaks (map line_of loaded.items) d packet ≡ true },
+    ghost acts: { (d : List ℕ) (packet : ℕ) → is_some (node_at nodes d) ≡ true → packets_of (node_at nodes d) < packet
+        → breaks (map line_of loaded.items) d packet ≡ true → breaks_in (node_at nodes d) packet ≡ true },
+}
+
+impl MemCluster {
+    ghost use Rattle.hdfs_cluster.specs.MemShown.{shown_of, nodes_of, is_fresh_of};
+    ghost use Rattle.hdfs_cluster.specs.Starting.{Starts};
+
+    /// A cluster with the root directory alone, that has never failed.
+    pub fn new(alloc: Global, settings: MemSettings) -> Result<MemCluster, NoMemory>
+        requires { AreValid settings }
+        ensures starts { IfOk result (λ m. Starts settings (shown_of m)) }
+        ensures datanodes { IfOk result (λ m. nodes_of m ≡ settings.nodes) }
+        ensures fits { IfOk result (λ m. Fits (shown_of m) empty_state) }
+        ensures fresh { IfOk result (λ m. is_fresh_of m ≡ true) }
+    {
+        Ok(MemCluster {
+            alloc,
+            config: Config::new(&settings),
+            last: LastAnswer::Fine,
+            space: Namespace::new(alloc)?,
+            nodes: Datanodes::new(alloc, settings.nodes)?,
+            reads: Slab::new(alloc),
+            loaded: Vec::new(alloc),
+        })
+    }
+}
