@@ -1,7 +1,7 @@
 //! Runs the code of the libraries as often as the words say, to time it, and prints a number that came of it.
 //!
-//! Words: `crc32c SIZE TIMES`, `crc32 SIZE TIMES`, `frames COUNT PIECE`, `packets SIZE TIMES`, `encode SIZE TIMES`,
-//! `decode SIZE TIMES` or `stars STARS LENGTH`.
+//! Words: `crc32c SIZE TIMES`, `crc32 SIZE TIMES`, `frames COUNT PIECE`, `packets SIZE TIMES`, `stars STARS LENGTH`, or `encode` or
+//! `decode` with a code, as in `encode_6_3 SIZE TIMES`, the code being one of `_3_2`, `_6_3` and `_10_4`.
 #![tactic(auto)]
 
 mod fault;
@@ -15,7 +15,7 @@ use fault::Fault;
 use frames::{count_frames, stream};
 use globs::match_stars;
 use packets::payload_bytes;
-use shards::{decode, encode};
+use shards::{code_of, decode, encode};
 use std::alloc::Global;
 use std::env;
 use sums::{Kind, folded_sum};
@@ -34,11 +34,11 @@ fn measure(alloc: Global, name: &str, first: usize, second: usize) -> Result<u64
     if name == "packets" {
         return payload_bytes(alloc, first, second);
     }
-    if name == "encode" {
-        return encode(alloc, first, second);
+    if let Some(code) = name.strip_prefix("encode") {
+        return encode(alloc, code_of(code)?, first, second);
     }
-    if name == "decode" {
-        return decode(alloc, first, second);
+    if let Some(code) = name.strip_prefix("decode") {
+        return decode(alloc, code_of(code)?, first, second);
     }
     if name == "stars" {
         return match_stars(alloc, first, second);

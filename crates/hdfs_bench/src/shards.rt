@@ -1,83 +1,72 @@
-// Shards of six data shards and three parity shards, computed many times.
-ghost use Rattle.std.specs.Prelude.{◌≡◌, ◌<◌, [], true, length, slice_index_or};
-ghost use Rattle.hdfs_ec.specs.Coding.{ArePlaces};
-ghost use Rattle.hdfs_field.specs.Slices.{AreEven};
+//! Shards of a code, computed many times.
 
 use crate::fault::Fault;
 use bytes::Bytes;
 use hdfs_ec::Coder;
 use std::alloc::Global;
 
-const DATA_SHARDS: usize = 6;
-
-const PARITY_SHARDS: usize = 3;
-
-/// Whether these are so many shards, each of this length.
-fn are_even(shards: &[Bytes], count: usize, size: usize) -> bool
-    ensures even { result ≡ true → AreEven count shards.now }
-    ensures long { result ≡ true → 0 < count → length (slice_index_or shards.now 0 []) ≡ size }
-{
-    for shard in shards {
-        if shard.len() != size {
-            return false;
-        }
-    }
-    shards.len() == count
+/// A code by its numbers of data and parity shards.
+#[derive(Clone, Copy)]
+pub(crate) struct Code {
+    data: usize,
+    parity: usize,
 }
 
-/// Whether these are so many places, whose shards have this length, not 0.
-fn are_places(places: &[Option<Bytes>], count: usize, size: usize) -> bool
-    ensures { result ≡ true → ArePlaces count places.now }
-{
-    for i in 0..places.len() {
-        match &places[i] {
-            Some(shard) => {
-                if shard.len() != size {
-                    return false;
-                }
-            }
-            None => {}
-        }
+/// The code that follows a word, as in `encode_6_3`.
+pub(crate) fn code_of(numbers: &str) -> Result<Code, Fault> {
+    let (data, parity) = match numbers {
+        "_3_2" => (3, 2),
+        "_6_3" => (6, 3),
+        "_10_4" => (10, 4),
+        _ => return Err(Fault::Words),
+    };
+    Ok(Code { data, parity })
+}
+
+fn coder_of(alloc: Global, code: Code) -> Result<Coder, Fault> {
+    if !Coder::is_code(code.data, code.parity) {
+        return Err(Fault::Words);
     }
-    places.len() == count && size > 0
+    Ok(Coder::new(alloc, code.data, code.parity)?)
 }
 
 /// The data shards, of so many bytes each.
-fn data_shards(alloc: Global, size: usize) -> Result<Vec<Bytes>, Fault> {
+fn data_shards(alloc: Global, code: Code, size: usize) -> Result<Vec<Bytes>, Fault> {
     let mut shards = Vec::new(alloc);
-    for place in 0..6u8 {
-        let bytes = vec![in alloc; place.wrapping_mul(37); size]?;
+    for place in 0..code.data {
+        let byte = (place % 256) as u8;
+        let bytes = vec![in alloc; byte.wrapping_mul(37); size]?;
         shards.push(Bytes::from_vec(bytes)?)?;
     }
     Ok(shards)
 }
 
-/// The parity shards of data shards of this size.
-fn encoded(alloc: Global, shards: &[Bytes], size: usize) -> Result<Vec<Bytes>, Fault> {
-    if size == 0 || !are_even(shards, DATA_SHARDS, size) {
+/// The parity shards of data shards.
+fn encoded(alloc: Global, coder: &Coder, shards: &[Bytes]) -> Result<Vec<Bytes>, Fault> {
+    if !coder.are_data_shards(shards) {
         return Err(Fault::Words);
     }
-    let coder = Coder::new(alloc, DATA_SHARDS, PARITY_SHARDS)?;
     Ok(coder.encode(alloc, shards)?)
 }
 
 /// Encodes shards of this size so many times, and counts the bytes of parity.
-pub(crate) fn encode(alloc: Global, size: usize, times: usize) -> Result<u64, Fault> {
-    let shards = data_shards(alloc, size)?;
+pub(crate) fn encode(alloc: Global, code: Code, size: usize, times: usize) -> Result<u64, Fault> {
+    let coder = coder_of(alloc, code)?;
+    let shards = data_shards(alloc, code, size)?;
     let mut bytes = 0u64;
     for _ in 0..times {
-        for shard in encoded(alloc, &shards, size)? {
+        for shard in encoded(alloc, &coder, &shards)? {
             bytes = bytes.saturating_add(shard.len() as u64);
         }
     }
     Ok(bytes)
 }
 
-/// The places in which the first three data shards are missing.
-fn left(data: &[Bytes], parity: &[Bytes], alloc: Global) -> Result<Vec<Option<Bytes>>, Fault> {
+/// The places in which the first data shards are missing, as many as there are parity shards.
+fn left(alloc: Global, data: &[Bytes], parity: &[Bytes]) -> Result<Vec<Option<Bytes>>, Fault> {
     let mut places = Vec::new(alloc);
     for (place, shard) in data.iter().chain(parity.iter()).enumerate() {
-        places.push(if place < PARITY_SHARDS {
+        places.push(if place < parity.len() {
             None
         } else {
             Some(shard.clone()?)
@@ -87,11 +76,10 @@ fn left(data: &[Bytes], parity: &[Bytes], alloc: Global) -> Result<Vec<Option<By
 }
 
 /// Fills the missing places, and counts the bytes of the first shard.
-fn decoded(alloc: Global, mut places: Vec<Option<Bytes>>, size: usize) -> Result<u64, Fault> {
-    if !are_places(&places, DATA_SHARDS + PARITY_SHARDS, size) {
+fn decoded(alloc: Global, coder: &Coder, mut places: Vec<Option<Bytes>>) -> Result<u64, Fault> {
+    if !coder.are_places(&places) {
         return Err(Fault::Words);
     }
-    let coder = Coder::new(alloc, DATA_SHARDS, PARITY_SHARDS)?;
     coder.decode(alloc, &mut places)?;
     match places.first() {
         Some(Some(shard)) => Ok(shard.len() as u64),
@@ -99,14 +87,15 @@ fn decoded(alloc: Global, mut places: Vec<Option<Bytes>>, size: usize) -> Result
     }
 }
 
-/// Decodes three lost shards of this size so many times, and counts the bytes of the first.
-pub(crate) fn decode(alloc: Global, size: usize, times: usize) -> Result<u64, Fault> {
-    let shards = data_shards(alloc, size)?;
-    let parity = encoded(alloc, &shards, size)?;
+/// Decodes as many lost data shards as there are parity shards, of this size, so many times, and counts the bytes of the first.
+pub(crate) fn decode(alloc: Global, code: Code, size: usize, times: usize) -> Result<u64, Fault> {
+    let coder = coder_of(alloc, code)?;
+    let shards = data_shards(alloc, code, size)?;
+    let parity = encoded(alloc, &coder, &shards)?;
     let mut bytes = 0u64;
     for _ in 0..times {
-        let places = left(&shards, &parity, alloc)?;
-        bytes = bytes.saturating_add(decoded(alloc, places, size)?);
+        let places = left(alloc, &shards, &parity)?;
+        bytes = bytes.saturating_add(decoded(alloc, &coder, places)?);
     }
     Ok(bytes)
 }

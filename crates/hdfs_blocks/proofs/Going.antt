@@ -14,7 +14,7 @@ use Rattle.hdfs_model.specs.Shown.{Shown, Later, OnlyReads, Opened, NotOpened, G
 use Rattle.hdfs_model.specs.Steps.{range_of}
 use Rattle.hdfs_model.specs.Stores.{HoldsPrefix}
 use Rattle.hdfs_model.proofs.Frames.{told_after, told_before, told_weaker, only_reads_from-Reading, only_reads_from-same, never_fall_refl}
-use Rattle.hdfs_wire.specs.declared.packet.ReadPacket.{ReadPacket}
+use Rattle.hdfs_wire.specs.declared.read_packet.ReadPacket.{ReadPacket}
 use Rattle.hdfs_blocks.specs.Blocks.{node_at, node_count, held_at, IsToBlame}
 use Rattle.hdfs_blocks.specs.Reader.{Holds, LinkHolds, IsOpenedOn, OthersStay, PlaceIs, PlacedIn, ShowsBlock, stage_of, before_opening, before_link}
 use Rattle.hdfs_blocks.specs.Going.{Frame, Goes, Accepts, IsPartOf, GivesOrGivesUp}

@@ -7,7 +7,7 @@ use Rattle.std.specs.Option.{option_map}
 use Rattle.std.specs.Str.{bytes_eq}
 use Rattle.slab.specs.Slab as slab
 use Rattle.slab.specs.Slab.{Slab, Updates, with_value}
-use Rattle.hdfs_wire.specs.declared.packet.ReadPacket.{ReadPacket}
+use Rattle.hdfs_wire.specs.declared.read_packet.ReadPacket.{ReadPacket}
 use Rattle.hdfs_model.specs.declared.asks.LinkFault.{LinkFault}
 use Rattle.hdfs_model.specs.declared.asks.LinkFault.TheVariants as link_faults
 use Rattle.hdfs_model.specs.declared.messages.ReadAsk.{ReadAsk}

@@ -2,7 +2,7 @@
 use Rattle.std.specs.Prelude.{◌≡◌, ◌≢◌, ℕ, ◌+◌, ◌^◌, ◌<◌, IsSome, Bool, true, false, List, length, slice_index, map, Option, Some, option_map, Result, Ok, Err, if◌then◌else◌}
 use Rattle.std.specs.BTreeMap.{get_by_text}
 use Rattle.slab.specs.Slab as slab
-use Rattle.hdfs_wire.specs.declared.packet.ReadPacket.{ReadPacket}
+use Rattle.hdfs_wire.specs.declared.read_packet.ReadPacket.{ReadPacket}
 use Rattle.hdfs_model.specs.declared.asks.Ask.{Ask}
 use Rattle.hdfs_model.specs.declared.asks.Answer.{Answer}
 use Rattle.hdfs_model.specs.declared.asks.AskFault.{AskFault}

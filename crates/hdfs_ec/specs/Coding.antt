@@ -1,5 +1,6 @@
 -- Reed-Solomon coding: each byte of a parity shard is a sum of products with the bytes of the data shards at its place.
 use Rattle.std.specs.Prelude.{◌≡◌, ℕ, zero, suc, ◌+◌, ◌<◌, ◌≤◌, nat_lt, List, [], ◌∷◌, length, slice_index, slice_index_or, Option, Some, None, is_some, if◌then◌else◌}
+use Rattle.hdfs_ec.specs.declared.coder.TheConstants.{SHARD_LIMIT}
 use Rattle.hdfs_field.specs.declared.gf256.GF256.{GF256}
 use Rattle.hdfs_field.specs.Elements.{element, gf256, gf256_quotient}
 use Rattle.hdfs_field.specs.Matrices.{width, entry, total, unit_at}
@@ -9,7 +10,7 @@ use Rattle.hdfs_field.specs.Slices.{byte_at, AreEven}
 pub record IsCode (units parity : ℕ) : Type 0 where
   pub some_units : 1 ≤ units
   pub some_parity : 1 ≤ parity
-  pub fits : units + parity ≤ 256
+  pub fits : units + parity ≤ SHARD_LIMIT
 
 -- a code, by the numbers of its data and parity shards
 pub record Code : Type 0 where

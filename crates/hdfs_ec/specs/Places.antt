@@ -1,6 +1,18 @@
 -- Places that may hold a shard.
-use Rattle.std.specs.Prelude.{◌≡◌, ◌≢◌, ℕ, suc, ◌<◌, List, [], ◌∷◌, length, slice_index, slice_index_or, Option, Some, None}
+use Rattle.std.specs.Prelude.{◌%◌, ◌≡◌, ◌≢◌, ℕ, suc, ◌<◌, List, [], ◌∷◌, length, slice_index, slice_index_or, Option, Some, None}
 use Rattle.hdfs_ec.specs.Coding.{place, AreDataShards, HoldShardsOf}
+
+-- each shard in the places has this length
+abbrev pub AreLong : ℕ → List (Option (List ℕ)) → Type 0
+AreLong size places = (i : ℕ) (shard : List ℕ) → place places i ≡ Some shard → length shard ≡ size
+
+-- the length of each shard in the places is a multiple of this
+abbrev pub AreWhole : ℕ → List (Option (List ℕ)) → Type 0
+AreWhole cell places = (i : ℕ) (shard : List ℕ) → place places i ≡ Some shard → length shard % cell ≡ 0
+
+-- the shards in the places have one length, not 0
+abbrev pub HaveOneLength : List (Option (List ℕ)) → Type 0
+HaveOneLength places = (size : ℕ) × (0 < size) × AreLong size places
 
 -- the numbers of the places that hold a shard, of which the first place has the number i
 unfoldable pub held_from : ℕ → List (Option (List ℕ)) → List ℕ

@@ -4,21 +4,24 @@ use Rattle.hdfs_ec.specs.declared.fault.EcRefusal.{EcRefusal}
 use Rattle.hdfs_ec.specs.declared.fault.EcRefusal.TheVariants.{Id, Range}
 use Rattle.hdfs_ec.specs.declared.schema.EcSchema.{EcSchema}
 use Rattle.hdfs_ec.specs.declared.policy.EcSchemaMsg.{EcSchemaMsg}
+use Rattle.hdfs_ec.specs.declared.policy.TheConstants.{DEFAULT_CELL_SIZE}
+use Rattle.hdfs_ec.specs.declared.coder.TheConstants.{SHARD_LIMIT}
+use Rattle.hdfs_ec.specs.declared.schema.TheConstants.{CELL_LIMIT}
 use Rattle.hdfs_ec.specs.Coding.{IsCode}
 
--- the schema is one that shards can be laid out by: a code, and cells of 1 to 2^30 bytes
+-- the schema is one that shards can be laid out by: a code, and cells of 1 to `CELL_LIMIT` bytes
 pub record IsSchema (s : EcSchema) : Type 0 where
   pub code : IsCode s.data_units s.parity_units
   pub some : 1 ≤ s.cell_size
-  pub small : s.cell_size ≤ 1073741824
+  pub small : s.cell_size ≤ CELL_LIMIT
 
 -- whether these numbers are those of such a schema
 abbrev pub is_schema : ℕ → ℕ → ℕ → Bool
-is_schema units parity cell = nat_le 1 units && nat_le 1 parity && nat_le (units + parity) 256 && nat_le 1 cell && nat_le cell 1073741824
+is_schema units parity cell = nat_le 1 units && nat_le 1 parity && nat_le (units + parity) SHARD_LIMIT && nat_le 1 cell && nat_le cell CELL_LIMIT
 
 -- a schema with the cells of one mebibyte that the numbered policies have
 abbrev pub numbered : List ℕ → ℕ → ℕ → Result EcSchema EcRefusal
-numbered codec units parity = Ok (record { codec_name = codec; data_units = units; parity_units = parity; cell_size = 1048576 })
+numbered codec units parity = Ok (record { codec_name = codec; data_units = units; parity_units = parity; cell_size = DEFAULT_CELL_SIZE })
 
 -- the schema that an id stands for
 abbrev pub schema_of_id : ℕ → Result EcSchema EcRefusal

@@ -1,6 +1,6 @@
 //! Reed-Solomon coding: parity shards of data shards, and lost data shards of the others.
 
-ghost use Rattle.std.specs.Prelude.{◌≡◌, ℕ, ◌+◌, ◌^◌, ◌<◌, ◌≤◌, [], length, slice_index_or, take, List as Items, bit_xor, IfOk, IfErr, OnOk, OnErr, ◌⊎◌, All};
+ghost use Rattle.std.specs.Prelude.{◌↔◌, IsTrue, ◌≡◌, ℕ, ◌+◌, ◌^◌, ◌<◌, ◌≤◌, [], length, slice_index_or, take, List as Items, bit_xor, IfOk, IfErr, OnOk, OnErr, ◌⊎◌, All};
 ghost use Rattle.std.specs.List.Sorted.{IsStrictlyIncreasing};
 ghost use Rattle.hdfs_field.specs.Polynomials.{IsProductOf};
 ghost use Rattle.hdfs_field.specs.Elements.{gf256};
@@ -12,12 +12,15 @@ ghost use Rattle.hdfs_ec.specs.Steps.{IsRange, AreParityRows};
 ghost use Rattle.hdfs_ec.specs.Places.{held_from, IsRestored};
 
 use crate::fault::{EcFault, ShardFault};
-use crate::places::{empty_numbers, held_numbers, list_empty, put, shards_of};
+use crate::places::{empty_numbers, have_one_length, held_numbers, list_empty, put, shards_of};
 use bytes::Bytes;
-use hdfs_field::{GF256, Matrix, Ring};
+use hdfs_field::{GF256, Matrix, Ring, are_even};
 use hdfs_wire::{Blob, NoMemory};
 use std::alloc::Global;
 use std::marker::Model;
+
+/// The most shards of a code, data and parity together.
+pub const SHARD_LIMIT: usize = 256;
 
 /// A Reed-Solomon code with so many data and parity shards. A shard is numbered from 0, the data shards first.
 #[derive(Drop)]
@@ -99,8 +102,34 @@ fn shared(alloc: Global, blobs: Vec<Blob>) -> Result<Vec<Bytes>, NoMemory>
 }
 
 impl Coder {
+    /// Whether there is a code of these numbers: at least one data and one parity shard, and at most `SHARD_LIMIT` together.
+    /// It takes no memory.
+    pub fn is_code(data_units: usize, parity_units: usize) -> bool
+        ensures { IsTrue result ↔ IsCode data_units parity_units }
+    {
+        data_units >= 1
+            && parity_units >= 1
+            && data_units <= SHARD_LIMIT
+            && parity_units <= SHARD_LIMIT - data_units
+    }
+
+    /// Whether these are the code's data shards by their number and lengths: as many as the code has, of equal length, not 0.
+    /// It takes no memory.
+    pub fn are_data_shards(&self, shards: &[Bytes]) -> bool
+        ensures { IsTrue result ↔ (AreEven self.now.units shards.now × (0 < length (slice_index_or shards.now 0 []))) }
+    {
+        are_even(shards, self.data_units) && !shards[0].is_empty()
+    }
+
+    /// Whether these are the code's places: one for each shard, the present shards of equal length, not 0. It takes no memory.
+    pub fn are_places(&self, places: &[Option<Bytes>]) -> bool
+        ensures { IsTrue result ↔ ArePlaces (self.now.units + self.now.parity) places.now }
+    {
+        places.len() == self.data_units + self.parity_units && have_one_length(places)
+    }
+
     /// The coding matrix, of a row for each shard and a column for each data shard: the identity above, and below it
-    /// 1 / (r xor c). Conditions: at least one data and one parity shard, and at most 256 together.
+    /// 1 / (r xor c). Condition: `is_code` of the numbers.
     pub fn gen_rs_matrix(
         alloc: Global,
         data_units: usize,
@@ -118,7 +147,7 @@ impl Coder {
         Ok(m)
     }
 
-    /// The code. Conditions, as of `gen_rs_matrix`: at least one data and one parity shard, and at most 256 together.
+    /// The code. Condition: `is_code` of the numbers.
     pub fn new(alloc: Global, data_units: usize, parity_units: usize) -> Result<Coder, NoMemory>
         requires { IsCode data_units parity_units }
         ensures { IfOk result (λ c. c ≡ record { units = data_units; parity = parity_units }) }
@@ -157,7 +186,7 @@ impl Coder {
         Ok(rows)
     }
 
-    /// The parity shards of these data shards. Conditions: as many as the code has, of equal length, not 0.
+    /// The parity shards of these data shards. Condition: `are_data_shards` of them.
     pub fn encode(&self, alloc: Global, shards: &[Bytes]) -> Result<Vec<Bytes>, NoMemory>
         requires even { AreEven self.now.units shards.now }
         requires some { 0 < length (slice_index_or shards.now 0 []) }
@@ -192,8 +221,7 @@ impl Coder {
         Ok(shared(alloc, products)?)
     }
 
-    /// Fills the missing data shards; missing parity shards stay missing. Conditions: a place for each shard, the present
-    /// ones of equal length, not 0.
+    /// Fills the missing data shards; missing parity shards stay missing. Condition: `are_places` of the places.
     ///
     /// `ErasureCodingError`, with the numbers of the empty places: a data shard is missing, and fewer shards are there than
     /// the code has data shards. After a refusal, want of memory too, the places are as they were.

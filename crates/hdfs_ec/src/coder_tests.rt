@@ -1,6 +1,5 @@
 ghost use Rattle.std.specs.Prelude.{◌≡◌, ◌+◌, ◌<◌, [], true, length, slice_index_or};
-ghost use Rattle.hdfs_ec.specs.Coding.{IsCode, ArePlaces};
-ghost use Rattle.hdfs_field.specs.Slices.{AreEven};
+ghost use Rattle.hdfs_ec.specs.Coding.{IsCode};
 
 use super::*;
 use bytes::Bytes;
@@ -78,36 +77,6 @@ fn rows_are_inverted(rt: HostRuntime) -> Result<(), Fail> {
     Ok(())
 }
 
-/// Whether these are so many shards, each of this length.
-fn are_even(shards: &[Bytes], count: usize, size: usize) -> bool
-    ensures even { result ≡ true → AreEven count shards.now }
-    ensures long { result ≡ true → 0 < count → length (slice_index_or shards.now 0 []) ≡ size }
-{
-    for shard in shards {
-        if shard.len() != size {
-            return false;
-        }
-    }
-    shards.len() == count
-}
-
-/// Whether these are so many places, whose shards have this length, not 0.
-fn are_places(places: &[Option<Bytes>], count: usize, size: usize) -> bool
-    ensures { result ≡ true → ArePlaces count places.now }
-{
-    for i in 0..places.len() {
-        match &places[i] {
-            Some(shard) => {
-                if shard.len() != size {
-                    return false;
-                }
-            }
-            None => {}
-        }
-    }
-    places.len() == count && size > 0
-}
-
 /// Shard `place`: bytes by a simple rule.
 fn shard(alloc: Global, place: u8, size: u8) -> Result<Bytes, NoMemory> {
     let mut bytes = Vec::new(alloc);
@@ -136,8 +105,8 @@ fn all_shards(
     for place in 0..units {
         shards.push(shard(alloc, place, size)?)?;
     }
-    assert!(rt; size > 0 && are_even(&shards, usize::from(units), usize::from(size)));
     let coder = Coder::new(alloc, usize::from(units), usize::from(parity))?;
+    assert!(rt; coder.are_data_shards(&shards));
     for other in coder.encode(alloc, &shards)? {
         shards.push(other)?;
     }
@@ -179,14 +148,12 @@ fn decoded(
     alloc: Global,
     units: u8,
     parity: u8,
-    size: u8,
     places: &mut [Option<Bytes>],
 ) -> Result<Option<Vec<u32>>, Fail>
     requires { IsCode units parity }
 {
-    let count = usize::from(units) + usize::from(parity);
-    assert!(rt; are_places(places, count, usize::from(size)));
     let coder = Coder::new(alloc, usize::from(units), usize::from(parity))?;
+    assert!(rt; coder.are_places(places));
     match coder.decode(alloc, places) {
         Ok(()) => Ok(None),
         Err(EcFault::ErasureCodingError(ShardFault { missing })) => Ok(Some(missing.into_vec())),
@@ -246,7 +213,7 @@ fn shards_are_encoded_and_decoded(rt: HostRuntime) -> Result<(), Fail> {
         ),
     ] {
         let mut found = places_of(alloc, &texts)?;
-        let answer = decoded(&rt, alloc, 3, 2, 1, &mut found)?;
+        let answer = decoded(&rt, alloc, 3, 2, &mut found)?;
         assert_eq!(rt; answer.is_none(), missing.is_none());
         if let (Some(answer), Some(missing)) = (&answer, missing) {
             assert_eq!(rt; answer.len(), missing.len());
@@ -270,9 +237,9 @@ fn all_shards_of(rt: &impl Abort, alloc: Global) -> Result<Vec<Option<Bytes>>, N
     for byte in [1, 2, 3] {
         shards.push(Bytes::copy_from_slice(alloc, &[byte])?)?;
     }
-    assert!(rt; are_even(&shards, 3, 1));
     let mut places = Vec::new(alloc);
     let coder = Coder::new(alloc, 3, 2)?;
+    assert!(rt; coder.are_data_shards(&shards));
     let others = coder.encode(alloc, &shards)?;
     for shard in shards {
         places.push(Some(shard))?;
@@ -289,7 +256,6 @@ fn check_choice(
     alloc: Global,
     units: u8,
     parity: u8,
-    size: u8,
     shards: &[Bytes],
     lost: u32,
 ) -> Result<(), Fail>
@@ -297,7 +263,7 @@ fn check_choice(
 {
     let mut places = left(alloc, shards, lost)?;
     let before = left(alloc, shards, lost)?;
-    let answer = decoded(rt, alloc, units, parity, size, &mut places)?;
+    let answer = decoded(rt, alloc, units, parity, &mut places)?;
     let numbers = numbers_of(alloc, lost, u32::from(units) + u32::from(parity))?;
     let gone = numbers.len() > usize::from(parity) && numbers.iter().any(|n| *n < u32::from(units));
     if gone {
@@ -333,7 +299,7 @@ fn check_code(
     for size in [1, 2, 33] {
         let shards = all_shards(rt, alloc, units, parity, size)?;
         for lost in 0..choices {
-            check_choice(rt, alloc, units, parity, size, &shards, lost)?;
+            check_choice(rt, alloc, units, parity, &shards, lost)?;
         }
     }
     Ok(())
@@ -383,7 +349,7 @@ fn decoded_cells(rt: &impl Abort, alloc: Global, codec: &str) -> Result<Vec<u8>,
         cell_size: 1,
     };
     let stripes = places_of(alloc, &[b"-", b"\x02\x05", b"\x03\x06", b"\xf6\x7d", b"-"])?;
-    assert!(rt; are_places(&stripes, 5, 2));
+    assert!(rt; schema.are_stripes(&stripes));
     cells_or_name(alloc, schema.ec_decode(alloc, stripes))
 }
 

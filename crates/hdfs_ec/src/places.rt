@@ -1,13 +1,65 @@
 //! Places that may hold a shard.
 
-ghost use Rattle.std.specs.Prelude.{◌≡◌, ℕ, ◌+◌, ◌^◌, ◌<◌, ◌≤◌, List as Items, length, slice_set, IfOk, All};
+ghost use Rattle.std.specs.Prelude.{IfSome, IfNone, ◌↔◌, IsTrue, ◌≡◌, ℕ, ◌+◌, ◌^◌, ◌<◌, ◌≤◌, List as Items, length, slice_set, IfOk, All};
 ghost use Rattle.std.specs.List.Sorted.{IsStrictlyIncreasing};
-ghost use Rattle.hdfs_ec.specs.Coding.{empty_places};
-ghost use Rattle.hdfs_ec.specs.Places.{held_from, held_shards, ArePut};
+ghost use Rattle.hdfs_ec.specs.Coding.{empty_places, place};
+ghost use Rattle.hdfs_ec.specs.Places.{held_from, held_shards, ArePut, AreLong, AreWhole, HaveOneLength};
 
 use bytes::Bytes;
 use hdfs_wire::{List, NoMemory};
 use std::alloc::Global;
+
+/// The length of the first shard in the places.
+fn first_length(places: &[Option<Bytes>]) -> Option<usize>
+    ensures some { IfSome result (λ n. (i : ℕ) × (shard : Items ℕ) × (place places.now i ≡ Some shard) × (length shard ≡ n)) }
+    ensures none { IfNone result (AreLong 1 places.now) }
+{
+    for i in 0..places.len() {
+        if let Some(shard) = &places[i] {
+            return Some(shard.len());
+        }
+    }
+    None
+}
+
+/// Whether the shards in the places have this length.
+fn are_long(places: &[Option<Bytes>], size: usize) -> bool
+    ensures { IsTrue result ↔ AreLong size places.now }
+{
+    for i in 0..places.len() {
+        if let Some(shard) = &places[i] {
+            if shard.len() != size {
+                return false;
+            }
+        }
+    }
+    true
+}
+
+/// Whether the lengths of the shards in the places are multiples of a cell's.
+pub(crate) fn are_whole(places: &[Option<Bytes>], cell: usize) -> bool
+    requires { 0 < cell }
+    ensures { IsTrue result ↔ AreWhole cell places.now }
+{
+    for i in 0..places.len() {
+        if let Some(shard) = &places[i] {
+            if shard.len() % cell != 0 {
+                return false;
+            }
+        }
+    }
+    true
+}
+
+/// Whether the shards in the places have one length, not 0.
+pub(crate) fn have_one_length(places: &[Option<Bytes>]) -> bool
+    ensures { IsTrue result ↔ HaveOneLength places.now }
+{
+    match first_length(places) {
+        None => true,
+        Some(size) => size > 0 && are_long(places, size),
+    }
+}
 
 /// The numbers of the places that hold a shard, rising.
 pub(crate) fn held_numbers(alloc: Global, places: &[Option<Bytes>]) -> Result<Vec<usize>, NoMemory>

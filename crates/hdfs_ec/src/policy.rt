@@ -4,8 +4,9 @@ ghost use Rattle.std.specs.Prelude.{◌≡◌, ◌≤◌, ◌⊎◌, Ok, Err, If
 ghost use Rattle.hdfs_ec.specs.Policies.{schema_of, schema_of_id, schema_of_message, is_schema};
 ghost use Rattle.hdfs_ec.specs.Refusals.{RefusesPolicy};
 
+use crate::coder::SHARD_LIMIT;
 use crate::fault::{EcFault, EcRefusal};
-use crate::schema::EcSchema;
+use crate::schema::{CELL_LIMIT, EcSchema};
 use hdfs_wire::Text;
 use std::alloc::Global;
 
@@ -28,21 +29,15 @@ pub struct EcPolicy {
 /// The cells of the numbered policies, in bytes.
 const DEFAULT_CELL_SIZE: usize = 1024 * 1024;
 
-/// The most bytes of a cell.
-const CELL_LIMIT: u64 = 1 << 30;
-
-/// The most shards of a group.
-const SHARD_LIMIT: u64 = 256;
-
 /// Whether shards can be laid out by these numbers.
 fn is_schema(data_units: u32, parity_units: u32, cell_size: u32) -> bool
     ensures { result ≡ is_schema data_units parity_units cell_size }
 {
     data_units >= 1
         && parity_units >= 1
-        && u64::from(data_units) + u64::from(parity_units) <= SHARD_LIMIT
+        && data_units as usize + parity_units as usize <= SHARD_LIMIT
         && cell_size >= 1
-        && u64::from(cell_size) <= CELL_LIMIT
+        && cell_size as usize <= CELL_LIMIT
 }
 
 /// A schema with the cells of the numbered policies.

@@ -1,11 +1,15 @@
 //! How the bytes of a group are laid out over its shards.
 
-ghost use Rattle.std.specs.Prelude.{◌≡◌, ℕ, ◌+◌, ◌*◌, ◌/◌, ◌%◌, ◌^◌, ◌<◌, ◌≤◌, nat_lt, List, length, slice_index, IfOk, if◌then◌else◌};
+ghost use Rattle.std.specs.Prelude.{◌↔◌, IsTrue, ◌≡◌, ℕ, ◌+◌, ◌*◌, ◌/◌, ◌%◌, ◌^◌, ◌<◌, ◌≤◌, nat_lt, List, length, slice_index, IfOk, if◌then◌else◌};
 ghost use Rattle.hdfs_ec.specs.Policies.{IsSchema};
 ghost use Rattle.hdfs_ec.specs.Striping.{share_of, share, share_length, lengths_together, cells, first_shares, joined};
 
+use crate::coder::Coder;
 use hdfs_wire::{NoMemory, Text};
 use std::alloc::Global;
+
+/// The most bytes of a cell: 1 GiB.
+pub const CELL_LIMIT: usize = 1 << 30;
 
 /// The layout of a group: its codec, the numbers of data and parity shards, and the size of a cell in bytes.
 #[derive(Debug, Drop)]
@@ -17,8 +21,18 @@ pub struct EcSchema {
 }
 
 impl EcSchema {
+    /// Whether shards can be laid out by it, as by each that `resolve_ec_policy` gives: its numbers are those of a code, and
+    /// its cells have from 1 to `CELL_LIMIT` bytes. It takes no memory.
+    pub fn is_schema(&self) -> bool
+        ensures { IsTrue result ↔ IsSchema self.now }
+    {
+        Coder::is_code(self.data_units, self.parity_units)
+            && self.cell_size >= 1
+            && self.cell_size <= CELL_LIMIT
+    }
+
     /// The bytes of a row: a cell of each data shard. It takes no memory.
-    /// Condition, as of the calls below: the schema is one that `resolve_ec_policy` gives.
+    /// Condition, as of the calls below: `is_schema`.
     pub fn row_size(&self) -> usize
         requires { IsSchema self.now }
         ensures { result ≡ self.now.data_units * self.now.cell_size }

@@ -1,14 +1,15 @@
 //! The bytes of a group from the shards of its rows.
 
-ghost use Rattle.std.specs.Prelude.{◌≡◌, ℕ, ◌+◌, ◌*◌, ◌/◌, ◌%◌, ◌^◌, ◌<◌, ◌≤◌, ◌⊎◌, ◌++◌, [], true, false, Some, List as Items, map, take, drop, length, slice_index_or, codes, IfOk, IfErr, OnOk, All};
+ghost use Rattle.std.specs.Prelude.{◌↔◌, IsTrue, ◌≡◌, ℕ, ◌+◌, ◌*◌, ◌/◌, ◌%◌, ◌^◌, ◌<◌, ◌≤◌, ◌⊎◌, ◌++◌, [], true, false, Some, List as Items, map, take, drop, length, slice_index_or, codes, IfOk, IfErr, OnOk, All};
 ghost use Rattle.hdfs_ec.specs.Policies.{IsSchema};
 ghost use Rattle.hdfs_ec.specs.Striping.{cells};
 ghost use Rattle.hdfs_ec.specs.Coding.{AreDataShards, ArePlaces, HoldShardsOf, HoldData, AreFilled, AllHeld, held, place, empty_places};
 ghost use Rattle.hdfs_ec.specs.Refusals.{RefusesStripes};
+ghost use Rattle.hdfs_ec.specs.Places.{AreWhole};
 
 use crate::coder::Coder;
 use crate::fault::{EcFault, EcRefusal};
-use crate::places::shards_of;
+use crate::places::{are_whole, have_one_length, shards_of};
 use crate::schema::EcSchema;
 use bytes::Bytes;
 use hdfs_wire::NoMemory;
@@ -86,9 +87,19 @@ impl EcSchema {
         coder.decode(alloc, stripes)
     }
 
+    /// Whether these are a group's stripes by their number and lengths: one place for each shard, the present shards of equal
+    /// length, a positive multiple of the cell. It takes no memory. Condition: `is_schema`.
+    pub fn are_stripes(&self, stripes: &[Option<Bytes>]) -> bool
+        requires { IsSchema self.now }
+        ensures { IsTrue result ↔ (ArePlaces (self.now.data_units + self.now.parity_units) stripes.now × AreWhole self.now.cell_size stripes.now) }
+    {
+        stripes.len() == self.data_units + self.parity_units
+            && have_one_length(stripes)
+            && are_whole(stripes, self.cell_size)
+    }
+
     /// The cells of the data shards, row by row, of these shards, each of which may be missing: missing data shards are
-    /// computed first. Conditions: the schema is one that `resolve_ec_policy` gives, a place for each shard, the present
-    /// ones of equal length, a positive multiple of the cell.
+    /// computed first. Conditions: `is_schema`, and `are_stripes` of the stripes.
     ///
     /// `UnsupportedErasureCodingPolicy(Codec)`, with the codec's name: a data shard is missing and the codec isn't `rs`.
     /// `ErasureCodingError`, with the numbers of the empty places: a data shard is missing, the codec is `rs`, and fewer

@@ -1,29 +1,18 @@
 -- Slices of bytes that are added up, and rows of a matrix times slices.
-use Rattle.std.proofs.Common.{◌≡◌, ℕ, ◌+◌, ◌<◌, ◌≤◌, List, [], ◌∷◌, ◌++◌, length, get_or, set, take, drop, inl, inr, refl, sym, ap, subst, ◌∙◌, arith}
-use Rattle.std.proofs.lemmas.Bool.{cases_eq}
+use Rattle.std.proofs.Common.{zero, suc, ◌-◌, length-append, ◌≡◌, ℕ, ◌+◌, ◌<◌, List, [], ◌∷◌, ◌++◌, length, get_or, set, take, drop, inl, inr, refl, sym, ap, subst, ◌∙◌, arith}
+use Rattle.std.proofs.lemmas.Bool.{cases_eq, cases_lt}
 use Rattle.std.proofs.lemmas.List.{length-set, length_push, get_or_push, get_or_append_left, get_or-set_same, get_or-set_other}
 use Rattle.std.proofs.Math.Nat.{mod-eq_of_lt}
-use Rattle.std.proofs.Math.Seq.{take-append_seam}
+use Rattle.std.proofs.Math.Seq.{take-append_seam, get_or-append_right}
 use Rattle.hdfs_field.specs.declared.gf256.GF256.{GF256}
 use Rattle.hdfs_field.specs.Elements.{element, gf256}
 use Rattle.hdfs_field.specs.FieldLaws.{same_element}
-use Rattle.hdfs_field.specs.Matrices.{width, entry, total}
-use Rattle.hdfs_field.specs.Slices.{byte_at, IsAdded, AreCombined, IsCombined, combined_below}
-use Rattle.hdfs_field.proofs.Writes.{total_more}
+use Rattle.hdfs_field.specs.Matrices.{width}
+use Rattle.hdfs_field.specs.Slices.{added_at, AddedBelow, IsAdded, AreFirst, AreCombined, IsCombined, combined_below}
 
 -- the element of an element's number is that element
 pub element_back : (a : GF256) → element a.value ≡ a
 element_back a = same_element (element a.value) a (mod-eq_of_lt a.in_range)
-
--- byte q of a slice with c times another added
-abbrev pub added_at : GF256 → List ℕ → List ℕ → ℕ → ℕ
-added_at c input old q = (gf256.sum (element (get_or old q 0)) (gf256.product c (element (get_or input q 0)))).value
-
--- the bytes before q are added up, the others are the old ones
-pub record AddedBelow (c : GF256) (input old new : List ℕ) (q : ℕ) : Type 0 where
-  pub long : length new ≡ length old
-  pub done : (k : ℕ) → k < q → get_or new k 0 ≡ added_at c input old k
-  pub left : (k : ℕ) → q ≤ k → get_or new k 0 ≡ get_or old k 0
 
 module _ (c : GF256) (input old : List ℕ) where
   pub added_none : AddedBelow c input old old 0
@@ -46,26 +35,37 @@ module _ (c : GF256) (input old : List ℕ) where
   pub added_all : (new : List ℕ) (q : ℕ) → AddedBelow c input old new q → q ≡ length old → IsAdded c input old new
   added_all new q h end = record { long = h.long; bytes = λ k lt. h.done k (omega arith) }
 
-module _ (m : List (List GF256)) (shards : List (List ℕ)) (r : ℕ) where
-  pub combined_none : (other : List ℕ) → length other ≡ length (get_or shards 0 []) → ((q : ℕ) → q < length other → get_or other q 0 ≡ 0) → IsCombined m shards r 0 other
-  unfolding total
-  combined_none other long zeros = record { long = long; bytes = λ q lt. zeros q (omega arith) }
+module _ (m : List (List GF256)) (shards : List (List ℕ)) (r n : ℕ) where
+  pub first_none : AreFirst m shards r n []
+  first_none = record { each = λ q lt. absurd (omega arith) }
 
-  pub combined_more : (n : ℕ) (c : GF256) (old new input : List ℕ) → IsCombined m shards r n old → c ≡ entry gf256 m r n → input ≡ get_or shards n [] → IsAdded c input old new
-      → IsCombined m shards r (n + 1) new
-  combined_more n c old new input h is from added = record {
-    long = added.long ∙ h.long;
-    bytes = λ q lt.
-        let long = h.long in
-        let so = combined_below m shards r n q in
-        let back : element (get_or old q 0) ≡ so = ap element (h.bytes q lt) ∙ element_back so in
-        let term : gf256.product c (element (get_or input q 0)) ≡ gf256.product (entry gf256 m r n) (element (byte_at shards n q))
-        = ap (λ (x : GF256). gf256.product x (element (get_or input q 0))) is
-        ∙ ap (λ (s : List ℕ). gf256.product (entry gf256 m r n) (element (get_or s q 0))) from in
-        added.bytes q (omega arith) ∙ ap (λ (x : GF256). (gf256.sum x (gf256.product c (element (get_or input q 0)))).value) back
-        ∙ ap (λ (x : GF256). (gf256.sum so x).value) term
-        ∙ sym (ap (λ (x : GF256). x.value) (total_more gf256 n (λ i. gf256.product (entry gf256 m r i) (element (byte_at shards i q)))));
+  -- more bytes behind the first
+  pub first_more : (xs ys : List ℕ) → AreFirst m shards r n xs → ((k : ℕ) → k < length ys → get_or ys k 0 ≡ (combined_below m shards r n (length xs + k)).value)
+      → AreFirst m shards r n (xs ++ ys)
+  first_more xs ys h more = record {
+    each = λ q lt. elim (cases_lt q (length xs)) [
+      | inl before ↦ get_or_append_left xs ys 0 q before ∙ h.each q before
+      | inr le ↦
+          let k = q - length xs in
+          let at : length xs + k ≡ q = omega arith in
+          let within : k < length ys = omega (arith, length-append xs ys) in
+          get_or-append_right xs ys q 0 le ∙ more k within ∙ ap (λ (p : ℕ). (combined_below m shards r n p).value) at
+    ];
   }
+
+  one_byte : (y v k : ℕ) → y ≡ v → k < 1 → get_or (y ∷ []) k 0 ≡ v
+  one_byte y v zero e lt = e
+  one_byte y v (suc k) e lt = absurd (omega arith)
+
+  -- one byte more
+  pub first_push : (xs : List ℕ) (y q : ℕ) → length xs ≡ q → AreFirst m shards r n xs → y ≡ (combined_below m shards r n q).value → AreFirst m shards r n (xs ++ y ∷ [])
+  first_push xs y q long h is = first_more xs (y ∷ []) h (λ k lt.
+      let at : q ≡ length xs + k = omega arith in
+      one_byte y _ k (is ∙ ap (λ (p : ℕ). (combined_below m shards r n p).value) at) lt)
+
+  -- all the bytes
+  pub first_all : (bytes : List ℕ) → length bytes ≡ length (get_or shards 0 []) → AreFirst m shards r n bytes → IsCombined m shards r n bytes
+  first_all bytes long h = record { long = long; bytes = λ q lt. h.each q (omega arith) }
 
 pub added_value : (c a b p s : GF256) (x y v : ℕ) → v ≡ s.value → s ≡ gf256.sum a p → a ≡ element x → p ≡ gf256.product c b → b ≡ element y
     → v ≡ (gf256.sum (element x) (gf256.product c (element y))).value

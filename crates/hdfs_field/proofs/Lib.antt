@@ -10,3 +10,5 @@ pub mod Columns
 pub mod Inverses
 pub mod Reductions
 pub mod Combining
+pub mod Halves
+pub mod LaneLemmas

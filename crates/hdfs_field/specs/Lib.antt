@@ -9,6 +9,7 @@ pub mod Lending
 pub mod Below
 pub mod Products
 pub mod Inverses
+pub mod Lanes
 pub mod FieldLaws
 pub mod WrappingLaws
 pub mod Slices

@@ -1,5 +1,5 @@
 -- Slices of bytes, whose bytes at one place are taken as elements of the field of 256 elements.
-use Rattle.std.specs.Prelude.{◌≡◌, ℕ, ◌<◌, List, [], length, slice_index, slice_index_or}
+use Rattle.std.specs.Prelude.{◌≡◌, ℕ, ◌<◌, ◌≤◌, List, [], length, slice_index, slice_index_or}
 use Rattle.hdfs_field.specs.declared.gf256.GF256.{GF256}
 use Rattle.hdfs_field.specs.Elements.{element, gf256}
 use Rattle.hdfs_field.specs.Matrices.{entry, total}
@@ -28,6 +28,16 @@ pub record IsAdded (c : GF256) (input old new : List ℕ) : Type 0 where
   pub long : length new ≡ length old
   pub bytes : (q : ℕ) → q < length old → slice_index new q ≡ (gf256.sum (element (slice_index old q)) (gf256.product c (element (slice_index input q)))).value
 
+-- byte q of a slice with c times another added
+abbrev pub added_at : GF256 → List ℕ → List ℕ → ℕ → ℕ
+added_at c input old q = (gf256.sum (element (slice_index old q)) (gf256.product c (element (slice_index input q)))).value
+
+-- the bytes before q are added up, the others are the old ones
+pub record AddedBelow (c : GF256) (input old new : List ℕ) (q : ℕ) : Type 0 where
+  pub long : length new ≡ length old
+  pub done : (k : ℕ) → k < q → slice_index new k ≡ added_at c input old k
+  pub left : (k : ℕ) → q ≤ k → slice_index new k ≡ slice_index old k
+
 -- the first entries of row r of a matrix, n of them, times the bytes at q of these slices
 abbrev pub combined_below : List (List GF256) → List (List ℕ) → ℕ → ℕ → ℕ → GF256
 combined_below m shards r n q = total gf256 n (λ i. gf256.product (entry gf256 m r i) (element (byte_at shards i q)))
@@ -36,3 +46,12 @@ combined_below m shards r n q = total gf256 n (λ i. gf256.product (entry gf256 
 pub record IsCombined (m : List (List GF256)) (shards : List (List ℕ)) (r n : ℕ) (other : List ℕ) : Type 0 where
   pub long : length other ≡ length (slice_index_or shards 0 [])
   pub bytes : (q : ℕ) → q < length (slice_index_or shards 0 []) → slice_index other q ≡ (combined_below m shards r n q).value
+
+-- so many slices, each of this length
+pub record AreLong (count len : ℕ) (shards : List (List ℕ)) : Type 0 where
+  pub size : length shards ≡ count
+  pub even : (c : ℕ) → c < count → length (slice_index_or shards c []) ≡ len
+
+-- the first bytes of row r of the matrix times these slices, byte by byte
+pub record AreFirst (m : List (List GF256)) (shards : List (List ℕ)) (r n : ℕ) (bytes : List ℕ) : Type 0 where
+  pub each : (q : ℕ) → q < length bytes → slice_index bytes q ≡ (combined_below m shards r n q).value

@@ -3,7 +3,7 @@
 ghost use Rattle.std.specs.Prelude.{◌≡◌, ◌≢◌, ℕ, ◌<◌, ◌↔◌, IsTrue};
 ghost use Rattle.hdfs_field.specs.Polynomials.{IsProductOf};
 
-mod residues;
+pub(crate) mod residues;
 
 use crate::gf256::residues::{inverse, product};
 use crate::ring::{Field, Ring};

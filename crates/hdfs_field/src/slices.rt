@@ -1,50 +1,112 @@
 //! Matrices times slices of bytes.
 
-ghost use Rattle.std.specs.Prelude.{◌≡◌, ◌<◌, length, slice_index_or, IfOk};
+ghost use Rattle.std.specs.Prelude.{◌↔◌, IsTrue, ℕ, [], map, ◌≡◌, ◌<◌, length, slice_index_or, IfOk};
 ghost use Rattle.hdfs_field.specs.Matrices.{width};
-ghost use Rattle.hdfs_field.specs.Slices.{IsAdded, AreEven, AreCombined, IsCombined};
+ghost use Rattle.hdfs_field.specs.Slices.{AreEven, AreLong, AreFirst, AreCombined, combined_below};
+ghost use Rattle.hdfs_field.specs.Lanes.{AreRowTables};
 
 use crate::gf256::GF256;
+use crate::kernel::{LANES, combined_vector, tables};
 use crate::matrix::Matrix;
+use crate::ring::Ring;
 use bytes::Bytes;
 use hdfs_wire::{Blob, NoMemory};
 use std::alloc::Global;
+use std::simd::u8x16;
 
-/// Adds the product of `c` and each byte of `input` to the byte of `out` at its place. It takes no memory.
-/// Condition: equal lengths.
-pub(crate) fn mul_add(out: &mut [u8], input: &[u8], c: GF256)
-    requires { length out.old ≡ length input.now }
-    ensures { IsAdded c input.now out.old out.new }
+/// Whether these are so many slices, all of one length. It takes no memory.
+pub fn are_even(slices: &[Bytes], count: usize) -> bool
+    ensures { IsTrue result ↔ AreEven count slices.now }
 {
-    for q in 0..out.len() {
-        out[q] = u8::from(GF256::from(out[q]) + c * GF256::from(input[q]));
+    if slices.len() != count {
+        return false;
     }
+    for i in 0..count {
+        if slices[i].len() != slices[0].len() {
+            return false;
+        }
+    }
+    true
+}
+
+/// The slices of bytes that these are.
+fn slices_of(alloc: Global, rows: &[Bytes]) -> Result<Vec<&[u8]>, NoMemory>
+    ensures { IfOk result (λ v. map (λ p. p.now) v.items ≡ rows.now) }
+{
+    let mut slices = Vec::with_capacity(alloc, rows.len())?;
+    for row in rows {
+        slices.push(row.as_slice())?;
+    }
+    Ok(slices)
 }
 
 impl Matrix<GF256> {
-    /// Row `r` times the slices, byte by byte.
-    fn mul_row(&self, alloc: Global, rows: &[Bytes], r: usize) -> Result<Blob, NoMemory>
-        requires even { AreEven (width self.now) rows.now }
-        requires row { r < length self.now }
-        ensures { IfOk result (IsCombined self.now rows.now r (width self.now)) }
+    /// The tables of the entries of row `r`.
+    fn row_tables(&self, alloc: Global, r: usize) -> Result<Vec<(u8x16, u8x16)>, NoMemory>
+        requires { r < length self.now }
+        ensures { IfOk result (λ v. AreRowTables self.now r (width self.now) v.items) }
     {
         let cols = self.cols();
-        let mut sum = vec![in alloc; 0; rows[0].len()]?;
+        let mut all = Vec::with_capacity(alloc, cols)?;
         for c in 0..cols {
-            mul_add(&mut sum, rows[c].as_slice(), self.at(r, c));
+            all.push(tables(self.at(r, c).value))?;
         }
-        Ok(Blob::from_vec(sum))
+        Ok(all)
+    }
+
+    /// Row `r` times the bytes of the slices at `q`.
+    fn combined_byte(&self, inputs: &[&[u8]], r: usize, q: usize) -> u8
+        requires count { length inputs.now ≡ width self.now }
+        requires row { r < length self.now }
+        requires room { (c : ℕ) → c < length inputs.now → q < length (slice_index_or (map (λ p. p.now) inputs.now) c []) }
+        ensures { result ≡ (combined_below self.now (map (λ p. p.now) inputs.now) r (width self.now) q).value }
+    {
+        let mut sum = GF256::zero();
+        for c in 0..self.cols() {
+            sum = sum + self.at(r, c) * GF256::from(inputs[c][q]);
+        }
+        sum.value
+    }
+
+    /// Row `r` times slices of this length, byte by byte.
+    fn mul_row(
+        &self,
+        alloc: Global,
+        inputs: &[&[u8]],
+        len: usize,
+        r: usize,
+    ) -> Result<Blob, NoMemory>
+        requires even { AreLong (width self.now) len (map (λ p. p.now) inputs.now) }
+        requires row { r < length self.now }
+        ensures long { IfOk result (λ b. length b ≡ len) }
+        ensures bytes { IfOk result (λ b. AreFirst self.now (map (λ p. p.now) inputs.now) r (width self.now) b) }
+    {
+        let tables = self.row_tables(alloc, r)?;
+        let mut out = Vec::with_capacity(alloc, len)?;
+        let mut i = 0;
+        'vectors: while i + LANES <= len {
+            let bytes = combined_vector(&tables, inputs, i).to_array();
+            out.extend_from_slice(&bytes)?;
+            i += LANES;
+        }
+        'bytes: for q in i..len {
+            out.push(self.combined_byte(inputs, r, q))?;
+        }
+        Ok(Blob::from_vec(out))
     }
 
     /// Each row times the slices, byte by byte: byte q of slice r of the answer is the sum of the row's entries times byte q
-    /// of their slices. Conditions: as many slices as columns, of equal length.
+    /// of their slices. Condition: `are_even` of the slices, as many as columns.
     pub fn mul_slices(&self, alloc: Global, rows: &[Bytes]) -> Result<Vec<Blob>, NoMemory>
         requires { AreEven (width self.now) rows.now }
         ensures { IfOk result (λ v. AreCombined self.now rows.now v.items) }
     {
-        let mut products = Vec::with_capacity(alloc, self.rows())?;
-        for r in 0..self.rows() {
-            products.push(self.mul_row(alloc, rows, r)?)?;
+        let count = self.rows();
+        let inputs = slices_of(alloc, rows)?;
+        let len = rows[0].len();
+        let mut products = Vec::with_capacity(alloc, count)?;
+        for r in 0..count {
+            products.push(self.mul_row(alloc, &inputs, len, r)?)?;
         }
         Ok(products)
     }

@@ -1,4 +1,4 @@
-ghost use Rattle.std.specs.Prelude.{◌≡◌, length, IfOk};
+ghost use Rattle.std.specs.Prelude.{◌≡◌, ◌≤◌, length, IfOk};
 
 use super::*;
 use hdfs_wire::NoMemory;
@@ -45,6 +45,49 @@ fn elements_multiply_and_add(rt: HostRuntime) {
             product,
             "{a} * {b}"
         );
+    }
+}
+
+/// Bytes by a simple rule.
+fn some_bytes(times: u8, more: u8) -> [u8; 130] {
+    let mut bytes = [0; 130];
+    for q in 0..130u8 {
+        bytes[q as usize] = q.wrapping_mul(times).wrapping_add(more);
+    }
+    bytes
+}
+
+/// Whether `mul_add` of so many of these bytes gives the sum of each with its product, and leaves the others.
+fn adds_products(base: &[u8; 130], input: &[u8; 130], len: usize, c: u8) -> bool
+    requires { len ≤ 130 }
+{
+    let mut out = *base;
+    mul_add(&mut out[..len], &input[..len], GF256::from(c));
+    for q in 0..130 {
+        let product = u8::from(GF256::from(c) * GF256::from(input[q]));
+        let wanted = if q < len { base[q] ^ product } else { base[q] };
+        if out[q] != wanted {
+            return false;
+        }
+    }
+    true
+}
+
+#[test]
+fn multiples_of_slices_are_added(rt: HostRuntime) {
+    let mut out = [0; 33];
+    mul_add(&mut out, &[0x80; 33], GF256::from(2));
+    assert_eq!(rt; out, [0x1d; 33]);
+    mul_add(&mut [], &[], GF256::from(2));
+    let base = some_bytes(53, 11);
+    let input = some_bytes(31, 5);
+    for c in 0..=255 {
+        for len in 0..131 {
+            assert!(rt;
+                adds_products(&base, &input, len, c),
+                "{len} bytes times {c}"
+            );
+        }
     }
 }
 

@@ -1,6 +1,6 @@
 -- Read links: what the picture shows of them, and what a packet gives.
 use Rattle.std.specs.Prelude.{◌≡◌, ◌≢◌, ◌⊎◌, ℕ, ℤ, pos, ◌+◌, ◌≤◌, List, length, take, drop, Option, Some, None}
-use Rattle.hdfs_wire.specs.declared.packet.ReadPacket.{ReadPacket}
+use Rattle.hdfs_wire.specs.declared.read_packet.ReadPacket.{ReadPacket}
 use Rattle.hdfs_model.specs.declared.messages.ReadAsk.{ReadAsk}
 use Rattle.hdfs_model.specs.declared.picture.ReadPlace.{ReadPlace}
 use Rattle.hdfs_model.specs.Picture.{Picture, SameFiles}

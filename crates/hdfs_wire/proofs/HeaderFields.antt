@@ -1,9 +1,9 @@
 -- The fields of a header, written and read one by one.
 use Rattle.std.proofs.Common.{◌≡◌, ℕ, ◌+◌, ◌<◌, ◌≤◌, List, [], ◌++◌, length, get_or, drop, Ok, Err, refl, sym, ap, ◌∙◌, append_assoc}
 use Rattle.std.proofs.lemmas.List.{append-nil, drop_more, drop_all}
-use Rattle.hdfs_wire.specs.declared.fault.WireFault.{WireFault}
+use Rattle.hdfs_wire.specs.declared.wire_fault.WireFault.{WireFault}
 use Rattle.hdfs_wire.specs.declared.field.Field.{Field}
-use Rattle.hdfs_wire.specs.declared.packet.PacketHeader.{PacketHeader}
+use Rattle.hdfs_wire.specs.declared.packet_header.PacketHeader.{PacketHeader}
 use Rattle.hdfs_wire.specs.Reading.{◌>>=◌}
 use Rattle.hdfs_wire.specs.Headers.{with_field, header_from}
 

@@ -1,5 +1,6 @@
 pub mod Apart
 pub mod Chunks
+pub mod Entered
 pub mod Groups
 pub mod HeaderFields
 pub mod Message
@@ -11,6 +12,7 @@ pub mod Sliced
 pub mod Steps
 pub mod Stream
 pub mod Tables
+pub mod TablesHold
 pub mod WholePacket
 pub mod WrittenPacket
 pub mod Xor

@@ -1,7 +1,7 @@
 -- Reading fields one after the other, as a loop does.
 use Rattle.std.proofs.Common.{◌≡◌, ℕ, zero, suc, ◌<◌, ◌≤◌, List, [], ◌∷◌, ◌++◌, length, Result, Ok, Err, refl, sym, ap, ◌∙◌, append_assoc, arith}
 use Rattle.std.proofs.lemmas.List.{append-nil}
-use Rattle.hdfs_wire.specs.declared.fault.WireFault.{WireFault}
+use Rattle.hdfs_wire.specs.declared.wire_fault.WireFault.{WireFault}
 use Rattle.hdfs_wire.specs.declared.field.Field.{Field}
 use Rattle.hdfs_wire.specs.Reading.{◌>>=◌, FailsUnlessNoMemory}
 use Rattle.hdfs_wire.specs.Fields.{field_at, fields_within, fields_at}

@@ -5,7 +5,7 @@ use Rattle.std.specs.Global.{Vec}
 use Rattle.std.specs.List.{AllByRecursion}
 use Rattle.std.proofs.lemmas.List.{length-append}
 use Rattle.std.proofs.lemmas.List.Concat.{flat_map-cons}
-use Rattle.hdfs_wire.specs.declared.fault.WireFault.{WireFault}
+use Rattle.hdfs_wire.specs.declared.wire_fault.WireFault.{WireFault}
 use Rattle.hdfs_wire.specs.declared.field.Field.{Field}
 use Rattle.hdfs_wire.specs.Reading.{◌>>=◌, GivesUnlessNoMemory}
 use Rattle.hdfs_wire.specs.Fields.{field_at, fields_within, fields_at, field_spelling, message_spelling, ReadsMessage, FitsField}

@@ -6,8 +6,8 @@ use Rattle.std.proofs.lemmas.Nat.{shr_below, pow-add, pow_pos}
 use Rattle.std.proofs.lemmas.Bool.{cases_lt, le-ltb, lt-ltb, ltb-true, ltb-false}
 use Rattle.std.proofs.lemmas.List.{take-append-drop, append_cancel_right}
 use Rattle.std.proofs.lemmas.List.Elements.{All-from_recursion}
-use Rattle.hdfs_wire.specs.declared.fault.WireFault.{WireFault}
-use Rattle.hdfs_wire.specs.declared.fault.WireFault.TheVariants.{Cut, LongVarint}
+use Rattle.hdfs_wire.specs.declared.wire_fault.WireFault.{WireFault}
+use Rattle.hdfs_wire.specs.declared.wire_fault.WireFault.TheVariants.{Cut, LongVarint}
 use Rattle.hdfs_wire.specs.Reading.{◌>>=◌, Gives}
 use Rattle.hdfs_wire.specs.Varint.{groups, varint, groups_at, varint_at, StandsFor, ReadsVarint, EndsInVarint, BeginsLongVarint}
 use Rattle.hdfs_wire.proofs.Steps.{IsBytes, IsBytes-rest, bind_ok, bind_err, chosen, ok_is, gives_err}

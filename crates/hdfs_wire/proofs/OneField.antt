@@ -4,9 +4,10 @@ use Rattle.std.specs.Int.{Width, w32, w64, byte_len, from_le_bytes, to_le_bytes}
 use Rattle.std.proofs.lemmas.Bool.{ltb-false, le-ltb, eqb-true, and_parts, leb-true, le-leb}
 use Rattle.std.proofs.lemmas.List.{take_at, drop_at, take-append-drop, length-append, length-take}
 use Rattle.std.proofs.lemmas.Nat.{le_bytes_4, le_bytes_8, from_le_bytes-to_le_bytes_4, from_le_bytes-to_le_bytes_8}
-use Rattle.hdfs_wire.specs.declared.fault.WireFault.TheVariants.{Cut, BadType, BadLength}
+use Rattle.hdfs_wire.specs.declared.wire_fault.WireFault.TheVariants.{Cut, BadType, BadLength}
 use Rattle.hdfs_wire.specs.declared.field.Value.{Value}
 use Rattle.hdfs_wire.specs.declared.field.Value.TheVariants.{Varint, Eight, Sized, Four}
+use Rattle.hdfs_wire.specs.declared.field.TheConstants.{LAST_FIELD_NUMBER}
 use Rattle.hdfs_wire.specs.declared.field.Field.{Field}
 use Rattle.hdfs_wire.specs.Reading.{◌>>=◌}
 use Rattle.hdfs_wire.specs.Varint.{varint, varint_at, ReadsVarint}
@@ -177,12 +178,12 @@ begins_from bytes front rest key v parts reads number held =
     }
 
 chosen_field : (bytes : List ℕ) (key : ℕ × List ℕ) (x : Field × List ℕ) → IsBytes bytes → Front 9 bytes key
-    → cond (leb 1 (key.0 / 8) && leb (key.0 / 8) 536870911) (value_at (key.0 % 8) key.1 >>= λ v. Ok (record { number = key.0 / 8; value = v.0 }, v.1)) (Err BadType) ≡ Ok x
+    → cond (leb 1 (key.0 / 8) && leb (key.0 / 8) LAST_FIELD_NUMBER) (value_at (key.0 % 8) key.1 >>= λ v. Ok (record { number = key.0 / 8; value = v.0 }, v.1)) (Err BadType) ≡ Ok x
     → Begins bytes x
 chosen_field bytes key x fits f e =
-    elim (chosen (leb 1 (key.0 / 8) && leb (key.0 / 8) 536870911) (value_at (key.0 % 8) key.1 >>= λ v. Ok (record { number = key.0 / 8; value = v.0 }, v.1)) (Err BadType) (Ok x) e) [
+    elim (chosen (leb 1 (key.0 / 8) && leb (key.0 / 8) LAST_FIELD_NUMBER) (value_at (key.0 % 8) key.1 >>= λ v. Ok (record { number = key.0 / 8; value = v.0 }, v.1)) (Err BadType) (Ok x) e) [
       | inl h ↦
-          let range = and_parts (leb 1 (key.0 / 8)) (leb (key.0 / 8) 536870911) h.0 in
+          let range = and_parts (leb 1 (key.0 / 8)) (leb (key.0 / 8) LAST_FIELD_NUMBER) h.0 in
           let b = bind_ok (value_at (key.0 % 8) key.1) (λ v. Ok (record { number = key.0 / 8; value = v.0 }, v.1)) x h.1 in
           let v = value_takes (key.0 % 8) key.1 b.0 (IsBytes-after bytes f.front key.1 f.parts fits) b.1 in
           let number : IsFieldNumber (key.0 / 8) = (leb-true _ _ range.0, leb-true _ _ range.1) in
@@ -193,7 +194,7 @@ chosen_field bytes key x fits f e =
 pub field_takes : (bytes : List ℕ) (x : Field × List ℕ) → IsBytes bytes → field_at bytes ≡ Ok x → Begins bytes x
 unfolding field_at
 field_takes bytes x fits e =
-    let a = bind_ok (varint_at bytes) (λ key. cond (leb 1 (key.0 / 8) && leb (key.0 / 8) 536870911) (value_at (key.0 % 8) key.1 >>= λ v. Ok (record { number = key.0 / 8; value = v.0 }, v.1)) (Err BadType)) x e in
+    let a = bind_ok (varint_at bytes) (λ key. cond (leb 1 (key.0 / 8) && leb (key.0 / 8) LAST_FIELD_NUMBER) (value_at (key.0 % 8) key.1 >>= λ v. Ok (record { number = key.0 / 8; value = v.0 }, v.1)) (Err BadType)) x e in
     chosen_field bytes a.0 x fits (varint_takes bytes a.0 fits a.1) a.2
 
 pub field_reads : (front : List ℕ) (f : Field) (rest : List ℕ) → ReadsField front f → field_at (front ++ rest) ≡ Ok (f, rest)
@@ -204,7 +205,7 @@ field_reads front f rest reads =
     let number : key_of f / 8 ≡ f.number = omega arith in
     let low : key_of f % 8 ≡ wire_type f.value = omega arith in
     let least : leb 1 f.number ≡ true = le-leb _ _ reads.number.0 in
-    let most : leb f.number 536870911 ≡ true = le-leb _ _ reads.number.1 in
+    let most : leb f.number LAST_FIELD_NUMBER ≡ true = le-leb _ _ reads.number.1 in
     rw (same, append_assoc reads.key reads.value rest, varint_reads reads.key (key_of f) (reads.value ++ rest) reads.key_reads, number, low, least, most, value_reads reads.value f.value rest reads.value_reads) refl
 
 pub field_stands : (f : Field) → FitsField f → ReadsField (field_spelling f) f

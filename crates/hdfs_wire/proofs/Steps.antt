@@ -2,8 +2,8 @@
 use Rattle.std.proofs.Common.{◌++◌, length, ◌≡◌, ℕ, suc, ◌+◌, ◌<◌, ◌⊎◌, ◌↔◌, Bool, true, false, cond, List, ◌∷◌, get_or, take, drop, Result, Ok, Err, refl, subst, arith, inl, inr}
 use Rattle.std.proofs.lemmas.Bool.{cases_lt}
 use Rattle.std.proofs.lemmas.List.{length-take, get_or-drop, get_or-take, get_or_past, drop_at}
-use Rattle.hdfs_wire.specs.declared.fault.WireFault.{WireFault}
-use Rattle.hdfs_wire.specs.declared.fault.WireFault.TheVariants as faults
+use Rattle.hdfs_wire.specs.declared.wire_fault.WireFault.{WireFault}
+use Rattle.hdfs_wire.specs.declared.wire_fault.WireFault.TheVariants as faults
 use Rattle.hdfs_wire.specs.Reading.{◌>>=◌, Gives, FailsUnlessNoMemory}
 
 -- ---- bytes

@@ -5,10 +5,10 @@ use Rattle.std.specs.Int.{w16, w32, to_be_bytes, from_be_bytes}
 use Rattle.std.proofs.lemmas.Bool.{ltb-false, le-ltb, leb-true, le-leb, and_parts, or_parts}
 use Rattle.std.proofs.lemmas.List.{take_at, drop_at, take-append-drop, length-append, length-take, length-drop, drop-drop}
 use Rattle.std.proofs.lemmas.Nat.{be_bytes_2, be_bytes_4, from_be_bytes-to_be_bytes_2, from_be_bytes-to_be_bytes_4}
-use Rattle.hdfs_wire.specs.declared.fault.WireFault.{WireFault}
-use Rattle.hdfs_wire.specs.declared.fault.WireFault.TheVariants.{Cut, BadLength}
-use Rattle.hdfs_wire.specs.declared.packet.PacketHeader.{PacketHeader}
-use Rattle.hdfs_wire.specs.declared.packet.ReadPacket.{ReadPacket}
+use Rattle.hdfs_wire.specs.declared.wire_fault.WireFault.{WireFault}
+use Rattle.hdfs_wire.specs.declared.wire_fault.WireFault.TheVariants.{Cut, BadLength}
+use Rattle.hdfs_wire.specs.declared.packet_header.PacketHeader.{PacketHeader}
+use Rattle.hdfs_wire.specs.declared.read_packet.ReadPacket.{ReadPacket}
 use Rattle.hdfs_wire.specs.Reading.{GivesUnlessNoMemory}
 use Rattle.hdfs_wire.specs.Fields.{fields_at}
 use Rattle.hdfs_wire.specs.Headers.{header_at, header_from, no_header, ReadsHeader}

@@ -10,9 +10,9 @@ use Rattle.std.proofs.lemmas.Bool.{cases_lt}
 use Rattle.std.proofs.lemmas.List.{append-nil, drop_at, length-append, length-drop, drop-drop, take-append-le, drop-append-le}
 use Rattle.std.proofs.lemmas.Nat.{from_be_bytes-to_be_bytes_4, le-div}
 use Rattle.std.proofs.lemmas.Int.{to_z-of_z}
-use Rattle.hdfs_wire.specs.declared.fault.WireFault.{WireFault}
-use Rattle.hdfs_wire.specs.declared.packet.PacketHeader.{PacketHeader}
-use Rattle.hdfs_wire.specs.declared.packet.ReadPacket.{ReadPacket}
+use Rattle.hdfs_wire.specs.declared.wire_fault.WireFault.{WireFault}
+use Rattle.hdfs_wire.specs.declared.packet_header.PacketHeader.{PacketHeader}
+use Rattle.hdfs_wire.specs.declared.read_packet.ReadPacket.{ReadPacket}
 use Rattle.hdfs_wire.specs.Crc.{crc32c_of}
 use Rattle.hdfs_wire.specs.Checksums.{sum_at, chunk_at, ChunksHold}
 use Rattle.hdfs_wire.specs.Packets.{packet_around, ReadsPacket, packet_at}

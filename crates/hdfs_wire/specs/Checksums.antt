@@ -1,8 +1,8 @@
 -- The checksums of a packet: one of four bytes, the highest first, for each chunk of its payload.
 use Rattle.std.specs.Prelude.{◌≡◌, ℕ, ◌+◌, ◌*◌, ◌<◌, ◌≤◌, ◌==◌, ◌⊎◌, List, length, take, drop, Option, Some, None, if◌then◌else◌}
 use Rattle.std.specs.Int.{w32, from_be_bytes}
-use Rattle.hdfs_wire.specs.declared.packet.ReadPacket.{ReadPacket}
-use Rattle.hdfs_wire.specs.declared.check.ChecksumInfo.{ChecksumInfo}
+use Rattle.hdfs_wire.specs.declared.read_packet.ReadPacket.{ReadPacket}
+use Rattle.hdfs_wire.specs.declared.checksums.ChecksumInfo.{ChecksumInfo}
 use Rattle.hdfs_wire.specs.Crc.{crc32c_of, crc32_of}
 
 -- the sum of this kind: 1 is CRC-32, and 2 is CRC-32C

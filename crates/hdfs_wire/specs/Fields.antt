@@ -2,17 +2,18 @@
 use Rattle.std.specs.Prelude.{◌≡◌, ℕ, zero, suc, ◌+◌, ◌*◌, ◌/◌, ◌%◌, ◌^◌, ◌<◌, ◌≤◌, ◌==◌, ◌&&◌, nat_lt, nat_le, List, [], ◌∷◌, ◌++◌, length, take, drop, Result, Ok, Err, if◌then◌else◌}
 use Rattle.std.specs.List.{flat_map}
 use Rattle.std.specs.Int.{Width, w32, w64, byte_len, to_le_bytes, from_le_bytes}
-use Rattle.hdfs_wire.specs.declared.fault.WireFault.{WireFault}
-use Rattle.hdfs_wire.specs.declared.fault.WireFault.TheVariants.{Cut, BadType, BadLength}
+use Rattle.hdfs_wire.specs.declared.wire_fault.WireFault.{WireFault}
+use Rattle.hdfs_wire.specs.declared.wire_fault.WireFault.TheVariants.{Cut, BadType, BadLength}
 use Rattle.hdfs_wire.specs.declared.field.Value.{Value}
 use Rattle.hdfs_wire.specs.declared.field.Value.TheVariants.{Varint, Eight, Sized, Four}
 use Rattle.hdfs_wire.specs.declared.field.Field.{Field}
+use Rattle.hdfs_wire.specs.declared.field.TheConstants.{LAST_FIELD_NUMBER}
 use Rattle.hdfs_wire.specs.Reading.{◌>>=◌}
 use Rattle.hdfs_wire.specs.Varint.{varint, varint_at, ReadsVarint}
 
 -- the numbers that a field may have
 abbrev pub IsFieldNumber : ℕ → Type 0
-IsFieldNumber n = (1 ≤ n) × (n ≤ 536870911)
+IsFieldNumber n = (1 ≤ n) × (n ≤ LAST_FIELD_NUMBER)
 
 -- the wire type of a value
 abbrev pub wire_type : Value → ℕ
@@ -91,7 +92,7 @@ value_at kind bytes =
 -- a field at the front, and the bytes after it
 unfoldable pub field_at : List ℕ → Result (Field × List ℕ) WireFault
 field_at bytes = varint_at bytes >>= λ key.
-    if nat_le 1 (key.0 / 8) && nat_le (key.0 / 8) 536870911
+    if nat_le 1 (key.0 / 8) && nat_le (key.0 / 8) LAST_FIELD_NUMBER
     then (value_at (key.0 % 8) key.1 >>= λ v. Ok (record { number = key.0 / 8; value = v.0 }, v.1))
     else Err BadType
 

@@ -1,12 +1,12 @@
 -- The header of a packet as a message of fields.
 use Rattle.std.specs.Prelude.{◌≡◌, ℕ, pos, Bool, true, false, ◌==◌, List, [], ◌∷◌, Option, Some, None, Result, Ok, Err, if◌then◌else◌}
 use Rattle.std.specs.Int.{w32, w64, cast_signed, cast_unsigned, from_bool}
-use Rattle.hdfs_wire.specs.declared.fault.WireFault.{WireFault}
-use Rattle.hdfs_wire.specs.declared.fault.WireFault.TheVariants.{BadType}
+use Rattle.hdfs_wire.specs.declared.wire_fault.WireFault.{WireFault}
+use Rattle.hdfs_wire.specs.declared.wire_fault.WireFault.TheVariants.{BadType}
 use Rattle.hdfs_wire.specs.declared.field.Value.{Value}
-use Rattle.hdfs_wire.specs.declared.field.Value.TheVariants.{Varint, Eight, Sized, Four}
+use Rattle.hdfs_wire.specs.declared.field.Value.TheVariants.{Varint, Eight, Four}
 use Rattle.hdfs_wire.specs.declared.field.Field.{Field}
-use Rattle.hdfs_wire.specs.declared.packet.PacketHeader.{PacketHeader}
+use Rattle.hdfs_wire.specs.declared.packet_header.PacketHeader.{PacketHeader}
 use Rattle.hdfs_wire.specs.Reading.{◌>>=◌}
 use Rattle.hdfs_wire.specs.Fields.{message_spelling, ReadsMessage, fields_at}
 
@@ -43,38 +43,28 @@ is_true n = if n == 0 then false else true
 
 -- the header with this offset, which has eight bytes
 abbrev pub with_offset : PacketHeader → Value → Result PacketHeader WireFault
-with_offset h (Varint n) = Err BadType
 with_offset h (Eight n) = Ok (record h { offset_in_block = cast_signed w64 n })
-with_offset h (Sized bytes) = Err BadType
-with_offset h (Four n) = Err BadType
+with_offset h _ = Err BadType
 
 -- the header with this number of its packet, which has eight bytes
 abbrev pub with_seqno : PacketHeader → Value → Result PacketHeader WireFault
-with_seqno h (Varint n) = Err BadType
 with_seqno h (Eight n) = Ok (record h { seqno = cast_signed w64 n })
-with_seqno h (Sized bytes) = Err BadType
-with_seqno h (Four n) = Err BadType
+with_seqno h _ = Err BadType
 
 -- the header with this mark of the last packet, a varint
 abbrev pub with_last : PacketHeader → Value → Result PacketHeader WireFault
 with_last h (Varint n) = Ok (record h { last_packet_in_block = is_true n })
-with_last h (Eight n) = Err BadType
-with_last h (Sized bytes) = Err BadType
-with_last h (Four n) = Err BadType
+with_last h _ = Err BadType
 
 -- the header with this length of its payload, which has four bytes
 abbrev pub with_data_len : PacketHeader → Value → Result PacketHeader WireFault
-with_data_len h (Varint n) = Err BadType
-with_data_len h (Eight n) = Err BadType
-with_data_len h (Sized bytes) = Err BadType
 with_data_len h (Four n) = Ok (record h { data_len = cast_signed w32 n })
+with_data_len h _ = Err BadType
 
 -- the header with this wish to be synced, a varint
 abbrev pub with_sync : PacketHeader → Value → Result PacketHeader WireFault
 with_sync h (Varint n) = Ok (record h { sync_block = Some (is_true n) })
-with_sync h (Eight n) = Err BadType
-with_sync h (Sized bytes) = Err BadType
-with_sync h (Four n) = Err BadType
+with_sync h _ = Err BadType
 
 -- a header with what a field says: an unknown number says nothing, and a known one has its own wire type
 unfoldable pub with_field : PacketHeader → Field → Result PacketHeader WireFault

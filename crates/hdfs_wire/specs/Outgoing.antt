@@ -1,8 +1,9 @@
 -- A packet that is being written.
 use Rattle.std.specs.Prelude.{◌≡◌, ℕ, zero, suc, ℤ, pos, ◌+◌, ◌-◌, ◌*◌, ◌/◌, ◌^◌, ◌<◌, ◌≤◌, ◌==◌, ◌⊎◌, false, List, [], ◌++◌, length, None, if◌then◌else◌}
 use Rattle.std.specs.Int.{w32, to_be_bytes}
-use Rattle.hdfs_wire.specs.declared.packet.PacketHeader.{PacketHeader}
-use Rattle.hdfs_wire.specs.declared.packet.ReadPacket.{ReadPacket}
+use Rattle.hdfs_wire.specs.declared.packet_header.PacketHeader.{PacketHeader}
+use Rattle.hdfs_wire.specs.declared.read_packet.ReadPacket.{ReadPacket}
+use Rattle.hdfs_wire.specs.declared.write_packet.TheConstants.{CHUNK_LIMIT, HEAD_LEN, SUM_LEN}
 use Rattle.hdfs_wire.specs.Crc.{crc32c_of}
 use Rattle.hdfs_wire.specs.Checksums.{chunk_at}
 use Rattle.hdfs_wire.specs.Packets.{packet_spelling}
@@ -33,12 +34,12 @@ outgoing_spelling p = packet_spelling p.header (checksums p.chunk p.payload) p.p
 
 -- the sizes of chunks and of packets that may be asked for
 abbrev pub ArePacketSizes : ℕ → ℕ → Type 0
-ArePacketSizes chunk size = (1 ≤ chunk) × (chunk ≤ 2 ^ 30) × ((size ≡ 0) ⊎ ((chunk + 37 ≤ size) × (size < 2 ^ 31)))
+ArePacketSizes chunk size = (1 ≤ chunk) × (chunk ≤ CHUNK_LIMIT) × ((size ≡ 0) ⊎ ((chunk + HEAD_LEN + SUM_LEN ≤ size) × (size < 2 ^ 31)))
 
--- The most bytes of a payload: as many whole chunks as the packet has room for, each with its checksum, behind 33
--- bytes; and one chunk where the size is 0.
+-- The most bytes of a payload: as many whole chunks as the packet has room for, each with its checksum, behind its
+-- lengths and its header; and one chunk where the size is 0.
 abbrev pub limit_of : ℕ → ℕ → ℕ
-limit_of chunk size = if size == 0 then chunk else (size - 33) / (chunk + 4) * chunk
+limit_of chunk size = if size == 0 then chunk else (size - HEAD_LEN) / (chunk + SUM_LEN) * chunk
 
 -- a packet with nothing in it
 abbrev pub empty_packet : ℤ → ℤ → ℕ → ℕ → Outgoing

@@ -1,10 +1,10 @@
 -- A packet: the length of what is checked, the length of the header, the header, the checksums and the payload.
 use Rattle.std.specs.Prelude.{◌≡◌, ℕ, ℤ, pos, negsuc, ◌≤ℤ◌, ◌+◌, ◌-◌, ◌^◌, ◌<◌, ◌≤◌, Bool, false, ◌||◌, ◌&&◌, nat_lt, nat_le, List, ◌++◌, length, take, drop, slice_index, Result, Ok, Err, if◌then◌else◌}
 use Rattle.std.specs.Int.{w16, w32, to_be_bytes, from_be_bytes}
-use Rattle.hdfs_wire.specs.declared.fault.WireFault.{WireFault}
-use Rattle.hdfs_wire.specs.declared.fault.WireFault.TheVariants.{Cut, BadLength}
-use Rattle.hdfs_wire.specs.declared.packet.PacketHeader.{PacketHeader}
-use Rattle.hdfs_wire.specs.declared.packet.ReadPacket.{ReadPacket}
+use Rattle.hdfs_wire.specs.declared.wire_fault.WireFault.{WireFault}
+use Rattle.hdfs_wire.specs.declared.wire_fault.WireFault.TheVariants.{Cut, BadLength}
+use Rattle.hdfs_wire.specs.declared.packet_header.PacketHeader.{PacketHeader}
+use Rattle.hdfs_wire.specs.declared.read_packet.ReadPacket.{ReadPacket}
 use Rattle.hdfs_wire.specs.Reading.{◌>>=◌}
 use Rattle.hdfs_wire.specs.Headers.{header_spelling, header_at, ReadsHeader}
 

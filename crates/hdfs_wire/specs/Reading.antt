@@ -1,7 +1,7 @@
 -- Reading from left to right, with the first fault that is met.
 use Rattle.std.specs.Prelude.{◌≡◌, Result, Ok, Err}
-use Rattle.hdfs_wire.specs.declared.fault.WireFault.{WireFault}
-use Rattle.hdfs_wire.specs.declared.fault.WireFault.TheVariants as faults
+use Rattle.hdfs_wire.specs.declared.wire_fault.WireFault.{WireFault}
+use Rattle.hdfs_wire.specs.declared.wire_fault.WireFault.TheVariants as faults
 
 infixl 10 ◌>>=◌
 -- a reading, and then another that may use what the first read; the first fault stands for both

@@ -1,7 +1,7 @@
 -- Numbers as varints: groups of seven bits, the lowest first.
 use Rattle.std.specs.Prelude.{◌≡◌, ℕ, zero, suc, ◌+◌, ◌-◌, ◌*◌, ◌/◌, ◌%◌, ◌^◌, ◌<◌, ◌≤◌, List, [], ◌∷◌, length, take, slice_index, All, Result, Ok, Err, nat_lt, if◌then◌else◌}
-use Rattle.hdfs_wire.specs.declared.fault.WireFault.{WireFault}
-use Rattle.hdfs_wire.specs.declared.fault.WireFault.TheVariants.{Cut, LongVarint}
+use Rattle.hdfs_wire.specs.declared.wire_fault.WireFault.{WireFault}
+use Rattle.hdfs_wire.specs.declared.wire_fault.WireFault.TheVariants.{Cut, LongVarint}
 use Rattle.hdfs_wire.specs.Reading.{◌>>=◌}
 
 -- ---- what is written

@@ -4,10 +4,9 @@ ghost use Rattle.std.specs.Prelude.{◌≡◌, ◌≢◌, ℕ, List, length, ◌
 ghost use Rattle.hdfs_wire.specs.Crc.{enter, checksum, crc32c_of, crc32_of};
 ghost use Rattle.hdfs_wire.specs.CrcTables.{AreTables, zero_bytes};
 
-mod crc32_far;
-mod crc32_near;
-mod crc32c_far;
-mod crc32c_near;
+mod tables;
+
+use crate::crc::tables::{CRC32_FAR, CRC32_NEAR, CRC32C_FAR, CRC32C_NEAR};
 
 /// What each byte leaves in the register behind some bytes of zeros: a table for each number of zeros.
 type Tables = [[u32; 256]; 8];
@@ -52,6 +51,17 @@ fn enter_step(near: &Tables, far: &Tables, register: u32, bytes: &[u8]) -> u32
     sum
 }
 
+/// The register after the bytes, one by one.
+fn enter_bytes(near: &Tables, register: u32, bytes: &[u8]) -> u32
+    ensures { (p : ℕ) → AreTables p 0 near.now → result ≡ enter p register bytes.now }
+{
+    let mut after = register;
+    for byte in bytes {
+        after = enter_byte(near, after, *byte);
+    }
+    after
+}
+
 /// The checksum by these tables.
 fn checksum(near: &Tables, far: &Tables, bytes: &[u8]) -> u32
     ensures { (p : ℕ) → AreTables p 0 near.now → AreTables p 8 far.now → result ≡ checksum p bytes.now }
@@ -63,24 +73,63 @@ fn checksum(near: &Tables, far: &Tables, bytes: &[u8]) -> u32
         register = enter_step(near, far, register, step);
         rest = after;
     }
-    for byte in rest {
-        register = enter_byte(near, register, *byte);
+    enter_bytes(near, register, rest) ^ u32::MAX
+}
+
+/// The checksums of two texts of one length by these tables. They go side by side, since the look-ups of one wait for each other.
+fn checksums(near: &Tables, far: &Tables, first: &[u8], second: &[u8]) -> (u32, u32)
+    requires { length first.now ≡ length second.now }
+    ensures first { (p : ℕ) → AreTables p 0 near.now → AreTables p 8 far.now → result.0 ≡ checksum p first.now }
+    ensures second { (p : ℕ) → AreTables p 0 near.now → AreTables p 8 far.now → result.1 ≡ checksum p second.now }
+{
+    let mut one = u32::MAX;
+    let mut other = u32::MAX;
+    let mut rest = first;
+    let mut others = second;
+    while rest.len() >= STEP {
+        let (step, after) = rest.split_at(STEP);
+        let (other_step, others_after) = others.split_at(STEP);
+        one = enter_step(near, far, one, step);
+        other = enter_step(near, far, other, other_step);
+        rest = after;
+        others = others_after;
     }
-    register ^ u32::MAX
+    (
+        enter_bytes(near, one, rest) ^ u32::MAX,
+        enter_bytes(near, other, others) ^ u32::MAX,
+    )
 }
 
 /// The CRC-32C of the bytes, whose polynomial is 0x82F63B78 with the lowest power at the top bit. It takes no memory.
 pub fn crc32c(bytes: &[u8]) -> u32
     ensures { result ≡ crc32c_of bytes.now }
 {
-    checksum(&crc32c_near::TABLES, &crc32c_far::TABLES, bytes)
+    checksum(&CRC32C_NEAR, &CRC32C_FAR, bytes)
 }
 
 /// The CRC-32 of the bytes, whose polynomial is 0xEDB88320 with the lowest power at the top bit. It takes no memory.
 pub fn crc32(bytes: &[u8]) -> u32
     ensures { result ≡ crc32_of bytes.now }
 {
-    checksum(&crc32_near::TABLES, &crc32_far::TABLES, bytes)
+    checksum(&CRC32_NEAR, &CRC32_FAR, bytes)
+}
+
+/// The CRC-32C of each of two texts of one length.
+pub(crate) fn crc32c_of_two(first: &[u8], second: &[u8]) -> (u32, u32)
+    requires { length first.now ≡ length second.now }
+    ensures first { result.0 ≡ crc32c_of first.now }
+    ensures second { result.1 ≡ crc32c_of second.now }
+{
+    checksums(&CRC32C_NEAR, &CRC32C_FAR, first, second)
+}
+
+/// The CRC-32 of each of two texts of one length.
+pub(crate) fn crc32_of_two(first: &[u8], second: &[u8]) -> (u32, u32)
+    requires { length first.now ≡ length second.now }
+    ensures first { result.0 ≡ crc32_of first.now }
+    ensures second { result.1 ≡ crc32_of second.now }
+{
+    checksums(&CRC32_NEAR, &CRC32_FAR, first, second)
 }
 
 /// Two texts of one length that differ in exactly one byte have different sums.

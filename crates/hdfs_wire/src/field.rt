@@ -1,6 +1,6 @@
 //! The fields of a message.
 
-ghost use Rattle.std.specs.Prelude.{◌≡◌, ℕ, ◌<◌, ◌≤◌, ◌++◌, Ok, Err, List, [], length, drop, IfOk, OnOk, OnErr};
+ghost use Rattle.std.specs.Prelude.{◌↔◌, IsTrue, ◌≡◌, ℕ, ◌<◌, ◌≤◌, ◌++◌, Ok, Err, List, [], length, drop, IfOk, OnOk, OnErr};
 ghost use Rattle.hdfs_wire.specs.Reading.{Gives, GivesUnlessNoMemory};
 ghost use Rattle.hdfs_wire.specs.Varint.{varint_at};
 ghost use Rattle.hdfs_wire.specs.Fields.{IsFieldNumber, Extends, wire_type, field_spelling, value_spelling, value_at, field_at, fields_at, number_at, sized_at, message_spelling, ReadsMessage, FitsField};
@@ -8,12 +8,12 @@ ghost use Rattle.std.specs.Int.{w32, w64};
 ghost use Rattle.std.specs.List.{AllByRecursion};
 ghost use Rattle.hdfs_wire.specs.declared.field.Field.{Field};
 
-use crate::fault::WireFault;
 use crate::values::{Blob, NoMemory};
 use crate::varint::{put_varint, take_varint};
+use crate::wire_fault::WireFault;
 use std::alloc::Global;
 
-/// The largest number of a field.
+/// The largest number of a field: 2^29 - 1.
 pub const LAST_FIELD_NUMBER: u32 = 536_870_911;
 
 /// What a field holds, by its wire type.
@@ -29,11 +29,18 @@ pub enum Value {
     Four(u32),
 }
 
-/// A field of a message. Its number is from 1 to 536,870,911 wherever it is written or read.
+/// A field of a message. Its number is from 1 to `LAST_FIELD_NUMBER` wherever it is written or read.
 #[derive(Drop)]
 pub struct Field {
     pub number: u32,
     pub value: Value,
+}
+
+/// Whether a field may have this number: it is from 1 to `LAST_FIELD_NUMBER`. It takes no memory.
+pub fn is_field_number(number: u32) -> bool
+    ensures { IsTrue result ↔ IsFieldNumber number }
+{
+    number >= 1 && number <= LAST_FIELD_NUMBER
 }
 
 fn wire_type(value: &Value) -> u64
@@ -89,7 +96,7 @@ fn put_parts(out: &mut Vec<u8>, field: &Field) -> Result<(), NoMemory>
     put_value(out, &field.value)
 }
 
-/// Writes a field at the end: its key and its value. After `NoMemory` nothing is written.
+/// Writes a field at the end: its key and its value. After `NoMemory` nothing is written. Condition: `is_field_number` of its number.
 pub fn put_field(out: &mut Vec<u8>, field: &Field) -> Result<(), NoMemory>
     requires { IsFieldNumber field.now.number }
     ensures ok { OnOk result (out.new.items ≡ out.old.items ++ field_spelling field.now) }
@@ -215,7 +222,7 @@ fn all_fields(alloc: Global, bytes: &[u8]) -> Result<Vec<Field>, WireFault>
 /// The fields of a message, all of the bytes.
 ///
 /// `Cut`: the bytes end inside a key, a number, a length or a fixed value. `LongVarint`: `take_varint` refuses one of its
-/// numbers so. `BadType`: a wire type that isn't used, or a field number that is 0 or above 536,870,911. `BadLength`: a
+/// numbers so. `BadType`: a wire type that isn't used, or a field number that is 0 or above `LAST_FIELD_NUMBER`. `BadLength`: a
 /// length passes the end of the bytes. The first of them from the left is answered.
 pub fn fields(alloc: Global, bytes: &[u8]) -> Result<Vec<Field>, WireFault>
     // What is read is in the grammar.

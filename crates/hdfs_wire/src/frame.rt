@@ -6,12 +6,12 @@ ghost use Rattle.std.specs.Borrow.{Bor};
 ghost use Rattle.hdfs_wire.specs.Varint.{varint};
 ghost use Rattle.hdfs_wire.specs.Frames.{sized, joined, frame};
 
-use crate::fault::WireFault;
 use crate::field::put_sized;
 use crate::varint::varint_len;
+use crate::wire_fault::WireFault;
 use std::alloc::Global;
 
-/// The most bytes that a frame is around.
+/// The most bytes that a frame is around: 128 MiB.
 pub const FRAME_LIMIT: u64 = 134_217_728;
 
 /// How many bytes a part takes with its length.
@@ -36,7 +36,7 @@ fn joined_len(parts: &[&[u8]]) -> u64
 /// A frame around the parts.
 fn frame_of(alloc: Global, parts: &[&[u8]]) -> Result<Vec<u8>, WireFault>
     ensures ok { IfOk result (λ v. v.items ≡ frame (joined (map (λ p. p.now) parts.now))) }
-    ensures long { (result ≡ Err WireFault.BadLength) ↔ (134217728 < length (joined (map (λ p. p.now) parts.now))) }
+    ensures long { (result ≡ Err WireFault.BadLength) ↔ (FRAME_LIMIT < length (joined (map (λ p. p.now) parts.now))) }
     ensures err { IfErr result (λ e. (e ≡ WireFault.BadLength) ⊎ (e ≡ WireFault.NoMemory)) }
 {
     let len = joined_len(parts);
@@ -53,7 +53,7 @@ fn frame_of(alloc: Global, parts: &[&[u8]]) -> Result<Vec<u8>, WireFault>
 
 /// The frame of a call: its header, the method's header and the message, each behind its length.
 ///
-/// `BadLength`: the parts with their lengths take more than 134,217,728 bytes.
+/// `BadLength`: the parts with their lengths take more than `FRAME_LIMIT` bytes.
 pub fn rpc_frame(
     alloc: Global,
     header: &[u8],
@@ -61,7 +61,7 @@ pub fn rpc_frame(
     message: &[u8],
 ) -> Result<Vec<u8>, WireFault>
     ensures ok { IfOk result (λ v. v.items ≡ frame (joined (header.now ∷ method.now ∷ message.now ∷ []))) }
-    ensures long { (result ≡ Err WireFault.BadLength) ↔ (134217728 < length (joined (header.now ∷ method.now ∷ message.now ∷ []))) }
+    ensures long { (result ≡ Err WireFault.BadLength) ↔ (FRAME_LIMIT < length (joined (header.now ∷ method.now ∷ message.now ∷ []))) }
     ensures err { IfErr result (λ e. (e ≡ WireFault.BadLength) ⊎ (e ≡ WireFault.NoMemory)) }
 {
     frame_of(alloc, &[header, method, message])
@@ -69,10 +69,10 @@ pub fn rpc_frame(
 
 /// The frame that opens a connection: a header and the context, each behind its length.
 ///
-/// `BadLength`: the parts with their lengths take more than 134,217,728 bytes.
+/// `BadLength`: the parts with their lengths take more than `FRAME_LIMIT` bytes.
 pub fn context_frame(alloc: Global, header: &[u8], context: &[u8]) -> Result<Vec<u8>, WireFault>
     ensures ok { IfOk result (λ v. v.items ≡ frame (joined (header.now ∷ context.now ∷ []))) }
-    ensures long { (result ≡ Err WireFault.BadLength) ↔ (134217728 < length (joined (header.now ∷ context.now ∷ []))) }
+    ensures long { (result ≡ Err WireFault.BadLength) ↔ (FRAME_LIMIT < length (joined (header.now ∷ context.now ∷ []))) }
     ensures err { IfErr result (λ e. (e ≡ WireFault.BadLength) ⊎ (e ≡ WireFault.NoMemory)) }
 {
     frame_of(alloc, &[header, context])

@@ -4,8 +4,8 @@ ghost use Rattle.std.specs.Prelude.{◌≡◌, ℕ, ◌<◌, ◌≤◌, ◌^◌,
 ghost use Rattle.hdfs_wire.specs.Reading.{Gives};
 ghost use Rattle.hdfs_wire.specs.Varint.{varint, varint_at, ReadsVarint, EndsInVarint, BeginsLongVarint};
 
-use crate::fault::WireFault;
 use crate::values::NoMemory;
+use crate::wire_fault::WireFault;
 
 /// The groups of a number in the first places of an array, and how many they are.
 fn groups_of(n: u64) -> ([u8; 10], usize)

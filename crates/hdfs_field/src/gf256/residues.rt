@@ -4,7 +4,7 @@ ghost use Rattle.std.specs.Prelude.{◌≡◌};
 ghost use Rattle.hdfs_field.specs.Elements.{shifted, product, power_product};
 
 /// x times b.
-fn shifted(b: u8) -> u8
+pub(crate) fn shifted(b: u8) -> u8
     ensures { result ≡ shifted b }
 {
     if b < 128 {

@@ -1,4 +1,4 @@
-use Rattle.std.proofs.Common.{◌≡◌, ℕ, drop, length}
+use Rattle.std.proofs.Common.{◌≡◌, ℕ, length}
 use Rattle.hdfs_wire.specs.Crc.{enter}
 use Rattle.hdfs_wire.specs.CrcTables.{AreTables}
 use Rattle.hdfs_wire.proofs.crc.checksum.Given as goal
@@ -8,6 +8,3 @@ invariant-loop-rest l = (p : ℕ) → AreTables p 0 l.near → AreTables p 8 l.f
 
 abbrev pub decreases-loop-rest : goal.decreases-loop-rest
 decreases-loop-rest l = length l.rest
-
-abbrev pub invariant-loop-byte : goal.invariant-loop-byte
-invariant-loop-byte l = (p : ℕ) → AreTables p 0 l.near → AreTables p 8 l.far → enter p l.register (drop l.byte-index l.byte-items) ≡ enter p 0xffffffff l.bytes

@@ -1,5 +1,20 @@
-use Rattle.hdfs_field.specs.Slices.{IsCombined}
+use Rattle.std.proofs.Common.{◌≡◌, ◌≤◌, ◌-◌, length, map}
+use Rattle.hdfs_field.specs.Matrices.{width}
+use Rattle.hdfs_field.specs.Slices.{AreFirst}
 use Rattle.hdfs_field.proofs.slices.Matrix+GF256.mul_row.Given as goal
 
-abbrev pub invariant-loop-c : goal.invariant-loop-c
-invariant-loop-c l = IsCombined l.self l.rows l.r l.c l.sum.items
+abbrev pub decreases-vectors : goal.decreases-vectors
+decreases-vectors l = l.len - l.i
+
+abbrev pub invariant-vectors : goal.invariant-vectors
+invariant-vectors l = record {
+  within : l.i ≤ l.len;
+  long : length l.out.items ≡ l.i;
+  first : AreFirst l.self (map (λ p. p.now) l.inputs) l.r (width l.self) l.out.items;
+}
+
+abbrev pub invariant-bytes : goal.invariant-bytes
+invariant-bytes l = record {
+  long : length l.out.items ≡ l.q;
+  first : AreFirst l.self (map (λ p. p.now) l.inputs) l.r (width l.self) l.out.items;
+}

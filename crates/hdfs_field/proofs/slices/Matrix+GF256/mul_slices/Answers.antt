@@ -1,7 +1,19 @@
-use Rattle.hdfs_field.proofs.Combining.{rows_more}
+use Rattle.std.proofs.Common.{◌≡◌, ℕ, List, [], length, map, ap, subst, ◌∙◌, ◌<◌, arith}
+use Rattle.std.proofs.lemmas.List.{get_or_read}
+use Rattle.hdfs_field.specs.Matrices.{width}
+use Rattle.hdfs_field.specs.Slices.{AreFirst}
+use Rattle.hdfs_field.proofs.Combining.{rows_more, first_all}
 use Rattle.hdfs_field.proofs.slices.Matrix+GF256.mul_slices.Goals as goal
 
 pub loop-r-preserved : goal.loop-r-preserved
 loop-r-preserved c =
-    rows_more c.args.self.now c.args.rows.now c.loop-r.r c.loop-r.products.items c.push.new.self.items c.in_ok-mul_row.field-0 c.loop-r.invariant
-    c.in_ok-mul_row.ensures c.in_ok-push.ensures.items
+    let m = c.args.self.now in
+    let rows = c.args.rows.now in
+    let product = c.in_ok-mul_row.field-0 in
+    let inputs : map (λ p. p.now) c.deref.result.now ≡ rows = ap (map (λ p. p.now)) c.deref.ensures.value ∙ c.in_ok-inputs.ensures in
+    let first = subst (λ (shards : List (List ℕ)). AreFirst m shards c.loop-r.r (width m) product) inputs c.in_ok-mul_row.ensures.bytes in
+    let grid = c.rows-count.ensures.grid in
+    let some : 0 < length rows = omega (arith, c.requires.size) in
+    let long = c.in_ok-mul_row.ensures.long ∙ c.len-len.ensures.value ∙ ap length (get_or_read rows 0 c.index-rows-0.result some c.index-rows-0.is []) in
+    rows_more m rows c.loop-r.r c.loop-r.products.items c.push.new.self.items product c.loop-r.invariant
+    (first_all m rows c.loop-r.r (width m) product long first) c.in_ok-push.ensures.items
