@@ -1,6 +1,6 @@
 // A glob of many stars, matched against a long text.
 use crate::fault::Fault;
-use hdfs_names::GlobPattern;
+use hdfs_globs::GlobPattern;
 use std::alloc::Global;
 
 /// So many times this text, and behind them that.

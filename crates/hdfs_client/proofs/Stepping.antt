@@ -14,7 +14,7 @@ use Rattle.hdfs_model.specs.declared.commands.Command.{Command}
 use Rattle.hdfs_model.specs.declared.commands.Command.TheVariants as commands
 use Rattle.hdfs_model.specs.declared.commands.Reply.{Reply}
 use Rattle.hdfs_model.specs.declared.commands.Reply.TheVariants as replies
-use Rattle.hdfs_model.specs.Paths.{is_path, is_slash, is_component, ancestors, resolved}
+use Rattle.hdfs_model.specs.Paths.{is_path, is_slash, is_component, ancestors, absolute}
 use Rattle.hdfs_model.specs.Files.{Node, Dir, File, Writing, Content, Kind, ClosedFile, OpenFile, State, NoFile, NotDirectory, kinds_of, kind_of, no_file, no_file_at, is_file}
 use Rattle.hdfs_model.specs.Steps.{World, Outcome, Refused, Done, Refusal, WrongState, Lacks, BadRange, BadPath, content_of, range_of, read_content, read_file, step_at, step, target_of}
 use Rattle.hdfs_model.specs.Picture.{Picture, kinds, entry_kind}
@@ -135,7 +135,7 @@ and_left true b is = refl
 and_left false b is = is
 
 -- an absolute path stands for itself
-pub resolved_path : (home path : List ℕ) → is_path path ≡ true → resolved home path ≡ path
+pub resolved_path : (home path : List ℕ) → is_path path ≡ true → absolute home path ≡ path
 resolved_path home [] is = absurd (cc)
 resolved_path home (c ∷ rest) is = ap (λ (b : Bool). cond b (c ∷ rest) (home ++ 47 ∷ c ∷ rest)) (and_left (is_slash c) (bytes_eq rest [] || list_all is_component (slice_split is_slash rest)) is)
 

@@ -21,7 +21,7 @@ pub use hdfs_model::{
     AddFault, Answer, ArgFault, Ask, AskFault, Attributes, Block, BlockEntry, Cluster, Command,
     DatanodeId, DatanodeInfo, Entry, Fault, FaultLine, FileEntry, HdfsError, LastAnswer, Line,
     LinkFault, LocatedBlock, LocatedBlocks, OpenRead, ReadAsk, ReadKind, ReadPlace, Reply,
-    ServerDefaults, Settings, Store, Token, TransferFault, above, is_path, parent,
+    ServerDefaults, Settings, Store, Token, TransferFault, is_path, nearest_ancestor, parent_of,
 };
 pub use mem_cluster::MemCluster;
 pub use mem_settings::MemSettings;

@@ -12,7 +12,7 @@ ghost use Rattle.hdfs_cluster.specs.Memory.{table_of, total, is_length};
 use crate::namespace::Namespace;
 use hdfs_model::{
     Answer, AskFault, Block, BlockEntry, DatanodeId, DatanodeInfo, Entry, FileEntry, LastAnswer,
-    LocatedBlock, LocatedBlocks, Token, above,
+    LocatedBlock, LocatedBlocks, Token, nearest_ancestor,
 };
 use hdfs_wire::{Blob, List, NoMemory, Text};
 use std::alloc::Global;
@@ -174,7 +174,7 @@ impl Namespace {
         ensures { result ≡ list_any (λ ancestor. is_file (kinds_in (get_by_text self.now.names) ancestor)) (ancestors src.now) }
     {
         let mut path = src;
-        while let Some(front) = above(path) {
+        while let Some(front) = nearest_ancestor(path) {
             if self.is_file(front) {
                 return true;
             }

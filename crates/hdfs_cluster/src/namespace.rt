@@ -6,7 +6,7 @@ ghost use Rattle.hdfs_model.specs.Paths.{root};
 ghost use Rattle.hdfs_cluster.specs.Memory.{table_of, total, is_length, is_sized, is_dir, is_placed, is_bare_at, accepts, first_node};
 ghost use Rattle.hdfs_cluster.specs.Adding.{IsPlace, AddsBlock, Keeps, Names};
 
-use hdfs_model::{Attributes, BlockEntry, Entry, FileEntry, is_path, parent};
+use hdfs_model::{Attributes, BlockEntry, Entry, FileEntry, is_path, parent_of};
 use hdfs_wire::{List, NoMemory, Text};
 use std::alloc::Global;
 use std::collections::BTreeMap;
@@ -68,7 +68,7 @@ impl Namespace {
     {
         is_path(path)
             && !self.names.contains_key(path)
-            && self.is_directory(parent(path))
+            && self.is_directory(parent_of(path))
             && attributes.in_limits(count)
     }
 

@@ -2,6 +2,7 @@
 use Rattle.std.proofs.Common.{◌≡◌, ℕ, suc, ◌+◌, ◌-◌, ◌<◌, ◌≤◌, Bool, true, false, cond, List, [], ◌∷◌, ◌++◌, Option, Some, None, length, drop, ap, ◌∙◌, sym, refl, arith, ◌==◌, ◌&&◌, ◌||◌}
 use Rattle.std.specs.Option.{option_map}
 use Rattle.std.proofs.lemmas.List.{append_assoc, append-nil, drop_all}
+use Rattle.std.proofs.Math.Bool.{or-true, or-false}
 use Rattle.std.proofs.lemmas.Bool.Decides.{nat_tests}
 use Rattle.hdfs_globs.specs.Expansions.{Group, group_at, with_character, with_slash, with_alternative, before_first}
 use Rattle.hdfs_globs.specs.GroupScans.{group_sign_of, led, before_alternatives}
@@ -131,11 +132,7 @@ module _ (done : List (List ℕ)) (current : List ℕ) (slash : Bool) where
 
   led-slash : (c : ℕ) → c ≡ 47 → (o : Option Group) → option_map (led done current slash) (option_map with_slash o) ≡ option_map (led done (current ++ c ∷ []) true) o
   led-slash c e None = refl
-  led-slash c e (Some g) = rw e (ap (λ (x : List (List ℕ)). Some (record { alternatives = done ++ x; slash = slash || true; after = g.after })) (before-one current 47 g.alternatives) ∙ ap (λ (x : Bool). Some (record { alternatives = done ++ before_alternatives (current ++ 47 ∷ []) g.alternatives; slash = x; after = g.after })) (either-true slash))
-    where
-      either-true : (b : Bool) → b || true ≡ true
-      either-true true = refl
-      either-true false = refl
+  led-slash c e (Some g) = rw e (ap (λ (x : List (List ℕ)). Some (record { alternatives = done ++ x; slash = slash || true; after = g.after })) (before-one current 47 g.alternatives) ∙ ap (λ (x : Bool). Some (record { alternatives = done ++ before_alternatives (current ++ 47 ∷ []) g.alternatives; slash = x; after = g.after })) (or-true slash))
 
   led-comma : (n : ℕ) (o : Option Group) → IsGroupIn n o → option_map (led done current slash) (option_map with_alternative o) ≡ option_map (led (done ++ current ∷ []) [] slash) o
   led-comma n None h = refl
@@ -146,11 +143,7 @@ module _ (done : List (List ℕ)) (current : List ℕ) (slash : Bool) where
       at (a ∷ texts) some = ap (λ (x : List (List ℕ)). Some (record { alternatives = x; slash = slash || g.slash; after = g.after })) (ap (λ (x : List ℕ). done ++ (x ∷ a ∷ texts)) (append-nil current) ∙ sym (append_assoc done (current ∷ []) (a ∷ texts)))
 
   led-ends : (t : List ℕ) → option_map (led done current slash) (Some (record { alternatives = [] ∷ []; slash = false; after = t })) ≡ Some (record { alternatives = done ++ current ∷ []; slash = slash; after = t })
-  led-ends t = ap (λ (x : List ℕ). Some (record { alternatives = done ++ x ∷ []; slash = slash || false; after = t })) (append-nil current) ∙ ap (λ (x : Bool). Some (record { alternatives = done ++ current ∷ []; slash = x; after = t })) (either-false slash)
-    where
-      either-false : (b : Bool) → b || false ≡ b
-      either-false true = refl
-      either-false false = refl
+  led-ends t = ap (λ (x : List ℕ). Some (record { alternatives = done ++ x ∷ []; slash = slash || false; after = t })) (append-nil current) ∙ ap (λ (x : Bool). Some (record { alternatives = done ++ current ∷ []; slash = x; after = t })) (or-false slash)
 
 -- what was read and what the text goes on with are the whole
 abbrev pub Rest : Option Group → List (List ℕ) → List ℕ → Bool → Bool → ℕ → List ℕ → Type 0

@@ -5,6 +5,7 @@ pub mod SetTexts
 pub mod SetRanges
 pub mod Wildcards
 pub mod SignsRead
+pub mod NextRead
 pub mod Marked
 pub mod Standing
 pub mod Cuts

@@ -1,7 +1,7 @@
 -- What the state says behind the signs of a glob: a place is reached where the text up to it, from a place before, fits the glob.
 use Rattle.std.proofs.Common.{◌≡◌, ℕ, zero, suc, ◌+◌, ◌<◌, ◌≤◌, Bool, true, false, List, [], ◌∷◌, ◌++◌, length, get_or, ap, ◌∙◌, sym, subst, refl, arith, ◌⊎◌, inl, inr, ◌||◌, ◌&&◌, nat_lt, ◌↔◌, ◌==◌, Some}
 use Rattle.std.proofs.lemmas.List.{append_assoc, append-nil}
-use Rattle.std.proofs.lemmas.Bool.{cases_lt}
+use Rattle.std.proofs.lemmas.Bool.{cases_lt, and_parts, and_from, or_cases, or_left, or_right}
 use Rattle.std.proofs.lemmas.Bool.Decides.{nat_tests, Decides-ltb}
 use Rattle.hdfs_globs.specs.Globs.{Sign, One, signs}
 use Rattle.hdfs_globs.specs.Globs.Sign.{or_else, group_ends}
@@ -43,29 +43,9 @@ mutual
       ∙ run-glob text g ((or_else ∷ spelled_choice choice) ++ (group_ends ∷ rest)) p (record { begun = p; ended = ended } ∷ os)
       ∙ run-choice text choice rest p (either_of ended (after text g p)) os
 
-and-parts : (a b : Bool) → a && b ≡ true → (a ≡ true) × (b ≡ true)
-and-parts true b e = (refl, e)
-and-parts false b e = cc
-
-and-both : (a b : Bool) → a ≡ true → b ≡ true → a && b ≡ true
-and-both true b e h = h
-and-both false b e h = cc
-
-or-cases : (a b : Bool) → a || b ≡ true → (a ≡ true) ⊎ (b ≡ true)
-or-cases true b e = inl refl
-or-cases false b e = inr e
-
-or-left : (a b : Bool) → a ≡ true → a || b ≡ true
-or-left true b e = refl
-or-left false b e = cc
-
-or-right : (a b : Bool) → b ≡ true → a || b ≡ true
-or-right true b e = refl
-or-right false b e = e
-
 seen-witness : (p : Places) (k : ℕ) → seen p k ≡ true → (i : ℕ) × (i < k) × (p i ≡ true)
 seen-witness p zero e = cc
-seen-witness p (suc k) e = at (λ h. seen-witness p k h) (or-cases (seen p k) (p k) e)
+seen-witness p (suc k) e = at (λ h. seen-witness p k h) (or_cases (seen p k) (p k) e)
   where
     at : (seen p k ≡ true → (i : ℕ) × (i < k) × (p i ≡ true)) → (seen p k ≡ true) ⊎ (p k ≡ true) → (i : ℕ) × (i < suc k) × (p i ≡ true)
     at before (inl h) = let w = before h in (w.0, omega (arith, w.1), w.2)
@@ -76,8 +56,8 @@ seen-from p zero i l e = absurd (omega arith)
 seen-from p (suc k) i l e = at (λ h. seen-from p k i h e) (cases_lt i k)
   where
     at : (i < k → seen p k ≡ true) → (i < k) ⊎ (k ≤ i) → seen p k || p k ≡ true
-    at before (inl h) = or-left (seen p k) (p k) (before h)
-    at before (inr h) = let same : i ≡ k = omega arith in or-right (seen p k) (p k) (subst (λ (n : ℕ). p n ≡ true) same e)
+    at before (inl h) = or_left (seen p k) (p k) (before h)
+    at before (inr h) = let same : i ≡ k = omega arith in or_right (seen p k) (p k) (subst (λ (n : ℕ). p n ≡ true) same e)
 
 -- the place is reached from one of these places by a slice of which F holds
 abbrev Ends : List ℕ → Places → (List ℕ → Type 0) → ℕ → Type 0
@@ -97,8 +77,8 @@ module _ (text : List ℕ) (p : Places) (F : List ℕ → Type 0) (j : ℕ) (h :
   one-at : (o : One) (i : ℕ) → i ≤ j → shifted o text p i ≡ true → F (cut text i j) → Ends text p (AfterOne o F) j
   one-at o zero l e f = cc
   one-at o (suc i) l e f =
-      let parts = and-parts (p i) (nat_lt i (length text) && is_one o (get_or text i 0)) e in
-      let tests = and-parts (nat_lt i (length text)) (is_one o (get_or text i 0)) parts.1 in
+      let parts = and_parts (p i) (nat_lt i (length text) && is_one o (get_or text i 0)) e in
+      let tests = and_parts (nat_lt i (length text)) (is_one o (get_or text i 0)) parts.1 in
       (i, omega arith, parts.0, (get_or text i 0, cut text (suc i) j, cut-first text i j (omega arith) h, (one-decides o (get_or text i 0)).0 tests.1, f))
 
   one-to : (o : One) → Ends text (shifted o text p) F j → Ends text p (AfterOne o F) j
@@ -113,7 +93,7 @@ module _ (text : List ℕ) (p : Places) (F : List ℕ → Type 0) (j : ℕ) (h :
       let head : c ≡ get_or text i 0 = cc in
       let tail : rest ≡ cut text (suc i) j = cc in
       let inside : i < length text = omega arith in
-      (suc i, omega arith, and-both (p i) _ e (and-both (nat_lt i (length text)) _ ((Decides-ltb i (length text)).1 inside) ((one-decides o (get_or text i 0)).1 (subst (IsOne o) head is))), subst F tail f)
+      (suc i, omega arith, and_from (p i) _ e (and_from (nat_lt i (length text)) _ ((Decides-ltb i (length text)).1 inside) ((one-decides o (get_or text i 0)).1 (subst (IsOne o) head is))), subst F tail f)
 
   many-to : Ends text (filled p) F j → Ends text p (AfterMany F) j
   many-to (k, l, e, f) =
@@ -159,14 +139,14 @@ mutual
   fits-choice : (text : List ℕ) (choice : Choice) (p ended : Places) (k : ℕ) → k ≤ length text → (after_choice text choice p ended k ≡ true) ↔ ((ended k ≡ true) ⊎ Ends text p (FitsOneOf choice) k)
   fits-choice text (last g) p ended k h =
       let ih = fits-glob text g p k h in (
-        λ e. choice-to (λ a. inl a) (λ b. inr (ih.0 b)) (or-cases (ended k) (after text g p k) e),
-        λ w. choice-to (λ a. or-left (ended k) (after text g p k) a) (λ b. or-right (ended k) (after text g p k) (ih.1 b)) w,
+        λ e. choice-to (λ a. inl a) (λ b. inr (ih.0 b)) (or_cases (ended k) (after text g p k) e),
+        λ w. choice-to (λ a. or_left (ended k) (after text g p k) a) (λ b. or_right (ended k) (after text g p k) (ih.1 b)) w,
       )
   fits-choice text (either g choice) p ended k h =
       let one = fits-glob text g p k h in
       let more = fits-choice text choice p (either_of ended (after text g p)) k h in (
-        λ e. choice-to (λ a. choice-to (λ b. inl b) (λ b. inr (let w = one.0 b in (w.0, w.1, w.2, inl w.3))) (or-cases (ended k) (after text g p k) a)) (λ w. inr (w.0, w.1, w.2, inr w.3)) (more.0 e),
-        λ w. more.1 (choice-to (λ a. inl (or-left (ended k) (after text g p k) a)) (λ u. choice-to (λ f. inl (or-right (ended k) (after text g p k) (one.1 (u.0, u.1, u.2, f)))) (λ f. inr (u.0, u.1, u.2, f)) u.3) w),
+        λ e. choice-to (λ a. choice-to (λ b. inl b) (λ b. inr (let w = one.0 b in (w.0, w.1, w.2, inl w.3))) (or_cases (ended k) (after text g p k) a)) (λ w. inr (w.0, w.1, w.2, inr w.3)) (more.0 e),
+        λ w. more.1 (choice-to (λ a. inl (or_left (ended k) (after text g p k) a)) (λ u. choice-to (λ f. inl (or_right (ended k) (after text g p k) (one.1 (u.0, u.1, u.2, f)))) (λ f. inr (u.0, u.1, u.2, f)) u.3) w),
       )
 
 -- the run over a whole glob

@@ -1,10 +1,10 @@
 -- The signs of a glob, one after the other.
-use Rattle.std.proofs.Common.{◌≡◌, ℕ, zero, suc, ◌-◌, ◌<◌, ◌≤◌, Bool, true, false, cond, List, [], ◌∷◌, ◌++◌, Option, Some, None, length, drop, ap, ◌∙◌, sym, refl, arith, ◌==◌}
+use Rattle.std.proofs.Common.{◌≡◌, ℕ, zero, suc, ◌+◌, ◌-◌, ◌<◌, ◌≤◌, Bool, true, false, cond, List, [], ◌∷◌, ◌++◌, Option, Some, None, length, drop, ap, ◌∙◌, sym, refl, arith, ◌==◌}
 use Rattle.std.specs.Option.{option_map}
-use Rattle.std.proofs.lemmas.List.{append_assoc, append-nil, drop_all, length-drop}
+use Rattle.std.proofs.lemmas.List.{append_assoc, append-nil, drop-drop, drop_all, length-drop}
 use Rattle.std.proofs.lemmas.Bool.Decides.{nat_tests}
 use Rattle.hdfs_globs.specs.Globs.{Sign, SetBody, set_body, set_of, signs_of, behind_sign, behind_set, after_backslash, after_bracket, with_member}
-use Rattle.hdfs_globs.specs.NextSigns.{next_signs}
+use Rattle.hdfs_globs.specs.NextSigns.{Reads, IsNextSign, HasNoSign, depth_behind, next_signs}
 
 -- the signs of what is left of a glob, before which d groups are open
 abbrev pub signs_left : ℕ → List ℕ → Option (List Sign)
@@ -46,9 +46,6 @@ set-shorter false (c ∷ text) =
     (shorter-cond (suc n) (c == 93) _ _ (omega arith)
     (shorter-cond (suc n) (c == 91) _ _ tt (shorter-member n c false (set_body false text) (set-shorter false text))))
 
-abbrev Reads : Type 0
-Reads = ℕ → List ℕ → Option (List Sign)
-
 -- the two agree on texts of at most n characters
 abbrev AgreeUpTo : ℕ → Reads → Reads → Type 0
 AgreeUpTo n f g = (d : ℕ) (text : List ℕ) → length text ≤ n → f d text ≡ g d text
@@ -85,13 +82,18 @@ left-step text at d inside =
     let e : length (drop at text) ≡ length text - at = length-drop at text in
     fuel-same (length (drop at text)) (suc (length text - at - 1)) d (drop at text) (omega arith) (omega arith) ∙ signs-step (length text - at - 1) d (drop at text) (omega arith)
 
-pub left-none : (text : List ℕ) (at d : ℕ) → at < length text → ((f : Reads) → next_signs f d (drop at text) ≡ None) → signs_left d (drop at text) ≡ None
+pub left-none : (text : List ℕ) (at d : ℕ) → at < length text → HasNoSign d (drop at text) → signs_left d (drop at text) ≡ None
 left-none text at d inside none = left-step text at d inside ∙ none (signs_of (length text - at - 1))
 
-pub left-some : (text : List ℕ) (at d at' d' : ℕ) (s : Sign) → at < length text → at < at' → ((f : Reads) → next_signs f d (drop at text) ≡ behind_sign s (f d' (drop at' text))) → signs_left d (drop at text) ≡ behind_sign s (signs_left d' (drop at' text))
-left-some text at d at' d' s inside on some =
+pub left-some : (text : List ℕ) (at d taken : ℕ) (s : Sign) → at < length text → 0 < taken → IsNextSign d (drop at text) s taken
+    → signs_left d (drop at text) ≡ behind_sign s (signs_left (depth_behind s d) (drop (at + taken) text))
+left-some text at d taken s inside on some =
+    let d' : ℕ = depth_behind s d in
+    let at' : ℕ = at + taken in
+    let rest : drop taken (drop at text) ≡ drop at' text = drop-drop taken at text in
     let e : length (drop at' text) ≡ length text - at' = length-drop at' text in
-    left-step text at d inside ∙ some (signs_of (length text - at - 1)) ∙ ap (behind_sign s) (fuel-same (length text - at - 1) (length (drop at' text)) d' (drop at' text) (omega arith) (omega arith))
+    left-step text at d inside ∙ some (signs_of (length text - at - 1)) ∙ ap (λ (t : List ℕ). behind_sign s (signs_of (length text - at - 1) d' t)) rest
+    ∙ ap (behind_sign s) (fuel-same (length text - at - 1) (length (drop at' text)) d' (drop at' text) (omega arith) (omega arith))
 
 -- these signs stand before the others
 abbrev pub before_signs : List Sign → Option (List Sign) → Option (List Sign)
@@ -101,11 +103,13 @@ signs-moved : (done : List Sign) (s : Sign) (o : Option (List Sign)) → before_
 signs-moved done s None = refl
 signs-moved done s (Some rest) = ap (λ (x : List Sign). Some x) (sym (append_assoc done (s ∷ []) rest))
 
-pub turn-some : (whole : Option (List Sign)) (done done' : List Sign) (text : List ℕ) (at d at' d' : ℕ) (s : Sign) → at < length text → at < at' → ((f : Reads) → next_signs f d (drop at text) ≡ behind_sign s (f d' (drop at' text))) → done' ≡ done ++ s ∷ [] → whole ≡ before_signs done (signs_left d (drop at text)) → whole ≡ before_signs done' (signs_left d' (drop at' text))
-turn-some whole done done' text at d at' d' s inside on some grown left =
-    left ∙ ap (before_signs done) (left-some text at d at' d' s inside on some) ∙ signs-moved done s (signs_left d' (drop at' text)) ∙ ap (λ (x : List Sign). before_signs x (signs_left d' (drop at' text))) (sym grown)
+pub turn-some : (whole : Option (List Sign)) (done done' : List Sign) (text : List ℕ) (at d taken : ℕ) (s : Sign) → at < length text → 0 < taken → IsNextSign d (drop at text) s taken → done' ≡ done ++ s ∷ []
+    → whole ≡ before_signs done (signs_left d (drop at text)) → whole ≡ before_signs done' (signs_left (depth_behind s d) (drop (at + taken) text))
+turn-some whole done done' text at d taken s inside on some grown left =
+    let rest : Option (List Sign) = signs_left (depth_behind s d) (drop (at + taken) text) in
+    left ∙ ap (before_signs done) (left-some text at d taken s inside on some) ∙ signs-moved done s rest ∙ ap (λ (x : List Sign). before_signs x rest) (sym grown)
 
-pub turn-none : (whole : Option (List Sign)) (done : List Sign) (text : List ℕ) (at d : ℕ) → at < length text → ((f : Reads) → next_signs f d (drop at text) ≡ None) → whole ≡ before_signs done (signs_left d (drop at text)) → whole ≡ None
+pub turn-none : (whole : Option (List Sign)) (done : List Sign) (text : List ℕ) (at d : ℕ) → at < length text → HasNoSign d (drop at text) → whole ≡ before_signs done (signs_left d (drop at text)) → whole ≡ None
 turn-none whole done text at d inside none left = left ∙ ap (before_signs done) (left-none text at d inside none)
 
 end-open : (d : ℕ) → 0 < d → signs_left d [] ≡ None

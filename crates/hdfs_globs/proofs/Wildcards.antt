@@ -1,15 +1,12 @@
 -- One turn of the search for a wildcard.
 use Rattle.std.proofs.Common.{◌≡◌, ℕ, ◌+◌, ◌<◌, ◌≤◌, ◌==◌, ◌||◌, Bool, true, false, List, [], ◌∷◌, length, drop, get_or, ap, ◌∙◌, refl}
+use Rattle.std.proofs.lemmas.Bool.{or_left}
 use Rattle.std.proofs.lemmas.List.{drop_all}
 use Rattle.hdfs_globs.proofs.Unescaped.{drop-item}
 use Rattle.hdfs_globs.specs.Globs.{has_wildcard_from}
 
 abbrev wild : ℕ → Bool
 wild c = (c == 42) || (c == 63) || (c == 123) || (c == 91)
-
-or-true : (a b : Bool) → a ≡ true → a || b ≡ true
-or-true true b h = refl
-or-true false b h = cc
 
 or-false : (a b : Bool) → a ≡ false → a || b ≡ b
 or-false false b h = refl
@@ -21,7 +18,7 @@ wild-escaped c t = refl
 
 wild-yes : (c : ℕ) (t : List ℕ) → wild c ≡ true → has_wildcard_from false (c ∷ t) ≡ true
 unfolding has_wildcard_from
-wild-yes c t h = or-true (wild c) (has_wildcard_from (c == 92) t) h
+wild-yes c t h = or_left (wild c) (has_wildcard_from (c == 92) t) h
 
 wild-no : (c : ℕ) (t : List ℕ) → wild c ≡ false → has_wildcard_from false (c ∷ t) ≡ has_wildcard_from (c == 92) t
 unfolding has_wildcard_from

@@ -1,8 +1,8 @@
--- The cut of a text is looked for character by character.
-use Rattle.std.specs.Prelude.{◌≡◌, ◌≤◌, ℕ, suc, ◌-◌, Bool, true, false, ◌==◌, List, map, take, drop, length, Some, None, Vec, if◌then◌else◌}
-use Rattle.std.specs.declared.alloc.Global.{Global}
+-- The cut of a text is looked for character by character. No public clause cites this module.
+use Rattle.std.specs.Prelude.{◌≡◌, ◌≤◌, ℕ, suc, ◌-◌, Bool, true, false, ◌==◌, List, take, drop, length, Some, None, if◌then◌else◌}
 use Rattle.hdfs_globs.specs.Escapes.{ends_escaping}
 use Rattle.hdfs_globs.specs.Expansions.{Cut, cut_from}
+use Rattle.hdfs_globs.specs.GroupScans.{shown_texts}
 use Rattle.hdfs_globs.specs.declared.cut.Found.{Found}
 use Rattle.hdfs_globs.specs.declared.cut.Found.TheVariants.{Cut as CutAt, Whole, Escaping}
 use Rattle.hdfs_globs.specs.declared.cut.FoundCut.{FoundCut}
@@ -11,10 +11,6 @@ use Rattle.hdfs_globs.specs.declared.cut.FoundCut.{FoundCut}
 abbrev pub depth_past : Bool → ℕ → ℕ → ℕ
 depth_past true d c = d
 depth_past false d c = if c == 123 then suc d else if c == 125 then d - 1 else d
-
--- the texts of a list of them
-abbrev pub shown_texts : Vec (Vec ℕ Global) Global → List (List ℕ)
-shown_texts texts = map (λ a. a.items) texts.items
 
 -- the cut that the code has found in a text
 abbrev pub shown_cut : List ℕ → FoundCut → Cut

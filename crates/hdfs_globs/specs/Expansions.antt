@@ -95,6 +95,6 @@ unfoldable pub opened : ℕ → List ℕ → Option (List (List ℕ))
 opened zero text = None
 opened (suc n) text = at_cut (opened n) text (cut_from false 0 text)
 
--- what a pattern opens to; None where an unescaped backslash ends it or a text so made
+-- what a pattern opens to; None where one of these texts ends in an unescaped backslash
 abbrev pub opens : List ℕ → Option (List (List ℕ))
 opens pattern = opened (suc (length pattern)) pattern

@@ -1,6 +1,7 @@
--- A brace group is read character by character.
-use Rattle.std.specs.Prelude.{◌≡◌, ℕ, Bool, true, false, ◌==◌, ◌&&◌, ◌||◌, List, [], ◌∷◌, ◌++◌, map, drop, Option, Some, if◌then◌else◌}
+-- A brace group is read character by character. No public clause cites this module.
+use Rattle.std.specs.Prelude.{◌≡◌, ℕ, Bool, true, false, ◌==◌, ◌&&◌, ◌||◌, List, [], ◌∷◌, ◌++◌, map, drop, Option, Some, Vec, if◌then◌else◌}
 use Rattle.std.specs.Option.{option_map}
+use Rattle.std.specs.declared.alloc.Global.{Global}
 use Rattle.hdfs_globs.specs.Expansions.{Group, group_at}
 use Rattle.hdfs_globs.specs.declared.group.GroupSign.{GroupSign}
 use Rattle.hdfs_globs.specs.declared.group.GroupSign.TheVariants.{Character, Backslash, Opens, Closes, Ends, Comma, Slash}
@@ -19,6 +20,10 @@ group_sign_of false d c =
     else if c == 47 then Slash
     else Character
 
+-- the texts of a list of them
+abbrev pub shown_texts : Vec (Vec ℕ Global) Global → List (List ℕ)
+shown_texts texts = map (λ a. a.items) texts.items
+
 -- this text stands before the first alternative
 abbrev pub before_alternatives : List ℕ → List (List ℕ) → List (List ℕ)
 before_alternatives current [] = current ∷ []
@@ -30,13 +35,13 @@ led done current slash g = record { alternatives = done ++ before_alternatives c
 
 -- what was read and the group that the text goes on with are the whole
 abbrev pub Scanned : Option Group → Scan → List ℕ → Type 0
-Scanned whole s text = whole ≡ option_map (led (map (λ a. a.items) s.alternatives.items) s.current.items s.slash) (group_at s.escaped s.depth text)
+Scanned whole s text = whole ≡ option_map (led (shown_texts s.alternatives) s.current.items s.slash) (group_at s.escaped s.depth text)
 
 -- the same one character later, where the group may have ended
 abbrev pub IsPassed : Option Group → Bool → Scan → List ℕ → Type 0
 IsPassed whole false s text = Scanned whole s text
-IsPassed whole true s text = whole ≡ Some (record { alternatives = map (λ a. a.items) s.alternatives.items; slash = s.slash; after = text })
+IsPassed whole true s text = whole ≡ Some (record { alternatives = shown_texts s.alternatives; slash = s.slash; after = text })
 
 -- the group that the code has read in a text
 abbrev pub shown_group : List ℕ → GroupText → Group
-shown_group text g = record { alternatives = map (λ a. a.items) g.alternatives.items; slash = g.slash; after = drop g.after text }
+shown_group text g = record { alternatives = shown_texts g.alternatives; slash = g.slash; after = drop g.after text }

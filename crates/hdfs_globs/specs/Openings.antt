@@ -1,5 +1,5 @@
--- A pattern is opened by a list of texts that wait, each from a place on.
-use Rattle.std.specs.Prelude.{◌≡◌, ℕ, zero, suc, ◌+◌, Bool, true, false, List, [], ◌∷◌, ◌++◌, map, take, drop, length, Option, Some, None, String, string_bytes}
+-- A pattern is opened by a list of texts that wait, each from a place on. No public clause cites this module.
+use Rattle.std.specs.Prelude.{◌≡◌, ℕ, zero, suc, ◌+◌, Bool, true, false, List, [], ◌∷◌, ◌++◌, map, take, drop, length, Option, reverse, Some, None, String, Vec, string_bytes}
 use Rattle.std.specs.Str.{chars}
 use Rattle.std.specs.declared.alloc.Global.{Global}
 use Rattle.hdfs_globs.specs.Expansions.{Cut, cut_from, both, in_front, opens}
@@ -26,10 +26,18 @@ all_opened (work ∷ works) = both (opens_from work) (all_opened works)
 abbrev pub shown_strings : List (String Global) → List (List ℕ)
 shown_strings texts = map (λ s. chars (string_bytes s)) texts
 
+-- the texts that wait, the next one first
+abbrev pub waiting : Vec Work Global → List (List ℕ × ℕ)
+waiting stack = reverse (map shown_work stack.items)
+
 -- these texts and what those that wait open to are the whole; else it is refused
 abbrev pub IsOpened : Option (List (List ℕ)) → Bool → List (String Global) → List (List ℕ × ℕ) → Type 0
 IsOpened whole true texts works = whole ≡ both (Some (shown_strings texts)) (all_opened works)
 IsOpened whole false texts works = whole ≡ None
+
+-- what was to be opened as a whole still is
+abbrev pub KeepsWhole : List (String Global) → List (List ℕ × ℕ) → Bool → List (String Global) → List (List ℕ × ℕ) → Type 0
+KeepsWhole texts works goes_on texts' works' = (whole : Option (List (List ℕ))) → IsOpened whole true texts works → IsOpened whole goes_on texts' works'
 
 -- the sum over the alternatives of a cut
 abbrev pub sum_after : (List ℕ → ℕ) → List ℕ → List (List ℕ) → ℕ

@@ -1,4 +1,4 @@
--- A text is matched sign by sign: which places of it the signs read so far can end at.
+-- A text is matched sign by sign: which places of it the signs read so far can end at. No public clause cites this module.
 use Rattle.std.specs.Prelude.{◌≡◌, ◌≤◌, ⊤, ℕ, zero, suc, Bool, true, false, not, ◌==◌, ◌&&◌, ◌||◌, nat_lt, nat_le, List, [], ◌∷◌, length, reverse, slice_index, slice_index_or}
 use Rattle.hdfs_globs.specs.Globs.{One, Sign}
 use Rattle.hdfs_globs.specs.Globs.One.{itself, any, among, outside}

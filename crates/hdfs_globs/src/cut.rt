@@ -1,8 +1,9 @@
 //! Where a text is cut: at its first outer brace group that is closed and has an unescaped slash inside.
 
-ghost use Rattle.std.specs.Prelude.{◌≡◌, ℕ, ◌+◌, ◌<◌, ◌≤◌, ◌^◌, ◌&&◌, ◌==◌, ◌∷◌, [], not, length, take, drop, IfOk, IfSome, Some, None, false};
-ghost use Rattle.hdfs_globs.specs.Expansions.{behind, cut_from, group_at};
-ghost use Rattle.hdfs_globs.specs.CutScans.{IsFound, depth_past, shown_texts};
+ghost use Rattle.std.specs.Prelude.{◌≡◌, ℕ, ◌+◌, ◌<◌, ◌≤◌, ◌^◌, ◌&&◌, ◌==◌, ◌∷◌, [], not, length, drop, IfOk, IfSome, Some, None};
+ghost use Rattle.hdfs_globs.specs.Expansions.{behind, cut_from};
+ghost use Rattle.hdfs_globs.specs.CutScans.{IsFound, depth_past};
+ghost use Rattle.hdfs_globs.specs.GroupScans.{shown_texts};
 
 use crate::characters::character_at;
 use crate::group::{GroupText, read_group};
@@ -25,6 +26,7 @@ pub(crate) enum Found {
     Escaping,
 }
 
+// How many groups are open behind the character.
 fn depth_past(escaped: bool, depth: usize, c: char) -> usize
     requires { depth + 1 < 2 ^ 64 }
     ensures depth { result ≡ depth_past escaped depth c }
@@ -40,6 +42,7 @@ fn depth_past(escaped: bool, depth: usize, c: char) -> usize
     }
 }
 
+// Whether the character escapes the next.
 fn escapes(escaped: bool, c: char) -> bool
     ensures { result ≡ (not escaped && (c == 92)) }
 {
@@ -56,7 +59,8 @@ fn slashed_group(
 ) -> Result<Option<GroupText>, NoMemory>
     requires { at < length text.now }
     ensures none { IfOk result (λ o. o ≡ None → (c : ℕ) → drop at text.now ≡ c ∷ drop (at + 1) text.now
-        → cut_from escaped depth (drop at text.now) ≡ behind c (cut_from (not escaped && (c == 92)) (depth_past escaped depth c) (drop (at + 1) text.now))) }
+        → cut_from escaped depth (drop at text.now)
+        ≡ behind c (cut_from (not escaped && (c == 92)) (depth_past escaped depth c) (drop (at + 1) text.now))) }
     ensures some { IfOk result (λ o. IfSome o (λ g. cut_from escaped depth (drop at text.now)
         ≡ Some (record { before = []; alternatives = shown_texts g.alternatives; after = drop g.after text.now }))) }
     ensures within { IfOk result (λ o. IfSome o (λ g. g.after ≤ length text.now)) }

@@ -1,27 +1,31 @@
 //! Patterns with brace groups, paths in pieces, and backslashes.
 
-ghost use Rattle.std.specs.Prelude.{◌≡◌, ◌⊎◌, ◌<◌, ◌+◌, ◌++◌, ◌∷◌, ℕ, true, List as Items, Option, map, reverse, IfOk, IfErr, OnOk, MatchOption, Some, None, string_bytes};
+ghost use Rattle.std.specs.Prelude.{◌≡◌, ◌⊎◌, ◌<◌, ◌++◌, ◌∷◌, true, map, reverse, IfOk, IfErr, OnOk, Some, None, string_bytes};
+ghost use Rattle.std.specs.Option.{option_map};
 ghost use Rattle.std.specs.Str.{chars};
-ghost use Rattle.hdfs_globs.specs.CutScans.{shown_texts};
+ghost use Rattle.hdfs_globs.specs.GroupScans.{shown_texts};
 ghost use Rattle.hdfs_globs.specs.Escapes.{components, unescaped};
 ghost use Rattle.hdfs_globs.specs.Expansions.{opens};
-ghost use Rattle.hdfs_globs.specs.Openings.{IsOpened, all_nodes, child, nodes, shown_strings, shown_work};
+ghost use Rattle.hdfs_globs.specs.Openings.{KeepsWhole, all_nodes, child, shown_strings, shown_work, waiting};
 
 use crate::characters::{characters_of, put_character, text_of};
 use crate::cut::{Found, FoundCut, find_cut};
-use crate::fault::NamesFault;
 use crate::work::Work;
+use hdfs_names::NamesFault;
 use hdfs_wire::{NoMemory, Text};
 use std::alloc::Global;
 
 /// Opens a pattern: each outer brace group that is closed and has an unescaped slash inside, from the left, becomes a pattern
 /// for each of its alternatives, with what stands before and behind it. In an alternative a backslash is dropped and the character
-/// after it kept; the search goes on at the alternative's beginning.
+/// after it kept; the search goes on at the alternative's beginning. A pattern without such a group, the empty one too, opens to itself.
 ///
-/// `InvalidPath`, with the given pattern: an unescaped backslash ends the pattern, or one so made. `NoMemory`: there was none.
+/// `InvalidPath`, with the given pattern: a text that it opens to ends in an unescaped backslash. So `a\` and `{/a}\` are refused.
+/// A backslash that was kept of an alternative escapes what stands behind the group: `{/\\}\` opens to `/\\`, though a backslash
+/// ends the pattern, and `{a/\\}` is refused, though none does. `NoMemory`: there was none.
 pub fn expand_glob(alloc: Global, pattern: &str) -> Result<Vec<String>, NamesFault>
     ensures ok { IfOk result (λ v. opens (chars pattern.now) ≡ Some (map (λ s. chars (string_bytes s)) v.items)) }
-    ensures refused { IfErr result (λ e. (e ≡ NamesFault.NoMemory) ⊎ ((e ≡ NamesFault.InvalidPath pattern.now) × (opens (chars pattern.now) ≡ None))) }
+    ensures refused { IfErr result (λ e. (e ≡ NamesFault.NoMemory)
+        ⊎ ((e ≡ NamesFault.InvalidPath pattern.now) × (opens (chars pattern.now) ≡ None))) }
 {
     match expand(alloc, characters_of(alloc, pattern)?)? {
         Some(texts) => Ok(texts),
@@ -31,7 +35,7 @@ pub fn expand_glob(alloc: Global, pattern: &str) -> Result<Vec<String>, NamesFau
 
 // What the pattern opens to, unless it is refused.
 fn expand(alloc: Global, pattern: Vec<char>) -> Result<Option<Vec<String>>, NoMemory>
-    ensures { IfOk result (λ o. MatchOption o (opens pattern.items ≡ None) (λ v. opens pattern.items ≡ Some (shown_strings v.items))) }
+    ensures { IfOk result (λ o. opens pattern.items ≡ option_map (λ v. shown_strings v.items) o) }
 {
     let mut texts = Vec::new(alloc);
     let mut stack = Vec::new(alloc);
@@ -51,9 +55,10 @@ fn open_next(
     stack: &mut Vec<Work>,
     texts: &mut Vec<String>,
 ) -> Result<bool, NoMemory>
-    ensures opened { IfOk result (λ goes_on. (whole : Option (Items (Items ℕ))) → IsOpened whole true texts.old.items (shown_work work ∷ reverse (map shown_work stack.old.items))
-        → IsOpened whole goes_on texts.new.items (reverse (map shown_work stack.new.items))) }
-    ensures nodes { IfOk result (λ goes_on. goes_on ≡ true → all_nodes (reverse (map shown_work stack.new.items)) < all_nodes (shown_work work ∷ reverse (map shown_work stack.old.items))) }
+    ensures opened { IfOk result (λ goes_on. KeepsWhole texts.old.items (shown_work work ∷ waiting stack.old)
+        goes_on texts.new.items (waiting stack.new)) }
+    ensures fewer { IfOk result (λ goes_on. goes_on ≡ true
+        → all_nodes (waiting stack.new) < all_nodes (shown_work work ∷ waiting stack.old)) }
 {
     match find_cut(alloc, &work.text[work.from..])? {
         Found::Cut(cut) => {
@@ -83,7 +88,8 @@ fn put_alternatives(
     front: &[char],
     back: &[char],
 ) -> Result<(), NoMemory>
-    ensures { OnOk result (map shown_work stack.new.items ≡ map shown_work stack.old.items ++ reverse (map (child front.now back.now) (shown_texts alternatives))) }
+    ensures { OnOk result (map shown_work stack.new.items
+        ≡ map shown_work stack.old.items ++ reverse (map (child front.now back.now) (shown_texts alternatives))) }
 {
     let mut alternatives = alternatives;
     'alternatives: while let Some(alternative) = alternatives.pop() {

@@ -1,18 +1,18 @@
 //! Globs: read once, then matched against whole texts.
 
-ghost use Rattle.std.specs.Prelude.{◌≡◌, ◌⊎◌, ◌↔◌, ◌==◌, ◌||◌, ◌+◌, ◌<◌, ◌≤◌, ◌^◌, ℕ, List as Items, Option, true, false, map, drop, length, IsTrue, IfOk, IfErr, IfSome, Some, None};
+ghost use Rattle.std.specs.Prelude.{◌≡◌, ◌⊎◌, ◌↔◌, ◌==◌, ◌||◌, ◌+◌, ◌<◌, ◌≤◌, ◌^◌, ◌∷◌, ℕ, List as Items, true, map, drop, length, IsTrue, IfOk, IfErr, IfSome, None};
 ghost use Rattle.std.specs.Str.{chars};
 ghost use Rattle.std.specs.Option.{option_map};
-ghost use Rattle.hdfs_globs.specs.Globs.{Sign, signs, has_wildcard, behind_sign, after_backslash, after_bracket, set_body};
-ghost use Rattle.hdfs_globs.specs.NextSigns.{depth_behind, plain_sign, next_signs};
+ghost use Rattle.hdfs_globs.specs.Globs.{signs, has_wildcard};
+ghost use Rattle.hdfs_globs.specs.NextSigns.{IsNextPart, depth_behind, plain_sign};
 ghost use Rattle.hdfs_globs.specs.Fits.{Matches};
 ghost use Rattle.hdfs_globs.specs.Patterns.{IsPatternOf, sign_of};
 ghost use Rattle.hdfs_globs.specs.Places.{run, start};
 
 use crate::characters::{character_at, characters_of};
-use crate::fault::NamesFault;
-use crate::glob_set::{Wanted, read_set};
+use crate::glob_set::{NextSet, Wanted, read_set};
 use crate::places::Reached;
+use hdfs_names::NamesFault;
 use hdfs_wire::{NoMemory, Text};
 use std::alloc::Global;
 
@@ -49,7 +49,8 @@ impl GlobPattern {
     /// a set is empty, or a range falls. `NoMemory`: there was none.
     pub fn new(alloc: Global, glob: &str) -> Result<GlobPattern, NamesFault>
         ensures ok { IfOk result (IsPatternOf (chars glob.now)) }
-        ensures refused { IfErr result (λ e. (e ≡ NamesFault.NoMemory) ⊎ ((e ≡ NamesFault.InvalidPath glob.now) × (signs (chars glob.now) ≡ None))) }
+        ensures refused { IfErr result (λ e. (e ≡ NamesFault.NoMemory)
+            ⊎ ((e ≡ NamesFault.InvalidPath glob.now) × (signs (chars glob.now) ≡ None))) }
     {
         let text = characters_of(alloc, glob)?;
         match read_parts(alloc, &text)? {
@@ -71,7 +72,7 @@ impl GlobPattern {
         Ok(passes(alloc, &self.parts, &text)?)
     }
 
-    /// Whether an unescaped `*`, `?`, `{` or `[` stands in the glob. It takes no memory.
+    /// Whether an unescaped `*`, `?`, `{` or `[` stands in the glob.
     pub fn has_wildcard(&self) -> bool
         ensures { (glob : Items ℕ) → IsPatternOf glob self.now → IsTrue result ↔ (has_wildcard glob ≡ true) }
     {
@@ -90,6 +91,7 @@ fn passes(alloc: Global, parts: &[Part], text: &[char]) -> Result<bool, NoMemory
     Ok(reached.is_at(text.len()))
 }
 
+// Whether an unescaped wildcard stands in the text.
 fn finds_wildcard(text: &[char]) -> bool
     ensures { result ≡ has_wildcard text.now }
 {
@@ -106,12 +108,14 @@ fn finds_wildcard(text: &[char]) -> bool
     false
 }
 
+// Whether the character is a wildcard, or begins a group or a set.
 fn is_wildcard(c: char) -> bool
     ensures { result ≡ ((c == 42) || (c == 63) || (c == 123) || (c == 91)) }
 {
     matches!(c, '*' | '?' | '{' | '[')
 }
 
+// The part of a character that is neither a backslash nor an opening bracket.
 fn plain_part(c: char, depth: usize) -> Part
     ensures { sign_of result ≡ plain_sign depth c }
 {
@@ -125,6 +129,7 @@ fn plain_part(c: char, depth: usize) -> Part
     }
 }
 
+// How many groups are open behind the part.
 fn depth_behind(part: &Part, depth: usize) -> usize
     requires { depth + 1 < 2 ^ 64 }
     ensures depth { result ≡ depth_behind (sign_of part.now) depth }
@@ -145,9 +150,7 @@ fn next_part(
     depth: usize,
 ) -> Result<Option<NextPart>, NoMemory>
     requires { at < length text.now }
-    ensures none { IfOk result (λ o. o ≡ None → (f : ℕ → Items ℕ → Option (Items Sign)) → next_signs f depth (drop at text.now) ≡ None) }
-    ensures some { IfOk result (λ o. IfSome o (λ next. (f : ℕ → Items ℕ → Option (Items Sign)) → next_signs f depth (drop at text.now)
-        ≡ behind_sign (sign_of next.part) (f (depth_behind (sign_of next.part) depth) (drop (at + next.taken) text.now)))) }
+    ensures part { IfOk result (IsNextPart depth (drop at text.now)) }
     ensures within { IfOk result (λ o. IfSome o (λ next. (0 < next.taken) × (at + next.taken ≤ length text.now))) }
 {
     let c = character_at(text, at);
@@ -155,17 +158,17 @@ fn next_part(
         return Ok(escaped_part(text, at));
     }
     if c == '[' {
-        return set_part(alloc, text, at);
+        return Ok(set_part(alloc, text, at)?);
     }
     let part = plain_part(c, depth);
     Ok(Some(NextPart { part, taken: 1 }))
 }
 
+// The part of the backslash at this place and of the character behind it, unless the backslash ends the text.
 fn escaped_part(text: &[char], at: usize) -> Option<NextPart>
-    requires { at < length text.now }
-    ensures none { result ≡ None → (f : ℕ → Items ℕ → Option (Items Sign)) (d : ℕ) → after_backslash (f d) (drop (at + 1) text.now) ≡ None }
-    ensures some { IfSome result (λ next. (f : ℕ → Items ℕ → Option (Items Sign)) (d : ℕ) → after_backslash (f d) (drop (at + 1) text.now)
-        ≡ behind_sign (sign_of next.part) (f (depth_behind (sign_of next.part) d) (drop (at + next.taken) text.now))) }
+    requires inside { at < length text.now }
+    requires backslash { drop at text.now ≡ 92 ∷ drop (at + 1) text.now }
+    ensures part { (depth : ℕ) → IsNextPart depth (drop at text.now) result }
     ensures within { IfSome result (λ next. (0 < next.taken) × (at + next.taken ≤ length text.now)) }
 {
     if at + 1 == text.len() {
@@ -176,18 +179,18 @@ fn escaped_part(text: &[char], at: usize) -> Option<NextPart>
     Some(NextPart { part, taken: 2 })
 }
 
+// The part of the set whose opening bracket stands at this place, unless it is none.
 fn set_part(alloc: Global, text: &[char], at: usize) -> Result<Option<NextPart>, NoMemory>
-    requires { at < length text.now }
-    ensures none { IfOk result (λ o. o ≡ None → (f : ℕ → Items ℕ → Option (Items Sign)) (d : ℕ) → after_bracket (f d) (set_body false (drop (at + 1) text.now)) ≡ None) }
-    ensures some { IfOk result (λ o. IfSome o (λ next. (f : ℕ → Items ℕ → Option (Items Sign)) (d : ℕ) → after_bracket (f d) (set_body false (drop (at + 1) text.now))
-        ≡ behind_sign (sign_of next.part) (f (depth_behind (sign_of next.part) d) (drop (at + next.taken) text.now)))) }
+    requires inside { at < length text.now }
+    requires bracket { drop at text.now ≡ 91 ∷ drop (at + 1) text.now }
+    ensures part { IfOk result (λ o. (depth : ℕ) → IsNextPart depth (drop at text.now) o) }
     ensures within { IfOk result (λ o. IfSome o (λ next. (0 < next.taken) × (at + next.taken ≤ length text.now))) }
 {
     match read_set(alloc, &text[at + 1..])? {
         Some(set) => {
-            let (wanted, length) = set;
-            let taken = length + 1;
+            let NextSet { wanted, taken } = set;
             let part = Part::One(wanted);
+            let taken = taken + 1;
             Ok(Some(NextPart { part, taken }))
         }
         None => Ok(None),

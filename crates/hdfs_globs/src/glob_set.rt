@@ -1,11 +1,10 @@
 //! Sets of characters in a glob.
 
-ghost use Rattle.std.specs.Prelude.{◌≡◌, ◌+◌, ◌<◌, ◌≤◌, ℕ, List as Items, Option, ◌∷◌, ◌||◌, false, map, drop, length, IfOk, IfSome, MatchOption, Some, None};
+ghost use Rattle.std.specs.Prelude.{◌≡◌, ◌+◌, ◌<◌, ◌≤◌, ◌∷◌, ◌||◌, false, map, drop, length, IfOk, IfSome, None};
 ghost use Rattle.std.specs.Option.{option_map};
-ghost use Rattle.hdfs_globs.specs.Globs.{Sign, set_body, ranges_of, set_of, is_sign, after_bracket, behind_sign};
-ghost use Rattle.hdfs_globs.specs.Globs.Sign.{one};
+ghost use Rattle.hdfs_globs.specs.Globs.{set_body, ranges_of, set_of, is_sign};
 ghost use Rattle.hdfs_globs.specs.Patterns.{member_of, one_of};
-ghost use Rattle.hdfs_globs.specs.SetSigns.{IsNextRange, set_sign_of};
+ghost use Rattle.hdfs_globs.specs.SetSigns.{IsNextRange, asked_by, set_sign_of, shown_set};
 
 use hdfs_wire::NoMemory;
 use std::alloc::Global;
@@ -48,6 +47,14 @@ pub(crate) struct NextRange {
     taken: usize,
 }
 
+/// What a set asks of a character, and how many characters the set takes behind its opening bracket.
+#[derive(Drop)]
+pub(crate) struct NextSet {
+    pub(crate) wanted: Wanted,
+    pub(crate) taken: usize,
+}
+
+// What the character is; `escaped` says that a backslash stands before it.
 fn set_sign(escaped: bool, c: char) -> SetSign
     ensures { result ≡ set_sign_of escaped c }
 {
@@ -64,7 +71,8 @@ fn set_sign(escaped: bool, c: char) -> SetSign
 
 // The members of the set whose text begins here.
 fn set_members(alloc: Global, text: &[char]) -> Result<Option<SetText>, NoMemory>
-    ensures body { IfOk result (λ o. set_body false text.now ≡ option_map (λ set. record { members = map member_of set.members.items; after = drop set.taken text.now }) o) }
+    ensures body { IfOk result (λ o. set_body false text.now
+        ≡ option_map (λ set. record { members = map member_of set.members.items; after = drop set.taken text.now }) o) }
     ensures within { IfOk result (λ o. IfSome o (λ set. set.taken ≤ length text.now)) }
 {
     let mut members = Vec::new(alloc);
@@ -89,18 +97,21 @@ fn set_members(alloc: Global, text: &[char]) -> Result<Option<SetText>, NoMemory
     Ok(None)
 }
 
+// Whether the member is an unescaped dash.
 fn is_dash(member: SetMember) -> bool
     ensures { result ≡ is_sign 45 (member_of member) }
 {
     member.character == '-' && !member.escaped
 }
 
+// Whether the member is an unescaped `!` or `^`.
 fn is_negation(member: SetMember) -> bool
     ensures { result ≡ (is_sign 33 (member_of member) || is_sign 94 (member_of member)) }
 {
     (member.character == '!' || member.character == '^') && !member.escaped
 }
 
+// The member at this place.
 fn member_at(members: &[SetMember], at: usize) -> SetMember
     requires { at < length members.now }
     ensures { drop at members.now ≡ result ∷ drop (at + 1) members.now }
@@ -108,9 +119,11 @@ fn member_at(members: &[SetMember], at: usize) -> SetMember
     members[at]
 }
 
+// The range between two members, unless it falls.
 fn range_between(first: SetMember, last: SetMember) -> Option<NextRange>
     ensures none { result ≡ None → last.character < first.character }
-    ensures some { IfSome result (λ next. (first.character ≤ last.character) × (next.range ≡ (first.character, last.character)) × (next.taken ≡ 3)) }
+    ensures some { IfSome result (λ next. (first.character ≤ last.character)
+        × (next.range ≡ (first.character, last.character)) × (next.taken ≡ 3)) }
 {
     if last.character < first.character {
         return None;
@@ -119,6 +132,7 @@ fn range_between(first: SetMember, last: SetMember) -> Option<NextRange>
     Some(NextRange { range, taken: 3 })
 }
 
+// The range of one member alone.
 fn range_of_one(member: SetMember) -> NextRange
     ensures range { result.range ≡ (member.character, member.character) }
     ensures taken { result.taken ≡ 1 }
@@ -130,7 +144,8 @@ fn range_of_one(member: SetMember) -> NextRange
 // The range at this place among the members, unless it falls.
 fn next_range(members: &[SetMember], at: usize) -> Option<NextRange>
     requires { at < length members.now }
-    ensures range { IsNextRange (map member_of (drop at members.now)) (option_map (λ next. (next.range, map member_of (drop (at + next.taken) members.now))) result) }
+    ensures range { IsNextRange (map member_of (drop at members.now))
+        (option_map (λ next. (next.range, map member_of (drop (at + next.taken) members.now))) result) }
     ensures within { IfSome result (λ next. (0 < next.taken) × (at + next.taken ≤ length members.now)) }
 {
     let first = member_at(members, at);
@@ -178,16 +193,15 @@ fn set_of(alloc: Global, members: &[SetMember]) -> Result<Option<Wanted>, NoMemo
     Ok(ranges_of(alloc, &members[1..])?.map(Wanted::Outside))
 }
 
-/// What the set whose text begins here asks of a character, and how many characters it takes with its closing bracket.
-pub(crate) fn read_set(alloc: Global, text: &[char]) -> Result<Option<(Wanted, usize)>, NoMemory>
-    ensures none { IfOk result (λ o. o ≡ None → (f : Items ℕ → Option (Items Sign)) → after_bracket f (set_body false text.now) ≡ None) }
-    ensures some { IfOk result (λ o. IfSome o (λ set. (f : Items ℕ → Option (Items Sign)) → after_bracket f (set_body false text.now) ≡ behind_sign (one (one_of set.0)) (f (drop set.1 text.now)))) }
-    ensures within { IfOk result (λ o. IfSome o (λ set. set.1 ≤ length text.now)) }
+/// The set whose text begins here, unless it is none.
+pub(crate) fn read_set(alloc: Global, text: &[char]) -> Result<Option<NextSet>, NoMemory>
+    ensures set { IfOk result (λ o. asked_by (set_body false text.now) ≡ option_map (shown_set text.now) o) }
+    ensures within { IfOk result (λ o. IfSome o (λ set. set.taken ≤ length text.now)) }
 {
     match set_members(alloc, text)? {
         Some(set) => {
             let SetText { members, taken } = set;
-            Ok(set_of(alloc, &members)?.map(|wanted| (wanted, taken)))
+            Ok(set_of(alloc, &members)?.map(|wanted| NextSet { wanted, taken }))
         }
         None => Ok(None),
     }

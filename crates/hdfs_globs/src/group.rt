@@ -1,9 +1,9 @@
 //! Brace groups: their alternatives, and whether a slash stands inside.
 
-ghost use Rattle.std.specs.Prelude.{◌≡◌, ◌+◌, ◌<◌, ◌≤◌, ◌^◌, ℕ, List as Items, [], ◌∷◌, ◌++◌, OnOk, Option, map, drop, length, IfOk, IfSome, Some, None, false};
+ghost use Rattle.std.specs.Prelude.{◌≡◌, ◌+◌, ◌<◌, ◌≤◌, ◌^◌, ℕ, List as Items, [], ◌∷◌, ◌++◌, OnOk, Option, drop, length, IfOk, IfSome, Some, None, false};
 ghost use Rattle.std.specs.Option.{option_map};
 ghost use Rattle.hdfs_globs.specs.Expansions.{Group as SpecGroup, group_at};
-ghost use Rattle.hdfs_globs.specs.GroupScans.{IsPassed, Scanned, group_sign_of, shown_group};
+ghost use Rattle.hdfs_globs.specs.GroupScans.{IsPassed, Scanned, group_sign_of, shown_group, shown_texts};
 
 use crate::characters::character_at;
 use hdfs_wire::NoMemory;
@@ -41,6 +41,7 @@ pub(crate) struct Scan {
     escaped: bool,
 }
 
+// What the character is; `escaped` says that a backslash stands before it, and so many groups are open inside.
 fn group_sign(escaped: bool, depth: usize, c: char) -> GroupSign
     ensures { result ≡ group_sign_of escaped depth c }
 {
@@ -59,6 +60,7 @@ fn group_sign(escaped: bool, depth: usize, c: char) -> GroupSign
 }
 
 impl Scan {
+    // Nothing of a group.
     fn new(alloc: Global) -> Scan
         ensures begins { (whole : Option SpecGroup) (text : Items ℕ) → whole ≡ group_at false 0 text → Scanned whole result text }
         ensures depth { result.depth ≡ 0 }
@@ -75,7 +77,8 @@ impl Scan {
     // Goes past the character, and answers whether the group ends with it.
     fn pass(&mut self, alloc: Global, c: char) -> Result<bool, NoMemory>
         requires { self.old.depth + 1 < 2 ^ 64 }
-        ensures passed { IfOk result (λ ended. (whole : Option SpecGroup) (text : Items ℕ) → Scanned whole self.old (c ∷ text) → IsPassed whole ended self.new text) }
+        ensures passed { IfOk result (λ ended. (whole : Option SpecGroup) (text : Items ℕ)
+            → Scanned whole self.old (c ∷ text) → IsPassed whole ended self.new text) }
         ensures depth { IfOk result (λ ended. self.new.depth ≤ self.old.depth + 1) }
     {
         match group_sign(self.escaped, self.depth, c) {
@@ -114,6 +117,7 @@ impl Scan {
         }
     }
 
+    // The group that ends before this place.
     fn into_group(self, after: usize) -> GroupText
         ensures alternatives { result.alternatives ≡ self.alternatives }
         ensures slash { result.slash ≡ self.slash }
@@ -131,8 +135,10 @@ impl Scan {
         }
     }
 
+    // Ends the alternative at hand, and begins the next.
     fn end_alternative(&mut self, alloc: Global) -> Result<(), NoMemory>
-        ensures alternatives { OnOk result (map (λ a. a.items) self.new.alternatives.items ≡ map (λ a. a.items) self.old.alternatives.items ++ self.old.current.items ∷ []) }
+        ensures alternatives { OnOk result (shown_texts self.new.alternatives
+            ≡ shown_texts self.old.alternatives ++ self.old.current.items ∷ []) }
         ensures current { OnOk result (self.new.current.items ≡ []) }
         ensures slash { self.new.slash ≡ self.old.slash }
         ensures depth { self.new.depth ≡ self.old.depth }

@@ -4,7 +4,6 @@
 mod characters;
 mod cut;
 mod expand;
-mod fault;
 mod glob;
 mod glob_set;
 mod group;
@@ -12,7 +11,6 @@ mod places;
 mod work;
 
 pub use expand::{expand_glob, get_path_components, unescape_component};
-pub use fault::NamesFault;
 pub use glob::GlobPattern;
 
 #[cfg(test)]

@@ -1,6 +1,6 @@
 //! The places of a text at which the parts of a glob that were read so far can end.
 
-ghost use Rattle.std.specs.Prelude.{◌≡◌, ◌+◌, ◌<◌, ◌≤◌, ℕ, Bool, false, [], replicate, IfOk, OnOk};
+ghost use Rattle.std.specs.Prelude.{◌≡◌, ◌+◌, ◌<◌, ◌≤◌, ℕ, false, [], replicate, IfOk, OnOk};
 ghost use Rattle.hdfs_globs.specs.Globs.Sign.{group_begins};
 ghost use Rattle.hdfs_globs.specs.Patterns.{one_of, sign_of};
 ghost use Rattle.hdfs_globs.specs.Places.{Marks, Places, StandsAs, State, at_end, at_or, either_of, filled, is_one, is_within, shifted, start, step};
@@ -24,6 +24,7 @@ pub(crate) struct Reached {
     groups: Vec<Group>,
 }
 
+// Whether the character lies in one of the ranges.
 fn is_within(ranges: &[(char, char)], c: char) -> bool
     ensures { result ≡ is_within ranges.now c }
 {
@@ -35,6 +36,7 @@ fn is_within(ranges: &[(char, char)], c: char) -> bool
     false
 }
 
+// Whether the character is what is wanted.
 fn is_wanted(wanted: &Wanted, c: char) -> bool
     ensures { result ≡ is_one (one_of wanted.now) c }
 {
@@ -46,6 +48,7 @@ fn is_wanted(wanted: &Wanted, c: char) -> bool
     }
 }
 
+// Whether this place is marked, and a character that is wanted stands behind it.
 fn goes_on(here: bool, wanted: &Wanted, text: &[char], at: usize) -> bool
     ensures { (p : Places) → here ≡ p at → result ≡ shifted (one_of wanted.now) text.now p (at + 1) }
 {
@@ -92,6 +95,7 @@ fn no_marks(alloc: Global, count: usize) -> Result<Vec<bool>, NoMemory>
     Ok(vec![in alloc; false; count]?)
 }
 
+// The same marks in memory of their own.
 fn copy_of(alloc: Global, marks: &[bool]) -> Result<Vec<bool>, NoMemory>
     ensures { IfOk result (λ v. v.items ≡ marks.now) }
 {
@@ -121,7 +125,8 @@ impl Reached {
 
     /// Goes past this part.
     pub(crate) fn pass(&mut self, alloc: Global, part: &Part, text: &[char]) -> Result<(), NoMemory>
-        ensures { OnOk result ((n : ℕ) (s : State) → StandsAs n self.old s → StandsAs n self.new (step text.now (sign_of part.now) s)) }
+        ensures { OnOk result ((n : ℕ) (s : State)
+            → StandsAs n self.old s → StandsAs n self.new (step text.now (sign_of part.now) s)) }
     {
         match part {
             Part::One(wanted) => shift(&mut self.places, wanted, text),
@@ -133,6 +138,7 @@ impl Reached {
         Ok(())
     }
 
+    // Opens a group.
     fn begin_group(&mut self, alloc: Global) -> Result<(), NoMemory>
         ensures { OnOk result ((n : ℕ) (s : State) → StandsAs n self.old s → StandsAs n self.new (step [] group_begins s)) }
     {
@@ -141,6 +147,7 @@ impl Reached {
         Ok(self.groups.push(Group { begun, ended })?)
     }
 
+    // Ends an alternative of the innermost group, and goes back to where that group began.
     fn begin_alternative(&mut self, alloc: Global) -> Result<(), NoMemory>
         ensures { OnOk result ((n : ℕ) (s : State) → StandsAs n self.old s → StandsAs n self.new (at_or s.places s.groups)) }
     {
@@ -154,6 +161,7 @@ impl Reached {
         }
     }
 
+    // Ends the innermost group: any of its alternatives has ended.
     fn end_group(&mut self)
         ensures { (n : ℕ) (s : State) → StandsAs n self.old s → StandsAs n self.new (at_end s.places s.groups) }
     {

@@ -1,15 +1,14 @@
 use super::*;
+use hdfs_names::NamesFault;
 use std::alloc::{AllocError, Global};
 use std::test::*;
 
-/// The texts, with a space between each two.
-fn joined(alloc: Global, texts: &[String]) -> Result<String, AllocError> {
+/// The texts, with a semicolon behind each.
+fn listed(alloc: Global, texts: &[&str]) -> Result<String, AllocError> {
     let mut all = String::new(alloc);
     for text in texts {
-        if !all.is_empty() {
-            all.push(' ')?;
-        }
-        all.push_str(text.as_str())?;
+        all.push_str(text)?;
+        all.push(';')?;
     }
     Ok(all)
 }
@@ -17,7 +16,10 @@ fn joined(alloc: Global, texts: &[String]) -> Result<String, AllocError> {
 /// What the pattern opens to, or that it is refused, and with which text.
 fn opened(alloc: Global, pattern: &str) -> Result<String, AllocError> {
     match expand_glob(alloc, pattern) {
-        Ok(texts) => joined(alloc, &texts),
+        Ok(texts) => {
+            let texts: Vec<&str> = texts.iter().map(|text| text.as_str()).collect(alloc)?;
+            listed(alloc, &texts)
+        }
         Err(NamesFault::InvalidPath(text)) => format!(in alloc; "refused {}", text.as_str()),
         Err(_) => format!(in alloc; "other"),
     }
@@ -51,30 +53,68 @@ fn is_refused(alloc: Global, glob: &str) -> bool {
 fn patterns_are_opened(rt: HostRuntime) -> Result<(), Fail> {
     let alloc = rt.alloc();
     for (pattern, wanted) in [
-        ("{a/b}", "a/b"),
-        ("{a/b,c/d}", "a/b c/d"),
-        ("p{a/b,c/d}s", "pa/bs pc/ds"),
-        ("{a,b}/{b,{c/d,e/f}}", "{a,b}/b {a,b}/c/d {a,b}/e/f"),
-        ("{a/b,c/d,{e,f}}", "a/b c/d {e,f}"),
-        ("/}{a/b}", "/}a/b"),
-        ("{a,b}/{c/\\d}", "{a,b}/c/d"),
+        ("", ";"),
+        ("a", "a;"),
+        ("{/", "{/;"),
+        ("{a/b}", "a/b;"),
+        ("{a/b,c/d}", "a/b;c/d;"),
+        ("p{a/b,c/d}s", "pa/bs;pc/ds;"),
+        ("{a,b}/{b,{c/d,e/f}}", "{a,b}/b;{a,b}/c/d;{a,b}/e/f;"),
+        ("{a/b,c/d,{e,f}}", "a/b;c/d;{e,f};"),
+        ("/}{a/b}", "/}a/b;"),
+        ("{a,b}/{c/\\d}", "{a,b}/c/d;"),
         (
             "/path/{to/nested,{file,other}}",
-            "/path/to/nested /path/{file,other}",
+            "/path/to/nested;/path/{file,other};",
         ),
-        ("/path/{to,{file,other}}", "/path/{to,{file,other}}"),
-        ("/path/{to,{file/other}}", "/path/to /path/file/other"),
-        ("a\\", "refused a\\"),
-        ("{a/b\\", "refused {a/b\\"),
-        ("{a/\\\\}", "refused {a/\\\\}"),
+        ("/path/{to,{file,other}}", "/path/{to,{file,other}};"),
+        ("/path/{to,{file/other}}", "/path/to;/path/file/other;"),
     ] {
-        assert_eq!(rt; opened(alloc, pattern)?.as_str(), wanted);
+        assert_eq!(rt; opened(alloc, pattern)?.as_str(), wanted, "{pattern}");
     }
-    let pieces = get_path_components(alloc, "/a//b")?;
-    assert_eq!(rt; pieces.len(), 2);
-    assert_eq!(rt; pieces[0], "a");
-    assert_eq!(rt; pieces[1], "b");
-    assert_eq!(rt; unescape_component(alloc, "a\\*")?.as_str(), "a*");
+    Ok(())
+}
+
+#[test]
+fn last_backslashes_are_refused(rt: HostRuntime) -> Result<(), Fail> {
+    let alloc = rt.alloc();
+    for (pattern, wanted) in [
+        ("a\\", "refused a\\"),
+        ("a\\\\", "a\\\\;"),
+        ("{a/b\\", "refused {a/b\\"),
+        ("{/a}\\", "refused {/a}\\"),
+        ("{a/\\\\}", "refused {a/\\\\}"),
+        ("{/\\\\}\\", "/\\\\;"),
+        ("{/\\\\,b}\\", "refused {/\\\\,b}\\"),
+    ] {
+        assert_eq!(rt; opened(alloc, pattern)?.as_str(), wanted, "{pattern}");
+    }
+    Ok(())
+}
+
+#[test]
+fn paths_are_cut(rt: HostRuntime) -> Result<(), Fail> {
+    let alloc = rt.alloc();
+    for (path, wanted) in [
+        ("", ""),
+        ("/", ""),
+        ("/a//b", "a;b;"),
+        ("a/b/", "a;b;"),
+        ("a\\/b", "a\\;b;"),
+    ] {
+        let pieces = get_path_components(alloc, path)?;
+        assert_eq!(rt; listed(alloc, &pieces)?.as_str(), wanted, "{path}");
+    }
+    Ok(())
+}
+
+#[test]
+fn components_are_unescaped(rt: HostRuntime) -> Result<(), Fail> {
+    let alloc = rt.alloc();
+    for (component, wanted) in [("", ""), ("a\\*", "a*"), ("a\\", "a"), ("\\\\", "\\")] {
+        let plain = unescape_component(alloc, component)?;
+        assert_eq!(rt; plain.as_str(), wanted, "{component}");
+    }
     Ok(())
 }
 
@@ -151,10 +191,17 @@ fn globs_are_refused(rt: HostRuntime) {
     for glob in ["a{b", "file[", "abc\\", "[]a]", "[z-a]", "[a[b]", "[!]"] {
         assert!(rt; is_refused(alloc, glob), "{glob}");
     }
+}
+
+#[test]
+fn wildcards_are_found(rt: HostRuntime) {
+    let alloc = rt.alloc();
     for (glob, wanted) in [
         ("a\\*", false),
         ("a*", true),
+        ("a?", true),
         ("[a]", true),
+        ("{a,b}", true),
         ("a,b}", false),
     ] {
         assert_eq!(rt; wild(alloc, glob), Some(wanted), "{glob}");

@@ -14,7 +14,7 @@ pub(crate) struct Work {
 }
 
 impl Work {
-    /// The whole pattern. It takes no memory.
+    /// The whole pattern.
     pub(crate) fn of_pattern(text: Vec<char>) -> Work
         ensures text { result.text ≡ text }
         ensures from { result.from ≡ 0 }

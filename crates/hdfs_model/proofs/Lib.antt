@@ -1,4 +1,3 @@
-pub mod Ancestors
 pub mod Folding
 pub mod Frames
 pub mod Loads

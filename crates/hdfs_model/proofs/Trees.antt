@@ -7,7 +7,7 @@ use Rattle.std.specs.List.{All, list_any}
 use Rattle.std.specs.Str.{bytes_eq}
 use Rattle.hdfs_model.specs.Paths.{root, is_path, is_slash, above_from, ancestors, parent_of}
 use Rattle.hdfs_model.specs.Files.{Kind, Directory, ClosedFile, OpenFile, IsTree, NoFile, NotDirectory, is_file, no_file, no_file_at}
-use Rattle.hdfs_model.proofs.Ancestors.{parent_push}
+use Rattle.hdfs_names.proofs.Ancestors.{parent_push}
 
 -- nothing stands above, or one path does last, and before it what stands above that
 abbrev Above : List ℕ → List ℕ → Type 0

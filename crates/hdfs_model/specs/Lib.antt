@@ -7,7 +7,7 @@ pub mod Headline
 pub mod Limits
 pub mod Loading
 pub mod Namenode
-pub mod Paths
+pub use Rattle.hdfs_names.specs.Paths
 pub mod Picture
 pub mod Reading
 pub mod Sessions

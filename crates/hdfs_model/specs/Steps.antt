@@ -6,7 +6,7 @@ use Rattle.hdfs_model.specs.declared.commands.Command.{Command}
 use Rattle.hdfs_model.specs.declared.commands.Command.TheVariants.{Read}
 use Rattle.hdfs_model.specs.declared.commands.Reply.{Reply}
 use Rattle.hdfs_model.specs.declared.commands.Reply.TheVariants.{Bytes}
-use Rattle.hdfs_model.specs.Paths.{is_path, resolved}
+use Rattle.hdfs_model.specs.Paths.{is_path, absolute}
 use Rattle.hdfs_model.specs.Files.{State, Node, Dir, File, Writing, Content, NoFile, Missing, no_file, kinds_of}
 
 -- why a command is refused
@@ -62,7 +62,7 @@ path_of (Read path offset len) = path
 
 -- the path at which a command is done
 abbrev pub target_of : World → Command → List ℕ
-target_of world command = resolved world.home (path_of command)
+target_of world command = absolute world.home (path_of command)
 
 -- one command: the first refusal that holds, else what it does
 abbrev pub step : World → State → Command → Outcome

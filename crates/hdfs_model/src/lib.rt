@@ -7,7 +7,6 @@ mod cluster;
 mod commands;
 mod errors;
 mod messages;
-mod paths;
 mod picture;
 mod store;
 
@@ -16,9 +15,9 @@ pub use attributes::Attributes;
 pub use cluster::Cluster;
 pub use commands::{Command, Reply, Settings};
 pub use errors::{ArgFault, Fault, HdfsError, TransferFault};
+pub use hdfs_names::{absolute_path, is_path, nearest_ancestor, parent_of};
 pub use messages::{
     Block, DatanodeId, DatanodeInfo, LocatedBlock, LocatedBlocks, ReadAsk, ServerDefaults, Token,
 };
-pub use paths::{above, is_path, parent};
 pub use picture::{BlockEntry, Entry, FileEntry, LastAnswer, OpenRead, ReadPlace};
 pub use store::{AddFault, FaultLine, Line, ReadKind, Store};

@@ -1,3 +1,4 @@
+pub mod Ancestors
 pub mod Mounted
 pub mod Configured
 pub mod Shuffling

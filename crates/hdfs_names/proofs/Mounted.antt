@@ -7,7 +7,8 @@ use Rattle.std.proofs.lemmas.Bool.{false_from_ne_true, cases_Bool}
 use Rattle.std.proofs.lemmas.Bool.Decides.{Decides-eqb}
 use Rattle.std.proofs.lemmas.Slice.Eq.{bytes_eq-Decides, starts_is}
 use Rattle.std.proofs.lemmas.List.{append-nil, append_cancel_left, drop_at, drop_more, drop_all}
-use Rattle.hdfs_names.specs.Mounts.{resolved, absolute, is_absolute_or_empty, IsWithoutEnd, first_match}
+use Rattle.hdfs_names.specs.Mounts.{resolved, is_absolute_or_empty, IsWithoutEnd, first_match}
+use Rattle.hdfs_names.specs.Paths.{absolute}
 use Rattle.hdfs_names.specs.declared.mounts.MountLink.{MountLink}
 
 pub starts : (path front rest : List ℕ) → path ≡ front ++ rest → starts_with nat_eq path front ≡ true

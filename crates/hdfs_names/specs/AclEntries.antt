@@ -5,7 +5,7 @@ use Rattle.std.specs.Ordering.{on, eq_of_both}
 use Rattle.std.specs.Cmp.{IsEquivalence, and_equiv, on_equiv, nat_eq_equiv}
 use Rattle.std.specs.Cmp.Lexicographic.{pointwise, lists_equiv, options_equiv}
 use Rattle.hdfs_names.specs.Acls.{type_number, scope_number, action_number}
-use Rattle.hdfs_names.specs.declared.acl.AclEntry.{AclEntry}
+use Rattle.hdfs_names.specs.declared.acl_entry.AclEntry.{AclEntry}
 
 -- the two entries are of one type, scope and name, and allow the same
 abbrev pub entry_eq : AclEntry → AclEntry → Bool

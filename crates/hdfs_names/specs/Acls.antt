@@ -1,11 +1,11 @@
 -- The texts and numbers of access control lists.
 use Rattle.std.specs.Prelude.{ℕ, List, codes}
-use Rattle.hdfs_names.specs.declared.acl.AclEntryType.{AclEntryType}
-use Rattle.hdfs_names.specs.declared.acl.AclEntryType.TheVariants as types
-use Rattle.hdfs_names.specs.declared.acl.AclEntryScope.{AclEntryScope}
-use Rattle.hdfs_names.specs.declared.acl.AclEntryScope.TheVariants as scopes
-use Rattle.hdfs_names.specs.declared.acl.FsAction.{FsAction}
-use Rattle.hdfs_names.specs.declared.acl.FsAction.TheVariants as actions
+use Rattle.hdfs_names.specs.declared.acl_entry_type.AclEntryType.{AclEntryType}
+use Rattle.hdfs_names.specs.declared.acl_entry_type.AclEntryType.TheVariants as types
+use Rattle.hdfs_names.specs.declared.acl_entry_scope.AclEntryScope.{AclEntryScope}
+use Rattle.hdfs_names.specs.declared.acl_entry_scope.AclEntryScope.TheVariants as scopes
+use Rattle.hdfs_names.specs.declared.fs_action.FsAction.{FsAction}
+use Rattle.hdfs_names.specs.declared.fs_action.FsAction.TheVariants as actions
 
 -- whom an entry is about
 abbrev pub type_text : AclEntryType → List ℕ

@@ -5,4 +5,5 @@ pub mod Acls
 pub mod Shown
 pub mod Configurations
 pub mod Homes
+pub mod Paths
 pub mod AclEntries

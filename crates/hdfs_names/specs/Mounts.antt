@@ -20,11 +20,6 @@ resolved viewfs hdfs path =
     else if starts_with nat_eq path (viewfs ++ 47 ∷ []) then Some (hdfs ++ drop (length viewfs) path)
     else None
 
--- the path that a text stands for: the text where it begins with a slash, else the home, a slash and the text
-abbrev pub absolute : List ℕ → List ℕ → List ℕ
-absolute home [] = home ++ 47 ∷ []
-absolute home (c ∷ text) = if c == 47 then c ∷ text else home ++ 47 ∷ c ∷ text
-
 -- the answer of this link, where it matches, and else the other
 abbrev pub answer_or : ℕ → ℕ → Option (List ℕ) → Option Resolved → Option Resolved
 answer_or link service (Some path) other = Some (record { link = link; service = service; path = path })

@@ -1,15 +1,16 @@
 //! Mounts: which name service a path belongs to.
 
-ghost use Rattle.std.specs.Prelude.{◌≡◌, ◌≢◌, ◌++◌, ◌∷◌, [], List as Items, ℕ, true, Bool, false, ◌⊎◌, IfOk, IfErr, IfSome, IfNone};
+ghost use Rattle.std.specs.Prelude.{◌≡◌, ◌≢◌, ◌++◌, ◌∷◌, [], List as Items, ℕ, true, false, ◌⊎◌, IfOk, IfErr, IfSome, IfNone};
 ghost use Rattle.std.specs.Option.{option_map};
-ghost use Rattle.hdfs_names.specs.Mounts.{IsWithoutEnd, resolved, absolute, first_match, is_absolute_or_empty, home_prefix};
+ghost use Rattle.hdfs_names.specs.Mounts.{IsWithoutEnd, resolved, first_match, is_absolute_or_empty, home_prefix};
+ghost use Rattle.hdfs_names.specs.Paths.{absolute};
 ghost use Rattle.hdfs_names.specs.Configurations.{setting};
 ghost use Rattle.hdfs_names.specs.Settings.{mount_home_key};
 ghost use Rattle.hdfs_names.specs.Homes.{home_root_of};
 
-use crate::acl::refused;
+use crate::fault::{NamesFault, refused};
+use crate::paths::absolute_path;
 use crate::settings::Configuration;
-use hdfs_globs::NamesFault;
 use hdfs_wire::{List, NoMemory, Text};
 use std::alloc::Global;
 
@@ -102,7 +103,7 @@ impl MountTable {
         Ok(self.resolve_absolute(alloc, path.as_str())?)
     }
 
-    /// Where a path with a leading slash leads.
+    // Where a path with a leading slash leads.
     fn resolve_absolute(&self, alloc: Global, path: &str) -> Result<Resolved, NoMemory>
         requires path { is_absolute_or_empty path.now ≡ true }
         requires fallback { self.now.fallback.viewfs_path ≡ [] }
@@ -153,7 +154,7 @@ pub fn build_home_dir(
     Ok(Text::from_string(format!(in alloc; "{cut}/{username}")?))
 }
 
-/// The directory of home directories.
+// The directory of home directories.
 fn home_root<'a>(
     alloc: Global,
     scheme: &str,
@@ -168,7 +169,7 @@ fn home_root<'a>(
     }
 }
 
-/// The setting that names the directory of home directories, where there is one.
+// The setting that names the directory of home directories, where there is one.
 fn home_prefix<'a>(
     alloc: Global,
     scheme: &str,
@@ -190,7 +191,7 @@ fn home_prefix<'a>(
     Ok(None)
 }
 
-/// The directory of home directories of a cluster's mounts, where it is set.
+// The directory of home directories of a cluster's mounts, where it is set.
 fn mount_home<'a>(
     alloc: Global,
     host: &str,
@@ -202,7 +203,7 @@ fn mount_home<'a>(
     Ok(config.get(key.as_str()))
 }
 
-/// The text without the slashes at its end. It takes no memory.
+// The text without the slashes at its end.
 fn without_end(text: &str) -> &str
     ensures { IsWithoutEnd text.now result.now }
 {
@@ -213,7 +214,7 @@ fn without_end(text: &str) -> &str
     cut
 }
 
-/// What stands behind a text at the front of a path. It takes no memory.
+/// What stands behind a text at the front of a path.
 pub(crate) fn behind<'a>(path: &'a str, front: &str) -> Option<&'a str>
     ensures some { IfSome result (λ rest. path.now ≡ front.now ++ rest.now) }
     ensures none { IfNone result ((rest : Items ℕ) → path.now ≢ front.now ++ rest) }
@@ -221,7 +222,7 @@ pub(crate) fn behind<'a>(path: &'a str, front: &str) -> Option<&'a str>
     path.strip_prefix(front)
 }
 
-/// Whether a text is empty or begins with a slash. It takes no memory.
+// Whether a text is empty or begins with a slash.
 fn begins_step(text: &str) -> bool
     ensures { result ≡ is_absolute_or_empty text.now }
 {
@@ -231,19 +232,9 @@ fn begins_step(text: &str) -> bool
     }
 }
 
-/// Two texts behind each other.
+// Two texts behind each other.
 fn joined(alloc: Global, first: &str, second: &str) -> Result<Text, NoMemory>
     ensures { IfOk result (λ text. text ≡ first.now ++ second.now) }
 {
     Ok(Text::from_string(format!(in alloc; "{first}{second}")?))
-}
-
-/// The path that a text stands for under a home directory.
-fn absolute_path(alloc: Global, home: &str, text: &str) -> Result<Text, NoMemory>
-    ensures { IfOk result (λ path. path ≡ absolute home.now text.now) }
-{
-    if text.as_bytes().first() == Some(&b'/') {
-        return Ok(Text::from_str(alloc, text)?);
-    }
-    Ok(Text::from_string(format!(in alloc; "{home}/{text}")?))
 }

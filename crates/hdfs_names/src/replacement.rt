@@ -1,6 +1,6 @@
 //! When a failed datanode of a pipeline is replaced.
 
-ghost use Rattle.std.specs.Prelude.{◌≡◌, Bool, true, ◌↔◌, IsTrue};
+ghost use Rattle.std.specs.Prelude.{◌≡◌, true, ◌↔◌, IsTrue};
 
 /// When a datanode is added in the place of one that failed.
 #[derive(Clone, Copy, Debug, PartialEq, Eq)]
@@ -27,7 +27,7 @@ impl ReplaceDatanodeOnFailure {
     ghost use Rattle.hdfs_names.specs.Replacements.{ShouldReplace};
     ghost use Rattle.hdfs_names.specs.Shown.{shown};
 
-    /// This policy, with or without best effort. It takes no memory.
+    /// This policy, with or without best effort.
     pub fn new(policy: Policy, best_effort: bool) -> ReplaceDatanodeOnFailure
         ensures { shown result ≡ (policy, best_effort) }
     {
@@ -37,14 +37,14 @@ impl ReplaceDatanodeOnFailure {
         }
     }
 
-    /// The default policy with best effort. It takes no memory.
+    /// The default policy with best effort.
     pub fn default() -> ReplaceDatanodeOnFailure
         ensures { shown result ≡ (Policy.Default, true) }
     {
         ReplaceDatanodeOnFailure::new(Policy::Default, true)
     }
 
-    /// Whether a write goes on with the nodes that are left where no replacement is found. It takes no memory.
+    /// Whether a write goes on with the nodes that are left where no replacement is found.
     pub fn is_best_effort(&self) -> bool
         ensures { result ≡ (shown self.now).1 }
     {
@@ -53,7 +53,6 @@ impl ReplaceDatanodeOnFailure {
 
     /// Whether a datanode is added. `replication` is the wanted number of nodes, `existing` the number that is left;
     /// `is_append` says that the block was appended to, and `is_hflushed` that its bytes were flushed to the datanodes.
-    /// It takes no memory.
     pub fn should_replace(
         &self,
         replication: u32,

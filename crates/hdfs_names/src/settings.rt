@@ -1,18 +1,17 @@
 //! Settings, and what is read of them.
 
-ghost use Rattle.std.specs.Prelude.{◌≡◌, ◌≢◌, ◌++◌, ℕ, Bool, true, false, ◌⊎◌, List as Items, map, IfOk, IfErr, IfSome, IsPermutation, string_bytes};
+ghost use Rattle.std.specs.Prelude.{◌≡◌, ◌≢◌, ◌++◌, ◌==◌, ℕ, true, false, ◌⊎◌, List as Items, map, IfOk, IfErr, IsPermutation, string_bytes};
 ghost use Rattle.std.specs.Option.{option_map};
 ghost use Rattle.std.specs.List.{filter_map, slice_split};
-ghost use Rattle.std.specs.Prelude.{◌==◌};
-ghost use Rattle.hdfs_names.specs.Settings.{last_value, boolean, addresses, addresses_of_ids, address_key, resolve_key, random_key, provider_key, mount_of};
+ghost use Rattle.hdfs_names.specs.Settings.{last_value, boolean, addresses, address_key, resolve_key, random_key, provider_key, mount_of};
 ghost use Rattle.hdfs_names.specs.Replacements.{replacement, policy_named};
 ghost use Rattle.hdfs_names.specs.Shown.{shown};
 ghost use Rattle.rand.specs.Shuffle.{shuffled};
 ghost use Rattle.hdfs_names.specs.Configurations.{setting, entries_of, pair_text, mount_text, mount_by, IsTable};
 
+use crate::fault::NamesFault;
 use crate::mounts::behind;
 use crate::replacement::{Policy, ReplaceDatanodeOnFailure};
-use hdfs_globs::NamesFault;
 use hdfs_wire::NoMemory;
 use rand::seq::SliceRandom;
 use rand_core::Rng;
@@ -21,7 +20,7 @@ use std::collections::BTreeMap;
 
 /// Settings: pairs of keys and values, as Hadoop's site files have them. A look-up takes a number of steps that is
 /// logarithmic in the number of keys.
-#[derive(Drop)]
+#[derive(Debug, Drop)]
 pub struct Configuration {
     map: BTreeMap<String, String>,
 }
@@ -42,7 +41,7 @@ impl Configuration {
         Ok(Configuration { map })
     }
 
-    /// The value of a key. It takes no memory.
+    /// The value of a key.
     pub fn get(&self, key: &str) -> Option<&str>
         ensures { option_map (λ x. x.now) result ≡ setting self.now key.now }
     {
@@ -52,7 +51,7 @@ impl Configuration {
         }
     }
 
-    /// Whether the value of a key is `true`, in any ASCII case; `default` where the key isn't there. It takes no memory.
+    /// Whether the value of a key is `true`, in any ASCII case; `default` where the key isn't there.
     pub fn get_boolean(&self, key: &str, default: bool) -> bool
         ensures { result ≡ boolean (setting self.now key.now) default }
     {
@@ -62,7 +61,7 @@ impl Configuration {
         }
     }
 
-    /// The policy by which failed datanodes are replaced. It takes no memory.
+    /// The policy by which failed datanodes are replaced.
     pub fn get_replace_datanode_on_failure_policy(&self) -> ReplaceDatanodeOnFailure
         ensures { shown result ≡ replacement (setting self.now) }
     {
@@ -97,7 +96,7 @@ impl Configuration {
 
     /// The addresses of the namenodes of a name service: those of the ids of `dfs.ha.namenodes.NS`, split at commas, in order,
     /// ids without an address left out. Where `dfs.client.failover.random.order.NS` is true they are shuffled by the
-    /// generator; else it isn't touched.
+    /// generator; else, and where the call is refused, it isn't touched.
     ///
     /// `ResolveNeeded`: `dfs.client.failover.resolve-needed.NS` is true. `NoMemory` is the only other refusal.
     pub fn get_urls_for_nameservice<G: Rng>(
@@ -110,8 +109,10 @@ impl Configuration {
         ensures in_order { boolean (setting self.now (random_key nameservice.now)) false ≡ false
             → IfOk result (λ v. map string_bytes v.items ≡ addresses (setting self.now) nameservice.now) }
         ensures shuffled { boolean (setting self.now (random_key nameservice.now)) false ≡ true
-            → IfOk result (λ v. (map string_bytes v.items, G.stream rng.new) ≡ shuffled (addresses (setting self.now) nameservice.now) 0 (G.stream rng.old)) }
+            → IfOk result (λ v. (map string_bytes v.items, G.stream rng.new)
+            ≡ shuffled (addresses (setting self.now) nameservice.now) 0 (G.stream rng.old)) }
         ensures untouched { boolean (setting self.now (random_key nameservice.now)) false ≡ false → rng.new ≡ rng.old }
+        ensures kept { IfErr result (λ _. rng.new ≡ rng.old) }
         ensures known { IfOk result (λ _. boolean (setting self.now (resolve_key nameservice.now)) false ≡ false) }
         ensures refused { IfErr result (λ e. (e ≡ NamesFault.NoMemory)
             ⊎ ((e ≡ NamesFault.ResolveNeeded) × (boolean (setting self.now (resolve_key nameservice.now)) false ≡ true))) }
@@ -154,7 +155,7 @@ impl Configuration {
         })
     }
 
-    /// The mounts whose links' keys begin with this text, and whose fallback has this key, in the order of their keys.
+    // The mounts whose links' keys begin with this text, and whose fallback has this key, in the order of their keys.
     fn mounts_by(
         &self,
         alloc: Global,
@@ -173,7 +174,7 @@ impl Configuration {
         Ok(mounts)
     }
 
-    /// Whether the setting of this key and name is true; not where there is none.
+    // Whether the setting of this key and name is true; not where there is none.
     fn is_set(&self, alloc: Global, key: &str, name: &str) -> Result<bool, NoMemory>
         ensures { IfOk result (λ b. b ≡ boolean (setting self.now (key.now ++ name.now)) false) }
     {
@@ -181,7 +182,7 @@ impl Configuration {
         Ok(self.get_boolean(key.as_str(), false))
     }
 
-    /// The addresses of a name service's namenodes in order.
+    // The addresses of a name service's namenodes in order.
     fn addresses_of(&self, alloc: Global, nameservice: &str) -> Result<Vec<String>, NoMemory>
         ensures { IfOk result (λ v. map string_bytes v.items ≡ addresses (setting self.now) nameservice.now) }
     {
@@ -192,7 +193,7 @@ impl Configuration {
         }
     }
 
-    /// The addresses of these ids, separated by commas, in order.
+    // The addresses of these ids, separated by commas, in order.
     fn addresses_at(
         &self,
         alloc: Global,
@@ -211,7 +212,7 @@ impl Configuration {
         Ok(addresses)
     }
 
-    /// The address of a namenode of a name service, where it has one.
+    // The address of a namenode of a name service, where it has one.
     fn address(&self, alloc: Global, nameservice: &str, id: &str) -> Result<Option<&str>, NoMemory>
         ensures { IfOk result (λ o. option_map (λ x. x.now) o ≡ setting self.now (address_key nameservice.now id.now)) }
     {
@@ -220,7 +221,7 @@ impl Configuration {
     }
 }
 
-/// Shuffles the addresses by the generator. It takes no memory.
+// Shuffles the addresses by the generator.
 fn reorder<G: Rng>(urls: &mut Vec<String>, rng: &mut G)
     ensures permutation { IsPermutation urls.old.items urls.new.items }
     ensures drawn { (urls.new.items, G.stream rng.new) ≡ shuffled urls.old.items 0 (G.stream rng.old) }
@@ -228,7 +229,7 @@ fn reorder<G: Rng>(urls: &mut Vec<String>, rng: &mut G)
     urls.shuffle(rng);
 }
 
-/// The policy of this name, in any ASCII case. It takes no memory.
+// The policy of this name, in any ASCII case.
 fn policy_of(name: Option<&str>) -> Policy
     ensures { result ≡ policy_named (option_map (λ x. x.now) name.entry) }
 {
@@ -244,7 +245,7 @@ fn policy_of(name: Option<&str>) -> Policy
     }
 }
 
-/// What a setting says of the mounts whose links' keys begin with this text, and whose fallback has this key.
+// What a setting says of the mounts whose links' keys begin with this text, and whose fallback has this key.
 fn mount_at(
     alloc: Global,
     link: &str,

@@ -42,16 +42,76 @@ fn link(alloc: Global, viewfs: &str, hdfs: &str) -> Result<MountLink, NamesFault
 }
 
 #[test]
+fn paths_are_told(rt: HostRuntime) {
+    for (path, wanted) in [
+        ("", false),
+        ("/", true),
+        ("a", false),
+        ("/a/b", true),
+        ("/a/", false),
+        ("/a//b", false),
+        ("/./b", false),
+        ("/a/..", false),
+        ("/.../b", true),
+    ] {
+        assert_eq!(rt; is_path(path), wanted, "{path}");
+    }
+}
+
+#[test]
+fn ancestors_are_told(rt: HostRuntime) {
+    for (path, above, parent) in [
+        ("/", None, "/"),
+        ("/a", None, "/"),
+        ("/a/b", Some("/a"), "/a"),
+        ("/a/b/c", Some("/a/b"), "/a/b"),
+    ] {
+        assert_eq!(rt; nearest_ancestor(path), above, "{path}");
+        assert_eq!(rt; parent_of(path), parent, "{path}");
+    }
+}
+
+#[test]
+fn texts_stand_for_paths(rt: HostRuntime) -> Result<(), Fail> {
+    for (text, wanted) in [("/a", "/a"), ("a/b", "/user/u/a/b"), ("", "/user/u/")] {
+        let path = absolute_path(rt.alloc(), "/user/u", text)?;
+        assert_eq!(rt; path.as_str(), wanted, "{text}");
+    }
+    Ok(())
+}
+
+#[test]
 fn settings_are_looked_up(rt: HostRuntime) -> Result<(), Fail> {
     let alloc = rt.alloc();
     let config = had(settings(
         alloc,
-        &[("k", "1"), ("k", "2"), ("yes", "TRUE"), ("no", "x")],
+        &[("k", "1"), ("", "nameless"), ("k", "2"), ("empty", "")],
     ))?;
-    assert_eq!(rt; config.get("k"), Some("2"));
-    assert_eq!(rt; config.get("j"), None);
-    for (key, wanted) in [("yes", true), ("no", false), ("absent", true)] {
-        assert_eq!(rt; config.get_boolean(key, true), wanted, "at {key}");
+    for (key, wanted) in [
+        ("k", Some("2")),
+        ("", Some("nameless")),
+        ("empty", Some("")),
+        ("K", None),
+        ("absent", None),
+    ] {
+        assert_eq!(rt; config.get(key), wanted, "at {key}");
+    }
+    let shown = format!(in alloc; "{config:?}")?;
+    assert!(rt; !shown.is_empty());
+    Ok(())
+}
+
+#[test]
+fn booleans_are_looked_up(rt: HostRuntime) -> Result<(), Fail> {
+    let config = had(settings(rt.alloc(), &[("yes", "TRUE"), ("no", "x"), ("empty", "")]))?;
+    for (key, default, wanted) in [
+        ("yes", false, true),
+        ("no", true, false),
+        ("empty", true, false),
+        ("absent", true, true),
+        ("absent", false, false),
+    ] {
+        assert_eq!(rt; config.get_boolean(key, default), wanted, "at {key}");
     }
     Ok(())
 }
@@ -127,59 +187,79 @@ fn mounts_are_told(rt: HostRuntime) -> Result<(), Fail> {
     Ok(())
 }
 
+/// A key of the settings of replacement.
+const ENABLE: &str = "dfs.client.block.write.replace-datanode-on-failure.enable";
+
+const BEST: &str = "dfs.client.block.write.replace-datanode-on-failure.best-effort";
+
+const POLICY: &str = "dfs.client.block.write.replace-datanode-on-failure.policy";
+
+/// The policy of one setting.
+fn policy_of(
+    alloc: Global,
+    key: &str,
+    value: &str,
+) -> Result<ReplaceDatanodeOnFailure, NamesFault> {
+    Ok(settings(alloc, &[(key, value)])?.get_replace_datanode_on_failure_policy())
+}
+
 #[test]
-fn datanodes_are_replaced(rt: HostRuntime) -> Result<(), Fail> {
-    const ENABLE: &str = "dfs.client.block.write.replace-datanode-on-failure.enable";
-    const BEST: &str = "dfs.client.block.write.replace-datanode-on-failure.best-effort";
-    const POLICY: &str = "dfs.client.block.write.replace-datanode-on-failure.policy";
-    let alloc = rt.alloc();
-    let nothing = had(settings(alloc, &[]))?;
-    assert!(rt;
-        !nothing
-            .get_replace_datanode_on_failure_policy()
-            .is_best_effort()
-    );
+fn best_effort_is_read(rt: HostRuntime) -> Result<(), Fail> {
     assert!(rt; ReplaceDatanodeOnFailure::default().is_best_effort());
     for (key, value, wanted) in [
+        ("another key", "", false),
         (ENABLE, "false", false),
         (BEST, "true", true),
         (BEST, "false", false),
         (BEST, "invalid", false),
     ] {
-        let policy = had(settings(
-            alloc,
-            &[(key, value)],
-        ))?.get_replace_datanode_on_failure_policy();
-        assert_eq!(rt; policy.is_best_effort(), wanted, "at {value}");
+        let policy = had(policy_of(rt.alloc(), key, value))?;
+        assert_eq!(rt; policy.is_best_effort(), wanted, "{key} {value}");
     }
-    for (name, wanted) in [("never", false), ("ALWAYS", true), ("DISABLE", true)] {
-        let policy = had(settings(
-            alloc,
-            &[(POLICY, name)],
-        ))?.get_replace_datanode_on_failure_policy();
+    Ok(())
+}
+
+#[test]
+fn policies_are_read(rt: HostRuntime) -> Result<(), Fail> {
+    for (key, value, wanted) in [
+        (POLICY, "never", false),
+        (POLICY, "ALWAYS", true),
+        (POLICY, "DISABLE", true),
+        (ENABLE, "false", false),
+    ] {
+        let policy = had(policy_of(rt.alloc(), key, value))?;
         assert_eq!(rt;
             policy.should_replace(3, 1, false, false),
             wanted,
-            "at {name}"
-        );
-    }
-    for (policy, existing, is_append, wanted) in [
-        (Policy::Default, 1, false, true),
-        (Policy::Default, 2, false, false),
-        (Policy::Default, 2, true, true),
-        (Policy::Always, 0, false, false),
-        (Policy::Always, 1, false, true),
-        (Policy::Always, 2, false, true),
-        (Policy::Always, 3, false, false),
-    ] {
-        let policy = ReplaceDatanodeOnFailure::new(policy, true);
-        assert_eq!(rt;
-            policy.should_replace(3, existing, is_append, false),
-            wanted,
-            "at {existing}"
+            "{key} {value}"
         );
     }
     Ok(())
+}
+
+#[test]
+fn datanodes_are_replaced(rt: HostRuntime) {
+    for (policy, existing, is_append, is_hflushed, wanted) in [
+        (Policy::Default, 1, false, false, true),
+        (Policy::Default, 2, false, false, false),
+        (Policy::Default, 2, true, false, true),
+        (Policy::Default, 2, false, true, true),
+        (Policy::Default, 3, true, true, false),
+        (Policy::Default, 0, true, true, false),
+        (Policy::Always, 0, false, false, false),
+        (Policy::Always, 1, false, false, true),
+        (Policy::Always, 2, false, false, true),
+        (Policy::Always, 3, false, true, false),
+        (Policy::Never, 1, true, true, false),
+        (Policy::Disable, 1, true, true, false),
+    ] {
+        let answer = ReplaceDatanodeOnFailure::new(policy, true);
+        assert_eq!(rt;
+            answer.should_replace(3, existing, is_append, is_hflushed),
+            wanted,
+            "{policy:?} {existing} {is_append} {is_hflushed}"
+        );
+    }
 }
 
 #[test]
@@ -272,45 +352,80 @@ fn homes_are_built(rt: HostRuntime) -> Result<(), Fail> {
 }
 
 #[test]
-fn entries_are_read_and_written(rt: HostRuntime) -> Result<(), Fail> {
+fn actions_are_read_and_written(rt: HostRuntime) -> Result<(), Fail> {
     let alloc = rt.alloc();
-    let action = had(FsAction::parse(alloc, "r-x"))?;
-    assert_eq!(rt; action, FsAction::ReadExecute);
-    assert_eq!(rt; action.number(), 5);
+    for (number, text) in (0..).zip(["---", "--x", "-w-", "-wx", "r--", "r-x", "rw-", "rwx"]) {
+        let action = FsAction::from_number(number);
+        assert_eq!(rt; action.number(), number, "{text}");
+        assert_eq!(rt; format!(in alloc; "{action}")?.as_str(), text);
+        assert_eq!(rt; had(FsAction::parse(alloc, text))?, action, "{text}");
+    }
+    assert_eq!(rt; FsAction::from_number(8), FsAction::None);
+    Ok(())
+}
+
+#[test]
+fn types_are_read_and_written(rt: HostRuntime) -> Result<(), Fail> {
+    let alloc = rt.alloc();
+    for (number, text) in (0..).zip(["user", "group", "mask", "other"]) {
+        let kind = AclEntryType::from_number(number);
+        assert_eq!(rt; kind.number(), number, "{text}");
+        assert_eq!(rt; format!(in alloc; "{kind}")?.as_str(), text);
+        assert_eq!(rt; had(AclEntryType::parse(alloc, text))?, kind, "{text}");
+    }
+    assert_eq!(rt; AclEntryType::from_number(4), AclEntryType::User);
     assert_eq!(rt;
         had(AclEntryType::parse(alloc, "USER"))?,
         AclEntryType::User
     );
-    let text = refused_text(AclEntryType::parse(alloc, "x"));
-    assert_eq!(rt; text.as_ref().map(|text| text.as_str()), Some("x"));
-    for (number, text) in (0..).zip(["---", "--x", "-w-", "-wx", "r--", "r-x", "rw-", "rwx"]) {
-        let action = FsAction::from_number(number);
-        let shown = format!(in alloc; "{action}")?;
-        assert_eq!(rt; shown.as_str(), text);
-        assert_eq!(rt; had(FsAction::parse(alloc, shown.as_str()))?, action);
+    Ok(())
+}
+
+#[test]
+fn scopes_are_read_and_written(rt: HostRuntime) -> Result<(), Fail> {
+    let alloc = rt.alloc();
+    for (number, text) in (0..).zip(["access", "default"]) {
+        let scope = AclEntryScope::from_number(number);
+        assert_eq!(rt; scope.number(), number, "{text}");
+        assert_eq!(rt; format!(in alloc; "{scope}")?.as_str(), text);
+        assert_eq!(rt; had(AclEntryScope::parse(alloc, text))?, scope, "{text}");
     }
+    assert_eq!(rt; AclEntryScope::from_number(2), AclEntryScope::Access);
+    Ok(())
+}
+
+#[test]
+fn other_texts_are_refused(rt: HostRuntime) {
+    let alloc = rt.alloc();
+    for text in ["", "x", "RWX", "rwxr", "users"] {
+        let refused = [
+            refused_text(FsAction::parse(alloc, text)),
+            refused_text(AclEntryType::parse(alloc, text)),
+            refused_text(AclEntryScope::parse(alloc, text)),
+        ];
+        for kept in &refused {
+            assert_eq!(rt;
+                kept.as_ref().map(|kept| kept.as_str()),
+                Some(text),
+                "{text}"
+            );
+        }
+    }
+}
+
+#[test]
+fn entries_are_copied(rt: HostRuntime) -> Result<(), Fail> {
+    let alloc = rt.alloc();
     let entry = AclEntry::new(
         AclEntryType::Mask,
         AclEntryScope::Default,
-        action,
+        FsAction::ReadExecute,
         Some(Text::from_str(alloc, "u")?),
     );
     let copy = entry.copy(alloc)?;
     assert!(rt; copy == entry);
-    assert_eq!(rt; entry.kind.number(), 2);
-    assert_eq!(rt; entry.scope.number(), 1);
-    assert_eq!(rt; entry.name.as_ref().map(|name| name.as_str()), Some("u"));
-    for (number, text) in (0..).zip(["user", "group", "mask", "other"]) {
-        let kind = AclEntryType::from_number(number);
-        let shown = format!(in alloc; "{kind}")?;
-        assert_eq!(rt; shown.as_str(), text);
-        assert_eq!(rt; had(AclEntryType::parse(alloc, shown.as_str()))?, kind);
-    }
-    for (number, text) in (0..).zip(["access", "default"]) {
-        let scope = AclEntryScope::from_number(number);
-        let shown = format!(in alloc; "{scope}")?;
-        assert_eq!(rt; shown.as_str(), text);
-        assert_eq!(rt; had(AclEntryScope::parse(alloc, shown.as_str()))?, scope);
-    }
+    assert_eq!(rt; copy.name.as_ref().map(|name| name.as_str()), Some("u"));
+    let nameless = AclEntry::new(entry.kind, entry.scope, entry.permissions, None);
+    assert!(rt; nameless != entry);
     Ok(())
 }

@@ -7,7 +7,7 @@ ghost use Rattle.hdfs_model.specs.Loading.{takes, is_directory, with_line};
 ghost use Rattle.hdfs_model.specs.Paths.{ancestors, parent_of, is_path as spec_is_path};
 ghost use Rattle.hdfs_plain.specs.Plain.{Holds, files_of};
 
-use hdfs_model::{Attributes, Line, above, is_path, parent};
+use hdfs_model::{Attributes, Line, is_path, nearest_ancestor, parent_of};
 use hdfs_wire::{Blob, NoMemory};
 use std::alloc::Global;
 use std::collections::BTreeMap;
@@ -48,7 +48,7 @@ impl PlainFiles {
         ensures { result ≡ list_any (λ a. spec.is_file (spec.kinds_of (files_of (get_by_text self.now.nodes)) a)) (ancestors path.now) }
     {
         let mut rest = path;
-        'up: while let Some(front) = above(rest) {
+        'up: while let Some(front) = nearest_ancestor(rest) {
             if let Some(PlainNode::File(_)) = self.nodes.get(front) {
                 return true;
             }
@@ -76,7 +76,7 @@ impl PlainFiles {
     fn is_free(&self, path: &str) -> bool
         ensures { result ≡ (spec_is_path path.now && is_none (files_of (get_by_text self.now.nodes) path.now) && is_directory (files_of (get_by_text self.now.nodes) (parent_of path.now))) }
     {
-        is_path(path) && self.is_absent(path) && self.is_directory(parent(path))
+        is_path(path) && self.is_absent(path) && self.is_directory(parent_of(path))
     }
 
     fn is_absent(&self, path: &str) -> bool

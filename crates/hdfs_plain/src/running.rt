@@ -4,13 +4,12 @@ ghost use Rattle.std.specs.BTreeMap.{get_by_text};
 ghost use Rattle.hdfs_model.specs.Files as spec;
 ghost use Rattle.hdfs_model.specs.Files.{State};
 ghost use Rattle.hdfs_model.specs.Folds.{fold};
-ghost use Rattle.hdfs_model.specs.Paths.{resolved};
 ghost use Rattle.hdfs_model.specs.Steps.{step, read_file, read_content};
 ghost use Rattle.hdfs_plain.specs.Plain.{Holds, files_of};
 ghost use Rattle.hdfs_plain.specs.Answers.{refusal_of, outcome_of, folded_of};
 
 use crate::files::{PlainFiles, PlainNode};
-use hdfs_model::{Command, Reply, is_path};
+use hdfs_model::{Command, Reply, absolute_path, is_path};
 use hdfs_wire::{Blob, List, NoMemory};
 use std::alloc::Global;
 
@@ -41,18 +40,6 @@ pub enum PlainOutcome {
 pub struct PlainFold {
     pub replies: List<Reply>,
     pub refused: Option<PlainRefusal>,
-}
-
-fn resolve(alloc: Global, home: &str, text: &str) -> Result<String, NoMemory>
-    ensures { IfOk result (λ path. string_bytes path ≡ resolved home.now text.now) }
-{
-    let mut path = String::new(alloc);
-    if !text.starts_with('/') {
-        path.push_str(home)?;
-        path.push_str("/")?;
-    }
-    path.push_str(text)?;
-    Ok(path)
 }
 
 fn read(
@@ -100,7 +87,7 @@ fn run_one(
         → outcome_of outcome state ≡ step (record { home = home.now }) state command.now) }
 {
     let Command::Read { path, offset, len } = command;
-    let path = resolve(alloc, home, path.as_str())?;
+    let path = absolute_path(alloc, home, path.as_str())?;
     if !is_path(path.as_str()) {
         return Ok(PlainOutcome::Refused(PlainRefusal::BadPath));
     }

@@ -1,3 +1,4 @@
+-- The bytes are those of the characters.
 use Rattle.std.proofs.Common.{rules}
 use Rattle.std.proofs.lemmas.Str.{chars_from_encodes}
 use Rattle.hdfs_globs.proofs.characters.characters_of.Goals as goal

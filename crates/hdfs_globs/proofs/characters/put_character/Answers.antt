@@ -1,3 +1,4 @@
+-- The bytes of one character more.
 use Rattle.std.proofs.Common.{ap, ◌∙◌}
 use Rattle.std.specs.Str.{chars}
 use Rattle.std.proofs.lemmas.Str.{IsUtf8-string_bytes}

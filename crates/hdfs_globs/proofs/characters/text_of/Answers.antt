@@ -1,3 +1,4 @@
+-- A new text has no characters.
 use Rattle.hdfs_globs.proofs.Grown.{chars-no_bytes}
 use Rattle.hdfs_globs.proofs.characters.text_of.Goals as goal
 

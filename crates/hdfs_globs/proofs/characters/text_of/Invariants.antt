@@ -1,3 +1,4 @@
+-- The text has the characters so far.
 use Rattle.std.proofs.Common.{◌≡◌, take, string_bytes}
 use Rattle.std.specs.Str.{chars}
 use Rattle.hdfs_globs.proofs.characters.text_of.Given as goal

@@ -1,3 +1,4 @@
+-- A character that begins no cut, and the end of the text after a backslash or not.
 use Rattle.std.proofs.Common.{◌∙◌, arith}
 use Rattle.hdfs_globs.proofs.CutsRead.{cut-turn, ending-turn, cut-end, ending-end}
 use Rattle.hdfs_globs.proofs.cut.find_cut.Goals as goal

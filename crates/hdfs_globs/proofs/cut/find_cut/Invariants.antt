@@ -1,3 +1,4 @@
+-- The cut of the text is that of what is left, behind what was passed.
 use Rattle.std.proofs.Common.{◌≡◌, ◌≤◌, take, drop, false}
 use Rattle.hdfs_globs.specs.Escapes.{ends_escaping_from}
 use Rattle.hdfs_globs.specs.Expansions.{cut_from}

@@ -1,3 +1,4 @@
+-- No brace stands here, a group with a slash, one without, and one that isn't closed.
 use Rattle.std.proofs.Common.{ap, ◌∙◌, arith}
 use Rattle.std.specs.Option.{option_map}
 use Rattle.hdfs_globs.specs.GroupScans.{shown_group}

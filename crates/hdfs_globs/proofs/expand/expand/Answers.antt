@@ -1,3 +1,4 @@
+-- The pattern waits first; then the text on top is opened, or refused.
 use Rattle.std.proofs.Common.{◌∷◌, [], ◌++◌, List, ap, ◌∙◌}
 use Rattle.hdfs_globs.specs.Openings.{shown_work, shown_strings}
 use Rattle.hdfs_globs.specs.Expansions.{opens}

@@ -1,3 +1,4 @@
+-- The texts so far and what those that wait open to are what the pattern opens to.
 use Rattle.std.proofs.Common.{true, map, reverse}
 use Rattle.hdfs_globs.specs.Expansions.{opens}
 use Rattle.hdfs_globs.specs.Openings.{IsOpened, all_nodes, shown_work}

@@ -1,3 +1,4 @@
+-- What is yielded by the split and kept by the filter are the components.
 use Rattle.std.proofs.Common.{rules, tests, lit<, ap, ◌∙◌}
 use Rattle.std.specs.Str.Iter.{split_text, split_has_more, split_pattern}
 use Rattle.std.proofs.lemmas.Iterator.Splits.{YieldsList-from_str_split}

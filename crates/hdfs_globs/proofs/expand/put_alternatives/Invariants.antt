@@ -1,5 +1,6 @@
+-- What lies on the stack and what is still to be put there is the whole.
 use Rattle.std.proofs.Common.{◌≡◌, ◌++◌, map, reverse, vec_len}
-use Rattle.hdfs_globs.specs.CutScans.{shown_texts}
+use Rattle.hdfs_globs.specs.GroupScans.{shown_texts}
 use Rattle.hdfs_globs.specs.Openings.{child, shown_work}
 use Rattle.hdfs_globs.proofs.expand.put_alternatives.Given as goal
 

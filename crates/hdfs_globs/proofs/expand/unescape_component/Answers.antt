@@ -1,3 +1,4 @@
+-- An escaped character, a backslash, any other, and the end.
 use Rattle.std.proofs.Common.{refl, ◌∙◌}
 use Rattle.hdfs_globs.proofs.Grown.{chars-no_bytes, text-same}
 use Rattle.hdfs_globs.proofs.Unescaped.{turn-kept, turn-backslash, turn-plain, unescaped-all}

@@ -1,3 +1,4 @@
+-- What was written and what is left make the text without its backslashes.
 use Rattle.std.proofs.Common.{◌≡◌, ◌++◌, false, drop, string_bytes}
 use Rattle.std.specs.Str.{chars}
 use Rattle.hdfs_globs.specs.Escapes.{unescaped_from}

@@ -1,3 +1,4 @@
+-- An escaped character, a wildcard, any other, and the end.
 use Rattle.std.proofs.Common.{sym}
 use Rattle.hdfs_globs.proofs.Wildcards.{search-escaped, search-found, search-on, search-end}
 use Rattle.hdfs_globs.proofs.glob.finds_wildcard.Goals as goal

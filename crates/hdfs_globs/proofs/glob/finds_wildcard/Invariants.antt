@@ -1,3 +1,4 @@
+-- A wildcard stands in the text where one stands in what is left of it.
 use Rattle.std.proofs.Common.{◌≡◌, drop}
 use Rattle.hdfs_globs.specs.Globs.{has_wildcard, has_wildcard_from}
 use Rattle.hdfs_globs.proofs.glob.finds_wildcard.Given as goal

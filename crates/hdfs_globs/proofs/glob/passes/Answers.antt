@@ -1,3 +1,4 @@
+-- One part more, and none left.
 use Rattle.std.proofs.Common.{◌∙◌, ap, length, sym, arith}
 use Rattle.hdfs_globs.specs.Patterns.{sign_of}
 use Rattle.hdfs_globs.specs.Places.{State, step}

@@ -1,3 +1,4 @@
+-- What was reached stands for a state from which the parts that are left end as all do from the start.
 use Rattle.std.proofs.Common.{◌≡◌, map, drop, length}
 use Rattle.hdfs_globs.specs.Patterns.{sign_of}
 use Rattle.hdfs_globs.specs.Places.{State, StandsAs, run, start}

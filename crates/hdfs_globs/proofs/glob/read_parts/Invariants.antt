@@ -1,3 +1,4 @@
+-- The parts so far stand before the signs of what is left.
 use Rattle.std.proofs.Common.{◌≡◌, ◌≤◌, ◌-◌, ◌++◌, map, drop, length}
 use Rattle.std.specs.Option.{option_map}
 use Rattle.hdfs_globs.specs.Globs.{signs}

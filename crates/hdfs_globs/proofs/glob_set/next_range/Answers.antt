@@ -1,3 +1,4 @@
+-- Two members with a dash between them, and one alone.
 use Rattle.std.proofs.Common.{sym}
 use Rattle.hdfs_globs.proofs.SetRanges.{next-short, next-plain, next-between}
 use Rattle.hdfs_globs.proofs.glob_set.next_range.Goals as goal

@@ -1,3 +1,4 @@
+-- No member is left.
 use Rattle.hdfs_globs.proofs.SetRanges.{ranges-end}
 use Rattle.hdfs_globs.proofs.glob_set.ranges_of.Goals as goal
 

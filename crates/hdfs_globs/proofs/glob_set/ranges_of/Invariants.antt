@@ -1,3 +1,4 @@
+-- The ranges so far stand before those of the members that are left.
 use Rattle.std.proofs.Common.{◌≡◌, ◌≤◌, ◌-◌, ◌++◌, map, drop, length}
 use Rattle.std.specs.Option.{option_map}
 use Rattle.hdfs_globs.specs.Globs.{ranges_of}

@@ -1,3 +1,4 @@
+-- A member, a backslash, a closing bracket, an opening one, and the end of the text.
 use Rattle.std.proofs.Common.{sym, refl, map}
 use Rattle.std.proofs.lemmas.List.{map_push}
 use Rattle.hdfs_globs.specs.Patterns.{member_of}

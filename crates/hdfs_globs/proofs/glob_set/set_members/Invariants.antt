@@ -1,3 +1,4 @@
+-- The members so far stand before those of what is left.
 use Rattle.std.proofs.Common.{◌≡◌, map, drop, false}
 use Rattle.std.specs.Option.{option_map}
 use Rattle.hdfs_globs.specs.Globs.{set_body}

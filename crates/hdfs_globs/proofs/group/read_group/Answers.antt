@@ -1,3 +1,4 @@
+-- A character that ends the group, one that doesn't, and the end of the text.
 use Rattle.std.proofs.Common.{arith, map}
 use Rattle.hdfs_globs.proofs.GroupsRead.{rest-none}
 use Rattle.hdfs_globs.proofs.group.read_group.Goals as goal

@@ -1,3 +1,4 @@
+-- What was read and what is left make the group.
 use Rattle.std.proofs.Common.{◌≤◌, drop, false}
 use Rattle.hdfs_globs.specs.Expansions.{group_at}
 use Rattle.hdfs_globs.specs.GroupScans.{Scanned}

@@ -1,3 +1,4 @@
+-- At the end all marks are filled.
 use Rattle.std.proofs.Common.{arith}
 use Rattle.hdfs_globs.proofs.Marked.{marks-filled}
 use Rattle.hdfs_globs.proofs.places.fill.Goals as goal

@@ -1,3 +1,4 @@
+-- The marks behind the loop are the filled ones, those ahead the old ones.
 use Rattle.std.proofs.Common.{◌≡◌, ◌<◌, ◌≤◌, ℕ, false, get_or, length}
 use Rattle.hdfs_globs.specs.Places.{filled, seen}
 use Rattle.hdfs_globs.proofs.places.fill.Given as goal

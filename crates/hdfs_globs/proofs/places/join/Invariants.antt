@@ -1,3 +1,4 @@
+-- The marks behind the loop are those of both, those ahead the old ones.
 use Rattle.std.proofs.Common.{◌≡◌, ◌<◌, ◌≤◌, ℕ, false, get_or, length, ◌||◌}
 use Rattle.hdfs_globs.proofs.places.join.Given as goal
 

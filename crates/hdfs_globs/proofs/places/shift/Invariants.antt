@@ -1,3 +1,4 @@
+-- The marks behind the loop are the shifted ones, those ahead the old ones.
 use Rattle.std.proofs.Common.{◌≡◌, ◌<◌, ◌≤◌, ℕ, false, get_or, length}
 use Rattle.hdfs_globs.specs.Patterns.{one_of}
 use Rattle.hdfs_globs.specs.Places.{shifted}

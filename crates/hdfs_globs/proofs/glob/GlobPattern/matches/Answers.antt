@@ -1,3 +1,4 @@
+-- The text is passed by all parts exactly where it matches the glob that they are of.
 use Rattle.std.proofs.Common.{◌∙◌, ap, length, map, List, ℕ}
 use Rattle.std.specs.Str.{chars}
 use Rattle.hdfs_globs.specs.Patterns.{sign_of}

@@ -1,3 +1,4 @@
+-- Nothing was read yet.
 use Rattle.hdfs_globs.proofs.GroupsRead.{rest-begins}
 use Rattle.hdfs_globs.proofs.group.Scan.new.Goals as goal
 

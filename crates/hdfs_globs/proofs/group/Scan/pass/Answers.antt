@@ -1,3 +1,4 @@
+-- One turn for each sign of a group.
 use Rattle.std.proofs.Common.{sym, map, add-one}
 use Rattle.hdfs_globs.proofs.GroupsRead.{turn-character, turn-backslash, turn-opens, turn-closes, turn-slash, turn-comma, turn-ends}
 use Rattle.hdfs_globs.proofs.group.Scan.pass.Goals as goal

@@ -1,3 +1,4 @@
+-- The ended alternative joins those before it, and the places are those at which the group begins.
 use Rattle.std.proofs.Common.{arith, refl, length, ◌≡◌, ◌∙◌}
 use Rattle.hdfs_globs.proofs.Standing.{marks-at, marks-with, alternative-begins}
 use Rattle.hdfs_globs.proofs.places.Reached.begin_alternative.Goals as goal

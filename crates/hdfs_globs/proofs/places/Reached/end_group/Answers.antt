@@ -1,3 +1,4 @@
+-- The last alternative joins those before it, and these are the places.
 use Rattle.std.proofs.Common.{arith, refl, length, ◌≡◌}
 use Rattle.hdfs_globs.proofs.Standing.{marks-at, marks-with, group-ends}
 use Rattle.hdfs_globs.proofs.places.Reached.end_group.Goals as goal

@@ -1,3 +1,4 @@
+-- The marks are those of the start.
 use Rattle.std.proofs.Common.{arith, replicate, nat_eq, ap, ◌∷◌, ◌∙◌, ℕ, true, false, ◌≡◌}
 use Rattle.hdfs_globs.proofs.Standing.{marks-at, start-marks}
 use Rattle.hdfs_globs.proofs.places.Reached.new.Goals as goal

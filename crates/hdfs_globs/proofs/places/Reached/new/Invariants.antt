@@ -1,3 +1,4 @@
+-- A mark at the first place, and none so far behind it.
 use Rattle.std.proofs.Common.{◌≡◌, ◌∷◌, true, false, replicate}
 use Rattle.hdfs_globs.proofs.places.Reached.new.Given as goal
 

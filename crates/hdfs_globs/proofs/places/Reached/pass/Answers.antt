@@ -1,3 +1,4 @@
+-- A character and a star move the marks; groups stay open.
 use Rattle.std.proofs.Common.{arith, length, ◌≡◌}
 use Rattle.hdfs_globs.proofs.Standing.{marks-at, marks-with}
 use Rattle.hdfs_globs.proofs.places.Reached.pass.Goals as goal
