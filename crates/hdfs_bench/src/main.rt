@@ -1,13 +1,15 @@
 //! Runs the code of the libraries as often as the words say, to time it, and prints a number that came of it.
 //!
-//! Words: `crc32c SIZE TIMES`, `crc32 SIZE TIMES`, `frames COUNT PIECE`, `packets SIZE TIMES`, `stars STARS LENGTH`, or `encode` or
-//! `decode` with a code, as in `encode_6_3 SIZE TIMES`, the code being one of `_3_2`, `_6_3` and `_10_4`.
+//! Words: `crc32c SIZE TIMES`, `crc32 SIZE TIMES`, `frames COUNT PIECE`, `packets SIZE TIMES`, `stars STARS LENGTH`,
+//! `pipeline WINDOW TIMES`, or `encode` or `decode` with a code, as in `encode_6_3 SIZE TIMES`, the code being one of `_3_2`,
+//! `_6_3` and `_10_4`.
 #![tactic(auto)]
 
 mod fault;
 mod frames;
 mod globs;
 mod packets;
+mod pipelines;
 mod shards;
 mod sums;
 
@@ -15,6 +17,7 @@ use fault::Fault;
 use frames::{count_frames, stream};
 use globs::match_stars;
 use packets::payload_bytes;
+use pipelines::count_events;
 use shards::{code_of, decode, encode};
 use std::alloc::Global;
 use std::env;
@@ -42,6 +45,9 @@ fn measure(alloc: Global, name: &str, first: usize, second: usize) -> Result<u64
     }
     if name == "stars" {
         return match_stars(alloc, first, second);
+    }
+    if name == "pipeline" {
+        return count_events(alloc, first, second);
     }
     Err(Fault::Words)
 }

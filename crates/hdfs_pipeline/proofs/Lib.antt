@@ -1,0 +1,6 @@
+pub mod Finishing
+pub mod Entering
+pub mod Failing
+pub mod Inwards
+pub mod Rows
+pub mod Running

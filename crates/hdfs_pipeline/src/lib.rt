@@ -1,0 +1,16 @@
+//! A write pipeline without its connection: the packets on their way to the nodes, from their push to their
+//! acknowledgement.
+#![tactic(auto)]
+
+mod end;
+mod event;
+mod laws;
+mod pipeline_core;
+
+pub use end::{PipelineEnd, Turn};
+pub use event::Event;
+pub use laws::{
+    ends_are_final, full_pushes_do_nothing, no_packet_is_lost, nothing_waits_once_done,
+    wrong_numbers_are_bad,
+};
+pub use pipeline_core::{Full, PipelineCore};
