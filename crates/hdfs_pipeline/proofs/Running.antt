@@ -4,7 +4,7 @@ use Rattle.std.specs.Prelude.{nat_lt, slice_get, is_none, ◌==◌, ◌^◌}
 use Rattle.std.proofs.lemmas.Bool.Decides.{nat_tests}
 use Rattle.std.proofs.lemmas.List.{length-drop, length-append, drop-append-le, drop-drop}
 use Rattle.hdfs_wire.specs.Outgoing.{Outgoing}
-use Rattle.hdfs_wire.specs.declared.write.Ack.{Ack}
+use Rattle.hdfs_wire.specs.declared.ack.Ack.{Ack}
 use Rattle.hdfs_pipeline.specs.declared.event.Event.{Event}
 use Rattle.hdfs_pipeline.specs.declared.event.Event.TheVariants.{Push, Take, Wrote, WriteFailed, Acked, AckFailed, Heartbeat}
 use Rattle.hdfs_pipeline.specs.Pipelines.{End, Done, Failed, Bad, Pipeline, row, ack_row, after, run_from, run_of, empty_pipeline, has_room, has_hand, has_untaken, closes_heartbeat, is_due, has_seqno, is_push, is_last, ended, acknowledged}

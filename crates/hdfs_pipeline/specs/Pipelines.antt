@@ -1,7 +1,7 @@
 -- A write pipeline as the list of its events.
 use Rattle.std.specs.Prelude.{ℕ, ℤ, negsuc, ◌+◌, ◌-◌, ◌^◌, nat_lt, Bool, true, false, not, ◌&&◌, ◌||◌, ◌==◌, List, [], ◌∷◌, ◌++◌, length, take, drop, slice_get, Option, Some, None, is_none, if◌then◌else◌}
 use Rattle.std.specs.Ordering.{int_eq}
-use Rattle.hdfs_wire.specs.declared.write.Ack.{Ack}
+use Rattle.hdfs_wire.specs.declared.ack.Ack.{Ack}
 use Rattle.hdfs_wire.specs.Outgoing.{Outgoing}
 use Rattle.hdfs_pipeline.specs.Places.{are_fine, failed_from}
 use Rattle.hdfs_pipeline.specs.declared.event.Event.{Event}

@@ -2,7 +2,7 @@
 
 ghost use Rattle.std.specs.Prelude.{◌≡◌, ◌≢◌, ℕ, ◌++◌, ◌∷◌, List, [], length, false, Some, None, IsSome, if◌then◌else◌};
 ghost use Rattle.hdfs_wire.specs.Outgoing.{Outgoing};
-ghost use Rattle.hdfs_wire.specs.declared.write.Ack.{Ack};
+ghost use Rattle.hdfs_wire.specs.declared.ack.Ack.{Ack};
 ghost use Rattle.hdfs_pipeline.specs.declared.event.Event.{Event};
 ghost use Rattle.hdfs_pipeline.specs.declared.event.Event.TheVariants.{Push, Acked};
 ghost use Rattle.hdfs_pipeline.specs.Pipelines.{Pipeline, Done, Bad, acked_of, after, ended, has_room, is_push, pending_of, run_of};

@@ -1,29 +1,165 @@
 -- The program over a new cluster.
-use Rattle.std.proofs.Common.{◌≡◌, ◌∙◌, ap, sym, subst, List, [], ℕ, Bool, true, Option, Some, None}
-use Rattle.hdfs_model.specs.Files.{empty_state}
+use Rattle.std.proofs.Common.{◌≡◌, ◌∙◌, ap, refl, subst, inl, inr, ⊎_elim, ◌⊎◌, zero, suc, ℕ, ◌≤◌, Bool, true, false, if◌then◌else◌, List, [], ◌∷◌, ◌++◌, map, Some, None, Err, arith}
+use Rattle.std.specs.List.{list_any}
+use Rattle.std.specs.Str.{bytes_eq}
+use Rattle.hdfs_model.specs.declared.store.Line.{Line}
+use Rattle.hdfs_model.specs.declared.store.Line.TheVariants as lines
+use Rattle.hdfs_model.specs.Counts.{FaultCounts, NoneRose}
+use Rattle.hdfs_model.specs.Files.{Content, Dir, Writing, empty_state}
+use Rattle.hdfs_model.specs.Folds.{Folded, Ends, Stops, fold}
+use Rattle.hdfs_model.specs.Loading.{with_lines}
+use Rattle.hdfs_model.specs.Paths.{root}
 use Rattle.hdfs_model.specs.Shown.{Shown}
 use Rattle.hdfs_model.specs.Sessions.{Fits}
+use Rattle.hdfs_cluster.specs.declared.mem_settings.MemSettings.{MemSettings}
+use Rattle.hdfs_cluster.specs.declared.mem_cluster.MemCluster.{MemCluster}
+use Rattle.hdfs_cluster.specs.Lines.{line_of}
+use Rattle.hdfs_cluster.specs.Memory.{fault_count}
+use Rattle.hdfs_cluster.specs.MemShown.{shown_of}
+use Rattle.hdfs_cluster.specs.Nodes.{node_at}
+use Rattle.hdfs_cluster.proofs.Failing.{faults-le}
+use Rattle.hdfs_cluster.specs.Starting.{Starts}
 use Rattle.hdfs_script.specs.declared.entry.Script.{Script}
-use Rattle.hdfs_script.specs.Scripts.{script}
-use Rattle.hdfs_script.specs.Texts.{replies_text}
-use Rattle.hdfs_top.specs.Streams.{Wrote}
-use Rattle.hdfs_top.specs.Top.{Starts, Finishes}
-use Rattle.hdfs_run.specs.Program.{Prints}
+use Rattle.hdfs_script.specs.Scripts.{is_fault, script, script_world}
+use Rattle.hdfs_streams.specs.Streams.{SourceShown, SinkShown, Wrote}
+use Rattle.hdfs_top.specs.Top.{IsClosed, IsKnown, IsSession, Loaded, NoneFailed, RanProgram, StatusOf, outside}
+use Rattle.hdfs_run.specs.Program.{Streams, IsUnfailed, IsNew, IsFaultless, FailsAsPlanned, RanStore, PrintsReplies, PrintsFault, FaultlessDecides}
 
-pub starts_new : (left : Option (List ℕ)) (shown : Shown) (bytes : List ℕ) → left ≡ Some bytes → shown.namenodes ≡ 1 → Fits [] [] shown empty_state → Starts left shown bytes empty_state
-starts_new left shown bytes told one fits = record { told = told; one = one; fits = fits }
+-- below the root alone no file is being written
+not_written : (test : Bool) (content : Content) → (if test then Some Dir else None) ≡ Some (Writing content) → ⊥
+not_written true content is = cc
+not_written false content is = cc
 
--- a new store is fresh
-pub refused_new : (fresh : Bool) (bytes : List ℕ) → fresh ≡ true → script fresh empty_state bytes ≡ None → script true empty_state bytes ≡ None
-refused_new fresh bytes is refused = subst (λ (b : Bool). script b empty_state bytes ≡ None) is refused
+closed_empty : IsClosed empty_state
+closed_empty = record { opened = λ path. refl; written = λ path content is. not_written (bytes_eq root path) content is }
 
-pub prints_new : (fresh : Bool) (bytes : List ℕ) (old new : Shown) (a c : Option (List ℕ)) → fresh ≡ true → ((text : List ℕ) × Finishes fresh empty_state bytes old new text × Wrote a text c) → Prints bytes a c
-prints_new fresh bytes old new a c is done =
-    let f = done.1 in record {
-      parsed = f.parsed;
-      is = subst (λ (b : Bool). script b empty_state bytes ≡ Some f.parsed) is f.loaded.is;
-      replies = f.replies;
-      last = f.last;
-      folds = f.folds;
-      wrote = subst (λ (t : List ℕ). Wrote a t c) f.is_text done.2;
+-- a source that tells its bytes, and a new store, are known
+pub known_new : (source : SourceShown) (sink : SinkShown) (old : Shown) (bytes : List ℕ) → source.left ≡ Some bytes → IsNew old → IsKnown (outside source sink old true) bytes empty_state
+known_new source sink old bytes told new = record { told = told; one = new.one; fits = new.fits; closed = closed_empty }
+
+-- a cluster in memory fails only where a fault was loaded for it
+pub planned_faults : (m : MemCluster) → FailsAsPlanned (shown_of m)
+planned_faults m = record { calls = λ i. refl; links = refl; nodes = λ d. faults-le (map line_of m.loaded.items) d (node_at m.nodes d) (m.planned d) }
+
+-- a cluster that was made for a script
+pub new_from-Starts : (settings : MemSettings) (store : Shown) → Starts settings store → Fits store empty_state → settings.namenodes ≡ 1 → IsNew store
+new_from-Starts settings store starts fits one = record {
+  one = starts.namenodes ∙ one;
+  fits = fits;
+  no_line = starts.no_line;
+  unfailed = record { calls = starts.calls; links = starts.links; nodes = starts.nodes };
+}
+
+-- the program ran over it
+pub ran_store : (words : List (List ℕ)) (a : Streams) (status : ℕ) (b : Streams) (old new : Shown) (fresh fresh' : Bool) → IsNew old → fresh ≡ true → FailsAsPlanned new → RanProgram words (outside a.source a.sink old fresh) status (outside b.source b.sink new fresh') → RanStore words a status b
+ran_store words a status b old new fresh fresh' is_new is planned ran = record {
+  old = old;
+  new = new;
+  fresh = fresh';
+  is_new = is_new;
+  planned = planned;
+  ran = subst (λ (f : Bool). RanProgram words (outside a.source a.sink old f) status (outside b.source b.sink new fresh')) is ran;
+}
+
+-- the script is refused
+pub refused_new : (words : List (List ℕ)) (a : Streams) (status : ℕ) (b : Streams) (bytes : List ℕ) → RanStore words a status b → status ≡ 1 → IsSession words → a.source.left ≡ Some bytes → script true empty_state bytes ≡ Err 0
+refused_new words a status b bytes run one is told = (run.ran.no_script one is bytes empty_state (known_new a.source a.sink run.old bytes told run.is_new)).0
+
+-- the session came to its end
+pub replies_new : (words : List (List ℕ)) (a : Streams) (status : ℕ) (b : Streams) (bytes : List ℕ) → RanStore words a status b → status ≡ 0 → a.source.left ≡ Some bytes → PrintsReplies bytes a.sink b.sink
+replies_new words a status b bytes run is_zero told =
+    let done = run.ran.done is_zero bytes empty_state (known_new a.source a.sink run.old bytes told run.is_new) in
+    let finishes = done.1 in record {
+      parsed = finishes.parsed;
+      is = finishes.loaded.is;
+      replies = finishes.replies;
+      last = finishes.last;
+      folds = finishes.folds;
+      wrote = subst (λ (t : List ℕ). Wrote a.sink t b.sink) finishes.is_text done.2;
     }
+
+-- the session stopped
+pub fault_new : (words : List (List ℕ)) (a : Streams) (status : ℕ) (b : Streams) (bytes : List ℕ) → RanStore words a status b → status ≡ 2 → a.source.left ≡ Some bytes → PrintsFault bytes a.sink b.sink
+fault_new words a status b bytes run two told =
+    let stopped = run.ran.stopped two bytes empty_state (known_new a.source a.sink run.old bytes told run.is_new) in
+    let halts = stopped.1 in record {
+      parsed = halts.parsed;
+      is = halts.loaded.is;
+      fault = halts.fault;
+      other = halts.other;
+      old = run.old;
+      new = run.new;
+      is_new = run.is_new;
+      stopped = halts.stopped;
+      wrote = subst (λ (t : List ℕ). Wrote a.sink t b.sink) halts.is_text stopped.2;
+    }
+
+-- where no line plans a fault none is counted
+fault_of_none : (d : List ℕ) (rest : List Line) → list_any is_fault rest ≡ false → fault_count rest d ≡ 0
+fault_of_none d [] none = refl
+fault_of_none d (lines.Fault fault ∷ rest) none = absurd (cc)
+fault_of_none d (lines.File path attributes bytes ∷ rest) none = fault_of_none d rest none
+
+unfailed_since : (n : ℕ) (old new : FaultCounts) → IsUnfailed old → IsUnfailed new → NoneRose n old new
+unfailed_since n old new before after = record {
+  calls = λ i below rose. omega (arith, rose, before.calls i, after.calls i);
+  links = λ rose. omega (arith, rose, before.links, after.links);
+  nodes = λ d rose. omega (arith, rose, before.nodes d, after.nodes d);
+}
+
+any_memory : (r : Folded) (status : ℕ) → status ≡ 3 → StatusOf r status
+any_memory (Ends replies last) status three = inr three
+any_memory (Stops replies last why) status three = inr three
+
+-- the lines that were loaded plan no fault, so none is counted
+unfailed_new : (old new : Shown) (parsed : Script) → IsNew old → FailsAsPlanned new → new.loaded ≡ old.loaded ++ parsed.lines → IsFaultless parsed → IsUnfailed new.counts
+unfailed_new old new parsed is_new planned lines faultless =
+    let loaded : new.loaded ≡ parsed.lines = lines ∙ ap (λ ls. ls ++ parsed.lines) is_new.no_line in
+    record {
+      calls = planned.calls;
+      links = planned.links;
+      nodes = λ d. omega (arith, planned.nodes d, ap (λ ls. fault_count ls d) loaded, fault_of_none d parsed.lines faultless);
+    }
+
+-- where the lines were loaded, the script decides
+decides_loaded : (words : List (List ℕ)) (a : Streams) (status : ℕ) (b : Streams) (bytes : List ℕ) (run : RanStore words a status b) → IsSession words → a.source.left ≡ Some bytes → (known : Script) → Loaded (outside a.source a.sink run.old true) bytes empty_state known (outside b.source b.sink run.new run.fresh) → FaultlessDecides bytes a status b
+decides_loaded words a status b bytes run is told known loaded parsed found faultless no_read no_write =
+    let here = loaded.is in
+    let same : known ≡ parsed = cc (here, found) in
+    let lines : run.new.loaded ≡ run.old.loaded ++ parsed.lines = loaded.lines ∙ ap (λ s. run.old.loaded ++ s.lines) same in
+    let none : NoneFailed (outside a.source a.sink run.old true) (outside b.source b.sink run.new run.fresh) = record {
+      reads = no_read;
+      writes = no_write;
+      calls = unfailed_since run.old.namenodes run.old.counts run.new.counts run.is_new.unfailed (unfailed_new run.old run.new parsed run.is_new run.planned lines faultless);
+    } in
+    run.ran.complete is bytes empty_state parsed (known_new a.source a.sink run.old bytes told run.is_new) found none
+
+six : (n : ℕ) → n ≤ 5 → (n ≡ 0) ⊎ (n ≡ 1) ⊎ (n ≡ 2) ⊎ (n ≡ 3) ⊎ (n ≡ 4) ⊎ (n ≡ 5)
+six zero h = inl refl
+six (suc zero) h = inr (inl refl)
+six (suc (suc zero)) h = inr (inr (inl refl))
+six (suc (suc (suc zero))) h = inr (inr (inr (inl refl)))
+six (suc (suc (suc (suc zero)))) h = inr (inr (inr (inr (inl refl))))
+six (suc (suc (suc (suc (suc zero))))) h = inr (inr (inr (inr (inr refl))))
+six (suc (suc (suc (suc (suc (suc n)))))) h = absurd (omega (arith, h))
+
+-- a script without a fault line ends as the fold says
+pub decides_new : (words : List (List ℕ)) (a : Streams) (status : ℕ) (b : Streams) (bytes : List ℕ) → RanStore words a status b → IsSession words → a.source.left ≡ Some bytes → FaultlessDecides bytes a status b
+decides_new words a status b bytes run is told parsed found faultless no_read no_write =
+    let known = known_new a.source a.sink run.old bytes told run.is_new in
+    ⊎_elim
+    (λ is_zero. decides_loaded words a status b bytes run is told (run.ran.done is_zero bytes empty_state known).1.parsed (run.ran.done is_zero bytes empty_state known).1.loaded parsed found faultless no_read no_write)
+    (⊎_elim
+    (λ one. let no = (run.ran.no_script one is bytes empty_state known).0 in absurd (cc (no, found)))
+    (⊎_elim
+    (λ two. decides_loaded words a status b bytes run is told (run.ran.stopped two bytes empty_state known).1.parsed (run.ran.stopped two bytes empty_state known).1.loaded parsed found faultless no_read no_write)
+    (⊎_elim
+    (λ three. any_memory (fold script_world (with_lines empty_state parsed.lines) parsed.commands) status three)
+    (⊎_elim
+    (λ four. absurd (no_read (run.ran.source four).rose))
+    (λ five. absurd (no_write (run.ran.sink five)))))))
+    (six status run.ran.statuses)
+
+-- there was no memory for a store
+pub starved_decides : (a : Streams) (status : ℕ) (b : Streams) (bytes : List ℕ) → status ≡ 3 → FaultlessDecides bytes a status b
+starved_decides a status b bytes three parsed found faultless no_read no_write = any_memory (fold script_world (with_lines empty_state parsed.lines) parsed.commands) status three

@@ -1,20 +1,93 @@
--- What the program prints for a script that ends.
-use Rattle.std.specs.Prelude.{◌≡◌, ℕ, List, Option, Some, true}
-use Rattle.hdfs_model.specs.declared.session.Reply.{Reply}
+-- What the program does over a new cluster in memory.
+use Rattle.std.specs.Prelude.{◌≡◌, ◌≢◌, ◌⊎◌, ℕ, ◌≤◌, Bool, true, false, List, [], Ok}
+use Rattle.std.specs.List.{list_any}
+use Rattle.hdfs_model.specs.declared.commands.Reply.{Reply}
+use Rattle.hdfs_model.specs.declared.errors.Fault.{Fault}
+use Rattle.hdfs_model.specs.declared.errors.HdfsError.TheVariants as errors
+use Rattle.hdfs_model.specs.Counts.{FaultCounts, Rose}
 use Rattle.hdfs_model.specs.Files.{State, empty_state}
 use Rattle.hdfs_model.specs.Folds.{Ends, fold}
+use Rattle.hdfs_model.specs.Headline.{Stopped}
 use Rattle.hdfs_model.specs.Loading.{with_lines}
+use Rattle.hdfs_model.specs.Sessions.{Fits}
+use Rattle.hdfs_model.specs.Shown.{Shown}
+use Rattle.hdfs_cluster.specs.Memory.{fault_count}
 use Rattle.hdfs_script.specs.declared.entry.Script.{Script}
-use Rattle.hdfs_script.specs.Scripts.{script}
-use Rattle.hdfs_script.specs.Texts.{replies_text}
-use Rattle.hdfs_top.specs.Streams.{Wrote}
-use Rattle.hdfs_top.specs.Top.{world}
+use Rattle.hdfs_script.specs.Scripts.{is_fault, script, script_world}
+use Rattle.hdfs_script.specs.Texts.{replies_text, fault_text}
+use Rattle.hdfs_streams.specs.Streams.{SourceShown, SinkShown, Wrote}
+use Rattle.hdfs_top.specs.Top.{RanProgram, StatusOf, outside}
+
+-- what is seen of a source and a sink
+pub record Streams : Type 0 where
+  pub source : SourceShown
+  pub sink : SinkShown
+
+-- nothing has failed
+pub record IsUnfailed (counts : FaultCounts) : Type 0 where
+  pub calls : (i : ℕ) → counts.calls i ≡ 0
+  pub links : counts.links ≡ 0
+  pub nodes : (d : List ℕ) → counts.nodes d ≡ 0
+
+-- A store as it is made for a script: it has one namenode, holds the root alone, and has never failed.
+pub record IsNew (store : Shown) : Type 0 where
+  pub one : store.namenodes ≡ 1
+  pub fits : Fits store empty_state
+  pub no_line : store.loaded ≡ []
+  pub unfailed : IsUnfailed store.counts
+
+-- no count has risen but as often as fault lines were loaded for it
+pub record FailsAsPlanned (store : Shown) : Type 0 where
+  pub calls : (i : ℕ) → store.counts.calls i ≡ 0
+  pub links : store.counts.links ≡ 0
+  pub nodes : (d : List ℕ) → store.counts.nodes d ≤ fault_count store.loaded d
+
+-- no line of the script plans a fault
+abbrev pub IsFaultless : Script → Type 0
+IsFaultless parsed = list_any is_fault parsed.lines ≡ false
+
+-- there was no memory for a store, and nothing was done
+pub record HadNoStore (before : Streams) (status : ℕ) (after : Streams) : Type 0 where
+  pub is : status ≡ 3
+  pub source : after.source ≡ before.source
+  pub sink : after.sink ≡ before.sink
+
+-- a run of the program over a store that was new and fresh, and that fails as planned
+pub record RanStore (words : List (List ℕ)) (before : Streams) (status : ℕ) (after : Streams) : Type 0 where
+  pub old : Shown
+  pub new : Shown
+  pub fresh : Bool
+  pub is_new : IsNew old
+  pub planned : FailsAsPlanned new
+  pub ran : RanProgram words (outside before.source before.sink old true) status (outside after.source after.sink new fresh)
+
+-- a run of the program over a new store
+abbrev pub RanNew : List (List ℕ) → Streams → ℕ → Streams → Type 0
+RanNew words before status after = HadNoStore before status after ⊎ RanStore words before status after
 
 -- the replies of the script's commands over its files, which stand below a root that was empty
-pub record Prints (bytes : List ℕ) (before after : Option (List ℕ)) : Type 0 where
+pub record PrintsReplies (bytes : List ℕ) (before after : SinkShown) : Type 0 where
   pub parsed : Script
-  pub is : script true empty_state bytes ≡ Some parsed
+  pub is : script true empty_state bytes ≡ Ok parsed
   pub replies : List Reply
   pub last : State
-  pub folds : fold world (with_lines empty_state parsed.lines) parsed.commands ≡ Ends replies last
+  pub folds : fold script_world (with_lines empty_state parsed.lines) parsed.commands ≡ Ends replies last
   pub wrote : Wrote before (replies_text replies) after
+
+-- the replies up to a fault other than want of memory, which has its cause over a store that was new, and its line
+pub record PrintsFault (bytes : List ℕ) (before after : SinkShown) : Type 0 where
+  pub parsed : Script
+  pub is : script true empty_state bytes ≡ Ok parsed
+  pub fault : Fault
+  pub other : fault.error ≢ errors.NoMemory
+  pub old : Shown
+  pub new : Shown
+  pub is_new : IsNew old
+  pub stopped : Stopped script_world (with_lines empty_state parsed.lines) parsed.commands old new fault
+  pub wrote : Wrote before (fault_text fault) after
+
+-- a script without a fault line ends as the fold says, where no read and no write failed
+abbrev pub FaultlessDecides : List ℕ → Streams → ℕ → Streams → Type 0
+FaultlessDecides bytes before status after = (parsed : Script) → script true empty_state bytes ≡ Ok parsed → IsFaultless parsed
+    → (Rose before.source.failures after.source.failures → ⊥) → (Rose before.sink.failures after.sink.failures → ⊥)
+    → StatusOf (fold script_world (with_lines empty_state parsed.lines) parsed.commands) status

@@ -1,4 +1,4 @@
-// What the program says of itself.
+//! What the program says of itself.
 
 pub(crate) const VERSION: &str = "hdfs_run 0.1.0\n";
 

@@ -1,4 +1,5 @@
 pub mod NumberLemmas
 pub mod ParseLemmas
 pub mod PathLemmas
+pub mod PrintLemmas
 pub mod WordLemmas

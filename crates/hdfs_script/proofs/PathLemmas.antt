@@ -1,16 +1,17 @@
 -- The commands of a script name paths.
-use Rattle.std.proofs.Common.{◌≡◌, ℕ, ◌^◌, ◌==◌, nat_le, codes, if◌then◌else◌, Bool, true, false, ◌&&◌, List, [], ◌∷◌, map, Option, Some, None, refl, sym, ◌∙◌, ap}
+use Rattle.std.proofs.Common.{◌≡◌, ℕ, ◌^◌, ◌==◌, nat_le, codes, if◌then◌else◌, Bool, true, false, ◌&&◌, List, [], ◌∷◌, map, Option, Some, None, Ok, Err, refl, sym, ◌∙◌, ap}
 use Rattle.std.specs.List.{list_all, slice_split}
 use Rattle.std.specs.Str.{bytes_eq}
-use Rattle.hdfs_model.specs.declared.session.Command.TheVariants as commands
+use Rattle.hdfs_model.specs.declared.attributes.Attributes.{Attributes}
+use Rattle.hdfs_model.specs.declared.commands.Command.TheVariants as commands
 use Rattle.hdfs_model.specs.Paths.{is_path}
 use Rattle.hdfs_model.specs.Sessions.{has_path}
 use Rattle.hdfs_script.specs.declared.entry.Entry.{Entry}
 use Rattle.hdfs_script.specs.declared.entry.Entry.TheVariants.{Blank, Loads, Runs, Bad}
 use Rattle.hdfs_script.specs.declared.entry.Script.{Script}
 use Rattle.hdfs_script.specs.Numbers.{number, hex_bytes}
-use Rattle.hdfs_script.specs.Entries.{is_word, words_entry, entry_of, file_entry, fault_entry, read_entry}
-use Rattle.hdfs_script.specs.Scripts.{parsed, lines_of, commands_of, entries_of, is_well_formed}
+use Rattle.hdfs_script.specs.Entries.{is_word, words_entry, entry_of, attributes_of, file_entry, fault_entry, read_entry}
+use Rattle.hdfs_script.specs.Scripts.{parsed, lines_of, commands_of, entries_in, is_well_formed}
 
 -- a command that an entry runs names a path
 abbrev pub HasPath : Entry → Type 0
@@ -38,12 +39,10 @@ path_from_fault None nth = tt
 path_from_fault (Some node) None = tt
 path_from_fault (Some node) (Some nth) = path_from_if (nat_le 1 nth) _ Bad tt tt
 
-path_from_file : (path : List ℕ) (permission replication block_size : Option ℕ) (bytes : Option (List ℕ)) → HasPath (file_entry path permission replication block_size bytes)
-path_from_file path None replication block_size bytes = tt
-path_from_file path (Some permission) None block_size bytes = tt
-path_from_file path (Some permission) (Some replication) None bytes = tt
-path_from_file path (Some permission) (Some replication) (Some block_size) None = tt
-path_from_file path (Some permission) (Some replication) (Some block_size) (Some bytes) = path_from_if (is_word path) _ Bad tt tt
+path_from_file : (path : List ℕ) (attributes : Option Attributes) (bytes : Option (List ℕ)) → HasPath (file_entry path attributes bytes)
+path_from_file path None bytes = tt
+path_from_file path (Some attributes) None = tt
+path_from_file path (Some attributes) (Some bytes) = path_from_if (is_word path) _ Bad tt tt
 
 path_from_words : (words : List (List ℕ)) → HasPath (words_entry words)
 path_from_words [] = tt
@@ -56,7 +55,7 @@ path_from_words (a ∷ b ∷ c ∷ d ∷ e ∷ []) =
     (path_from_fault (number 10 (2 ^ 32) c) (number 10 (2 ^ 64) d))
     (path_from_if (bytes_eq a (codes "do") && bytes_eq b (codes "read")) _ _ (path_from_read c (number 10 (2 ^ 64) d) (number 10 (2 ^ 64) e)) tt)
 path_from_words (a ∷ b ∷ c ∷ d ∷ e ∷ f ∷ []) =
-    path_from_if (bytes_eq a (codes "file")) _ _ (path_from_file b (number 8 (2 ^ 32) c) (number 10 (2 ^ 32) d) (number 10 (2 ^ 64) e) (hex_bytes f)) tt
+    path_from_if (bytes_eq a (codes "file")) _ _ (path_from_file b (attributes_of c d e) (hex_bytes f)) tt
 path_from_words (a ∷ b ∷ c ∷ d ∷ e ∷ f ∷ g ∷ rest) = tt
 
 path_from_line : (line : List ℕ) → HasPath (entry_of line)
@@ -73,12 +72,12 @@ paths_from_lines : (lines : List (List ℕ)) → list_all has_path (commands_of 
 paths_from_lines [] = refl
 paths_from_lines (line ∷ rest) = paths_more (entry_of line) (map entry_of rest) (path_from_line line) (paths_from_lines rest)
 
-some_from_if : (test : Bool) (x y : Script) → (if test then Some x else None) ≡ Some y → x ≡ y
-some_from_if true x y is = cc
-some_from_if false x y is = absurd (cc)
+ok_from_if : (test : Bool) (x y : Script) (line : ℕ) → (if test then Ok x else Err line) ≡ Ok y → x ≡ y
+ok_from_if true x y line is = cc
+ok_from_if false x y line is = absurd (cc)
 
 -- the commands of a script name paths
-pub paths_from_parsed : (bytes : List ℕ) (script : Script) → parsed bytes ≡ Some script → list_all has_path script.commands ≡ true
+pub paths_from_parsed : (bytes : List ℕ) (script : Script) → parsed bytes ≡ Ok script → list_all has_path script.commands ≡ true
 paths_from_parsed bytes script is =
-    let same = some_from_if (is_well_formed bytes) (record { lines = lines_of (entries_of bytes); commands = commands_of (entries_of bytes) }) script is in
+    let same = ok_from_if (is_well_formed bytes) (record { lines = lines_of (entries_in bytes); commands = commands_of (entries_in bytes) }) script 0 is in
     ap (λ s. list_all has_path s.commands) (sym same) ∙ paths_from_lines (slice_split (λ b. b == 10) bytes)

@@ -1,11 +1,12 @@
 -- What each line of a script says.
-use Rattle.std.specs.Prelude.{ℕ, ◌^◌, nat_le, Bool, ◌&&◌, ◌==◌, List, [], ◌∷◌, length, Option, Some, if◌then◌else◌, codes}
+use Rattle.std.specs.Prelude.{ℕ, ◌^◌, nat_le, Bool, ◌&&◌, ◌==◌, List, [], ◌∷◌, length, Option, Some, None, if◌then◌else◌, codes}
 use Rattle.std.specs.List.{list_all, slice_split}
 use Rattle.std.specs.Str.{bytes_eq}
+use Rattle.hdfs_model.specs.declared.attributes.Attributes.{Attributes}
 use Rattle.hdfs_model.specs.declared.store.Line.TheVariants as lines
 use Rattle.hdfs_model.specs.declared.store.FaultLine.TheVariants as faults
 use Rattle.hdfs_model.specs.declared.store.ReadKind.TheVariants as read_kinds
-use Rattle.hdfs_model.specs.declared.session.Command.TheVariants as commands
+use Rattle.hdfs_model.specs.declared.commands.Command.TheVariants as commands
 use Rattle.hdfs_model.specs.Paths.{is_path}
 use Rattle.hdfs_script.specs.declared.entry.Entry.{Entry}
 use Rattle.hdfs_script.specs.declared.entry.Entry.TheVariants.{Blank, Loads, Runs, Bad}
@@ -15,10 +16,20 @@ use Rattle.hdfs_script.specs.Numbers.{number, hex_bytes}
 abbrev pub is_word : List ℕ → Bool
 is_word text = nat_le 1 (length text) && list_all (λ c. nat_le 33 c && nat_le c 126) text
 
+-- the attributes of a file, where each is a number
+abbrev pub attributes : Option ℕ → Option ℕ → Option ℕ → Option Attributes
+attributes (Some permission) (Some replication) (Some block_size) =
+    Some (record { permission = permission; replication = replication; block_size = block_size })
+attributes _ _ _ = None
+
+-- `PERM REPL BLOCK`: permission bits in octal digits, the replication and the block size
+abbrev pub attributes_of : List ℕ → List ℕ → List ℕ → Option Attributes
+attributes_of permission replication block_size = attributes (number 8 (2 ^ 32) permission) (number 10 (2 ^ 32) replication) (number 10 (2 ^ 64) block_size)
+
 -- `file PATH PERM REPL BLOCK HEX`
-abbrev pub file_entry : List ℕ → Option ℕ → Option ℕ → Option ℕ → Option (List ℕ) → Entry
-file_entry path (Some permission) (Some replication) (Some block_size) (Some bytes) = if is_word path then Loads (lines.File path permission replication block_size bytes) else Bad
-file_entry _ _ _ _ _ = Bad
+abbrev pub file_entry : List ℕ → Option Attributes → Option (List ℕ) → Entry
+file_entry path (Some attributes) (Some bytes) = if is_word path then Loads (lines.File path attributes bytes) else Bad
+file_entry _ _ _ = Bad
 
 -- `fault read D N broken`
 abbrev pub fault_entry : Option ℕ → Option ℕ → Entry
@@ -33,9 +44,10 @@ read_entry _ _ _ = Bad
 -- the entry that the words of a line are
 abbrev pub words_entry : List (List ℕ) → Entry
 words_entry (a ∷ b ∷ c ∷ d ∷ e ∷ f ∷ []) =
-    if bytes_eq a (codes "file") then file_entry b (number 8 (2 ^ 32) c) (number 10 (2 ^ 32) d) (number 10 (2 ^ 64) e) (hex_bytes f) else Bad
+    if bytes_eq a (codes "file") then file_entry b (attributes_of c d e) (hex_bytes f) else Bad
 words_entry (a ∷ b ∷ c ∷ d ∷ e ∷ []) =
-    if bytes_eq a (codes "fault") && bytes_eq b (codes "read") && bytes_eq e (codes "broken") then fault_entry (number 10 (2 ^ 32) c) (number 10 (2 ^ 64) d)
+    if bytes_eq a (codes "fault") && bytes_eq b (codes "read") && bytes_eq e (codes "broken")
+    then fault_entry (number 10 (2 ^ 32) c) (number 10 (2 ^ 64) d)
     else if bytes_eq a (codes "do") && bytes_eq b (codes "read") then read_entry c (number 10 (2 ^ 64) d) (number 10 (2 ^ 64) e)
     else Bad
 words_entry words = Bad

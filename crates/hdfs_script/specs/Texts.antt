@@ -1,20 +1,24 @@
 -- The text that a session's replies and its fault are printed as.
 use Rattle.std.specs.Prelude.{ℕ, List, [], ◌∷◌, ◌++◌, codes, decimal}
 use Rattle.hex.specs.Hex.{encode_lower}
-use Rattle.hdfs_model.specs.declared.session.Reply.{Reply}
-use Rattle.hdfs_model.specs.declared.session.Reply.TheVariants.{Bytes}
-use Rattle.hdfs_model.specs.declared.session.Fault.{Fault}
-use Rattle.hdfs_model.specs.declared.session.HdfsError.{HdfsError}
-use Rattle.hdfs_model.specs.declared.session.HdfsError.TheVariants as errors
+use Rattle.hdfs_model.specs.declared.commands.Reply.{Reply}
+use Rattle.hdfs_model.specs.declared.commands.Reply.TheVariants.{Bytes}
+use Rattle.hdfs_model.specs.declared.errors.Fault.{Fault}
+use Rattle.hdfs_model.specs.declared.errors.HdfsError.{HdfsError}
+use Rattle.hdfs_model.specs.declared.errors.HdfsError.TheVariants as errors
 
 -- bytes in lower-case hexadecimal digits, `-` for none
 abbrev pub hex_text : List ℕ → List ℕ
 hex_text [] = codes "-"
 hex_text (byte ∷ bytes) = encode_lower (byte ∷ bytes)
 
+-- the line of bytes that were read
+abbrev pub bytes_line : List ℕ → List ℕ
+bytes_line bytes = codes "ok bytes " ++ hex_text bytes ++ codes "\n"
+
 -- the line of a reply
 abbrev pub reply_text : Reply → List ℕ
-reply_text (Bytes bytes) = codes "ok bytes " ++ hex_text bytes ++ codes "\n"
+reply_text (Bytes bytes) = bytes_line bytes
 
 -- a line for each reply
 abbrev pub replies_text : List Reply → List ℕ
@@ -30,10 +34,14 @@ variant_name (errors.InvalidArgument fault) = codes "InvalidArgument"
 variant_name (errors.FileNotFound path) = codes "FileNotFound"
 variant_name (errors.RPCError class message) = codes "RPCError"
 
--- the replies up to a fault, and a line with the number of its command and the error's name
-abbrev pub fault_text : Fault → List ℕ
-fault_text fault = replies_text fault.done ++ codes "fault " ++ decimal fault.at ++ codes " " ++ variant_name fault.error ++ codes "\n"
+-- the line of a fault: the number of its command, and the error's name
+abbrev pub fault_line : Fault → List ℕ
+fault_line fault = codes "fault " ++ decimal fault.at ++ codes " " ++ variant_name fault.error ++ codes "\n"
 
--- what is printed where the words or the script are refused
-abbrev pub refusal_text : List ℕ
-refusal_text = codes "bad 0\n"
+-- the replies up to a fault, and its line
+abbrev pub fault_text : Fault → List ℕ
+fault_text fault = replies_text fault.done ++ fault_line fault
+
+-- what is printed where the words or the script are refused: the number of a line
+abbrev pub refusal_text : ℕ → List ℕ
+refusal_text line = codes "bad " ++ decimal line ++ codes "\n"

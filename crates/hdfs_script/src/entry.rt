@@ -1,6 +1,9 @@
-// What a script says.
+//! What a script says.
+ghost use Rattle.std.specs.Prelude.{◌≡◌};
+ghost use Rattle.hdfs_script.specs.declared.entry.ScriptFault.TheVariants as faults;
+
 use hdfs_model::{Command, Line};
-use hdfs_wire::List;
+use hdfs_wire::{List, NoMemory};
 
 /// What one line of a script says.
 #[derive(Drop)]
@@ -20,4 +23,20 @@ pub enum Entry {
 pub struct Script {
     pub lines: List<Line>,
     pub commands: List<Command>,
+}
+
+/// Why bytes aren't a script.
+#[derive(Clone, Copy, Debug, PartialEq, Eq)]
+pub enum ScriptFault {
+    NoMemory,
+    /// They are refused at the line with this number, which is 0 as long as no number is told.
+    Bad(u64),
+}
+
+impl From<NoMemory> for ScriptFault {
+    ghost from_gives = { λ _ fault. fault ≡ faults.NoMemory };
+
+    fn from(_: NoMemory) -> Self {
+        ScriptFault::NoMemory
+    }
 }

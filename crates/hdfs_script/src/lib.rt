@@ -1,4 +1,4 @@
-//! Scripts for a session over a store, and the text of its replies.
+//! Scripts for a session over a store, both ways: from bytes to lines and commands, and from replies to text.
 #![tactic(auto)]
 
 mod entry;
@@ -6,7 +6,9 @@ mod line;
 mod names;
 mod numbers;
 mod parsing;
+mod printing;
 
-pub use entry::{Entry, Script};
+pub use entry::{Entry, Script, ScriptFault};
 pub use names::variant_name;
-pub use parsing::{SCRIPT_LIMIT, parse};
+pub use parsing::{SCRIPT_HOME, SCRIPT_LIMIT, is_fault, parse};
+pub use printing::{write_fault, write_hex, write_refusal, write_replies, write_reply};

@@ -1,19 +1,20 @@
-// One line of a script.
+//! One line of a script.
 ghost use Rattle.std.specs.Prelude.{◌≡◌, ◌==◌, ◌&&◌, ◌^◌, nat_le, ℕ, Bool, true, false, List, [], ◌∷◌, length, map, take, Option, Some, None, IfOk, MatchOption};
 ghost use Rattle.std.specs.List.{list_all, slice_split};
 ghost use Rattle.std.specs.Str.{bytes_eq};
 ghost use Rattle.hdfs_script.specs.Entries as spec;
-ghost use Rattle.hdfs_script.specs.Numbers as numbers;
+ghost use Rattle.hdfs_script.specs.Numbers.{number as number_of, hex_bytes as hex_bytes_of};
 
 use crate::entry::Entry;
 use crate::numbers::{hex_bytes, number};
-use hdfs_model::{Command, FaultLine, Line, ReadKind, is_path};
+use hdfs_model::{Attributes, Command, FaultLine, Line, ReadKind, is_path};
 use hdfs_wire::{NoMemory, Text};
 use std::alloc::{AllocError, Global};
 
-/// The greatest numbers of 32 and of 64 bits.
+// The greatest number of 32 bits.
 const U32_MOST: u64 = 4294967295;
 
+// The greatest number of 64 bits.
 const U64_MOST: u64 = 18446744073709551615;
 
 fn is_printable(c: u8) -> bool
@@ -47,44 +48,46 @@ fn word(text: &[u8]) -> Option<&str>
     }
 }
 
+// `PERM REPL BLOCK`
+fn attributes(permission: &[u8], replication: &[u8], block_size: &[u8]) -> Option<Attributes>
+    ensures { result ≡ spec.attributes_of permission.now replication.now block_size.now }
+{
+    let permission = number(8, U32_MOST, permission)?;
+    let replication = number(10, U32_MOST, replication)?;
+    let block_size = number(10, U64_MOST, block_size)?;
+    Some(Attributes {
+        permission: permission as u32,
+        replication: replication as u32,
+        block_size,
+    })
+}
+
 // `file PATH PERM REPL BLOCK HEX`
 fn file_entry(
     alloc: Global,
     path: &[u8],
-    permission: &[u8],
-    replication: &[u8],
-    block_size: &[u8],
+    attributes: Option<Attributes>,
     bytes: &[u8],
 ) -> Result<Entry, NoMemory>
-    ensures { IfOk result (λ entry. entry ≡ spec.file_entry path.now (numbers.number 8 (2 ^ 32) permission.now) (numbers.number 10 (2 ^ 32) replication.now) (numbers.number 10 (2 ^ 64) block_size.now) (numbers.hex_bytes bytes.now)) }
+    ensures { IfOk result (λ entry. entry ≡ spec.file_entry path.now attributes (hex_bytes_of bytes.now)) }
 {
-    let Some(permission) = number(8, U32_MOST, permission) else {
-        return Ok(Entry::Bad);
-    };
-    let Some(replication) = number(10, U32_MOST, replication) else {
-        return Ok(Entry::Bad);
-    };
-    let Some(block_size) = number(10, U64_MOST, block_size) else {
-        return Ok(Entry::Bad);
-    };
-    let Some(path) = word(path) else {
+    let (Some(attributes), Some(path)) = (attributes, word(path)) else {
         return Ok(Entry::Bad);
     };
     let Some(bytes) = hex_bytes(alloc, bytes)? else {
         return Ok(Entry::Bad);
     };
+    let path = Text::from_str(alloc, path)?;
     Ok(Entry::Loads(Line::File {
-        path: Text::from_str(alloc, path)?,
-        permission: permission as u32,
-        replication: replication as u32,
-        block_size,
+        path,
+        attributes,
         bytes,
     }))
 }
 
 // `fault read D N broken`
 fn fault_entry(node: &[u8], nth: &[u8]) -> Entry
-    ensures { result ≡ spec.fault_entry (numbers.number 10 (2 ^ 32) node.now) (numbers.number 10 (2 ^ 64) nth.now) }
+    ensures { result ≡ spec.fault_entry (number_of 10 (2 ^ 32) node.now) (number_of 10 (2 ^ 64) nth.now) }
 {
     let (Some(node), Some(nth)) = (number(10, U32_MOST, node), number(10, U64_MOST, nth)) else {
         return Entry::Bad;
@@ -101,7 +104,7 @@ fn fault_entry(node: &[u8], nth: &[u8]) -> Entry
 
 // `do read PATH OFFSET LEN`
 fn read_entry(alloc: Global, path: &[u8], offset: &[u8], len: &[u8]) -> Result<Entry, NoMemory>
-    ensures { IfOk result (λ entry. entry ≡ spec.read_entry path.now (numbers.number 10 (2 ^ 64) offset.now) (numbers.number 10 (2 ^ 64) len.now)) }
+    ensures { IfOk result (λ entry. entry ≡ spec.read_entry path.now (number_of 10 (2 ^ 64) offset.now) (number_of 10 (2 ^ 64) len.now)) }
 {
     let (Some(offset), Some(len)) = (number(10, U64_MOST, offset), number(10, U64_MOST, len)) else {
         return Ok(Entry::Bad);
@@ -133,12 +136,14 @@ fn six_words(
     block_size: &[u8],
     bytes: &[u8],
 ) -> Result<Entry, NoMemory>
-    ensures { IfOk result (λ entry. entry ≡ spec.words_entry (kind.now ∷ path.now ∷ permission.now ∷ replication.now ∷ block_size.now ∷ bytes.now ∷ [])) }
+    ensures { IfOk result (λ entry. entry ≡ spec.words_entry
+        (kind.now ∷ path.now ∷ permission.now ∷ replication.now ∷ block_size.now ∷ bytes.now ∷ [])) }
 {
     if !is_text(kind, "file") {
         return Ok(Entry::Bad);
     }
-    Ok(file_entry(alloc, path, permission, replication, block_size, bytes)?)
+    let attributes = attributes(permission, replication, block_size);
+    Ok(file_entry(alloc, path, attributes, bytes)?)
 }
 
 // A line of five words.
@@ -164,6 +169,7 @@ fn five_words(
     Ok(Entry::Bad)
 }
 
+// What the words of a line say.
 fn words_entry(alloc: Global, words: &[&[u8]]) -> Result<Entry, NoMemory>
     ensures { IfOk result (λ entry. entry ≡ spec.words_entry (map (λ word. word.now) words.now)) }
 {
@@ -187,6 +193,7 @@ pub(crate) fn entry(alloc: Global, line: &[u8]) -> Result<Entry, NoMemory>
     Ok(words_entry(alloc, words.as_slice())?)
 }
 
+// Whether a word is this text.
 fn is_text(word: &[u8], text: &str) -> bool
     ensures { result ≡ bytes_eq word.now text.now }
 {

@@ -1,4 +1,4 @@
-// The names of errors.
+//! The names of errors.
 ghost use Rattle.std.specs.Prelude.{◌≡◌};
 ghost use Rattle.hdfs_script.specs.Texts as spec;
 

@@ -6,7 +6,7 @@ mod asking;
 #[cfg(test)]
 mod rows;
 #[cfg(test)]
-mod streams;
+mod runs;
 #[cfg(test)]
 mod support;
 #[cfg(test)]

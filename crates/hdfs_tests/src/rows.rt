@@ -1,4 +1,4 @@
-// Scripts, and what the program writes for them.
+//! Scripts, and what the program writes for them.
 use crate::support::{answer, expected, plain_answer};
 use std::test::Fail;
 
@@ -30,7 +30,17 @@ const ROWS: [(&str, &str, u8); 14] = [
         2,
     ),
     (
-        "file /a 644 1 8 00010203\ndo read /a 0 1\ndo read /a 1 1\ndo read /a 2 1\ndo read /a 3 1\ndo read /a 0 4\ndo read /a 2 3\ndo read /a 0 1\ndo read /a 0 1\ndo read /a 0 1\ndo read /a 0 1\n",
+        "file /a 644 1 8 00010203\n\
+        do read /a 0 1\n\
+        do read /a 1 1\n\
+        do read /a 2 1\n\
+        do read /a 3 1\n\
+        do read /a 0 4\n\
+        do read /a 2 3\n\
+        do read /a 0 1\n\
+        do read /a 0 1\n\
+        do read /a 0 1\n\
+        do read /a 0 1\n",
         "ok bytes 00\nok bytes 01\nok bytes 02\nok bytes 03\nok bytes 00010203\nfault 6 InvalidArgument\n",
         2,
     ),
@@ -45,7 +55,14 @@ const ROWS: [(&str, &str, u8); 14] = [
         2,
     ),
     (
-        "\n# files\nfile /a 7777 1 9223372036854775807 ff\n\nfile /b 0 1 1 -\n# reads\ndo read /a 0 1\ndo read /a 1 0",
+        "\n\
+        # files\n\
+        file /a 7777 1 9223372036854775807 ff\n\
+        \n\
+        file /b 0 1 1 -\n\
+        # reads\n\
+        do read /a 0 1\n\
+        do read /a 1 0",
         "ok bytes ff\nok bytes -\n",
         0,
     ),
@@ -61,8 +78,12 @@ fn each_script_is_answered_as_by_the_plain_program(rt: HostRuntime) -> Result<()
     let alloc = rt.alloc();
     for (script, text, status) in &ROWS {
         let expected = expected(alloc, *status, text)?;
-        assert_eq!(rt; answer(alloc, script.as_bytes())?, expected);
-        assert_eq!(rt; plain_answer(alloc, script.as_bytes())?, expected);
+        assert_eq!(rt; answer(alloc, script.as_bytes())?, expected, "{script}");
+        assert_eq!(rt;
+            plain_answer(alloc, script.as_bytes())?,
+            expected,
+            "{script}"
+        );
     }
     Ok(())
 }
@@ -112,7 +133,8 @@ fn a_broken_packet_fails_the_read_that_met_it(rt: HostRuntime) -> Result<(), Fai
     for (script, text, status) in &FAULTS {
         assert_eq!(rt;
             answer(alloc, script.as_bytes())?,
-            expected(alloc, *status, text)?
+            expected(alloc, *status, text)?,
+            "{script}"
         );
     }
     Ok(())
@@ -186,7 +208,7 @@ fn a_bad_line_is_refused(rt: HostRuntime) -> Result<(), Fail> {
     let bad = expected(alloc, 1, "bad 0\n")?;
     for script in &BAD {
         assert_eq!(rt; answer(alloc, script.as_bytes())?, bad, "{script:?}");
-        assert_eq!(rt; plain_answer(alloc, script.as_bytes())?, bad);
+        assert_eq!(rt; plain_answer(alloc, script.as_bytes())?, bad, "{script:?}");
     }
     Ok(())
 }

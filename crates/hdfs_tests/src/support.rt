@@ -1,11 +1,13 @@
-// What the tests share: the program over memory, and the plain program's answer to the same script.
+//! What the tests share: the program over memory, and the plain program's answer to the same script.
 ghost use Rattle.std.specs.Prelude.{◌≡◌, ◌<◌, IfOk};
 ghost use Rattle.hdfs_cluster.specs.MemShown.{shown_of};
 
-use hdfs_cluster::{Line, MemCluster, MemSettings, Reply, ServerDefaults, Store};
+use hdfs_cluster::{MemCluster, MemSettings};
+use hdfs_model::{Attributes, Line, Reply, Store};
 use hdfs_plain::{PlainFiles, PlainFold, PlainRefusal};
-use hdfs_script::parse;
-use hdfs_top::{MemSink, MemSource, top};
+use hdfs_script::{SCRIPT_HOME, ScriptFault, parse};
+use hdfs_streams::{MemSink, MemSource};
+use hdfs_top::top;
 use hdfs_wire::{Blob, List, Text};
 use std::alloc::Global;
 use std::test::Fail;
@@ -17,23 +19,11 @@ pub(crate) struct Ending {
     pub(crate) text: String,
 }
 
-/// One namenode, three datanodes, and the defaults of a script.
+/// The cluster of a script.
 pub(crate) fn cluster(alloc: Global) -> Result<MemCluster, Fail>
     ensures { IfOk result (λ m. (shown_of m).namenodes ≡ 1) }
 {
-    let settings = MemSettings {
-        namenodes: 1,
-        active: 0,
-        nodes: 3,
-        defaults: ServerDefaults {
-            block_size: 134217728,
-            bytes_per_checksum: 512,
-            write_packet_size: 65536,
-            replication: 3,
-            encrypt_data_transfer: false,
-        },
-    };
-    Ok(MemCluster::new(alloc, settings)?)
+    Ok(MemCluster::new(alloc, MemSettings::of_scripts())?)
 }
 
 /// A cluster that holds one file of four bytes.
@@ -43,17 +33,31 @@ pub(crate) fn held(alloc: Global) -> Result<MemCluster, Fail>
     let mut store = cluster(alloc)?;
     store.load(Line::File {
         path: Text::from_str(alloc, "/a")?,
-        permission: 0o644,
-        replication: 1,
-        block_size: 8,
+        attributes: Attributes {
+            permission: 0o644,
+            replication: 1,
+            block_size: 8,
+        },
         bytes: Blob::from_vec(vec![in alloc; 0, 1, 2, 3]?),
     })?;
     Ok(store)
 }
 
+/// A source that gives a script.
 pub(crate) fn source(alloc: Global, script: &[u8]) -> Result<MemSource, Fail> {
     let bytes = Blob::from_vec(Vec::from_slice(alloc, script)?);
     Ok(MemSource::new(bytes, List::new(alloc)))
+}
+
+/// A source of a script whose call of this number fails.
+pub(crate) fn failing_source(alloc: Global, script: &[u8], call: u64) -> Result<MemSource, Fail> {
+    let bytes = Blob::from_vec(Vec::from_slice(alloc, script)?);
+    Ok(MemSource::new(bytes, List::from_vec(vec![in alloc; call]?)))
+}
+
+/// A sink that never fails.
+pub(crate) fn sink(alloc: Global) -> MemSink {
+    MemSink::new(alloc, 4096, List::new(alloc))
 }
 
 /// Words of a command line.
@@ -65,17 +69,18 @@ pub(crate) fn words(alloc: Global, texts: &[&str]) -> Result<Vec<String>, Fail> 
     Ok(words)
 }
 
-/// What the program answers over a new cluster in memory.
-pub(crate) fn answer(alloc: Global, script: &[u8]) -> Result<Ending, Fail> {
-    let mut store = cluster(alloc)?;
-    let mut source = source(alloc, script)?;
-    let mut sink = MemSink::new(alloc, 4096, List::new(alloc));
-    let words = words(alloc, &["session"])?;
-    let status = top(alloc, &words, &mut source, &mut sink, &mut store);
-    written(alloc, status, &sink)
-}
-
-pub(crate) fn written(alloc: Global, status: u8, sink: &MemSink) -> Result<Ending, Fail> {
+/// Runs the program, and tells its status and what was written.
+pub(crate) fn run(
+    alloc: Global,
+    texts: &[&str],
+    mut source: MemSource,
+    mut sink: MemSink,
+    store: &mut MemCluster,
+) -> Result<Ending, Fail>
+    requires { 0 < (shown_of store.old).namenodes }
+{
+    let words = words(alloc, texts)?;
+    let status = top(alloc, &words, &mut source, &mut sink, store);
     let text = str::from_utf8(sink.bytes())?;
     Ok(Ending {
         status,
@@ -83,6 +88,14 @@ pub(crate) fn written(alloc: Global, status: u8, sink: &MemSink) -> Result<Endin
     })
 }
 
+/// What the program answers over a new cluster in memory.
+pub(crate) fn answer(alloc: Global, script: &[u8]) -> Result<Ending, Fail> {
+    let mut store = cluster(alloc)?;
+    let source = source(alloc, script)?;
+    Ok(run(alloc, &["session"], source, sink(alloc), &mut store)?)
+}
+
+/// A status and a text.
 pub(crate) fn expected(alloc: Global, status: u8, text: &str) -> Result<Ending, Fail> {
     Ok(Ending {
         status,
@@ -92,8 +105,10 @@ pub(crate) fn expected(alloc: Global, status: u8, text: &str) -> Result<Ending, 
 
 /// What the plain program answers to a script without faults.
 pub(crate) fn plain_answer(alloc: Global, script: &[u8]) -> Result<Ending, Fail> {
-    let Some(script) = parse(alloc, script)? else {
-        return expected(alloc, 1, "bad 0\n");
+    let script = match parse(alloc, script) {
+        Ok(script) => script,
+        Err(ScriptFault::Bad(0)) => return expected(alloc, 1, "bad 0\n"),
+        Err(fault) => return Err(fault)?,
     };
     let mut files = PlainFiles::new(alloc)?;
     for line in script.lines.into_vec() {
@@ -101,10 +116,11 @@ pub(crate) fn plain_answer(alloc: Global, script: &[u8]) -> Result<Ending, Fail>
             return expected(alloc, 1, "bad 0\n");
         }
     }
-    let fold = hdfs_plain::run(alloc, "/user/user", &files, script.commands.as_slice())?;
+    let fold = hdfs_plain::run(alloc, SCRIPT_HOME, &files, script.commands.as_slice())?;
     print(alloc, &fold)
 }
 
+/// Loads a line, where the plain program takes it.
 fn load(files: &mut PlainFiles, line: Line) -> Result<bool, Fail> {
     if !files.takes(&line) {
         return Ok(false);
@@ -113,6 +129,7 @@ fn load(files: &mut PlainFiles, line: Line) -> Result<bool, Fail> {
     Ok(true)
 }
 
+/// What a fold is printed as.
 fn print(alloc: Global, fold: &PlainFold) -> Result<Ending, Fail> {
     let mut text = String::new(alloc);
     let mut number = 1u64;

@@ -1,5 +1,5 @@
 pub mod LoadLemmas
-pub mod PrintLemmas
-pub mod ReadLemmas
-pub mod RunLemmas
+pub mod ScriptLemmas
+pub mod SessionLemmas
+pub mod StatusLemmas
 pub mod TopLemmas

@@ -1,5 +1,2 @@
-pub mod Memory
-pub mod Runs
-pub mod Streams
+pub mod Inside
 pub mod Top
-pub mod Writing

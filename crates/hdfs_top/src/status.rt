@@ -1,13 +1,13 @@
-// What is printed, and the status that tells of it.
-ghost use Rattle.std.specs.Prelude.{◌≡◌, ◌≢◌, MatchResult, Err};
+//! What is printed, and the status that tells of it.
+ghost use Rattle.std.specs.Prelude.{◌≡◌, MatchResult};
 ghost use Rattle.hdfs_script.specs.Texts.{replies_text, fault_text, refusal_text};
-ghost use Rattle.hdfs_top.specs.Runs.{Tells};
+ghost use Rattle.hdfs_top.specs.Inside.{Concludes};
 
-use crate::streams::{IoFailed, Sink};
-use crate::writing::{write_all, write_fault, write_replies};
 use hdfs_model::{Fault, Reply};
+use hdfs_script::{write_fault, write_refusal, write_replies};
+use hdfs_streams::{IoFailed, Sink};
 
-/// The status where all was printed, or that of a failed sink.
+// The status where all was printed, or that of a failed sink.
 fn status_of(good: u8, printed: Result<(), IoFailed>) -> u8
     ensures { MatchResult printed (λ done. result ≡ good) (λ e. result ≡ 5) }
 {
@@ -17,17 +17,17 @@ fn status_of(good: u8, printed: Result<(), IoFailed>) -> u8
     }
 }
 
-/// Prints that words or a script are refused.
-pub(crate) fn refuse<K: Sink>(sink: &mut K) -> u8
-    ensures { Tells 1 (K.written sink.old) (K.faults sink.old) refusal_text result (K.written sink.new) (K.faults sink.new) }
+/// Prints that words or a script are refused, at the line with this number.
+pub(crate) fn refuse<K: Sink>(sink: &mut K, line: u64) -> u8
+    ensures { Concludes 1 (K.shown sink.old) (refusal_text line) result (K.shown sink.new) }
 {
-    let printed = write_all(sink, b"bad 0\n");
+    let printed = write_refusal(sink, line);
     status_of(1, printed)
 }
 
 /// Prints the replies of a session that came to its end.
 pub(crate) fn tell_replies<K: Sink>(sink: &mut K, replies: &[Reply]) -> u8
-    ensures { Tells 0 (K.written sink.old) (K.faults sink.old) (replies_text replies.now) result (K.written sink.new) (K.faults sink.new) }
+    ensures { Concludes 0 (K.shown sink.old) (replies_text replies.now) result (K.shown sink.new) }
 {
     let printed = write_replies(sink, replies);
     status_of(0, printed)
@@ -35,7 +35,7 @@ pub(crate) fn tell_replies<K: Sink>(sink: &mut K, replies: &[Reply]) -> u8
 
 /// Prints what a session answered that stopped.
 pub(crate) fn tell_fault<K: Sink>(sink: &mut K, fault: &Fault) -> u8
-    ensures { Tells 2 (K.written sink.old) (K.faults sink.old) (fault_text fault.now) result (K.written sink.new) (K.faults sink.new) }
+    ensures { Concludes 2 (K.shown sink.old) (fault_text fault.now) result (K.shown sink.new) }
 {
     let printed = write_fault(sink, fault);
     status_of(2, printed)

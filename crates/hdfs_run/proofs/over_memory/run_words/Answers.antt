@@ -1,0 +1,20 @@
+use Rattle.std.proofs.Common.{inr, map, List, ℕ}
+use Rattle.std.specs.String.{string_bytes}
+use Rattle.hdfs_run.proofs.ProgramLemmas.{planned_faults, new_from-Starts, ran_store, refused_new, replies_new, fault_new, decides_new}
+use Rattle.hdfs_run.proofs.over_memory.run_words.Goals as goal
+
+-- the program ran over the new cluster
+pub returns : goal.returns
+returns g c =
+    let words : List (List ℕ) = map string_bytes c.args.words.now in
+    let planned = planned_faults c.top.new.store in
+    let is_new = new_from-Starts _ _ c.in-Ok.ensures.starts c.in-Ok.ensures.fits c.of_scripts.ensures.namenodes in
+    let run = ran_store words (record { source = g.S.Source.shown c.args.source.now; sink = g.K.Sink.shown c.args.sink.now }) c.top.result (record { source = g.S.Source.shown c.top.new.source; sink = g.K.Sink.shown c.top.new.sink }) _ _ _ _ is_new c.in-Ok.ensures.fresh planned c.top.ensures.ran in
+    record {
+      statuses = run.ran.statuses;
+      ran = inr run;
+      refused = λ one is bytes told. refused_new _ _ _ _ bytes run one is told;
+      done = λ none bytes told. replies_new _ _ _ _ bytes run none told;
+      stopped = λ two bytes told. fault_new _ _ _ _ bytes run two told;
+      complete = λ is bytes told. decides_new _ _ _ _ bytes run is told;
+    }

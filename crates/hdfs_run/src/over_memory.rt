@@ -1,0 +1,43 @@
+//! A run of the program over a new cluster in memory.
+ghost use Rattle.std.specs.Prelude.{◌≡◌, ◌≤◌, ℕ, List, Some, Ok, Err, true, map, string_bytes};
+ghost use Rattle.hdfs_model.specs.Files.{empty_state};
+ghost use Rattle.hdfs_script.specs.Scripts.{script};
+ghost use Rattle.hdfs_top.specs.Top.{IsSession};
+ghost use Rattle.hdfs_run.specs.Program.{RanNew, PrintsReplies, PrintsFault, FaultlessDecides};
+
+use hdfs_cluster::{MemCluster, MemSettings};
+use hdfs_streams::{Sink, Source};
+use hdfs_top::top;
+use std::alloc::Global;
+
+/// Runs words over a new cluster, which holds the root alone. The statuses are those of `top`; where there is no memory for
+/// the cluster the status is 3, and nothing was read or written.
+pub(crate) fn run_words<S: Source, K: Sink>(
+    alloc: Global,
+    words: &[String],
+    source: &mut S,
+    sink: &mut K,
+) -> u8
+    // each status, over any source and sink
+    ensures statuses { result ≤ 5 }
+    ensures ran { RanNew (map string_bytes words.now) (record { source = S.shown source.old; sink = K.shown sink.old }) result
+        (record { source = S.shown source.new; sink = K.shown sink.new }) }
+
+    // over a source that tells its bytes
+    ensures refused { result ≡ 1 → IsSession (map string_bytes words.now) → (bytes : List ℕ) → (S.shown source.old).left ≡ Some bytes
+        → script true empty_state bytes ≡ Err 0 }
+    ensures done { result ≡ 0 → (bytes : List ℕ) → (S.shown source.old).left ≡ Some bytes
+        → PrintsReplies bytes (K.shown sink.old) (K.shown sink.new) }
+    ensures stopped { result ≡ 2 → (bytes : List ℕ) → (S.shown source.old).left ≡ Some bytes
+        → PrintsFault bytes (K.shown sink.old) (K.shown sink.new) }
+
+    // Without a fault line, and where no read and no write failed, the script decides.
+    ensures complete { IsSession (map string_bytes words.now) → (bytes : List ℕ) → (S.shown source.old).left ≡ Some bytes
+        → FaultlessDecides bytes (record { source = S.shown source.old; sink = K.shown sink.old }) result
+            (record { source = S.shown source.new; sink = K.shown sink.new }) }
+{
+    let Ok(mut store) = MemCluster::new(alloc, MemSettings::of_scripts()) else {
+        return 3;
+    };
+    top(alloc, words, source, sink, &mut store)
+}

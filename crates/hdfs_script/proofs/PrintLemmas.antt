@@ -1,0 +1,28 @@
+-- The parts of what is printed.
+use Rattle.std.proofs.Common.{◌≡◌, ℕ, ◌+◌, ◌/◌, ◌%◌, ◌<◌, List, [], ◌∷◌, ◌++◌, length, get_or, take, drop, map, refl, sym, ◌∙◌, ap}
+use Rattle.std.proofs.lemmas.List.{take-append-drop, at_drop_more}
+use Rattle.std.specs.List.{concat}
+use Rattle.hex.specs.Hex.{encode_with, encode_lower, lower_digits}
+use Rattle.hdfs_model.specs.declared.commands.Reply.{Reply}
+use Rattle.hdfs_script.specs.Texts.{reply_text, replies_text}
+
+-- digits of more bytes
+encode_with-append : (t xs ys : List ℕ) → encode_with t (xs ++ ys) ≡ encode_with t xs ++ encode_with t ys
+unfolding encode_with
+encode_with-append t [] ys = refl
+encode_with-append t (x ∷ xs) ys = ap (λ rest. get_or t (x / 16) 0 ∷ get_or t (x % 16) 0 ∷ rest) (encode_with-append t xs ys)
+
+pub encode_lower-split : (n : ℕ) (bytes : List ℕ) → encode_lower bytes ≡ encode_lower (take n bytes) ++ encode_lower (drop n bytes)
+encode_lower-split n bytes = ap encode_lower (sym (take-append-drop n bytes)) ∙ encode_with-append lower_digits (take n bytes) (drop n bytes)
+
+pub encode_lower-nil : encode_lower [] ≡ []
+unfolding encode_with
+encode_lower-nil = refl
+
+-- the replies from a place on
+pub replies_text-drop : (replies : List Reply) (i : ℕ) (reply : Reply) → i < length replies → reply ≡ get_or replies i reply → replies_text (drop i replies) ≡ reply_text reply ++ replies_text (drop (i + 1) replies)
+replies_text-drop replies i reply within is = at_drop_more replies_text replies i reply within ∙ ap (λ r. reply_text r ++ replies_text (drop (i + 1) replies)) (sym is)
+
+-- the pieces from a place on
+pub concat-drop : {X : Type 0} (now : X → List ℕ) (pieces : List X) (i : ℕ) (d : X) → i < length pieces → concat (map now (drop i pieces)) ≡ now (get_or pieces i d) ++ concat (map now (drop (i + 1) pieces))
+concat-drop now pieces i d within = at_drop_more (λ ps. concat (map now ps)) pieces i d within

@@ -1,0 +1,3 @@
+pub mod MemStreams
+pub mod Reads
+pub mod Streams

@@ -1,0 +1,266 @@
+-- What a script is over a store, and what a run of it has done.
+use Rattle.std.proofs.Common.{inl, inr, ⊎_elim, ◌⊎◌, ◌≡◌, ℕ, ◌+◌, ◌<◌, nat_le, Bool, true, false, ◌&&◌, ◌||◌, List, [], ◌∷◌, length, get_or, take, if◌then◌else◌, Ok, Err, refl, sym, ◌∙◌, ap, subst, arith}
+use Rattle.std.specs.List.{list_all}
+use Rattle.std.proofs.lemmas.List.{take_all, length-take-le}
+use Rattle.std.proofs.lemmas.Bool.{cases_lt}
+use Rattle.std.proofs.lemmas.Bool.Decides.{nat_tests}
+use Rattle.hdfs_model.specs.declared.commands.Command.{Command}
+use Rattle.hdfs_model.specs.declared.commands.Command.TheVariants as commands
+use Rattle.hdfs_model.specs.declared.errors.Fault.{Fault}
+use Rattle.hdfs_model.specs.declared.errors.HdfsError.{HdfsError}
+use Rattle.hdfs_model.specs.declared.errors.HdfsError.TheVariants as errors
+use Rattle.hdfs_model.specs.declared.errors.TransferFault.TheVariants as transfer
+use Rattle.hdfs_model.specs.declared.errors.ArgFault.TheVariants as args
+use Rattle.hdfs_model.specs.declared.store.Line.{Line}
+use Rattle.hdfs_model.specs.declared.store.Line.TheVariants as lines
+use Rattle.hdfs_model.specs.Causes.{Cause}
+use Rattle.hdfs_model.specs.Counts.{FaultCounts, NeverFall, NoneRose, SameCounts}
+use Rattle.hdfs_model.specs.Files.{State}
+use Rattle.hdfs_model.specs.Folds.{fold}
+use Rattle.hdfs_model.specs.Headline.{Stopped}
+use Rattle.hdfs_model.specs.Loading.{SameShown, with_lines}
+use Rattle.hdfs_model.specs.Picture.{SamePicture}
+use Rattle.hdfs_model.specs.Sessions.{Fits}
+use Rattle.hdfs_model.specs.Shown.{Shown, Later}
+use Rattle.hdfs_model.specs.Steps.{World}
+use Rattle.hdfs_model.proofs.Frames.{told_refl, same_picture_refl, never_fall_trans, never_fall_from-SameCounts}
+use Rattle.hdfs_script.specs.declared.entry.Script.{Script}
+use Rattle.hdfs_script.specs.Scripts.{parsed, script, if_taken, is_well_formed, takes_all, is_fault, entries_in, lines_of, commands_of, script_limit, script_world}
+use Rattle.hdfs_script.specs.Texts.{replies_text, fault_text, refusal_text}
+use Rattle.hdfs_streams.specs.Streams.{SourceShown, SinkShown, TookAtMost}
+use Rattle.hdfs_streams.proofs.PrintLemmas.{wrote_none}
+use Rattle.hdfs_top.specs.Top.{IsSession, Outside, outside, IsKnown, Loaded, Finishes, Halts, RefusedScript, StatusOf, ScriptDecides}
+use Rattle.hdfs_top.specs.Inside.{RanSession, Gave, IsKnownStore, LoadsAll, PrintsWhole, Concludes, ToEnd, ToFault, RanCommands}
+use Rattle.hdfs_top.proofs.LoadLemmas.{takes_all-fresh, closed_lines}
+use Rattle.hdfs_top.proofs.StatusLemmas.{Kept, ran_done, ran_refused, ran_stopped, ran_no_memory, ran_sink_failed}
+
+pub same_shown_refl : (s : Shown) → SameShown s s
+same_shown_refl s = record {
+  rest = record { counts = record { calls = λ i. refl; links = refl; nodes = λ d. refl }; last = refl; namenodes = refl; reads = λ link. refl };
+  lines = refl;
+  picture = told_refl SamePicture s.picture same_picture_refl;
+}
+
+-- a run of a session says nothing of other words
+pub kept_session : (words : List (List ℕ)) (a b : Outside) (status : ℕ) → IsSession words → NeverFall a.store.counts b.store.counts → TookAtMost (script_limit + 1) a.source b.source → Kept words a status b
+kept_session words a b status is counts read = record { counts = counts; read = read; other = λ no. absurd (no is) }
+
+-- bytes that are too many are no script
+parsed_long : (bytes : List ℕ) → script_limit < length bytes → parsed bytes ≡ Err 0
+parsed_long bytes long =
+    let no : nat_le (length bytes) script_limit ≡ false = grind (arith, nat_tests) in
+    rw no refl
+
+-- a script is told by one byte more than it may have
+parsed-take : (bytes : List ℕ) → parsed bytes ≡ parsed (take (script_limit + 1) bytes)
+parsed-take bytes = ⊎_elim
+    (λ long. parsed_long bytes long ∙ sym (parsed_long (take (script_limit + 1) bytes) (omega (arith, length-take-le (script_limit + 1) bytes (omega (arith, long))))))
+    (λ short. ap parsed (sym (take_all (script_limit + 1) bytes (omega (arith, short)))))
+    (cases_lt script_limit (length bytes))
+
+-- what the source gave is as good as all that it has
+parsed_given : (a : Outside) (given all : List ℕ) (left : SourceShown) (state : State) → Gave a.source given left → IsKnown a all state → parsed all ≡ parsed given
+parsed_given a given all left state gave known = parsed-take all ∙ ap parsed (sym (gave.front all known.told))
+
+known_store : (a : Outside) (bytes : List ℕ) (state : State) → IsKnown a bytes state → IsKnownStore a.store state
+known_store a bytes state known = record { one = known.one; fits = known.fits; closed = known.closed }
+
+-- bytes are refused at line 0
+zero_from_if : (test : Bool) (x : Script) (line : ℕ) → (if test then Ok x else Err 0) ≡ Err line → line ≡ 0
+zero_from_if true x line is = absurd (cc)
+zero_from_if false x line is = cc
+
+refused_at_zero : (bytes : List ℕ) (line : ℕ) → parsed bytes ≡ Err line → line ≡ 0
+refused_at_zero bytes line is = zero_from_if (is_well_formed bytes) (record { lines = lines_of (entries_in bytes); commands = commands_of (entries_in bytes) }) line is
+
+script_is : (fresh : Bool) (state : State) (bytes : List ℕ) (s : Script) → parsed bytes ≡ Ok s → takes_all fresh state s.lines ≡ true → script fresh state bytes ≡ Ok s
+script_is fresh state bytes s is takes = ap (if_taken fresh state) is ∙ rw takes refl
+
+script_refused : (fresh : Bool) (state : State) (bytes : List ℕ) (s : Script) → parsed bytes ≡ Ok s → takes_all fresh state s.lines ≡ false → script fresh state bytes ≡ Err 0
+script_refused fresh state bytes s is refuses = ap (if_taken fresh state) is ∙ rw refuses refl
+
+-- the bytes are no script
+unparsed_refused : (a b : Outside) (given : List ℕ) → Gave a.source given b.source → parsed given ≡ Err 0 → SameShown a.store b.store → RefusedScript a b
+unparsed_refused a b given gave none same bytes state known =
+    (ap (if_taken a.fresh state) (parsed_given a given bytes b.source state gave known ∙ none), λ held. same)
+
+-- the store isn't fresh, and there is a line that only a fresh one takes
+held_refused : (a b : Outside) (given : List ℕ) (s : Script) → Gave a.source given b.source → parsed given ≡ Ok s → false ≡ (a.fresh || list_all is_fault s.lines) → SameShown a.store b.store → RefusedScript a b
+held_refused a b given s gave is held same bytes state known =
+    (script_refused a.fresh state bytes s (parsed_given a given bytes b.source state gave known ∙ is) (takes_all-fresh a.fresh state s.lines ∙ rw (← held) refl), λ _. same)
+
+-- faults alone are taken by every store
+faults_taken : (state : State) (rest : List Line) → list_all is_fault rest ≡ true → takes_all true state rest ≡ true
+faults_taken state [] all = refl
+faults_taken state (lines.Fault fault ∷ rest) all = faults_taken state rest all
+faults_taken state (lines.File path attributes bytes ∷ rest) all = absurd (cc)
+
+faults_alone : (fresh rest : Bool) → (fresh || rest) ≡ true → fresh ≡ false → rest ≡ true
+faults_alone true rest may held = absurd (cc)
+faults_alone false rest may held = may
+
+false_right : (b : Bool) → (b && false) ≡ false
+false_right true = refl
+false_right false = refl
+
+-- a line was refused
+untaken_refused : (a b : Outside) (given : List ℕ) (s : Script) → Gave a.source given b.source → parsed given ≡ Ok s → (a.fresh || list_all is_fault s.lines) ≡ true → ((state : State) → Fits a.store state → takes_all true state s.lines ≡ false) → RefusedScript a b
+untaken_refused a b given s gave is may untaken bytes state known = (
+  script_refused a.fresh state bytes s (parsed_given a given bytes b.source state gave known ∙ is) (takes_all-fresh a.fresh state s.lines ∙ rw (untaken state known.fits) (false_right (a.fresh || list_all is_fault s.lines))),
+  λ held.
+      let taken = faults_taken state s.lines (faults_alone a.fresh (list_all is_fault s.lines) may held) in
+      let not_taken = untaken state known.fits in
+      absurd (cc (taken, not_taken)),
+)
+
+-- the refusal of a script is printed
+refused_script : (a b : Outside) (given : List ℕ) (status : ℕ) → Gave a.source given b.source → NeverFall a.store.counts b.store.counts → RefusedScript a b → Concludes 1 a.sink (refusal_text 0) status b.sink → RanSession a status b
+refused_script a b given status gave counts refused (inl whole) words is =
+    ran_refused words a b status (kept_session words a b status is counts gave.taken) gave.fine whole (λ _. refused)
+refused_script a b given status gave counts refused (inr part) words is =
+    ran_sink_failed words a b (refusal_text 0) status (kept_session words a b status is counts gave.taken) gave.fine part
+    (λ _ bytes state known. inl (record { none = (refused bytes state known).0; is_text = refl }))
+
+-- the bytes are no script, and that is printed
+pub unparsed_script : (a b : Outside) (given : List ℕ) (line status : ℕ) → Gave a.source given b.source → parsed given ≡ Err line → SameShown a.store b.store → NeverFall a.store.counts b.store.counts → Concludes 1 a.sink (refusal_text line) status b.sink → RanSession a status b
+unparsed_script a b given line status gave is same counts concludes =
+    let zero : line ≡ 0 = refused_at_zero given line is in
+    let none : parsed given ≡ Err 0 = subst (λ (n : ℕ). parsed given ≡ Err n) zero is in
+    refused_script a b given status gave counts (unparsed_refused a b given gave none same) (subst (λ (n : ℕ). Concludes 1 a.sink (refusal_text n) status b.sink) zero concludes)
+
+-- a store that isn't fresh was to take files
+pub held_script : (a b : Outside) (given : List ℕ) (s : Script) (status : ℕ) → Gave a.source given b.source → parsed given ≡ Ok s → false ≡ (a.fresh || list_all is_fault s.lines) → SameShown a.store b.store → NeverFall a.store.counts b.store.counts → Concludes 1 a.sink (refusal_text 0) status b.sink → RanSession a status b
+held_script a b given s status gave is held same counts concludes =
+    refused_script a b given status gave counts (held_refused a b given s gave is held same) concludes
+
+-- a line was not taken
+pub untaken_script : (a b : Outside) (given : List ℕ) (s : Script) (status : ℕ) → Gave a.source given b.source → parsed given ≡ Ok s → (a.fresh || list_all is_fault s.lines) ≡ true → ((state : State) → Fits a.store state → takes_all true state s.lines ≡ false) → NeverFall a.store.counts b.store.counts → Concludes 1 a.sink (refusal_text 0) status b.sink → RanSession a status b
+untaken_script a b given s status gave is may untaken counts concludes =
+    refused_script a b given status gave counts (untaken_refused a b given s gave is may untaken) concludes
+
+-- there was no memory for a script
+pub starved_script : (source left : SourceShown) (sink : SinkShown) (store store' : Shown) (fresh fresh' : Bool) (given : List ℕ) (status : ℕ) → Gave source given left → NeverFall store.counts store'.counts → status ≡ 3 → RanSession (outside source sink store fresh) status (outside left sink store' fresh')
+starved_script source left sink store store' fresh fresh' given status gave counts three words is =
+    ran_no_memory words (outside source sink store fresh) (outside left sink store' fresh') status
+    (kept_session words (outside source sink store fresh) (outside left sink store' fresh') status is counts gave.taken)
+    gave.fine (record { is = three; wrote = wrote_none sink; fine = refl })
+
+-- a cause since the counts before, which are the same
+cause_since : (w : World) (state : State) (command : Command) (old mid new : Shown) (e : HdfsError) → SameCounts old.counts mid.counts → Cause w state command mid new e → Cause w state command old new e
+cause_since w state command old mid new errors.NoMemory same cause = cause
+cause_since w state command old mid new errors.Failed same cause = absurd cause
+cause_since w state (commands.Read text offset len) old mid new (errors.DataTransferError (transfer.Read byte)) same cause =
+    let file = cause.1 in
+    let lost = file.lost in (
+      cause.0,
+      record {
+        picture = file.picture;
+        told = file.told;
+        file = file.file;
+        named = file.named;
+        lost = record {
+          id = lost.id;
+          at = lost.at;
+          lies = lost.lies;
+          entry = lost.entry;
+          is = lost.is;
+          behind = lost.behind;
+          before = lost.before;
+          inside = lost.inside;
+          all_failed = λ k within whole. rw (← same.nodes (get_or lost.entry.nodes k [])) (lost.all_failed k within whole);
+        };
+      },
+    )
+cause_since w state command old mid new (errors.InvalidArgument (args.Range offset len length)) same cause = cause
+cause_since w state command old mid new (errors.FileNotFound name) same cause = cause
+cause_since w state command old mid new (errors.RPCError class message) same cause =
+    ⊎_elim (λ stands. inl stands) (λ rose. inr (rose.0, rose.1, rw (← same.calls rose.0) rose.2)) cause
+
+stopped_since : (w : World) (state : State) (commands : List Command) (old mid new : Shown) (fault : Fault) → SameCounts old.counts mid.counts → Stopped w state commands mid new fault → Stopped w state commands old new fault
+stopped_since w state commands old mid new fault same stopped = record {
+  last = stopped.last;
+  done = stopped.done;
+  cause = λ some.
+      let at = stopped.cause some in
+      (at.0, at.1, cause_since w stopped.last at.0 old mid new fault.error same at.2, at.3);
+  start = stopped.start;
+}
+
+none_rose_since : (n m : ℕ) (old mid new : FaultCounts) → m ≡ n → SameCounts old mid → NoneRose n old new → NoneRose m mid new
+none_rose_since n m old mid new is same none = record {
+  calls = λ i below rose. none.calls i (omega (arith, below, is)) (rw (← same.calls i) rose);
+  links = λ rose. none.links (rw (← same.links) rose);
+  nodes = λ d rose. none.nodes d (rw (← same.nodes d) rose);
+}
+
+-- the lines of a script were loaded, and its commands were run over the store that they made
+pub record LoadedRun (a : Outside) (given : List ℕ) (s : Script) (mid : Shown) (b : Outside) : Type 0 where
+  pub gave : Gave a.source given b.source
+  pub is : parsed given ≡ Ok s
+  pub may : (a.fresh || list_all is_fault s.lines) ≡ true
+  pub loads : LoadsAll a.store s.lines mid
+  pub later : Later mid b.store
+
+after_lines : (a b : Outside) (given : List ℕ) (s : Script) (mid : Shown) → LoadedRun a given s mid b → (bytes : List ℕ) (state : State) → IsKnown a bytes state → IsKnownStore mid (with_lines state s.lines)
+after_lines a b given s mid run bytes state known =
+    record { one = run.loads.namenodes ∙ known.one; fits = run.loads.fits state known.fits; closed = closed_lines state s.lines known.closed }
+
+loaded_from : (a b : Outside) (given : List ℕ) (s : Script) (mid : Shown) → LoadedRun a given s mid b → (bytes : List ℕ) (state : State) → IsKnown a bytes state → Loaded a bytes state s b
+loaded_from a b given s mid run bytes state known = record {
+  is = script_is a.fresh state bytes s (parsed_given a given bytes b.source state run.gave known ∙ run.is) (takes_all-fresh a.fresh state s.lines ∙ rw (run.may, run.loads.taken state known.fits) refl);
+  lines = run.later.loaded ∙ run.loads.loaded;
+}
+
+finishes_from : (a b : Outside) (given : List ℕ) (s : Script) (mid : Shown) (status : ℕ) → LoadedRun a given s mid b → (end : ToEnd s.commands mid b.store a.sink status b.sink) → (bytes : List ℕ) (state : State) → IsKnown a bytes state → Finishes a bytes state (replies_text end.replies) b
+finishes_from a b given s mid status run end bytes state known =
+    let t = end.told (with_lines state s.lines) (after_lines a b given s mid run bytes state known) in
+    record { parsed = s; loaded = loaded_from a b given s mid run bytes state known; replies = end.replies; last = t.0; folds = t.1; fits = t.2; is_text = refl }
+
+halts_from : (a b : Outside) (given : List ℕ) (s : Script) (mid : Shown) (status : ℕ) → LoadedRun a given s mid b → (stop : ToFault s.commands mid b.store a.sink status b.sink) → (bytes : List ℕ) (state : State) → IsKnown a bytes state → Halts a bytes state (fault_text stop.fault) b
+halts_from a b given s mid status run stop bytes state known = record {
+  parsed = s;
+  loaded = loaded_from a b given s mid run bytes state known;
+  fault = stop.fault;
+  other = stop.other;
+  stopped = stopped_since script_world (with_lines state s.lines) s.commands a.store mid b.store stop.fault run.loads.counts (stop.told (with_lines state s.lines) (after_lines a b given s mid run bytes state known));
+  is_text = refl;
+}
+
+decides_from : (a b : Outside) (given : List ℕ) (s : Script) (mid : Shown) (status : ℕ) → LoadedRun a given s mid b → ToFault s.commands mid b.store a.sink status b.sink → status ≡ 2 → ScriptDecides a status b
+decides_from a b given s mid status run stop two bytes state found known is none =
+    let here = (loaded_from a b given s mid run bytes state known).is in
+    let same : s ≡ found = cc (here, is) in
+    let fault : StatusOf (fold script_world (with_lines state s.lines) s.commands) 2 = stop.complete (with_lines state s.lines) (after_lines a b given s mid run bytes state known) (none_rose_since a.store.namenodes mid.namenodes a.store.counts mid.counts b.store.counts run.loads.namenodes run.loads.counts none.calls) in
+    let this : StatusOf (fold script_world (with_lines state s.lines) s.commands) status = subst (λ (n : ℕ). StatusOf (fold script_world (with_lines state s.lines) s.commands) n) (sym two) fault in
+    subst (λ (x : Script). StatusOf (fold script_world (with_lines state x.lines) x.commands) status) same this
+
+kept_loaded : (words : List (List ℕ)) (a b : Outside) (given : List ℕ) (s : Script) (mid : Shown) (status : ℕ) → IsSession words → LoadedRun a given s mid b → Kept words a status b
+kept_loaded words a b given s mid status is run =
+    kept_session words a b status is (never_fall_trans a.store.counts mid.counts b.store.counts (never_fall_from-SameCounts a.store.counts mid.counts run.loads.counts) run.later.counts) run.gave.taken
+
+-- the session came to its end
+ran_end : (a b : Outside) (given : List ℕ) (s : Script) (mid : Shown) (status : ℕ) → LoadedRun a given s mid b → (end : ToEnd s.commands mid b.store a.sink status b.sink) → Concludes 0 a.sink (replies_text end.replies) status b.sink → RanSession a status b
+ran_end a b given s mid status run end (inl whole) words is =
+    ran_done words a b (replies_text end.replies) status (kept_loaded words a b given s mid status is run) run.gave.fine whole (finishes_from a b given s mid status run end)
+ran_end a b given s mid status run end (inr part) words is =
+    ran_sink_failed words a b (replies_text end.replies) status (kept_loaded words a b given s mid status is run) run.gave.fine part
+    (λ _ bytes state known. inr (inl (finishes_from a b given s mid status run end bytes state known)))
+
+-- the session stopped
+ran_fault : (a b : Outside) (given : List ℕ) (s : Script) (mid : Shown) (status : ℕ) → LoadedRun a given s mid b → (stop : ToFault s.commands mid b.store a.sink status b.sink) → Concludes 2 a.sink (fault_text stop.fault) status b.sink → RanSession a status b
+ran_fault a b given s mid status run stop (inl whole) words is =
+    ran_stopped words a b (fault_text stop.fault) status (kept_loaded words a b given s mid status is run) run.gave.fine whole (halts_from a b given s mid status run stop) (decides_from a b given s mid status run stop whole.is)
+ran_fault a b given s mid status run stop (inr part) words is =
+    ran_sink_failed words a b (fault_text stop.fault) status (kept_loaded words a b given s mid status is run) run.gave.fine part
+    (λ _ bytes state known. inr (inr (halts_from a b given s mid status run stop bytes state known)))
+
+ran_ending : (a b : Outside) (given : List ℕ) (s : Script) (mid : Shown) (status : ℕ) → LoadedRun a given s mid b → PrintsWhole 3 a.sink [] status b.sink ⊎ ToEnd s.commands mid b.store a.sink status b.sink ⊎ ToFault s.commands mid b.store a.sink status b.sink → RanSession a status b
+ran_ending a b given s mid status run (inl whole) words is =
+    ran_no_memory words a b status (kept_loaded words a b given s mid status is run) run.gave.fine whole
+ran_ending a b given s mid status run (inr (inl end)) words is = ran_end a b given s mid status run end end.printed words is
+ran_ending a b given s mid status run (inr (inr stop)) words is = ran_fault a b given s mid status run stop stop.printed words is
+
+-- the lines were loaded, and the commands run
+pub ran_loaded : (a b : Outside) (given : List ℕ) (s : Script) (mid : Shown) (status : ℕ) → Gave a.source given b.source → parsed given ≡ Ok s → (a.fresh || list_all is_fault s.lines) ≡ true → LoadsAll a.store s.lines mid → RanCommands s.commands mid b.store a.sink status b.sink → RanSession a status b
+ran_loaded a b given s mid status gave is may loads ran =
+    ran_ending a b given s mid status (record { gave = gave; is = is; may = may; loads = loads; later = ran.later }) ran.ending

@@ -1,0 +1,79 @@
+-- What a session over a known store has done, and how it is printed.
+use Rattle.std.proofs.Common.{inl, inr, ◌≡◌, ◌≢◌, ℕ, MatchResult, Vec, List, get_or, Ok, Err, Result, refl, sym, ◌∙◌, ap, subst}
+use Rattle.std.specs.declared.alloc.Global.{Global}
+use Rattle.hdfs_model.specs.declared.commands.Command.{Command}
+use Rattle.hdfs_model.specs.declared.commands.Command.TheVariants as commands
+use Rattle.hdfs_model.specs.declared.commands.Reply.{Reply}
+use Rattle.hdfs_model.specs.declared.commands.Settings.{Settings}
+use Rattle.hdfs_model.specs.declared.errors.Fault.{Fault}
+use Rattle.hdfs_model.specs.declared.errors.HdfsError.TheVariants as errors
+use Rattle.hdfs_model.specs.Files.{State}
+use Rattle.hdfs_model.specs.Folds.{Folded, Ends, Stops, fold}
+use Rattle.hdfs_model.specs.Headline.{Ready, Ran, Stopped}
+use Rattle.hdfs_model.specs.Sessions.{Avoids, Complete, none_open, world_of}
+use Rattle.hdfs_model.specs.Shown.{Shown, Later}
+use Rattle.hdfs_model.specs.Steps.{World, target_of}
+use Rattle.hdfs_script.specs.Scripts.{script_world}
+use Rattle.hdfs_script.specs.Texts.{replies_text, fault_text}
+use Rattle.hdfs_streams.specs.declared.streams.IoFailed.{IoFailed}
+use Rattle.hdfs_streams.specs.Streams.{SinkShown, Prints}
+use Rattle.hdfs_top.specs.Top.{IsClosed, StatusOf}
+use Rattle.hdfs_top.specs.Inside.{IsKnownStore, Concludes, ToEnd, ToFault, RanCommands}
+
+-- the status of a print
+pub concludes_from-Prints : {T : Type 0} (good : ℕ) (a c : SinkShown) (text : List ℕ) (r : Result T IoFailed) (status : ℕ) → Prints a text r c → MatchResult r (λ x. status ≡ good) (λ e. status ≡ 5) → Concludes good a text status c
+concludes_from-Prints good a c text (Ok x) status p is = inl (record { is = is; wrote = p.ok; fine = p.fine })
+concludes_from-Prints good a c text (Err e) status p is = inr (record { is = is; rose = p.failed; part = p.part })
+
+abbrev from_home : List ℕ → World
+from_home home = record { home = home }
+
+-- the settings of a script make its world
+pub world_is : (settings : Settings) (s : Shown) → settings.home ≡ script_world.home → world_of settings s ≡ script_world
+world_is settings s is = ap from_home is
+
+-- where all files are closed no command names one that is being written
+avoids_closed : (w : World) (state : State) (command : Command) → IsClosed state → Avoids w state command
+avoids_closed w state (commands.Read path offset len) closed =
+    λ strange. closed.written (target_of w (commands.Read path offset len)) strange.0 strange.1
+
+ready : (w : World) (old : Shown) (state : State) (commands : List Command) → IsKnownStore old state → Ready w (record { opened = none_open; shown = old }) state commands
+ready w old state commands known = record {
+  one = known.one;
+  fits = known.fits;
+  opened = known.closed.opened;
+  avoids = λ k d within. avoids_closed w state (get_or commands k d) known.closed;
+}
+
+abbrev RanReady : World → List Command → Shown → Shown → Result (Vec Reply Global) Fault → Type 0
+RanReady w commands old new result = (state : State) → Ready w (record { opened = none_open; shown = old }) state commands → Ran w state commands old new result
+
+-- a session came to its end
+pub ran_to_end : (w : World) (commands : List Command) (old new : Shown) (before after : SinkShown) (status : ℕ) (replies : Vec Reply Global) → w ≡ script_world → Later old new → RanReady w commands old new (Ok replies) → Concludes 0 before (replies_text replies.items) status after → RanCommands commands old new before status after
+ran_to_end w commands old new before after status replies is later ran printed =
+    let end : ToEnd commands old new before status after = record {
+      replies = replies.items;
+      told = λ state known.
+          let t = (ran state (ready w old state commands known)).ok in
+          (t.0, ap (λ v. fold v state commands) (sym is) ∙ t.1, t.2);
+      printed = printed;
+    } in
+    record { later = later; ending = inr (inl end) }
+
+-- where nothing failed, a session stops at a command that is refused
+refused_from-Complete : (T : Type 0) (r : Folded) (fault : Fault) → Complete {T = T} r (Err fault) → fault.error ≢ errors.NoMemory → StatusOf r 2
+refused_from-Complete T (Ends replies last) fault complete other = absurd (other complete)
+refused_from-Complete T (Stops replies last why) fault complete other = inl refl
+
+-- a session stopped at a fault
+pub ran_to_fault : (w : World) (commands : List Command) (old new : Shown) (before after : SinkShown) (status : ℕ) (fault : Fault) → w ≡ script_world → Later old new → RanReady w commands old new (Err fault) → fault.error ≢ errors.NoMemory → Concludes 2 before (fault_text fault) status after → RanCommands commands old new before status after
+ran_to_fault w commands old new before after status fault is later ran other printed =
+    let stop : ToFault commands old new before status after = record {
+      fault = fault;
+      other = other;
+      told = λ state known. subst (λ (v : World). Stopped v state commands old new fault) is (ran state (ready w old state commands known)).err;
+      complete = λ state known none.
+          refused_from-Complete (Vec Reply Global) (fold script_world state commands) fault (subst (λ (v : World). Complete {T = Vec Reply Global} (fold v state commands) (Err fault)) is ((ran state (ready w old state commands known)).complete none)) other;
+      printed = printed;
+    } in
+    record { later = later; ending = inr (inr stop) }

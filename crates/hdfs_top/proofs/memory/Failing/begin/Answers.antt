@@ -1,4 +1,0 @@
-use Rattle.hdfs_top.proofs.memory.Failing.begin.Goals as goal
-
-pub returns-then-contains-clause-cause : goal.returns-then-contains-clause-cause
-returns-then-contains-clause-cause c = record { later = c.raise.ensures.later; failed = c.raise.ensures.rose }

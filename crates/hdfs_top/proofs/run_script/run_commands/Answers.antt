@@ -1,0 +1,17 @@
+use Rattle.std.proofs.Common.{⊎_elim, inl}
+use Rattle.hdfs_top.proofs.SessionLemmas.{ran_to_end, ran_to_fault, world_is}
+use Rattle.hdfs_top.proofs.run_script.run_commands.Goals as goal
+
+-- the session came to its end
+pub returns-in-Ok-run_session : goal.returns-in-Ok-run_session
+returns-in-Ok-run_session g c =
+    let tells = rw c.as_slice.ensures.value at c.tell_replies.ensures in
+    ran_to_end _ _ _ _ _ _ _ c.in-Ok-run_session.replies (world_is c.in-Ok.settings (g.C.Cluster.shown c.args.store.now) c.in-Ok.ensures) c.run_session.ensures.anywhere.later c.in-Ok-run_session.ensures.ran tells
+
+-- the session stopped
+pub returns : goal.returns
+returns g c =
+    ⊎_elim
+    (λ none. record { later = c.run_session.ensures.anywhere.later; ending = inl none.1 })
+    (λ other. ran_to_fault _ _ _ _ _ _ _ c.in-Err.fault (world_is c.in-Ok.settings (g.C.Cluster.shown c.args.store.now) c.in-Ok.ensures) c.run_session.ensures.anywhere.later c.in-Err.ensures.ran other.0 other.1)
+    c.tell_stop.ensures

@@ -1,0 +1,80 @@
+-- No public clause cites this module: what the steps of the program have done.
+use Rattle.std.specs.Prelude.{◌≡◌, ◌≢◌, ◌⊎◌, ℕ, ◌+◌, true, List, [], ◌++◌}
+use Rattle.hdfs_model.specs.declared.store.Line.{Line}
+use Rattle.hdfs_model.specs.declared.commands.Command.{Command}
+use Rattle.hdfs_model.specs.declared.commands.Reply.{Reply}
+use Rattle.hdfs_model.specs.declared.errors.Fault.{Fault}
+use Rattle.hdfs_model.specs.declared.errors.HdfsError.TheVariants as errors
+use Rattle.hdfs_model.specs.Counts.{NoneRose, Rose, SameCounts}
+use Rattle.hdfs_model.specs.Files.{State}
+use Rattle.hdfs_model.specs.Folds.{Ends, fold}
+use Rattle.hdfs_model.specs.Headline.{Stopped}
+use Rattle.hdfs_model.specs.Loading.{with_lines}
+use Rattle.hdfs_model.specs.Sessions.{Fits}
+use Rattle.hdfs_model.specs.Shown.{Shown, Later}
+use Rattle.hdfs_script.specs.Scripts.{script_limit, script_world, takes_all}
+use Rattle.hdfs_script.specs.Texts.{replies_text, fault_text}
+use Rattle.hdfs_streams.specs.Streams.{SourceShown, SinkShown, TookAtMost, IsFront, Wrote, WrotePart}
+use Rattle.hdfs_top.specs.Top.{IsSession, IsClosed, Outside, RanProgram, StatusOf}
+
+-- the words were those of a session
+abbrev pub RanSession : Outside → ℕ → Outside → Type 0
+RanSession before status after = (words : List (List ℕ)) → IsSession words → RanProgram words before status after
+
+-- the source gave these bytes: all that it had, or one more than a script may have
+pub record Gave (before : SourceShown) (bytes : List ℕ) (after : SourceShown) : Type 0 where
+  pub taken : TookAtMost (script_limit + 1) before after
+  pub fine : after.failures ≡ before.failures
+  pub front : IsFront (script_limit + 1) before bytes
+
+-- The store has one namenode, tells its picture, and agrees with this state, whose files are all closed.
+pub record IsKnownStore (store : Shown) (state : State) : Type 0 where
+  pub one : store.namenodes ≡ 1
+  pub fits : Fits store state
+  pub closed : IsClosed state
+
+-- lines were loaded, in order
+pub record LoadsAll (old : Shown) (lines : List Line) (new : Shown) : Type 0 where
+  pub namenodes : new.namenodes ≡ old.namenodes
+  pub counts : SameCounts old.counts new.counts
+  pub loaded : new.loaded ≡ old.loaded ++ lines
+  pub taken : (state : State) → Fits old state → takes_all true state lines ≡ true
+  pub fits : (state : State) → Fits old state → Fits new (with_lines state lines)
+
+-- a text was printed, and no write failed
+pub record PrintsWhole (good : ℕ) (before : SinkShown) (text : List ℕ) (status : ℕ) (after : SinkShown) : Type 0 where
+  pub is : status ≡ good
+  pub wrote : Wrote before text after
+  pub fine : after.failures ≡ before.failures
+
+-- the sink failed behind a prefix of the text
+pub record PrintsPart (before : SinkShown) (text : List ℕ) (status : ℕ) (after : SinkShown) : Type 0 where
+  pub is : status ≡ 5
+  pub rose : Rose before.failures after.failures
+  pub part : WrotePart before text after
+
+-- a text was printed, which this good status tells, or the sink failed
+abbrev pub Concludes : ℕ → SinkShown → List ℕ → ℕ → SinkShown → Type 0
+Concludes good before text status after = PrintsWhole good before text status after ⊎ PrintsPart before text status after
+
+-- commands came to their end
+pub record ToEnd (commands : List Command) (old new : Shown) (before : SinkShown) (status : ℕ) (after : SinkShown) : Type 0 where
+  pub replies : List Reply
+  pub told : (state : State) → IsKnownStore old state
+      → (last : State) × (fold script_world state commands ≡ Ends replies last) × Fits new last
+  pub printed : Concludes 0 before (replies_text replies) status after
+
+-- commands stopped at a fault other than want of memory
+pub record ToFault (commands : List Command) (old new : Shown) (before : SinkShown) (status : ℕ) (after : SinkShown) : Type 0 where
+  pub fault : Fault
+  pub other : fault.error ≢ errors.NoMemory
+  pub told : (state : State) → IsKnownStore old state → Stopped script_world state commands old new fault
+  pub complete : (state : State) → IsKnownStore old state → NoneRose old.namenodes old.counts new.counts
+      → StatusOf (fold script_world state commands) 2
+  pub printed : Concludes 2 before (fault_text fault) status after
+
+-- commands were run, and what they answered was printed; for want of memory nothing was
+pub record RanCommands (commands : List Command) (old new : Shown) (before : SinkShown) (status : ℕ) (after : SinkShown) : Type 0 where
+  pub later : Later old new
+  pub ending : PrintsWhole 3 before [] status after
+      ⊎ ToEnd commands old new before status after ⊎ ToFault commands old new before status after

@@ -1,0 +1,97 @@
+//! Running a script over a store.
+ghost use Rattle.std.specs.Prelude.{◌≡◌, ◌≢◌, ◌⊎◌, ◌<◌, ℕ, true, List, [], Ok, IfOk};
+ghost use Rattle.std.specs.List.{list_all};
+ghost use Rattle.hdfs_model.specs.Sessions.{has_path};
+ghost use Rattle.hdfs_model.specs.declared.errors.HdfsError.TheVariants as errors;
+ghost use Rattle.hdfs_script.specs.Scripts.{parsed, script_world};
+ghost use Rattle.hdfs_script.specs.Texts.{fault_text};
+ghost use Rattle.hdfs_streams.specs.Streams.{SourceShown};
+ghost use Rattle.hdfs_top.specs.Top.{outside};
+ghost use Rattle.hdfs_top.specs.Inside.{PrintsWhole, Concludes, RanCommands, RanSession, Gave};
+
+use crate::load_lines::{load_lines, may_take};
+use crate::status::{refuse, tell_fault, tell_replies};
+use hdfs_client::run_session;
+use hdfs_model::{AddFault, Command, Fault, HdfsError, Settings, Store};
+use hdfs_script::{SCRIPT_HOME, Script, ScriptFault, parse};
+use hdfs_streams::Sink;
+use hdfs_wire::{NoMemory, Text};
+use std::alloc::Global;
+
+// Prints what a session answered that stopped, but nothing for want of memory.
+fn tell_stop<K: Sink>(sink: &mut K, fault: &Fault) -> u8
+    ensures { ((fault.now.error ≡ errors.NoMemory) × PrintsWhole 3 (K.shown sink.old) [] result (K.shown sink.new))
+        ⊎ ((fault.now.error ≢ errors.NoMemory) × Concludes 2 (K.shown sink.old) (fault_text fault.now) result (K.shown sink.new)) }
+{
+    match fault.error {
+        HdfsError::NoMemory => 3,
+        _ => tell_fault(sink, fault),
+    }
+}
+
+// The settings of a script's session.
+fn script_settings(alloc: Global) -> Result<Settings, NoMemory>
+    ensures { IfOk result (λ settings. settings.home ≡ script_world.home) }
+{
+    Ok(Settings {
+        home: Text::from_str(alloc, SCRIPT_HOME)?,
+    })
+}
+
+// Runs commands over a store, and prints what they answer.
+fn run_commands<K: Sink, C: Store>(
+    alloc: Global,
+    commands: &[Command],
+    sink: &mut K,
+    store: &mut C,
+) -> u8
+    requires namenode { 0 < (C.shown store.old).namenodes }
+    requires paths { list_all has_path commands.now ≡ true }
+    ensures { RanCommands commands.now (C.shown store.old) (C.shown store.new) (K.shown sink.old) result (K.shown sink.new) }
+{
+    let Ok(settings) = script_settings(alloc) else {
+        return 3;
+    };
+    match run_session(alloc, store, &settings, commands) {
+        Ok(replies) => tell_replies(sink, replies.as_slice()),
+        Err(fault) => tell_stop(sink, &fault),
+    }
+}
+
+// Runs a script over a store: its lines are loaded, and its commands run.
+fn run_parsed<K: Sink, C: Store>(alloc: Global, script: Script, sink: &mut K, store: &mut C) -> u8
+    requires namenode { 0 < (C.shown store.old).namenodes }
+    requires paths { list_all has_path script.commands ≡ true }
+    ensures { (bytes : List ℕ) (source left : SourceShown) → parsed bytes ≡ Ok script → Gave source bytes left
+        → RanSession (outside source (K.shown sink.old) (C.shown store.old) (C.is_fresh store.old)) result
+        (outside left (K.shown sink.new) (C.shown store.new) (C.is_fresh store.new)) }
+{
+    let Script { lines, commands } = script;
+    if !may_take(store.fresh(), lines.as_slice()) {
+        return refuse(sink, 0);
+    }
+    match load_lines(store, lines) {
+        Ok(()) => run_commands(alloc, commands.as_slice(), sink, store),
+        Err(AddFault::Refused) => refuse(sink, 0),
+        Err(AddFault::NoMemory) => 3,
+    }
+}
+
+/// Runs the script that bytes are over a store, or prints that they are refused. They came from some source.
+pub(crate) fn run_script<K: Sink, C: Store>(
+    alloc: Global,
+    bytes: &[u8],
+    sink: &mut K,
+    store: &mut C,
+) -> u8
+    requires { 0 < (C.shown store.old).namenodes }
+    ensures { (source left : SourceShown) → Gave source bytes.now left
+        → RanSession (outside source (K.shown sink.old) (C.shown store.old) (C.is_fresh store.old)) result
+        (outside left (K.shown sink.new) (C.shown store.new) (C.is_fresh store.new)) }
+{
+    match parse(alloc, bytes) {
+        Ok(script) => run_parsed(alloc, script, sink, store),
+        Err(ScriptFault::Bad(line)) => refuse(sink, line),
+        Err(ScriptFault::NoMemory) => 3,
+    }
+}
