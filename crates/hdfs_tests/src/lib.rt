@@ -3,6 +3,9 @@
 
 #[cfg(test)]
 mod asking;
+mod fake_cluster;
+#[cfg(test)]
+mod falling_over;
 #[cfg(test)]
 mod rows;
 #[cfg(test)]

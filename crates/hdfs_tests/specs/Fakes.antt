@@ -1,0 +1,22 @@
+-- What the cluster that gives what it is told to give shows.
+use Rattle.std.specs.Prelude.{◌≡◌, ◌<◌, ℕ, [], Some, None}
+use Rattle.std.proofs.lemmas.Option.{none-some}
+use Rattle.hdfs_model.specs.Picture.{Picture}
+use Rattle.slab.specs.Slab as slab
+use Rattle.hdfs_model.specs.Shown.{Shown}
+use Rattle.hdfs_tests.specs.declared.fake_cluster.FakeCluster.{FakeCluster}
+
+-- no picture, one namenode, and one count for all datanodes
+abbrev pub shown_of : FakeCluster → Shown
+shown_of fake = record {
+  picture = None;
+  counts = record { calls = λ i. 0; links = 0; nodes = λ d. fake.failures };
+  last = fake.last;
+  namenodes = 1;
+  reads = λ link. slab.get fake.reads link;
+  loaded = [];
+}
+
+-- no picture is told
+pub no_picture : (fake : FakeCluster) (p : Picture) → (shown_of fake).picture ≡ Some p → p.active < (shown_of fake).namenodes
+no_picture fake p told = absurd (none-some p told)

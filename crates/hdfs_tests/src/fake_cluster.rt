@@ -1,0 +1,232 @@
+//! A cluster that gives what it is told to give, call by call. It tells no picture.
+ghost use Rattle.std.specs.Prelude.{◌≡◌, ◌<◌, ◌^◌, ℕ, pos, length, IfOk};
+ghost use Rattle.hdfs_tests.specs.Blocks.{IsPair};
+
+use bytes::Bytes;
+use hdfs_model::{
+    Answer, Ask, AskFault, Block, Cluster, DatanodeId, DatanodeInfo, LastAnswer, LinkFault,
+    LocatedBlock, LocatedBlocks, OpenRead, ReadAsk, Token,
+};
+use hdfs_wire::{Blob, List, NoMemory, PacketHeader, ReadPacket, Text};
+use slab::Slab;
+use std::alloc::Global;
+use std::collections::VecDeque;
+
+/// What a call on a datanode gives: an open link, a packet with its offset in the block, or a failure.
+#[derive(Clone, Copy, Debug)]
+pub(crate) enum Step {
+    Opens,
+    Gives(i64, &'static [u8]),
+    Breaks,
+    Refuses,
+    LacksMemory,
+}
+
+/// What a look-up gives: that there is no file, or a file of two blocks of four bytes each on two datanodes.
+#[derive(Clone, Copy, Debug)]
+pub(crate) enum Look {
+    NoFile,
+    TwoBlocks,
+}
+
+/// The cluster: what it gives, its open links, and how often its datanodes have failed.
+#[derive(Drop)]
+pub(crate) struct FakeCluster {
+    pub(crate) alloc: Global,
+    pub(crate) look: Look,
+    pub(crate) steps: VecDeque<Step>,
+    pub(crate) last: LastAnswer,
+    pub(crate) reads: Slab<OpenRead>,
+    pub(crate) failures: u64,
+}
+
+impl FakeCluster {
+    ghost use Rattle.hdfs_tests.specs.Fakes.{shown_of};
+
+    /// A cluster that gives these steps in order, and then fails.
+    pub(crate) fn new(alloc: Global, look: Look, steps: &[Step]) -> Result<FakeCluster, NoMemory>
+        ensures { IfOk result (λ fake. (shown_of fake).namenodes ≡ 1) }
+    {
+        let mut all = VecDeque::new(alloc);
+        for step in steps {
+            all.push_back(*step)?;
+        }
+        Ok(FakeCluster {
+            alloc,
+            look,
+            steps: all,
+            last: LastAnswer::Fine,
+            reads: Slab::new(alloc),
+            failures: 0,
+        })
+    }
+
+    /// How many steps were not asked for.
+    pub(crate) fn left(&self) -> usize {
+        self.steps.len()
+    }
+
+    fn next_step(&mut self) -> Step
+        ensures { self.new ≡ record self.old { steps = self.new.steps } }
+    {
+        self.steps.pop_front().unwrap_or(Step::Breaks)
+    }
+}
+
+/// What is told of a read that is opened.
+fn opened(alloc: Global, ask: &ReadAsk, before: u64) -> Result<OpenRead, NoMemory>
+    ensures { IfOk result (λ told. told ≡ record { node = ask.now.node; block = ask.now.block; token = ask.now.token; before = before }) }
+{
+    Ok(OpenRead {
+        node: ask.node.copy(alloc)?,
+        block: ask.block.copy(alloc)?,
+        token: ask.token.copy(alloc)?,
+        before,
+    })
+}
+
+/// A datanode by its uuid.
+fn datanode(alloc: Global, uuid: &str) -> Result<DatanodeInfo, NoMemory> {
+    Ok(DatanodeInfo {
+        id: DatanodeId {
+            ip_addr: Text::new(alloc),
+            host_name: Text::new(alloc),
+            datanode_uuid: Text::from_str(alloc, uuid)?,
+            xfer_port: 0,
+            info_port: 0,
+            ipc_port: 0,
+        },
+        location: Text::new(alloc),
+    })
+}
+
+/// A block of four bytes on two datanodes.
+fn block(alloc: Global, id: u64, offset: u64) -> Result<LocatedBlock, NoMemory>
+    ensures { IfOk result (λ block. (block.offset ≡ offset) × (block.b.num_bytes ≡ 4)) }
+{
+    let mut locs = List::new(alloc);
+    locs.push(datanode(alloc, "dn0")?)?;
+    locs.push(datanode(alloc, "dn1")?)?;
+    Ok(LocatedBlock {
+        b: Block {
+            pool_id: Text::new(alloc),
+            block_id: id,
+            generation_stamp: 1,
+            num_bytes: 4,
+        },
+        offset,
+        locs,
+        corrupt: false,
+        block_token: Token {
+            identifier: Blob::new(alloc),
+            password: Blob::new(alloc),
+            kind: Text::new(alloc),
+            service: Text::new(alloc),
+        },
+        storage_types: List::new(alloc),
+        storage_ids: List::new(alloc),
+        block_indices: None,
+        block_tokens: List::new(alloc),
+    })
+}
+
+/// A file of two such blocks.
+fn two_blocks(alloc: Global) -> Result<LocatedBlocks, NoMemory>
+    ensures length { IfOk result (λ found. found.file_length ≡ 8) }
+    ensures blocks { IfOk result (λ found. IsPair found.blocks (λ block. (block.offset ≡ 0) × (block.b.num_bytes ≡ 4)) (λ block. (block.offset ≡ 4) × (block.b.num_bytes ≡ 4))) }
+{
+    let mut blocks = List::new(alloc);
+    blocks.push(block(alloc, 1, 0)?)?;
+    blocks.push(block(alloc, 2, 4)?)?;
+    Ok(LocatedBlocks {
+        file_length: 8,
+        blocks,
+        under_construction: false,
+    })
+}
+
+/// A packet with these bytes at this offset in its block.
+fn packet(alloc: Global, offset: i64, bytes: &'static [u8]) -> Result<ReadPacket, NoMemory>
+    requires { length bytes.now < 2 ^ 31 }
+    ensures { IfOk result (λ packet. packet.header.data_len ≡ pos (length packet.payload)) }
+{
+    let payload = Bytes::from_vec(Vec::from_slice(alloc, bytes)?)?;
+    Ok(ReadPacket {
+        header: PacketHeader {
+            offset_in_block: offset,
+            seqno: 0,
+            last_packet_in_block: false,
+            data_len: bytes.len() as i32,
+            sync_block: None,
+        },
+        checksum: Bytes::new(),
+        payload,
+    })
+}
+
+impl Cluster for FakeCluster {
+    ghost use Rattle.hdfs_model.specs.Shown.{Served};
+    ghost use Rattle.hdfs_tests.specs.Fakes.{shown_of, no_picture};
+
+    ghost shown = { shown_of };
+
+    ghost serves = { λ old i ask result new. Served (shown_of old) i ask result (shown_of new) };
+
+    ghost serves_rows = { λ old new i ask result served. served };
+
+    fn namenodes(&self) -> u32 {
+        1
+    }
+
+    fn ask(&mut self, _i: u32, ask: &Ask) -> Result<Answer, AskFault> {
+        let Ask::GetBlockLocations { .. } = ask;
+        match self.look {
+            Look::NoFile => {
+                self.last = LastAnswer::Fine;
+                Ok(Answer::GetBlockLocations(None))
+            }
+            Look::TwoBlocks => match two_blocks(self.alloc) {
+                Ok(found) => {
+                    self.last = LastAnswer::Fine;
+                    Ok(Answer::GetBlockLocations(Some(found)))
+                }
+                Err(NoMemory) => {
+                    self.last = LastAnswer::NoMemory;
+                    Err(AskFault::NoMemory)
+                }
+            },
+        }
+    }
+
+    fn open_read(&mut self, _kept: Option<u64>, ask: &ReadAsk) -> Result<u64, LinkFault> {
+        let told = opened(self.alloc, ask, self.failures)?;
+        match self.next_step() {
+            Step::Opens => Ok(self.reads.insert(told)? as u64),
+            Step::LacksMemory => Err(LinkFault::NoMemory),
+            _ => {
+                self.failures = self.failures.saturating_add(1);
+                Err(LinkFault::Refused)
+            }
+        }
+    }
+
+    fn packet(&mut self, _link: u64) -> Result<ReadPacket, LinkFault> {
+        match self.next_step() {
+            Step::Gives(offset, bytes) if bytes.len() < 64 => {
+                Ok(packet(self.alloc, offset, bytes)?)
+            }
+            Step::LacksMemory => Err(LinkFault::NoMemory),
+            _ => {
+                self.failures = self.failures.saturating_add(1);
+                Err(LinkFault::Broken)
+            }
+        }
+    }
+
+    fn end_read(&mut self, link: u64, _keep: bool) -> bool {
+        let _ended = self.reads.try_remove(link as usize);
+        false
+    }
+
+    ghost active_below = { no_picture };
+}

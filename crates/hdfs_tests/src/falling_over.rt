@@ -1,0 +1,204 @@
+//! What a session makes of datanodes that fail, call by call.
+ghost use Rattle.std.specs.Prelude.{◌≡◌, true, IfOk};
+ghost use Rattle.hdfs_model.specs.Sessions.{has_path};
+
+use crate::fake_cluster::Step::{Breaks, Gives, LacksMemory, Opens, Refuses};
+use crate::fake_cluster::{FakeCluster, Look, Step};
+use hdfs_client::run_session;
+use hdfs_model::{Command, Fault, HdfsError, Reply, Settings, TransferFault, is_path};
+use hdfs_wire::Text;
+use std::alloc::Global;
+use std::test::Fail;
+
+/// The first block's bytes and the second's.
+const FIRST: &[u8] = &[0, 1, 2, 3];
+
+const SECOND: &[u8] = &[4, 5, 6, 7];
+
+/// What a session of one read ends with.
+#[derive(Debug, PartialEq, Eq, Clone, Copy)]
+enum Ends {
+    Bytes(&'static [u8]),
+    ReadFails(u64),
+    FileNotFound,
+    NoMemory,
+    Other,
+}
+
+/// A read of five bytes from the third on, of a file of two blocks on two datanodes: what the datanodes do, and how it
+/// ends.
+const ROWS: [(&str, &[Step], Ends); 13] = [
+    (
+        "two blocks",
+        &[Opens, Gives(0, FIRST), Opens, Gives(0, SECOND)],
+        Ends::Bytes(&[2, 3, 4, 5, 6]),
+    ),
+    (
+        "the first replica refuses",
+        &[Refuses, Opens, Gives(0, FIRST), Opens, Gives(0, SECOND)],
+        Ends::Bytes(&[2, 3, 4, 5, 6]),
+    ),
+    (
+        "the first replica breaks",
+        &[
+            Opens,
+            Breaks,
+            Opens,
+            Gives(0, FIRST),
+            Opens,
+            Gives(0, SECOND),
+        ],
+        Ends::Bytes(&[2, 3, 4, 5, 6]),
+    ),
+    (
+        "a packet before the wanted offset",
+        &[
+            Opens,
+            Gives(0, &[0, 1]),
+            Gives(2, &[2, 3]),
+            Opens,
+            Gives(0, SECOND),
+        ],
+        Ends::Bytes(&[2, 3, 4, 5, 6]),
+    ),
+    (
+        "a packet past the wanted offset",
+        &[
+            Opens,
+            Gives(3, &[3]),
+            Opens,
+            Gives(0, FIRST),
+            Opens,
+            Gives(0, SECOND),
+        ],
+        Ends::Bytes(&[2, 3, 4, 5, 6]),
+    ),
+    (
+        "a packet that doesn't follow",
+        &[
+            Opens,
+            Gives(0, &[0, 1]),
+            Gives(1, &[1, 9]),
+            Opens,
+            Gives(2, &[2, 3]),
+            Opens,
+            Gives(0, SECOND),
+        ],
+        Ends::Bytes(&[2, 3, 4, 5, 6]),
+    ),
+    (
+        "a negative offset",
+        &[
+            Opens,
+            Gives(-1, &[9, 9, 9, 9, 9]),
+            Opens,
+            Gives(0, FIRST),
+            Opens,
+            Gives(0, SECOND),
+        ],
+        Ends::Bytes(&[2, 3, 4, 5, 6]),
+    ),
+    (
+        "an empty packet inside the range",
+        &[
+            Opens,
+            Gives(0, &[0, 1, 2]),
+            Gives(3, &[]),
+            Opens,
+            Gives(3, &[3]),
+            Opens,
+            Gives(0, SECOND),
+        ],
+        Ends::Bytes(&[2, 3, 4, 5, 6]),
+    ),
+    (
+        "the second replica goes on where the first one broke",
+        &[
+            Opens,
+            Gives(0, &[0, 1, 2]),
+            Breaks,
+            Opens,
+            Gives(3, &[3]),
+            Opens,
+            Gives(0, SECOND),
+        ],
+        Ends::Bytes(&[2, 3, 4, 5, 6]),
+    ),
+    (
+        "both replicas of the first block",
+        &[Opens, Breaks, Refuses],
+        Ends::ReadFails(2),
+    ),
+    (
+        "both replicas in the middle of the first block",
+        &[Opens, Gives(0, &[0, 1, 2]), Breaks, Refuses],
+        Ends::ReadFails(3),
+    ),
+    (
+        "both replicas of the second block",
+        &[Opens, Gives(0, FIRST), Refuses, Opens, Breaks],
+        Ends::ReadFails(0),
+    ),
+    (
+        "no memory in the middle of a block",
+        &[Opens, Gives(0, &[0, 1, 2]), LacksMemory],
+        Ends::NoMemory,
+    ),
+];
+
+fn ending_of(answer: Result<Vec<Reply>, Fault>) -> Result<Ends, Fail> {
+    match answer {
+        Ok(replies) => match replies.as_slice() {
+            [Reply::Bytes { bytes }] if bytes.as_slice() == [2, 3, 4, 5, 6].as_slice() => {
+                Ok(Ends::Bytes(&[2, 3, 4, 5, 6]))
+            }
+            _ => Ok(Ends::Other),
+        },
+        Err(fault) => match fault.error {
+            HdfsError::DataTransferError(TransferFault::Read { offset }) => {
+                Ok(Ends::ReadFails(offset))
+            }
+            HdfsError::FileNotFound(_) => Ok(Ends::FileNotFound),
+            HdfsError::NoMemory => Ok(Ends::NoMemory),
+            _ => Ok(Ends::Other),
+        },
+    }
+}
+
+/// A read of five bytes from the third on.
+fn command(alloc: Global) -> Result<Command, Fail>
+    ensures { IfOk result (λ command. has_path command ≡ true) }
+{
+    if !is_path("/a") {
+        return Err("not a path".into());
+    }
+    Ok(Command::Read {
+        path: Text::from_str(alloc, "/a")?,
+        offset: 2,
+        len: 5,
+    })
+}
+
+/// How the read ends, how many steps were not asked for, and how many links are left open.
+fn run(alloc: Global, look: Look, steps: &[Step]) -> Result<(Ends, usize, usize), Fail> {
+    let mut cluster = FakeCluster::new(alloc, look, steps)?;
+    let settings = Settings {
+        home: Text::from_str(alloc, "/user/user")?,
+    };
+    let commands = [command(alloc)?];
+    let result = run_session(alloc, &mut cluster, &settings, &commands);
+    Ok((ending_of(result)?, cluster.left(), cluster.reads.len()))
+}
+
+#[test]
+fn reads_fall_over_to_the_next_replica(rt: HostRuntime) -> Result<(), Fail> {
+    for (name, steps, expected) in &ROWS {
+        let (ends, left, open) = run(rt.alloc(), Look::TwoBlocks, steps)?;
+        assert_eq!(rt; ends, *expected, "{name}");
+        assert_eq!(rt; left, 0, "{name}");
+        assert_eq!(rt; open, 0, "{name}");
+    }
+    let (ends, _, _) = run(rt.alloc(), Look::NoFile, &[])?;
+    assert_eq!(rt; ends, Ends::FileNotFound);
+    Ok(())
+}
