@@ -4,26 +4,42 @@
 usage: bench/libraries.py PROGRAM
   PROGRAM  the built program hdfs_bench
 
-Shards: six data shards and three parity shards, encoded, and decoded with three data shards lost; of 512 KiB each, and of
-256 KiB.
+Shards: encoded, and decoded with as many data shards lost as there are parity shards, of 3+2, 6+3 and 10+4 shards of 64 KiB and
+of 1 MiB, beside bench/shards.c, which looks up a product a byte and is compiled by clang -O2, and, where libisal-dev is installed,
+beside bench/isal.c, which is ISA-L's SSE code. The ratios are their times to ours.
 Globs: `a*a*a*a*a*a*a*a*b` against 1,000,000 times the letter a, which it doesn't match, and against 500,000; and with four
 stars in place of eight.
 Each run is made five times, those that are compared by turns, and the fastest counts, in processor seconds of the process.
 """
+import os
+import subprocess
 import sys
+import tempfile
 
 from timing import fastest
 
 RUNS = 5
 KIB = 1 << 10
+MIB = 1 << 20
 
 
-def shards(program, name, bytes_of):
-    large, small = 512 * KIB, 256 * KIB
-    (whole, half), numbers = fastest(RUNS, [program, name, large, 40], [program, name, small, 40])
-    assert numbers == [bytes_of * large * 40, bytes_of * small * 40]
-    speed = 6 * large * 40 / whole / 1e6
-    print(f"{name} 6+3, shards of 512 KiB against 256 KiB: {whole / half:.2f} times ({speed:.0f} MB of data per second)")
+def built(folder, name, *libraries):
+    """The program of a C file, or None where a library is missing."""
+    source = os.path.join(os.path.dirname(os.path.abspath(__file__)), name + ".c")
+    other = os.path.join(folder, name)
+    done = subprocess.run(["clang", "-O2", "-o", other, source, *libraries], stderr=subprocess.DEVNULL)
+    return other if done.returncode == 0 else None
+
+
+def shards(program, others, work, units, parity, size):
+    times = max(1, 400 * MIB // (size * units))
+    code = f"{work}_{units}_{parity}"
+    words = [[other, work, units, parity, size, times] for other in others]
+    (ours, *theirs), numbers = fastest(RUNS, [program, code, size, times], *words)
+    assert len(set(numbers)) == 1
+    ratios = ", ".join(f"{seconds / ours:.2f} of {os.path.basename(other)}" for other, seconds in zip(others, theirs))
+    speed = units * size * times / ours / 1e9
+    print(f"{code}, shards of {size // KIB} KiB, speed: {ratios} ({speed:.1f} GB of data per second)")
 
 
 def stars(program):
@@ -37,8 +53,12 @@ def stars(program):
 
 def main():
     program = sys.argv[1]
-    shards(program, "encode", 3)
-    shards(program, "decode", 1)
+    with tempfile.TemporaryDirectory() as folder:
+        others = [other for other in (built(folder, "shards"), built(folder, "isal", "-lisal")) if other]
+        for work in ["encode", "decode"]:
+            for units, parity in [(3, 2), (6, 3), (10, 4)]:
+                for size in [64 * KIB, MIB]:
+                    shards(program, others, work, units, parity, size)
     stars(program)
 
 

@@ -33,7 +33,7 @@ int main(int argc, char **argv) {
   if (argc != 6) return 1;
   int units = atoi(argv[2]), parity = atoi(argv[3]);
   size_t size = strtoull(argv[4], 0, 10), times = strtoull(argv[5], 0, 10), bytes = 0;
-  int first = strcmp(argv[1], "decode") == 0;
+  int decodes = strcmp(argv[1], "decode") == 0;
   for (int a = 0; a < 256; a++)
     for (int b = 0; b < 256; b++) product[a][b] = multiply((uint8_t)a, (uint8_t)b);
   uint8_t *in[256];
@@ -46,10 +46,10 @@ int main(int argc, char **argv) {
       uint8_t *out = calloc(size, 1);
       // A decoder's coefficients are others, and cost the same.
       for (int c = 0; c < units; c++) add_multiple(out, in[c], size, inverse((uint8_t)((units + r) ^ c)));
-      bytes += out[0] == 255 ? 0 : size;
+      bytes += size;
       free(out);
     }
   }
-  printf("%zu\n", first ? bytes / (size_t)parity : bytes);
+  printf("%zu\n", decodes ? bytes / (size_t)parity : bytes);
   return 0;
 }

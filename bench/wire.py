@@ -7,7 +7,8 @@ usage: bench/wire.py PROGRAM
 Checksums: 200 MB in chunks of 512 bytes and of 1 MiB, beside bench/crc.c, which does the same by the same method and is
 compiled by clang -O2. The ratio is C's time to ours, so above 1 is faster than C.
 Frames: 64 MiB in frames of 1,024 bytes (and 32 MiB), fed in pieces of one size, and in one piece.
-Packets: written, read again and checked, beside the two checksums that each of their bytes goes through.
+Packets: written, read again and checked, beside the two checksums that each of their bytes goes through; and read and checked
+alone, beside the checksums of their chunks in C, one after another.
 Each run is made fifteen times, those that are compared by turns, and the fastest counts, in processor seconds of the
 process, so that other processes disturb it little.
 """
@@ -46,6 +47,14 @@ def packets(program, size):
     print(f"packets of {size:,}: {whole / 2 / sum_only:.2f} times the two checksums")
 
 
+def checks(program, other, size):
+    count = 200_000_000 // size
+    words = [program, "checks", size, count], [other, "crc32c", 512, size * count // 512]
+    (ours, theirs), numbers = fastest(RUNS, *words)
+    assert numbers[0] == size * count
+    print(f"packets of {size:,} checked: {theirs / ours:.2f} of C's speed, one chunk after another")
+
+
 def main():
     program = sys.argv[1]
     source = os.path.join(os.path.dirname(os.path.abspath(__file__)), "crc.c")
@@ -55,6 +64,7 @@ def main():
         for name in ["crc32c", "crc32"]:
             for size in [512, MIB]:
                 sums(program, other, name, size)
+        checks(program, other, 64_512)
     for piece in [1, 1_000, 65_536, 64 * MIB]:
         frames(program, piece)
     for size in [512, 32_256, 64_512]:

@@ -1,8 +1,8 @@
 //! Runs the code of the libraries as often as the words say, to time it, and prints a number that came of it.
 //!
-//! Words: `crc32c SIZE TIMES`, `crc32 SIZE TIMES`, `frames COUNT PIECE`, `packets SIZE TIMES`, `stars STARS LENGTH`,
-//! `pipeline WINDOW TIMES`, or `encode` or `decode` with a code, as in `encode_6_3 SIZE TIMES`, the code being one of `_3_2`,
-//! `_6_3` and `_10_4`.
+//! Words: `crc32c SIZE TIMES`, `crc32 SIZE TIMES`, `frames COUNT PIECE`, `packets SIZE TIMES`, `checks SIZE TIMES`,
+//! `stars STARS LENGTH`, `pipeline WINDOW TIMES`, or `encode` or `decode` with a code, as in `encode_6_3 SIZE TIMES`, the code
+//! being one of `_3_2`, `_6_3` and `_10_4`.
 #![tactic(auto)]
 
 mod fault;
@@ -16,7 +16,7 @@ mod sums;
 use fault::Fault;
 use frames::{count_frames, stream};
 use globs::match_stars;
-use packets::payload_bytes;
+use packets::{checked_bytes, payload_bytes};
 use pipelines::count_events;
 use shards::{code_of, decode, encode};
 use std::alloc::Global;
@@ -36,6 +36,9 @@ fn measure(alloc: Global, name: &str, first: usize, second: usize) -> Result<u64
     }
     if name == "packets" {
         return payload_bytes(alloc, first, second);
+    }
+    if name == "checks" {
+        return checked_bytes(alloc, first, second);
     }
     if let Some(code) = name.strip_prefix("encode") {
         return encode(alloc, code_of(code)?, first, second);

@@ -1,4 +1,4 @@
-// Packets that are written and read again.
+//! Packets that are written and read again.
 ghost use Rattle.std.specs.Prelude.{◌≡◌, length, min, IfOk};
 
 use crate::fault::Fault;
@@ -30,6 +30,20 @@ pub(crate) fn payload_bytes(alloc: Global, size: usize, times: usize) -> Result<
     let mut bytes: u64 = 0;
     for _ in 0..times {
         bytes = bytes.saturating_add(packet_bytes(alloc, payload.as_slice())?);
+    }
+    Ok(bytes)
+}
+
+/// The payload bytes of one packet with this many bytes, or as many as it has room for, which is read and checked so many times.
+pub(crate) fn checked_bytes(alloc: Global, size: usize, times: usize) -> Result<u64, Fault> {
+    let payload = vec![in alloc; 7u8; size]?;
+    let mut packet = WritePacket::empty(alloc, 0, 0, 512, 65536)?;
+    packet.write(payload.as_slice());
+    let text = Bytes::from_vec(packet.encode(alloc)?)?;
+    let mut bytes: u64 = 0;
+    for _ in 0..times {
+        let data = ReadPacket::parse(alloc, text.clone()?)?.get_data(Some(&SUMS))?;
+        bytes = bytes.saturating_add(data.len() as u64);
     }
     Ok(bytes)
 }

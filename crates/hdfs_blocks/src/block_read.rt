@@ -78,7 +78,8 @@ impl BlockRead {
         ensures reads { Reads (C.shown cluster.old) (C.shown cluster.new) self.old self.new }
         ensures bytes { IfOk result (λ piece. (block : List ℕ) → ShowsBlock (C.shown cluster.old) self.old block
             → IsPieceOf block (wanted_of self.old) piece) }
-        ensures cause { IfErr result (λ e. IsRead e → (start : FaultCounts) (block : List ℕ) → Over start (C.shown cluster.old) self.old block
+        ensures cause { IfErr result (λ e. IsRead e → (start : FaultCounts) (block : List ℕ)
+            → Over start (C.shown cluster.old) self.old block
             → AllBlamed start (C.shown cluster.new) (block_of self.old) block) }
     {
         if self.failed || self.wanted == self.end {
@@ -108,7 +109,8 @@ impl BlockRead {
         ensures keeps { Keeps (C.shown cluster.old) (C.shown cluster.new) self.old self.new }
         ensures reads { Reads (C.shown cluster.old) (C.shown cluster.new) self.old self.new }
         ensures closed { link_of self.new ≡ None }
-        ensures same { (wanted_of self.new ≡ wanted_of self.old) × (tried_of self.new ≡ tried_of self.old) × (has_failed self.new ≡ has_failed self.old) }
+        ensures same { (wanted_of self.new ≡ wanted_of self.old) × (tried_of self.new ≡ tried_of self.old)
+            × (has_failed self.new ≡ has_failed self.old) }
     {
         self.stop(cluster);
     }
@@ -225,7 +227,8 @@ impl BlockRead {
         ensures goes { Goes (C.shown cluster.old) (C.shown cluster.new) self.old self.new }
         ensures failed { self.new.failed ≡ self.old.failed }
         ensures step { IfOk result (λ step. Steps self.old step self.new) }
-        ensures bytes { IfOk result (λ step. (block : List ℕ) → ShowsBlock (C.shown cluster.old) self.old block → IsPartOf block self.old.wanted step) }
+        ensures bytes { IfOk result (λ step. (block : List ℕ) → ShowsBlock (C.shown cluster.old) self.old block
+            → IsPartOf block self.old.wanted step) }
     {
         let packet = match cluster.packet(link) {
             Ok(packet) => packet,

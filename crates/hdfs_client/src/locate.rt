@@ -31,7 +31,8 @@ pub(crate) fn locate<C: Cluster>(
     // over a told picture, where nobody writes the file
     ensures files { (p : Picture) → (C.shown cluster.old).picture ≡ Some p → IsClosed p path.now
         → (q : Picture) × ((C.shown cluster.new).picture ≡ Some q) × SameFiles p q }
-    ensures found { IfOk result (λ found. (p : Picture) → (C.shown cluster.old).picture ≡ Some p → IsClosed p path.now → Locates p path.now found) }
+    ensures found { IfOk result (λ found. (p : Picture) → (C.shown cluster.old).picture ≡ Some p
+        → IsClosed p path.now → Locates p path.now found) }
     ensures cause { IfErr result (λ e. (p : Picture) → (C.shown cluster.old).picture ≡ Some p → (C.shown cluster.old).namenodes ≡ 1
         → IsClosed p path.now → CauseOfLook p path.now (C.shown cluster.old) (C.shown cluster.new) e) }
 {

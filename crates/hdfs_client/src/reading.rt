@@ -94,7 +94,8 @@ fn read_block<C: Cluster>(
     // over a told picture
     ensures bytes { OnOk result ((bytes : List ℕ) → HoldsBlock (C.shown cluster.old) block bytes → offset + len ≤ length bytes
         → out.new.items ≡ out.old.items ++ range_of bytes offset len) }
-    ensures cause { IfErr result (λ e. IsRead e → (bytes : List ℕ) → HoldsBlock (C.shown cluster.old) block bytes → offset + len ≤ length bytes
+    ensures cause { IfErr result (λ e. IsRead e → (bytes : List ℕ) → HoldsBlock (C.shown cluster.old) block bytes
+        → offset + len ≤ length bytes
         → AllBlamed (C.shown cluster.old).counts (C.shown cluster.new) block bytes) }
 {
     let mut reader = BlockRead::replicated(alloc, block, offset, len, CLIENT)?;
@@ -121,7 +122,8 @@ fn read_part<C: Cluster>(
     // over a told picture
     ensures bytes { OnOk result ((bytes : List ℕ) → HoldsBlock (C.shown cluster.old) block bytes → length bytes ≡ block.b.num_bytes
         → out.new.items ≡ out.old.items ++ part_of bytes block.offset offset end) }
-    ensures cause { IfErr result (λ e. IsRead e → (bytes : List ℕ) → HoldsBlock (C.shown cluster.old) block bytes → length bytes ≡ block.b.num_bytes
+    ensures cause { IfErr result (λ e. IsRead e → (bytes : List ℕ) → HoldsBlock (C.shown cluster.old) block bytes
+        → length bytes ≡ block.b.num_bytes
         → AllBlamed (C.shown cluster.old).counts (C.shown cluster.new) block bytes) }
 {
     let from = offset.max(block.offset);

@@ -60,10 +60,15 @@ impl Datanodes {
     /// Notes that a packet of a datanode breaks. A packet that was given already cannot, nor can one of a datanode that
     /// isn't there.
     pub(crate) fn plan(&mut self, alloc: Global, number: u32, nth: u64) -> Result<(), NoMemory>
-        ensures planned { OnOk result (IsSome (node_at self.old (uuid_of number)) → packets_of (node_at self.old (uuid_of number)) < nth → breaks_in (node_at self.new (uuid_of number)) nth ≡ true) }
-        ensures others { (d : List ℕ) (packet : ℕ) → breaks_in (node_at self.new d) packet ≡ true → (breaks_in (node_at self.old d) packet ≡ true) ⊎ ((d ≡ uuid_of number) × (packet ≡ nth)) }
-        ensures failed { OnErr result ((d : List ℕ) (packet : ℕ) → breaks_in (node_at self.new d) packet ≡ breaks_in (node_at self.old d) packet) }
-        ensures kept { (d : List ℕ) (packet : ℕ) → breaks_in (node_at self.old d) packet ≡ true → breaks_in (node_at self.new d) packet ≡ true }
+        ensures planned { OnOk result (IsSome (node_at self.old (uuid_of number))
+            → packets_of (node_at self.old (uuid_of number)) < nth
+            → breaks_in (node_at self.new (uuid_of number)) nth ≡ true) }
+        ensures others { (d : List ℕ) (packet : ℕ) → breaks_in (node_at self.new d) packet ≡ true
+            → (breaks_in (node_at self.old d) packet ≡ true) ⊎ ((d ≡ uuid_of number) × (packet ≡ nth)) }
+        ensures failed { OnErr result ((d : List ℕ) (packet : ℕ)
+            → breaks_in (node_at self.new d) packet ≡ breaks_in (node_at self.old d) packet) }
+        ensures kept { (d : List ℕ) (packet : ℕ) → breaks_in (node_at self.old d) packet ≡ true
+            → breaks_in (node_at self.new d) packet ≡ true }
         ensures rest { (d : List ℕ) → PlansOnly (node_at self.old d) (node_at self.new d) }
         ensures count { self.new.count ≡ self.old.count }
     {

@@ -31,7 +31,8 @@ pub struct MemCluster {
     pub(crate) reads: Slab<MemRead>,
     pub(crate) loaded: Vec<Kept>,
     ghost bare: { (p : is_nil loaded.items ≡ true) (q : List ℕ) → is_bare_at (bytes_eq root q) (get_by_text space.names q) ≡ true },
-    ghost planned: { (d : List ℕ) (packet : ℕ) → breaks_in (node_at nodes d) packet ≡ true → breaks (map line_of loaded.items) d packet ≡ true },
+    ghost planned: { (d : List ℕ) (packet : ℕ) → breaks_in (node_at nodes d) packet ≡ true
+        → breaks (map line_of loaded.items) d packet ≡ true },
     ghost acts: { (d : List ℕ) (packet : ℕ) → is_some (node_at nodes d) ≡ true → packets_of (node_at nodes d) < packet
         → breaks (map line_of loaded.items) d packet ≡ true → breaks_in (node_at nodes d) packet ≡ true },
 }

@@ -8,7 +8,7 @@ use Rattle.hdfs_field.specs.declared.gf256.GF256.{GF256}
 use Rattle.hdfs_field.specs.Elements.{element, gf256}
 use Rattle.hdfs_field.specs.FieldLaws.{same_element}
 use Rattle.hdfs_field.specs.Matrices.{width}
-use Rattle.hdfs_field.specs.Slices.{added_at, AddedBelow, IsAdded, AreFirst, AreCombined, IsCombined, combined_below}
+use Rattle.hdfs_field.specs.Slices.{added_at, AddedBelow, IsAdded, AreFirst, IsRowProduct, AreCombined, IsCombined, combined_below}
 
 -- the element of an element's number is that element
 pub element_back : (a : GF256) → element a.value ≡ a
@@ -66,6 +66,12 @@ module _ (m : List (List GF256)) (shards : List (List ℕ)) (r n : ℕ) where
   -- all the bytes
   pub first_all : (bytes : List ℕ) → length bytes ≡ length (get_or shards 0 []) → AreFirst m shards r n bytes → IsCombined m shards r n bytes
   first_all bytes long h = record { long = long; bytes = λ q lt. h.each q (omega arith) }
+
+-- the product of a row, over the slices that it was made of
+pub row_product : (m : List (List GF256)) (inputs shards : List (List ℕ)) (r len : ℕ) (bytes : List ℕ) → inputs ≡ shards → len ≡ length (get_or shards 0 [])
+    → IsRowProduct m inputs r len bytes → IsCombined m shards r (width m) bytes
+row_product m inputs shards r len bytes same even h =
+    first_all m shards r (width m) bytes (h.long ∙ even) (subst (λ (s : List (List ℕ)). AreFirst m s r (width m) bytes) same h.first)
 
 pub added_value : (c a b p s : GF256) (x y v : ℕ) → v ≡ s.value → s ≡ gf256.sum a p → a ≡ element x → p ≡ gf256.product c b → b ≡ element y
     → v ≡ (gf256.sum (element x) (gf256.product c (element y))).value

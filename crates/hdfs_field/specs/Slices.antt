@@ -2,7 +2,7 @@
 use Rattle.std.specs.Prelude.{◌≡◌, ℕ, ◌<◌, ◌≤◌, List, [], length, slice_index, slice_index_or}
 use Rattle.hdfs_field.specs.declared.gf256.GF256.{GF256}
 use Rattle.hdfs_field.specs.Elements.{element, gf256}
-use Rattle.hdfs_field.specs.Matrices.{entry, total}
+use Rattle.hdfs_field.specs.Matrices.{width, entry, total}
 
 -- so many slices, all of one length
 pub record AreEven (count : ℕ) (shards : List (List ℕ)) : Type 0 where
@@ -55,3 +55,8 @@ pub record AreLong (count len : ℕ) (shards : List (List ℕ)) : Type 0 where
 -- the first bytes of row r of the matrix times these slices, byte by byte
 pub record AreFirst (m : List (List GF256)) (shards : List (List ℕ)) (r n : ℕ) (bytes : List ℕ) : Type 0 where
   pub each : (q : ℕ) → q < length bytes → slice_index bytes q ≡ (combined_below m shards r n q).value
+
+-- row r of the matrix times these slices, of this length, byte by byte
+pub record IsRowProduct (m : List (List GF256)) (shards : List (List ℕ)) (r len : ℕ) (bytes : List ℕ) : Type 0 where
+  pub long : length bytes ≡ len
+  pub first : AreFirst m shards r (width m) bytes

@@ -128,3 +128,32 @@ pub(crate) fn combined_vector(tables: &[(u8x16, u8x16)], inputs: &[&[u8]], i: us
     }
     sum
 }
+
+/// Two rows of a matrix, by their tables, times the slices at the places from `i` on, as many as a vector has. Each byte is read once
+/// for both.
+#[inline(always)]
+pub(crate) fn combined_vectors(
+    tables: &[(u8x16, u8x16)],
+    others: &[(u8x16, u8x16)],
+    inputs: &[&[u8]],
+    i: usize,
+) -> (u8x64, u8x64)
+    requires count { length tables.now ≡ length inputs.now }
+    requires others { length others.now ≡ length inputs.now }
+    requires room { (c : ℕ) → c < length inputs.now → i + LANES ≤ length (slice_index_or (map (λ p. p.now) inputs.now) c []) }
+    ensures first { (m : List (List GF256)) (r : ℕ) → AreRowTables m r (length inputs.now) tables.now
+        → HasLanes result.0 (λ k. (combined_below m (map (λ p. p.now) inputs.now) r (length inputs.now) (i + k)).value) }
+    ensures second { (m : List (List GF256)) (r : ℕ) → AreRowTables m r (length inputs.now) others.now
+        → HasLanes result.1 (λ k. (combined_below m (map (λ p. p.now) inputs.now) r (length inputs.now) (i + k)).value) }
+{
+    let mut first = u8x64::splat(0);
+    let mut second = u8x64::splat(0);
+    for c in 0..inputs.len() {
+        let bytes = load(inputs[c], i);
+        let (low, high) = tables[c];
+        let (other_low, other_high) = others[c];
+        first = first ^ times(four_times(low), four_times(high), bytes);
+        second = second ^ times(four_times(other_low), four_times(other_high), bytes);
+    }
+    (first, second)
+}

@@ -1,12 +1,12 @@
 //! Matrices times slices of bytes.
 
-ghost use Rattle.std.specs.Prelude.{◌↔◌, IsTrue, ℕ, [], map, ◌≡◌, ◌<◌, length, slice_index_or, IfOk};
+ghost use Rattle.std.specs.Prelude.{◌↔◌, IsTrue, ℕ, [], map, ◌≡◌, ◌+◌, ◌<◌, length, slice_index_or, IfOk};
 ghost use Rattle.hdfs_field.specs.Matrices.{width};
-ghost use Rattle.hdfs_field.specs.Slices.{AreEven, AreLong, AreFirst, AreCombined, combined_below};
+ghost use Rattle.hdfs_field.specs.Slices.{AreEven, AreLong, IsRowProduct, AreCombined, combined_below};
 ghost use Rattle.hdfs_field.specs.Lanes.{AreRowTables};
 
 use crate::gf256::GF256;
-use crate::kernel::{LANES, combined_vector, tables};
+use crate::kernel::{LANES, combined_vector, combined_vectors, tables};
 use crate::matrix::Matrix;
 use crate::ring::Ring;
 use bytes::Bytes;
@@ -78,8 +78,7 @@ impl Matrix<GF256> {
     ) -> Result<Blob, NoMemory>
         requires even { AreLong (width self.now) len (map (λ p. p.now) inputs.now) }
         requires row { r < length self.now }
-        ensures long { IfOk result (λ b. length b ≡ len) }
-        ensures bytes { IfOk result (λ b. AreFirst self.now (map (λ p. p.now) inputs.now) r (width self.now) b) }
+        ensures { IfOk result (λ b. IsRowProduct self.now (map (λ p. p.now) inputs.now) r len b) }
     {
         let tables = self.row_tables(alloc, r)?;
         let mut out = Vec::with_capacity(alloc, len)?;
@@ -95,6 +94,39 @@ impl Matrix<GF256> {
         Ok(Blob::from_vec(out))
     }
 
+    /// Rows `r` and `next` times slices of this length, byte by byte.
+    fn mul_two_rows(
+        &self,
+        alloc: Global,
+        inputs: &[&[u8]],
+        len: usize,
+        r: usize,
+        next: usize,
+    ) -> Result<(Blob, Blob), NoMemory>
+        requires even { AreLong (width self.now) len (map (λ p. p.now) inputs.now) }
+        requires row { r < length self.now }
+        requires next { next < length self.now }
+        ensures first { IfOk result (λ b. IsRowProduct self.now (map (λ p. p.now) inputs.now) r len b.0) }
+        ensures second { IfOk result (λ b. IsRowProduct self.now (map (λ p. p.now) inputs.now) next len b.1) }
+    {
+        let tables = self.row_tables(alloc, r)?;
+        let other_tables = self.row_tables(alloc, next)?;
+        let mut out = Vec::with_capacity(alloc, len)?;
+        let mut other = Vec::with_capacity(alloc, len)?;
+        let mut i = 0;
+        'vectors: while i + LANES <= len {
+            let (bytes, other_bytes) = combined_vectors(&tables, &other_tables, inputs, i);
+            out.extend_from_slice(&bytes.to_array())?;
+            other.extend_from_slice(&other_bytes.to_array())?;
+            i += LANES;
+        }
+        'bytes: for q in i..len {
+            out.push(self.combined_byte(inputs, r, q))?;
+            other.push(self.combined_byte(inputs, next, q))?;
+        }
+        Ok((Blob::from_vec(out), Blob::from_vec(other)))
+    }
+
     /// Each row times the slices, byte by byte: byte q of slice r of the answer is the sum of the row's entries times byte q
     /// of their slices. Condition: `are_even` of the slices, as many as columns.
     pub fn mul_slices(&self, alloc: Global, rows: &[Bytes]) -> Result<Vec<Blob>, NoMemory>
@@ -105,7 +137,14 @@ impl Matrix<GF256> {
         let inputs = slices_of(alloc, rows)?;
         let len = rows[0].len();
         let mut products = Vec::with_capacity(alloc, count)?;
-        for r in 0..count {
+        let mut r = 0;
+        'pairs: while r + 1 < count {
+            let (product, next) = self.mul_two_rows(alloc, &inputs, len, r, r + 1)?;
+            products.push(product)?;
+            products.push(next)?;
+            r += 2;
+        }
+        'last: for r in r..count {
             products.push(self.mul_row(alloc, &inputs, len, r)?)?;
         }
         Ok(products)

@@ -50,7 +50,8 @@ pub trait Cluster {
         ensures kept { IsTrue result → keep ≡ true };
 
     /// What is served is served by the rows.
-    ghost serves_rows: { (old new : Self) (i : ℕ) (ask : Ask) (result : Result Answer AskFault) → serves old i ask result new → Served (shown old) i ask result (shown new) };
+    ghost serves_rows: { (old new : Self) (i : ℕ) (ask : Ask) (result : Result Answer AskFault)
+        → serves old i ask result new → Served (shown old) i ask result (shown new) };
 
     /// The active namenode is one of them.
     ghost active_below: { (s : Self) (p : Picture) → (shown s).picture ≡ Some p → p.active < (shown s).namenodes };

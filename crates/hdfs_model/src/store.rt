@@ -56,9 +56,12 @@ pub trait Store: Cluster {
     fn load(&mut self, line: Line) -> Result<(), AddFault>
         ensures ok { OnOk result (Loads (Self.shown self.old) line (Self.shown self.new)) }
         ensures refused { IsErrOf result AddFault.Refused → SameShown (Self.shown self.old) (Self.shown self.new) }
-        ensures exact { (state : State) → Agrees (Self.shown self.old).picture state.files → MatchResult result (λ done. takes state.files line ≡ true) (λ fault. fault ≡ AddFault.Refused → takes state.files line ≡ false) }
+        ensures exact { (state : State) → Agrees (Self.shown self.old).picture state.files
+            → MatchResult result (λ done. takes state.files line ≡ true)
+            (λ fault. fault ≡ AddFault.Refused → takes state.files line ≡ false) }
         ensures err { OnErr result (LoadsNothing (Self.shown self.old) (Self.shown self.new)) };
 
     /// A fresh store that tells its picture has the root alone and no line, and no other store has.
-    ghost fresh_is: { (s : Self) (p : Picture) → (Self.shown s).picture ≡ Some p → IsTrue (is_fresh s) ↔ (((Self.shown s).loaded ≡ []) × Agrees (Some p) only_root) };
+    ghost fresh_is: { (s : Self) (p : Picture) → (Self.shown s).picture ≡ Some p
+        → IsTrue (is_fresh s) ↔ (((Self.shown s).loaded ≡ []) × Agrees (Some p) only_root) };
 }

@@ -96,7 +96,8 @@ impl PlainFiles {
 
     /// Loads a line that may be loaded.
     pub fn load(&mut self, line: Line) -> Result<(), NoMemory>
-        ensures { IfOk result (λ done. (state : spec.State) → Holds (get_by_text self.old.nodes) state → Holds (get_by_text self.new.nodes) (with_line state line)) }
+        ensures { IfOk result (λ done. (state : spec.State) → Holds (get_by_text self.old.nodes) state
+            → Holds (get_by_text self.new.nodes) (with_line state line)) }
     {
         match line {
             Line::File {

@@ -34,7 +34,7 @@ pub(crate) fn run_words<S: Source, K: Sink>(
     // Without a fault line, and where no read and no write failed, the script decides.
     ensures complete { IsSession (map string_bytes words.now) → (bytes : List ℕ) → (S.shown source.old).left ≡ Some bytes
         → FaultlessDecides bytes (record { source = S.shown source.old; sink = K.shown sink.old }) result
-            (record { source = S.shown source.new; sink = K.shown sink.new }) }
+        (record { source = S.shown source.new; sink = K.shown sink.new }) }
 {
     let Ok(mut store) = MemCluster::new(alloc, MemSettings::of_scripts()) else {
         return 3;

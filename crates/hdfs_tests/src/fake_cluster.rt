@@ -133,7 +133,8 @@ fn block(alloc: Global, id: u64, offset: u64) -> Result<LocatedBlock, NoMemory>
 /// A file of two such blocks.
 fn two_blocks(alloc: Global) -> Result<LocatedBlocks, NoMemory>
     ensures length { IfOk result (λ found. found.file_length ≡ 8) }
-    ensures blocks { IfOk result (λ found. IsPair found.blocks (λ block. (block.offset ≡ 0) × (block.b.num_bytes ≡ 4)) (λ block. (block.offset ≡ 4) × (block.b.num_bytes ≡ 4))) }
+    ensures blocks { IfOk result (λ found. IsPair found.blocks (λ block. (block.offset ≡ 0)
+        × (block.b.num_bytes ≡ 4)) (λ block. (block.offset ≡ 4) × (block.b.num_bytes ≡ 4))) }
 {
     let mut blocks = List::new(alloc);
     blocks.push(block(alloc, 1, 0)?)?;
