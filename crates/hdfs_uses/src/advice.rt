@@ -1,0 +1,36 @@
+//! What an error means for the one who asked.
+use hdfs_model::{ArgFault, HdfsError, TransferFault};
+
+/// What to do after an error.
+#[derive(Clone, Copy, Debug, PartialEq, Eq)]
+pub(crate) enum Advice {
+    /// The same request may be answered later.
+    AskAgain,
+    /// The request can't be answered until the files or the request change.
+    ChangeTheRequest,
+    /// The same request may be answered once there is memory.
+    FreeMemory,
+    /// The session is done.
+    MakeANewSession,
+}
+
+/// The exceptions of a namenode that say that there is no file at the path.
+const MISSING: [&str; 2] = [
+    "java.io.FileNotFoundException",
+    "org.apache.hadoop.fs.ParentNotDirectoryException",
+];
+
+/// What to do after an error of a read.
+pub(crate) fn advice_on(error: &HdfsError) -> Advice {
+    match error {
+        HdfsError::NoMemory => Advice::FreeMemory,
+        HdfsError::Failed => Advice::MakeANewSession,
+        HdfsError::DataTransferError(TransferFault::Read { .. }) => Advice::AskAgain,
+        HdfsError::InvalidArgument(ArgFault::Range { .. }) => Advice::ChangeTheRequest,
+        HdfsError::FileNotFound(_) => Advice::ChangeTheRequest,
+        HdfsError::RPCError(class, _) if MISSING.contains(&class.as_str()) => {
+            Advice::ChangeTheRequest
+        }
+        HdfsError::RPCError(_, _) => Advice::AskAgain,
+    }
+}

@@ -1,0 +1,58 @@
+//! Values of the library, made from plain ones.
+ghost use Rattle.std.specs.Prelude.{◌≡◌, ◌<◌, true, IfOk};
+ghost use Rattle.hdfs_cluster.specs.MemShown.{shown_of};
+ghost use Rattle.hdfs_model.specs.Sessions.{has_path};
+
+use crate::failed::Failed;
+use hdfs_cluster::{MemCluster, MemSettings};
+use hdfs_model::{Attributes, Command, FaultLine, Line, ReadKind, Settings, Store, is_path};
+use hdfs_wire::{Blob, Text};
+use std::alloc::Global;
+
+/// What the file of these examples holds.
+pub(crate) const BYTES: [u8; 8] = [10, 11, 12, 13, 14, 15, 16, 17];
+
+/// What a session is run with.
+pub(crate) fn settings(alloc: Global) -> Result<Settings, Failed> {
+    Ok(Settings {
+        home: Text::from_str(alloc, "/user/user")?,
+    })
+}
+
+/// A read of `len` bytes from `offset` of the file at an absolute path.
+pub(crate) fn read(alloc: Global, path: &str, offset: u64, len: u64) -> Result<Command, Failed>
+    ensures { IfOk result (λ command. has_path command ≡ true) }
+{
+    if !is_path(path) {
+        return Err(Failed::Refused);
+    }
+    Ok(Command::Read {
+        path: Text::from_str(alloc, path)?,
+        offset,
+        len,
+    })
+}
+
+/// A cluster in memory with a file `/report` of eight bytes on one datanode, which breaks its first `broken` packets.
+pub(crate) fn cluster(alloc: Global, broken: u64) -> Result<MemCluster, Failed>
+    ensures { IfOk result (λ m. 0 < (shown_of m).namenodes) }
+{
+    let mut cluster = MemCluster::new(alloc, MemSettings::of_scripts())?;
+    for nth in 1..=broken {
+        cluster.load(Line::Fault(FaultLine::ReadOf {
+            node: 0,
+            nth,
+            kind: ReadKind::Broken,
+        }))?;
+    }
+    cluster.load(Line::File {
+        path: Text::from_str(alloc, "/report")?,
+        attributes: Attributes {
+            permission: 0o644,
+            replication: 1,
+            block_size: 8,
+        },
+        bytes: Blob::from_vec(Vec::from_slice(alloc, &BYTES)?),
+    })?;
+    Ok(cluster)
+}
