@@ -28,7 +28,7 @@ use Rattle.hdfs_cluster.specs.Lines.{line_of}
 use Rattle.hdfs_cluster.specs.Memory.{breaks}
 use Rattle.hdfs_cluster.specs.MemShown.{picture_at, counts_of, packets_at, is_broken, is_counted, AsksPacket}
 use Rattle.hdfs_model.proofs.Frames.{never_fall_refl}
-use Rattle.hdfs_cluster.specs.Nodes.{node_at, held_in, faults_of, packets_of, breaks_in, SameBytes, Asked}
+use Rattle.hdfs_cluster.specs.Nodes.{CountsOnly, node_at, held_in, faults_of, packets_of, breaks_in, SameBytes, Asked}
 
 past_none : {X : Type 0} (slots : List (Option X)) (key : ℕ) (v : X) → get_or slots key None ≡ Some v → key < length slots
 past_none [] key v is = absurd (cc)
@@ -163,21 +163,22 @@ same_bools false false first then = refl
 
 -- a packet that was counted breaks exactly where a line says so
 pub asks_packet : (m m' : MemCluster) (node : List ℕ) (result : Result ReadPacket LinkFault) → Asked (node_at m.nodes node) (is_broken result) (node_at m'.nodes node) → is_counted result ≡ true
-    → ((d : List ℕ) → d ≢ node → node_at m'.nodes d ≡ node_at m.nodes d) → AsksPacket m m' node result
-asks_packet m m' node result asked counted others = record {
+    → ((d : List ℕ) → d ≢ node → node_at m'.nodes d ≡ node_at m.nodes d) → ((d : List ℕ) → CountsOnly (node_at m.nodes d) (node_at m'.nodes d)) → AsksPacket m m' node result
+asks_packet m m' node result asked counted others rest = record {
   number = λ there small. (let one : cond (is_counted result) 1 0 ≡ 1 = ap {B = ℕ} (λ (b : Bool). cond b 1 0) counted in omega (arith, asked.packets there, one, small));
   breaks = λ there small is. asked.breaks small ∙ same_bools (breaks_in (node_at m.nodes node) (packets_at m node + 1)) (breaks (map line_of m.loaded.items) node (packets_at m node + 1))
       (m.planned node (packets_at m node + 1))
       (m.acts node (packets_at m node + 1) there (omega arith));
   own = asked.faults;
+  there = λ d has. (rest d).there ∙ has;
   others = λ d apart. (ap packets_of (others d apart), ap faults_of (others d apart));
 }
 
 -- the same of the datanode of a link
 pub asks_on : (m m' : MemCluster) (link : ℕ) (v : MemRead) (node : List ℕ) (broke : Bool) (result : Result ReadPacket LinkFault) → slab.get m.reads link ≡ Some v → node ≡ v.told.node.datanode_uuid
-    → Asked (node_at m.nodes node) broke (node_at m'.nodes node) → broke ≡ is_broken result → is_counted result ≡ true → ((d : List ℕ) → d ≢ node → node_at m'.nodes d ≡ node_at m.nodes d)
+    → Asked (node_at m.nodes node) broke (node_at m'.nodes node) → broke ≡ is_broken result → is_counted result ≡ true → ((d : List ℕ) → d ≢ node → node_at m'.nodes d ≡ node_at m.nodes d) → ((d : List ℕ) → CountsOnly (node_at m.nodes d) (node_at m'.nodes d))
     → IfSome (option_map (λ r. r.told) (slab.get m.reads link)) (λ read. AsksPacket m m' read.node.datanode_uuid result)
-asks_on m m' link v node broke result was key asked is counted others =
+asks_on m m' link v node broke result was key asked is counted others rest =
     subst (λ (o : Option OpenRead). IfSome o (λ read. AsksPacket m m' read.node.datanode_uuid result)) (sym (ap (option_map (λ r. r.told)) was))
     (subst (λ (d : List ℕ). AsksPacket m m' d result) key
-    (asks_packet m m' node result (subst (λ (b : Bool). Asked (node_at m.nodes node) b (node_at m'.nodes node)) is asked) counted others))
+    (asks_packet m m' node result (subst (λ (b : Bool). Asked (node_at m.nodes node) b (node_at m'.nodes node)) is asked) counted others rest))

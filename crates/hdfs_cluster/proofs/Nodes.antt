@@ -4,7 +4,7 @@ use Rattle.std.specs.Str.{bytes_eq}
 use Rattle.std.specs.Map.{update}
 use Rattle.std.proofs.lemmas.Slice.Eq.{bytes_eq-Decides}
 use Rattle.hdfs_cluster.specs.declared.datanode.Datanode.{Datanode}
-use Rattle.hdfs_cluster.specs.Nodes.{faults_of, bytes_in, breaks_in, SameFaults, PlansOnly, CountsOnly}
+use Rattle.hdfs_cluster.specs.Nodes.{faults_of, bytes_in, breaks_in, packets_of, SameFaults, PlansOnly, CountsOnly}
 
 module _ {X : Type 0} (look after : List ℕ → Option X) (key : List ℕ) (w : X) (updates : (q : List ℕ) → after q ≡ update bytes_eq look key (Some w) q) where
   at_test : (b : Bool) (q : List ℕ) → (b ≡ true → key ≡ q) → key ≢ q → cond b (Some w) (look q) ≡ look q
@@ -62,10 +62,11 @@ module _ {X : Type 0} (look after : List ℕ → Option X) (key : List ℕ) (w :
 pub record IsNew (o : Option Datanode) : Type 0 where
   pub bytes : (block : ℕ) → bytes_in o block ≡ []
   pub faults : faults_of o ≡ 0
+  pub packets : packets_of o ≡ 0
   pub breaks : (packet : ℕ) → breaks_in o packet ≡ false
 
 pub new_none : IsNew None
-new_none = record { bytes = λ block. refl; faults = refl; breaks = λ packet. refl }
+new_none = record { bytes = λ block. refl; faults = refl; packets = refl; breaks = λ packet. refl }
 
 pub same_faults_refl : (o : Option Datanode) → SameFaults o o
 same_faults_refl o = record { there = refl; faults = refl; packets = refl; breaks = λ packet. refl }

@@ -64,10 +64,24 @@ packets_at m node = packets_of (node_at m.nodes node)
 abbrev pub HasNode : MemCluster → List ℕ → Type 0
 HasNode m node = IsSome (node_at m.nodes node)
 
--- no count rose, and no packet was asked for
+-- how many datanodes it has
+abbrev pub nodes_of : MemCluster → ℕ
+nodes_of m = m.nodes.count
+
+-- its datanodes are there by their numbers, and no packet was asked of any
+pub record AskedNothing (m : MemCluster) : Type 0 where
+  pub there : (k : ℕ) → k < nodes_of m → HasNode m (uuid_of k)
+  pub packets : (d : List ℕ) → packets_at m d ≡ 0
+
+-- its datanodes are still there
+abbrev pub HasNodesOf : MemCluster → MemCluster → Type 0
+HasNodesOf old new = (d : List ℕ) → HasNode old d → HasNode new d
+
+-- no count rose, no packet was asked for, and its datanodes are still there
 pub record CountsNothing (old new : MemCluster) : Type 0 where
   pub counts : SameCounts (shown_of old).counts (shown_of new).counts
   pub packets : (d : List ℕ) → packets_at new d ≡ packets_at old d
+  pub there : HasNodesOf old new
 
 -- What an ask does, exactly: it is served, nothing is counted, the picture stays, and the answer is that of the picture.
 pub record MemServes (old : MemCluster) (i : ℕ) (ask : Ask) (result : Result Answer AskFault) (new : MemCluster) : Type 0 where
@@ -97,11 +111,8 @@ pub record AsksPacket (old new : MemCluster) (node : List ℕ) (result : Result 
   pub breaks : HasNode old node → packets_at old node + 1 < 2 ^ 64 → is_counted result ≡ true
       → is_broken result ≡ breaks (shown_of old).loaded node (packets_at old node + 1)
   pub own : (shown_of new).counts.nodes node ≡ (shown_of old).counts.nodes node + (if is_broken result then 1 else 0)
+  pub there : HasNodesOf old new
   pub others : (d : List ℕ) → d ≢ node → (packets_at new d ≡ packets_at old d) × ((shown_of new).counts.nodes d ≡ (shown_of old).counts.nodes d)
-
--- how many datanodes it has
-abbrev pub nodes_of : MemCluster → ℕ
-nodes_of m = m.nodes.count
 
 -- the counts of each namenode and each datanode, by their numbers
 pub record Sees (m : MemCluster) (seen : SeenCounts) : Type 0 where

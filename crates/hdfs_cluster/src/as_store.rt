@@ -1,7 +1,9 @@
 //! The cluster in memory as a store, into which files and faults are loaded.
 ghost use Rattle.std.specs.Prelude.{◌≡◌, ◌<◌, ℕ, true, false, length, IfOk, OnOk, OnErr, IsErrOf, MatchResult};
 ghost use Rattle.hdfs_model.specs.declared.store.Line.TheVariants as lines;
-ghost use Rattle.hdfs_model.specs.Loading.{Loads, LoadsNothing, SameShown};
+ghost use Rattle.hdfs_model.specs.Files.{State};
+ghost use Rattle.hdfs_model.specs.Loading.{Loads, LoadsNothing, SameShown, takes};
+ghost use Rattle.hdfs_model.specs.Stores.{Agrees};
 ghost use Rattle.hdfs_cluster.specs.Memory.{accepts, node_of, nth_of};
 
 use crate::loaded::Kept;
@@ -40,13 +42,14 @@ fn packet_number(fault: &FaultLine) -> u64
 
 impl MemCluster {
     ghost use Rattle.std.specs.BTreeMap.{get_by_text};
-    ghost use Rattle.hdfs_cluster.specs.MemShown.{shown_of};
+    ghost use Rattle.hdfs_cluster.specs.MemShown.{shown_of, CountsNothing};
 
     /// Stores a file that is accepted. Room for the line is taken first, so that no file is there without its line.
     fn take_file(&mut self, path: Text, attributes: Attributes, bytes: Blob) -> Result<(), NoMemory>
         requires { accepts (get_by_text self.old.space.names) path attributes (length bytes) ≡ true }
         ensures loads { OnOk result (Loads (shown_of self.old) (lines.File path attributes bytes) (shown_of self.new)) }
         ensures err { OnErr result (LoadsNothing (shown_of self.old) (shown_of self.new)) }
+        ensures counted { CountsNothing self.old self.new }
     {
         let name = String::from_str(self.alloc, path.as_str())?;
         let (bytes, held) = shared(bytes)?;
@@ -75,6 +78,7 @@ impl MemCluster {
             (λ done. accepts (get_by_text self.old.space.names) path attributes (length bytes) ≡ true)
             (λ fault. fault ≡ AddFault.Refused → accepts (get_by_text self.old.space.names) path attributes (length bytes) ≡ false) }
         ensures err { OnErr result (LoadsNothing (shown_of self.old) (shown_of self.new)) }
+        ensures counted { CountsNothing self.old self.new }
     {
         let count = bytes.as_slice().len() as u64;
         if !self.space.accepts(path.as_str(), &attributes, count) {
@@ -90,6 +94,7 @@ impl MemCluster {
     fn take_fault(&mut self, fault: FaultLine) -> Result<(), NoMemory>
         ensures loads { OnOk result (Loads (shown_of self.old) (lines.Fault fault) (shown_of self.new)) }
         ensures err { OnErr result (LoadsNothing (shown_of self.old) (shown_of self.new)) }
+        ensures counted { CountsNothing self.old self.new }
     {
         self.loaded.reserve(1)?;
         self.nodes
@@ -100,7 +105,7 @@ impl MemCluster {
 }
 
 impl Store for MemCluster {
-    ghost use Rattle.hdfs_cluster.specs.MemShown.{is_fresh_of};
+    ghost use Rattle.hdfs_cluster.specs.MemShown.{shown_of, is_fresh_of, CountsNothing};
     ghost use Rattle.hdfs_cluster.specs.Laws.{fresh_law};
 
     ghost is_fresh = { is_fresh_of };
@@ -109,7 +114,15 @@ impl Store for MemCluster {
         self.loaded.is_empty()
     }
 
-    fn load(&mut self, line: Line) -> Result<(), AddFault> {
+    fn load(&mut self, line: Line) -> Result<(), AddFault>
+        ensures ok { OnOk result (Loads (shown_of self.old) line (shown_of self.new)) }
+        ensures refused { IsErrOf result AddFault.Refused → SameShown (shown_of self.old) (shown_of self.new) }
+        ensures exact { (state : State) → Agrees (shown_of self.old).picture state.files
+            → MatchResult result (λ done. takes state.files line ≡ true)
+            (λ fault. fault ≡ AddFault.Refused → takes state.files line ≡ false) }
+        ensures err { OnErr result (LoadsNothing (shown_of self.old) (shown_of self.new)) }
+        ensures counted { CountsNothing self.old self.new }
+    {
         match line {
             Line::File {
                 path,

@@ -26,6 +26,7 @@ impl Datanode {
     pub(crate) fn new(alloc: Global) -> Datanode
         ensures blocks { (block : ℕ) → get nat_cmp result.blocks block ≡ None }
         ensures faults { result.faults ≡ 0 }
+        ensures packets { result.packets ≡ 0 }
         ensures broken { (nth : ℕ) → contains nat_cmp result.broken nth ≡ false }
     {
         Datanode {
@@ -60,7 +61,7 @@ impl Datanode {
         Ok(())
     }
 
-    /// FaultCounts a packet, and says whether it breaks.
+    /// Counts a packet, and says whether it breaks.
     pub(crate) fn count_packet(&mut self) -> bool
         ensures packets { self.new.packets ≡ min (self.old.packets + 1) (2 ^ 64 - 1) }
         ensures grows { self.old.packets ≤ self.new.packets }

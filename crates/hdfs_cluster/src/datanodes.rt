@@ -35,6 +35,7 @@ impl Datanodes {
         ensures count { IfOk result (λ nodes. nodes.count ≡ count) }
         ensures held { IfOk result (λ nodes. (d : List ℕ) (block : ℕ) → held_in nodes d block ≡ []) }
         ensures faults { IfOk result (λ nodes. (d : List ℕ) → faults_of (node_at nodes d) ≡ 0) }
+        ensures packets { IfOk result (λ nodes. (d : List ℕ) → packets_of (node_at nodes d) ≡ 0) }
         ensures breaks { IfOk result (λ nodes. (d : List ℕ) (packet : ℕ) → breaks_in (node_at nodes d) packet ≡ false) }
     {
         let mut by_uuid = BTreeMap::new(alloc);
@@ -79,7 +80,7 @@ impl Datanodes {
         node.plan(nth)
     }
 
-    /// FaultCounts a packet of a datanode, and says whether it breaks.
+    /// Counts a packet of a datanode, and says whether it breaks.
     pub(crate) fn count_packet(&mut self, uuid: &str) -> bool
         ensures asked { Asked (node_at self.old uuid.now) result (node_at self.new uuid.now) }
         ensures others { (d : List ℕ) → d ≢ uuid.now → node_at self.new d ≡ node_at self.old d }

@@ -38,7 +38,7 @@ pub struct MemCluster {
 }
 
 impl MemCluster {
-    ghost use Rattle.hdfs_cluster.specs.MemShown.{shown_of, nodes_of, is_fresh_of};
+    ghost use Rattle.hdfs_cluster.specs.MemShown.{shown_of, nodes_of, is_fresh_of, AskedNothing};
     ghost use Rattle.hdfs_cluster.specs.Starting.{Starts};
 
     /// A cluster with the root directory alone, that has never failed.
@@ -48,6 +48,7 @@ impl MemCluster {
         ensures datanodes { IfOk result (λ m. nodes_of m ≡ settings.nodes) }
         ensures fits { IfOk result (λ m. Fits (shown_of m) empty_state) }
         ensures fresh { IfOk result (λ m. is_fresh_of m ≡ true) }
+        ensures asked { IfOk result AskedNothing }
     {
         Ok(MemCluster {
             alloc,

@@ -29,8 +29,8 @@ returns-clause-ok c =
 
 pub returns-then-count_packet-clause-asks : goal.returns-then-count_packet-clause-asks
 returns-then-count_packet-clause-asks c =
-    asks_on c.args.self.now _ c.args.link c.in-Some.read.now c.as_str.result.now c.count_packet.result (Err link_faults.Broken) (sym c.in-Some.ensures.value) c.as_str.ensures c.count_packet.ensures.asked c.if-count_packet.true refl c.count_packet.ensures.others
+    asks_on c.args.self.now _ c.args.link c.in-Some.read.now c.as_str.result.now c.count_packet.result (Err link_faults.Broken) (sym c.in-Some.ensures.value) c.as_str.ensures c.count_packet.ensures.asked c.if-count_packet.true refl c.count_packet.ensures.others c.count_packet.ensures.rest
 
 pub returns-clause-asks : goal.returns-clause-asks
 returns-clause-asks c =
-    asks_on c.args.self.now _ c.args.link c.in-Some.read.now c.as_str.result.now c.count_packet.result (Ok c.in_ok-packet.packet) (sym c.in-Some.ensures.value) c.as_str.ensures c.count_packet.ensures.asked c.if-count_packet.false refl c.count_packet.ensures.others
+    asks_on c.args.self.now _ c.args.link c.in-Some.read.now c.as_str.result.now c.count_packet.result (Ok c.in_ok-packet.packet) (sym c.in-Some.ensures.value) c.as_str.ensures c.count_packet.ensures.asked c.if-count_packet.false refl c.count_packet.ensures.others c.count_packet.ensures.rest

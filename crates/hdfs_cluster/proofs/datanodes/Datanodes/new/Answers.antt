@@ -34,7 +34,7 @@ loop-number-preserved c =
     let key = string_bytes c.in_ok-uuid.field-0 in
     let updates = btree_map_updates_text key c.loop-number.by_uuid c.insert.new.self (Some w) c.in_ok-insert.ensures.updates in
     record {
-      are_new = update_all look after key w updates (λ d o. IsNew o) (record { bytes = search rules; faults = c.new.ensures.faults; breaks = c.new.ensures.broken }) c.loop-number.invariant.are_new;
+      are_new = update_all look after key w updates (λ d o. IsNew o) (record { bytes = search rules; faults = c.new.ensures.faults; packets = c.new.ensures.packets; breaks = c.new.ensures.broken }) c.loop-number.invariant.are_new;
       first = λ below. ⊎_elim
           (λ none. update_here look after key w updates first_node (c.in_ok-uuid.ensures ∙ first_uuid c.loop-number.number none))
           (λ more. update_some look after key w updates first_node (c.loop-number.invariant.first more))
@@ -56,3 +56,6 @@ returns-clause-faults c = λ d. (c.loop-number.invariant.are_new d).faults
 
 pub returns-clause-breaks : goal.returns-clause-breaks
 returns-clause-breaks c = λ d. (c.loop-number.invariant.are_new d).breaks
+
+pub returns-clause-packets : goal.returns-clause-packets
+returns-clause-packets c = λ d. (c.loop-number.invariant.are_new d).packets

@@ -34,3 +34,6 @@ returns-clause-fits c =
       is_state = empty_is_state;
       agrees = agrees_bare p c.in_ok-new.ensures.bare;
     }
+
+pub returns-clause-asked : goal.returns-clause-asked
+returns-clause-asked c = record { there = c.in_ok-new-2.field-0.numbered; packets = c.in_ok-new-2.ensures.packets }
