@@ -1,5 +1,5 @@
 -- Checksums bit by bit: a register of 32 bits that each bit of the data goes through.
-use Rattle.std.specs.Prelude.{ℕ, zero, suc, ◌/◌, ◌%◌, ◌==◌, List, [], ◌∷◌, bit_xor, if◌then◌else◌}
+use Rattle.std.specs.Prelude.{◌≢◌, ℕ, zero, suc, ◌/◌, ◌%◌, ◌<◌, ◌==◌, List, [], ◌∷◌, ◌++◌, bit_xor, if◌then◌else◌}
 
 -- A bit of data enters: the register is shifted right by one, and xored with the polynomial where its low bit
 -- differed from the bit of data.
@@ -28,3 +28,7 @@ crc32c_of bytes = checksum 0x82f63b78 bytes
 -- CRC-32, of the polynomial 04c11db7, lowest power at the top bit
 abbrev pub crc32_of : List ℕ → ℕ
 crc32_of bytes = checksum 0xedb88320 bytes
+
+-- two texts of one length that differ in exactly one byte have different sums
+abbrev pub TellsOneByte : (List ℕ → ℕ) → Type 0
+TellsOneByte sum = (front back : List ℕ) (x y : ℕ) → x < 256 → y < 256 → x ≢ y → sum (front ++ x ∷ back) ≢ sum (front ++ y ∷ back)

@@ -1,7 +1,7 @@
 //! Checksums of 32 bits, sixteen bytes at a step.
 
 ghost use Rattle.std.specs.Prelude.{◌≡◌, ◌≢◌, ℕ, List, length, ◌+◌, ◌<◌, ◌++◌, ◌∷◌, []};
-ghost use Rattle.hdfs_wire.specs.Crc.{enter, checksum, crc32c_of, crc32_of};
+ghost use Rattle.hdfs_wire.specs.Crc.{enter, checksum, crc32c_of, crc32_of, TellsOneByte};
 ghost use Rattle.hdfs_wire.specs.CrcTables.{AreTables, zero_bytes};
 
 mod tables;
@@ -134,6 +134,6 @@ pub(crate) fn crc32_of_two(first: &[u8], second: &[u8]) -> (u32, u32)
 
 /// Two texts of one length that differ in exactly one byte have different sums.
 pub fn one_byte_changes_the_sum()
-    ensures crc32c { (front back : List ℕ) (x y : ℕ) → x < 256 → y < 256 → x ≢ y → crc32c_of (front ++ x ∷ back) ≢ crc32c_of (front ++ y ∷ back) }
-    ensures crc32 { (front back : List ℕ) (x y : ℕ) → x < 256 → y < 256 → x ≢ y → crc32_of (front ++ x ∷ back) ≢ crc32_of (front ++ y ∷ back) }
+    ensures crc32c { TellsOneByte crc32c_of }
+    ensures crc32 { TellsOneByte crc32_of }
 {}

@@ -240,5 +240,6 @@ pub fn fields(alloc: Global, bytes: &[u8]) -> Result<Vec<Field>, WireFault>
 /// What is written is in the grammar, so it is read again, and no field's text begins another's.
 pub fn fields_are_read_again()
     ensures again { (fs : List Field) → AllByRecursion FitsField fs → ReadsMessage (message_spelling fs) fs }
-    ensures apart { (f g : Field) (x y : List ℕ) → FitsField f → FitsField g → field_spelling f ++ x ≡ field_spelling g ++ y → (f ≡ g) × (x ≡ y) }
+    ensures apart { (f g : Field) (x y : List ℕ) → FitsField f → FitsField g
+        → field_spelling f ++ x ≡ field_spelling g ++ y → (f ≡ g) × (x ≡ y) }
 {}

@@ -94,6 +94,7 @@ impl FrameReader {
 
 /// A stream is read in one way, so it doesn't matter how it was cut into pieces, and no frame begins another.
 pub fn streams_are_read_in_one_way()
-    ensures splits { (stream : List ℕ) (inners others : List (List ℕ)) (rest left : List ℕ) → Splits stream inners rest → Splits stream others left → (inners ≡ others) × (rest ≡ left) }
+    ensures splits { (stream : List ℕ) (inners others : List (List ℕ)) (rest left : List ℕ)
+        → Splits stream inners rest → Splits stream others left → (inners ≡ others) × (rest ≡ left) }
     ensures apart { (a b x y : List ℕ) → FitsFrame a → FitsFrame b → frame a ++ x ≡ frame b ++ y → (a ≡ b) × (x ≡ y) }
 {}
