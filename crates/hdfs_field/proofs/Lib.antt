@@ -12,3 +12,4 @@ pub mod Reductions
 pub mod Combining
 pub mod Halves
 pub mod LaneLemmas
+pub mod Quotients

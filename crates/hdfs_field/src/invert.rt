@@ -28,14 +28,15 @@ impl<T: Field> Matrix<T> {
         None
     }
 
-    /// Divides each entry of row `r`.
+    /// Divides each entry of row `r`, by a product with one over the divisor.
     fn divide_row(&mut self, r: usize, by: T)
         requires row { r < length self.old }
         requires divisor { by ≢ T.ring.zero }
         ensures { SetsRow T.ring r (λ c. T.quotient (entry T.ring self.old r c) by) self.old self.new }
     {
+        let inverse = T::one().div(by);
         for c in 0..self.cols() {
-            self.set(r, c, self.at(r, c).div(by));
+            self.set(r, c, self.at(r, c).mul(inverse));
         }
     }
 

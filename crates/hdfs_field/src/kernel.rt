@@ -57,7 +57,8 @@ fn at_high_halves(table: u8x64, bytes: u8x64) -> u8x64
 /// The product of an element with each byte, by its products with the low and the high halves.
 #[inline(always)]
 fn times(low: u8x64, high: u8x64, bytes: u8x64) -> u8x64
-    ensures { (c : ℕ) → c < 256 → AreProducts c low → AreProducts (product c 16) high → HasLanes result (λ k. product c (slice_index bytes k)) }
+    ensures { (c : ℕ) → c < 256 → AreProducts c low → AreProducts (product c 16) high
+        → HasLanes result (λ k. product c (slice_index bytes k)) }
 {
     at_low_halves(low, bytes) ^ at_high_halves(high, bytes)
 }
