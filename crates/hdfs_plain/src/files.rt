@@ -5,7 +5,7 @@ ghost use Rattle.std.specs.BTreeMap.{get_by_text};
 ghost use Rattle.hdfs_model.specs.Files as spec;
 ghost use Rattle.hdfs_model.specs.Loading.{takes, is_directory, with_line};
 ghost use Rattle.hdfs_model.specs.Paths.{ancestors, parent_of, is_path as spec_is_path};
-ghost use Rattle.hdfs_plain.specs.Plain.{Holds, files_of};
+ghost use Rattle.hdfs_plain.specs.Plain.{Holds, files_of, is_free};
 
 use hdfs_model::{Attributes, Line, is_path, nearest_ancestor, parent_of};
 use hdfs_wire::{Blob, NoMemory};
@@ -74,7 +74,7 @@ impl PlainFiles {
     }
 
     fn is_free(&self, path: &str) -> bool
-        ensures { result ≡ (spec_is_path path.now && is_none (files_of (get_by_text self.now.nodes) path.now) && is_directory (files_of (get_by_text self.now.nodes) (parent_of path.now))) }
+        ensures { result ≡ is_free (files_of (get_by_text self.now.nodes)) path.now }
     {
         is_path(path) && self.is_absent(path) && self.is_directory(parent_of(path))
     }
