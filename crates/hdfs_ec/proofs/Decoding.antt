@@ -1,6 +1,5 @@
 -- Lost data shards from the shards that are there.
 use Rattle.std.proofs.Common.{◌≡◌, ℕ, ◌+◌, ◌<◌, ◌≤◌, List, [], length, get_or, take, All, Option, inl, inr, sym, ap, subst, ◌∙◌, arith}
-use Rattle.std.specs.List.{Contains}
 use Rattle.std.specs.List.Sorted.{IsStrictlyIncreasing}
 use Rattle.std.proofs.lemmas.Bool.{cases_lt}
 use Rattle.std.proofs.lemmas.List.{get_or-take, length-take-le}
@@ -11,14 +10,13 @@ use Rattle.hdfs_field.specs.declared.gf256.GF256.{GF256}
 use Rattle.hdfs_field.specs.Rings.{Operations, IsCommutativeRing}
 use Rattle.hdfs_field.specs.Elements.{element, gf256}
 use Rattle.hdfs_field.specs.FieldLaws.{gf256_lawful}
-use Rattle.hdfs_field.specs.Matrices.{width, IsGrid, entry, total, unit_at, IsInverse, selected_rows}
-use Rattle.hdfs_ec.specs.Coding.{coefficient, coding_at, IsCode, IsCodingMatrix, AreDataShards, IsShardOf, ArePlaces, HoldShardsOf}
+use Rattle.hdfs_field.specs.Matrices.{entry, total, unit_at}
+use Rattle.hdfs_ec.specs.Coding.{coefficient, coding_at, IsCode, AreDataShards, IsShardOf, ArePlaces, HoldShardsOf}
 use Rattle.hdfs_field.specs.Slices.{byte_at, AreCombined, AreEven}
+use Rattle.hdfs_ec.specs.Restoring.{Restores}
 use Rattle.hdfs_ec.specs.Places.{held_from, held_shards, IsRestored}
 use Rattle.hdfs_field.proofs.Totals.{total_same, total_exchange, total_scaled, total_left_unit}
-use Rattle.hdfs_field.proofs.Selection.{length-selected_rows, width-selected_rows, entry-selected_rows}
 use Rattle.hdfs_ec.proofs.Codes.{coding_above, coding_below}
-use Rattle.hdfs_ec.proofs.Choices.{has_first, chosen_size, chosen_entry}
 use Rattle.hdfs_field.proofs.Combining.{element_back}
 use Rattle.hdfs_ec.proofs.Occupancy.{HeldAt, held_at, held_rises, shards_count}
 
@@ -52,7 +50,7 @@ module _ (units parity : ℕ) (code : IsCode units parity) (places : List (Optio
   pub shards_size : length (take units (held_shards places)) ≡ units
   shards_size = let same = shards_count 0 places in length-take-le units (held_shards places) (omega arith)
 
-  first_at : (k : ℕ) → k < units → HeldAt 0 places k (get_or numbers k 0) (get_or shards k [])
+  pub first_at : (k : ℕ) → k < units → HeldAt 0 places k (get_or numbers k 0) (get_or shards k [])
   first_at k lt =
       let same = shards_count 0 places in
       let left = get_or-take units (held_from 0 places) k 0 lt in
@@ -87,7 +85,7 @@ module _ (units parity : ℕ) (code : IsCode units parity) (places : List (Optio
   shards_even = let some = code.some_units in record { size = shards_size; even = λ i lt. first_long i lt ∙ sym (first_long 0 (omega arith)) }
 
   -- where they are those of some data shards
-  module _ (coding : List (List GF256)) (is_coding : IsCodingMatrix units parity coding) (originals : List (List ℕ)) (data_shards : AreDataShards units originals) (hold : HoldShardsOf originals places) where
+  module _ (originals : List (List ℕ)) (data_shards : AreDataShards units originals) (hold : HoldShardsOf originals places) where
     of : (k : ℕ) → (lt : k < units) → IsShardOf originals (first_at k lt).at (get_or shards k [])
     of k lt =
         let at = first_at k lt in
@@ -135,82 +133,46 @@ module _ (units parity : ℕ) (code : IsCode units parity) (places : List (Optio
               ∙ sym moved
         ]
 
-    module _ (inverse : List (List GF256)) (inverts : IsInverse gf256 (selected_rows numbers coding) inverse) where
-      size_is : length (selected_rows numbers coding) ≡ units
-      size_is = chosen_size units parity code coding is_coding numbers numbers_count numbers_rise numbers_within
-
-      -- row m of the inverse times the shards is data shard m
-      given_back : (m q : ℕ) → m < units → q < length (get_or shards 0 []) → total gf256 units (λ i. gf256.product (entry gf256 inverse m i) (element (byte_at shards i q))) ≡ element (byte_at originals m q)
-      given_back m q lt below =
+    module _ (missing : List ℕ) (lost : (j : ℕ) → j < length missing → get_or missing j 0 < units) (rows : List (List GF256)) (restores : Restores units numbers missing rows) where
+      -- row j times the shards is the missing data shard at place j
+      given_back : (j q : ℕ) → j < length missing → q < length (get_or shards 0 []) → total gf256 units (λ i. gf256.product (entry gf256 rows j i) (element (byte_at shards i q))) ≡ element (byte_at originals (get_or missing j 0) q)
+      given_back j q lt below =
           let d : ℕ → GF256 = λ c. element (byte_at originals c q) in
-          let y : ℕ → ℕ → GF256 = λ i c. entry gf256 (selected_rows numbers coding) i c in
-          let size = size_is in
-          total_same gf256 gf256_lawful units (λ i. gf256.product (entry gf256 inverse m i) (element (byte_at shards i q))) (λ i. gf256.product (entry gf256 inverse m i) (total gf256 units (λ c. gf256.product (y i c) (d c))))
-          (λ i in_i. ap (gf256.product (entry gf256 inverse m i))
-          (byte_of i q in_i below
-          ∙ total_same gf256 gf256_lawful units (λ c. gf256.product (coding_at units (get_or numbers i 0) c) (d c)) (λ c. gf256.product (y i c) (d c))
-          (λ c in_c. ap (λ (x : GF256). gf256.product x (d c)) (sym (chosen_entry units parity code coding is_coding numbers numbers_count numbers_rise numbers_within i c in_i in_c)))))
-          ∙ row_times_rows gf256 gf256_lawful units (entry gf256 inverse m) y d
-          ∙ total_same gf256 gf256_lawful units (λ c. gf256.product (total gf256 units (λ i. gf256.product (entry gf256 inverse m i) (y i c))) (d c)) (λ c. gf256.product (unit_at gf256 m c) (d c))
-          (λ c in_c. ap (λ (x : GF256). gf256.product x (d c))
-          (ap (λ (k : ℕ). total gf256 k (λ i. gf256.product (entry gf256 inverse m i) (y i c))) (sym size) ∙ inverts.left m c (omega arith) (omega arith)))
-          ∙ total_left_unit gf256 gf256_lawful units m d lt
+          let y : ℕ → ℕ → GF256 = λ i c. coding_at units (get_or numbers i 0) c in
+          total_same gf256 gf256_lawful units (λ i. gf256.product (entry gf256 rows j i) (element (byte_at shards i q))) (λ i. gf256.product (entry gf256 rows j i) (total gf256 units (λ c. gf256.product (y i c) (d c))))
+          (λ i in_i. ap (gf256.product (entry gf256 rows j i)) (byte_of i q in_i below))
+          ∙ row_times_rows gf256 gf256_lawful units (entry gf256 rows j) y d
+          ∙ total_same gf256 gf256_lawful units (λ c. gf256.product (total gf256 units (λ i. gf256.product (entry gf256 rows j i) (y i c))) (d c)) (λ c. gf256.product (unit_at gf256 (get_or missing j 0) c) (d c))
+          (λ c in_c. ap (λ (x : GF256). gf256.product x (d c)) (restores.back j c lt in_c))
+          ∙ total_left_unit gf256 gf256_lawful units (get_or missing j 0) d (lost j lt)
 
-  module _ (coding : List (List GF256)) (is_coding : IsCodingMatrix units parity coding) (inverse : List (List GF256)) (inverts : IsInverse gf256 (selected_rows numbers coding) inverse) where
-    pub inverse_height : length inverse ≡ units
-    inverse_height = inverts.rows ∙ chosen_size units parity code coding is_coding numbers numbers_count numbers_rise numbers_within
-
-    pub inverse_width : width inverse ≡ units
-    inverse_width = inverts.cols ∙ chosen_size units parity code coding is_coding numbers numbers_count numbers_rise numbers_within
-
-    module _ (missing : List ℕ) (some : 0 < length missing) (rising : IsStrictlyIncreasing missing) (within : All (λ i. i < units) missing) where
-      all_below : (k : ℕ) → k < length missing → get_or missing k 0 < length inverse
-      all_below k lt = let h = inverse_height in let r = within k 0 lt in omega arith
-
-      pub missing_some : (r : ℕ) × Contains missing r × (r < length inverse)
-      missing_some = has_first missing (length inverse) some all_below
-
-      pub missing_width : IsGrid inverse → width (selected_rows missing inverse) ≡ units
-      missing_width grid = width-selected_rows missing inverse rising all_below grid some ∙ inverse_width
-
-  -- the rows of the inverse of these numbers times the shards
-  module _ (coding : List (List GF256)) (is_coding : IsCodingMatrix units parity coding) (inverse : List (List GF256)) (inverts : IsInverse gf256 (selected_rows numbers coding) inverse)
-      (missing : List ℕ) (rising : IsStrictlyIncreasing missing) (within : All (λ i. i < units) missing) (others : List (List ℕ)) (combined : AreCombined (selected_rows missing inverse) shards others) where
-    height : length inverse ≡ units
-    height = inverts.rows ∙ chosen_size units parity code coding is_coding numbers numbers_count numbers_rise numbers_within
-
-    below : (k : ℕ) → k < length missing → get_or missing k 0 < length inverse
-    below k lt = let h = height in let r = within k 0 lt in omega arith
-
-    rows_count : length (selected_rows missing inverse) ≡ length missing
-    rows_count = length-selected_rows missing inverse rising below
-
+  -- the rows that restore, times the shards
+  module _ (missing : List ℕ) (lost : (j : ℕ) → j < length missing → get_or missing j 0 < units) (rows : List (List GF256)) (restores : Restores units numbers missing rows)
+      (others : List (List ℕ)) (combined : AreCombined rows shards others) where
     long_is : (j : ℕ) → j < length missing → length (get_or others j []) ≡ length (get_or shards 0 [])
-    long_is j lt = let count = rows_count in combined.long j (omega arith)
+    long_is j lt = let count = restores.rows in combined.long j (omega arith)
 
     back : (originals : List (List ℕ)) → AreDataShards units originals → HoldShardsOf originals places → (j : ℕ) → j < length missing → get_or others j [] ≡ get_or originals (get_or missing j 0) []
     back originals data_shards hold j lt =
         let m = get_or missing j 0 in
-        let in_m : m < units = within j 0 lt in
-        let count = rows_count in
+        let in_m : m < units = lost j lt in
+        let count = restores.rows in
         let size = shards_size in
         let long = long_is j lt in
-        let whole = long_as coding is_coding originals data_shards hold in
+        let whole = long_as originals data_shards hold in
         let even = data_shards.even.even m in_m in
         same_number_lists (get_or others j []) (get_or originals m []) (long ∙ whole ∙ sym even)
         (λ q in_q.
         let in_first : q < length (get_or shards 0 []) = omega arith in
         combined.bytes j q (omega arith) in_first
         ∙ ap (λ (x : GF256). x.value)
-        (ap (λ (k : ℕ). total gf256 k (λ i. gf256.product (entry gf256 (selected_rows missing inverse) j i) (element (byte_at shards i q)))) size
-        ∙ total_same gf256 gf256_lawful units (λ i. gf256.product (entry gf256 (selected_rows missing inverse) j i) (element (byte_at shards i q))) (λ i. gf256.product (entry gf256 inverse m i) (element (byte_at shards i q)))
-        (λ i in_i. ap (λ (x : GF256). gf256.product x (element (byte_at shards i q))) (entry-selected_rows missing inverse rising below gf256 j i lt))
-        ∙ given_back coding is_coding originals data_shards hold inverse inverts m q in_m in_first)
+        (ap (λ (k : ℕ). total gf256 k (λ i. gf256.product (entry gf256 rows j i) (element (byte_at shards i q)))) size
+        ∙ given_back originals data_shards hold missing lost rows restores j q lt in_first)
         ∙ mod-eq_of_lt (data_shards.bytes m q))
 
     pub restored_from : IsRestored units places missing others
     restored_from = record {
-      count = combined.count ∙ rows_count;
+      count = combined.count ∙ restores.rows;
       long = λ size all j lt.
           let some = code.some_units in
           let at = first_at 0 (omega arith) in

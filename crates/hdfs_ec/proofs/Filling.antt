@@ -31,7 +31,7 @@ module _ (units n : ℕ) (places : List (Option (List ℕ))) (count : length pla
   pub missing_within : All (λ i. i < units) missing
   missing_within = All-from_get_or (λ i. i < units) missing 0 missing_below
 
-  missing_none : (j : ℕ) → j < length missing → place places (get_or missing j 0) ≡ None
+  pub missing_none : (j : ℕ) → j < length missing → place places (get_or missing j 0) ≡ None
   missing_none j lt =
       let at = missing_at j lt in
       let within = at.within in
@@ -40,7 +40,7 @@ module _ (units n : ℕ) (places : List (Option (List ℕ))) (count : length pla
       ap (place places) number ∙ sym (get_or-take units places at.at None (omega arith)) ∙ at.none
 
   -- an empty place among the first ones is one of them
-  found : (i : ℕ) → i < units → place places i ≡ None → (j : ℕ) × (j < length missing) × (get_or missing j 0 ≡ i)
+  pub found : (i : ℕ) → i < units → place places i ≡ None → (j : ℕ) × (j < length missing) × (get_or missing j 0 ≡ i)
   found i lt none =
       let all = size in
       let at = is_empty_number 0 (take units places) i (omega arith) (get_or-take units places i None lt ∙ none) in
@@ -49,7 +49,7 @@ module _ (units n : ℕ) (places : List (Option (List ℕ))) (count : length pla
       let same = ap length is in
       (at.0, omega arith, ap (λ (xs : List ℕ). get_or xs at.0 0) is ∙ number ∙ (let z : 0 + i ≡ i = omega arith in z))
 
-  both : held_before units places + length missing ≡ units
+  pub both : held_before units places + length missing ≡ units
   both = let all = both_count 0 units places (omega arith) in let same = ap length is in omega arith
 
   pub all_held : length missing ≡ 0 → AllHeld units places

@@ -11,3 +11,5 @@ pub mod ShareLengths
 pub mod ShareBytes
 pub mod ShareCells
 pub mod SharePlaces
+pub mod Restoring
+pub mod Splitting

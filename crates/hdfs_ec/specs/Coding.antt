@@ -1,9 +1,10 @@
 -- Reed-Solomon coding: each byte of a parity shard is a sum of products with the bytes of the data shards at its place.
-use Rattle.std.specs.Prelude.{◌≡◌, ℕ, zero, suc, ◌+◌, ◌<◌, ◌≤◌, nat_lt, List, [], ◌∷◌, length, slice_index, slice_index_or, Option, Some, None, is_some, if◌then◌else◌}
+use Rattle.std.specs.Prelude.{◌≡◌, ℕ, zero, suc, ◌+◌, ◌<◌, ◌≤◌, nat_lt, List, [], ◌∷◌, length, slice_index, slice_index_or, Option, Some, None, is_some, bit_xor, if◌then◌else◌}
 use Rattle.hdfs_ec.specs.declared.coder.TheConstants.{SHARD_LIMIT}
 use Rattle.hdfs_field.specs.declared.gf256.GF256.{GF256}
+use Rattle.hdfs_field.specs.Polynomials.{IsProductOf}
 use Rattle.hdfs_field.specs.Elements.{element, gf256, gf256_quotient}
-use Rattle.hdfs_field.specs.Matrices.{width, entry, total, unit_at}
+use Rattle.hdfs_field.specs.Matrices.{width, entry, total, unit_at, IsInverse, selected_rows}
 use Rattle.hdfs_field.specs.Slices.{byte_at, AreEven}
 
 -- how many data and parity shards there may be
@@ -30,6 +31,16 @@ pub record IsCodingMatrix (units parity : ℕ) (m : List (List GF256)) : Type 0 
   pub rows : length m ≡ units + parity
   pub cols : width m ≡ units
   pub entries : (r c : ℕ) → r < units + parity → c < units → entry gf256 m r c ≡ coding_at units r c
+
+-- below the identity, the entry in row r and column c is one over the polynomial r xor c
+abbrev pub InvertsSums : ℕ → ℕ → List (List GF256) → Type 0
+InvertsSums units parity m =
+    (r c : ℕ) → units ≤ r → r < units + parity → c < units → IsProductOf (entry gf256 m r c).value (bit_xor r c) 1
+
+-- m is the inverse of the rows of these numbers of the coding matrix
+abbrev pub InvertsRows : ℕ → ℕ → List ℕ → List (List GF256) → Type 0
+InvertsRows units parity numbers m =
+    (coding : List (List GF256)) → IsCodingMatrix units parity coding → IsInverse gf256 (selected_rows numbers coding) m
 
 -- byte q of the parity shard of number r, the data shards having the numbers before it
 abbrev pub parity_byte : List (List ℕ) → ℕ → ℕ → ℕ
@@ -109,3 +120,8 @@ pub record AreFilled (units : ℕ) (old new : List (Option (List ℕ))) : Type 0
 -- every data place holds its data shard
 abbrev pub HoldData : List (List ℕ) → List (Option (List ℕ)) → Type 0
 HoldData shards places = (i : ℕ) → i < length shards → place places i ≡ Some (slice_index_or shards i [])
+
+-- Where the first places that hold a shard held those of some data shards, every data place now holds its data shard.
+abbrev pub RestoresData : ℕ → List (Option (List ℕ)) → List (Option (List ℕ)) → Type 0
+RestoresData units old new =
+    (data_shards : List (List ℕ)) → AreDataShards units data_shards → HoldShardsOf data_shards old → HoldData data_shards new

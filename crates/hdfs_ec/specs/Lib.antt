@@ -4,3 +4,5 @@ pub mod Places
 pub mod Striping
 pub mod Policies
 pub mod Refusals
+pub mod Restoring
+pub mod Stripes

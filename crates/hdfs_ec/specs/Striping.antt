@@ -1,5 +1,5 @@
 -- Striping: the bytes of a group go cell by cell over its data shares, row by row.
-use Rattle.std.specs.Prelude.{ℕ, zero, suc, ◌+◌, ◌*◌, ◌/◌, ◌%◌, ◌==◌, List, [], ◌∷◌, ◌++◌, map, take, drop, if◌then◌else◌}
+use Rattle.std.specs.Prelude.{ℕ, zero, suc, ◌+◌, ◌*◌, ◌/◌, ◌%◌, ◌==◌, nat_lt, List, [], ◌∷◌, ◌++◌, map, take, drop, if◌then◌else◌}
 
 -- the share in which the byte at position p of a group lies
 abbrev pub share_of : ℕ → ℕ → ℕ → ℕ
@@ -19,6 +19,10 @@ share cell units i group = share_from cell units i 0 group
 unfoldable pub share_length : ℕ → ℕ → ℕ → ℕ → ℕ
 share_length cell units i zero = 0
 share_length cell units i (suc n) = share_length cell units i n + (if share_of cell units n == i then 1 else 0)
+
+-- the length of shard i of a group of n bytes: a parity shard is as long as the first data shard
+abbrev pub shard_length : ℕ → ℕ → ℕ → ℕ → ℕ
+shard_length cell units i n = share_length cell units (if nat_lt i units then i else 0) n
 
 -- the lengths of the first shares, count of them, added up
 unfoldable pub lengths_together : ℕ → ℕ → ℕ → ℕ → ℕ

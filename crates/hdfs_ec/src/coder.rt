@@ -6,10 +6,13 @@ ghost use Rattle.hdfs_field.specs.Polynomials.{IsProductOf};
 ghost use Rattle.hdfs_field.specs.Elements.{gf256};
 ghost use Rattle.hdfs_field.specs.Rows.{SetsRow};
 ghost use Rattle.hdfs_field.specs.Matrices.{width, entry, IsGrid, IsSingular, IsInverse, selected_rows};
-ghost use Rattle.hdfs_ec.specs.Coding.{IsCode, IsCodingMatrix, coefficient, coding_at, AreParityShards, AreDataShards, ArePlaces, HoldShardsOf, HoldData, AreFilled, AllHeld, held, empty_places};
+ghost use Rattle.hdfs_ec.specs.Coding.{IsCode, IsCodingMatrix, coefficient, coding_at, AreParityShards, AreDataShards, ArePlaces, InvertsSums, InvertsRows, RestoresData, AreFilled, AllHeld, held, empty_places};
 ghost use Rattle.hdfs_field.specs.Slices.{AreEven};
+ghost use Rattle.hdfs_ec.specs.Refusals.{RefusesPlaces};
 ghost use Rattle.hdfs_ec.specs.Steps.{IsRange, AreParityRows};
 ghost use Rattle.hdfs_ec.specs.Places.{held_from, IsRestored};
+
+mod restoring;
 
 use crate::fault::{EcFault, ShardFault};
 use crate::places::{empty_numbers, have_one_length, held_numbers, list_empty, put, shards_of};
@@ -138,7 +141,7 @@ impl Coder {
         requires { IsCode data_units parity_units }
         ensures coding { IfOk result (IsCodingMatrix data_units parity_units) }
         ensures grid { IfOk result IsGrid }
-        ensures inverses { IfOk result (λ m. (r c : ℕ) → data_units ≤ r → r < data_units + parity_units → c < data_units → IsProductOf (entry gf256 m r c).value (bit_xor r c) 1) }
+        ensures inverses { IfOk result (InvertsSums data_units parity_units) }
     {
         let mut m = Matrix::zeroes(alloc, data_units + parity_units, data_units)?;
         for r in 0..m.rows() {
@@ -166,7 +169,7 @@ impl Coder {
         requires count { length rows.now ≡ self.now.units }
         requires rising { IsStrictlyIncreasing rows.now }
         requires within { All (λ r. r < self.now.units + self.now.parity) rows.now }
-        ensures { IfOk result (λ m. (coding : Items (Items GF256)) → IsCodingMatrix self.now.units self.now.parity coding → IsInverse gf256 (selected_rows rows.now coding) m) }
+        ensures { IfOk result (InvertsRows self.now.units self.now.parity rows.now) }
     {
         let mut selected = self.matrix.copy(alloc)?;
         selected.select_rows(rows);
@@ -196,7 +199,7 @@ impl Coder {
         Ok(shared(alloc, rows.mul_slices(alloc, shards)?)?)
     }
 
-    /// The shards of these numbers, computed from the first ones that are there.
+    /// The missing data shards, which have these numbers, computed from the first shards that are there.
     fn restore(
         &self,
         alloc: Global,
@@ -208,14 +211,11 @@ impl Coder {
         requires held { held.now ≡ take self.now.units (held_from 0 shards.now) }
         requires enough { self.now.units ≤ length (held_from 0 shards.now) }
         requires some { 0 < length missing.now }
-        requires rising { IsStrictlyIncreasing missing.now }
-        requires within { All (λ i. i < self.now.units) missing.now }
+        requires missing { missing.now ≡ empty_places (take self.now.units shards.now) }
         ensures { IfOk result (λ v. IsRestored self.now.units shards.now missing.now v.items) }
     {
         let units = self.data_units;
-        let mut rows = self.invert_rows(alloc, held)?;
-        prove!(rows.cols() == units);
-        rows.select_rows(missing);
+        let rows = self.restoring_rows(alloc, held, missing)?;
         let copies = shards_of(alloc, shards)?;
         let products = rows.mul_slices(alloc, &copies[..units])?;
         Ok(shared(alloc, products)?)
@@ -227,10 +227,10 @@ impl Coder {
     /// the code has data shards. After a refusal, want of memory too, the places are as they were.
     pub fn decode(&self, alloc: Global, shards: &mut [Option<Bytes>]) -> Result<(), EcFault>
         requires { ArePlaces (self.now.units + self.now.parity) shards.old }
-        ensures restored { OnOk result ((data_shards : Items (Items ℕ)) → AreDataShards self.now.units data_shards → HoldShardsOf data_shards shards.old → HoldData data_shards shards.new) }
+        ensures restored { OnOk result (RestoresData self.now.units shards.old shards.new) }
         ensures filled { OnOk result (AreFilled self.now.units shards.old shards.new) }
         ensures enough { OnOk result (AllHeld self.now.units shards.old ⊎ (self.now.units ≤ held shards.old)) }
-        ensures refused { IfErr result (λ e. (e ≡ EcFault.NoMemory) ⊎ ((e ≡ EcFault.ErasureCodingError (record { missing = empty_places shards.old })) × (¬ AllHeld self.now.units shards.old) × (held shards.old < self.now.units))) }
+        ensures refused { IfErr result (RefusesPlaces self.now.units shards.old) }
         ensures unchanged { OnErr result (shards.new ≡ shards.old) }
     {
         let missing = empty_numbers(alloc, &shards[..self.data_units])?;
@@ -251,6 +251,8 @@ impl Coder {
 /// Any rows of a coding matrix, as many as it has columns, are independent: no combination of columns, not all taken zero
 /// times, vanishes in all of them.
 pub fn any_rows_are_independent()
-    ensures { (units parity : ℕ) (m : Items (Items GF256)) (numbers : Items ℕ) → IsCode units parity → IsCodingMatrix units parity m → IsGrid m
-        → length numbers ≡ units → IsStrictlyIncreasing numbers → All (λ r. r < units + parity) numbers → ¬ IsSingular gf256 (selected_rows numbers m) }
+    ensures { (units parity : ℕ) (m : Items (Items GF256)) (numbers : Items ℕ)
+        → IsCode units parity → IsCodingMatrix units parity m → IsGrid m
+        → length numbers ≡ units → IsStrictlyIncreasing numbers → All (λ r. r < units + parity) numbers
+        → ¬ IsSingular gf256 (selected_rows numbers m) }
 {}

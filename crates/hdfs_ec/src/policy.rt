@@ -1,7 +1,7 @@
 //! Erasure coding policies as namenodes tell them.
 
 ghost use Rattle.std.specs.Prelude.{◌≡◌, ◌≤◌, ◌⊎◌, Ok, Err, IfOk, IfErr};
-ghost use Rattle.hdfs_ec.specs.Policies.{schema_of, schema_of_id, schema_of_message, is_schema};
+ghost use Rattle.hdfs_ec.specs.Policies.{numbered, schema_of, schema_of_id, schema_of_message, is_schema};
 ghost use Rattle.hdfs_ec.specs.Refusals.{RefusesPolicy};
 
 use crate::coder::SHARD_LIMIT;
@@ -47,7 +47,7 @@ fn numbered(
     data_units: usize,
     parity_units: usize,
 ) -> Result<EcSchema, EcFault>
-    ensures ok { IfOk result (λ s. s ≡ record { codec_name = codec.now; data_units = data_units; parity_units = parity_units; cell_size = DEFAULT_CELL_SIZE }) }
+    ensures ok { IfOk result (λ s. numbered codec.now data_units parity_units ≡ Ok s) }
     ensures refused { IfErr result (λ e. e ≡ EcFault.NoMemory) }
 {
     Ok(EcSchema {

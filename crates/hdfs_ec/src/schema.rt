@@ -2,7 +2,7 @@
 
 ghost use Rattle.std.specs.Prelude.{◌↔◌, IsTrue, ◌≡◌, ℕ, ◌+◌, ◌*◌, ◌/◌, ◌%◌, ◌^◌, ◌<◌, ◌≤◌, nat_lt, List, length, slice_index, IfOk, if◌then◌else◌};
 ghost use Rattle.hdfs_ec.specs.Policies.{IsSchema};
-ghost use Rattle.hdfs_ec.specs.Striping.{share_of, share, share_length, lengths_together, cells, first_shares, joined};
+ghost use Rattle.hdfs_ec.specs.Striping.{share_of, share, share_length, shard_length, lengths_together, cells, first_shares, joined};
 
 use crate::coder::Coder;
 use hdfs_wire::{NoMemory, Text};
@@ -84,7 +84,7 @@ impl EcSchema {
         requires schema { IsSchema self.now }
         requires shard { index < self.now.data_units + self.now.parity_units }
         requires small { block_size < 2 ^ 63 }
-        ensures { result ≡ share_length self.now.cell_size self.now.data_units (if nat_lt index self.now.data_units then index else 0) block_size }
+        ensures { result ≡ shard_length self.now.cell_size self.now.data_units index block_size }
     {
         let share = if index < self.data_units { index } else { 0 };
         self.share_length(share, block_size)

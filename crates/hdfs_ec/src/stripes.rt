@@ -3,9 +3,9 @@
 ghost use Rattle.std.specs.Prelude.{◌↔◌, IsTrue, ◌≡◌, ℕ, ◌+◌, ◌*◌, ◌/◌, ◌%◌, ◌^◌, ◌<◌, ◌≤◌, ◌⊎◌, ◌++◌, [], true, false, Some, List as Items, map, take, drop, length, slice_index_or, codes, IfOk, IfErr, OnOk, All};
 ghost use Rattle.hdfs_ec.specs.Policies.{IsSchema};
 ghost use Rattle.hdfs_ec.specs.Striping.{cells};
-ghost use Rattle.hdfs_ec.specs.Coding.{AreDataShards, ArePlaces, HoldShardsOf, HoldData, AreFilled, AllHeld, held, place, empty_places};
+ghost use Rattle.hdfs_ec.specs.Coding.{ArePlaces, RestoresData, AreFilled, place, empty_places};
 ghost use Rattle.hdfs_ec.specs.Refusals.{RefusesStripes};
-ghost use Rattle.hdfs_ec.specs.Places.{AreWhole};
+ghost use Rattle.hdfs_ec.specs.Stripes.{AreStripes, HoldEnough, AreCellsOf};
 
 use crate::coder::Coder;
 use crate::fault::{EcFault, EcRefusal};
@@ -71,9 +71,9 @@ impl EcSchema {
     fn fill(&self, alloc: Global, stripes: &mut [Option<Bytes>]) -> Result<(), EcFault>
         requires schema { IsSchema self.now }
         requires places { ArePlaces (self.now.data_units + self.now.parity_units) stripes.old }
-        ensures restored { OnOk result ((data_shards : Items (Items ℕ)) → AreDataShards self.now.data_units data_shards → HoldShardsOf data_shards stripes.old → HoldData data_shards stripes.new) }
+        ensures restored { OnOk result (RestoresData self.now.data_units stripes.old stripes.new) }
         ensures filled { OnOk result (AreFilled self.now.data_units stripes.old stripes.new) }
-        ensures enough { OnOk result (AllHeld self.now.data_units stripes.old ⊎ ((self.now.codec_name ≡ codes "rs") × (self.now.data_units ≤ held stripes.old))) }
+        ensures enough { OnOk result (HoldEnough self.now stripes.old) }
         ensures refused { IfErr result (RefusesStripes self.now stripes.old) }
     {
         if are_held(&stripes[..self.data_units]) {
@@ -91,7 +91,7 @@ impl EcSchema {
     /// length, a positive multiple of the cell. It takes no memory. Condition: `is_schema`.
     pub fn are_stripes(&self, stripes: &[Option<Bytes>]) -> bool
         requires { IsSchema self.now }
-        ensures { IsTrue result ↔ (ArePlaces (self.now.data_units + self.now.parity_units) stripes.now × AreWhole self.now.cell_size stripes.now) }
+        ensures { IsTrue result ↔ AreStripes self.now stripes.now }
     {
         stripes.len() == self.data_units + self.parity_units
             && have_one_length(stripes)
@@ -112,9 +112,8 @@ impl EcSchema {
         requires schema { IsSchema self.now }
         requires places { ArePlaces (self.now.data_units + self.now.parity_units) stripes.items }
         requires whole { (i : ℕ) (shard : Items ℕ) → place stripes.items i ≡ Some shard → length shard % self.now.cell_size ≡ 0 }
-        ensures cells { IfOk result (λ v. (data_shards : Items (Items ℕ)) → AreDataShards self.now.data_units data_shards → HoldShardsOf data_shards stripes.items
-            → v.items ≡ cells self.now.cell_size data_shards (length (slice_index_or data_shards 0 []) / self.now.cell_size)) }
-        ensures enough { OnOk result (AllHeld self.now.data_units stripes.items ⊎ ((self.now.codec_name ≡ codes "rs") × (self.now.data_units ≤ held stripes.items))) }
+        ensures cells { IfOk result (λ v. AreCellsOf self.now stripes.items v.items) }
+        ensures enough { OnOk result (HoldEnough self.now stripes.items) }
         ensures refused { IfErr result (RefusesStripes self.now stripes.items) }
     {
         let mut stripes = stripes;

@@ -62,25 +62,13 @@ returns-then-len-self-clause-refused c =
     let all = ap (λ (xs : List ℕ). ErasureCodingError (record { missing = xs })) c.in_ok-missing-2.ensures in
     inr (all, not_all_held code.units (code.units + code.parity) places c.requires.count few missing is (omega arith), omega arith)
 
-pub restore-requires-clause-rising : goal.restore-requires-clause-rising
-restore-requires-clause-rising c =
+pub restore-requires-clause-missing : goal.restore-requires-clause-missing
+restore-requires-clause-missing c =
     let code = c.args.self.now in
     let places = c.args.shards.now in
     let same = ap (λ (v : Code). v.units) c.self.view_is in
     let is = c.in_ok-missing.ensures ∙ ap (λ (n : ℕ). empty_places (take n places)) same in
-    let missing = c.in_ok-missing.missing.items in
-    let few : code.units ≤ code.units + code.parity = omega arith in
-    subst IsStrictlyIncreasing (sym c.deref-2.ensures.value) (missing_rise code.units (code.units + code.parity) places c.requires.count few missing is)
-
-pub restore-requires-clause-within : goal.restore-requires-clause-within
-restore-requires-clause-within c =
-    let code = c.args.self.now in
-    let places = c.args.shards.now in
-    let same = ap (λ (v : Code). v.units) c.self.view_is in
-    let is = c.in_ok-missing.ensures ∙ ap (λ (n : ℕ). empty_places (take n places)) same in
-    let missing = c.in_ok-missing.missing.items in
-    let few : code.units ≤ code.units + code.parity = omega arith in
-    subst (All (λ i. i < code.units)) (sym c.deref-2.ensures.value) (missing_within code.units (code.units + code.parity) places c.requires.count few missing is)
+    c.deref-2.ensures.value ∙ is
 
 pub put-requires-clause-rising : goal.put-requires-clause-rising
 put-requires-clause-rising c =
