@@ -1,5 +1,5 @@
 -- A reader of a block, the cluster that it reads from, and the bytes of the block.
-use Rattle.std.specs.Prelude.{◌≡◌, ◌≢◌, ◌⊎◌, ℕ, zero, suc, ◌+◌, ◌<◌, ◌≤◌, Bool, true, false, List, length, Option, Some, None, IsSome}
+use Rattle.std.specs.Prelude.{◌≡◌, ◌≢◌, ◌⊎◌, ◌↔◌, ℕ, zero, suc, ◌+◌, ◌<◌, ◌≤◌, Bool, true, false, List, length, Option, Some, None, IsSome, Result, Ok}
 use Rattle.hdfs_model.specs.declared.messages.LocatedBlock.{LocatedBlock}
 use Rattle.hdfs_model.specs.declared.picture.ReadPlace.{ReadPlace}
 use Rattle.hdfs_model.specs.declared.picture.OpenRead.{OpenRead}
@@ -45,6 +45,10 @@ has_failed reader = reader.failed
 -- nothing more comes
 abbrev pub IsOver : BlockRead → Type 0
 IsOver reader = (has_failed reader ≡ true) ⊎ (wanted_of reader ≡ end_of reader)
+
+-- nothing comes exactly where the range is given or the reader has failed, and then nothing is asked of the cluster
+abbrev pub EndsStill : {C : Type 0} → BlockRead → C → Result (Option (List ℕ)) HdfsError → C → Type 0
+EndsStill reader old result new = ((result ≡ Ok None) ↔ IsOver reader) × (result ≡ Ok None → new ≡ old)
 
 -- a read was opened on the k-th location of a block, with the block's stamp, pool and token as they were answered
 pub record IsOpenedOn (block : LocatedBlock) (k : ℕ) (opened : OpenRead) : Type 0 where

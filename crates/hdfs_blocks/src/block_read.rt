@@ -29,7 +29,7 @@ impl BlockRead {
     ghost use Rattle.hdfs_model.specs.Counts.{FaultCounts};
     ghost use Rattle.hdfs_model.specs.Shown.{Shown};
     ghost use Rattle.hdfs_model.specs.Steps.{range_of};
-    ghost use Rattle.hdfs_blocks.specs.Reader.{block_of, client_of, wanted_of, end_of, tried_of, link_of, has_failed, IsOver, Holds, Stands, Keeps, ShowsBlock, Over, Reads, AllBlamed, IsRead, GivesPiece, IsPieceOf, Fails};
+    ghost use Rattle.hdfs_blocks.specs.Reader.{block_of, client_of, wanted_of, end_of, tried_of, link_of, has_failed, IsOver, EndsStill, Holds, Stands, Keeps, ShowsBlock, Over, Reads, AllBlamed, IsRead, GivesPiece, IsPieceOf, Fails};
     ghost use Rattle.hdfs_blocks.specs.Going.{Frame, Goes, Accepts, Steps, IsPartOf, ReadsLocation};
 
     /// A read of `len` bytes from `offset` on of a block that is held in whole by each of its locations. `client` is the
@@ -70,8 +70,7 @@ impl BlockRead {
         requires { Stands (C.shown cluster.old) self.old }
         ensures keeps { Keeps (C.shown cluster.old) (C.shown cluster.new) self.old self.new }
         ensures given { IfOk result (λ piece. GivesPiece self.old piece self.new) }
-        ensures ended { (result ≡ Ok None) ↔ IsOver self.old }
-        ensures still { result ≡ Ok None → cluster.new ≡ cluster.old }
+        ensures ended { EndsStill self.old cluster.old result cluster.new }
         ensures failed { IfErr result (λ error. Fails self.old error self.new) }
 
         // Over a told picture the pieces are those of the block's bytes, and each location has a cause to be given up.

@@ -6,7 +6,13 @@ use Rattle.hdfs_model.specs.declared.errors.HdfsError.TheVariants as errors
 use Rattle.hdfs_model.specs.Picture.{Picture, kinds}
 use Rattle.hdfs_model.specs.Namenode.{IsNoFile, StandsForNoFile}
 use Rattle.hdfs_model.specs.Causes.{CallsRose}
-use Rattle.hdfs_model.specs.Shown.{Shown}
+use Rattle.hdfs_model.specs.Shown.{Shown, Later, SameLinks, SameNodes}
+
+-- what a look-up leaves: the counts don't fall, and no read is opened or ended, and no datanode's count rises
+pub record OnlyLooks (old new : Shown) : Type 0 where
+  pub later : Later old new
+  pub links : SameLinks old new
+  pub nodes : SameNodes old new
 
 -- What holds of an error of a look-up over any cluster: it is that of the ask that came last.
 abbrev pub TellsLook : List ℕ → Shown → HdfsError → Type 0

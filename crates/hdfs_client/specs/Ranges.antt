@@ -1,5 +1,5 @@
 -- Ranges of files that are stored in blocks.
-use Rattle.std.specs.Prelude.{◌≡◌, ℕ, ◌+◌, ◌-◌, ◌<◌, ◌≤◌, min, max, List, length, Some, None}
+use Rattle.std.specs.Prelude.{◌≡◌, ℕ, ◌+◌, ◌-◌, ◌<◌, ◌≤◌, min, max, false, List, length, Some, None}
 use Rattle.hdfs_model.specs.declared.messages.LocatedBlock.{LocatedBlock}
 use Rattle.hdfs_model.specs.declared.errors.HdfsError.{HdfsError}
 use Rattle.hdfs_model.specs.declared.errors.HdfsError.TheVariants as errors
@@ -11,7 +11,7 @@ use Rattle.hdfs_model.specs.Shown.{Shown}
 use Rattle.hdfs_model.specs.Steps.{range_of}
 use Rattle.hdfs_model.specs.Stores.{StoresBlocks, HoldsPrefix}
 use Rattle.hdfs_blocks.specs.Blocks.{node_at, node_count}
-use Rattle.hdfs_blocks.specs.Reader.{block_of, wanted_of, end_of, link_of, Over, AllBlamed, IsRead}
+use Rattle.hdfs_blocks.specs.Reader.{block_of, wanted_of, end_of, link_of, has_failed, Over, AllBlamed, IsRead}
 use Rattle.hdfs_blocks.specs.declared.block_read.BlockRead.{BlockRead}
 
 -- the blocks of a whole file, and the bytes that they store
@@ -48,6 +48,11 @@ pub record LiesIn (block : LocatedBlock) (offset end byte : ℕ) : Type 0 where
   pub behind : offset ≤ block.offset + byte
   pub before : block.offset + byte < end
   pub inside : byte < block.b.num_bytes
+
+-- the reader has gone on in its range, or stands where it stood, and has not failed
+pub record GoesOn (reader reader' : BlockRead) : Type 0 where
+  pub on : wanted_of reader ≤ wanted_of reader'
+  pub fine : has_failed reader' ≡ false
 
 -- An error of a reader: its byte lies in what was left of the range, each location is to blame where it isn't want of
 -- memory, and no link is kept.

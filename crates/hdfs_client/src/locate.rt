@@ -2,8 +2,7 @@
 ghost use Rattle.std.specs.Prelude.{◌≡◌, ◌<◌, ◌^◌, Some, IfOk, IfErr};
 ghost use Rattle.hdfs_model.specs.Namenode.{Locates};
 ghost use Rattle.hdfs_model.specs.Picture.{Picture, SameFiles};
-ghost use Rattle.hdfs_model.specs.Shown.{Later, SameLinks, SameNodes};
-ghost use Rattle.hdfs_client.specs.Looking.{TellsLook, CauseOfLook};
+ghost use Rattle.hdfs_client.specs.Looking.{OnlyLooks, TellsLook, CauseOfLook};
 ghost use Rattle.hdfs_client.specs.Meeting.{IsClosed};
 
 use hdfs_model::{Answer, Ask, AskFault, Cluster, HdfsError, LocatedBlocks};
@@ -22,9 +21,7 @@ pub(crate) fn locate<C: Cluster>(
     requires { 0 < (C.shown cluster.old).namenodes }
 
     // over any cluster
-    ensures later { Later (C.shown cluster.old) (C.shown cluster.new) }
-    ensures links { SameLinks (C.shown cluster.old) (C.shown cluster.new) }
-    ensures nodes { SameNodes (C.shown cluster.old) (C.shown cluster.new) }
+    ensures looks { OnlyLooks (C.shown cluster.old) (C.shown cluster.new) }
     ensures length { IfOk result (λ found. found.file_length < 2 ^ 63) }
     ensures tells { IfErr result (TellsLook path.now (C.shown cluster.new)) }
 

@@ -8,7 +8,7 @@ ghost use Rattle.hdfs_model.specs.Shown.{OnlyReads, SameLinks};
 ghost use Rattle.hdfs_model.specs.Steps.{World, Done, step, range_of};
 ghost use Rattle.hdfs_model.specs.Stores.{Agrees};
 ghost use Rattle.hdfs_client.specs.Meeting.{Meets};
-ghost use Rattle.hdfs_client.specs.Ranges.{Stored, HoldsBlock, FailsAt, FailsToRead, LiesIn, IsOutside, part_of};
+ghost use Rattle.hdfs_client.specs.Ranges.{Stored, HoldsBlock, GoesOn, FailsAt, FailsToRead, LiesIn, IsOutside, part_of};
 
 use crate::locate::locate;
 use hdfs_blocks::BlockRead;
@@ -30,9 +30,9 @@ fn append_next<C: Cluster>(
 
     // over any cluster
     ensures keeps { Keeps (C.shown cluster.old) (C.shown cluster.new) reader.old reader.new }
-    ensures more { IfOk result (λ more. MatchBool more (wanted_of reader.old < wanted_of reader.new) (wanted_of reader.new ≡ end_of reader.new)) }
-    ensures fine { OnOk result (has_failed reader.new ≡ false) }
-    ensures on { OnOk result (wanted_of reader.old ≤ wanted_of reader.new) }
+    ensures more { IfOk result (λ more. MatchBool more
+        (wanted_of reader.old < wanted_of reader.new) (wanted_of reader.new ≡ end_of reader.new)) }
+    ensures on { OnOk result (GoesOn reader.old reader.new) }
     ensures err { IfErr result (FailsToRead (C.shown cluster.old) (C.shown cluster.new) reader.old reader.new) }
 
     // over a told picture

@@ -33,9 +33,9 @@ pieces-preserved g c =
     record {
       keeps = keeps_trans s t u q r w before.keeps now.keeps;
       reads = reads_trans s t u q r w before.keeps now.keeps before.reads now.reads;
-      on = omega (arith, before.on, now.on);
-      fine = now.fine;
-      so_far = λ block shows. pieces_join c.args.out.now.items c.pieces.out.items c.append_next.new.out.items block (wanted_of q) (wanted_of r) (wanted_of w) (before.so_far block shows) (now.bytes block (before.reads.shows block shows)) before.on now.on;
+      on = omega (arith, before.on, now.on.on);
+      fine = now.on.fine;
+      so_far = λ block shows. pieces_join c.args.out.now.items c.pieces.out.items c.append_next.new.out.items block (wanted_of q) (wanted_of r) (wanted_of w) (before.so_far block shows) (now.bytes block (before.reads.shows block shows)) before.on now.on.on;
     }
 
 pub returns-clause-bytes : goal.returns-clause-bytes
@@ -46,5 +46,5 @@ returns-clause-bytes g c = λ block shows.
     let before = c.pieces.invariant in
     let now = c.in_ok-append_next.ensures in
     let end : wanted_of w ≡ end_of q = search rules in
-    pieces_join c.args.out.now.items c.pieces.out.items c.append_next.new.out.items block (wanted_of q) (wanted_of r) (wanted_of w) (before.so_far block shows) (now.bytes block (before.reads.shows block shows)) before.on now.on
+    pieces_join c.args.out.now.items c.pieces.out.items c.append_next.new.out.items block (wanted_of q) (wanted_of r) (wanted_of w) (before.so_far block shows) (now.bytes block (before.reads.shows block shows)) before.on now.on.on
     ∙ ap (λ (e : ℕ). c.args.out.now.items ++ range_of block (wanted_of q) (e - wanted_of q)) end

@@ -43,7 +43,7 @@ returns-in_err-read_blocks-clause-err g c =
     let lost : (content : List ℕ) (stored : Stored s' c.in_ok-found.found.blocks content) → FailsAt (ByteLost stored.picture stored.ids c.args.offset (c.args.offset + c.args.len) (AllFailed s'.counts u.counts stored.picture)) e
     = subst (λ (bs : List LocatedBlock). (content : List ℕ) (stored : Stored s' bs content) → FailsAt (ByteLost stored.picture stored.ids c.args.offset (c.args.offset + c.args.len) (AllFailed s'.counts u.counts stored.picture)) e) c.into_vec.ensures c.in_err-read_blocks.ensures.lost in
     rw (p.1, p.2) (λ w state meets. (
-      blocks_cause w s s' state c.args.path.now c.args.offset c.args.len meets h.files c.in_ok-found.found h.found u h.later c.in_err-read_blocks.ensures.only within e lost,
+      blocks_cause w s s' state c.args.path.now c.args.offset c.args.len meets h.files c.in_ok-found.found h.found u h.looks.later c.in_err-read_blocks.ensures.only within e lost,
       agrees_read w s s' state c.args.path.now c.args.offset c.args.len meets h.files c.in_ok-found.found h.found u c.in_err-read_blocks.ensures.only,
     ))
 
