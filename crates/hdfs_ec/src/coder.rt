@@ -1,12 +1,11 @@
 //! Reed-Solomon coding: parity shards of data shards, and lost data shards of the others.
 
-ghost use Rattle.std.specs.Prelude.{◌↔◌, IsTrue, ◌≡◌, ℕ, ◌+◌, ◌^◌, ◌<◌, ◌≤◌, [], length, slice_index_or, take, List as Items, bit_xor, IfOk, IfErr, OnOk, OnErr, ◌⊎◌, All};
+ghost use Rattle.std.specs.Prelude.{◌↔◌, IsTrue, ◌≡◌, ℕ, ◌+◌, ◌^◌, ◌<◌, ◌≤◌, [], length, slice_index_or, take, List as Items, IfOk, IfErr, OnOk, OnErr, ◌⊎◌, All};
 ghost use Rattle.std.specs.List.Sorted.{IsStrictlyIncreasing};
-ghost use Rattle.hdfs_field.specs.Polynomials.{IsProductOf};
 ghost use Rattle.hdfs_field.specs.Elements.{gf256};
 ghost use Rattle.hdfs_field.specs.Rows.{SetsRow};
-ghost use Rattle.hdfs_field.specs.Matrices.{width, entry, IsGrid, IsSingular, IsInverse, selected_rows};
-ghost use Rattle.hdfs_ec.specs.Coding.{IsCode, IsCodingMatrix, coefficient, coding_at, AreParityShards, AreDataShards, ArePlaces, InvertsSums, InvertsRows, RestoresData, AreFilled, AllHeld, held, empty_places};
+ghost use Rattle.hdfs_field.specs.Matrices.{width, entry, IsGrid, IsSingular, selected_rows};
+ghost use Rattle.hdfs_ec.specs.Coding.{IsCode, IsCodingMatrix, coefficient, coding_at, AreParityShards, ArePlaces, InvertsSums, InvertsRows, RestoresData, AreFilled, AllHeld, held, empty_places};
 ghost use Rattle.hdfs_field.specs.Slices.{AreEven};
 ghost use Rattle.hdfs_ec.specs.Refusals.{RefusesPlaces};
 ghost use Rattle.hdfs_ec.specs.Steps.{IsRange, AreParityRows};

@@ -1,6 +1,6 @@
 //! How the bytes of a group are laid out over its shards.
 
-ghost use Rattle.std.specs.Prelude.{◌↔◌, IsTrue, ◌≡◌, ℕ, ◌+◌, ◌*◌, ◌/◌, ◌%◌, ◌^◌, ◌<◌, ◌≤◌, nat_lt, List, length, slice_index, IfOk, if◌then◌else◌};
+ghost use Rattle.std.specs.Prelude.{◌↔◌, IsTrue, ◌≡◌, ℕ, ◌+◌, ◌*◌, ◌/◌, ◌%◌, ◌^◌, ◌<◌, ◌≤◌, List, length, slice_index, IfOk};
 ghost use Rattle.hdfs_ec.specs.Policies.{IsSchema};
 ghost use Rattle.hdfs_ec.specs.Striping.{share_of, share, share_length, shard_length, lengths_together, cells, first_shares, joined};
 

@@ -1,6 +1,6 @@
 //! The bytes of a group from the shards of its rows.
 
-ghost use Rattle.std.specs.Prelude.{◌↔◌, IsTrue, ◌≡◌, ℕ, ◌+◌, ◌*◌, ◌/◌, ◌%◌, ◌^◌, ◌<◌, ◌≤◌, ◌⊎◌, ◌++◌, [], true, false, Some, List as Items, map, take, drop, length, slice_index_or, codes, IfOk, IfErr, OnOk, All};
+ghost use Rattle.std.specs.Prelude.{◌↔◌, IsTrue, ◌≡◌, ℕ, ◌+◌, ◌*◌, ◌/◌, ◌%◌, ◌^◌, ◌<◌, ◌≤◌, ◌++◌, [], true, false, Some, List as Items, map, take, drop, length, IfOk, IfErr, OnOk, All};
 ghost use Rattle.hdfs_ec.specs.Policies.{IsSchema};
 ghost use Rattle.hdfs_ec.specs.Striping.{cells};
 ghost use Rattle.hdfs_ec.specs.Coding.{ArePlaces, RestoresData, AreFilled, place, empty_places};

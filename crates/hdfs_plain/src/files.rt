@@ -4,7 +4,7 @@ ghost use Rattle.std.specs.List.{list_any};
 ghost use Rattle.std.specs.BTreeMap.{get_by_text};
 ghost use Rattle.hdfs_model.specs.Files as spec;
 ghost use Rattle.hdfs_model.specs.Loading.{takes, is_directory, with_line};
-ghost use Rattle.hdfs_model.specs.Paths.{ancestors, parent_of, is_path as spec_is_path};
+ghost use Rattle.hdfs_model.specs.Paths.{ancestors, parent_of};
 ghost use Rattle.hdfs_plain.specs.Plain.{Holds, files_of, is_free};
 
 use hdfs_model::{Attributes, Line, is_path, nearest_ancestor, parent_of};

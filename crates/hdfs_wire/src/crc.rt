@@ -1,6 +1,6 @@
 //! Checksums of 32 bits, sixteen bytes at a step.
 
-ghost use Rattle.std.specs.Prelude.{◌≡◌, ◌≢◌, ℕ, List, length, ◌+◌, ◌<◌, ◌++◌, ◌∷◌, []};
+ghost use Rattle.std.specs.Prelude.{◌≡◌, ℕ, length, ◌+◌, ◌<◌, ◌∷◌, []};
 ghost use Rattle.hdfs_wire.specs.Crc.{enter, checksum, crc32c_of, crc32_of, TellsOneByte};
 ghost use Rattle.hdfs_wire.specs.CrcTables.{AreTables, zero_bytes};
 
