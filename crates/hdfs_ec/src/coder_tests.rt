@@ -3,7 +3,7 @@ ghost use Rattle.hdfs_ec.specs.Coding.{IsCode};
 
 use super::*;
 use bytes::Bytes;
-use hdfs_wire::{NoMemory, Text};
+use hdfs_wire::{List, NoMemory, Text};
 use std::alloc::Global;
 use std::process::Abort;
 use std::test::*;
@@ -359,5 +359,27 @@ fn stripes_are_decoded(rt: HostRuntime) -> Result<(), Fail> {
     assert_eq!(rt; found.as_slice(), b"\x01\x02\x03\x04\x05\x06".as_slice());
     let found = decoded_cells(&rt, rt.alloc(), "xor")?;
     assert_eq!(rt; found.as_slice(), b"xor".as_slice());
+    Ok(())
+}
+
+#[test]
+fn faults_have_texts(rt: HostRuntime) -> Result<(), Fail> {
+    let alloc = rt.alloc();
+    let missing = List::from_vec(vec![in alloc; 1, 3, 8]?);
+    let codec = EcRefusal::Codec(Text::from_str(alloc, "xor")?);
+    let rows = [
+        (EcFault::NoMemory, "out of memory"),
+        (
+            EcFault::ErasureCodingError(ShardFault { missing }),
+            "erasure coding error: 1, 3, 8",
+        ),
+        (
+            EcFault::UnsupportedErasureCodingPolicy(codec),
+            "unsupported erasure coding policy Codec",
+        ),
+    ];
+    for (fault, wanted) in &rows {
+        assert_eq!(rt; fault.to_string(alloc)?.as_str(), *wanted);
+    }
     Ok(())
 }

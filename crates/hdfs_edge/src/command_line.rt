@@ -2,12 +2,15 @@
 use std::alloc::{AllocError, AllocFailed, Global};
 use std::rt::Env;
 use std::{env, io};
+use thiserror::Error;
 
 /// Why the words can't be told.
-#[derive(Clone, Copy, Debug, PartialEq, Eq)]
+#[derive(Clone, Copy, Debug, PartialEq, Eq, Error)]
 pub enum WordsFault {
+    #[error("out of memory")]
     NoMemory,
     /// One of them is no text.
+    #[error("a word isn't text in UTF-8")]
     NotText,
 }
 

@@ -6,6 +6,7 @@ ghost use Rattle.hdfs_model.specs.declared.asks.LinkFault.TheVariants as link_fa
 use crate::messages::LocatedBlocks;
 use hdfs_wire::{NoMemory, Text};
 use std::alloc::{AllocError, AllocFailed};
+use thiserror::Error;
 
 /// What is asked of a namenode, by the name of ClientProtocol's call.
 #[derive(Debug, Drop)]
@@ -21,20 +22,25 @@ pub enum Answer {
 }
 
 /// Why an ask has no answer.
-#[derive(Debug, Drop)]
+#[derive(Debug, Drop, Error)]
 pub enum AskFault {
+    #[error("out of memory")]
     NoMemory,
     /// The namenode's exception, by its Java class.
+    #[error("{} {}", .class.as_str(), .message.as_str())]
     Exception { class: Text, message: Text },
 }
 
 /// Why a call on a data transfer link failed.
-#[derive(Clone, Copy, Debug, PartialEq, Eq)]
+#[derive(Clone, Copy, Debug, PartialEq, Eq, Error)]
 pub enum LinkFault {
+    #[error("out of memory")]
     NoMemory,
     /// The connection broke.
+    #[error("the connection broke")]
     Broken,
     /// The datanode refused.
+    #[error("the datanode refused")]
     Refused,
 }
 

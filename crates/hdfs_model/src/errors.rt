@@ -5,42 +5,70 @@ ghost use Rattle.hdfs_model.specs.declared.errors.HdfsError.TheVariants as error
 use crate::commands::Reply;
 use hdfs_wire::{List, NoMemory, Text};
 use std::alloc::{AllocError, AllocFailed};
+use thiserror::Error;
 
 /// Why bytes could not be moved from or to datanodes.
-#[derive(Debug, Drop)]
+#[derive(Debug, Drop, Error)]
 pub enum TransferFault {
     /// No listed datanode gave the byte at this offset of its block.
+    #[error("no datanode gave the byte at offset {offset} of its block")]
     Read { offset: u64 },
 }
 
 /// Why an argument is refused.
-#[derive(Debug, Drop)]
+#[derive(Debug, Drop, Error)]
 pub enum ArgFault {
     /// `offset + len` is above the file's `length`.
+    #[error("{len} bytes from offset {offset} on end behind the file's {length}")]
     Range { offset: u64, len: u64, length: u64 },
 }
 
-/// The errors of the client, by the names of the Rust crate's `HdfsError`.
-#[derive(Debug, Drop)]
+/// The errors of the client, by the names and the texts of the Rust crate's `HdfsError`.
+#[derive(Debug, Drop, Error)]
 pub enum HdfsError {
+    #[error("out of memory")]
     NoMemory,
     /// An earlier call of the same object failed.
+    #[error("failed before")]
     Failed,
+    #[error("data transfer error: {}", .0.name())]
     DataTransferError(TransferFault),
+    #[error("invalid argument: {}", .0.name())]
     InvalidArgument(ArgFault),
     /// There is no file at this path.
+    #[error("file not found: {}", .0.as_str())]
     FileNotFound(Text),
     /// A namenode's exception: its class and its message.
+    #[error("RPC error: {} {}", .0.as_str(), .1.as_str())]
     RPCError(Text, Text),
 }
 
 /// Where a session stopped: at which command, counted from 1, or at 0 before the first; with which error; and with which
 /// replies to the commands before it.
-#[derive(Debug, Drop)]
+#[derive(Debug, Drop, Error)]
+#[error("command {at}: {error}")]
 pub struct Fault {
     pub at: u64,
     pub error: HdfsError,
     pub done: List<Reply>,
+}
+
+impl TransferFault {
+    // The name of the variant, which the text of an `HdfsError` shows.
+    fn name(&self) -> &'static str {
+        match self {
+            TransferFault::Read { .. } => "Read",
+        }
+    }
+}
+
+impl ArgFault {
+    // The name of the variant, which the text of an `HdfsError` shows.
+    fn name(&self) -> &'static str {
+        match self {
+            ArgFault::Range { .. } => "Range",
+        }
+    }
 }
 
 impl From<NoMemory> for HdfsError {

@@ -9,6 +9,7 @@ ghost use Rattle.hdfs_model.specs.Stores.{Agrees};
 use crate::attributes::Attributes;
 use crate::cluster::Cluster;
 use hdfs_wire::{Blob, Text};
+use thiserror::Error;
 
 /// How a datanode fails a read.
 #[derive(Clone, Copy, Debug, PartialEq, Eq)]
@@ -37,10 +38,12 @@ pub enum Line {
 }
 
 /// Why a line isn't taken.
-#[derive(Clone, Copy, Debug, PartialEq, Eq)]
+#[derive(Clone, Copy, Debug, PartialEq, Eq, Error)]
 pub enum AddFault {
+    #[error("out of memory")]
     NoMemory,
     /// The path isn't new, its parent is no directory, or a value is out of its limits.
+    #[error("the path isn't new, its parent is no directory, or a value is out of its limits")]
     Refused,
 }
 

@@ -429,3 +429,27 @@ fn entries_are_copied(rt: HostRuntime) -> Result<(), Fail> {
     assert!(rt; nameless != entry);
     Ok(())
 }
+
+#[test]
+fn faults_have_texts(rt: HostRuntime) -> Result<(), Fail> {
+    let alloc = rt.alloc();
+    let rows = [
+        (NamesFault::NoMemory, "out of memory"),
+        (
+            NamesFault::InvalidPath(Text::from_str(alloc, "[")?),
+            "invalid path: [",
+        ),
+        (
+            NamesFault::InvalidArgument(Text::from_str(alloc, "u")?),
+            "invalid argument: u",
+        ),
+        (
+            NamesFault::ResolveNeeded,
+            "the addresses of a name service would have to be looked up by name",
+        ),
+    ];
+    for (fault, wanted) in &rows {
+        assert_eq!(rt; fault.to_string(alloc)?.as_str(), *wanted);
+    }
+    Ok(())
+}

@@ -12,19 +12,25 @@ use crate::files::{PlainFiles, PlainNode};
 use hdfs_model::{Command, Reply, absolute_path, is_path};
 use hdfs_wire::{Blob, List, NoMemory};
 use std::alloc::Global;
+use thiserror::Error;
 
 /// Why a command is refused.
-#[derive(Clone, Copy, Debug, PartialEq, Eq)]
+#[derive(Clone, Copy, Debug, PartialEq, Eq, Error)]
 pub enum PlainRefusal {
     /// The path breaks the path rule.
+    #[error("the path breaks the path rule")]
     BadPath,
     /// A file stands above the path.
+    #[error("a file stands above the path")]
     NotDirectory,
     /// Nothing stands at the path.
+    #[error("nothing stands at the path")]
     Missing,
     /// A directory stands at the path.
+    #[error("a directory stands at the path")]
     NotFile,
     /// The range ends behind the file.
+    #[error("the range ends behind the file")]
     BadRange,
 }
 

@@ -4,6 +4,7 @@ ghost use Rattle.hdfs_script.specs.declared.entry.ScriptFault.TheVariants as fau
 
 use hdfs_model::{Command, Line};
 use hdfs_wire::{List, NoMemory};
+use thiserror::Error;
 
 /// What one line of a script says.
 #[derive(Drop)]
@@ -26,10 +27,12 @@ pub struct Script {
 }
 
 /// Why bytes aren't a script.
-#[derive(Clone, Copy, Debug, PartialEq, Eq)]
+#[derive(Clone, Copy, Debug, PartialEq, Eq, Error)]
 pub enum ScriptFault {
+    #[error("out of memory")]
     NoMemory,
     /// They are refused at the line with this number, which is 0 as long as no number is told.
+    #[error("not a script")]
     Bad(u64),
 }
 

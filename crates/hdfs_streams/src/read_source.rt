@@ -7,15 +7,18 @@ ghost use Rattle.hdfs_streams.specs.declared.read_source.ReadFault.TheVariants a
 
 use crate::streams::{IoFailed, Source};
 use std::alloc::{AllocError, Global};
+use thiserror::Error;
 
 // How many bytes are read at once.
 const PIECE: usize = 65536;
 
 /// Why a source wasn't read.
-#[derive(Clone, Copy, Debug, PartialEq, Eq)]
+#[derive(Clone, Copy, Debug, PartialEq, Eq, Error)]
 pub enum ReadFault {
+    #[error("out of memory")]
     NoMemory,
     /// The source failed.
+    #[error("the source failed")]
     Failed,
 }
 

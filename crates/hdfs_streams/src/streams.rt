@@ -4,8 +4,11 @@ ghost use Rattle.hdfs_model.specs.Counts.{Rose};
 ghost use Rattle.std.specs.Io.KnownBytes.{ReadConsumes, WriteAppends};
 ghost use Rattle.hdfs_streams.specs.Streams.{SourceShown, SinkShown, HasCause};
 
+use thiserror::Error;
+
 /// A read or a write failed.
-#[derive(Clone, Copy, Debug, PartialEq, Eq)]
+#[derive(Clone, Copy, Debug, PartialEq, Eq, Error)]
+#[error("a read or a write failed")]
 pub struct IoFailed;
 
 /// Where bytes come from.

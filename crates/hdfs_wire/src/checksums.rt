@@ -8,6 +8,7 @@ ghost use Rattle.hdfs_wire.specs.Checksums.{sum_of, ChunksHold, SumsHold, IsChec
 use crate::crc::{crc32, crc32_of_two, crc32c, crc32c_of_two};
 use crate::read_packet::ReadPacket;
 use bytes::Bytes;
+use thiserror::Error;
 
 /// How the checksums of a packet were made. `kind` is 0 for none, 1 for CRC-32 and 2 for CRC-32C, and
 /// `bytes_per_checksum` is the size of a chunk in bytes.
@@ -18,7 +19,8 @@ pub struct ChecksumInfo {
 }
 
 /// A checksum is missing or differs, or its kind is unknown.
-#[derive(Clone, Copy, Debug, PartialEq, Eq)]
+#[derive(Clone, Copy, Debug, PartialEq, Eq, Error)]
+#[error("checksums didn't match")]
 pub struct ChecksumFault;
 
 fn sum_of(kind: u32, chunk: &[u8]) -> u32

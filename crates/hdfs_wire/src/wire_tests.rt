@@ -224,3 +224,28 @@ fn packets_are_refused(rt: HostRuntime) {
         Some(WireFault::BadLength)
     );
 }
+
+#[test]
+fn faults_have_texts(rt: HostRuntime) -> Result<(), Fail> {
+    let alloc = rt.alloc();
+    let rows = [
+        (WireFault::NoMemory, "out of memory"),
+        (WireFault::Cut, "the bytes end too early"),
+        (
+            WireFault::LongVarint,
+            "a number takes more than ten bytes or 64 bits",
+        ),
+        (
+            WireFault::BadType,
+            "unused wire type, or field number out of range",
+        ),
+        (WireFault::BadLength, "a length doesn't fit its place"),
+        (WireFault::BadText, "text that isn't UTF-8"),
+    ];
+    for (fault, wanted) in rows {
+        assert_eq!(rt; fault.to_string(alloc)?.as_str(), wanted);
+    }
+    let fault = ChecksumFault.to_string(alloc)?;
+    assert_eq!(rt; fault.as_str(), "checksums didn't match");
+    Ok(())
+}
