@@ -4,7 +4,8 @@ pub(crate) const VERSION: &str = "hdfs_run 0.1.0\n";
 
 pub(crate) const HELP: &str = "\
 Runs a script of file commands over an HDFS cluster in memory, with one namenode and three datanodes.
-It reads the script from standard input and writes a line for each reply to standard output.
+It reads the script from standard input and writes a line for each reply to standard output. What goes wrong is said in a
+line on standard error: which line of the script and why, or which command and the error.
 
 Usage: hdfs_run session | --help | --version
 

@@ -11,11 +11,11 @@ use hdfs_model::{Attributes, Command, FaultLine, Line, ReadKind, is_path};
 use hdfs_wire::{NoMemory, Text};
 use std::alloc::{AllocError, Global};
 
-// The greatest number of 32 bits.
-const U32_MOST: u64 = 4294967295;
+/// The greatest number of 32 bits.
+pub(crate) const U32_MOST: u64 = 4294967295;
 
-// The greatest number of 64 bits.
-const U64_MOST: u64 = 18446744073709551615;
+/// The greatest number of 64 bits.
+pub(crate) const U64_MOST: u64 = 18446744073709551615;
 
 fn is_printable(c: u8) -> bool
     ensures { result ≡ (nat_le 33 c && nat_le c 126) }
@@ -29,7 +29,8 @@ fn are_printable(text: &[u8]) -> bool
     text.iter().all(|c| is_printable(*c))
 }
 
-fn is_word(text: &[u8]) -> bool
+/// Whether a text is one or more bytes that a path may have.
+pub(crate) fn is_word(text: &[u8]) -> bool
     ensures { result ≡ spec.is_word text.now }
 {
     !text.is_empty() && are_printable(text)
@@ -119,8 +120,8 @@ fn read_entry(alloc: Global, path: &[u8], offset: &[u8], len: &[u8]) -> Result<E
     Ok(Entry::Runs(Command::Read { path, offset, len }))
 }
 
-// The words of a line, up to seven of them.
-fn words(alloc: Global, line: &[u8]) -> Result<Vec<&[u8]>, AllocError>
+/// The words of a line, up to seven of them.
+pub(crate) fn words(alloc: Global, line: &[u8]) -> Result<Vec<&[u8]>, AllocError>
     ensures { IfOk result (λ words. map (λ word. word.now) words.items ≡ take 7 (slice_split (λ b. b == 32) line.now)) }
 {
     line.split(|b| *b == b' ').take(7).collect(alloc)
@@ -193,8 +194,8 @@ pub(crate) fn entry(alloc: Global, line: &[u8]) -> Result<Entry, NoMemory>
     Ok(words_entry(alloc, words.as_slice())?)
 }
 
-// Whether a word is this text.
-fn is_text(word: &[u8], text: &str) -> bool
+/// Whether a word is this text.
+pub(crate) fn is_text(word: &[u8], text: &str) -> bool
     ensures { result ≡ bytes_eq word.now text.now }
 {
     word == text.as_bytes()

@@ -17,7 +17,8 @@ pub const SCRIPT_LIMIT: usize = 16777216;
 /// The home of a script's session.
 pub const SCRIPT_HOME: &str = "/user/user";
 
-fn is_ascii(bytes: &[u8]) -> bool
+/// Whether all bytes are ASCII.
+pub(crate) fn is_ascii(bytes: &[u8]) -> bool
     ensures { result ≡ list_all (λ b. nat_lt b 128) bytes.now }
 {
     bytes.iter().all(|b| *b < 128)
@@ -30,8 +31,8 @@ pub fn is_fault(line: &Line) -> bool
     matches!(line, Line::Fault(_))
 }
 
-// The part of a script in which an entry may stand, where the last one stood in this part.
-fn part_of_entry(now: u8, entry: &Entry) -> u8
+/// The part of a script in which an entry may stand, where the last one stood in this part.
+pub(crate) fn part_of_entry(now: u8, entry: &Entry) -> u8
     ensures { result ≡ part_of now entry.now }
 {
     match entry {
@@ -42,7 +43,8 @@ fn part_of_entry(now: u8, entry: &Entry) -> u8
     }
 }
 
-fn is_good_entry(entry: &Entry) -> bool
+/// Whether an entry is allowed.
+pub(crate) fn is_good_entry(entry: &Entry) -> bool
     ensures { result ≡ is_good entry.now }
 {
     !matches!(entry, Entry::Bad)

@@ -13,4 +13,6 @@ mod runs;
 #[cfg(test)]
 mod support;
 #[cfg(test)]
+mod texts;
+#[cfg(test)]
 mod wire;

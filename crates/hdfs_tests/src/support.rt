@@ -7,7 +7,7 @@ use hdfs_model::{Attributes, Line, Reply, Store};
 use hdfs_plain::{PlainFiles, PlainFold, PlainRefusal};
 use hdfs_script::{SCRIPT_HOME, ScriptFault, parse};
 use hdfs_streams::{MemSink, MemSource};
-use hdfs_top::top;
+use hdfs_top::{Note, top};
 use hdfs_wire::{Blob, List, Text};
 use std::alloc::Global;
 use std::test::Fail;
@@ -80,7 +80,8 @@ pub(crate) fn run(
     requires { 0 < (shown_of store.old).namenodes }
 {
     let words = words(alloc, texts)?;
-    let status = top(alloc, &words, &mut source, &mut sink, store);
+    let mut note = Note::Nothing;
+    let status = top(alloc, &words, &mut source, &mut sink, store, &mut note);
     let text = str::from_utf8(sink.bytes())?;
     Ok(Ending {
         status,

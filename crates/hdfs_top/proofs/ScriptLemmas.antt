@@ -29,9 +29,11 @@ use Rattle.hdfs_script.specs.Scripts.{parsed, script, if_taken, is_well_formed, 
 use Rattle.hdfs_script.specs.Texts.{replies_text, fault_text, refusal_text}
 use Rattle.hdfs_streams.specs.Streams.{SourceShown, SinkShown, TookAtMost}
 use Rattle.hdfs_streams.proofs.PrintLemmas.{wrote_none}
-use Rattle.hdfs_top.specs.Top.{IsSession, Outside, outside, IsKnown, Loaded, Finishes, Halts, RefusedScript, StatusOf, ScriptDecides}
-use Rattle.hdfs_top.specs.Inside.{RanSession, Gave, IsKnownStore, LoadsAll, PrintsWhole, Concludes, ToEnd, ToFault, RanCommands}
+use Rattle.hdfs_top.specs.declared.note.Note.{Note}
+use Rattle.hdfs_top.specs.Top.{IsSession, Outside, outside, IsKnown, Loaded, Finishes, Halts, NotesFault, RefusedScript, StatusOf, ScriptDecides}
+use Rattle.hdfs_top.specs.Inside.{RanSession, Gave, IsKnownStore, LoadsAll, PrintsWhole, Concludes, ToEnd, ToFault, NotesStop, RanCommands}
 use Rattle.hdfs_top.proofs.LoadLemmas.{takes_all-fresh, closed_lines}
+use Rattle.hdfs_top.proofs.SessionLemmas.{whole_at_2}
 use Rattle.hdfs_top.proofs.StatusLemmas.{Kept, ran_done, ran_refused, ran_stopped, ran_no_memory, ran_sink_failed}
 
 pub same_shown_refl : (s : Shown) → SameShown s s
@@ -264,3 +266,14 @@ ran_ending a b given s mid status run (inr (inr stop)) words is = ran_fault a b 
 pub ran_loaded : (a b : Outside) (given : List ℕ) (s : Script) (mid : Shown) (status : ℕ) → Gave a.source given b.source → parsed given ≡ Ok s → (a.fresh || list_all is_fault s.lines) ≡ true → LoadsAll a.store s.lines mid → RanCommands s.commands mid b.store a.sink status b.sink → RanSession a status b
 ran_loaded a b given s mid status gave is may loads ran =
     ran_ending a b given s mid status (record { gave = gave; is = is; may = may; loads = loads; later = ran.later }) ran.ending
+
+-- and where they stopped, that was noted
+pub notes_loaded : (a b : Outside) (given : List ℕ) (s : Script) (mid : Shown) (status : ℕ) (note : Note) → Gave a.source given b.source → parsed given ≡ Ok s → (a.fresh || list_all is_fault s.lines) ≡ true → LoadsAll a.store s.lines mid → Later mid b.store → status ≡ 2 → NotesStop s.commands mid b.store a.sink status note b.sink → NotesFault a note b
+unfolding halts_from
+notes_loaded a b given s mid status note gave is may loads later two noted =
+    let run : LoadedRun a given s mid b = record { gave = gave; is = is; may = may; loads = loads; later = later } in record {
+      fault = noted.stop.fault;
+      is = noted.is;
+      wrote = whole_at_2 status a.sink b.sink (fault_text noted.stop.fault) noted.stop.printed two;
+      halts = λ bytes state known. (halts_from a b given s mid status run noted.stop bytes state known, refl);
+    }

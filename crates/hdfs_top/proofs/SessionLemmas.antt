@@ -1,5 +1,5 @@
 -- What a session over a known store has done, and how it is printed.
-use Rattle.std.proofs.Common.{inl, inr, ◌≡◌, ◌≢◌, ℕ, MatchResult, Vec, List, get_or, Ok, Err, Result, refl, sym, ◌∙◌, ap, subst}
+use Rattle.std.proofs.Common.{arith, inl, inr, ◌≡◌, ◌≢◌, ℕ, MatchResult, Vec, List, get_or, Ok, Err, Result, refl, sym, ◌∙◌, ap, subst}
 use Rattle.std.specs.declared.alloc.Global.{Global}
 use Rattle.hdfs_model.specs.declared.commands.Command.{Command}
 use Rattle.hdfs_model.specs.declared.commands.Command.TheVariants as commands
@@ -16,9 +16,11 @@ use Rattle.hdfs_model.specs.Steps.{World, target_of}
 use Rattle.hdfs_script.specs.Scripts.{script_world}
 use Rattle.hdfs_script.specs.Texts.{replies_text, fault_text}
 use Rattle.hdfs_streams.specs.declared.streams.IoFailed.{IoFailed}
-use Rattle.hdfs_streams.specs.Streams.{SinkShown, Prints}
+use Rattle.hdfs_streams.specs.Streams.{SinkShown, Prints, Wrote}
 use Rattle.hdfs_top.specs.Top.{IsClosed, StatusOf}
-use Rattle.hdfs_top.specs.Inside.{IsKnownStore, Concludes, ToEnd, ToFault, RanCommands}
+use Rattle.hdfs_top.specs.declared.note.Note.{Note}
+use Rattle.hdfs_top.specs.declared.note.Note.TheVariants as notes
+use Rattle.hdfs_top.specs.Inside.{IsKnownStore, Concludes, ToEnd, ToFault, NotesStop, RanCommands}
 
 -- the status of a print
 pub concludes_from-Prints : {T : Type 0} (good : ℕ) (a c : SinkShown) (text : List ℕ) (r : Result T IoFailed) (status : ℕ) → Prints a text r c → MatchResult r (λ x. status ≡ good) (λ e. status ≡ 5) → Concludes good a text status c
@@ -66,14 +68,32 @@ refused_from-Complete T (Ends replies last) fault complete other = absurd (other
 refused_from-Complete T (Stops replies last why) fault complete other = inl refl
 
 -- a session stopped at a fault
+to_fault : (w : World) (commands : List Command) (old new : Shown) (before after : SinkShown) (status : ℕ) (fault : Fault) → w ≡ script_world → RanReady w commands old new (Err fault) → fault.error ≢ errors.NoMemory → Concludes 2 before (fault_text fault) status after → ToFault commands old new before status after
+to_fault w commands old new before after status fault is ran other printed = record {
+  fault = fault;
+  other = other;
+  told = λ state known. subst (λ (v : World). Stopped v state commands old new fault) is (ran state (ready w old state commands known)).err;
+  complete = λ state known none.
+      refused_from-Complete (Vec Reply Global) (fold script_world state commands) fault (subst (λ (v : World). Complete {T = Vec Reply Global} (fold v state commands) (Err fault)) is ((ran state (ready w old state commands known)).complete none)) other;
+  printed = printed;
+}
+
 pub ran_to_fault : (w : World) (commands : List Command) (old new : Shown) (before after : SinkShown) (status : ℕ) (fault : Fault) → w ≡ script_world → Later old new → RanReady w commands old new (Err fault) → fault.error ≢ errors.NoMemory → Concludes 2 before (fault_text fault) status after → RanCommands commands old new before status after
 ran_to_fault w commands old new before after status fault is later ran other printed =
-    let stop : ToFault commands old new before status after = record {
-      fault = fault;
-      other = other;
-      told = λ state known. subst (λ (v : World). Stopped v state commands old new fault) is (ran state (ready w old state commands known)).err;
-      complete = λ state known none.
-          refused_from-Complete (Vec Reply Global) (fold script_world state commands) fault (subst (λ (v : World). Complete {T = Vec Reply Global} (fold v state commands) (Err fault)) is ((ran state (ready w old state commands known)).complete none)) other;
-      printed = printed;
-    } in
-    record { later = later; ending = inr (inr stop) }
+    record { later = later; ending = inr (inr (to_fault w commands old new before after status fault is ran other printed)) }
+
+-- and that was noted
+pub notes_stop : (w : World) (commands : List Command) (old new : Shown) (before after : SinkShown) (status : ℕ) (fault : Fault) (note : Note) → w ≡ script_world → RanReady w commands old new (Err fault) → fault.error ≢ errors.NoMemory → Concludes 2 before (fault_text fault) status after → note ≡ notes.Stopped fault.at fault.error → NotesStop commands old new before status note after
+unfolding to_fault
+notes_stop w commands old new before after status fault note is ran other printed noted =
+    record { stop = to_fault w commands old new before after status fault is ran other printed; is = noted }
+
+-- a print for another status doesn't end with status 2
+pub not_status_2 : (good status : ℕ) (a c : SinkShown) (text : List ℕ) → Concludes good a text status c → (good ≡ 2 → ⊥) → status ≡ 2 → ⊥
+not_status_2 good status a c text (inl whole) other two = other (sym whole.is ∙ two)
+not_status_2 good status a c text (inr part) other two = omega (arith, part.is, two)
+
+-- one that ends with it wrote the whole text
+pub whole_at_2 : (status : ℕ) (a c : SinkShown) (text : List ℕ) → Concludes 2 a text status c → status ≡ 2 → Wrote a text c
+whole_at_2 status a c text (inl whole) two = whole.wrote
+whole_at_2 status a c text (inr part) two = absurd (omega (arith, part.is, two))

@@ -15,6 +15,8 @@ use Rattle.hdfs_model.specs.Shown.{Shown, Later}
 use Rattle.hdfs_script.specs.Scripts.{script_limit, script_world, takes_all}
 use Rattle.hdfs_script.specs.Texts.{replies_text, fault_text}
 use Rattle.hdfs_streams.specs.Streams.{SourceShown, SinkShown, TookAtMost, IsFront, Wrote, WrotePart}
+use Rattle.hdfs_top.specs.declared.note.Note.{Note}
+use Rattle.hdfs_top.specs.declared.note.Note.TheVariants as notes
 use Rattle.hdfs_top.specs.Top.{IsSession, IsClosed, Outside, RanProgram, StatusOf}
 
 -- the words were those of a session
@@ -72,6 +74,11 @@ pub record ToFault (commands : List Command) (old new : Shown) (before : SinkSho
   pub complete : (state : State) → IsKnownStore old state → NoneRose old.namenodes old.counts new.counts
       → StatusOf (fold script_world state commands) 2
   pub printed : Concludes 2 before (fault_text fault) status after
+
+-- a note tells of the fault at which commands stopped, and whose text was printed
+pub record NotesStop (commands : List Command) (old new : Shown) (before : SinkShown) (status : ℕ) (note : Note) (after : SinkShown) : Type 0 where
+  pub stop : ToFault commands old new before status after
+  pub is : note ≡ notes.Stopped stop.fault.at stop.fault.error
 
 -- commands were run, and what they answered was printed; for want of memory nothing was
 pub record RanCommands (commands : List Command) (old new : Shown) (before : SinkShown) (status : ℕ) (after : SinkShown) : Type 0 where

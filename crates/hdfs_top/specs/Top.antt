@@ -14,6 +14,8 @@ use Rattle.hdfs_script.specs.declared.entry.Script.{Script}
 use Rattle.hdfs_script.specs.Scripts.{script, script_limit, script_world}
 use Rattle.hdfs_script.specs.Texts.{replies_text, fault_text, refusal_text}
 use Rattle.hdfs_streams.specs.Streams.{SourceShown, SinkShown, TookAtMost, Wrote, WrotePart}
+use Rattle.hdfs_top.specs.declared.note.Note.{Note}
+use Rattle.hdfs_top.specs.declared.note.Note.TheVariants as notes
 
 -- the one word that is known
 abbrev pub IsSession : List (List ℕ) → Type 0
@@ -87,6 +89,14 @@ WroteReplies before after = (bytes : List ℕ) (state : State) → IsKnown befor
 abbrev pub WroteFault : Outside → Outside → Type 0
 WroteFault before after = (bytes : List ℕ) (state : State) → IsKnown before bytes state
     → (text : List ℕ) × Halts before bytes state text after × Wrote before.sink text after.sink
+
+-- A note tells of the fault at which a session stopped: its text was written, and it is the one at which the script stops.
+pub record NotesFault (before : Outside) (note : Note) (after : Outside) : Type 0 where
+  pub fault : Fault
+  pub is : note ≡ notes.Stopped fault.at fault.error
+  pub wrote : Wrote before.sink (fault_text fault) after.sink
+  pub halts : (bytes : List ℕ) (state : State) → IsKnown before bytes state
+      → (halted : Halts before bytes state (fault_text fault) after) × (halted.fault ≡ fault)
 
 -- a prefix of a text was written
 abbrev pub WroteSome : Outside → Outside → Type 0

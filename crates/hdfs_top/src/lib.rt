@@ -2,9 +2,11 @@
 #![tactic(auto)]
 
 mod load_lines;
+mod note;
 mod program;
 mod run_script;
 mod status;
 
 pub use hdfs_streams::{MemSink, MemSource, Sink, Source};
+pub use note::Note;
 pub use program::top;

@@ -25,8 +25,12 @@ pub(crate) fn may_take(fresh: bool, lines: &[Line]) -> bool
     fresh || are_faults(lines)
 }
 
-/// Loads lines, in order.
-pub(crate) fn load_lines<C: Store>(store: &mut C, lines: List<Line>) -> Result<(), AddFault>
+/// Loads lines, in order, and counts those that were taken.
+pub(crate) fn load_lines<C: Store>(
+    store: &mut C,
+    lines: List<Line>,
+    taken: &mut u64,
+) -> Result<(), AddFault>
     ensures loaded { OnOk result (LoadsAll (C.shown store.old) lines (C.shown store.new)) }
     ensures counts { SameCounts (C.shown store.old).counts (C.shown store.new).counts }
     ensures refused { IsErrOf result AddFault.Refused → (state : State) → Fits (C.shown store.old) state
@@ -34,6 +38,7 @@ pub(crate) fn load_lines<C: Store>(store: &mut C, lines: List<Line>) -> Result<(
 {
     for line in lines.into_vec() {
         store.load(line)?;
+        *taken = taken.saturating_add(1);
     }
     Ok(())
 }

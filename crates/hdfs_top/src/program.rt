@@ -1,8 +1,9 @@
 //! The program's one call.
 ghost use Rattle.std.specs.Prelude.{◌≡◌, ◌<◌, ◌≤◌, ◌↔◌, List, ℕ, map, string_bytes, IsTrue, codes};
-ghost use Rattle.hdfs_top.specs.Top.{IsSession, RanProgram, WroteReplies, WroteFault, WroteSome, ScriptDecides, outside};
+ghost use Rattle.hdfs_top.specs.Top.{IsSession, RanProgram, WroteReplies, WroteFault, WroteSome, ScriptDecides, NotesFault, outside};
 ghost use Rattle.hdfs_top.specs.Inside.{RanSession};
 
+use crate::note::Note;
 use crate::run_script::run_script;
 use crate::status::refuse;
 use hdfs_model::Store;
@@ -30,20 +31,24 @@ fn run_source<S: Source, K: Sink, C: Store>(
     source: &mut S,
     sink: &mut K,
     store: &mut C,
+    note: &mut Note,
 ) -> u8
     requires { 0 < (C.shown store.old).namenodes }
-    ensures { RanSession (outside (S.shown source.old) (K.shown sink.old) (C.shown store.old) (C.is_fresh store.old)) result
+    ensures ran { RanSession (outside (S.shown source.old) (K.shown sink.old) (C.shown store.old) (C.is_fresh store.old)) result
+        (outside (S.shown source.new) (K.shown sink.new) (C.shown store.new) (C.is_fresh store.new)) }
+    ensures noted { result ≡ 2 → NotesFault
+        (outside (S.shown source.old) (K.shown sink.old) (C.shown store.old) (C.is_fresh store.old)) note.new
         (outside (S.shown source.new) (K.shown sink.new) (C.shown store.new) (C.is_fresh store.new)) }
 {
     match read_at_most(alloc, source, SCRIPT_LIMIT + 1) {
-        Ok(bytes) => run_script(alloc, bytes.as_slice(), sink, store),
+        Ok(bytes) => run_script(alloc, bytes.as_slice(), sink, store, note),
         Err(ReadFault::NoMemory) => 3,
         Err(ReadFault::Failed) => 4,
     }
 }
 
 /// Runs the words of a command line: `session` reads a script from the source, loads its lines into the store, runs its
-/// commands over it and writes their replies to the sink. The answer is the status.
+/// commands over it and writes their replies to the sink. The answer is the status, and what it leaves unsaid is noted.
 ///
 /// | Status | Comes |
 /// |---|---|
@@ -59,6 +64,7 @@ pub fn top<S: Source, K: Sink, C: Store>(
     source: &mut S,
     sink: &mut K,
     store: &mut C,
+    note: &mut Note,
 ) -> u8
     requires { 0 < (C.shown store.old).namenodes }
 
@@ -78,9 +84,15 @@ pub fn top<S: Source, K: Sink, C: Store>(
     ensures complete { IsSession (map string_bytes words.now) → ScriptDecides
         (outside (S.shown source.old) (K.shown sink.old) (C.shown store.old) (C.is_fresh store.old)) result
         (outside (S.shown source.new) (K.shown sink.new) (C.shown store.new) (C.is_fresh store.new)) }
+
+    // what is noted of a session that stopped
+    ensures noted { result ≡ 2 → NotesFault
+        (outside (S.shown source.old) (K.shown sink.old) (C.shown store.old) (C.is_fresh store.old)) note.new
+        (outside (S.shown source.new) (K.shown sink.new) (C.shown store.new) (C.is_fresh store.new)) }
 {
     if !is_session(words) {
+        *note = Note::Words;
         return refuse(sink, 0);
     }
-    run_source(alloc, source, sink, store)
+    run_source(alloc, source, sink, store, note)
 }

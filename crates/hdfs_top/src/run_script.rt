@@ -6,14 +6,17 @@ ghost use Rattle.hdfs_model.specs.declared.errors.HdfsError.TheVariants as error
 ghost use Rattle.hdfs_script.specs.Scripts.{parsed, script_world};
 ghost use Rattle.hdfs_script.specs.Texts.{fault_text};
 ghost use Rattle.hdfs_streams.specs.Streams.{SourceShown};
-ghost use Rattle.hdfs_top.specs.Top.{outside};
-ghost use Rattle.hdfs_top.specs.Inside.{PrintsWhole, Concludes, RanCommands, RanSession, Gave};
+ghost use Rattle.hdfs_top.specs.Top.{outside, NotesFault};
+ghost use Rattle.hdfs_top.specs.Inside.{PrintsWhole, Concludes, RanCommands, RanSession, Gave, NotesStop};
 
 use crate::load_lines::{load_lines, may_take};
+use crate::note::{Note, note_of_commands, note_of_fault, note_of_script};
 use crate::status::{refuse, tell_fault, tell_replies};
 use hdfs_client::run_session;
 use hdfs_model::{AddFault, Command, Fault, HdfsError, Settings, Store};
-use hdfs_script::{SCRIPT_HOME, Script, ScriptFault, parse};
+use hdfs_script::{
+    SCRIPT_HOME, Script, ScriptFault, complaint_of_load, complaint_of_script, parse,
+};
 use hdfs_streams::Sink;
 use hdfs_wire::{NoMemory, Text};
 use std::alloc::Global;
@@ -44,35 +47,57 @@ fn run_commands<K: Sink, C: Store>(
     commands: &[Command],
     sink: &mut K,
     store: &mut C,
+    note: &mut Note,
 ) -> u8
     requires namenode { 0 < (C.shown store.old).namenodes }
     requires paths { list_all has_path commands.now ≡ true }
-    ensures { RanCommands commands.now (C.shown store.old) (C.shown store.new) (K.shown sink.old) result (K.shown sink.new) }
+    ensures ran { RanCommands commands.now (C.shown store.old) (C.shown store.new) (K.shown sink.old) result (K.shown sink.new) }
+    ensures noted { result ≡ 2 → NotesStop commands.now (C.shown store.old) (C.shown store.new) (K.shown sink.old) result note.new (K.shown sink.new) }
 {
     let Ok(settings) = script_settings(alloc) else {
         return 3;
     };
+    *note = note_of_commands(commands);
     match run_session(alloc, store, &settings, commands) {
         Ok(replies) => tell_replies(sink, replies.as_slice()),
-        Err(fault) => tell_stop(sink, &fault),
+        Err(fault) => {
+            let status = tell_stop(sink, &fault);
+            *note = note_of_fault(fault);
+            status
+        }
     }
 }
 
-// Runs a script over a store: its lines are loaded, and its commands run.
-fn run_parsed<K: Sink, C: Store>(alloc: Global, script: Script, sink: &mut K, store: &mut C) -> u8
+// Runs the script that a text is over a store: its lines are loaded, and its commands run.
+fn run_parsed<K: Sink, C: Store>(
+    alloc: Global,
+    text: &[u8],
+    script: Script,
+    sink: &mut K,
+    store: &mut C,
+    note: &mut Note,
+) -> u8
     requires namenode { 0 < (C.shown store.old).namenodes }
     requires paths { list_all has_path script.commands ≡ true }
-    ensures { (bytes : List ℕ) (source left : SourceShown) → parsed bytes ≡ Ok script → Gave source bytes left
+    ensures ran { (bytes : List ℕ) (source left : SourceShown) → parsed bytes ≡ Ok script → Gave source bytes left
         → RanSession (outside source (K.shown sink.old) (C.shown store.old) (C.is_fresh store.old)) result
+        (outside left (K.shown sink.new) (C.shown store.new) (C.is_fresh store.new)) }
+    ensures noted { result ≡ 2 → (bytes : List ℕ) (source left : SourceShown) → parsed bytes ≡ Ok script → Gave source bytes left
+        → NotesFault (outside source (K.shown sink.old) (C.shown store.old) (C.is_fresh store.old)) note.new
         (outside left (K.shown sink.new) (C.shown store.new) (C.is_fresh store.new)) }
 {
     let Script { lines, commands } = script;
     if !may_take(store.fresh(), lines.as_slice()) {
+        *note = Note::HeldStore;
         return refuse(sink, 0);
     }
-    match load_lines(store, lines) {
-        Ok(()) => run_commands(alloc, commands.as_slice(), sink, store),
-        Err(AddFault::Refused) => refuse(sink, 0),
+    let mut taken = 0;
+    match load_lines(store, lines, &mut taken) {
+        Ok(()) => run_commands(alloc, commands.as_slice(), sink, store, note),
+        Err(AddFault::Refused) => {
+            *note = note_of_script(complaint_of_load(alloc, text, taken));
+            refuse(sink, 0)
+        }
         Err(AddFault::NoMemory) => 3,
     }
 }
@@ -83,15 +108,22 @@ pub(crate) fn run_script<K: Sink, C: Store>(
     bytes: &[u8],
     sink: &mut K,
     store: &mut C,
+    note: &mut Note,
 ) -> u8
     requires { 0 < (C.shown store.old).namenodes }
-    ensures { (source left : SourceShown) → Gave source bytes.now left
+    ensures ran { (source left : SourceShown) → Gave source bytes.now left
         → RanSession (outside source (K.shown sink.old) (C.shown store.old) (C.is_fresh store.old)) result
+        (outside left (K.shown sink.new) (C.shown store.new) (C.is_fresh store.new)) }
+    ensures noted { result ≡ 2 → (source left : SourceShown) → Gave source bytes.now left
+        → NotesFault (outside source (K.shown sink.old) (C.shown store.old) (C.is_fresh store.old)) note.new
         (outside left (K.shown sink.new) (C.shown store.new) (C.is_fresh store.new)) }
 {
     match parse(alloc, bytes) {
-        Ok(script) => run_parsed(alloc, script, sink, store),
-        Err(ScriptFault::Bad(line)) => refuse(sink, line),
+        Ok(script) => run_parsed(alloc, bytes, script, sink, store, note),
+        Err(ScriptFault::Bad(line)) => {
+            *note = note_of_script(complaint_of_script(alloc, bytes));
+            refuse(sink, line)
+        }
         Err(ScriptFault::NoMemory) => 3,
     }
 }

@@ -3,20 +3,21 @@ ghost use Rattle.std.specs.Prelude.{◌≡◌, ◌≤◌, ℕ, List, Some, Ok, E
 ghost use Rattle.hdfs_model.specs.Files.{empty_state};
 ghost use Rattle.hdfs_script.specs.Scripts.{script};
 ghost use Rattle.hdfs_top.specs.Top.{IsSession};
-ghost use Rattle.hdfs_run.specs.Program.{RanNew, PrintsReplies, PrintsFault, FaultlessDecides};
+ghost use Rattle.hdfs_in_memory.specs.Program.{RanNew, PrintsReplies, PrintsFault, NotesPrinted, FaultlessDecides};
 
 use hdfs_cluster::{MemCluster, MemSettings};
 use hdfs_streams::{Sink, Source};
-use hdfs_top::top;
+use hdfs_top::{Note, top};
 use std::alloc::Global;
 
 /// Runs words over a new cluster, which holds the root alone. The statuses are those of `top`; where there is no memory for
 /// the cluster the status is 3, and nothing was read or written.
-pub(crate) fn run_words<S: Source, K: Sink>(
+pub fn run_words<S: Source, K: Sink>(
     alloc: Global,
     words: &[String],
     source: &mut S,
     sink: &mut K,
+    note: &mut Note,
 ) -> u8
     // each status, over any source and sink
     ensures statuses { result ≤ 5 }
@@ -35,9 +36,13 @@ pub(crate) fn run_words<S: Source, K: Sink>(
     ensures complete { IsSession (map string_bytes words.now) → (bytes : List ℕ) → (S.shown source.old).left ≡ Some bytes
         → FaultlessDecides bytes (record { source = S.shown source.old; sink = K.shown sink.old }) result
         (record { source = S.shown source.new; sink = K.shown sink.new }) }
+
+    // what is noted of a session that stopped
+    ensures noted { result ≡ 2 → (bytes : List ℕ) → (S.shown source.old).left ≡ Some bytes
+        → NotesPrinted bytes (K.shown sink.old) note.new (K.shown sink.new) }
 {
     let Ok(mut store) = MemCluster::new(alloc, MemSettings::of_scripts()) else {
         return 3;
     };
-    top(alloc, words, source, sink, &mut store)
+    top(alloc, words, source, sink, &mut store, note)
 }

@@ -1,7 +1,7 @@
 use Rattle.std.proofs.Common.{inr, map, List, ℕ}
 use Rattle.std.specs.String.{string_bytes}
-use Rattle.hdfs_run.proofs.ProgramLemmas.{planned_faults, new_from-Starts, ran_store, refused_new, replies_new, fault_new, decides_new}
-use Rattle.hdfs_run.proofs.over_memory.run_words.Goals as goal
+use Rattle.hdfs_in_memory.proofs.ProgramLemmas.{planned_faults, new_from-Starts, ran_store, refused_new, replies_new, fault_new, notes_new, decides_new}
+use Rattle.hdfs_in_memory.proofs.over_memory.run_words.Goals as goal
 
 -- the program ran over the new cluster
 pub returns : goal.returns
@@ -15,6 +15,7 @@ returns g c =
       ran = inr run;
       refused = λ one is bytes told. refused_new _ _ _ _ bytes run one is told;
       done = λ none bytes told. replies_new _ _ _ _ bytes run none told;
+      noted = λ two bytes told. notes_new _ _ _ _ _ _ _ _ bytes _ is_new c.in-Ok.ensures.fresh told (c.top.ensures.noted two);
       stopped = λ two bytes told. fault_new _ _ _ _ bytes run two told;
       complete = λ is bytes told. decides_new _ _ _ _ bytes run is told;
     }

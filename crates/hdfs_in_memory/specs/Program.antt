@@ -16,6 +16,8 @@ use Rattle.hdfs_script.specs.declared.entry.Script.{Script}
 use Rattle.hdfs_script.specs.Scripts.{is_fault, script, script_world}
 use Rattle.hdfs_script.specs.Texts.{replies_text, fault_text}
 use Rattle.hdfs_streams.specs.Streams.{SourceShown, SinkShown, Wrote}
+use Rattle.hdfs_top.specs.declared.note.Note.{Note}
+use Rattle.hdfs_top.specs.declared.note.Note.TheVariants as notes
 use Rattle.hdfs_top.specs.Top.{RanProgram, StatusOf, outside}
 
 -- what is seen of a source and a sink
@@ -85,6 +87,11 @@ pub record PrintsFault (bytes : List ℕ) (before after : SinkShown) : Type 0 wh
   pub is_new : IsNew old
   pub stopped : Stopped script_world (with_lines empty_state parsed.lines) parsed.commands old new fault
   pub wrote : Wrote before (fault_text fault) after
+
+-- a note tells of the fault at which the script stopped, and whose text was printed
+pub record NotesPrinted (bytes : List ℕ) (before : SinkShown) (note : Note) (after : SinkShown) : Type 0 where
+  pub printed : PrintsFault bytes before after
+  pub is : note ≡ notes.Stopped printed.fault.at printed.fault.error
 
 -- a script without a fault line ends as the fold says, where no read and no write failed
 abbrev pub FaultlessDecides : List ℕ → Streams → ℕ → Streams → Type 0

@@ -1,7 +1,8 @@
 -- The program over a new cluster.
-use Rattle.std.proofs.Common.{◌≡◌, ◌∙◌, ap, refl, subst, inl, inr, ⊎_elim, ◌⊎◌, zero, suc, ℕ, ◌≤◌, Bool, true, false, if◌then◌else◌, List, [], ◌∷◌, ◌++◌, map, Some, None, Err, arith}
+use Rattle.std.proofs.Common.{sym, ◌≡◌, ◌∙◌, ap, refl, subst, inl, inr, ⊎_elim, ◌⊎◌, zero, suc, ℕ, ◌≤◌, Bool, true, false, if◌then◌else◌, List, [], ◌∷◌, ◌++◌, map, Some, None, Err, arith}
 use Rattle.std.specs.List.{list_any}
 use Rattle.std.specs.Str.{bytes_eq}
+use Rattle.hdfs_model.specs.declared.errors.Fault.{Fault}
 use Rattle.hdfs_model.specs.declared.store.Line.{Line}
 use Rattle.hdfs_model.specs.declared.store.Line.TheVariants as lines
 use Rattle.hdfs_model.specs.Counts.{FaultCounts, NoneRose}
@@ -21,9 +22,12 @@ use Rattle.hdfs_cluster.proofs.Failing.{faults-le}
 use Rattle.hdfs_cluster.specs.Starting.{Starts}
 use Rattle.hdfs_script.specs.declared.entry.Script.{Script}
 use Rattle.hdfs_script.specs.Scripts.{is_fault, script, script_world}
+use Rattle.hdfs_script.specs.Texts.{fault_text}
 use Rattle.hdfs_streams.specs.Streams.{SourceShown, SinkShown, Wrote}
-use Rattle.hdfs_top.specs.Top.{IsClosed, IsKnown, IsSession, Loaded, NoneFailed, RanProgram, StatusOf, outside}
-use Rattle.hdfs_run.specs.Program.{Streams, IsUnfailed, IsNew, IsFaultless, FailsAsPlanned, RanStore, PrintsReplies, PrintsFault, FaultlessDecides}
+use Rattle.hdfs_top.specs.declared.note.Note.{Note}
+use Rattle.hdfs_top.specs.declared.note.Note.TheVariants as notes
+use Rattle.hdfs_top.specs.Top.{IsClosed, IsKnown, IsSession, Loaded, NoneFailed, NotesFault, RanProgram, StatusOf, outside}
+use Rattle.hdfs_in_memory.specs.Program.{Streams, IsUnfailed, IsNew, IsFaultless, FailsAsPlanned, RanStore, PrintsReplies, PrintsFault, NotesPrinted, FaultlessDecides}
 
 -- below the root alone no file is being written
 not_written : (test : Bool) (content : Content) → (if test then Some Dir else None) ≡ Some (Writing content) → ⊥
@@ -93,6 +97,30 @@ fault_new words a status b bytes run two told =
       stopped = halts.stopped;
       wrote = subst (λ (t : List ℕ). Wrote a.sink t b.sink) halts.is_text stopped.2;
     }
+
+-- and that was noted
+notes_known : (source source' : SourceShown) (sink sink' : SinkShown) (old new : Shown) (fresh' : Bool) (bytes : List ℕ) (note : Note) → IsNew old → source.left ≡ Some bytes → NotesFault (outside source sink old true) note (outside source' sink' new fresh') → NotesPrinted bytes sink note sink'
+notes_known source source' sink sink' old new fresh' bytes note is_new told noted =
+    let halts = noted.halts bytes empty_state (known_new source sink old bytes told is_new) in
+    let halted = halts.0 in record {
+      printed = record {
+        parsed = halted.parsed;
+        is = halted.loaded.is;
+        fault = halted.fault;
+        other = halted.other;
+        old = old;
+        new = new;
+        is_new = is_new;
+        stopped = halted.stopped;
+        wrote = subst (λ (f : Fault). Wrote sink (fault_text f) sink') (sym halts.1) noted.wrote;
+      };
+      is = subst (λ (f : Fault). note ≡ notes.Stopped f.at f.error) (sym halts.1) noted.is;
+    }
+
+pub notes_new : (source source' : SourceShown) (sink sink' : SinkShown) (old new : Shown) (fresh fresh' : Bool) (bytes : List ℕ) (note : Note) → IsNew old → fresh ≡ true → source.left ≡ Some bytes → NotesFault (outside source sink old fresh) note (outside source' sink' new fresh') → NotesPrinted bytes sink note sink'
+notes_new source source' sink sink' old new fresh fresh' bytes note is_new is told noted =
+    notes_known source source' sink sink' old new fresh' bytes note is_new told
+    (subst (λ (f : Bool). NotesFault (outside source sink old f) note (outside source' sink' new fresh')) is noted)
 
 -- where no line plans a fault none is counted
 fault_of_none : (d : List ℕ) (rest : List Line) → list_any is_fault rest ≡ false → fault_count rest d ≡ 0

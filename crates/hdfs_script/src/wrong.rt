@@ -1,0 +1,52 @@
+//! What can be wrong with a script, in words for the person who wrote it.
+use thiserror::Error;
+
+/// What is wrong with a line of a script. The words in capitals are those of the line's form.
+#[derive(Clone, Copy, Debug, PartialEq, Eq, Error)]
+pub enum Wrong {
+    #[error("a byte that isn't ASCII")]
+    NotAscii,
+    #[error("ends with a carriage return, where a newline alone ends a line")]
+    CarriageReturn,
+    #[error("begins with none of `file`, `fault`, `do` and `#`")]
+    Kind,
+    #[error("not `file PATH PERMISSION REPLICATION BLOCK_SIZE HEX`, with one space between words")]
+    FileWords,
+    #[error("not `fault read NODE NTH broken`, with one space between words")]
+    FaultWords,
+    #[error("not `do read PATH OFFSET LENGTH`, with one space between words")]
+    CommandWords,
+    #[error("PATH isn't `/`, or components behind a slash each, none of them empty, `.` or `..`")]
+    Path,
+    #[error("PERMISSION isn't a number from 0 to 7777 in octal digits")]
+    Permission,
+    #[error("REPLICATION isn't 1")]
+    Replication,
+    #[error("BLOCK_SIZE isn't a number from 1 to 9223372036854775807")]
+    BlockSize,
+    #[error("HEX isn't `-` or pairs of lower-case hexadecimal digits")]
+    Hex,
+    #[error("HEX has more bytes than BLOCK_SIZE")]
+    TooManyBytes,
+    #[error("NODE isn't a number from 0 to 4294967295")]
+    Node,
+    #[error("NTH isn't a number from 1 to 18446744073709551615")]
+    Nth,
+    #[error("OFFSET isn't a number from 0 to 18446744073709551615")]
+    Offset,
+    #[error("LENGTH isn't a number from 0 to 18446744073709551615")]
+    Length,
+    #[error("out of order, since files come first, then faults, then commands")]
+    Order,
+    #[error("something stands at PATH already, or its parent is no directory")]
+    Place,
+}
+
+/// Why a script is refused, and at which line, counted from 1.
+#[derive(Clone, Copy, Debug, PartialEq, Eq, Error)]
+pub enum Complaint {
+    #[error("the script has more than 16777216 bytes")]
+    TooLong,
+    #[error("line {number}: {wrong}")]
+    Line { number: u64, wrong: Wrong },
+}

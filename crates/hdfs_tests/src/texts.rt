@@ -1,0 +1,170 @@
+//! The texts of errors.
+use crate::support::{cluster, sink, source, words};
+use hdfs_model::{AddFault, ArgFault, AskFault, Fault, HdfsError, LinkFault, TransferFault};
+use hdfs_plain::PlainRefusal;
+use hdfs_script::ScriptFault;
+use hdfs_streams::{IoFailed, ReadFault};
+use hdfs_top::{Note, top};
+use hdfs_wire::{List, NoMemory, Text};
+use std::alloc::Global;
+use std::fmt::Display;
+use std::process::Abort;
+use std::test::Fail;
+
+// Compares a text.
+fn check<E: Display>(rt: &impl Abort, alloc: Global, error: &E, wanted: &str) -> Result<(), Fail> {
+    let text = format!(in alloc; "{error}")?;
+    assert_eq!(rt; text.as_str(), wanted);
+    Ok(())
+}
+
+#[test]
+fn client_errors(rt: HostRuntime) -> Result<(), Fail> {
+    let alloc = rt.alloc();
+    let path = Text::from_str(alloc, "/a/\u{fc}")?;
+    let class = Text::from_str(alloc, "java.io.IOException")?;
+    let message = Text::from_str(alloc, "none")?;
+    let read = TransferFault::Read { offset: 5 };
+    let range = ArgFault::Range {
+        offset: 2,
+        len: 3,
+        length: 4,
+    };
+    let rows = [
+        (HdfsError::NoMemory, "out of memory"),
+        (HdfsError::Failed, "failed before"),
+        (
+            HdfsError::DataTransferError(read),
+            "data transfer error: Read",
+        ),
+        (HdfsError::InvalidArgument(range), "invalid argument: Range"),
+        (HdfsError::FileNotFound(path), "file not found: /a/\u{fc}"),
+        (
+            HdfsError::RPCError(class, message),
+            "RPC error: java.io.IOException none",
+        ),
+    ];
+    for (error, wanted) in &rows {
+        check(&rt, alloc, error, wanted)?;
+    }
+    Ok(())
+}
+
+#[test]
+fn errors_of_the_outside(rt: HostRuntime) -> Result<(), Fail> {
+    let alloc = rt.alloc();
+    let asked = AskFault::Exception {
+        class: Text::from_str(alloc, "C")?,
+        message: Text::from_str(alloc, "m")?,
+    };
+    let fault = Fault {
+        at: 2,
+        error: HdfsError::Failed,
+        done: List::new(alloc),
+    };
+    check(&rt, alloc, &asked, "C m")?;
+    check(&rt, alloc, &fault, "command 2: failed before")?;
+    check(&rt, alloc, &LinkFault::Broken, "the connection broke")?;
+    check(&rt, alloc, &AddFault::NoMemory, "out of memory")?;
+    check(&rt, alloc, &ReadFault::Failed, "the source failed")?;
+    check(&rt, alloc, &IoFailed, "a read or a write failed")?;
+    check(&rt, alloc, &ScriptFault::Bad(0), "not a script")?;
+    check(&rt, alloc, &NoMemory, "out of memory")?;
+    let missing = PlainRefusal::Missing;
+    check(&rt, alloc, &missing, "nothing stands at the path")
+}
+
+/// Scripts, and what is noted beside their status.
+const NOTES: [(&str, &str); 20] = [
+    ("", "the script has no command"),
+    (
+        "set\n",
+        "line 1: begins with none of `file`, `fault`, `do` and `#`",
+    ),
+    (
+        "file /a 644 1 8 00\r\n",
+        "line 1: ends with a carriage return, where a newline alone ends a line",
+    ),
+    ("# \u{fc}\n", "line 1: a byte that isn't ASCII"),
+    (
+        "file /a 644 1 8\n",
+        "line 1: not `file PATH PERMISSION REPLICATION BLOCK_SIZE HEX`, with one space between words",
+    ),
+    (
+        "\nfault read 0 1\n",
+        "line 2: not `fault read NODE NTH broken`, with one space between words",
+    ),
+    (
+        "do  read /a 0 1\n",
+        "line 1: not `do read PATH OFFSET LENGTH`, with one space between words",
+    ),
+    (
+        "do read a 0 1\n",
+        "line 1: PATH isn't `/`, or components behind a slash each, none of them empty, `.` or `..`",
+    ),
+    (
+        "file a 644 1 8 00\n",
+        "line 1: PATH isn't `/`, or components behind a slash each, none of them empty, `.` or `..`",
+    ),
+    (
+        "file /a 648 1 8 00\n",
+        "line 1: PERMISSION isn't a number from 0 to 7777 in octal digits",
+    ),
+    (
+        "file /a 10000 1 8 00\n",
+        "line 1: PERMISSION isn't a number from 0 to 7777 in octal digits",
+    ),
+    ("file /a 644 2 8 00\n", "line 1: REPLICATION isn't 1"),
+    (
+        "file /a 644 1 0 -\n",
+        "line 1: BLOCK_SIZE isn't a number from 1 to 9223372036854775807",
+    ),
+    (
+        "file /a 644 1 8 AB\n",
+        "line 1: HEX isn't `-` or pairs of lower-case hexadecimal digits",
+    ),
+    (
+        "file /a 644 1 1 0001\n",
+        "line 1: HEX has more bytes than BLOCK_SIZE",
+    ),
+    (
+        "fault read x 1 broken\n",
+        "line 1: NODE isn't a number from 0 to 4294967295",
+    ),
+    (
+        "fault read 0 0 broken\n",
+        "line 1: NTH isn't a number from 1 to 18446744073709551615",
+    ),
+    (
+        "do read /a 01 1\n",
+        "line 1: OFFSET isn't a number from 0 to 18446744073709551615",
+    ),
+    (
+        "do read /a 0 0\n#\nfile /a 644 1 8 00\n",
+        "line 3: out of order, since files come first, then faults, then commands",
+    ),
+    (
+        "file /a 644 1 8 00\n#\nfile /a 644 1 8 00\n",
+        "line 3: something stands at PATH already, or its parent is no directory",
+    ),
+];
+
+// What the program notes beside its status over a new cluster.
+fn note_on(alloc: Global, script: &str) -> Result<Note, Fail> {
+    let mut store = cluster(alloc)?;
+    let mut source = source(alloc, script.as_bytes())?;
+    let mut sink = sink(alloc);
+    let mut note = Note::Nothing;
+    let words = words(alloc, &["session"])?;
+    let _status = top(alloc, &words, &mut source, &mut sink, &mut store, &mut note);
+    Ok(note)
+}
+
+#[test]
+fn notes_on_scripts(rt: HostRuntime) -> Result<(), Fail> {
+    let alloc = rt.alloc();
+    for (script, wanted) in &NOTES {
+        check(&rt, alloc, &note_on(alloc, script)?, wanted)?;
+    }
+    Ok(())
+}
