@@ -13,7 +13,7 @@ fn wrong_file(words: &[&[u8]]) -> Wrong {
         return Wrong::FileWords;
     }
     if !is_word(words[1]) {
-        return Wrong::Path;
+        return Wrong::Unprintable;
     }
     if number(8, U32_MOST, words[2]).is_none() {
         return Wrong::Permission;
@@ -48,6 +48,9 @@ fn wrong_command(words: &[&[u8]]) -> Wrong {
     }
     if number(10, U64_MOST, words[4]).is_none() {
         return Wrong::Length;
+    }
+    if !is_word(words[2]) {
+        return Wrong::Unprintable;
     }
     Wrong::Path
 }

@@ -16,8 +16,10 @@ pub enum Wrong {
     FaultWords,
     #[error("not `do read PATH OFFSET LENGTH`, with one space between words")]
     CommandWords,
-    #[error("PATH isn't `/`, or components behind a slash each, none of them empty, `.` or `..`")]
+    #[error("PATH isn't absolute, or has a component that is empty, `.` or `..`")]
     Path,
+    #[error("PATH is empty, or has a byte that isn't printable")]
+    Unprintable,
     #[error("PERMISSION isn't a number from 0 to 7777 in octal digits")]
     Permission,
     #[error("REPLICATION isn't 1")]

@@ -75,7 +75,7 @@ fn errors_of_the_outside(rt: HostRuntime) -> Result<(), Fail> {
 }
 
 /// Scripts, and what is noted beside their status.
-const NOTES: [(&str, &str); 20] = [
+const NOTES: [(&str, &str); 21] = [
     ("", "the script has no command"),
     (
         "set\n",
@@ -100,11 +100,15 @@ const NOTES: [(&str, &str); 20] = [
     ),
     (
         "do read a 0 1\n",
-        "line 1: PATH isn't `/`, or components behind a slash each, none of them empty, `.` or `..`",
+        "line 1: PATH isn't absolute, or has a component that is empty, `.` or `..`",
     ),
     (
         "file a 644 1 8 00\n",
-        "line 1: PATH isn't `/`, or components behind a slash each, none of them empty, `.` or `..`",
+        "line 1: PATH isn't absolute, or has a component that is empty, `.` or `..`",
+    ),
+    (
+        "do read /\t 0 1\n",
+        "line 1: PATH is empty, or has a byte that isn't printable",
     ),
     (
         "file /a 648 1 8 00\n",
