@@ -37,18 +37,16 @@ fn run(rt: &HostRuntime) -> u8 {
         Ok(words) => words,
         Err(fault) => return refuse_words(rt, &mut sink, fault),
     };
-    match words.as_slice() {
+    let mut note = Note::Nothing;
+    let status = match words.as_slice() {
         [word] if word.as_str() == "--help" => status_of(0, write_all(&mut sink, HELP.as_bytes())),
         [word] if word.as_str() == "--version" => {
             status_of(0, write_all(&mut sink, VERSION.as_bytes()))
         }
-        words => {
-            let mut note = Note::Nothing;
-            let status = run_words(rt.alloc(), words, &mut source, &mut sink, &mut note);
-            complain(rt, status, words, &note);
-            status
-        }
-    }
+        words => run_words(rt.alloc(), words, &mut source, &mut sink, &mut note),
+    };
+    complain(rt, status, words.as_slice(), &note);
+    status
 }
 
 fn main(rt: HostRuntime) -> ExitCode {
