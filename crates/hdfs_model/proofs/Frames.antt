@@ -1,9 +1,9 @@
 -- How what the calls of a cluster keep joins from call to call.
-use Rattle.std.proofs.Common.{◌≡◌, ◌≢◌, ◌⊎◌, ℕ, ◌≤◌, List, Option, Some, None, IsSome, refl, sym, ◌∙◌, ap, subst, arith}
+use Rattle.std.proofs.Common.{◌≡◌, ℕ, ◌≤◌, Option, Some, None, IsSome, refl, sym, ◌∙◌, subst, arith}
 use Rattle.hdfs_model.specs.Counts.{FaultCounts, NeverFall, SameCounts, Rose}
-use Rattle.hdfs_model.specs.Picture.{Picture, SameFiles, SameButActive, SamePicture, Told}
+use Rattle.hdfs_model.specs.Picture.{Picture, SameFiles, SamePicture, Told}
 use Rattle.hdfs_model.specs.Reading.{ReadsAt}
-use Rattle.hdfs_model.specs.Shown.{Shown, Later, SameLinks, SamePlaces, OnlyReads, Reading, NotOpened, NotGiven}
+use Rattle.hdfs_model.specs.Shown.{Shown, Later, SameLinks, SamePlaces, SameWrites, OnlyReads, Reading}
 
 pub rose_since : (a b c d : ℕ) → a ≤ b → Rose b c → c ≤ d → Rose a d
 rose_since a b c d before rose after = omega (arith, rose)
@@ -60,6 +60,13 @@ told_join P Q R (Some a) None c join f g = absurd f
 told_join P Q R None None (Some c) join f g = absurd g
 told_join P Q R (Some a) (Some b) None join f g = absurd g
 
+-- what holds of a told picture twice
+pub told_both : (P Q : Picture → Picture → Type 0) (a b : Option Picture) → Told P a b → Told Q a b → Told (λ p q. P p q × Q p q) a b
+told_both P Q None None f g = tt
+told_both P Q (Some a) (Some b) f g = (f, g)
+told_both P Q None (Some b) f g = absurd f
+told_both P Q (Some a) None f g = absurd f
+
 pub told_refl : (P : Picture → Picture → Type 0) (a : Option Picture) → ((p : Picture) → P p p) → Told P a a
 told_refl P None same = tt
 told_refl P (Some a) same = same a
@@ -71,27 +78,47 @@ pub same_files_trans : (a b c : Picture) → SameFiles a b → SameFiles b c →
 same_files_trans a b c f g = record { names = λ path. g.names path ∙ f.names path; table = λ id. g.table id ∙ f.table id; held = λ node id. g.held node id ∙ f.held node id; defaults = g.defaults ∙ f.defaults }
 
 pub same_picture_refl : (p : Picture) → SamePicture p p
-same_picture_refl p = record { rest = record { files = same_files_refl p; reads = λ link. refl }; active = refl }
+same_picture_refl p = record { rest = record { files = same_files_refl p; reads = λ link. refl; writes = λ link. refl }; active = refl }
 
 pub only_reads_refl : (a : Shown) → OnlyReads a a
-only_reads_refl a = record { later = later_refl a; last = refl; files = told_refl SameFiles a.picture same_files_refl }
+only_reads_refl a = record { later = later_refl a; last = refl; writes = λ link. refl; files = told_refl SameFiles a.picture same_files_refl; places = told_refl SameWrites a.picture (λ p link. refl) }
 
 pub only_reads_trans : (a b c : Shown) → OnlyReads a b → OnlyReads b c → OnlyReads a c
-only_reads_trans a b c f g = record { later = later_trans a b c f.later g.later; last = g.last ∙ f.last; files = told_trans SameFiles a.picture b.picture c.picture same_files_trans f.files g.files }
+only_reads_trans a b c f g = record {
+  later = later_trans a b c f.later g.later;
+  last = g.last ∙ f.last;
+  writes = λ link. g.writes link ∙ f.writes link;
+  files = told_trans SameFiles a.picture b.picture c.picture same_files_trans f.files g.files;
+  places = told_trans SameWrites a.picture b.picture c.picture (λ p q r first then link. then link ∙ first link) f.places g.places;
+}
 
 -- a call on one read link only reads
 pub only_reads_from-Reading : (link : ℕ) (a b : Shown) → Reading link a b → OnlyReads a b
-only_reads_from-Reading link a b f = record { later = f.later; last = f.last; files = told_weaker (ReadsAt link) SameFiles a.picture b.picture (λ p q h. h.files) f.picture }
+only_reads_from-Reading link a b f = record {
+  later = f.later;
+  last = f.last;
+  writes = f.writes;
+  files = told_weaker (ReadsAt link) SameFiles a.picture b.picture (λ p q h. h.files) f.picture;
+  places = told_weaker (ReadsAt link) SameWrites a.picture b.picture (λ p q h. h.writes) f.picture;
+}
 
--- the same picture
-pub only_reads_from-same : (a b : Shown) → Later a b → b.last ≡ a.last → Told SamePicture a.picture b.picture → OnlyReads a b
-only_reads_from-same a b later last same = record { later = later; last = last; files = told_weaker SamePicture SameFiles a.picture b.picture (λ p q h. h.rest.files) same }
+-- the same picture, and the same write links
+pub only_reads_from-same : (a b : Shown) → Later a b → b.last ≡ a.last → ((link : ℕ) → b.writes link ≡ a.writes link) → Told SamePicture a.picture b.picture → OnlyReads a b
+only_reads_from-same a b later last writes same = record {
+  later = later;
+  last = last;
+  writes = writes;
+  files = told_weaker SamePicture SameFiles a.picture b.picture (λ p q h. h.rest.files) same;
+  places = told_weaker SamePicture SameWrites a.picture b.picture (λ p q h. h.rest.writes) same;
+}
 
 pub same_links_refl : (a : Shown) → SameLinks a a
-same_links_refl a = record { links = λ link. refl; places = told_refl (SamePlaces a) a.picture (λ p link is. refl) }
+same_links_refl a = record { links = λ link. refl; writes = λ link. refl; places = told_refl (SamePlaces a) a.picture (λ p. (λ link is. refl, λ link. refl)) }
 
 pub same_links_trans : (a b c : Shown) → SameLinks a b → SameLinks b c → SameLinks a c
 same_links_trans a b c f g = record {
   links = λ link. g.links link ∙ f.links link;
-  places = told_join (SamePlaces a) (SamePlaces b) (SamePlaces a) a.picture b.picture c.picture (λ p q r first then link is. then link (subst IsSome (sym (f.links link)) is) ∙ first link is) f.places g.places;
+  writes = λ link. g.writes link ∙ f.writes link;
+  places = told_join (SamePlaces a) (SamePlaces b) (SamePlaces a) a.picture b.picture c.picture
+      (λ p q r first then. (λ link is. then.0 link (subst IsSome (sym (f.links link)) is) ∙ first.0 link is, λ link. then.1 link ∙ first.1 link)) f.places g.places;
 }

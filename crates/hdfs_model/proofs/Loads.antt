@@ -1,5 +1,5 @@
 -- What is loaded keeps the state a state, and the store fitting it.
-use Rattle.std.proofs.Common.{◌≡◌, ◌⊎◌, inl, inr, ⊎_elim, ℕ, suc, Bool, true, false, cond, ◌&&◌, List, [], ◌∷◌, ◌++◌, length, Option, Some, None, is_none, IsSome, refl, sym, ◌∙◌, ap, subst, arith}
+use Rattle.std.proofs.Common.{◌≡◌, ℕ, suc, Bool, true, false, cond, ◌&&◌, List, ◌∷◌, length, Option, Some, None, is_none, IsSome, refl, ap, arith}
 use Rattle.std.proofs.lemmas.Slice.Eq.{bytes_eq-Decides}
 use Rattle.std.specs.List.{Contains}
 use Rattle.std.specs.Option.{option_map}
@@ -7,8 +7,8 @@ use Rattle.std.specs.Str.{bytes_eq}
 use Rattle.hdfs_model.specs.declared.attributes.Attributes.{Attributes}
 use Rattle.hdfs_model.specs.declared.store.Line.{Line}
 use Rattle.hdfs_model.specs.declared.store.Line.TheVariants as lines
-use Rattle.hdfs_model.specs.Paths.{root, is_path, parent_of}
-use Rattle.hdfs_model.specs.Files.{Files, Node, Dir, File, Writing, Content, Kind, Directory, ClosedFile, kind_of, kinds_of, IsTree, State, IsState}
+use Rattle.hdfs_model.specs.Paths.{is_path, parent_of}
+use Rattle.hdfs_model.specs.Files.{Files, Node, Dir, File, Writing, Content, Directory, ClosedFile, kind_of, kinds_of, State, IsState}
 use Rattle.hdfs_model.specs.Limits.{in_limits}
 use Rattle.hdfs_model.specs.Loading.{takes, is_directory, with_file, with_line, Loads}
 use Rattle.hdfs_model.specs.Shown.{Shown}

@@ -9,8 +9,11 @@ pub mod Loading
 pub mod Namenode
 pub use Rattle.hdfs_names.specs.Paths
 pub mod Picture
+pub mod Pipes
 pub mod Reading
+pub mod Sending
 pub mod Sessions
 pub mod Shown
 pub mod Steps
 pub mod Stores
+pub mod Writing

@@ -1,5 +1,5 @@
 -- The lines that are loaded into a store: which it takes, and what they make of the files.
-use Rattle.std.specs.Prelude.{◌≡◌, ℕ, ◌^◌, nat_le, nat_lt, Bool, true, false, ◌&&◌, ◌==◌, List, [], ◌∷◌, ◌++◌, length, Option, Some, None, is_none, if◌then◌else◌}
+use Rattle.std.specs.Prelude.{◌≡◌, ℕ, Bool, true, false, ◌&&◌, List, [], ◌∷◌, ◌++◌, length, Option, Some, None, is_none, if◌then◌else◌}
 use Rattle.std.specs.Str.{bytes_eq}
 use Rattle.hdfs_model.specs.declared.store.Line.{Line}
 use Rattle.hdfs_model.specs.declared.store.Line.TheVariants as lines
@@ -46,6 +46,7 @@ pub record LoadsAt (old new : Picture) : Type 0 where
   pub active : new.active ≡ old.active
   pub defaults : new.defaults ≡ old.defaults
   pub reads : (link : ℕ) → new.reads link ≡ old.reads link
+  pub writes : (link : ℕ) → new.writes link ≡ old.writes link
 
 -- what a line leaves as it was in the picture
 abbrev pub LoadsLine : Line → Picture → Picture → Type 0
@@ -58,6 +59,7 @@ pub record SameRest (old new : Shown) : Type 0 where
   pub last : new.last ≡ old.last
   pub namenodes : new.namenodes ≡ old.namenodes
   pub reads : (link : ℕ) → new.reads link ≡ old.reads link
+  pub writes : (link : ℕ) → new.writes link ≡ old.writes link
 
 -- a line was loaded
 pub record Loads (old : Shown) (line : Line) (new : Shown) : Type 0 where

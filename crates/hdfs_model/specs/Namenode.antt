@@ -1,8 +1,7 @@
 -- What a namenode may answer to an ask, and what its answer does to the picture.
-use Rattle.std.specs.Prelude.{◌≡◌, ◌≢◌, ◌⊎◌, ℕ, ◌+◌, ◌-◌, ◌<◌, ◌^◌, List, [], ◌∷◌, map, All, Contains, Option, Some, None, Result, Ok, Err, codes}
+use Rattle.std.specs.Prelude.{◌≡◌, ◌≢◌, ◌⊎◌, ℕ, ◌+◌, ◌-◌, ◌<◌, ◌^◌, List, [], ◌∷◌, All, Contains, Option, Some, None, Result, Ok, Err, codes}
 use Rattle.hdfs_model.specs.declared.messages.LocatedBlock.{LocatedBlock}
 use Rattle.hdfs_model.specs.declared.messages.LocatedBlocks.{LocatedBlocks}
-use Rattle.hdfs_model.specs.declared.messages.DatanodeInfo.{DatanodeInfo}
 use Rattle.hdfs_model.specs.declared.asks.Ask.{Ask}
 use Rattle.hdfs_model.specs.declared.asks.Ask.TheVariants as asks
 use Rattle.hdfs_model.specs.declared.asks.Answer.{Answer}
@@ -16,6 +15,7 @@ use Rattle.hdfs_model.specs.declared.picture.BlockEntry.{BlockEntry}
 use Rattle.hdfs_model.specs.declared.picture.FileEntry.{FileEntry}
 use Rattle.hdfs_model.specs.Files.{Kind, NoFile, NotDirectory, Missing, NotFile, no_file, OpenFile}
 use Rattle.hdfs_model.specs.Picture.{Picture, SameButActive, SamePicture, kinds}
+use Rattle.hdfs_model.specs.Sending.{uuids}
 
 -- the exceptions by their Java classes
 abbrev pub standby : List ℕ
@@ -48,10 +48,6 @@ IsNoFile p path = (why : NoFile) × (no_file (kinds p) path ≡ Some why)
 -- an exception of this class stands for that
 abbrev pub StandsForNoFile : (List ℕ → Option Kind) → List ℕ → List ℕ → Type 0
 StandsForNoFile kinds path class = (why : NoFile) × (no_file kinds path ≡ Some why) × (class ≡ class_for why)
-
--- the datanodes of a located block, by their uuids
-abbrev pub uuids : List DatanodeInfo → List (List ℕ)
-uuids locs = map (λ node. node.id.datanode_uuid) locs
 
 -- a block as it stands in the table, at this offset of its file
 pub record LocatesBlock (entry : BlockEntry) (at id : ℕ) (block : LocatedBlock) : Type 0 where
@@ -104,6 +100,7 @@ pub record KeepsOthers (path : List ℕ) (old new : Picture) : Type 0 where
   pub held : (node : List ℕ) (id : ℕ) → new.held node id ≡ old.held node id
   pub defaults : new.defaults ≡ old.defaults
   pub reads : (link : ℕ) → new.reads link ≡ old.reads link
+  pub writes : (link : ℕ) → new.writes link ≡ old.writes link
 
 -- an answer of the implementation's own, and what it leaves
 abbrev pub IsOwnOf : Ask → Picture → Picture → Type 0

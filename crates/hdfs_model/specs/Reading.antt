@@ -1,5 +1,5 @@
 -- Read links: what the picture shows of them, and what a packet gives.
-use Rattle.std.specs.Prelude.{◌≡◌, ◌≢◌, ◌⊎◌, ℕ, ℤ, pos, ◌+◌, ◌≤◌, List, length, take, drop, Option, Some, None}
+use Rattle.std.specs.Prelude.{◌≡◌, ◌≢◌, ◌⊎◌, ℕ, pos, ◌+◌, ◌≤◌, length, take, drop, Some, None}
 use Rattle.hdfs_wire.specs.declared.read_packet.ReadPacket.{ReadPacket}
 use Rattle.hdfs_model.specs.declared.messages.ReadAsk.{ReadAsk}
 use Rattle.hdfs_model.specs.declared.picture.ReadPlace.{ReadPlace}
@@ -10,6 +10,7 @@ pub record ReadsAt (link : ℕ) (old new : Picture) : Type 0 where
   pub files : SameFiles old new
   pub active : new.active ≡ old.active
   pub others : (other : ℕ) → other ≢ link → new.reads other ≡ old.reads other
+  pub writes : (other : ℕ) → new.writes other ≡ old.writes other
 
 -- A read begins: its base is what the datanode holds of the block, and its place is not past the wanted offset.
 pub record Begins (ask : ReadAsk) (link : ℕ) (old new : Picture) : Type 0 where

@@ -1,5 +1,5 @@
 -- What a cluster shows of itself, and what each of its calls does to that.
-use Rattle.std.specs.Prelude.{◌≡◌, ◌≢◌, ℕ, ℤ, pos, List, length, Option, Some, None, IsSome, Result, IfSome}
+use Rattle.std.specs.Prelude.{◌≡◌, ◌≢◌, ℕ, pos, List, length, Option, Some, None, IsSome, Result, IfSome}
 use Rattle.hdfs_wire.specs.declared.read_packet.ReadPacket.{ReadPacket}
 use Rattle.hdfs_model.specs.declared.messages.ReadAsk.{ReadAsk}
 use Rattle.hdfs_model.specs.declared.asks.Ask.{Ask}
@@ -9,6 +9,7 @@ use Rattle.hdfs_model.specs.declared.asks.LinkFault.{LinkFault}
 use Rattle.hdfs_model.specs.declared.asks.LinkFault.TheVariants as faults
 use Rattle.hdfs_model.specs.declared.picture.LastAnswer.{LastAnswer}
 use Rattle.hdfs_model.specs.declared.picture.OpenRead.{OpenRead}
+use Rattle.hdfs_model.specs.declared.picture.OpenWrite.{OpenWrite}
 use Rattle.hdfs_model.specs.declared.store.Line.{Line}
 use Rattle.hdfs_model.specs.Counts.{FaultCounts, NeverFall, Rose}
 use Rattle.hdfs_model.specs.Picture.{Picture, SameFiles, SamePicture, Told}
@@ -27,6 +28,8 @@ pub record Shown : Type 0 where
   pub namenodes : ℕ
   -- its open read links
   pub reads : ℕ → Option OpenRead
+  -- its open write links
+  pub writes : ℕ → Option OpenWrite
   -- the lines that were loaded into it, in order
   pub loaded : List Line
 
@@ -40,13 +43,18 @@ pub record Later (old new : Shown) : Type 0 where
 abbrev pub SameNodes : Shown → Shown → Type 0
 SameNodes old new = (d : List ℕ) → new.counts.nodes d ≡ old.counts.nodes d
 
--- the places of the read links that are open stay
-abbrev pub SamePlaces : Shown → Picture → Picture → Type 0
-SamePlaces shown old new = (link : ℕ) → IsSome (shown.reads link) → new.reads link ≡ old.reads link
+-- the write links stay
+abbrev pub SameWrites : Picture → Picture → Type 0
+SameWrites old new = (link : ℕ) → new.writes link ≡ old.writes link
 
--- no read link was changed, none was closed, and none is left open
+-- the places of the read links that are open stay, and the write links
+abbrev pub SamePlaces : Shown → Picture → Picture → Type 0
+SamePlaces shown old new = ((link : ℕ) → IsSome (shown.reads link) → new.reads link ≡ old.reads link) × SameWrites old new
+
+-- no link was changed, none was closed, and none is left open
 pub record SameLinks (old new : Shown) : Type 0 where
   pub links : (link : ℕ) → new.reads link ≡ old.reads link
+  pub writes : (link : ℕ) → new.writes link ≡ old.writes link
   pub places : Told (SamePlaces old) old.picture new.picture
 
 -- An ask of namenode i. It raises no count of a link or a datanode.
@@ -54,6 +62,7 @@ pub record Served (old : Shown) (i : ℕ) (ask : Ask) (result : Result Answer As
   pub later : Later old new
   pub last : new.last ≡ last_of result
   pub reads : (link : ℕ) → new.reads link ≡ old.reads link
+  pub writes : (link : ℕ) → new.writes link ≡ old.writes link
   pub links : new.counts.links ≡ old.counts.links
   pub nodes : SameNodes old new
   pub picture : Told (λ p q. ServesTold (Rose (old.counts.calls i) (new.counts.calls i)) p i ask result q) old.picture new.picture
@@ -63,11 +72,13 @@ pub record Reading (link : ℕ) (old new : Shown) : Type 0 where
   pub later : Later old new
   pub last : new.last ≡ old.last
   pub others : (other : ℕ) → other ≢ link → new.reads other ≡ old.reads other
+  pub writes : (other : ℕ) → new.writes other ≡ old.writes other
   pub picture : Told (ReadsAt link) old.picture new.picture
 
 -- the link is used for nothing
 pub record IsUnused (link : ℕ) (shown : Shown) : Type 0 where
   pub read : shown.reads link ≡ None
+  pub write : shown.writes link ≡ None
 
 -- a read was opened
 pub record Opened (old : Shown) (ask : ReadAsk) (link : ℕ) (new : Shown) : Type 0 where
@@ -81,6 +92,7 @@ pub record NotOpened (old : Shown) (ask : ReadAsk) (fault : LinkFault) (new : Sh
   pub later : Later old new
   pub last : new.last ≡ old.last
   pub reads : (link : ℕ) → new.reads link ≡ old.reads link
+  pub writes : (link : ℕ) → new.writes link ≡ old.writes link
   pub picture : Told SamePicture old.picture new.picture
   pub cause : fault ≢ faults.NoMemory → Rose (old.counts.nodes ask.node.datanode_uuid) (new.counts.nodes ask.node.datanode_uuid)
 
@@ -96,6 +108,7 @@ pub record NotGiven (old : Shown) (link : ℕ) (fault : LinkFault) (new : Shown)
   pub later : Later old new
   pub last : new.last ≡ old.last
   pub reads : (other : ℕ) → new.reads other ≡ old.reads other
+  pub writes : (other : ℕ) → new.writes other ≡ old.writes other
   pub picture : Told SamePicture old.picture new.picture
   pub not_refused : fault ≢ faults.Refused
   pub cause : fault ≡ faults.Broken → IfSome (old.reads link) (λ read. Rose (old.counts.nodes read.node.datanode_uuid) (new.counts.nodes read.node.datanode_uuid))
@@ -110,4 +123,6 @@ pub record Ended (old : Shown) (link : ℕ) (new : Shown) : Type 0 where
 pub record OnlyReads (old new : Shown) : Type 0 where
   pub later : Later old new
   pub last : new.last ≡ old.last
+  pub writes : (link : ℕ) → new.writes link ≡ old.writes link
   pub files : Told SameFiles old.picture new.picture
+  pub places : Told SameWrites old.picture new.picture

@@ -1,10 +1,9 @@
 -- When a cluster holds the files of a state.
 use Rattle.std.specs.Prelude.{◌≡◌, ℕ, ◌≤◌, Bool, true, false, List, [], ◌∷◌, length, take, drop, Option, Some, None, All, Any}
-use Rattle.hdfs_model.specs.Files.{Files, Node, Dir, File, Writing, Content}
+use Rattle.hdfs_model.specs.Files.{Files, Node, Dir, File, Writing}
 use Rattle.hdfs_model.specs.declared.picture.Entry.{Entry}
 use Rattle.hdfs_model.specs.declared.picture.Entry.TheVariants as entries
 use Rattle.hdfs_model.specs.declared.picture.BlockEntry.{BlockEntry}
-use Rattle.hdfs_model.specs.declared.picture.FileEntry.{FileEntry}
 use Rattle.hdfs_model.specs.Picture.{Picture}
 
 -- the datanode holds a prefix of the bytes

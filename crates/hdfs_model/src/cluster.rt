@@ -1,15 +1,16 @@
-//! The outside: namenodes that are asked, and datanodes that are read.
-ghost use Rattle.std.specs.Prelude.{◌≡◌, ◌<◌, ℕ, Bool, true, false, Some, None, Result, IfOk, IfErr, IsSome, IsNone, IsTrue};
+//! The outside: namenodes that are asked, and datanodes that are read and written.
+ghost use Rattle.std.specs.Prelude.{◌≡◌, ◌<◌, ℕ, Bool, true, false, Some, None, Result, IfOk, IfErr, OnOk, IsSome, IsNone, IsTrue};
 ghost use Rattle.hdfs_model.specs.Namenode.{IsShaped};
 ghost use Rattle.hdfs_model.specs.Picture.{Picture};
+ghost use Rattle.hdfs_model.specs.Pipes.{IsSetup, WriteOpened, WriteNotOpened, FollowsOn, Sent, NotSent, IsAwaited, Acknowledged, NotAcknowledged, WriteEnded, ShowsWrites};
 ghost use Rattle.hdfs_model.specs.Shown.{Shown, Served, Opened, NotOpened, Given, NotGiven, Ended};
 ghost use Rattle.hdfs_model.specs.declared.asks.Ask.{Ask};
 ghost use Rattle.hdfs_model.specs.declared.asks.Answer.{Answer};
 ghost use Rattle.hdfs_model.specs.declared.asks.AskFault.{AskFault};
 
 use crate::asks::{Answer, Ask, AskFault, LinkFault};
-use crate::messages::ReadAsk;
-use hdfs_wire::ReadPacket;
+use crate::messages::{ReadAsk, Setup};
+use hdfs_wire::{Ack, ReadPacket, WritePacket};
 
 /// Namenodes and datanodes. A call that fails for another cause than memory has raised a count.
 pub trait Cluster {
@@ -18,6 +19,9 @@ pub trait Cluster {
 
     /// What an ask of a namenode may give, from one state to the next.
     ghost serves: { Self → ℕ → Ask → Result Answer AskFault → Self → Type 0 };
+
+    /// What the end of a pipeline may do, from one state to the next.
+    ghost ends: { Self → ℕ → Self → Type 0 };
 
     /// How many namenodes there are. They are numbered from 0.
     fn namenodes(&self) -> u32
@@ -49,9 +53,39 @@ pub trait Cluster {
         ensures ended { Ended (shown self.old) link (shown self.new) }
         ensures kept { IsTrue result → keep ≡ true };
 
+    /// Sets up a pipeline on fresh connections, and answers its link.
+    fn open_write(&mut self, setup: Setup) -> Result<u64, LinkFault>
+        requires { IsSetup setup }
+        ensures ok { IfOk result (λ link. WriteOpened (shown self.old) setup link (shown self.new)) }
+        ensures err { IfErr result (λ fault. WriteNotOpened (shown self.old) setup fault (shown self.new)) };
+
+    /// Sends a packet down a pipeline. It begins where the last one ended.
+    fn send(&mut self, link: u64, packet: &WritePacket) -> Result<(), LinkFault>
+        requires { FollowsOn (shown self.old) link packet.now }
+        ensures ok { OnOk result (Sent (shown self.old) link packet.now (shown self.new)) }
+        ensures err { IfErr result (λ fault. NotSent (shown self.old) link packet.now fault (shown self.new)) };
+
+    /// The next acknowledgement of a pipeline, in which a packet waits for one.
+    fn ack(&mut self, link: u64) -> Result<Ack, LinkFault>
+        requires { IsAwaited (shown self.old) link }
+        ensures ok { IfOk result (λ ack. Acknowledged (shown self.old) link ack (shown self.new)) }
+        ensures err { IfErr result (λ fault. NotAcknowledged (shown self.old) link fault (shown self.new)) };
+
+    /// Ends a pipeline.
+    fn end_write(&mut self, link: u64)
+        requires { IsSome ((shown self.old).writes link) }
+        ensures ends { ends self.old link self.new }
+        ensures ended { WriteEnded (shown self.old) link (shown self.new) };
+
     /// What is served is served by the rows.
     ghost serves_rows: { (old new : Self) (i : ℕ) (ask : Ask) (result : Result Answer AskFault)
         → serves old i ask result new → Served (shown old) i ask result (shown new) };
+
+    /// A pipeline that is ended is gone.
+    ghost ends_row: { (old new : Self) (link : ℕ) → ends old link new → WriteEnded (shown old) link (shown new) };
+
+    /// A told picture has the place of each open write link.
+    ghost shows_writes: { (s : Self) (p : Picture) → (shown s).picture ≡ Some p → ShowsWrites (shown s) p };
 
     /// The active namenode is one of them.
     ghost active_below: { (s : Self) (p : Picture) → (shown s).picture ≡ Some p → p.active < (shown s).namenodes };

@@ -17,7 +17,8 @@ pub use commands::{Command, Reply, Settings};
 pub use errors::{ArgFault, Fault, HdfsError, TransferFault};
 pub use hdfs_names::{absolute_path, is_path, nearest_ancestor, parent_of};
 pub use messages::{
-    Block, DatanodeId, DatanodeInfo, LocatedBlock, LocatedBlocks, ReadAsk, ServerDefaults, Token,
+    Block, DatanodeId, DatanodeInfo, LocatedBlock, LocatedBlocks, ReadAsk, ServerDefaults, Setup,
+    Stage, Token,
 };
-pub use picture::{BlockEntry, Entry, FileEntry, LastAnswer, OpenRead, ReadPlace};
+pub use picture::{BlockEntry, Entry, FileEntry, LastAnswer, OpenRead, OpenWrite, ReadPlace};
 pub use store::{AddFault, FaultLine, Line, ReadKind, Store};

@@ -1,6 +1,6 @@
-//! What a cluster shows of one path, one block and one read link.
+//! What a cluster shows of one path, one block and one link.
 use crate::attributes::Attributes;
-use crate::messages::{Block, DatanodeId, Token};
+use crate::messages::{Block, DatanodeId, Setup, Token};
 use bytes::Bytes;
 use hdfs_wire::{List, Text};
 
@@ -46,6 +46,15 @@ pub struct ReadPlace {
     pub len: u64,
     pub base: Bytes,
     pub place: u64,
+}
+
+/// What every cluster tells of an open write link: the set-up that it was opened with, where its last sent packet ended in
+/// the block, and the seqnos of the packets that were sent and aren't acknowledged, in order.
+#[derive(Debug, Drop)]
+pub struct OpenWrite {
+    pub setup: Setup,
+    pub end: Option<u64>,
+    pub waiting: List<i64>,
 }
 
 /// How the last ask of a namenode ended.
