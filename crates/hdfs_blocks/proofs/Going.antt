@@ -58,10 +58,10 @@ before_link_le s t None a b same le = le
 before_link_le s t (Some l) a b same le = subst (λ (o : Option OpenRead). before_opening (s.reads l) a ≤ before_opening o b) (sym (same l)) (before_opening_le (s.reads l) a b le)
 
 -- a call that changes nothing but counts
-module _ (s t : Shown) (r : BlockRead) (holds : Holds s r) (later : Later s t) (last : t.last ≡ s.last) (reads : (l : ℕ) → t.reads l ≡ s.reads l) (picture : Told SamePicture s.picture t.picture) where
+module _ (s t : Shown) (r : BlockRead) (holds : Holds s r) (later : Later s t) (last : t.last ≡ s.last) (reads : (l : ℕ) → t.reads l ≡ s.reads l) (writes : (l : ℕ) → t.writes l ≡ s.writes l) (picture : Told SamePicture s.picture t.picture) where
   -- only reads happened
   still_only : OnlyReads s t
-  still_only = only_reads_from-same s t later last picture
+  still_only = only_reads_from-same s t later last writes picture
 
   -- the kept link still holds
   still_link : (l : ℕ) → LinkHolds s r l → LinkHolds t r l
@@ -153,7 +153,7 @@ lost_goes s s' t r x r' holds frame same =
 pub not_opened_goes : (s s' t : Shown) (r r' : BlockRead) (ask : ReadAsk) (fault : LinkFault) → Holds s r → r.link ≡ None → NotOpened s ask fault s' → fault ≢ faults.NoMemory → ask.node.datanode_uuid ≡ node_at r.block r.tried
     → Frame s' t r r' → r' ≡ record r { link = None; position = None; tried = r.tried + 1 } → Goes s t r r'
 not_opened_goes s s' t r r' ask fault holds idle n is node frame made =
-    gave_up_goes s t r r' made (frame_trans s s' t r r r' (still_frame s s' r holds n.later n.last n.reads n.picture) frame)
+    gave_up_goes s t r r' made (frame_trans s s' t r r r' (still_frame s s' r holds n.later n.last n.reads n.writes n.picture) frame)
     (λ bytes shows.
     let before : (stage_of s r).before ≡ s.counts.nodes (node_at r.block r.tried) = ap (λ (link : Option ℕ). before_link s link (s.counts.nodes (node_at r.block r.tried))) idle in
     let rose : Rose (s.counts.nodes (node_at r.block r.tried)) (s'.counts.nodes (node_at r.block r.tried)) = subst (λ (d : List ℕ). Rose (s.counts.nodes d) (s'.counts.nodes d)) node (n.cause is) in

@@ -3,7 +3,7 @@ use Rattle.std.specs.Prelude.{◌⊎◌, ℕ, ◌<◌, List, [], length, slice_i
 use Rattle.hdfs_model.specs.declared.messages.LocatedBlock.{LocatedBlock}
 use Rattle.hdfs_model.specs.Counts.{FaultCounts, Rose}
 use Rattle.hdfs_model.specs.Picture.{Picture}
-use Rattle.hdfs_model.specs.Namenode.{uuids}
+use Rattle.hdfs_model.specs.Sending.{uuids}
 
 -- the datanode of the k-th location, by its uuid
 abbrev pub node_at : LocatedBlock → ℕ → List ℕ

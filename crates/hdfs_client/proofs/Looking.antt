@@ -31,12 +31,20 @@ places_stay risen p q i ask (Err faults.NoMemory) h link = h.rest.reads link
 places_stay risen p q i ask (Err (faults.Exception class message)) h link =
     ⊎_elim (λ standby. standby.2.rest.reads link) (λ rest. ⊎_elim (λ refused. refused.2.rest.reads link) (λ more. ⊎_elim (λ own. own.2.1.reads link) (λ rose. ⊎_elim (λ same. same.reads link) (λ own. own.1.reads link) rose.1) more) rest) h
 
+-- and so do the write links
+writes_stay : (risen : Type 0) (p q : Picture) (i : ℕ) (ask : Ask) (result : Result Answer AskFault) → ServesTold risen p i ask result q → (link : ℕ) → q.writes link ≡ p.writes link
+writes_stay risen p q i ask (Ok answer) h link = ⊎_elim (λ row. (row_same p q ask answer row).writes link) (λ own. own.1.writes link) h.2
+writes_stay risen p q i ask (Err faults.NoMemory) h link = h.rest.writes link
+writes_stay risen p q i ask (Err (faults.Exception class message)) h link =
+    ⊎_elim (λ standby. standby.2.rest.writes link) (λ rest. ⊎_elim (λ refused. refused.2.rest.writes link) (λ more. ⊎_elim (λ own. own.2.1.writes link) (λ rose. ⊎_elim (λ same. same.writes link) (λ own. own.1.writes link) rose.1) more) rest) h
+
 -- so an ask leaves all links
 pub links_from-Served : (old new : Shown) (i : ℕ) (ask : Ask) (result : Result Answer AskFault) → Served old i ask result new → SameLinks old new
 links_from-Served old new i ask result served = record {
   links = served.reads;
+  writes = served.writes;
   places = told_weaker (λ p q. ServesTold (Rose (old.counts.calls i) (new.counts.calls i)) p i ask result q) (SamePlaces old) old.picture new.picture
-      (λ p q h link is. places_stay (Rose (old.counts.calls i) (new.counts.calls i)) p q i ask result h link) served.picture;
+      (λ p q h. (λ link is. places_stay (Rose (old.counts.calls i) (new.counts.calls i)) p q i ask result h link, writes_stay (Rose (old.counts.calls i) (new.counts.calls i)) p q i ask result h)) served.picture;
 }
 
 -- files stay, where nobody writes the one that is asked for

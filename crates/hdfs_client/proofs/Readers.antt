@@ -5,9 +5,9 @@ use Rattle.hdfs_model.specs.declared.errors.HdfsError.{HdfsError}
 use Rattle.hdfs_model.specs.declared.errors.HdfsError.TheVariants as errors
 use Rattle.hdfs_model.specs.declared.errors.TransferFault.TheVariants as transfer
 use Rattle.hdfs_model.specs.Counts.{FaultCounts}
-use Rattle.hdfs_model.specs.Shown.{Shown, SameLinks, SamePlaces}
+use Rattle.hdfs_model.specs.Shown.{Shown, SameLinks, SamePlaces, SameWrites}
 use Rattle.hdfs_model.specs.Steps.{range_of}
-use Rattle.hdfs_model.proofs.Frames.{told_weaker}
+use Rattle.hdfs_model.proofs.Frames.{told_weaker, told_both}
 use Rattle.hdfs_blocks.specs.Going.{Frame, Goes}
 use Rattle.hdfs_blocks.specs.Reader.{block_of, wanted_of, end_of, link_of, tried_of, OthersStay, Keeps, Reads, ShowsBlock, Over, AllBlamed}
 use Rattle.hdfs_blocks.specs.declared.block_read.BlockRead.{BlockRead}
@@ -34,7 +34,9 @@ module _ (s t u : Shown) (q r w : BlockRead) where
 pub links_from-Keeps : (s t : Shown) (r r' : BlockRead) → Keeps s t r r' → link_of r ≡ None → link_of r' ≡ None → SameLinks s t
 links_from-Keeps s t r r' k before after = record {
   links = λ link. ⊎_elim (λ some. k.others link (λ its. cc (before, its)) some) (λ none. k.frees link (λ its. cc (after, its)) (inr none) ∙ sym none) (some_or_none (s.reads link));
-  places = told_weaker (OthersStay s r) (SamePlaces s) s.picture t.picture (λ p q stay link is. stay link (λ its. cc (before, its)) is) k.places;
+  writes = k.only.writes;
+  places = told_weaker (λ p q. OthersStay s r p q × SameWrites p q) (SamePlaces s) s.picture t.picture (λ p q both. (λ link is. both.0 link (λ its. cc (before, its)) is, both.1))
+      (told_both (OthersStay s r) SameWrites s.picture t.picture k.places k.only.places);
 }
 
 -- a new reader

@@ -1,3 +1,4 @@
+pub mod Acknowledging
 pub mod Agreeing
 pub mod Answering
 pub mod Failing
@@ -7,5 +8,11 @@ pub mod Naming
 pub mod Nodes
 pub mod NothingLoaded
 pub mod Numbers
+pub mod Packets
+pub mod Pieces
+pub mod Pipelines
+pub mod Places
 pub mod Sizing
+pub mod Stills
 pub mod Taking
+pub mod Writing

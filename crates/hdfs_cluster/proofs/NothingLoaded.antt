@@ -1,6 +1,5 @@
 -- What a line that wasn't loaded leaves.
 use Rattle.std.proofs.Common.{◌≡◌, ℕ, List, map, Result, Ok, Err, OnErr, refl, ap}
-use Rattle.std.specs.Option.{option_map}
 use Rattle.std.specs.BTreeMap.{is_at}
 use Rattle.std.specs.Map.{lookup}
 use Rattle.std.specs.Ordering.{nat_cmp}
@@ -14,14 +13,15 @@ use Rattle.hdfs_model.specs.Loading.{LoadsNothing}
 use Rattle.hdfs_cluster.specs.declared.loaded.Kept.{Kept}
 use Rattle.hdfs_cluster.specs.declared.namespace.Namespace.{Namespace}
 use Rattle.hdfs_cluster.specs.declared.datanodes.Datanodes.{Datanodes}
-use Rattle.hdfs_cluster.specs.declared.read_link.MemRead.{MemRead}
+use Rattle.hdfs_cluster.specs.declared.mem_link.MemLink.{MemLink}
 use Rattle.hdfs_cluster.specs.Adding.{KeepsBlocks}
 use Rattle.hdfs_cluster.specs.Lines.{line_of}
 use Rattle.hdfs_cluster.specs.Memory.{table_of}
 use Rattle.hdfs_cluster.specs.MemShown.{picture_at}
-use Rattle.hdfs_cluster.specs.Nodes.{node_at, held_in, faults_of}
+use Rattle.hdfs_cluster.specs.Nodes.{node_at, held_in, faults_of, undisturbed_in}
 use Rattle.hdfs_cluster.proofs.Agreeing.{agrees_kept}
-use Rattle.hdfs_cluster.proofs.Giving.{shown_at}
+use Rattle.hdfs_cluster.proofs.Places.{place_same}
+use Rattle.hdfs_cluster.proofs.Stills.{shown_at}
 
 -- what holds anyway holds of an error
 pub on_err : {T E P : Type 0} (r : Result T E) → P → OnErr r P
@@ -29,13 +29,14 @@ on_err (Ok x) p = tt
 on_err (Err e) p = p
 
 -- the names and the lines stay, the blocks are kept, and no datanode has failed
-pub nothing_loaded : (space space' : Namespace) (active : ℕ) (defaults : ServerDefaults) (last : LastAnswer) (namenodes : ℕ) (items items' : List Kept) (nodes nodes' : Datanodes) (s : Slab MemRead) → items' ≡ items → space'.names.entries ≡ space.names.entries
+pub nothing_loaded : (space space' : Namespace) (active : ℕ) (defaults : ServerDefaults) (last : LastAnswer) (namenodes : ℕ) (items items' : List Kept) (nodes nodes' : Datanodes) (s : Slab MemLink) → items' ≡ items → space'.names.entries ≡ space.names.entries
     → KeepsBlocks (table_of space.table.entries) (table_of space'.table.entries) (held_in nodes) (held_in nodes') → ((d : List ℕ) → faults_of (node_at nodes' d) ≡ faults_of (node_at nodes d))
+    → ((d : List ℕ) (b link : ℕ) → undisturbed_in nodes' d b link ≡ undisturbed_in nodes d b link)
     → LoadsNothing (shown_at space active defaults last namenodes (map line_of items) nodes s) (shown_at space' active defaults last namenodes (map line_of items') nodes' s)
-nothing_loaded space space' active defaults last namenodes items items' nodes nodes' s lines names kept faults = record {
-  rest = record { counts = record { calls = λ i. refl; links = refl; nodes = faults }; last = refl; namenodes = refl; reads = λ link. refl };
+nothing_loaded space space' active defaults last namenodes items items' nodes nodes' s lines names kept faults links = record {
+  rest = record { counts = record { calls = λ i. refl; links = refl; nodes = faults }; last = refl; namenodes = refl; reads = λ link. refl; writes = λ link. refl };
   lines = ap (map line_of) lines;
-  picture = record { active = refl; defaults = refl; reads = λ link. refl };
-  files = λ state was. agrees_kept (picture_at space nodes active defaults (λ l. option_map (λ r. r.place) (slab.get s l))) (picture_at space' nodes' active defaults (λ l. option_map (λ r. r.place) (slab.get s l))) state kept
+  picture = record { active = refl; defaults = refl; reads = λ link. refl; writes = λ link. place_same nodes nodes' links link (slab.get s link) };
+  files = λ state was. agrees_kept (picture_at space nodes active defaults s) (picture_at space' nodes' active defaults s) state kept
       (λ q. ap (lookup (is_at (λ k. slice_cmp nat_cmp q (string_bytes k)))) names) was;
 }

@@ -42,6 +42,7 @@ blocks_picture table held = record {
   active = 0;
   defaults = record { block_size = 0; bytes_per_checksum = 0; write_packet_size = 0; replication = 0; encrypt_data_transfer = false };
   reads = λ link. None;
+  writes = λ link. None;
 }
 
 -- the blocks that were there are there, and each datanode holds the same of them

@@ -1,9 +1,14 @@
 pub mod Adding
 pub mod Answering
+pub mod Blocks
 pub mod Laws
 pub mod Lines
+pub mod Links
 pub mod MemShown
 pub mod Memory
 pub mod Nodes
+pub mod Pieces
+pub mod Replicas
 pub mod Settings
 pub mod Starting
+pub mod Writes

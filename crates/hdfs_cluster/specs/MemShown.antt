@@ -1,7 +1,8 @@
 -- What the cluster in memory shows.
-use Rattle.std.specs.Prelude.{◌≡◌, ◌≢◌, ℕ, ◌+◌, ◌^◌, ◌<◌, IsSome, Bool, true, false, List, length, slice_index, map, Option, Some, option_map, Result, Ok, Err, if◌then◌else◌}
+use Rattle.std.specs.Prelude.{◌≡◌, ◌≢◌, ℕ, ◌+◌, ◌^◌, ◌<◌, IsSome, Bool, true, false, List, length, slice_index, map, Some, Result, Ok, Err, if◌then◌else◌}
 use Rattle.std.specs.BTreeMap.{get_by_text}
 use Rattle.slab.specs.Slab as slab
+use Rattle.slab.specs.Slab.{Slab}
 use Rattle.hdfs_wire.specs.declared.read_packet.ReadPacket.{ReadPacket}
 use Rattle.hdfs_model.specs.declared.asks.Ask.{Ask}
 use Rattle.hdfs_model.specs.declared.asks.Answer.{Answer}
@@ -9,33 +10,35 @@ use Rattle.hdfs_model.specs.declared.asks.AskFault.{AskFault}
 use Rattle.hdfs_model.specs.declared.asks.LinkFault.{LinkFault}
 use Rattle.hdfs_model.specs.declared.asks.LinkFault.TheVariants as link_faults
 use Rattle.hdfs_model.specs.declared.messages.ServerDefaults.{ServerDefaults}
-use Rattle.hdfs_model.specs.declared.picture.ReadPlace.{ReadPlace}
 use Rattle.hdfs_model.specs.Counts.{FaultCounts, SameCounts}
 use Rattle.hdfs_model.specs.Picture.{Picture, SamePicture}
 use Rattle.hdfs_model.specs.Shown.{Shown, Served}
 use Rattle.hdfs_cluster.specs.declared.namespace.Namespace.{Namespace}
 use Rattle.hdfs_cluster.specs.declared.datanodes.Datanodes.{Datanodes}
 use Rattle.hdfs_cluster.specs.declared.mem_cluster.MemCluster.{MemCluster}
+use Rattle.hdfs_cluster.specs.declared.mem_link.MemLink.{MemLink}
 use Rattle.hdfs_cluster.specs.declared.counts.Counts.{Counts as SeenCounts}
 use Rattle.hdfs_cluster.specs.Answering.{Answers}
 use Rattle.hdfs_cluster.specs.Lines.{line_of}
+use Rattle.hdfs_cluster.specs.Links.{read_told, read_place, write_told, write_place}
 use Rattle.hdfs_cluster.specs.Memory.{table_of, is_nil, uuid_of, breaks}
 use Rattle.hdfs_cluster.specs.Nodes.{node_at, held_in, faults_of, packets_of}
 
--- the picture of these names, blocks and bytes
-abbrev pub picture_at : Namespace → Datanodes → ℕ → ServerDefaults → (ℕ → Option ReadPlace) → Picture
-picture_at space nodes active defaults reads = record {
+-- the picture of these names, blocks, bytes and links
+abbrev pub picture_at : Namespace → Datanodes → ℕ → ServerDefaults → Slab MemLink → Picture
+picture_at space nodes active defaults links = record {
   names = λ path. get_by_text space.names path;
   table = λ id. table_of space.table.entries id;
   held = λ node id. held_in nodes node id;
   active = active;
   defaults = defaults;
-  reads = reads;
+  reads = λ link. read_place (slab.get links link);
+  writes = λ link. write_place nodes link (slab.get links link);
 }
 
 -- the picture of the cluster in memory
 abbrev pub picture_of : MemCluster → Picture
-picture_of m = picture_at m.space m.nodes m.config.active m.config.defaults (λ link. option_map (λ r. r.place) (slab.get m.reads link))
+picture_of m = picture_at m.space m.nodes m.config.active m.config.defaults m.links
 
 -- no count of a namenode or of the links ever rises
 abbrev pub counts_of : Datanodes → FaultCounts
@@ -48,7 +51,8 @@ shown_of m = record {
   counts = counts_of m.nodes;
   last = m.last;
   namenodes = m.config.namenodes;
-  reads = λ link. option_map (λ r. r.told) (slab.get m.reads link);
+  reads = λ link. read_told (slab.get m.links link);
+  writes = λ link. write_told (slab.get m.links link);
   loaded = map line_of m.loaded.items;
 }
 

@@ -14,9 +14,11 @@ pub record Starts (settings : MemSettings) (shown : Shown) : Type 0 where
   pub no_block : (id : ℕ) → picture.table id ≡ None
   pub no_bytes : (node : List ℕ) (id : ℕ) → picture.held node id ≡ []
   pub no_place : (link : ℕ) → picture.reads link ≡ None
+  pub no_write_place : (link : ℕ) → picture.writes link ≡ None
   pub namenodes : shown.namenodes ≡ settings.namenodes
   pub last : shown.last ≡ last_answers.Fine
   pub no_read : (link : ℕ) → shown.reads link ≡ None
+  pub no_write : (link : ℕ) → shown.writes link ≡ None
   pub no_line : shown.loaded ≡ []
   pub calls : (i : ℕ) → shown.counts.calls i ≡ 0
   pub links : shown.counts.links ≡ 0

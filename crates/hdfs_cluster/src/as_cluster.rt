@@ -1,15 +1,18 @@
 //! The calls of the cluster in memory.
-ghost use Rattle.std.specs.Prelude.{◌≡◌, false, IfOk, IfErr, IfSome, IsSome};
+ghost use Rattle.std.specs.Prelude.{◌≡◌, false, IfOk, IfErr, IfSome, IsSome, OnOk};
 ghost use Rattle.hdfs_model.specs.Namenode.{IsShaped, src_of};
+ghost use Rattle.hdfs_model.specs.Pipes.{IsSetup, WriteOpened, WriteNotOpened, FollowsOn, Sent, NotSent, IsAwaited, Acknowledged, NotAcknowledged, WriteEnded};
 ghost use Rattle.hdfs_model.specs.Shown.{Opened, NotOpened, Given, NotGiven, Ended};
 
 use crate::mem_cluster::MemCluster;
+use crate::mem_link::MemLink;
 use crate::namenode::{STANDBY, exception, last_answer};
 use crate::read_link::{MemRead, next_packet, opened};
+use crate::write_link::MemWrite;
 use hdfs_model::{
-    Answer, Ask, AskFault, Cluster, LastAnswer, LinkFault, OpenRead, ReadAsk, ReadPlace,
+    Answer, Ask, AskFault, Cluster, LastAnswer, LinkFault, OpenRead, ReadAsk, ReadPlace, Setup,
 };
-use hdfs_wire::{NoMemory, ReadPacket};
+use hdfs_wire::{Ack, NoMemory, ReadPacket, WritePacket};
 
 /// The path that an ask names.
 fn source(ask: &Ask) -> &str
@@ -39,11 +42,13 @@ impl MemCluster {
 
 impl Cluster for MemCluster {
     ghost use Rattle.hdfs_cluster.specs.MemShown.{shown_of, MemServes, CountsNothing, AsksPacket};
-    ghost use Rattle.hdfs_cluster.specs.Laws.{active_law};
+    ghost use Rattle.hdfs_cluster.specs.Laws.{active_law, writes_law};
 
     ghost shown = { shown_of };
 
     ghost serves = { MemServes };
+
+    ghost ends = { λ old link new. WriteEnded (shown_of old) link (shown_of new) };
 
     ghost serves_rows = { λ old new i ask result serves. serves.served };
 
@@ -71,11 +76,11 @@ impl Cluster for MemCluster {
         ensures counted { CountsNothing self.old self.new }
     {
         let uuid = ask.node.datanode_uuid.as_str();
-        let (base, before) = self.nodes.read(uuid, ask.block.block_id)?;
+        let (base, before) = self.nodes.read(self.alloc, uuid, ask.block.block_id)?;
         let told = opened(self.alloc, ask, before)?;
         let chunk_start = ask.offset - ask.offset % self.config.chunk;
         let place = chunk_start.min(base.as_slice().len() as u64);
-        let link = self.reads.insert(MemRead {
+        let link = self.links.insert(MemLink::Read(MemRead {
             told,
             place: ReadPlace {
                 block: ask.block.block_id,
@@ -84,7 +89,7 @@ impl Cluster for MemCluster {
                 base,
                 place,
             },
-        })?;
+        }))?;
         Ok(link as u64)
     }
 
@@ -96,7 +101,7 @@ impl Cluster for MemCluster {
         // A fault line acts at exactly its packet.
         ensures asks { IfSome ((shown_of self.old).reads link) (λ read. AsksPacket self.old self.new read.node.datanode_uuid result) }
     {
-        let Some(read) = self.reads.get_mut(link as usize) else {
+        let Some(MemLink::Read(read)) = self.links.get(link as usize) else {
             unreachable!();
         };
         let packet = next_packet(&read.place, self.config.limit)?;
@@ -106,7 +111,10 @@ impl Cluster for MemCluster {
         {
             return Err(LinkFault::Broken);
         }
-        read.move_on(packet.payload.len() as u64);
+        let Some(open) = self.links.get_mut(link as usize) else {
+            unreachable!();
+        };
+        open.move_on(packet.payload.len() as u64);
         Ok(packet)
     }
 
@@ -116,9 +124,64 @@ impl Cluster for MemCluster {
         ensures kept { result ≡ false }
         ensures counted { CountsNothing self.old self.new }
     {
-        let _ended = self.reads.try_remove(link as usize);
+        let _ended = self.links.try_remove(link as usize);
         false
     }
+
+    /// There is no memory for a block on a datanode that isn't there.
+    fn open_write(&mut self, setup: Setup) -> Result<u64, LinkFault>
+        requires { IsSetup setup }
+        ensures ok { IfOk result (λ link. WriteOpened (shown_of self.old) setup link (shown_of self.new)) }
+        ensures err { IfErr result (λ fault. WriteNotOpened (shown_of self.old) setup fault (shown_of self.new)) }
+        ensures counted { CountsNothing self.old self.new }
+    {
+        let key = self.links.vacant_key();
+        let locs = setup.locs.as_slice();
+        let base = self
+            .nodes
+            .enter_all(self.alloc, locs, setup.block.block_id, key as u64)?;
+        let write = MemWrite::new(self.alloc, setup, base);
+        let link = self.links.insert(MemLink::Write(write))?;
+        Ok(link as u64)
+    }
+
+    fn send(&mut self, link: u64, packet: &WritePacket) -> Result<(), LinkFault>
+        requires { FollowsOn (shown_of self.old) link packet.now }
+        ensures ok { OnOk result (Sent (shown_of self.old) link packet.now (shown_of self.new)) }
+        ensures err { IfErr result (λ fault. NotSent (shown_of self.old) link packet.now fault (shown_of self.new)) }
+        ensures counted { CountsNothing self.old self.new }
+    {
+        let Some(open) = self.links.get_mut(link as usize) else {
+            unreachable!();
+        };
+        open.send(self.alloc, &mut self.nodes, link, packet)?;
+        Ok(())
+    }
+
+    fn ack(&mut self, link: u64) -> Result<Ack, LinkFault>
+        requires { IsAwaited (shown_of self.old) link }
+        ensures ok { IfOk result (λ ack. Acknowledged (shown_of self.old) link ack (shown_of self.new)) }
+        ensures err { IfErr result (λ fault. NotAcknowledged (shown_of self.old) link fault (shown_of self.new)) }
+        ensures counted { CountsNothing self.old self.new }
+    {
+        let Some(open) = self.links.get_mut(link as usize) else {
+            unreachable!();
+        };
+        Ok(open.ack(self.alloc)?)
+    }
+
+    fn end_write(&mut self, link: u64)
+        requires { IsSome ((shown_of self.old).writes link) }
+        ensures ends { WriteEnded (shown_of self.old) link (shown_of self.new) }
+        ensures ended { WriteEnded (shown_of self.old) link (shown_of self.new) }
+        ensures counted { CountsNothing self.old self.new }
+    {
+        let _gone = self.links.try_remove(link as usize);
+    }
+
+    ghost ends_row = { λ old new link ended. ended };
+
+    ghost shows_writes = { writes_law };
 
     ghost active_below = { active_law };
 }

@@ -1,20 +1,23 @@
-//! A datanode in memory: the blocks that it holds, and which of its packets break.
-ghost use Rattle.std.specs.Prelude.{◌≡◌, ◌≢◌, ◌+◌, ◌-◌, ◌^◌, ◌<◌, ◌≤◌, ℕ, [], true, false, Bool, Some, None, unwrap_or, min, OnOk, OnErr, IfOk, option_map, if◌then◌else◌};
+//! A datanode in memory: its replicas of blocks, and which of its packets break.
+ghost use Rattle.std.specs.Prelude.{◌≡◌, ◌≢◌, ◌+◌, ◌-◌, ◌^◌, ◌<◌, ◌≤◌, ◌==◌, ◌&&◌, ℕ, [], true, false, Bool, Some, None, is_some, min, OnOk, OnErr, IfOk, if◌then◌else◌};
 ghost use Rattle.std.specs.Ordering.{nat_cmp};
 ghost use Rattle.std.specs.BTreeMap.{get};
 ghost use Rattle.std.specs.BTreeSet.{contains};
+ghost use Rattle.hdfs_model.specs.Sending.{put};
 ghost use Rattle.hdfs_cluster.specs.Memory.{failed};
+ghost use Rattle.hdfs_cluster.specs.Replicas.{held_by, whole_by, undisturbed_by, SameLinksOf, SameReplica};
 
+use crate::replica::{Piece, Replica};
 use bytes::Bytes;
 use hdfs_wire::NoMemory;
 use std::alloc::Global;
 use std::collections::{BTreeMap, BTreeSet};
 
-/// A datanode: the bytes that it holds of each block, how often it has failed, how many packets were asked of it, and
-/// which of them break.
+/// A datanode: its replicas by their blocks, how often it has failed, how many packets were asked of it, and which of them
+/// break.
 #[derive(Drop)]
 pub struct Datanode {
-    pub(crate) blocks: BTreeMap<u64, Bytes>,
+    pub(crate) blocks: BTreeMap<u64, Replica>,
     pub(crate) faults: u64,
     pub(crate) packets: u64,
     pub(crate) broken: BTreeSet<u64>,
@@ -22,6 +25,8 @@ pub struct Datanode {
 }
 
 impl Datanode {
+    ghost use Rattle.hdfs_cluster.specs.Blocks.{ChangesBlock};
+
     /// A datanode that holds nothing and never fails.
     pub(crate) fn new(alloc: Global) -> Datanode
         ensures blocks { (block : ℕ) → get nat_cmp result.blocks block ≡ None }
@@ -37,14 +42,89 @@ impl Datanode {
         }
     }
 
-    /// Takes the bytes of a block.
-    pub(crate) fn hold(&mut self, block: u64, bytes: Bytes) -> Result<(), NoMemory>
-        ensures held { OnOk result (get nat_cmp self.new.blocks block ≡ Some bytes) }
-        ensures others { (other : ℕ) → other ≢ block → get nat_cmp self.new.blocks other ≡ get nat_cmp self.old.blocks other }
-        ensures same { (self.new.faults ≡ self.old.faults) × (self.new.packets ≡ self.old.packets) × (self.new.broken ≡ self.old.broken) }
+    /// Sees to it that there is a replica of a block, if only of no bytes.
+    fn make(&mut self, alloc: Global, block: u64) -> Result<(), NoMemory>
+        ensures there { OnOk result (is_some (get nat_cmp self.new.blocks block) ≡ true) }
+        ensures same { SameReplica (get nat_cmp self.old.blocks block) (get nat_cmp self.new.blocks block) }
+        ensures rest { ChangesBlock block self.old self.new }
     {
-        self.blocks.insert(block, bytes)?;
+        if !self.blocks.contains_key(&block) {
+            self.blocks.insert(block, Replica::new(alloc))?;
+        }
         Ok(())
+    }
+
+    /// Takes the bytes of a block.
+    pub(crate) fn hold(&mut self, alloc: Global, block: u64, bytes: Bytes) -> Result<(), NoMemory>
+        ensures held { OnOk result (held_by (get nat_cmp self.new.blocks block) ≡ bytes) }
+        ensures links { SameLinksOf (get nat_cmp self.old.blocks block) (get nat_cmp self.new.blocks block) }
+        ensures rest { ChangesBlock block self.old self.new }
+    {
+        self.make(alloc, block)?;
+        let Some(replica) = self.blocks.get_mut(&block) else {
+            unreachable!();
+        };
+        replica.hold(bytes);
+        Ok(())
+    }
+
+    /// The bytes that it holds of a block, without a copy of them where they were read before.
+    pub(crate) fn read(&mut self, alloc: Global, block: u64) -> Result<Bytes, NoMemory>
+        ensures bytes { IfOk result (λ bytes. bytes ≡ held_by (get nat_cmp self.old.blocks block)) }
+        ensures same { SameReplica (get nat_cmp self.old.blocks block) (get nat_cmp self.new.blocks block) }
+        ensures rest { ChangesBlock block self.old self.new }
+    {
+        match self.blocks.get_mut(&block) {
+            Some(replica) => Ok(replica.read(alloc)?),
+            None => Ok(Bytes::new()),
+        }
+    }
+
+    /// Takes memory for a piece of a block, of which nothing is seen before it is taken.
+    pub(crate) fn offer(&mut self, alloc: Global, block: u64, piece: Piece) -> Result<(), NoMemory>
+        ensures offered { OnOk result (whole_by (get nat_cmp self.new.blocks block)
+            ≡ put (held_by (get nat_cmp self.old.blocks block)) piece.at piece.bytes) }
+        ensures same { SameReplica (get nat_cmp self.old.blocks block) (get nat_cmp self.new.blocks block) }
+        ensures rest { ChangesBlock block self.old self.new }
+    {
+        self.make(alloc, block)?;
+        let Some(replica) = self.blocks.get_mut(&block) else {
+            unreachable!();
+        };
+        replica.offer(piece)?;
+        Ok(())
+    }
+
+    /// Takes the piece of a block that a link has offered.
+    pub(crate) fn take(&mut self, block: u64, link: u64)
+        ensures bytes { held_by (get nat_cmp self.new.blocks block) ≡ whole_by (get nat_cmp self.old.blocks block) }
+        ensures whole { whole_by (get nat_cmp self.new.blocks block) ≡ whole_by (get nat_cmp self.old.blocks block) }
+        ensures links { (other : ℕ) → undisturbed_by (get nat_cmp self.new.blocks block) other
+            ≡ (undisturbed_by (get nat_cmp self.old.blocks block) other && link == other) }
+        ensures rest { ChangesBlock block self.old self.new }
+    {
+        if let Some(replica) = self.blocks.get_mut(&block) {
+            replica.take(link);
+        }
+    }
+
+    /// Notes a link that is opened on a block, and answers what is held of that.
+    pub(crate) fn enter(&mut self, alloc: Global, block: u64, link: u64) -> Result<Bytes, NoMemory>
+        ensures value { IfOk result (λ bytes. bytes ≡ held_by (get nat_cmp self.old.blocks block)) }
+        ensures own { OnOk result (undisturbed_by (get nat_cmp self.new.blocks block) link ≡ true) }
+        ensures others { (other : ℕ) → (link ≡ other → ⊥) → undisturbed_by (get nat_cmp self.new.blocks block) other
+            ≡ undisturbed_by (get nat_cmp self.old.blocks block) other }
+        ensures kept { undisturbed_by (get nat_cmp self.old.blocks block) link ≡ true
+            → undisturbed_by (get nat_cmp self.new.blocks block) link ≡ true }
+        ensures bytes { held_by (get nat_cmp self.new.blocks block) ≡ held_by (get nat_cmp self.old.blocks block) }
+        ensures rest { ChangesBlock block self.old self.new }
+    {
+        self.make(alloc, block)?;
+        let Some(replica) = self.blocks.get_mut(&block) else {
+            unreachable!();
+        };
+        replica.enter(link)?;
+        Ok(replica.read(alloc)?)
     }
 
     /// Notes that a packet breaks, where it was not asked for yet.
@@ -79,15 +159,5 @@ impl Datanode {
         }
         self.faults += 1;
         true
-    }
-
-    /// The bytes that it holds of a block, without a copy of them.
-    pub(crate) fn read(&self, block: u64) -> Result<Bytes, NoMemory>
-        ensures { IfOk result (λ bytes. bytes ≡ unwrap_or (get nat_cmp self.now.blocks block) []) }
-    {
-        match self.blocks.get(&block) {
-            Some(bytes) => Ok(bytes.clone()?),
-            None => Ok(Bytes::new()),
-        }
     }
 }

@@ -1,10 +1,14 @@
 //! The datanodes of a cluster in memory.
-ghost use Rattle.std.specs.Prelude.{◌≡◌, ◌≢◌, ◌⊎◌, ◌<◌, ℕ, [], true, false, List, IsSome, is_some, string_bytes, OnOk, OnErr, IfOk};
+ghost use Rattle.std.specs.Prelude.{◌≡◌, ◌≢◌, ◌⊎◌, ◌<◌, ◌==◌, ◌&&◌, ℕ, [], true, false, List, map, IsSome, is_some, string_bytes, OnOk, OnErr, IfOk, if◌then◌else◌};
 ghost use Rattle.std.specs.BTreeMap.{get_by_text};
+ghost use Rattle.hdfs_model.specs.Sending.{put};
 ghost use Rattle.hdfs_cluster.specs.Memory.{first_node, uuid_of};
+ghost use Rattle.hdfs_cluster.specs.Replicas.{held_by, undisturbed_by};
 
 use crate::datanode::Datanode;
+use crate::replica::Piece;
 use bytes::Bytes;
+use hdfs_model::DatanodeInfo;
 use hdfs_wire::NoMemory;
 use std::alloc::Global;
 use std::collections::BTreeMap;
@@ -27,7 +31,7 @@ fn uuid(alloc: Global, number: u32) -> Result<String, NoMemory>
 }
 
 impl Datanodes {
-    ghost use Rattle.hdfs_cluster.specs.Nodes.{faults_of, breaks_in, packets_of, node_at, held_in, SameFaults, PlansOnly, CountsOnly, Asked};
+    ghost use Rattle.hdfs_cluster.specs.Nodes.{faults_of, breaks_in, packets_of, node_at, replica_at, held_in, whole_in, undisturbed_in, is_named, is_on, is_here, SameHeld, SameFaults, SameNodes, PlansOnly, CountsOnly, Asked};
 
     /// So many datanodes that hold nothing and never fail.
     pub(crate) fn new(alloc: Global, count: u32) -> Result<Datanodes, NoMemory>
@@ -46,16 +50,75 @@ impl Datanodes {
     }
 
     /// Gives the first datanode the bytes of a block.
-    pub(crate) fn hold(&mut self, block: u64, bytes: Bytes) -> Result<(), NoMemory>
+    pub(crate) fn hold(&mut self, alloc: Global, block: u64, bytes: Bytes) -> Result<(), NoMemory>
         ensures held { OnOk result (held_in self.new first_node block ≡ bytes) }
         ensures others { (d : List ℕ) (other : ℕ) → other ≢ block → held_in self.new d other ≡ held_in self.old d other }
-        ensures faults { (d : List ℕ) → SameFaults (node_at self.old d) (node_at self.new d) }
-        ensures count { self.new.count ≡ self.old.count }
+        ensures links { (d : List ℕ) (other link : ℕ) → undisturbed_in self.new d other link ≡ undisturbed_in self.old d other link }
+        ensures rest { SameNodes self.old self.new }
     {
         let Some(node) = self.by_uuid.get_mut(FIRST_NODE) else {
             unreachable!();
         };
-        node.hold(block, bytes)
+        node.hold(alloc, block, bytes)
+    }
+
+    /// Takes memory for a piece of a block, of which nothing is seen before it is taken. There is none on a datanode that
+    /// isn't there.
+    pub(crate) fn offer(
+        &mut self,
+        alloc: Global,
+        uuid: &str,
+        block: u64,
+        piece: Piece,
+    ) -> Result<(), NoMemory>
+        ensures offered { OnOk result (whole_in self.new uuid.now block ≡ put (held_in self.old uuid.now block) piece.at piece.bytes) }
+        ensures others { (d : List ℕ) → d ≢ uuid.now → node_at self.new d ≡ node_at self.old d }
+        ensures same { SameHeld self.old self.new }
+        ensures rest { SameNodes self.old self.new }
+    {
+        match self.by_uuid.get_mut(uuid) {
+            Some(node) => node.offer(alloc, block, piece),
+            None => Err(NoMemory),
+        }
+    }
+
+    /// Takes the piece of a block that a link has offered. It disturbs all other links there.
+    pub(crate) fn take(&mut self, uuid: &str, block: u64, link: u64)
+        ensures bytes { (d : List ℕ) (b : ℕ) → held_in self.new d b
+            ≡ (if is_here uuid.now block d b then whole_in self.old d b else held_in self.old d b) }
+        ensures whole { (d : List ℕ) (b : ℕ) → whole_in self.new d b ≡ whole_in self.old d b }
+        ensures links { (d : List ℕ) (b other : ℕ) → undisturbed_in self.new d b other
+            ≡ (if is_here uuid.now block d b then undisturbed_in self.old d b other && link == other
+            else undisturbed_in self.old d b other) }
+        ensures rest { SameNodes self.old self.new }
+    {
+        match self.by_uuid.get_mut(uuid) {
+            Some(node) => node.take(block, link),
+            None => {}
+        }
+    }
+
+    /// Notes a link that is opened on a block, and answers what is held of that. There is no memory for one on a datanode that
+    /// isn't there.
+    pub(crate) fn enter(
+        &mut self,
+        alloc: Global,
+        uuid: &str,
+        block: u64,
+        link: u64,
+    ) -> Result<Bytes, NoMemory>
+        ensures value { IfOk result (λ bytes. bytes ≡ held_in self.old uuid.now block) }
+        ensures own { OnOk result (undisturbed_in self.new uuid.now block link ≡ true) }
+        ensures others { (d : List ℕ) (b other : ℕ) → (link ≡ other → ⊥)
+            → undisturbed_in self.new d b other ≡ undisturbed_in self.old d b other }
+        ensures kept { (d : List ℕ) (b : ℕ) → undisturbed_in self.old d b link ≡ true → undisturbed_in self.new d b link ≡ true }
+        ensures bytes { (d : List ℕ) (b : ℕ) → held_in self.new d b ≡ held_in self.old d b }
+        ensures rest { SameNodes self.old self.new }
+    {
+        match self.by_uuid.get_mut(uuid) {
+            Some(node) => node.enter(alloc, block, link),
+            None => Err(NoMemory),
+        }
     }
 
     /// Notes that a packet of a datanode breaks. A packet that was given already cannot, nor can one of a datanode that
@@ -94,12 +157,19 @@ impl Datanodes {
     }
 
     /// The bytes that a datanode holds of a block, and how often it has failed.
-    pub(crate) fn read(&self, uuid: &str, block: u64) -> Result<(Bytes, u64), NoMemory>
-        ensures bytes { IfOk result (λ r. r.0 ≡ held_in self.now uuid.now block) }
-        ensures faults { IfOk result (λ r. r.1 ≡ faults_of (node_at self.now uuid.now)) }
+    pub(crate) fn read(
+        &mut self,
+        alloc: Global,
+        uuid: &str,
+        block: u64,
+    ) -> Result<(Bytes, u64), NoMemory>
+        ensures bytes { IfOk result (λ r. r.0 ≡ held_in self.old uuid.now block) }
+        ensures faults { IfOk result (λ r. r.1 ≡ faults_of (node_at self.old uuid.now)) }
+        ensures same { SameHeld self.old self.new }
+        ensures rest { SameNodes self.old self.new }
     {
-        match self.by_uuid.get(uuid) {
-            Some(node) => Ok((node.read(block)?, node.faults)),
+        match self.by_uuid.get_mut(uuid) {
+            Some(node) => Ok((node.read(alloc, block)?, node.faults)),
             None => Ok((Bytes::new(), 0)),
         }
     }

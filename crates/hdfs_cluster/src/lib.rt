@@ -8,20 +8,27 @@ mod datanode;
 mod datanodes;
 mod loaded;
 mod mem_cluster;
+mod mem_link;
 mod mem_settings;
 mod namenode;
 mod namespace;
+mod pipeline;
+#[cfg(test)]
+mod pipeline_tests;
 mod read_link;
+mod replica;
 mod storing;
 #[cfg(test)]
 mod tests;
+mod write_link;
 
 pub use counts::Counts;
 pub use hdfs_model::{
     AddFault, Answer, ArgFault, Ask, AskFault, Attributes, Block, BlockEntry, Cluster, Command,
     DatanodeId, DatanodeInfo, Entry, Fault, FaultLine, FileEntry, HdfsError, LastAnswer, Line,
-    LinkFault, LocatedBlock, LocatedBlocks, OpenRead, ReadAsk, ReadKind, ReadPlace, Reply,
-    ServerDefaults, Settings, Store, Token, TransferFault, is_path, nearest_ancestor, parent_of,
+    LinkFault, LocatedBlock, LocatedBlocks, OpenRead, OpenWrite, ReadAsk, ReadKind, ReadPlace,
+    Reply, ServerDefaults, Settings, Setup, Stage, Store, Token, TransferFault, is_path,
+    nearest_ancestor, parent_of,
 };
 pub use mem_cluster::MemCluster;
 pub use mem_settings::MemSettings;

@@ -12,9 +12,9 @@ ghost use Rattle.hdfs_cluster.specs.Nodes.{node_at, breaks_in, packets_of};
 
 use crate::datanodes::Datanodes;
 use crate::loaded::Kept;
+use crate::mem_link::MemLink;
 use crate::mem_settings::{Config, MemSettings};
 use crate::namespace::Namespace;
-use crate::read_link::MemRead;
 use hdfs_model::LastAnswer;
 use hdfs_wire::NoMemory;
 use slab::Slab;
@@ -28,7 +28,7 @@ pub struct MemCluster {
     pub(crate) last: LastAnswer,
     pub(crate) space: Namespace,
     pub(crate) nodes: Datanodes,
-    pub(crate) reads: Slab<MemRead>,
+    pub(crate) links: Slab<MemLink>,
     pub(crate) loaded: Vec<Kept>,
     ghost bare: { (p : is_nil loaded.items ≡ true) (q : List ℕ) → is_bare_at (bytes_eq root q) (get_by_text space.names q) ≡ true },
     ghost planned: { (d : List ℕ) (packet : ℕ) → breaks_in (node_at nodes d) packet ≡ true
@@ -56,7 +56,7 @@ impl MemCluster {
             last: LastAnswer::Fine,
             space: Namespace::new(alloc)?,
             nodes: Datanodes::new(alloc, settings.nodes)?,
-            reads: Slab::new(alloc),
+            links: Slab::new(alloc),
             loaded: Vec::new(alloc),
         })
     }

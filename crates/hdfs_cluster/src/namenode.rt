@@ -3,7 +3,8 @@ ghost use Rattle.std.specs.Prelude.{◌≡◌, ◌⊎◌, ◌<◌, ◌^◌, ℕ,
 ghost use Rattle.std.specs.List.{list_any};
 ghost use Rattle.std.specs.BTreeMap.{get_by_text};
 ghost use Rattle.hdfs_model.specs.Files.{no_file, is_file};
-ghost use Rattle.hdfs_model.specs.Namenode.{last_of, LocatesBlock, LocatesBlocks, Follow, uuids};
+ghost use Rattle.hdfs_model.specs.Namenode.{last_of, LocatesBlock, LocatesBlocks, Follow};
+ghost use Rattle.hdfs_model.specs.Sending.{uuids};
 ghost use Rattle.hdfs_model.specs.Paths.{ancestors};
 ghost use Rattle.hdfs_model.specs.Picture.{kinds_in};
 ghost use Rattle.hdfs_cluster.specs.Answering.{LocatesFile, StandsForRefusal};

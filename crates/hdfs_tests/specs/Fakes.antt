@@ -3,6 +3,7 @@ use Rattle.std.specs.Prelude.{◌≡◌, ◌<◌, ℕ, [], Some, None}
 use Rattle.std.proofs.lemmas.Option.{none-some}
 use Rattle.hdfs_model.specs.Picture.{Picture}
 use Rattle.slab.specs.Slab as slab
+use Rattle.hdfs_model.specs.Pipes.{ShowsWrites}
 use Rattle.hdfs_model.specs.Shown.{Shown}
 use Rattle.hdfs_tests.specs.declared.fake_cluster.FakeCluster.{FakeCluster}
 
@@ -14,9 +15,14 @@ shown_of fake = record {
   last = fake.last;
   namenodes = 1;
   reads = λ link. slab.get fake.reads link;
+  writes = λ link. None;
   loaded = [];
 }
 
 -- no picture is told
 pub no_picture : (fake : FakeCluster) (p : Picture) → (shown_of fake).picture ≡ Some p → p.active < (shown_of fake).namenodes
 no_picture fake p told = absurd (none-some p told)
+
+-- and no link is written to
+pub no_writes : (fake : FakeCluster) (p : Picture) → (shown_of fake).picture ≡ Some p → ShowsWrites (shown_of fake) p
+no_writes fake p told = absurd (none-some p told)

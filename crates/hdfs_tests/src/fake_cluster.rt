@@ -5,9 +5,9 @@ ghost use Rattle.hdfs_tests.specs.Blocks.{IsPair};
 use bytes::Bytes;
 use hdfs_model::{
     Answer, Ask, AskFault, Block, Cluster, DatanodeId, DatanodeInfo, LastAnswer, LinkFault,
-    LocatedBlock, LocatedBlocks, OpenRead, ReadAsk, Token,
+    LocatedBlock, LocatedBlocks, OpenRead, ReadAsk, Setup, Token,
 };
-use hdfs_wire::{Blob, List, NoMemory, PacketHeader, ReadPacket, Text};
+use hdfs_wire::{Ack, Blob, List, NoMemory, PacketHeader, ReadPacket, Text, WritePacket};
 use slab::Slab;
 use std::alloc::Global;
 use std::collections::VecDeque;
@@ -166,14 +166,21 @@ fn packet(alloc: Global, offset: i64, bytes: &'static [u8]) -> Result<ReadPacket
 }
 
 impl Cluster for FakeCluster {
+    ghost use Rattle.hdfs_model.specs.Pipes.{WriteEnded};
     ghost use Rattle.hdfs_model.specs.Shown.{Served};
-    ghost use Rattle.hdfs_tests.specs.Fakes.{shown_of, no_picture};
+    ghost use Rattle.hdfs_tests.specs.Fakes.{shown_of, no_picture, no_writes};
 
     ghost shown = { shown_of };
 
     ghost serves = { λ old i ask result new. Served (shown_of old) i ask result (shown_of new) };
 
     ghost serves_rows = { λ old new i ask result served. served };
+
+    ghost ends = { λ old link new. WriteEnded (shown_of old) link (shown_of new) };
+
+    ghost ends_row = { λ old new link ended. ended };
+
+    ghost shows_writes = { no_writes };
 
     fn namenodes(&self) -> u32 {
         1
@@ -228,6 +235,21 @@ impl Cluster for FakeCluster {
         let _ended = self.reads.try_remove(link as usize);
         false
     }
+
+    /// Nothing is written to it.
+    fn open_write(&mut self, _setup: Setup) -> Result<u64, LinkFault> {
+        Err(LinkFault::NoMemory)
+    }
+
+    fn send(&mut self, _link: u64, _packet: &WritePacket) -> Result<(), LinkFault> {
+        Err(LinkFault::NoMemory)
+    }
+
+    fn ack(&mut self, _link: u64) -> Result<Ack, LinkFault> {
+        Err(LinkFault::NoMemory)
+    }
+
+    fn end_write(&mut self, _link: u64) {}
 
     ghost active_below = { no_picture };
 }

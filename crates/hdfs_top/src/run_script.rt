@@ -52,7 +52,8 @@ fn run_commands<K: Sink, C: Store>(
     requires namenode { 0 < (C.shown store.old).namenodes }
     requires paths { list_all has_path commands.now ≡ true }
     ensures ran { RanCommands commands.now (C.shown store.old) (C.shown store.new) (K.shown sink.old) result (K.shown sink.new) }
-    ensures noted { result ≡ 2 → NotesStop commands.now (C.shown store.old) (C.shown store.new) (K.shown sink.old) result note.new (K.shown sink.new) }
+    ensures noted { result ≡ 2
+        → NotesStop commands.now (C.shown store.old) (C.shown store.new) (K.shown sink.old) result note.new (K.shown sink.new) }
 {
     let Ok(settings) = script_settings(alloc) else {
         return 3;

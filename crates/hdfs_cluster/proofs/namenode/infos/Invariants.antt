@@ -1,5 +1,5 @@
 use Rattle.std.proofs.Common.{◌≡◌, take}
-use Rattle.hdfs_model.specs.Namenode.{uuids}
+use Rattle.hdfs_model.specs.Sending.{uuids}
 use Rattle.hdfs_cluster.proofs.namenode.infos.Given as goal
 
 abbrev pub invariant-loop-uuid : goal.invariant-loop-uuid

@@ -25,9 +25,9 @@ returns-clause-files c =
     let stores = subst (λ table. StoresBytes (table_of table.entries) (held_in c.store_bytes.new.nodes) blocks bytes) (sym c.add_file.ensures.table) c.in_ok-blocks.ensures.stores in
     let kept = subst (λ table. KeepsBlocks (table_of space.table.entries) (table_of table.entries) (held_in c.args.nodes.now) (held_in c.store_bytes.new.nodes)) (sym c.add_file.ensures.table) c.store_bytes.ensures.kept in
     on_ok_weaker c.add_file.result
-    (λ named active defaults reads state was.
-    let p' = picture_at c.add_file.new.self c.store_bytes.new.nodes active defaults reads in
-    agrees_with_file (picture_at space c.args.nodes.now active defaults reads) p' state path content (entries.File file) was
+    (λ named active defaults links state was.
+    let p' = picture_at c.add_file.new.self c.store_bytes.new.nodes active defaults links in
+    agrees_with_file (picture_at space c.args.nodes.now active defaults links) p' state path content (entries.File file) was
     kept
     (subst (λ names. Names (get_by_text names) (get_by_text c.add_file.new.self.names) path file) c.store_bytes.ensures.names named)
     (refl, refl, stores_in p' blocks bytes stores.stores))

@@ -17,4 +17,4 @@ returns-clause-goes g c =
 pub returns-in-Err-NoMemory-clause-goes : goal.returns-in-Err-NoMemory-clause-goes
 returns-in-Err-NoMemory-clause-goes g c =
     let kept = c.in-Err-NoMemory.ensures.err in
-    still_goes (g.C.Cluster.shown c.args.cluster.now) (g.C.Cluster.shown c.open_read.new.self) c.args.self.now c.requires.holds kept.later kept.last kept.reads kept.picture
+    still_goes (g.C.Cluster.shown c.args.cluster.now) (g.C.Cluster.shown c.open_read.new.self) c.args.self.now c.requires.holds kept.later kept.last kept.reads kept.writes kept.picture

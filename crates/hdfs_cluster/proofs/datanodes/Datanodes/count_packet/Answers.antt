@@ -2,7 +2,7 @@
 use Rattle.std.proofs.Common.{◌≡◌, Option, Some, refl, sym, ap, subst, rules}
 use Rattle.std.proofs.lemmas.Map.Text.{btree_map_updates_text}
 use Rattle.std.specs.Ordering.{nat_cmp}
-use Rattle.std.specs.BTreeMap.{get_by_text}
+use Rattle.std.specs.BTreeMap.{get, get_by_text}
 use Rattle.std.specs.BTreeSet.{contains}
 use Rattle.hdfs_cluster.specs.declared.datanode.Datanode.{Datanode}
 use Rattle.hdfs_cluster.specs.Memory.{first_node, uuid_of}
@@ -46,4 +46,4 @@ returns-in-Some-clause-rest c =
     let after = get_by_text (c.get_mut.follows.lender w) in
     let updates = btree_map_updates_text c.args.uuid.now c.args.self.now.by_uuid (c.get_mut.follows.lender w) (Some w) ((c.get_mut.follows.holds w).3 (search rules)) in
     update_related look after c.args.uuid.now w updates CountsOnly counts_only_refl c.in-Some.node.now (sym c.in-Some.ensures.value)
-    (record { there = refl; bytes = search rules; packets = c.count_packet.ensures.grows; breaks = λ packet. ap (λ s. contains nat_cmp s packet) c.count_packet.ensures.broken })
+    (record { there = refl; replicas = λ block. ap (λ m. get nat_cmp m block) c.count_packet.ensures.blocks; packets = c.count_packet.ensures.grows; breaks = λ packet. ap (λ s. contains nat_cmp s packet) c.count_packet.ensures.broken })

@@ -1,5 +1,5 @@
 -- Each datanode is new, and `dn0` is the first of them.
-use Rattle.std.proofs.Common.{◌≡◌, ◌⊎◌, ⊎_elim, inl, inr, ℕ, ◌<◌, zero, suc, List, ◌∷◌, Some, refl, sym, ◌∙◌, ap, subst, rules, arith}
+use Rattle.std.proofs.Common.{◌≡◌, ◌⊎◌, ⊎_elim, inl, inr, ℕ, ◌<◌, zero, suc, List, ◌∷◌, Some, refl, sym, ◌∙◌, ap, subst, arith}
 use Rattle.std.proofs.lemmas.Bool.{cases_eq}
 use Rattle.std.proofs.lemmas.Fmt.{decimal_digit}
 use Rattle.std.proofs.lemmas.Map.Text.{btree_map_updates_text}
@@ -8,6 +8,7 @@ use Rattle.std.specs.Ordering.{nat_cmp}
 use Rattle.std.specs.Cmp.Lexicographic.{slice_cmp}
 use Rattle.std.specs.BTreeMap.{is_at, get_by_text}
 use Rattle.std.specs.String.{string_bytes}
+use Rattle.hdfs_cluster.specs.Replicas.{held_by}
 use Rattle.hdfs_cluster.specs.Memory.{first_node, uuid_of}
 use Rattle.hdfs_cluster.proofs.Nodes.{IsNew, new_none, update_all, update_some, update_here}
 use Rattle.hdfs_cluster.proofs.datanodes.Datanodes.new.Goals as goal
@@ -34,7 +35,7 @@ loop-number-preserved c =
     let key = string_bytes c.in_ok-uuid.field-0 in
     let updates = btree_map_updates_text key c.loop-number.by_uuid c.insert.new.self (Some w) c.in_ok-insert.ensures.updates in
     record {
-      are_new = update_all look after key w updates (λ d o. IsNew o) (record { bytes = search rules; faults = c.new.ensures.faults; packets = c.new.ensures.packets; breaks = c.new.ensures.broken }) c.loop-number.invariant.are_new;
+      are_new = update_all look after key w updates (λ d o. IsNew o) (record { replicas = c.new.ensures.blocks; faults = c.new.ensures.faults; packets = c.new.ensures.packets; breaks = c.new.ensures.broken }) c.loop-number.invariant.are_new;
       first = λ below. ⊎_elim
           (λ none. update_here look after key w updates first_node (c.in_ok-uuid.ensures ∙ first_uuid c.loop-number.number none))
           (λ more. update_some look after key w updates first_node (c.loop-number.invariant.first more))
@@ -49,7 +50,7 @@ pub invariant_of-result : goal.invariant_of-result
 invariant_of-result c = record { first = c.loop-number.invariant.first (omega arith); numbered = λ k below. c.loop-number.invariant.numbered k (omega (arith, below)) }
 
 pub returns-clause-held : goal.returns-clause-held
-returns-clause-held c = λ d. (c.loop-number.invariant.are_new d).bytes
+returns-clause-held c = λ d. λ block. ap held_by ((c.loop-number.invariant.are_new d).replicas block)
 
 pub returns-clause-faults : goal.returns-clause-faults
 returns-clause-faults c = λ d. (c.loop-number.invariant.are_new d).faults

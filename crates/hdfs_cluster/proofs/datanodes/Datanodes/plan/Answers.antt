@@ -4,7 +4,7 @@ use Rattle.std.proofs.lemmas.Bool.{cases_eq}
 use Rattle.std.proofs.lemmas.Result.{on_err_weaker}
 use Rattle.std.proofs.lemmas.Map.Text.{btree_map_updates_text}
 use Rattle.std.specs.Ordering.{nat_cmp}
-use Rattle.std.specs.BTreeMap.{get_by_text}
+use Rattle.std.specs.BTreeMap.{get, get_by_text}
 use Rattle.std.specs.BTreeSet.{contains}
 use Rattle.hdfs_cluster.specs.declared.datanode.Datanode.{Datanode}
 use Rattle.hdfs_cluster.specs.Memory.{first_node, uuid_of}
@@ -64,7 +64,7 @@ returns-clause-rest c =
     let after = get_by_text (c.get_mut.follows.lender w) in
     let updates = btree_map_updates_text c.as_str.result.now c.args.self.now.by_uuid (c.get_mut.follows.lender w) (Some w) ((c.get_mut.follows.holds w).3 (search rules)) in
     update_related look after c.as_str.result.now w updates PlansOnly plans_only_refl c.in-Some.node.now (sym c.in-Some.ensures.value)
-    (record { there = refl; bytes = search rules; faults = c.plan.ensures.same.1; packets = c.plan.ensures.same.2 })
+    (record { there = refl; replicas = λ block. ap (λ m. get nat_cmp m block) c.plan.ensures.same.0; faults = c.plan.ensures.same.1; packets = c.plan.ensures.same.2 })
 
 pub returns-clause-failed : goal.returns-clause-failed
 returns-clause-failed c =

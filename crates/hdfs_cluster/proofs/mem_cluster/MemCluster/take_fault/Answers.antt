@@ -4,7 +4,6 @@ use Rattle.std.proofs.lemmas.Bool.{false≢true}
 use Rattle.std.proofs.lemmas.List.{map-append}
 use Rattle.std.specs.BTreeMap.{get_by_text}
 use Rattle.slab.specs.Slab as slab
-use Rattle.std.specs.Option.{option_map}
 use Rattle.hdfs_cluster.specs.declared.loaded.Kept.{Kept}
 use Rattle.hdfs_cluster.specs.declared.loaded.Kept.TheVariants as keeps
 use Rattle.hdfs_cluster.specs.Lines.{line_of}
@@ -12,6 +11,8 @@ use Rattle.hdfs_cluster.specs.Memory.{is_nil, breaks, uuid_of}
 use Rattle.hdfs_cluster.specs.MemShown.{picture_of, picture_at}
 use Rattle.hdfs_cluster.proofs.Agreeing.{agrees_at}
 use Rattle.hdfs_cluster.specs.Nodes.{node_at, breaks_in, packets_of}
+use Rattle.hdfs_cluster.specs.Replicas.{held_by, undisturbed_by}
+use Rattle.hdfs_cluster.proofs.Places.{place_same}
 use Rattle.hdfs_cluster.proofs.NothingLoaded.{on_err, nothing_loaded}
 use Rattle.hdfs_cluster.proofs.Taking.{is_nil_push, breaks_push, breaks_pull, fault_at, breaks_fault}
 use Rattle.hdfs_cluster.proofs.mem_cluster.MemCluster.take_fault.Goals as goal
@@ -52,18 +53,20 @@ returns-clause-loads c =
     let m = c.args.self.now in
     let kept = keeps.Fault c.args.fault in
     let items : c.push_reserved.new.self.items ≡ m.loaded.items ++ kept ∷ [] = c.push_reserved.ensures.items ∙ ap (λ (xs : List Kept). xs ++ kept ∷ []) c.reserve.ensures.items in
-    let p' = picture_at m.space c.plan.new.self m.config.active m.config.defaults (λ link. option_map (λ r. r.place) (slab.get m.reads link)) in
+    let links = λ (d : List ℕ) (b link : ℕ). ap (λ o. undisturbed_by o link) ((c.plan.ensures.rest d).replicas b) in
+    let p' = picture_at m.space c.plan.new.self m.config.active m.config.defaults m.links in
     record {
-      rest = record { counts = record { calls = λ i. refl; links = refl; nodes = λ d. (c.plan.ensures.rest d).faults }; last = refl; namenodes = refl; reads = λ link. refl };
+      rest = record { counts = record { calls = λ i. refl; links = refl; nodes = λ d. (c.plan.ensures.rest d).faults }; last = refl; namenodes = refl; reads = λ link. refl; writes = λ link. refl };
       lines = ap (map line_of) items ∙ map-append line_of m.loaded.items (kept ∷ []);
-      picture = record { rest = record { files = record { names = λ path. refl; table = λ id. refl; held = λ node id. (c.plan.ensures.rest node).bytes id; defaults = refl }; reads = λ link. refl }; active = refl };
-      files = λ state was path. agrees_at (picture_of m) p' (record { table = λ id entry is. is; held = λ id entry is node. (c.plan.ensures.rest node).bytes id }) (get_by_text m.space.names path) (state.files path) (was path);
+      picture = record { rest = record { files = record { names = λ path. refl; table = λ id. refl; held = λ node id. ap held_by ((c.plan.ensures.rest node).replicas id); defaults = refl }; reads = λ link. refl; writes = λ link. place_same m.nodes c.plan.new.self links link (slab.get m.links link) }; active = refl };
+      files = λ state was path. agrees_at (picture_of m) p' (record { table = λ id entry is. is; held = λ id entry is node. ap held_by ((c.plan.ensures.rest node).replicas id) }) (get_by_text m.space.names path) (state.files path) (was path);
     }
 
 pub returns-in_err-plan-clause-err : goal.returns-in_err-plan-clause-err
 returns-in_err-plan-clause-err c =
     let m = c.args.self.now in
     on_err c.from_residual-in_err-plan.result
-    (nothing_loaded m.space m.space m.config.active m.config.defaults m.last m.config.namenodes m.loaded.items c.reserve.new.self.items m.nodes c.plan.new.self m.reads c.reserve.ensures.items refl
-    (record { table = λ id entry is. is; held = λ id entry is node. (c.plan.ensures.rest node).bytes id })
-    (λ d. (c.plan.ensures.rest d).faults))
+    (nothing_loaded m.space m.space m.config.active m.config.defaults m.last m.config.namenodes m.loaded.items c.reserve.new.self.items m.nodes c.plan.new.self m.links c.reserve.ensures.items refl
+    (record { table = λ id entry is. is; held = λ id entry is node. ap held_by ((c.plan.ensures.rest node).replicas id) })
+    (λ d. (c.plan.ensures.rest d).faults)
+    (λ d b link. ap (λ o. undisturbed_by o link) ((c.plan.ensures.rest d).replicas b)))

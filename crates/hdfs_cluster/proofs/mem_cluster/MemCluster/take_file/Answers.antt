@@ -3,7 +3,6 @@ use Rattle.std.proofs.Common.{◌≡◌, ℕ, List, [], ◌∷◌, ◌++◌, map
 use Rattle.std.specs.String.{string_bytes}
 use Rattle.std.proofs.lemmas.List.{map-append}
 use Rattle.slab.specs.Slab as slab
-use Rattle.std.specs.Option.{option_map}
 use Rattle.hdfs_model.specs.declared.store.Line.TheVariants as lines
 use Rattle.hdfs_model.specs.Loading.{with_file}
 use Rattle.hdfs_model.specs.Stores.{Agrees}
@@ -11,6 +10,7 @@ use Rattle.hdfs_cluster.specs.MemShown.{picture_at}
 use Rattle.hdfs_cluster.specs.declared.loaded.Kept.{Kept}
 use Rattle.hdfs_cluster.specs.declared.loaded.Kept.TheVariants as keeps
 use Rattle.hdfs_cluster.specs.Lines.{line_of}
+use Rattle.hdfs_cluster.proofs.Places.{place_same}
 use Rattle.hdfs_cluster.proofs.NothingLoaded.{on_err, nothing_loaded}
 use Rattle.hdfs_cluster.proofs.mem_cluster.MemCluster.take_file.Goals as goal
 
@@ -18,9 +18,10 @@ pub returns-in_err-store_file-clause-err : goal.returns-in_err-store_file-clause
 returns-in_err-store_file-clause-err c =
     let m = c.args.self.now in
     on_err c.from_residual-in_err-store_file.result
-    (nothing_loaded m.space c.store_file.new.space m.config.active m.config.defaults m.last m.config.namenodes m.loaded.items c.reserve.new.self.items m.nodes c.store_file.new.nodes m.reads c.reserve.ensures.items c.in_err-store_file.ensures.err
+    (nothing_loaded m.space c.store_file.new.space m.config.active m.config.defaults m.last m.config.namenodes m.loaded.items c.reserve.new.self.items m.nodes c.store_file.new.nodes m.links c.reserve.ensures.items c.in_err-store_file.ensures.err
     c.store_file.ensures.kept
-    (λ d. (c.store_file.ensures.faults d).faults))
+    (λ d. (c.store_file.ensures.faults d).faults)
+    c.store_file.ensures.links)
 
 pub returns-clause-loads : goal.returns-clause-loads
 returns-clause-loads c =
@@ -30,14 +31,13 @@ returns-clause-loads c =
     let name : string_bytes c.in_ok-name.name ≡ c.args.path = search rules in
     let held : c.in_ok-bytes.held ≡ c.args.bytes = c.in_ok-bytes.ensures.1 in
     let told : c.in_ok-bytes.bytes ≡ c.args.bytes = c.in_ok-bytes.ensures.0 in
-    let reads = λ (link : ℕ). option_map (λ r. r.place) (slab.get m.reads link) in
     record {
-      rest = record { counts = record { calls = λ i. refl; links = refl; nodes = λ d. (c.store_file.ensures.faults d).faults }; last = refl; namenodes = refl; reads = λ link. refl };
+      rest = record { counts = record { calls = λ i. refl; links = refl; nodes = λ d. (c.store_file.ensures.faults d).faults }; last = refl; namenodes = refl; reads = λ link. refl; writes = λ link. refl };
       lines = ap (map line_of) items ∙ map-append line_of m.loaded.items (kept ∷ []) ∙ ap (λ (bytes : List ℕ). map line_of m.loaded.items ++ lines.File c.args.path c.args.attributes bytes ∷ []) told;
-      picture = record { active = refl; defaults = refl; reads = λ link. refl };
+      picture = record { active = refl; defaults = refl; reads = λ link. refl; writes = λ link. place_same m.nodes c.store_file.new.nodes c.store_file.ensures.links link (slab.get m.links link) };
       files = λ state was.
-          (let p' = picture_at c.store_file.new.space c.store_file.new.nodes m.config.active m.config.defaults reads in
-          let here = c.in_ok-store_file.ensures.files m.config.active m.config.defaults reads state was in
+          (let p' = picture_at c.store_file.new.space c.store_file.new.nodes m.config.active m.config.defaults m.links in
+          let here = c.in_ok-store_file.ensures.files m.config.active m.config.defaults m.links state was in
           subst (λ (path : List ℕ). Agrees (Some p') (with_file state path (record { bytes = c.args.bytes; attributes = c.args.attributes })).files) name
           (subst (λ (bytes : List ℕ). Agrees (Some p') (with_file state (string_bytes c.in_ok-name.name) (record { bytes = bytes; attributes = c.args.attributes })).files) held here));
     }
