@@ -4,3 +4,8 @@ pub mod Failing
 pub mod Inwards
 pub mod Rows
 pub mod Running
+mod Acknowledging
+mod Settling
+mod Driving
+mod DrivingOn
+mod Happening

@@ -54,13 +54,13 @@ module _ (p : Pipeline) (o : InOrder p) where
   due_left seqno = rw (sent_left, first_left p.pushed p.acked) refl
 
 -- the rows of an acknowledgement from the fourth on, from the third, and from the second
-abbrev by_due : Pipeline → ℤ → Pipeline
+abbrev pub by_due : Pipeline → ℤ → Pipeline
 by_due p seqno = cond (is_due p seqno) (acknowledged p) (ended p (Bad seqno))
 
-abbrev by_seqno : Pipeline → ℤ → Pipeline
+abbrev pub by_seqno : Pipeline → ℤ → Pipeline
 by_seqno p seqno = cond (closes_heartbeat p seqno) (record p { heartbeats = p.heartbeats - 1 }) (by_due p seqno)
 
-abbrev by_statuses : Pipeline → Ack → Pipeline
+abbrev pub by_statuses : Pipeline → Ack → Pipeline
 by_statuses p ack = cond (not (are_fine ack.replies)) (ended p (Failed (failed_from 0 ack.replies))) (by_seqno p ack.seqno)
 
 -- a choice between pipelines, by equal tests

@@ -4,3 +4,4 @@ pub mod Ends
 pub mod Pipelines
 pub mod Inside
 pub mod Pushed
+pub mod Driving

@@ -1,12 +1,14 @@
-//! A write pipeline without its connection: the packets on their way to the nodes, from their push to their
-//! acknowledgement.
+//! A write pipeline: the packets on their way to the nodes, from their push to their acknowledgement, without a connection;
+//! and how it is driven over a write link.
 #![tactic(auto)]
 
+mod driver;
 mod end;
 mod event;
 mod laws;
 mod pipeline_core;
 
+pub use driver::{drive_end, drive_push};
 pub use end::{PipelineEnd, Turn};
 pub use event::Event;
 pub use laws::{
