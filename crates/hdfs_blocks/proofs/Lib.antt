@@ -1,5 +1,13 @@
+pub mod Awaiting
+pub mod Beginning
+pub mod Carried
+pub mod Further
 pub mod Going
 pub mod Joining
+pub mod Links
+pub mod Listed
 pub mod Listing
+pub mod OnlyBlocks
+pub mod Prefixes
 pub mod Ranges
 pub mod Starting

@@ -1,3 +1,4 @@
 pub mod Blocks
+pub mod Carrying
 pub mod Going
 pub mod Reader
