@@ -15,7 +15,7 @@ shown_of fake = record {
   last = fake.last;
   namenodes = 1;
   reads = λ link. slab.get fake.reads link;
-  writes = λ link. None;
+  writes = λ link. slab.get fake.writes link;
   loaded = [];
 }
 
@@ -23,6 +23,6 @@ shown_of fake = record {
 pub no_picture : (fake : FakeCluster) (p : Picture) → (shown_of fake).picture ≡ Some p → p.active < (shown_of fake).namenodes
 no_picture fake p told = absurd (none-some p told)
 
--- and no link is written to
+-- so no place of a write link either
 pub no_writes : (fake : FakeCluster) (p : Picture) → (shown_of fake).picture ≡ Some p → ShowsWrites (shown_of fake) p
 no_writes fake p told = absurd (none-some p told)

@@ -5,7 +5,7 @@ ghost use Rattle.hdfs_tests.specs.Blocks.{IsPair};
 use bytes::Bytes;
 use hdfs_model::{
     Answer, Ask, AskFault, Block, Cluster, DatanodeId, DatanodeInfo, LastAnswer, LinkFault,
-    LocatedBlock, LocatedBlocks, OpenRead, ReadAsk, Setup, Token,
+    LocatedBlock, LocatedBlocks, OpenRead, OpenWrite, ReadAsk, Setup, Token,
 };
 use hdfs_wire::{Ack, Blob, List, NoMemory, PacketHeader, ReadPacket, Text, WritePacket};
 use slab::Slab;
@@ -37,6 +37,7 @@ pub(crate) struct FakeCluster {
     pub(crate) steps: VecDeque<Step>,
     pub(crate) last: LastAnswer,
     pub(crate) reads: Slab<OpenRead>,
+    pub(crate) writes: Slab<OpenWrite>,
     pub(crate) failures: u64,
 }
 
@@ -57,6 +58,7 @@ impl FakeCluster {
             steps: all,
             last: LastAnswer::Fine,
             reads: Slab::new(alloc),
+            writes: Slab::new(alloc),
             failures: 0,
         })
     }
@@ -209,7 +211,12 @@ impl Cluster for FakeCluster {
     fn open_read(&mut self, _kept: Option<u64>, ask: &ReadAsk) -> Result<u64, LinkFault> {
         let told = opened(self.alloc, ask, self.failures)?;
         match self.next_step() {
-            Step::Opens => Ok(self.reads.insert(told)? as u64),
+            Step::Opens => {
+                if self.writes.contains(self.reads.vacant_key()) {
+                    return Err(LinkFault::NoMemory);
+                }
+                Ok(self.reads.insert(told)? as u64)
+            }
             Step::LacksMemory => Err(LinkFault::NoMemory),
             _ => {
                 self.failures = self.failures.saturating_add(1);
@@ -236,7 +243,7 @@ impl Cluster for FakeCluster {
         false
     }
 
-    /// Nothing is written to it.
+    /// It opens no write link.
     fn open_write(&mut self, _setup: Setup) -> Result<u64, LinkFault> {
         Err(LinkFault::NoMemory)
     }
@@ -249,7 +256,9 @@ impl Cluster for FakeCluster {
         Err(LinkFault::NoMemory)
     }
 
-    fn end_write(&mut self, _link: u64) {}
+    fn end_write(&mut self, link: u64) {
+        let _ended = self.writes.try_remove(link as usize);
+    }
 
     ghost active_below = { no_picture };
 }
