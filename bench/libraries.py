@@ -1,14 +1,16 @@
 #!/usr/bin/env python3
 """Times the code of the libraries beside the client, and prints the figures as ratios.
 
-usage: bench/libraries.py PROGRAM
+usage: bench/libraries.py PROGRAM [EARLIER]
   PROGRAM  the built program hdfs_bench
+  EARLIER  an earlier build of it
 
 Shards: encoded, and decoded with as many data shards lost as there are parity shards, of 3+2, 6+3 and 10+4 shards of 64 KiB and
 of 1 MiB, beside bench/shards.c, which looks up a product a byte and is compiled by clang -O2, and, where libisal-dev is installed,
 beside bench/isal.c, which is ISA-L's SSE code. The ratios are their times to ours.
 Globs: `a*a*a*a*a*a*a*a*b` against 1,000,000 times the letter a, which it doesn't match, and against 500,000; and with four
 stars in place of eight.
+Elements: 50,000,000 products and as many quotients, and those of the earlier build.
 Each run is made five times, those that are compared by turns, and the fastest counts, in processor seconds of the process.
 """
 import os
@@ -51,6 +53,15 @@ def stars(program):
     print(f"against twice the letters: {whole / half:.2f} times; with twice the stars: {whole / fewer:.2f} times")
 
 
+def elements(programs):
+    times = 50_000_000
+    for word in ["products", "quotients"]:
+        (ours, *others), numbers = fastest(RUNS, *([program, word, 1, times] for program in programs))
+        assert len(set(numbers)) == 1
+        ratios = "".join(f", {seconds / ours:.2f} times the earlier build's speed" for seconds in others)
+        print(f"{word}: {ours / times * 1e9:.1f} ns each{ratios}")
+
+
 def main():
     program = sys.argv[1]
     with tempfile.TemporaryDirectory() as folder:
@@ -60,6 +71,7 @@ def main():
                 for size in [64 * KIB, MIB]:
                     shards(program, others, work, units, parity, size)
     stars(program)
+    elements(sys.argv[1:])
 
 
 if __name__ == "__main__":

@@ -1,10 +1,11 @@
 //! Runs the code of the libraries as often as the words say, to time it, and prints a number that came of it.
 //!
 //! Words: `crc32c SIZE TIMES`, `crc32 SIZE TIMES`, `frames COUNT PIECE`, `packets SIZE TIMES`, `checks SIZE TIMES`,
-//! `stars STARS LENGTH`, `pipeline WINDOW TIMES`, or `encode` or `decode` with a code, as in `encode_6_3 SIZE TIMES`, the code
-//! being one of `_3_2`, `_6_3` and `_10_4`.
+//! `stars STARS LENGTH`, `products FIRST TIMES`, `quotients FIRST TIMES`, `pipeline WINDOW TIMES`, or `encode` or `decode` with
+//! a code, as in `encode_6_3 SIZE TIMES`, the code being one of `_3_2`, `_6_3` and `_10_4`.
 #![tactic(auto)]
 
+mod elements;
 mod fault;
 mod frames;
 mod globs;
@@ -13,6 +14,7 @@ mod pipelines;
 mod shards;
 mod sums;
 
+use elements::{products, quotients};
 use fault::Fault;
 use frames::{count_frames, stream};
 use globs::match_stars;
@@ -45,6 +47,12 @@ fn measure(alloc: Global, name: &str, first: usize, second: usize) -> Result<u64
     }
     if let Some(code) = name.strip_prefix("decode") {
         return decode(alloc, code_of(code)?, first, second);
+    }
+    if name == "products" {
+        return Ok(products(first, second));
+    }
+    if name == "quotients" {
+        return Ok(quotients(first, second));
     }
     if name == "stars" {
         return match_stars(alloc, first, second);

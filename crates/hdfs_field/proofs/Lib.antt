@@ -13,3 +13,4 @@ pub mod Combining
 pub mod Halves
 pub mod LaneLemmas
 pub mod Quotients
+pub mod Powers

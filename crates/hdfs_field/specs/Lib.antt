@@ -13,3 +13,4 @@ pub mod Lanes
 pub mod FieldLaws
 pub mod WrappingLaws
 pub mod Slices
+pub mod Powers

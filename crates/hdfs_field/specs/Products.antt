@@ -160,7 +160,7 @@ product-comm a b left right =
 
 -- ---- it associates
 
-shifted-product : (b c : ℕ) → b < 256 → c < 256 → product (shifted b) c ≡ shifted (product b c)
+pub shifted-product : (b c : ℕ) → b < 256 → c < 256 → product (shifted b) c ≡ shifted (product b c)
 shifted-product b c left right =
     product-comm (shifted b) c (shifted-lt b left) right ∙ product_below-shifted 8 c b left ∙ ap shifted (product-comm c b right left)
 

@@ -4,8 +4,9 @@ ghost use Rattle.std.specs.Prelude.{◌≡◌, ◌≢◌, ℕ, ◌<◌, ◌↔�
 ghost use Rattle.hdfs_field.specs.Polynomials.{IsProductOf};
 
 pub(crate) mod residues;
+mod tables;
 
-use crate::gf256::residues::{inverse, product};
+use crate::gf256::residues::{product, quotient};
 use crate::ring::{Field, Ring};
 use std::ops::{Add, AddAssign, Div, DivAssign, Mul, MulAssign, Sub, SubAssign};
 
@@ -84,7 +85,7 @@ impl Field for GF256 {
         ensures polynomial { IsProductOf result.value o.value self.value }
     {
         GF256 {
-            value: product(self.value, inverse(o.value)),
+            value: quotient(self.value, o.value),
         }
     }
 

@@ -1,7 +1,11 @@
-//! Products of polynomials over two elements, modulo the field's polynomial. Bit i of a byte is the coefficient of x^i.
+//! Products and quotients of polynomials over two elements, modulo the field's polynomial. Bit i of a byte is the coefficient of
+//! x^i. Each element but 0 is a power of x, and exponents add up.
 
-ghost use Rattle.std.specs.Prelude.{◌≡◌};
-ghost use Rattle.hdfs_field.specs.Elements.{shifted, product, power_product};
+ghost use Rattle.std.specs.Prelude.{◌≡◌, ◌≢◌, ◌<◌};
+ghost use Rattle.hdfs_field.specs.Elements.{shifted, product, quotient};
+ghost use Rattle.hdfs_field.specs.Powers.{power};
+
+use crate::gf256::tables::{EXPONENTS, POWERS};
 
 /// x times b.
 pub(crate) fn shifted(b: u8) -> u8
@@ -14,32 +18,32 @@ pub(crate) fn shifted(b: u8) -> u8
     }
 }
 
+/// The exponent of the power of x that a is.
+fn exponent(a: u8) -> usize
+    requires { a ≢ 0 }
+    ensures small { result < 255 }
+    ensures is { power result ≡ a }
+{
+    EXPONENTS[a as usize] as usize
+}
+
 /// The product of a and b. It takes no memory.
 pub(crate) fn product(a: u8, b: u8) -> u8
     ensures { result ≡ product a b }
 {
-    let mut sum = 0;
-    let mut rest = a;
-    let mut times = b;
-    'bits: for _ in 0..8u8 {
-        if rest % 2 == 1 {
-            sum ^= times;
-        }
-        rest /= 2;
-        times = shifted(times);
+    if a == 0 || b == 0 {
+        return 0;
     }
-    sum
+    POWERS[exponent(a) + exponent(b)]
 }
 
-/// The power 254 of b: its inverse, and 0 for 0. It takes no memory.
-pub(crate) fn inverse(b: u8) -> u8
-    ensures { result ≡ power_product 7 b }
+/// The quotient of a by b. It takes no memory.
+pub(crate) fn quotient(a: u8, b: u8) -> u8
+    requires { b ≢ 0 }
+    ensures { result ≡ quotient a b }
 {
-    let mut power = 1;
-    let mut square = b;
-    'squares: for _ in 0..7u8 {
-        square = product(square, square);
-        power = product(power, square);
+    if a == 0 {
+        return 0;
     }
-    power
+    POWERS[exponent(a) + 255 - exponent(b)]
 }
