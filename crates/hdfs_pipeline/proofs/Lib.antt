@@ -7,5 +7,5 @@ pub mod Running
 mod Acknowledging
 mod Settling
 mod Driving
-mod DrivingOn
+pub mod DrivingOn
 mod Happening

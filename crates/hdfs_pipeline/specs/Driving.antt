@@ -106,15 +106,27 @@ pub record Happened (link : ℕ) (core : Pipeline) (old : Shown) (core' : Pipeli
   pub came : (p : Picture) (place : WritePlace) → old.picture ≡ Some p → p.writes link ≡ Some place
       → (q : Picture) × (place' : WritePlace) × (new.picture ≡ Some q) × (q.writes link ≡ Some place') × (place'.responses ≡ place.responses ++ responses_of events)
 
--- Where memory is wanting the link is still open, and the picture shows what its calls left.
-pub record StopsShort (link : ℕ) (core : Pipeline) (old new : Shown) : Type 0 where
+-- the first of these packets were sent behind the others
+pub record SentFirst (place : WritePlace) (more : List Outgoing) (place' : WritePlace) : Type 0 where
+  pub sent : List Outgoing
+  pub rest : List Outgoing
+  pub cut : more ≡ sent ++ rest
+  pub behind : place'.sent ≡ place.sent ++ sent
+
+-- Where memory is wanting the link is still open, and the picture shows what its calls left: none of other packets was sent.
+pub record StopsShort (link : ℕ) (more : List Outgoing) (core : Pipeline) (old new : Shown) : Type 0 where
   pub on : OnLink link old new
   pub told : (p : Picture) (place : WritePlace) (settled : ℕ) → old.picture ≡ Some p → p.writes link ≡ Some place → Settles place core settled
-      → (q : Picture) × (place' : WritePlace) × (new.picture ≡ Some q) × (q.writes link ≡ Some place') × GoesFurther p place q place'
+      → (q : Picture) × (place' : WritePlace) × (new.picture ≡ Some q) × (q.writes link ≡ Some place') × GoesFurther p place q place' × SentFirst place more place'
 
--- while the pipeline goes on, the packet begins where the last one on the link ended, or anywhere from 0 on where it is the first
+-- the packet isn't the last of its block
+abbrev pub IsNotLast : Outgoing → Type 0
+IsNotLast packet = packet.header.last_packet_in_block ≡ false
+
+-- While the pipeline goes on: the packet begins where the last one on the link ended, or anywhere from 0 on where it is the
+-- first; and the last packet of the block wasn't pushed yet.
 abbrev pub IsNext : Shown → ℕ → Pipeline → Outgoing → Type 0
-IsNext shown link core packet = core.end ≡ None → FollowsOn shown link packet
+IsNext shown link core packet = core.end ≡ None → FollowsOn shown link packet × All IsNotLast core.pushed
 
 -- the packet is the last that was sent on the link
 abbrev pub EndsWith : Shown → ℕ → Outgoing → Type 0
@@ -130,22 +142,24 @@ abbrev pub IsGivenBack : Outgoing → Option Outgoing → Pipeline → Pipeline 
 IsGivenBack packet None core core' = core.end ≡ None
 IsGivenBack packet (Some back) core core' = (back ≡ packet) × IsSome core'.end
 
--- the last packet of the block is behind the others
+-- the last packet of the block is behind the others, none of which is the last
 abbrev pub EndsInLast : List Outgoing → Type 0
-EndsInLast packets = (front : List Outgoing) × (packet : Outgoing) × (packets ≡ front ++ packet ∷ []) × (packet.header.last_packet_in_block ≡ true)
+EndsInLast packets = (front : List Outgoing) × (packet : Outgoing) × (packets ≡ front ++ packet ∷ []) × (packet.header.last_packet_in_block ≡ true) × All IsNotLast front
 
--- A pipeline was driven to its end, and then its link was ended.
+-- A pipeline was driven to its end, and then its link was ended. With success no packet is left.
 pub record DroveToEnd {C : Type 0} (shown : C → Shown) (ends : C → ℕ → C → Type 0) (link : ℕ) (core : Pipeline) (old : C) (end : PipelineEnd) (new : C) : Type 0 where
   pub last : Pipeline
   pub before : C
   pub drove : Drove link [] core (shown old) last (shown before)
   pub happened : Happened link core (shown old) last (shown before)
   pub has_ended : IsSome last.end
+  pub is_core : IsCore last
   pub is : end ≡ end_of last
+  pub none_left : core.end ≡ None → last.end ≡ Some Done → last.pushed ≡ []
   pub ended : ends before link new
 
 -- memory was wanting, and the link was ended
 pub record StoppedShort {C : Type 0} (shown : C → Shown) (ends : C → ℕ → C → Type 0) (link : ℕ) (core : Pipeline) (old new : C) : Type 0 where
   pub before : C
-  pub stopped : StopsShort link core (shown old) (shown before)
+  pub stopped : StopsShort link [] core (shown old) (shown before)
   pub ended : ends before link new

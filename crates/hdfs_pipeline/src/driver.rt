@@ -1,9 +1,10 @@
 //! Drives a pipeline over a write link: sends its packets and reads their acknowledgements.
 
-ghost use Rattle.std.specs.Prelude.{◌≡◌, ◌<◌, ◌⊎◌, ◌∷◌, ◌++◌, ℕ, [], length, None, Some, IsSome, IfOk, OnOk, OnErr, IsTrue, ◌↔◌};
+ghost use Rattle.std.specs.Prelude.{◌≡◌, ◌<◌, ◌≤◌, ◌+◌, ◌⊎◌, ◌∷◌, ◌++◌, ℕ, [], length, None, Some, IsSome, IfOk, OnOk, OnErr, IsTrue, ◌↔◌};
 ghost use Rattle.hdfs_wire.specs.Outgoing.{Outgoing};
 ghost use Rattle.hdfs_model.specs.Pipes.{FollowsOn};
 ghost use Rattle.hdfs_pipeline.specs.Pipelines.{Pipeline, has_room};
+ghost use Rattle.hdfs_pipeline.specs.Cores.{IsCore};
 ghost use Rattle.hdfs_pipeline.specs.Ends.{end_of};
 ghost use Rattle.hdfs_pipeline.specs.Driving.{Happened, IsGoing, Drives, Drove, StopsShort, IsNext, EndsWith, taken_in, IsGivenBack, EndsInLast, DroveToEnd, StoppedShort};
 
@@ -18,9 +19,9 @@ fn read_ack<C: Cluster>(core: &mut PipelineCore, cluster: &mut C, link: u64) -> 
     requires some { 0 < length core.old.pushed }
     ensures drove { OnOk result (Drove link [] core.old (C.shown cluster.old) core.new (C.shown cluster.new)) }
     ensures happened { OnOk result (Happened link core.old (C.shown cluster.old) core.new (C.shown cluster.new)) }
-    ensures read { OnOk result (core.new.end ≡ None → length core.new.pushed < length core.old.pushed) }
+    ensures read { OnOk result (core.new.end ≡ None → length core.new.pushed + 1 ≡ length core.old.pushed) }
     ensures same_next { (packet : Outgoing) → FollowsOn (C.shown cluster.old) link packet → FollowsOn (C.shown cluster.new) link packet }
-    ensures err { OnErr result (StopsShort link core.old (C.shown cluster.old) (C.shown cluster.new)) }
+    ensures err { OnErr result (StopsShort link [] core.old (C.shown cluster.old) (C.shown cluster.new)) }
 {
     match cluster.ack(link) {
         Ok(ack) => {
@@ -50,7 +51,7 @@ fn send_packet<C: Cluster>(
     ensures happened { OnOk result (Happened link core.old (C.shown cluster.old) core.new (C.shown cluster.new)) }
     ensures sent { OnOk result (core.new.end ≡ None → EndsWith (C.shown cluster.new) link packet) }
     ensures behind { OnOk result (core.new.pushed ≡ core.old.pushed ++ packet ∷ []) }
-    ensures err { OnErr result (StopsShort link core.old (C.shown cluster.old) (C.shown cluster.new)) }
+    ensures err { OnErr result (StopsShort link (packet ∷ []) core.old (C.shown cluster.old) (C.shown cluster.new)) }
 {
     match core.push(packet) {
         Ok(()) => {}
@@ -86,8 +87,9 @@ fn make_room<C: Cluster>(
     ensures happened { OnOk result (Happened link core.old (C.shown cluster.old) core.new (C.shown cluster.new)) }
     ensures room { OnOk result (core.new.end ≡ None → IsTrue (has_room core.new)) }
     ensures kept { IsTrue (has_room core.old) → core.new ≡ core.old }
+    ensures one { OnOk result (core.new.end ≡ None → length core.old.pushed ≤ length core.new.pushed + 1) }
     ensures same_next { (packet : Outgoing) → FollowsOn (C.shown cluster.old) link packet → FollowsOn (C.shown cluster.new) link packet }
-    ensures err { OnErr result (StopsShort link core.old (C.shown cluster.old) (C.shown cluster.new)) }
+    ensures err { OnErr result (StopsShort link [] core.old (C.shown cluster.old) (C.shown cluster.new)) }
 {
     if core.has_ended() || !core.is_full() {
         return Ok(());
@@ -96,7 +98,8 @@ fn make_room<C: Cluster>(
 }
 
 /// Sends a packet at once. Where `window` packets wait for their acknowledgement, the oldest one's is read before. The packet
-/// comes back where the pipeline has ended before it was sent; one whose own send breaks stays in the pipeline. After `NoMemory`
+/// comes back where the pipeline has ended before it was sent; one whose own send breaks stays in the pipeline. Condition: the
+/// last packet of the block wasn't pushed before. After `NoMemory`
 /// the caller ends the link.
 pub fn drive_push<C: Cluster>(
     core: &mut PipelineCore,
@@ -111,9 +114,10 @@ pub fn drive_push<C: Cluster>(
     ensures back { IfOk result (λ back. IsGivenBack packet back core.old core.new) }
     ensures sent { IfOk result (λ back. core.new.end ≡ None → EndsWith (C.shown cluster.new) link packet) }
 
-    // No acknowledgement is read while there is room.
+    // No acknowledgement is read while there is room, and else that of one packet alone.
     ensures prompt { IfOk result (λ back. IsTrue (has_room core.old) → core.new.pushed ≡ core.old.pushed ++ taken_in packet back) }
-    ensures err { OnErr result (StopsShort link core.old (C.shown cluster.old) (C.shown cluster.new)) }
+    ensures one { OnOk result (core.new.end ≡ None → length core.old.pushed ≤ length core.new.pushed) }
+    ensures err { OnErr result (StopsShort link (packet ∷ []) core.old (C.shown cluster.old) (C.shown cluster.new)) }
 {
     make_room(core, cluster, link)?;
     if core.has_ended() {
@@ -130,7 +134,8 @@ fn read_all<C: Cluster>(core: &mut PipelineCore, cluster: &mut C, link: u64) -> 
     ensures drove { OnOk result (Drove link [] core.old (C.shown cluster.old) core.new (C.shown cluster.new)) }
     ensures happened { OnOk result (Happened link core.old (C.shown cluster.old) core.new (C.shown cluster.new)) }
     ensures ended { OnOk result (IsSome core.new.end) }
-    ensures err { OnErr result (StopsShort link core.old (C.shown cluster.old) (C.shown cluster.new)) }
+    ensures core { OnOk result (IsCore core.new) }
+    ensures err { OnErr result (StopsShort link [] core.old (C.shown cluster.old) (C.shown cluster.new)) }
 {
     'acks: while !core.has_ended() {
         read_ack(core, cluster, link)?;

@@ -9,6 +9,7 @@ use Rattle.hdfs_pipeline.specs.Driving.{Drove}
 use Rattle.hdfs_pipeline.proofs.Acknowledging.{acks}
 use Rattle.hdfs_pipeline.proofs.Driving.{acked_drove, broke_drove}
 use Rattle.hdfs_pipeline.proofs.Rows.{fails_to_ack}
+use Rattle.hdfs_pipeline.proofs.DrivingOn.{ack_stops}
 use Rattle.hdfs_pipeline.proofs.Happening.{acked_happened, broke_happened}
 use Rattle.hdfs_pipeline.proofs.driver.read_ack.Goals as goal
 
@@ -37,3 +38,8 @@ pub returns-in-Err-Broken-clause-happened : goal.returns-in-Err-Broken-clause-ha
 returns-in-Err-Broken-clause-happened g c =
     broke_happened c.args.link c.args.core.now c.ack_failed.new.self (g.C.Cluster.shown c.args.cluster.now) (g.C.Cluster.shown c.ack.new.self)
     (subst (λ (fault : LinkFault). NotAcknowledged (g.C.Cluster.shown c.args.cluster.now) c.args.link fault (g.C.Cluster.shown c.ack.new.self)) c.in-Err-Broken.field-0-is c.in-Err-Broken.ensures.err) c.ack_failed.ensures
+
+pub returns-in-Err-NoMemory-clause-err : goal.returns-in-Err-NoMemory-clause-err
+returns-in-Err-NoMemory-clause-err g c =
+    ack_stops c.args.link c.args.core.now (g.C.Cluster.shown c.args.cluster.now) (g.C.Cluster.shown c.ack.new.self)
+    (subst (λ (fault : LinkFault). NotAcknowledged (g.C.Cluster.shown c.args.cluster.now) c.args.link fault (g.C.Cluster.shown c.ack.new.self)) c.in-Err-NoMemory.field-0-is c.in-Err-NoMemory.ensures.err)

@@ -20,5 +20,5 @@ acks-preserved g c =
 
 pub returns-in_err-read_ack-clause-err : goal.returns-in_err-read_ack-clause-err
 returns-in_err-read_ack-clause-err g c =
-    on_err (StopsShort c.args.link c.args.core.now (g.C.Cluster.shown c.args.cluster.now) (g.C.Cluster.shown c.read_ack.new.cluster)) c.from_residual.result
-    (stops_behind c.args.link c.args.core.now c.acks.core (g.C.Cluster.shown c.args.cluster.now) (g.C.Cluster.shown c.acks.cluster) (g.C.Cluster.shown c.read_ack.new.cluster) c.acks.invariant.drove c.in_err-read_ack.ensures.err)
+    on_err (StopsShort c.args.link [] c.args.core.now (g.C.Cluster.shown c.args.cluster.now) (g.C.Cluster.shown c.read_ack.new.cluster)) c.from_residual.result
+    (stops_behind c.args.link [] c.args.core.now c.acks.core (g.C.Cluster.shown c.args.cluster.now) (g.C.Cluster.shown c.acks.cluster) (g.C.Cluster.shown c.read_ack.new.cluster) c.acks.invariant.drove c.in_err-read_ack.ensures.err)

@@ -38,9 +38,14 @@ returns-in-Ok-send-clause-sent g c = λ going.
 
 pub returns-in-Err-NoMemory-clause-err : goal.returns-in-Err-NoMemory-clause-err
 returns-in-Err-NoMemory-clause-err g c =
+    let core = c.args.core.now in
     let a = g.C.Cluster.shown c.args.cluster.now in
     let b = g.C.Cluster.shown c.send.new.self in
-    send_stops c.args.link c.args.core.now a b c.in-Some.hand.now (subst (λ (fault : LinkFault). NotSent a c.args.link c.in-Some.hand.now fault b) c.in-Err-NoMemory.field-0-is c.in-Err-NoMemory.ensures.err)
+    let step = c.requires.going.drives.2 c.requires.going.going in
+    let hand = in_hand core c.push.new.self c.take.new.self c.take.new.self c.args.packet c.requires.going.drives.0 c.requires.going.is_core.forgets c.requires.going.going step c.requires.room c.in-Ok.ensures.follows c.take.ensures.follows in
+    let same = some_same c.in-Some.hand.now c.args.packet (ap option_copied (sym c.in-Some.is) ∙ c.hand.ensures.is ∙ hand) in
+    let wanting : NotSent a c.args.link c.in-Some.hand.now faults.NoMemory b = subst (λ (fault : LinkFault). NotSent a c.args.link c.in-Some.hand.now fault b) c.in-Err-NoMemory.field-0-is c.in-Err-NoMemory.ensures.err in
+    send_stops c.args.link core a b c.args.packet (subst (λ (packet : Outgoing). NotSent a c.args.link packet faults.NoMemory b) same wanting)
 
 pub returns-in-Err-Broken-clause-drove : goal.returns-in-Err-Broken-clause-drove
 returns-in-Err-Broken-clause-drove g c =
