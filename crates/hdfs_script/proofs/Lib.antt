@@ -1,3 +1,4 @@
+pub mod HalfLemmas
 pub mod NumberLemmas
 pub mod ParseLemmas
 pub mod PathLemmas

@@ -1,12 +1,13 @@
 -- The words of a line.
-use Rattle.std.proofs.Common.{◌≡◌, ◌≢◌, ℕ, true, false, ◌&&◌, nat_le, eqb, List, [], ◌∷◌, length, get_or, take, map, refl, ◌∙◌, ap, arith}
+use Rattle.std.proofs.Common.{◌≡◌, ◌≢◌, ℕ, true, false, ◌&&◌, nat_le, nat_lt, eqb, List, [], ◌∷◌, length, get_or, take, map, refl, ◌∙◌, ap, arith}
 use Rattle.std.specs.List.{list_all, slice_split}
 use Rattle.std.specs.Str.{IsAscii, IsUtf8}
 use Rattle.std.proofs.lemmas.Str.{IsUtf8-from_ascii}
 use Rattle.std.proofs.lemmas.Str.Ascii.{IsAscii-nil, IsAscii-cons}
 use Rattle.std.proofs.lemmas.Bool.Decides.{nat_tests}
+use Rattle.hdfs_script.specs.declared.entry.Entry.{Entry}
 use Rattle.hdfs_script.specs.declared.entry.Entry.TheVariants.{Bad}
-use Rattle.hdfs_script.specs.Entries.{is_word, words_entry, entry_of}
+use Rattle.hdfs_script.specs.Entries.{is_word, words_entry, ascii_entry, entry_of}
 
 -- printable bytes are ASCII
 pub IsAscii-from_printable : (text : List ℕ) → list_all (λ c. nat_le 33 c && nat_le c 126) text ≡ true → IsAscii text
@@ -42,8 +43,12 @@ words_entry-take (a ∷ b ∷ c ∷ d ∷ e ∷ f ∷ []) = refl
 words_entry-take (a ∷ b ∷ c ∷ d ∷ e ∷ f ∷ g ∷ rest) = refl
 
 -- a line that isn't blank
-pub entry_of_words : (line : List ℕ) → length line ≢ 0 → get_or line 0 0 ≢ 35 → (words : List (List ℕ)) → words ≡ take 7 (slice_split (λ b. eqb b 32) line) → words_entry words ≡ entry_of line
+pub entry_of_words : (line : List ℕ) → length line ≢ 0 → get_or line 0 0 ≢ 35 → (words : List (List ℕ)) → words ≡ take 7 (slice_split (λ b. eqb b 32) line) → words_entry words ≡ ascii_entry line
 entry_of_words [] some other words is = absurd (some refl)
 entry_of_words (c ∷ rest) some other words is =
     let no : eqb c 35 ≡ false = grind (arith, nat_tests) in
     ap words_entry is ∙ words_entry-take (slice_split (λ b. eqb b 32) (c ∷ rest)) ∙ rw no refl
+
+-- a line of ASCII, and one that isn't
+pub entry_of_ascii : (line : List ℕ) (entry : Entry) → true ≡ list_all (λ b. nat_lt b 128) line → entry ≡ ascii_entry line → entry ≡ entry_of line
+entry_of_ascii line entry ascii is = is ∙ rw (← ascii) refl

@@ -1,5 +1,5 @@
 -- What each line of a script says.
-use Rattle.std.specs.Prelude.{ℕ, ◌^◌, nat_le, Bool, ◌&&◌, ◌==◌, List, [], ◌∷◌, length, Option, Some, None, if◌then◌else◌, codes}
+use Rattle.std.specs.Prelude.{ℕ, ◌^◌, nat_le, nat_lt, Bool, ◌&&◌, ◌==◌, List, [], ◌∷◌, length, Option, Some, None, if◌then◌else◌, codes}
 use Rattle.std.specs.List.{list_all, slice_split}
 use Rattle.std.specs.Str.{bytes_eq}
 use Rattle.hdfs_model.specs.declared.attributes.Attributes.{Attributes}
@@ -53,6 +53,10 @@ words_entry (a ∷ b ∷ c ∷ d ∷ e ∷ []) =
 words_entry words = Bad
 
 -- an empty line, a comment, or words with one space between them
+abbrev pub ascii_entry : List ℕ → Entry
+ascii_entry [] = Blank
+ascii_entry (c ∷ rest) = if c == 35 then Blank else words_entry (slice_split (λ b. b == 32) (c ∷ rest))
+
+-- what a line says, which is bad where a byte isn't ASCII
 abbrev pub entry_of : List ℕ → Entry
-entry_of [] = Blank
-entry_of (c ∷ rest) = if c == 35 then Blank else words_entry (slice_split (λ b. b == 32) (c ∷ rest))
+entry_of line = if list_all (λ b. nat_lt b 128) line then ascii_entry line else Bad

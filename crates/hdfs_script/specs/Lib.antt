@@ -1,4 +1,5 @@
 pub mod Entries
 pub mod Numbers
+pub mod Parsing
 pub mod Scripts
 pub mod Texts

@@ -1,7 +1,7 @@
 -- What a whole script says: lines to load, and commands to run. Lines with files stand before those with faults, and these
--- before the commands.
-use Rattle.std.specs.Prelude.{◌≡◌, ℕ, nat_le, nat_lt, Bool, true, false, ◌&&◌, ◌||◌, ◌==◌, List, [], ◌∷◌, length, map, codes, Result, Ok, Err, if◌then◌else◌}
-use Rattle.std.specs.List.{list_all, slice_split}
+-- before the commands. Or else which of its lines is the first bad one, counted from 1.
+use Rattle.std.specs.Prelude.{ℕ, ◌+◌, nat_le, Bool, true, false, ◌&&◌, ◌||◌, ◌==◌, List, [], ◌∷◌, length, take, map, codes, Option, Some, None, Result, Ok, Err, if◌then◌else◌}
+use Rattle.std.specs.List.{slice_split}
 use Rattle.hdfs_model.specs.declared.store.Line.{Line}
 use Rattle.hdfs_model.specs.declared.store.Line.TheVariants as lines
 use Rattle.hdfs_model.specs.declared.commands.Command.{Command}
@@ -10,18 +10,31 @@ use Rattle.hdfs_model.specs.Loading.{takes, with_line}
 use Rattle.hdfs_model.specs.Steps.{World}
 use Rattle.hdfs_script.specs.declared.entry.Entry.{Entry}
 use Rattle.hdfs_script.specs.declared.entry.Entry.TheVariants.{Loads, Runs, Bad}
-use Rattle.hdfs_script.specs.declared.entry.Script.{Script}
-use Rattle.hdfs_script.specs.declared.entry.ScriptFault.{ScriptFault}
-use Rattle.hdfs_script.specs.declared.entry.ScriptFault.TheVariants as faults
 use Rattle.hdfs_script.specs.Entries.{entry_of}
+
+-- the lines that a script loads, and the commands that it runs, in order
+pub record Script : Type 0 where
+  pub lines : List Line
+  pub commands : List Command
 
 -- how many bytes a script may have
 abbrev pub script_limit : ℕ
 script_limit = 16777216
 
 -- the entry of each line
+abbrev pub line_entries : List ℕ → List Entry
+line_entries bytes = map entry_of (slice_split (λ b. b == 10) bytes)
+
+-- the last entry is bad, whatever its line says
+abbrev pub ends_bad : List Entry → List Entry
+ends_bad [] = []
+ends_bad (entry ∷ []) = Bad ∷ []
+ends_bad (entry ∷ next ∷ rest) = entry ∷ ends_bad (next ∷ rest)
+
+-- The entries of a script. Where it has too many bytes, the line that passes the limit is bad, and none behind it counts.
 abbrev pub entries_in : List ℕ → List Entry
-entries_in bytes = map entry_of (slice_split (λ b. b == 10) bytes)
+entries_in bytes =
+    if nat_le (length bytes) script_limit then line_entries bytes else ends_bad (line_entries (take script_limit bytes))
 
 -- the lines that are loaded
 abbrev pub lines_of : List Entry → List Line
@@ -35,11 +48,6 @@ commands_of [] = []
 commands_of (Runs command ∷ entries) = command ∷ commands_of entries
 commands_of (_ ∷ entries) = commands_of entries
 
--- whether an entry is allowed
-abbrev pub is_good : Entry → Bool
-is_good Bad = false
-is_good _ = true
-
 -- whether a line plans a fault
 abbrev pub is_fault : Line → Bool
 is_fault (lines.Fault fault) = true
@@ -51,42 +59,37 @@ part_of now (Loads line) = if is_fault line then 1 else 0
 part_of now (Runs command) = 2
 part_of now _ = now
 
--- the parts come in order
-abbrev pub in_order : ℕ → List Entry → Bool
-in_order now [] = true
-in_order now (entry ∷ entries) = nat_le now (part_of now entry) && in_order (part_of now entry) entries
+-- An entry may stand behind this part where its line is known and its part isn't an earlier one.
+abbrev pub may_stand : ℕ → Entry → Bool
+may_stand now Bad = false
+may_stand now entry = nat_le now (part_of now entry)
 
--- Each line is taken by the files before it. A store that isn't fresh takes faults alone.
-abbrev pub takes_all : Bool → State → List Line → Bool
-takes_all fresh state [] = true
-takes_all fresh state (line ∷ rest) = (fresh || is_fault line) && takes state.files line && takes_all fresh (with_line state line) rest
+-- The store takes what an entry loads over the files so far. One that isn't fresh takes faults alone.
+abbrev pub is_taken : Bool → State → Entry → Bool
+is_taken fresh state (Loads line) = (fresh || is_fault line) && takes state.files line
+is_taken fresh state _ = true
 
--- ASCII lines that are all good, in order, and not too many bytes
-abbrev pub is_well_formed : List ℕ → Bool
-is_well_formed bytes =
-    nat_le (length bytes) script_limit && list_all (λ b. nat_lt b 128) bytes
-    && list_all is_good (entries_in bytes) && in_order 0 (entries_in bytes)
+-- the files behind an entry
+abbrev pub with_entry : State → Entry → State
+with_entry state (Loads line) = with_line state line
+with_entry state _ = state
 
--- A script without regard to a store, or the number of the line at which the bytes are refused. The number is 0: it isn't
--- told yet.
-abbrev pub parsed : List ℕ → Result Script ℕ
-parsed bytes =
-    if is_well_formed bytes then Ok (record { lines = lines_of (entries_in bytes); commands = commands_of (entries_in bytes) }) else Err 0
+-- the number of the first bad line, where the next line has this part before it and this number
+abbrev pub first_bad : Bool → State → ℕ → ℕ → List Entry → Option ℕ
+first_bad fresh state now number [] = None
+first_bad fresh state now number (entry ∷ entries) =
+    if may_stand now entry && is_taken fresh state entry
+    then first_bad fresh (with_entry state entry) (part_of now entry) (number + 1) entries
+    else Some number
 
--- the script, where the store takes its lines
-abbrev pub if_taken : Bool → State → Result Script ℕ → Result Script ℕ
-if_taken fresh state (Ok script) = if takes_all fresh state script.lines then Ok script else Err 0
-if_taken fresh state (Err line) = Err line
+-- what entries say, unless a line is bad
+abbrev pub unless_bad : Option ℕ → List Entry → Result Script ℕ
+unless_bad None entries = Ok (record { lines = lines_of entries; commands = commands_of entries })
+unless_bad (Some line) entries = Err line
 
--- the script that bytes are over a store with these files, or the number of the line at which they are refused
+-- the script that bytes are over a store with these files, or the number of the first bad line, from 1 on
 abbrev pub script : Bool → State → List ℕ → Result Script ℕ
-script fresh state bytes = if_taken fresh state (parsed bytes)
-
--- what a reader of scripts answers; want of memory may always come
-abbrev pub Parses : Result Script ScriptFault → Result Script ℕ → Type 0
-Parses (Ok script) wanted = wanted ≡ Ok script
-Parses (Err (faults.Bad line)) wanted = wanted ≡ Err line
-Parses (Err faults.NoMemory) wanted = Unit {0}
+script fresh state bytes = unless_bad (first_bad fresh state 0 1 (entries_in bytes)) (entries_in bytes)
 
 -- the world of a script's session
 abbrev pub script_world : World

@@ -1,8 +1,8 @@
-//! Where a script that is refused goes wrong. It is read once more for this, since `parse` keeps no place.
+//! Why a script that is refused goes wrong at its first bad line. It is read once more for this.
 use crate::entry::Entry;
-use crate::line::{U32_MOST, U64_MOST, entry, is_text, is_word, words};
+use crate::line::{U32_MOST, U64_MOST, entry, is_ascii, is_text, is_word, words};
 use crate::numbers::number;
-use crate::parsing::{SCRIPT_LIMIT, is_ascii, is_good_entry, part_of_entry};
+use crate::parsing::{SCRIPT_LIMIT, may_stand, part_of_entry};
 use crate::wrong::{Complaint, Wrong};
 use hdfs_model::{Line, is_path};
 use std::alloc::Global;
@@ -83,42 +83,8 @@ fn wrong_line(alloc: Global, line: &[u8]) -> Wrong {
     }
 }
 
-// What is wrong with a line that says this, behind one of this part of the script.
-fn wrong_at(alloc: Global, part: u8, line: &[u8], entry: &Entry) -> Option<Wrong> {
-    if !is_ascii(line) {
-        return Some(Wrong::NotAscii);
-    }
-    if !is_good_entry(entry) {
-        return Some(wrong_line(alloc, line));
-    }
-    if part_of_entry(part, entry) < part {
-        return Some(Wrong::Order);
-    }
-    None
-}
-
-/// The first line of a script by which it is no script, and why. None where there is no such line, and for want of memory.
-pub fn complaint_of_script(alloc: Global, bytes: &[u8]) -> Option<Complaint> {
-    if bytes.len() > SCRIPT_LIMIT {
-        return Some(Complaint::TooLong);
-    }
-    let mut part = 0;
-    let mut number = 0u64;
-    for line in bytes.split(|b| *b == b'\n') {
-        number = number.saturating_add(1);
-        let Ok(entry) = entry(alloc, line) else {
-            return None;
-        };
-        if let Some(wrong) = wrong_at(alloc, part, line, &entry) {
-            return Some(Complaint::Line { number, wrong });
-        }
-        part = part_of_entry(part, &entry);
-    }
-    None
-}
-
-// Why a store hasn't taken a line.
-fn untaken(line: &Line) -> Wrong {
+// Why a store hasn't taken a line, which is fresh or isn't.
+fn untaken(fresh: bool, line: &Line) -> Wrong {
     let Line::File {
         path,
         attributes,
@@ -127,6 +93,9 @@ fn untaken(line: &Line) -> Wrong {
     else {
         return Wrong::FaultWords;
     };
+    if !fresh {
+        return Wrong::HeldStore;
+    }
     if !is_path(path.as_str()) {
         return Wrong::Path;
     }
@@ -146,21 +115,34 @@ fn untaken(line: &Line) -> Wrong {
     }
 }
 
-/// The line of a script that a store hasn't taken behind so many that it has, and why. None where there is no such line, and
-/// for want of memory.
-pub fn complaint_of_load(alloc: Global, bytes: &[u8], taken: u64) -> Option<Complaint> {
-    let mut number = 0u64;
-    let mut left = taken;
-    for line in bytes.split(|b| *b == b'\n') {
-        number = number.saturating_add(1);
-        let Ok(Entry::Loads(line)) = entry(alloc, line) else {
-            continue;
-        };
-        if left == 0 {
-            let wrong = untaken(&line);
-            return Some(Complaint::Line { number, wrong });
-        }
-        left -= 1;
+// What is wrong with a line that says this, behind this part of a script, over a store that is fresh or isn't.
+fn wrong_at(alloc: Global, fresh: bool, part: u8, line: &[u8], entry: &Entry) -> Wrong {
+    if !is_ascii(line) {
+        return Wrong::NotAscii;
     }
-    None
+    match entry {
+        Entry::Bad => wrong_line(alloc, line),
+        entry if !may_stand(part, entry) => Wrong::Order,
+        Entry::Loads(line) => untaken(fresh, line),
+        Entry::Blank | Entry::Runs(_) => Wrong::Order,
+    }
+}
+
+/// Why a script is refused at this line over a store that was fresh or wasn't. None for want of memory.
+pub fn complaint_at(alloc: Global, bytes: &[u8], fresh: bool, number: u64) -> Option<Complaint> {
+    let front = bytes.get(..SCRIPT_LIMIT).unwrap_or(bytes);
+    let mut lines = front.split(|b| *b == b'\n');
+    let mut part = 0;
+    for _ in 1..number {
+        let entry = entry(alloc, lines.next()?).ok()?;
+        part = part_of_entry(part, &entry);
+    }
+    let line = lines.next()?;
+    if bytes.len() > SCRIPT_LIMIT && lines.next().is_none() {
+        let wrong = Wrong::TooLong;
+        return Some(Complaint { number, wrong });
+    }
+    let entry = entry(alloc, line).ok()?;
+    let wrong = wrong_at(alloc, fresh, part, line, &entry);
+    Some(Complaint { number, wrong })
 }

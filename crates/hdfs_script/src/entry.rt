@@ -1,10 +1,6 @@
 //! What a script says.
-ghost use Rattle.std.specs.Prelude.{◌≡◌};
-ghost use Rattle.hdfs_script.specs.declared.entry.ScriptFault.TheVariants as faults;
-
 use hdfs_model::{Command, Line};
-use hdfs_wire::{List, NoMemory};
-use thiserror::Error;
+use hdfs_wire::List;
 
 /// What one line of a script says.
 #[derive(Drop)]
@@ -19,27 +15,18 @@ pub enum Entry {
     Bad,
 }
 
-/// The lines that a script loads, and the commands that it runs, in order.
+/// A line to load, and its number in the script, from 1 on.
 #[derive(Drop)]
-pub struct Script {
-    pub lines: List<Line>,
+pub struct NumberedLine {
+    pub number: u64,
+    pub line: Line,
+}
+
+/// What a script says up to its first line that is bad by its text or its place.
+#[derive(Drop)]
+pub struct Parsed {
+    pub lines: List<NumberedLine>,
     pub commands: List<Command>,
-}
-
-/// Why bytes aren't a script.
-#[derive(Clone, Copy, Debug, PartialEq, Eq, Error)]
-pub enum ScriptFault {
-    #[error("out of memory")]
-    NoMemory,
-    /// They are refused at the line with this number, which is 0 as long as no number is told.
-    #[error("not a script")]
-    Bad(u64),
-}
-
-impl From<NoMemory> for ScriptFault {
-    ghost from_gives = { λ _ fault. fault ≡ faults.NoMemory };
-
-    fn from(_: NoMemory) -> Self {
-        ScriptFault::NoMemory
-    }
+    /// The number of that line, if there is one.
+    pub bad: Option<u64>,
 }

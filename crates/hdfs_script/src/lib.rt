@@ -10,8 +10,8 @@ mod parsing;
 mod printing;
 mod wrong;
 
-pub use complaint::{complaint_of_load, complaint_of_script};
-pub use entry::{Entry, Script, ScriptFault};
+pub use complaint::complaint_at;
+pub use entry::{Entry, NumberedLine, Parsed};
 pub use names::variant_name;
 pub use parsing::{SCRIPT_HOME, SCRIPT_LIMIT, is_fault, parse};
 pub use printing::{write_fault, write_hex, write_refusal, write_replies, write_reply};

@@ -1,5 +1,5 @@
 //! One line of a script.
-ghost use Rattle.std.specs.Prelude.{◌≡◌, ◌==◌, ◌&&◌, ◌^◌, nat_le, ℕ, Bool, true, false, List, [], ◌∷◌, length, map, take, Option, Some, None, IfOk, MatchOption};
+ghost use Rattle.std.specs.Prelude.{◌≡◌, ◌==◌, ◌&&◌, ◌^◌, nat_le, nat_lt, ℕ, Bool, true, false, List, [], ◌∷◌, length, map, take, Option, Some, None, IfOk, MatchOption};
 ghost use Rattle.std.specs.List.{list_all, slice_split};
 ghost use Rattle.std.specs.Str.{bytes_eq};
 ghost use Rattle.hdfs_script.specs.Entries as spec;
@@ -187,11 +187,21 @@ fn words_entry(alloc: Global, words: &[&[u8]]) -> Result<Entry, NoMemory>
 pub(crate) fn entry(alloc: Global, line: &[u8]) -> Result<Entry, NoMemory>
     ensures { IfOk result (λ entry. entry ≡ spec.entry_of line.now) }
 {
+    if !is_ascii(line) {
+        return Ok(Entry::Bad);
+    }
     if line.is_empty() || line[0] == b'#' {
         return Ok(Entry::Blank);
     }
     let words = words(alloc, line)?;
     Ok(words_entry(alloc, words.as_slice())?)
+}
+
+/// Whether all bytes are ASCII.
+pub(crate) fn is_ascii(bytes: &[u8]) -> bool
+    ensures { result ≡ list_all (λ b. nat_lt b 128) bytes.now }
+{
+    bytes.iter().all(|b| *b < 128)
 }
 
 /// Whether a word is this text.

@@ -1,11 +1,12 @@
 //! A whole script.
-ghost use Rattle.std.specs.Prelude.{◌≡◌, ◌&&◌, ◌==◌, nat_le, nat_lt, ℕ, Bool, true, false, List, [], ◌∷◌, ◌++◌, length, Option, Some, None, IfOk, OnOk};
-ghost use Rattle.std.specs.List.{list_all};
+ghost use Rattle.std.specs.Prelude.{◌≡◌, ◌&&◌, ◌==◌, ◌≤◌, nat_le, ℕ, Bool, true, false, List, [], ◌∷◌, ◌++◌, length, Option, Some, None, IfOk, OnOk, if◌then◌else◌};
+ghost use Rattle.std.specs.List.{slice_split};
+ghost use Rattle.hdfs_script.specs.Entries.{entry_of};
+ghost use Rattle.hdfs_script.specs.Parsing.{Parses, bad_from, good_front, first_out, numbered_from};
 ghost use Rattle.hdfs_script.specs.Scripts as spec;
-ghost use Rattle.hdfs_script.specs.Scripts.{parsed, Parses, is_good, part_of, lines_of, commands_of, entries_in, in_order};
-ghost use Rattle.hdfs_script.specs.declared.entry.Script.{Script};
+ghost use Rattle.hdfs_script.specs.Scripts.{part_of, commands_of, entries_in, line_entries, script_limit};
 
-use crate::entry::{Entry, Script, ScriptFault};
+use crate::entry::{Entry, NumberedLine, Parsed};
 use crate::line::entry;
 use hdfs_model::Line;
 use hdfs_wire::{List, NoMemory};
@@ -16,13 +17,6 @@ pub const SCRIPT_LIMIT: usize = 16777216;
 
 /// The home of a script's session.
 pub const SCRIPT_HOME: &str = "/user/user";
-
-/// Whether all bytes are ASCII.
-pub(crate) fn is_ascii(bytes: &[u8]) -> bool
-    ensures { result ≡ list_all (λ b. nat_lt b 128) bytes.now }
-{
-    bytes.iter().all(|b| *b < 128)
-}
 
 /// Whether a line plans a fault.
 pub fn is_fault(line: &Line) -> bool
@@ -43,59 +37,100 @@ pub(crate) fn part_of_entry(now: u8, entry: &Entry) -> u8
     }
 }
 
-/// Whether an entry is allowed.
-pub(crate) fn is_good_entry(entry: &Entry) -> bool
-    ensures { result ≡ is_good entry.now }
+/// Whether an entry may stand behind this part of a script.
+pub(crate) fn may_stand(now: u8, entry: &Entry) -> bool
+    ensures { result ≡ spec.may_stand now entry.now }
 {
-    !matches!(entry, Entry::Bad)
+    !matches!(entry, Entry::Bad) && part_of_entry(now, entry) >= now
 }
 
-// Puts an entry behind those of a script.
-fn put(script: &mut Script, entry: Entry) -> Result<(), NoMemory>
-    ensures lines { OnOk result (script.new.lines ≡ script.old.lines ++ lines_of (entry ∷ [])) }
-    ensures commands { OnOk result (script.new.commands ≡ script.old.commands ++ commands_of (entry ∷ [])) }
+// What a line says, which is bad where it passes the script's limit.
+fn entry_within(alloc: Global, line: &[u8], passes: bool) -> Result<Entry, NoMemory>
+    ensures { IfOk result (λ entry. entry ≡ (if passes then Entry.Bad else entry_of line.now)) }
+{
+    if passes {
+        return Ok(Entry::Bad);
+    }
+    Ok(entry(alloc, line)?)
+}
+
+// Puts an entry of this number behind what was read.
+fn put(read: &mut Parsed, number: u64, entry: Entry) -> Result<(), NoMemory>
+    ensures lines { OnOk result (read.new.lines ≡ read.old.lines ++ numbered_from number (entry ∷ [])) }
+    ensures commands { OnOk result (read.new.commands ≡ read.old.commands ++ commands_of (entry ∷ [])) }
 {
     match entry {
-        Entry::Loads(line) => script.lines.push(line)?,
-        Entry::Runs(command) => script.commands.push(command)?,
+        Entry::Loads(line) => read.lines.push(NumberedLine { number, line })?,
+        Entry::Runs(command) => read.commands.push(command)?,
         Entry::Blank | Entry::Bad => {}
     }
     Ok(())
 }
 
-// Reads the lines behind a script that is empty, and answers whether all are good and in order.
-fn read_lines(alloc: Global, bytes: &[u8], script: &mut Script) -> Result<bool, NoMemory>
-    ensures fine { IfOk result (λ fine. fine ≡ (list_all is_good (entries_in bytes.now) && in_order 0 (entries_in bytes.now))) }
-    ensures lines { IfOk result (λ fine. fine ≡ true → script.new.lines ≡ script.old.lines ++ lines_of (entries_in bytes.now)) }
-    ensures commands { IfOk result (λ fine. fine ≡ true → script.new.commands ≡ script.old.commands ++ commands_of (entries_in bytes.now)) }
+// Puts the lines up to the first bad one behind what was read, and answers its number. The one of number `limit` is bad.
+fn read_lines(
+    alloc: Global,
+    bytes: &[u8],
+    limit: u64,
+    read: &mut Parsed,
+) -> Result<Option<u64>, NoMemory>
+    requires { length bytes.now ≤ script_limit }
+    ensures bad { IfOk result (λ bad. bad ≡ first_out 0 1 (bad_from limit 1 (line_entries bytes.now))) }
+    ensures lines { OnOk result (read.new.lines ≡ read.old.lines
+        ++ numbered_from 1 (good_front 0 (bad_from limit 1 (line_entries bytes.now)))) }
+    ensures commands { OnOk result (read.new.commands ≡ read.old.commands
+        ++ commands_of (good_front 0 (bad_from limit 1 (line_entries bytes.now)))) }
 {
     let mut part = 0;
+    let mut number = 1;
     for line in bytes.split(|b| *b == b'\n') {
-        let entry = entry(alloc, line)?;
-        let next = part_of_entry(part, &entry);
-        if !is_good_entry(&entry) || next < part {
-            return Ok(false);
+        let entry = entry_within(alloc, line, number == limit)?;
+        if !may_stand(part, &entry) {
+            return Ok(Some(number));
         }
-        put(script, entry)?;
-        part = next;
+        part = part_of_entry(part, &entry);
+        put(read, number, entry)?;
+        number += 1;
     }
-    Ok(true)
+    Ok(None)
 }
 
-/// The script that bytes are. They are refused where they are too many, or not ASCII, or a line is bad or stands out of
-/// order.
-pub fn parse(alloc: Global, bytes: &[u8]) -> Result<Script, ScriptFault>
-    ensures { Parses result (parsed bytes.now) }
+// How many lines bytes have.
+fn count_lines(bytes: &[u8]) -> u64
+    ensures { result ≡ length (slice_split (λ b. b == 10) bytes.now) }
 {
-    if bytes.len() > SCRIPT_LIMIT || !is_ascii(bytes) {
-        return Err(ScriptFault::Bad(0));
+    bytes.split(|b| *b == b'\n').count() as u64
+}
+
+// Puts the lines of a script up to the first bad one behind what was read, and answers its number.
+fn read_script(
+    alloc: Global,
+    bytes: &[u8],
+    read: &mut Parsed,
+) -> Result<Option<u64>, NoMemory>
+    ensures bad { IfOk result (λ bad. bad ≡ first_out 0 1 (entries_in bytes.now)) }
+    ensures lines { OnOk result (read.new.lines ≡ read.old.lines ++ numbered_from 1 (good_front 0 (entries_in bytes.now))) }
+    ensures commands { OnOk result (read.new.commands ≡ read.old.commands ++ commands_of (good_front 0 (entries_in bytes.now))) }
+{
+    if bytes.len() <= SCRIPT_LIMIT {
+        return Ok(read_lines(alloc, bytes, 0, read)?);
     }
-    let mut script = Script {
+    let front = &bytes[..SCRIPT_LIMIT];
+    let limit = count_lines(front);
+    Ok(read_lines(alloc, front, limit, read)?)
+}
+
+/// What a script says up to its first line that is bad by its text or its place: one that isn't ASCII, is unknown, stands out
+/// of order or passes the script's limit.
+pub fn parse(alloc: Global, bytes: &[u8]) -> Result<Parsed, NoMemory>
+    ensures { IfOk result (λ read. Parses bytes.now read) }
+{
+    let mut read = Parsed {
         lines: List::new(alloc),
         commands: List::new(alloc),
+        bad: None,
     };
-    if !read_lines(alloc, bytes, &mut script)? {
-        return Err(ScriptFault::Bad(0));
-    }
-    Ok(script)
+    let bad = read_script(alloc, bytes, &mut read)?;
+    read.bad = bad;
+    Ok(read)
 }

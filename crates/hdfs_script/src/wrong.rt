@@ -40,15 +40,18 @@ pub enum Wrong {
     Length,
     #[error("out of order, since files come first, then faults, then commands")]
     Order,
+    #[error("the script has more than 16777216 bytes")]
+    TooLong,
+    #[error("the store isn't fresh, so it takes no line with a file")]
+    HeldStore,
     #[error("something stands at PATH already, or its parent is no directory")]
     Place,
 }
 
 /// Why a script is refused, and at which line, counted from 1.
 #[derive(Clone, Copy, Debug, PartialEq, Eq, Error)]
-pub enum Complaint {
-    #[error("the script has more than 16777216 bytes")]
-    TooLong,
-    #[error("line {number}: {wrong}")]
-    Line { number: u64, wrong: Wrong },
+#[error("line {number}: {wrong}")]
+pub struct Complaint {
+    pub number: u64,
+    pub wrong: Wrong,
 }

@@ -1,6 +1,5 @@
 -- How loaded lines join.
-use Rattle.std.proofs.Common.{◌≡◌, ◌+◌, ◌<◌, Bool, true, false, ◌&&◌, ◌||◌, List, [], ◌∷◌, ◌++◌, length, get_or, take, drop, map, Option, Some, if◌then◌else◌, refl, sym, ◌∙◌, ap, subst, append_assoc}
-use Rattle.std.specs.List.{list_all}
+use Rattle.std.proofs.Common.{◌≡◌, ℕ, ◌+◌, ◌<◌, Bool, true, false, List, [], ◌∷◌, ◌++◌, length, get_or, take, drop, map, Option, Some, None, if◌then◌else◌, refl, sym, ◌∙◌, ap, subst, append_assoc}
 use Rattle.std.specs.Str.{bytes_eq}
 use Rattle.std.proofs.lemmas.List.{append-nil, take-append-drop, at_drop_more}
 use Rattle.hdfs_model.specs.declared.store.Line.{Line}
@@ -8,14 +7,16 @@ use Rattle.hdfs_model.specs.Counts.{FaultCounts, SameCounts}
 use Rattle.hdfs_model.specs.declared.store.Line.TheVariants as lines
 use Rattle.hdfs_model.specs.Files.{State, Content, Node, File, Writing}
 use Rattle.hdfs_model.specs.Stores.{Agrees}
-use Rattle.hdfs_model.specs.Loading.{Loads, takes, with_line, with_lines}
+use Rattle.hdfs_model.specs.Loading.{Loads, SameShown, takes, with_line, with_lines}
 use Rattle.hdfs_model.specs.Shown.{Shown}
 use Rattle.hdfs_model.specs.Sessions.{Fits}
 use Rattle.hdfs_model.proofs.Frames.{same_counts_trans}
 use Rattle.hdfs_model.proofs.Loads.{fits_line}
-use Rattle.hdfs_script.specs.Scripts.{is_fault, takes_all}
+use Rattle.hdfs_script.specs.declared.entry.NumberedLine.{NumberedLine}
+use Rattle.hdfs_script.specs.Parsing.{first_file, first_untaken, or_else, plain_lines}
+use Rattle.hdfs_script.proofs.HalfLemmas.{faults_taken, second_none, untaken_held}
 use Rattle.hdfs_top.specs.Top.{IsClosed}
-use Rattle.hdfs_top.specs.Inside.{LoadsAll}
+use Rattle.hdfs_top.specs.Inside.{LoadsAll, LoadsScript, RefusesScript}
 
 -- the lines leave all files closed
 written_not : (test : Bool) (here : Content) (old : Option Node) (content : Content) → (old ≡ Some (Writing content) → ⊥) → (if test then Some (File here) else old) ≡ Some (Writing content) → ⊥
@@ -37,14 +38,19 @@ pub with_lines-push : (state : State) (done : List Line) (line : Line) → with_
 with_lines-push state [] line = refl
 with_lines-push state (first ∷ done) line = with_lines-push (with_line state first) done line
 
-and_assoc : (a b c : Bool) → (a && b && c) ≡ (a && (b && c))
-and_assoc true b c = refl
-and_assoc false b c = refl
+-- the lines of a list that is one longer
+pub plain-push : (done : List NumberedLine) (numbered : NumberedLine) → plain_lines (done ++ numbered ∷ []) ≡ plain_lines done ++ numbered.line ∷ []
+plain-push [] numbered = refl
+plain-push (first ∷ done) numbered = ap (λ t. first.line ∷ t) (plain-push done numbered)
 
-pub takes_all-append : (state : State) (done rest : List Line) → takes_all true state (done ++ rest) ≡ (takes_all true state done && takes_all true (with_lines state done) rest)
-takes_all-append state [] rest = refl
-takes_all-append state (line ∷ done) rest =
-    ap (λ b. takes state.files line && b) (takes_all-append (with_line state line) done rest) ∙ sym (and_assoc (takes state.files line) (takes_all true (with_line state line) done) (takes_all true (with_lines (with_line state line) done) rest))
+-- where some lines are taken, those behind them decide
+untaken-append : (state : State) (done rest : List NumberedLine) → first_untaken true state done ≡ None → first_untaken true state (done ++ rest) ≡ first_untaken true (with_lines state (plain_lines done)) rest
+untaken-append state [] rest taken = refl
+untaken-append state (first ∷ done) rest taken = by_taken (takes state.files first.line) (untaken-append (with_line state first.line) done rest) taken
+  where
+    by_taken : (here : Bool) → (first_untaken true (with_line state first.line) done ≡ None → first_untaken true (with_line state first.line) (done ++ rest) ≡ first_untaken true (with_lines (with_line state first.line) (plain_lines done)) rest) → (if here then first_untaken true (with_line state first.line) done else Some first.number) ≡ None → (if here then first_untaken true (with_line state first.line) (done ++ rest) else Some first.number) ≡ first_untaken true (with_lines (with_line state first.line) (plain_lines done)) rest
+    by_taken true there taken = there taken
+    by_taken false there taken = absurd (cc)
 
 same_counts_refl : (a : FaultCounts) → SameCounts a a
 same_counts_refl a = record { calls = λ i. refl; links = refl; nodes = λ d. refl }
@@ -53,13 +59,15 @@ pub loads_none : (a : Shown) → LoadsAll a [] a
 loads_none a = record { namenodes = refl; counts = same_counts_refl a.counts; loaded = sym (append-nil a.loaded); taken = λ state fits. refl; fits = λ state fits. fits }
 
 -- one line more
-pub loads_more : (a b c : Shown) (done : List Line) (line : Line) → LoadsAll a done b → Loads b line c → ((state : State) → Agrees b.picture state.files → takes state.files line ≡ true) → LoadsAll a (done ++ line ∷ []) c
-loads_more a b c done line p loads takes_it = record {
+pub loads_more : (a b c : Shown) (done : List NumberedLine) (numbered : NumberedLine) → LoadsAll a done b → Loads b numbered.line c → ((state : State) → Agrees b.picture state.files → takes state.files numbered.line ≡ true) → LoadsAll a (done ++ numbered ∷ []) c
+loads_more a b c done numbered p loads takes_it = record {
   namenodes = loads.rest.namenodes ∙ p.namenodes;
   counts = same_counts_trans a.counts b.counts c.counts p.counts loads.rest.counts;
-  loaded = loads.lines ∙ ap (λ t. t ++ line ∷ []) p.loaded ∙ append_assoc a.loaded done (line ∷ []);
-  taken = λ state fits. takes_all-append state done (line ∷ []) ∙ rw (p.taken state fits, takes_it (with_lines state done) (p.fits state fits).agrees) refl;
-  fits = λ state fits. subst (λ (s : State). Fits c s) (sym (with_lines-push state done line)) (fits_line b c (with_lines state done) line (p.fits state fits) (takes_it (with_lines state done) (p.fits state fits).agrees) loads);
+  loaded = loads.lines ∙ ap (λ t. t ++ numbered.line ∷ []) p.loaded ∙ append_assoc a.loaded (plain_lines done) (numbered.line ∷ []) ∙ ap (λ t. a.loaded ++ t) (sym (plain-push done numbered));
+  taken = λ state fits. untaken-append state done (numbered ∷ []) (p.taken state fits) ∙ rw (takes_it (with_lines state (plain_lines done)) (p.fits state fits).agrees) refl;
+  fits = λ state fits.
+      subst (λ (s : State). Fits c s) (sym (ap (with_lines state) (plain-push done numbered) ∙ with_lines-push state (plain_lines done) numbered.line))
+      (fits_line b c (with_lines state (plain_lines done)) numbered.line (p.fits state fits) (takes_it (with_lines state (plain_lines done)) (p.fits state fits).agrees) loads);
 }
 
 -- the lines so far, this one and the rest
@@ -72,19 +80,40 @@ whole_at all done x front turn =
     map_same (y ∷ ys) = ap (λ t. y ∷ t) (map_same ys)
 
 -- a line is refused
-pub takes_all_refused : (a b : Shown) (all done : List Line) (line : Line) (rest : List Line) (state : State) → all ≡ done ++ line ∷ rest → LoadsAll a done b → Fits a state → takes (with_lines state done).files line ≡ false → takes_all true state all ≡ false
-takes_all_refused a b all done line rest state whole p fits refused =
-    ap (takes_all true state) whole ∙ takes_all-append state done (line ∷ rest) ∙ rw (p.taken state fits, refused) refl
+pub untaken_at : (a b : Shown) (all done : List NumberedLine) (numbered : NumberedLine) (rest : List NumberedLine) (state : State) → all ≡ done ++ numbered ∷ rest → LoadsAll a done b → Fits a state → takes (with_lines state (plain_lines done)).files numbered.line ≡ false → first_untaken true state all ≡ Some numbered.number
+untaken_at a b all done numbered rest state whole p fits refused =
+    ap (first_untaken true state) whole ∙ untaken-append state done (numbered ∷ rest) (p.taken state fits) ∙ rw refused refl
 
--- whether a store takes lines is told by whether it is fresh, and by the files
-pub takes_all-fresh : (fresh : Bool) (state : State) (lines : List Line) → takes_all fresh state lines ≡ ((fresh || list_all is_fault lines) && takes_all true state lines)
-takes_all-fresh true state lines = refl
-takes_all-fresh false state [] = refl
-takes_all-fresh false state (line ∷ rest) =
-    ap (λ b. (is_fault line) && takes state.files line && b) (takes_all-fresh false (with_line state line) rest) ∙ regroup (is_fault line) (takes state.files line) (list_all is_fault rest) (takes_all true (with_line state line) rest)
-  where
-    regroup : (a b c d : Bool) → (a && b && (c && d)) ≡ (a && c && (b && d))
-    regroup true true c d = refl
-    regroup true false true d = refl
-    regroup true false false d = refl
-    regroup false b c d = refl
+-- The lines of a script were loaded, and none is bad. Where nothing was refused before, the store is fresh or all are faults.
+pub loads_script : (fresh : Bool) (old new : Shown) (lines : List NumberedLine) (bad unloaded : Option ℕ) → (fresh ≡ true → unloaded ≡ None) → (fresh ≡ false → unloaded ≡ or_else (first_file lines) bad) → unloaded ≡ None → bad ≡ None → LoadsAll old lines new → LoadsScript fresh old lines bad new
+loads_script true old new lines bad unloaded fresh held passed none loads =
+    record { loads = loads; none = λ state fits. rw (loads.taken state fits) none }
+loads_script false old new lines bad unloaded fresh held passed none loads =
+    record { loads = loads; none = λ state fits. rw (untaken_held state lines) (sym (held refl) ∙ passed) }
+
+-- a store that isn't fresh refuses a script before a line is loaded
+pub refuses_unloaded : (fresh : Bool) (old : Shown) (lines : List NumberedLine) (bad unloaded : Option ℕ) (number : ℕ) → (fresh ≡ true → unloaded ≡ None) → (fresh ≡ false → unloaded ≡ or_else (first_file lines) bad) → unloaded ≡ Some number → SameShown old old → RefusesScript fresh old lines bad number old
+refuses_unloaded true old lines bad unloaded number fresh held is same = absurd (let none = fresh refl in cc (none, is))
+refuses_unloaded false old lines bad unloaded number fresh held is same =
+    record { first = λ state fits. rw (untaken_held state lines) (sym (held refl) ∙ is); same = λ state fits _. same }
+
+first_none : (first second : Option ℕ) → or_else first second ≡ None → first ≡ None
+first_none None second none = refl
+first_none (Some number) second none = absurd (cc)
+
+-- a line wasn't taken; over a store that isn't fresh each one is
+pub refuses_untaken : (fresh : Bool) (old new : Shown) (lines : List NumberedLine) (bad unloaded : Option ℕ) (number : ℕ) → (fresh ≡ false → unloaded ≡ or_else (first_file lines) bad) → unloaded ≡ None → ((state : State) → Fits old state → first_untaken true state lines ≡ Some number) → RefusesScript fresh old lines bad number new
+refuses_untaken true old new lines bad unloaded number held passed untaken =
+    record { first = λ state fits. rw (untaken state fits) refl; same = λ state fits no. absurd (cc (no)) }
+refuses_untaken false old new lines bad unloaded number held passed untaken =
+    let files : first_file lines ≡ None = first_none (first_file lines) bad (sym (held refl) ∙ passed) in
+    let never : (state : State) → Fits old state → ⊥ = λ state fits. let taken = faults_taken state lines files in let not = untaken state fits in cc (taken, not) in
+    record { first = λ state fits. absurd (never state fits); same = λ state fits _. absurd (never state fits) }
+
+-- the lines were taken up to one that is bad by its text or its place
+pub refuses_bad : (fresh : Bool) (old new : Shown) (lines : List NumberedLine) (bad unloaded : Option ℕ) (number : ℕ) → (fresh ≡ false → unloaded ≡ or_else (first_file lines) bad) → unloaded ≡ None → bad ≡ Some number → LoadsAll old lines new → RefusesScript fresh old lines bad number new
+refuses_bad true old new lines bad unloaded number held passed is loads =
+    record { first = λ state fits. rw (loads.taken state fits) is; same = λ state fits no. absurd (cc (no)) }
+refuses_bad false old new lines bad unloaded number held passed is loads =
+    let none : bad ≡ None = second_none (first_file lines) bad (sym (held refl) ∙ passed) in
+    absurd (cc (none, is))

@@ -1,7 +1,6 @@
 -- What a script is over a store, and what a run of it has done.
-use Rattle.std.proofs.Common.{inl, inr, ⊎_elim, ◌⊎◌, ◌≡◌, ℕ, ◌+◌, ◌<◌, nat_le, Bool, true, false, ◌&&◌, ◌||◌, List, [], ◌∷◌, length, get_or, take, if◌then◌else◌, Ok, Err, refl, sym, ◌∙◌, ap, subst, arith}
-use Rattle.std.specs.List.{list_all}
-use Rattle.std.proofs.lemmas.List.{take_all, length-take-le}
+use Rattle.std.proofs.Common.{inl, inr, ⊎_elim, ◌⊎◌, ◌≡◌, ℕ, ◌+◌, ◌<◌, nat_le, true, false, List, [], ◌∷◌, ◌++◌, length, get_or, take, if◌then◌else◌, Ok, Err, refl, sym, ◌∙◌, ap, subst, arith}
+use Rattle.std.proofs.lemmas.List.{take_all, length-take-le, take-take}
 use Rattle.std.proofs.lemmas.Bool.{cases_lt}
 use Rattle.std.proofs.lemmas.Bool.Decides.{nat_tests}
 use Rattle.hdfs_model.specs.declared.commands.Command.{Command}
@@ -12,7 +11,6 @@ use Rattle.hdfs_model.specs.declared.errors.HdfsError.TheVariants as errors
 use Rattle.hdfs_model.specs.declared.errors.TransferFault.TheVariants as transfer
 use Rattle.hdfs_model.specs.declared.errors.ArgFault.TheVariants as args
 use Rattle.hdfs_model.specs.declared.store.Line.{Line}
-use Rattle.hdfs_model.specs.declared.store.Line.TheVariants as lines
 use Rattle.hdfs_model.specs.Causes.{Cause}
 use Rattle.hdfs_model.specs.Counts.{FaultCounts, NeverFall, NoneRose, SameCounts}
 use Rattle.hdfs_model.specs.Files.{State}
@@ -24,15 +22,17 @@ use Rattle.hdfs_model.specs.Sessions.{Fits}
 use Rattle.hdfs_model.specs.Shown.{Shown, Later}
 use Rattle.hdfs_model.specs.Steps.{World}
 use Rattle.hdfs_model.proofs.Frames.{told_refl, same_picture_refl, never_fall_trans, never_fall_from-SameCounts}
-use Rattle.hdfs_script.specs.declared.entry.Script.{Script}
-use Rattle.hdfs_script.specs.Scripts.{parsed, script, if_taken, is_well_formed, takes_all, is_fault, entries_in, lines_of, commands_of, script_limit, script_world}
+use Rattle.hdfs_script.specs.declared.entry.Parsed.{Parsed}
+use Rattle.hdfs_script.specs.Parsing.{Parses}
+use Rattle.hdfs_script.specs.Scripts.{Script, script, ends_bad, entries_in, first_bad, line_entries, script_limit, script_world, unless_bad}
+use Rattle.hdfs_script.proofs.HalfLemmas.{refused_from, script_from, script_read}
 use Rattle.hdfs_script.specs.Texts.{replies_text, fault_text, refusal_text}
-use Rattle.hdfs_streams.specs.Streams.{SourceShown, SinkShown, TookAtMost}
+use Rattle.hdfs_streams.specs.Streams.{SourceShown, SinkShown, TookAtMost, Wrote}
 use Rattle.hdfs_streams.proofs.PrintLemmas.{wrote_none}
 use Rattle.hdfs_top.specs.declared.note.Note.{Note}
 use Rattle.hdfs_top.specs.Top.{IsSession, Outside, outside, IsKnown, Loaded, Finishes, Halts, NotesFault, RefusedScript, StatusOf, ScriptDecides}
-use Rattle.hdfs_top.specs.Inside.{RanSession, Gave, IsKnownStore, LoadsAll, PrintsWhole, Concludes, ToEnd, ToFault, NotesStop, RanCommands}
-use Rattle.hdfs_top.proofs.LoadLemmas.{takes_all-fresh, closed_lines}
+use Rattle.hdfs_top.specs.Inside.{RanSession, Gave, IsKnownStore, LoadsScript, RefusesScript, PrintsWhole, Concludes, ToEnd, ToFault, NotesStop, RanCommands}
+use Rattle.hdfs_top.proofs.LoadLemmas.{closed_lines}
 use Rattle.hdfs_top.proofs.SessionLemmas.{whole_at_2}
 use Rattle.hdfs_top.proofs.StatusLemmas.{Kept, ran_done, ran_refused, ran_stopped, ran_no_memory, ran_sink_failed}
 
@@ -47,98 +47,50 @@ same_shown_refl s = record {
 pub kept_session : (words : List (List ℕ)) (a b : Outside) (status : ℕ) → IsSession words → NeverFall a.store.counts b.store.counts → TookAtMost (script_limit + 1) a.source b.source → Kept words a status b
 kept_session words a b status is counts read = record { counts = counts; read = read; other = λ no. absurd (no is) }
 
--- bytes that are too many are no script
-parsed_long : (bytes : List ℕ) → script_limit < length bytes → parsed bytes ≡ Err 0
-parsed_long bytes long =
+-- the entries of too many bytes
+entries_long : (bytes : List ℕ) → script_limit < length bytes → entries_in bytes ≡ ends_bad (line_entries (take script_limit bytes))
+entries_long bytes long =
     let no : nat_le (length bytes) script_limit ≡ false = grind (arith, nat_tests) in
     rw no refl
 
 -- a script is told by one byte more than it may have
-parsed-take : (bytes : List ℕ) → parsed bytes ≡ parsed (take (script_limit + 1) bytes)
-parsed-take bytes = ⊎_elim
-    (λ long. parsed_long bytes long ∙ sym (parsed_long (take (script_limit + 1) bytes) (omega (arith, length-take-le (script_limit + 1) bytes (omega (arith, long))))))
-    (λ short. ap parsed (sym (take_all (script_limit + 1) bytes (omega (arith, short)))))
+entries-take : (bytes : List ℕ) → entries_in bytes ≡ entries_in (take (script_limit + 1) bytes)
+entries-take bytes = ⊎_elim
+    (λ long.
+        entries_long bytes long ∙ ap (λ front. ends_bad (line_entries front)) (sym (take-take script_limit (script_limit + 1) bytes (omega arith)))
+        ∙ sym (entries_long (take (script_limit + 1) bytes) (omega (arith, length-take-le (script_limit + 1) bytes (omega (arith, long))))))
+    (λ short. ap entries_in (sym (take_all (script_limit + 1) bytes (omega (arith, short)))))
     (cases_lt script_limit (length bytes))
 
 -- what the source gave is as good as all that it has
-parsed_given : (a : Outside) (given all : List ℕ) (left : SourceShown) (state : State) → Gave a.source given left → IsKnown a all state → parsed all ≡ parsed given
-parsed_given a given all left state gave known = parsed-take all ∙ ap parsed (sym (gave.front all known.told))
+given_is : (a : Outside) (given all : List ℕ) (left : SourceShown) (state : State) → Gave a.source given left → IsKnown a all state → script a.fresh state all ≡ script a.fresh state given
+given_is a given all left state gave known =
+    ap (λ entries. unless_bad (first_bad a.fresh state 0 1 entries) entries) (entries-take all ∙ ap entries_in (sym (gave.front all known.told)))
 
 known_store : (a : Outside) (bytes : List ℕ) (state : State) → IsKnown a bytes state → IsKnownStore a.store state
 known_store a bytes state known = record { one = known.one; fits = known.fits; closed = known.closed }
 
--- bytes are refused at line 0
-zero_from_if : (test : Bool) (x : Script) (line : ℕ) → (if test then Ok x else Err 0) ≡ Err line → line ≡ 0
-zero_from_if true x line is = absurd (cc)
-zero_from_if false x line is = cc
+-- the bytes are refused at this line, and a store that isn't fresh is as it was
+abbrev RefusedAt : Outside → ℕ → Outside → Type 0
+RefusedAt a line b = (bytes : List ℕ) (state : State) → IsKnown a bytes state → (script a.fresh state bytes ≡ Err line) × (a.fresh ≡ false → SameShown a.store b.store)
 
-refused_at_zero : (bytes : List ℕ) (line : ℕ) → parsed bytes ≡ Err line → line ≡ 0
-refused_at_zero bytes line is = zero_from_if (is_well_formed bytes) (record { lines = lines_of (entries_in bytes); commands = commands_of (entries_in bytes) }) line is
+refused_at : (a b : Outside) (given : List ℕ) (read : Parsed) (line : ℕ) → Gave a.source given b.source → Parses given read → RefusesScript a.fresh a.store read.lines read.bad line b.store → RefusedAt a line b
+refused_at a b given read line gave parses refuses bytes state known =
+    (given_is a given bytes b.source state gave known ∙ refused_from a.fresh state given read line parses (refuses.first state known.fits), refuses.same state known.fits)
 
-script_is : (fresh : Bool) (state : State) (bytes : List ℕ) (s : Script) → parsed bytes ≡ Ok s → takes_all fresh state s.lines ≡ true → script fresh state bytes ≡ Ok s
-script_is fresh state bytes s is takes = ap (if_taken fresh state) is ∙ rw takes refl
-
-script_refused : (fresh : Bool) (state : State) (bytes : List ℕ) (s : Script) → parsed bytes ≡ Ok s → takes_all fresh state s.lines ≡ false → script fresh state bytes ≡ Err 0
-script_refused fresh state bytes s is refuses = ap (if_taken fresh state) is ∙ rw refuses refl
-
--- the bytes are no script
-unparsed_refused : (a b : Outside) (given : List ℕ) → Gave a.source given b.source → parsed given ≡ Err 0 → SameShown a.store b.store → RefusedScript a b
-unparsed_refused a b given gave none same bytes state known =
-    (ap (if_taken a.fresh state) (parsed_given a given bytes b.source state gave known ∙ none), λ held. same)
-
--- the store isn't fresh, and there is a line that only a fresh one takes
-held_refused : (a b : Outside) (given : List ℕ) (s : Script) → Gave a.source given b.source → parsed given ≡ Ok s → false ≡ (a.fresh || list_all is_fault s.lines) → SameShown a.store b.store → RefusedScript a b
-held_refused a b given s gave is held same bytes state known =
-    (script_refused a.fresh state bytes s (parsed_given a given bytes b.source state gave known ∙ is) (takes_all-fresh a.fresh state s.lines ∙ rw (← held) refl), λ _. same)
-
--- faults alone are taken by every store
-faults_taken : (state : State) (rest : List Line) → list_all is_fault rest ≡ true → takes_all true state rest ≡ true
-faults_taken state [] all = refl
-faults_taken state (lines.Fault fault ∷ rest) all = faults_taken state rest all
-faults_taken state (lines.File path attributes bytes ∷ rest) all = absurd (cc)
-
-faults_alone : (fresh rest : Bool) → (fresh || rest) ≡ true → fresh ≡ false → rest ≡ true
-faults_alone true rest may held = absurd (cc)
-faults_alone false rest may held = may
-
-false_right : (b : Bool) → (b && false) ≡ false
-false_right true = refl
-false_right false = refl
-
--- a line was refused
-untaken_refused : (a b : Outside) (given : List ℕ) (s : Script) → Gave a.source given b.source → parsed given ≡ Ok s → (a.fresh || list_all is_fault s.lines) ≡ true → ((state : State) → Fits a.store state → takes_all true state s.lines ≡ false) → RefusedScript a b
-untaken_refused a b given s gave is may untaken bytes state known = (
-  script_refused a.fresh state bytes s (parsed_given a given bytes b.source state gave known ∙ is) (takes_all-fresh a.fresh state s.lines ∙ rw (untaken state known.fits) (false_right (a.fresh || list_all is_fault s.lines))),
-  λ held.
-      let taken = faults_taken state s.lines (faults_alone a.fresh (list_all is_fault s.lines) may held) in
-      let not_taken = untaken state known.fits in
-      absurd (cc (taken, not_taken)),
-)
+refused_wrote : (a b : Outside) (line : ℕ) → RefusedAt a line b → Wrote a.sink (refusal_text line) b.sink → RefusedScript a b
+refused_wrote a b line refused wrote bytes state known =
+    let here = refused bytes state known in
+    (line, here.0, wrote, here.1)
 
 -- the refusal of a script is printed
-refused_script : (a b : Outside) (given : List ℕ) (status : ℕ) → Gave a.source given b.source → NeverFall a.store.counts b.store.counts → RefusedScript a b → Concludes 1 a.sink (refusal_text 0) status b.sink → RanSession a status b
-refused_script a b given status gave counts refused (inl whole) words is =
-    ran_refused words a b status (kept_session words a b status is counts gave.taken) gave.fine whole (λ _. refused)
-refused_script a b given status gave counts refused (inr part) words is =
-    ran_sink_failed words a b (refusal_text 0) status (kept_session words a b status is counts gave.taken) gave.fine part
-    (λ _ bytes state known. inl (record { none = (refused bytes state known).0; is_text = refl }))
-
--- the bytes are no script, and that is printed
-pub unparsed_script : (a b : Outside) (given : List ℕ) (line status : ℕ) → Gave a.source given b.source → parsed given ≡ Err line → SameShown a.store b.store → NeverFall a.store.counts b.store.counts → Concludes 1 a.sink (refusal_text line) status b.sink → RanSession a status b
-unparsed_script a b given line status gave is same counts concludes =
-    let zero : line ≡ 0 = refused_at_zero given line is in
-    let none : parsed given ≡ Err 0 = subst (λ (n : ℕ). parsed given ≡ Err n) zero is in
-    refused_script a b given status gave counts (unparsed_refused a b given gave none same) (subst (λ (n : ℕ). Concludes 1 a.sink (refusal_text n) status b.sink) zero concludes)
-
--- a store that isn't fresh was to take files
-pub held_script : (a b : Outside) (given : List ℕ) (s : Script) (status : ℕ) → Gave a.source given b.source → parsed given ≡ Ok s → false ≡ (a.fresh || list_all is_fault s.lines) → SameShown a.store b.store → NeverFall a.store.counts b.store.counts → Concludes 1 a.sink (refusal_text 0) status b.sink → RanSession a status b
-held_script a b given s status gave is held same counts concludes =
-    refused_script a b given status gave counts (held_refused a b given s gave is held same) concludes
-
--- a line was not taken
-pub untaken_script : (a b : Outside) (given : List ℕ) (s : Script) (status : ℕ) → Gave a.source given b.source → parsed given ≡ Ok s → (a.fresh || list_all is_fault s.lines) ≡ true → ((state : State) → Fits a.store state → takes_all true state s.lines ≡ false) → NeverFall a.store.counts b.store.counts → Concludes 1 a.sink (refusal_text 0) status b.sink → RanSession a status b
-untaken_script a b given s status gave is may untaken counts concludes =
-    refused_script a b given status gave counts (untaken_refused a b given s gave is may untaken) concludes
+pub refused_script : (a b : Outside) (given : List ℕ) (read : Parsed) (line status : ℕ) → Gave a.source given b.source → Parses given read → RefusesScript a.fresh a.store read.lines read.bad line b.store → NeverFall a.store.counts b.store.counts → Concludes 1 a.sink (refusal_text line) status b.sink → RanSession a status b
+refused_script a b given read line status gave parses refuses counts (inl whole) words is =
+    ran_refused words a b line status (kept_session words a b status is counts gave.taken) gave.fine whole
+    (λ _. refused_wrote a b line (refused_at a b given read line gave parses refuses) whole.wrote)
+refused_script a b given read line status gave parses refuses counts (inr part) words is =
+    ran_sink_failed words a b (refusal_text line) status (kept_session words a b status is counts gave.taken) gave.fine part
+    (λ _ bytes state known. inl (record { line = line; none = (refused_at a b given read line gave parses refuses bytes state known).0; is_text = refl }))
 
 -- there was no memory for a script
 pub starved_script : (source left : SourceShown) (sink : SinkShown) (store store' : Shown) (fresh fresh' : Bool) (given : List ℕ) (status : ℕ) → Gave source given left → NeverFall store.counts store'.counts → status ≡ 3 → RanSession (outside source sink store fresh) status (outside left sink store' fresh')
@@ -195,12 +147,18 @@ none_rose_since n m old mid new is same none = record {
   nodes = λ d rose. none.nodes d (rw (← same.nodes d) rose);
 }
 
+-- plain lines were loaded, in order
+pub record LoadsPlain (old : Shown) (lines : List Line) (new : Shown) : Type 0 where
+  pub namenodes : new.namenodes ≡ old.namenodes
+  pub counts : SameCounts old.counts new.counts
+  pub loaded : new.loaded ≡ old.loaded ++ lines
+  pub fits : (state : State) → Fits old state → Fits new (with_lines state lines)
+
 -- the lines of a script were loaded, and its commands were run over the store that they made
 pub record LoadedRun (a : Outside) (given : List ℕ) (s : Script) (mid : Shown) (b : Outside) : Type 0 where
   pub gave : Gave a.source given b.source
-  pub is : parsed given ≡ Ok s
-  pub may : (a.fresh || list_all is_fault s.lines) ≡ true
-  pub loads : LoadsAll a.store s.lines mid
+  pub is : (state : State) → Fits a.store state → script a.fresh state given ≡ Ok s
+  pub loads : LoadsPlain a.store s.lines mid
   pub later : Later mid b.store
 
 after_lines : (a b : Outside) (given : List ℕ) (s : Script) (mid : Shown) → LoadedRun a given s mid b → (bytes : List ℕ) (state : State) → IsKnown a bytes state → IsKnownStore mid (with_lines state s.lines)
@@ -209,7 +167,7 @@ after_lines a b given s mid run bytes state known =
 
 loaded_from : (a b : Outside) (given : List ℕ) (s : Script) (mid : Shown) → LoadedRun a given s mid b → (bytes : List ℕ) (state : State) → IsKnown a bytes state → Loaded a bytes state s b
 loaded_from a b given s mid run bytes state known = record {
-  is = script_is a.fresh state bytes s (parsed_given a given bytes b.source state run.gave known ∙ run.is) (takes_all-fresh a.fresh state s.lines ∙ rw (run.may, run.loads.taken state known.fits) refl);
+  is = given_is a given bytes b.source state run.gave known ∙ run.is state known.fits;
   lines = run.later.loaded ∙ run.loads.loaded;
 }
 
@@ -262,18 +220,26 @@ ran_ending a b given s mid status run (inl whole) words is =
 ran_ending a b given s mid status run (inr (inl end)) words is = ran_end a b given s mid status run end end.printed words is
 ran_ending a b given s mid status run (inr (inr stop)) words is = ran_fault a b given s mid status run stop stop.printed words is
 
+loaded_run : (a b : Outside) (given : List ℕ) (read : Parsed) (mid : Shown) → Gave a.source given b.source → Parses given read → LoadsScript a.fresh a.store read.lines read.bad mid → Later mid b.store → LoadedRun a given (script_read read) mid b
+loaded_run a b given read mid gave parses loads later = record {
+  gave = gave;
+  is = λ state fits. script_from a.fresh state given read parses (loads.none state fits);
+  loads = record { namenodes = loads.loads.namenodes; counts = loads.loads.counts; loaded = loads.loads.loaded; fits = loads.loads.fits };
+  later = later;
+}
+
 -- the lines were loaded, and the commands run
-pub ran_loaded : (a b : Outside) (given : List ℕ) (s : Script) (mid : Shown) (status : ℕ) → Gave a.source given b.source → parsed given ≡ Ok s → (a.fresh || list_all is_fault s.lines) ≡ true → LoadsAll a.store s.lines mid → RanCommands s.commands mid b.store a.sink status b.sink → RanSession a status b
-ran_loaded a b given s mid status gave is may loads ran =
-    ran_ending a b given s mid status (record { gave = gave; is = is; may = may; loads = loads; later = ran.later }) ran.ending
+pub ran_loaded : (a b : Outside) (given : List ℕ) (read : Parsed) (mid : Shown) (status : ℕ) → Gave a.source given b.source → Parses given read → LoadsScript a.fresh a.store read.lines read.bad mid → RanCommands read.commands mid b.store a.sink status b.sink → RanSession a status b
+ran_loaded a b given read mid status gave parses loads ran =
+    ran_ending a b given (script_read read) mid status (loaded_run a b given read mid gave parses loads ran.later) ran.ending
 
 -- and where they stopped, that was noted
-pub notes_loaded : (a b : Outside) (given : List ℕ) (s : Script) (mid : Shown) (status : ℕ) (note : Note) → Gave a.source given b.source → parsed given ≡ Ok s → (a.fresh || list_all is_fault s.lines) ≡ true → LoadsAll a.store s.lines mid → Later mid b.store → status ≡ 2 → NotesStop s.commands mid b.store a.sink status note b.sink → NotesFault a note b
+pub notes_loaded : (a b : Outside) (given : List ℕ) (read : Parsed) (mid : Shown) (status : ℕ) (note : Note) → Gave a.source given b.source → Parses given read → LoadsScript a.fresh a.store read.lines read.bad mid → Later mid b.store → status ≡ 2 → NotesStop read.commands mid b.store a.sink status note b.sink → NotesFault a note b
 unfolding halts_from
-notes_loaded a b given s mid status note gave is may loads later two noted =
-    let run : LoadedRun a given s mid b = record { gave = gave; is = is; may = may; loads = loads; later = later } in record {
+notes_loaded a b given read mid status note gave parses loads later two noted =
+    let run : LoadedRun a given (script_read read) mid b = loaded_run a b given read mid gave parses loads later in record {
       fault = noted.stop.fault;
       is = noted.is;
       wrote = whole_at_2 status a.sink b.sink (fault_text noted.stop.fault) noted.stop.printed two;
-      halts = λ bytes state known. (halts_from a b given s mid status run noted.stop bytes state known, refl);
+      halts = λ bytes state known. (halts_from a b given (script_read read) mid status run noted.stop bytes state known, refl);
     }

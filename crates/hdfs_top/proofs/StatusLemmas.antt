@@ -4,8 +4,7 @@ use Rattle.hdfs_model.specs.Counts.{NeverFall}
 use Rattle.hdfs_model.specs.Files.{State}
 use Rattle.hdfs_model.specs.Folds.{Folded, Ends, Stops, fold}
 use Rattle.hdfs_model.specs.Loading.{with_lines}
-use Rattle.hdfs_script.specs.declared.entry.Script.{Script}
-use Rattle.hdfs_script.specs.Scripts.{script, script_limit, script_world}
+use Rattle.hdfs_script.specs.Scripts.{Script, script, script_limit, script_world}
 use Rattle.hdfs_script.specs.Texts.{refusal_text}
 use Rattle.hdfs_streams.specs.Streams.{TookAtMost}
 use Rattle.hdfs_top.specs.Top.{IsSession, Outside, IsKnown, Finishes, Halts, IsText, RefusedScript, RefusedWords, FailedSource, StatusOf, ScriptDecides, RanProgram}
@@ -50,14 +49,14 @@ ran_done words a b text status kept same whole finishes = record {
 }
 
 -- words or script are refused
-pub ran_refused : (words : List (List ℕ)) (a b : Outside) (status : ℕ) → Kept words a status b → b.source.failures ≡ a.source.failures → PrintsWhole 1 a.sink (refusal_text 0) status b.sink → (IsSession words → RefusedScript a b) → RanProgram words a status b
-ran_refused words a b status kept same whole refused = record {
+pub ran_refused : (words : List (List ℕ)) (a b : Outside) (line status : ℕ) → Kept words a status b → b.source.failures ≡ a.source.failures → PrintsWhole 1 a.sink (refusal_text line) status b.sink → (IsSession words → RefusedScript a b) → RanProgram words a status b
+ran_refused words a b line status kept same whole refused = record {
   statuses = omega (arith, whole.is);
   counts = kept.counts;
   read = kept.read;
   other = kept.other;
   done = λ zero. absurd (omega arith);
-  refused = λ one. whole.wrote;
+  refused = λ one. (line, whole.wrote);
   no_script = λ one is. refused is;
   stopped = λ two. absurd (omega arith);
   memory = λ three. absurd (omega arith);
@@ -66,7 +65,7 @@ ran_refused words a b status kept same whole refused = record {
   sink = λ five. absurd (omega arith);
   prefix = λ five. absurd (omega arith);
   write_fine = λ _. whole.fine;
-  complete = λ is bytes state parsed known found none. let no = (refused is bytes state known).0 in absurd (cc (no, found));
+  complete = λ is bytes state parsed known found none. let no = (refused is bytes state known).1 in absurd (cc (no, found));
 }
 
 -- a command failed

@@ -25,12 +25,12 @@ kept_words words source sink sink' store fresh status refused =
 -- the words are refused
 pub refused_words : (words : List (List ℕ)) (source : SourceShown) (sink sink' : SinkShown) (store : Shown) (fresh : Bool) (status : ℕ) → (IsSession words → ⊥) → Concludes 1 sink (refusal_text 0) status sink' → RanProgram words (outside source sink store fresh) status (outside source sink' store fresh)
 refused_words words source sink sink' store fresh status other (inl whole) =
-    ran_refused words (outside source sink store fresh) (outside source sink' store fresh) status
-    (kept_words words source sink sink' store fresh status (record { statuses = inl whole.is; source = refl; store = same_shown_refl store; part = wrote_part sink sink' (refusal_text 0) whole.wrote }))
+    ran_refused words (outside source sink store fresh) (outside source sink' store fresh) 0 status
+    (kept_words words source sink sink' store fresh status (record { statuses = inl whole.is; source = refl; store = same_shown_refl store; whole = λ _. whole.wrote; part = wrote_part sink sink' (refusal_text 0) whole.wrote }))
     refl whole (λ is. absurd (other is))
 refused_words words source sink sink' store fresh status other (inr part) =
     ran_sink_failed words (outside source sink store fresh) (outside source sink' store fresh) (refusal_text 0) status
-    (kept_words words source sink sink' store fresh status (record { statuses = inr part.is; source = refl; store = same_shown_refl store; part = part.part }))
+    (kept_words words source sink sink' store fresh status (record { statuses = inr part.is; source = refl; store = same_shown_refl store; whole = λ one. absurd (omega (arith, part.is, one)); part = part.part }))
     refl part (λ is. absurd (other is))
 
 -- there was no memory to read the source

@@ -1,6 +1,5 @@
 -- No public clause cites this module: what the steps of the program have done.
-use Rattle.std.specs.Prelude.{◌≡◌, ◌≢◌, ◌⊎◌, ℕ, ◌+◌, true, List, [], ◌++◌}
-use Rattle.hdfs_model.specs.declared.store.Line.{Line}
+use Rattle.std.specs.Prelude.{◌≡◌, ◌≢◌, ◌⊎◌, ℕ, ◌+◌, Bool, true, false, List, [], ◌++◌, Option, Some, None}
 use Rattle.hdfs_model.specs.declared.commands.Command.{Command}
 use Rattle.hdfs_model.specs.declared.commands.Reply.{Reply}
 use Rattle.hdfs_model.specs.declared.errors.Fault.{Fault}
@@ -9,10 +8,12 @@ use Rattle.hdfs_model.specs.Counts.{NoneRose, Rose, SameCounts}
 use Rattle.hdfs_model.specs.Files.{State}
 use Rattle.hdfs_model.specs.Folds.{Ends, fold}
 use Rattle.hdfs_model.specs.Headline.{Stopped}
-use Rattle.hdfs_model.specs.Loading.{with_lines}
+use Rattle.hdfs_model.specs.Loading.{SameShown, with_lines}
 use Rattle.hdfs_model.specs.Sessions.{Fits}
 use Rattle.hdfs_model.specs.Shown.{Shown, Later}
-use Rattle.hdfs_script.specs.Scripts.{script_limit, script_world, takes_all}
+use Rattle.hdfs_script.specs.declared.entry.NumberedLine.{NumberedLine}
+use Rattle.hdfs_script.specs.Parsing.{first_untaken, or_else, plain_lines}
+use Rattle.hdfs_script.specs.Scripts.{script_limit, script_world}
 use Rattle.hdfs_script.specs.Texts.{replies_text, fault_text}
 use Rattle.hdfs_streams.specs.Streams.{SourceShown, SinkShown, TookAtMost, IsFront, Wrote, WrotePart}
 use Rattle.hdfs_top.specs.declared.note.Note.{Note}
@@ -36,12 +37,22 @@ pub record IsKnownStore (store : Shown) (state : State) : Type 0 where
   pub closed : IsClosed state
 
 -- lines were loaded, in order
-pub record LoadsAll (old : Shown) (lines : List Line) (new : Shown) : Type 0 where
+pub record LoadsAll (old : Shown) (lines : List NumberedLine) (new : Shown) : Type 0 where
   pub namenodes : new.namenodes ≡ old.namenodes
   pub counts : SameCounts old.counts new.counts
-  pub loaded : new.loaded ≡ old.loaded ++ lines
-  pub taken : (state : State) → Fits old state → takes_all true state lines ≡ true
-  pub fits : (state : State) → Fits old state → Fits new (with_lines state lines)
+  pub loaded : new.loaded ≡ old.loaded ++ plain_lines lines
+  pub taken : (state : State) → Fits old state → first_untaken true state lines ≡ None
+  pub fits : (state : State) → Fits old state → Fits new (with_lines state (plain_lines lines))
+
+-- the lines that were read of a script were loaded, and none of its lines is bad
+pub record LoadsScript (fresh : Bool) (old : Shown) (lines : List NumberedLine) (bad : Option ℕ) (new : Shown) : Type 0 where
+  pub loads : LoadsAll old lines new
+  pub none : (state : State) → Fits old state → or_else (first_untaken fresh state lines) bad ≡ None
+
+-- the first bad line of a script that was read has this number, and a store that isn't fresh is as it was
+pub record RefusesScript (fresh : Bool) (old : Shown) (lines : List NumberedLine) (bad : Option ℕ) (number : ℕ) (new : Shown) : Type 0 where
+  pub first : (state : State) → Fits old state → or_else (first_untaken fresh state lines) bad ≡ Some number
+  pub same : (state : State) → Fits old state → fresh ≡ false → SameShown old new
 
 -- a text was printed, and no write failed
 pub record PrintsWhole (good : ℕ) (before : SinkShown) (text : List ℕ) (status : ℕ) (after : SinkShown) : Type 0 where

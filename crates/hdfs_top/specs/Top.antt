@@ -10,8 +10,7 @@ use Rattle.hdfs_model.specs.Headline.{Stopped}
 use Rattle.hdfs_model.specs.Loading.{SameShown, with_lines}
 use Rattle.hdfs_model.specs.Sessions.{Fits, SameOpened, none_open}
 use Rattle.hdfs_model.specs.Shown.{Shown}
-use Rattle.hdfs_script.specs.declared.entry.Script.{Script}
-use Rattle.hdfs_script.specs.Scripts.{script, script_limit, script_world}
+use Rattle.hdfs_script.specs.Scripts.{Script, script, script_limit, script_world}
 use Rattle.hdfs_script.specs.Texts.{replies_text, fault_text, refusal_text}
 use Rattle.hdfs_streams.specs.Streams.{SourceShown, SinkShown, TookAtMost, Wrote, WrotePart}
 use Rattle.hdfs_top.specs.declared.note.Note.{Note}
@@ -70,10 +69,11 @@ pub record Halts (before : Outside) (bytes : List ℕ) (state : State) (text : L
   pub stopped : Stopped script_world (with_lines state parsed.lines) parsed.commands before.store after.store fault
   pub is_text : text ≡ fault_text fault
 
--- the bytes are no script over the store
+-- the bytes are no script over the store: the text tells the number of their first bad line
 pub record Refuses (before : Outside) (bytes : List ℕ) (state : State) (text : List ℕ) : Type 0 where
-  pub none : script before.fresh state bytes ≡ Err 0
-  pub is_text : text ≡ refusal_text 0
+  pub line : ℕ
+  pub none : script before.fresh state bytes ≡ Err line
+  pub is_text : text ≡ refusal_text line
 
 -- a text that the program may write
 abbrev pub IsText : Outside → List ℕ → State → List ℕ → Outside → Type 0
@@ -103,16 +103,22 @@ abbrev pub WroteSome : Outside → Outside → Type 0
 WroteSome before after = (bytes : List ℕ) (state : State) → IsKnown before bytes state
     → (text : List ℕ) × IsText before bytes state text after × WrotePart before.sink text after.sink
 
--- the bytes are refused, and a store that isn't fresh is as it was
+-- the refusal of some line was written
+abbrev pub WroteRefusal : Outside → Outside → Type 0
+WroteRefusal before after = (line : ℕ) × Wrote before.sink (refusal_text line) after.sink
+
+-- The bytes are refused: the number of their first bad line was written, and a store that isn't fresh is as it was.
 abbrev pub RefusedScript : Outside → Outside → Type 0
 RefusedScript before after = (bytes : List ℕ) (state : State) → IsKnown before bytes state
-    → (script before.fresh state bytes ≡ Err 0) × (before.fresh ≡ false → SameShown before.store after.store)
+    → (line : ℕ) × (script before.fresh state bytes ≡ Err line) × Wrote before.sink (refusal_text line) after.sink
+    × (before.fresh ≡ false → SameShown before.store after.store)
 
--- Other words are refused: nothing is read, the store is as it was, and a prefix of the refusal was written, or all of it.
+-- Other words are refused, at line 0: nothing is read, the store is as it was, and the refusal was written, or a prefix of it.
 pub record RefusedWords (before : Outside) (status : ℕ) (after : Outside) : Type 0 where
   pub statuses : (status ≡ 1) ⊎ (status ≡ 5)
   pub source : after.source ≡ before.source
   pub store : SameShown before.store after.store
+  pub whole : status ≡ 1 → Wrote before.sink (refusal_text 0) after.sink
   pub part : WrotePart before.sink (refusal_text 0) after.sink
 
 -- The source failed: nothing was written, and the store is as it was.
@@ -148,7 +154,7 @@ pub record RanProgram (words : List (List ℕ)) (before : Outside) (status : ℕ
   -- 0: every reply was written
   pub done : status ≡ 0 → WroteReplies before after
   -- 1: words or script are refused, and that was written
-  pub refused : status ≡ 1 → Wrote before.sink (refusal_text 0) after.sink
+  pub refused : status ≡ 1 → WroteRefusal before after
   pub no_script : status ≡ 1 → IsSession words → RefusedScript before after
   -- 2: a command failed; the replies before it and a line with the fault were written
   pub stopped : status ≡ 2 → WroteFault before after

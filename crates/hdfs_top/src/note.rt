@@ -18,15 +18,12 @@ pub enum Note {
     /// The words aren't those of a session.
     #[error("unknown words")]
     Words,
-    /// The script goes wrong at a line, or is too long.
+    /// The script goes wrong at a line.
     #[error("{0}")]
     Script(Complaint),
     /// The script is refused, and there was no memory to say where.
     #[error("not a script")]
     NoScript,
-    /// The store isn't fresh, so a script for it has no line with a file.
-    #[error("the store isn't fresh, so it takes no line with a file")]
-    HeldStore,
     /// A session stopped at this command, counted from 1, or at 0 before the first.
     #[error("command {at}: {error}")]
     Stopped { at: u64, error: HdfsError },

@@ -53,7 +53,7 @@ fn run_source<S: Source, K: Sink, C: Store>(
 /// | Status | Comes |
 /// |---|---|
 /// | 0 | every reply was written |
-/// | 1 | words or script are refused, and `bad 0` was written |
+/// | 1 | the words are refused, and `bad 0` was written, or the script is, and `bad N` was: N is its first bad line, from 1 on |
 /// | 2 | a command failed for another cause than memory; the replies before it and a line with the fault were written |
 /// | 3 | for want of memory; nothing was written |
 /// | 4 | only where the source failed; nothing was written, and the store is as it was |

@@ -3,20 +3,19 @@ ghost use Rattle.std.specs.Prelude.{◌≡◌, ◌≢◌, ◌⊎◌, ◌<◌, �
 ghost use Rattle.std.specs.List.{list_all};
 ghost use Rattle.hdfs_model.specs.Sessions.{has_path};
 ghost use Rattle.hdfs_model.specs.declared.errors.HdfsError.TheVariants as errors;
-ghost use Rattle.hdfs_script.specs.Scripts.{parsed, script_world};
+ghost use Rattle.hdfs_script.specs.Parsing.{Parses};
+ghost use Rattle.hdfs_script.specs.Scripts.{script_world};
 ghost use Rattle.hdfs_script.specs.Texts.{fault_text};
 ghost use Rattle.hdfs_streams.specs.Streams.{SourceShown};
 ghost use Rattle.hdfs_top.specs.Top.{outside, NotesFault};
 ghost use Rattle.hdfs_top.specs.Inside.{PrintsWhole, Concludes, RanCommands, RanSession, Gave, NotesStop};
 
-use crate::load_lines::{load_lines, may_take};
+use crate::load_lines::{LoadFault, load_script};
 use crate::note::{Note, note_of_commands, note_of_fault, note_of_script};
 use crate::status::{refuse, tell_fault, tell_replies};
 use hdfs_client::run_session;
-use hdfs_model::{AddFault, Command, Fault, HdfsError, Settings, Store};
-use hdfs_script::{
-    SCRIPT_HOME, Script, ScriptFault, complaint_of_load, complaint_of_script, parse,
-};
+use hdfs_model::{Command, Fault, HdfsError, Settings, Store};
+use hdfs_script::{Parsed, SCRIPT_HOME, complaint_at, parse};
 use hdfs_streams::Sink;
 use hdfs_wire::{NoMemory, Text};
 use std::alloc::Global;
@@ -69,41 +68,37 @@ fn run_commands<K: Sink, C: Store>(
     }
 }
 
-// Runs the script that a text is over a store: its lines are loaded, and its commands run.
+// Runs what was read of a script over a store: its lines are loaded, and its commands run, unless a line is bad.
 fn run_parsed<K: Sink, C: Store>(
     alloc: Global,
     text: &[u8],
-    script: Script,
+    read: Parsed,
     sink: &mut K,
     store: &mut C,
     note: &mut Note,
 ) -> u8
     requires namenode { 0 < (C.shown store.old).namenodes }
-    requires paths { list_all has_path script.commands ≡ true }
-    ensures ran { (bytes : List ℕ) (source left : SourceShown) → parsed bytes ≡ Ok script → Gave source bytes left
+    requires paths { list_all has_path read.commands ≡ true }
+    ensures ran { (bytes : List ℕ) (source left : SourceShown) → Parses bytes read → Gave source bytes left
         → RanSession (outside source (K.shown sink.old) (C.shown store.old) (C.is_fresh store.old)) result
         (outside left (K.shown sink.new) (C.shown store.new) (C.is_fresh store.new)) }
-    ensures noted { result ≡ 2 → (bytes : List ℕ) (source left : SourceShown) → parsed bytes ≡ Ok script → Gave source bytes left
+    ensures noted { result ≡ 2 → (bytes : List ℕ) (source left : SourceShown) → Parses bytes read → Gave source bytes left
         → NotesFault (outside source (K.shown sink.old) (C.shown store.old) (C.is_fresh store.old)) note.new
         (outside left (K.shown sink.new) (C.shown store.new) (C.is_fresh store.new)) }
 {
-    let Script { lines, commands } = script;
-    if !may_take(store.fresh(), lines.as_slice()) {
-        *note = Note::HeldStore;
-        return refuse(sink, 0);
-    }
-    let mut taken = 0;
-    match load_lines(store, lines, &mut taken) {
+    let Parsed { lines, commands, bad } = read;
+    let fresh = store.fresh();
+    match load_script(store, lines, bad) {
         Ok(()) => run_commands(alloc, commands.as_slice(), sink, store, note),
-        Err(AddFault::Refused) => {
-            *note = note_of_script(complaint_of_load(alloc, text, taken));
-            refuse(sink, 0)
+        Err(LoadFault::Refused(line)) => {
+            *note = note_of_script(complaint_at(alloc, text, fresh, line));
+            refuse(sink, line)
         }
-        Err(AddFault::NoMemory) => 3,
+        Err(LoadFault::NoMemory) => 3,
     }
 }
 
-/// Runs the script that bytes are over a store, or prints that they are refused. They came from some source.
+/// Runs the script that bytes are over a store, or prints which line is the first bad one. They came from some source.
 pub(crate) fn run_script<K: Sink, C: Store>(
     alloc: Global,
     bytes: &[u8],
@@ -120,11 +115,7 @@ pub(crate) fn run_script<K: Sink, C: Store>(
         (outside left (K.shown sink.new) (C.shown store.new) (C.is_fresh store.new)) }
 {
     match parse(alloc, bytes) {
-        Ok(script) => run_parsed(alloc, bytes, script, sink, store, note),
-        Err(ScriptFault::Bad(line)) => {
-            *note = note_of_script(complaint_of_script(alloc, bytes));
-            refuse(sink, line)
-        }
-        Err(ScriptFault::NoMemory) => 3,
+        Ok(read) => run_parsed(alloc, bytes, read, sink, store, note),
+        Err(NoMemory) => 3,
     }
 }

@@ -1,0 +1,99 @@
+-- Which line is bad, from its two halves: what a parser has read, and what a store takes of it.
+use Rattle.std.proofs.Common.{◌≡◌, ℕ, ◌+◌, Bool, true, false, ◌&&◌, ◌||◌, List, [], ◌∷◌, map, Option, Some, None, Ok, Err, if◌then◌else◌, refl, sym, ◌∙◌, ap}
+use Rattle.hdfs_model.specs.declared.store.Line.{Line}
+use Rattle.hdfs_model.specs.declared.store.Line.TheVariants as lines
+use Rattle.hdfs_model.specs.Files.{State}
+use Rattle.hdfs_model.specs.Loading.{takes, with_line}
+use Rattle.hdfs_script.specs.declared.entry.Entry.{Entry}
+use Rattle.hdfs_script.specs.declared.entry.Entry.TheVariants.{Blank, Loads, Runs, Bad}
+use Rattle.hdfs_script.specs.declared.entry.NumberedLine.{NumberedLine}
+use Rattle.hdfs_script.specs.declared.entry.Parsed.{Parsed}
+use Rattle.hdfs_script.specs.Parsing.{Parses, good_front, first_out, first_file, first_untaken, numbered_from, or_else, plain_lines}
+use Rattle.hdfs_script.specs.Scripts.{Script, script, entries_in, lines_of, commands_of, first_bad, is_fault, is_taken, may_stand, part_of, unless_bad, with_entry}
+
+-- an entry that stands in order, by whether it's taken
+standing : (fresh : Bool) (state : State) (now number : ℕ) (entry : Entry) (rest : List Entry)
+    → first_bad fresh (with_entry state entry) (part_of now entry) (number + 1) rest ≡ or_else (first_untaken fresh (with_entry state entry) (numbered_from (number + 1) (good_front (part_of now entry) rest))) (first_out (part_of now entry) (number + 1) rest)
+    → (if is_taken fresh state entry then first_bad fresh (with_entry state entry) (part_of now entry) (number + 1) rest else Some number)
+    ≡ or_else (first_untaken fresh state (numbered_from number (entry ∷ good_front (part_of now entry) rest))) (first_out (part_of now entry) (number + 1) rest)
+standing fresh state now number Blank rest there = there
+standing fresh state now number (Runs command) rest there = there
+standing fresh state now number Bad rest there = there
+standing fresh state now number (Loads line) rest there = loading ((fresh || is_fault line) && takes state.files line) _ _ _ there
+  where
+    loading : (taken : Bool) (a b c : Option ℕ) → a ≡ or_else b c → (if taken then a else Some number) ≡ or_else (if taken then b else Some number) c
+    loading true a b c there = there
+    loading false a b c there = refl
+
+-- the first bad line is one that isn't taken in front of those that are bad by their text or place, or else the first of these
+pub halves : (fresh : Bool) (state : State) (now number : ℕ) (entries : List Entry) → first_bad fresh state now number entries ≡ or_else (first_untaken fresh state (numbered_from number (good_front now entries))) (first_out now number entries)
+halves fresh state now number [] = refl
+halves fresh state now number (entry ∷ rest) =
+    placing (may_stand now entry) (standing fresh state now number entry rest (halves fresh (with_entry state entry) (part_of now entry) (number + 1) rest))
+  where
+    placing : (stands : Bool) → (if is_taken fresh state entry then first_bad fresh (with_entry state entry) (part_of now entry) (number + 1) rest else Some number)
+        ≡ or_else (first_untaken fresh state (numbered_from number (entry ∷ good_front (part_of now entry) rest))) (first_out (part_of now entry) (number + 1) rest)
+        → (if stands && is_taken fresh state entry then first_bad fresh (with_entry state entry) (part_of now entry) (number + 1) rest else Some number)
+        ≡ or_else (first_untaken fresh state (numbered_from number (if stands then entry ∷ good_front (part_of now entry) rest else []))) (if stands then first_out (part_of now entry) (number + 1) rest else Some number)
+    placing true there = there
+    placing false there = refl
+
+-- where no line is bad by its text or place all was read
+good_if : (stands : Bool) (number : ℕ) (entry : Entry) (out : Option ℕ) (front rest : List Entry) → (out ≡ None → front ≡ rest) → (if stands then out else Some number) ≡ None → (if stands then entry ∷ front else []) ≡ entry ∷ rest
+good_if true number entry out front rest there none = ap (λ es. entry ∷ es) (there none)
+good_if false number entry out front rest there none = absurd (cc)
+
+all_good : (now number : ℕ) (entries : List Entry) → first_out now number entries ≡ None → good_front now entries ≡ entries
+all_good now number [] none = refl
+all_good now number (entry ∷ rest) none =
+    good_if (may_stand now entry) number entry (first_out (part_of now entry) (number + 1) rest) (good_front (part_of now entry) rest) rest (all_good (part_of now entry) (number + 1) rest) none
+
+plain_numbered : (number : ℕ) (entries : List Entry) → plain_lines (numbered_from number entries) ≡ lines_of entries
+plain_numbered number [] = refl
+plain_numbered number (Blank ∷ rest) = plain_numbered (number + 1) rest
+plain_numbered number (Loads line ∷ rest) = ap (λ t. line ∷ t) (plain_numbered (number + 1) rest)
+plain_numbered number (Runs command ∷ rest) = plain_numbered (number + 1) rest
+plain_numbered number (Bad ∷ rest) = plain_numbered (number + 1) rest
+
+pub second_none : (first second : Option ℕ) → or_else first second ≡ None → second ≡ None
+second_none None second none = none
+second_none (Some number) second none = absurd (cc)
+
+-- the script that was read
+abbrev pub script_read : Parsed → Script
+script_read read = record { lines = plain_lines read.lines; commands = read.commands }
+
+first_bad_read : (fresh : Bool) (state : State) (bytes : List ℕ) (read : Parsed) → Parses bytes read → first_bad fresh state 0 1 (entries_in bytes) ≡ or_else (first_untaken fresh state read.lines) read.bad
+first_bad_read fresh state bytes read parses =
+    halves fresh state 0 1 (entries_in bytes) ∙ rw (← parses.lines, ← parses.bad) refl
+
+-- no line is bad
+pub script_from : (fresh : Bool) (state : State) (bytes : List ℕ) (read : Parsed) → Parses bytes read → or_else (first_untaken fresh state read.lines) read.bad ≡ None → script fresh state bytes ≡ Ok (script_read read)
+script_from fresh state bytes read parses none =
+    let whole : good_front 0 (entries_in bytes) ≡ entries_in bytes = all_good 0 1 (entries_in bytes) (sym parses.bad ∙ second_none (first_untaken fresh state read.lines) read.bad none) in
+    let lines : plain_lines read.lines ≡ lines_of (entries_in bytes) = ap plain_lines parses.lines ∙ plain_numbered 1 (good_front 0 (entries_in bytes)) ∙ ap lines_of whole in
+    let commands : read.commands ≡ commands_of (entries_in bytes) = parses.commands ∙ ap commands_of whole in
+    ap (λ bad. unless_bad bad (entries_in bytes)) (first_bad_read fresh state bytes read parses ∙ none) ∙ rw (← lines, ← commands) refl
+
+-- the first bad line is this one
+pub refused_from : (fresh : Bool) (state : State) (bytes : List ℕ) (read : Parsed) (number : ℕ) → Parses bytes read → or_else (first_untaken fresh state read.lines) read.bad ≡ Some number → script fresh state bytes ≡ Err number
+refused_from fresh state bytes read number parses is =
+    ap (λ bad. unless_bad bad (entries_in bytes)) (first_bad_read fresh state bytes read parses ∙ is)
+
+-- a store that isn't fresh takes faults alone, and all of them
+pub untaken_held : (state : State) (lines : List NumberedLine) → first_untaken false state lines ≡ first_file lines
+untaken_held state [] = refl
+untaken_held state (numbered ∷ rest) = by_line numbered.line (untaken_held state rest)
+  where
+    by_line : (line : Line) → first_untaken false state rest ≡ first_file rest → (if (false || is_fault line) && takes state.files line then first_untaken false (with_line state line) rest else Some numbered.number) ≡ (if is_fault line then first_file rest else Some numbered.number)
+    by_line (lines.Fault fault) there = there
+    by_line (lines.File path attributes bytes) there = refl
+
+-- faults are taken by every store
+pub faults_taken : (state : State) (lines : List NumberedLine) → first_file lines ≡ None → first_untaken true state lines ≡ None
+faults_taken state [] none = refl
+faults_taken state (numbered ∷ rest) none = by_line numbered.line (faults_taken state rest) none
+  where
+    by_line : (line : Line) → (first_file rest ≡ None → first_untaken true state rest ≡ None) → (if is_fault line then first_file rest else Some numbered.number) ≡ None → (if (true || is_fault line) && takes state.files line then first_untaken true (with_line state line) rest else Some numbered.number) ≡ None
+    by_line (lines.Fault fault) there none = there none
+    by_line (lines.File path attributes bytes) there none = absurd (cc)

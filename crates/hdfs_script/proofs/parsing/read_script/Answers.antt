@@ -1,0 +1,32 @@
+use Rattle.std.proofs.Common.{◌≡◌, ◌++◌, ap, ◌∙◌, refl, sym, arith}
+use Rattle.std.proofs.lemmas.List.{length-take-le}
+use Rattle.hdfs_script.specs.Parsing.{good_front, first_out, numbered_from}
+use Rattle.hdfs_script.specs.Scripts.{commands_of}
+use Rattle.hdfs_script.proofs.ParseLemmas.{entries_short, entries_long}
+use Rattle.hdfs_script.proofs.parsing.read_script.Goals as goal
+
+-- the script isn't too long
+pub returns-then-bytes-le-SCRIPT_LIMIT : goal.returns-then-bytes-le-SCRIPT_LIMIT
+returns-then-bytes-le-SCRIPT_LIMIT c =
+    let entries = entries_short c.args.bytes.now (omega arith) in
+    record {
+      bad = c.in_ok-read_lines.ensures.bad ∙ ap (first_out 0 1) entries;
+      lines = c.in_ok-read_lines.ensures.lines ∙ ap (λ es. c.args.read.now.lines ++ numbered_from 1 (good_front 0 es)) entries;
+      commands = c.in_ok-read_lines.ensures.commands ∙ ap (λ es. c.args.read.now.commands ++ commands_of (good_front 0 es)) entries;
+    }
+
+pub slice_bounds-front-end : goal.slice_bounds-front-end
+slice_bounds-front-end c = omega (arith, length-take-le 16777216 c.args.bytes.now (omega arith))
+
+pub read_lines-requires-2 : goal.read_lines-requires-2
+read_lines-requires-2 c = omega (arith, length-take-le 16777216 c.args.bytes.now (omega arith))
+
+-- it is
+pub returns : goal.returns
+returns c =
+    let entries = entries_long _ c.args.bytes.now _ (omega arith) refl c.count_lines-limit.ensures in
+    record {
+      bad = c.in_ok-read_lines-2.ensures.bad ∙ ap (first_out 0 1) entries;
+      lines = c.in_ok-read_lines-2.ensures.lines ∙ ap (λ es. c.args.read.now.lines ++ numbered_from 1 (good_front 0 es)) entries;
+      commands = c.in_ok-read_lines-2.ensures.commands ∙ ap (λ es. c.args.read.now.commands ++ commands_of (good_front 0 es)) entries;
+    }

@@ -1,0 +1,62 @@
+-- The two halves of which line is bad: by its text and its place, as a parser tells it, and over a store. The program's
+-- contract needs neither.
+use Rattle.std.specs.Prelude.{◌≡◌, ℕ, ◌+◌, Bool, ◌&&◌, ◌||◌, ◌==◌, List, [], ◌∷◌, map, Option, Some, None, if◌then◌else◌}
+use Rattle.hdfs_model.specs.declared.store.Line.{Line}
+use Rattle.hdfs_model.specs.Files.{State}
+use Rattle.hdfs_model.specs.Loading.{takes, with_line}
+use Rattle.hdfs_script.specs.declared.entry.Entry.{Entry}
+use Rattle.hdfs_script.specs.declared.entry.Entry.TheVariants.{Loads, Bad}
+use Rattle.hdfs_script.specs.declared.entry.NumberedLine.{NumberedLine}
+use Rattle.hdfs_script.specs.declared.entry.Parsed.{Parsed}
+use Rattle.hdfs_script.specs.Scripts.{Script, entries_in, commands_of, is_fault, part_of, may_stand}
+
+-- the entries in front of the first that is bad by its text or its place
+abbrev pub good_front : ℕ → List Entry → List Entry
+good_front now [] = []
+good_front now (entry ∷ entries) = if may_stand now entry then entry ∷ good_front (part_of now entry) entries else []
+
+-- the number of the first line that is bad by its text or its place
+abbrev pub first_out : ℕ → ℕ → List Entry → Option ℕ
+first_out now number [] = None
+first_out now number (entry ∷ entries) =
+    if may_stand now entry then first_out (part_of now entry) (number + 1) entries else Some number
+
+-- the lines that are loaded, each with its number, where the next line has this one
+abbrev pub numbered_from : ℕ → List Entry → List NumberedLine
+numbered_from number [] = []
+numbered_from number (Loads line ∷ entries) = record { number = number; line = line } ∷ numbered_from (number + 1) entries
+numbered_from number (_ ∷ entries) = numbered_from (number + 1) entries
+
+-- What was read of a script: its lines and commands up to the first line that is bad by its text or its place, and the number
+-- of that line.
+pub record Parses (bytes : List ℕ) (read : Parsed) : Type 0 where
+  pub lines : read.lines ≡ numbered_from 1 (good_front 0 (entries_in bytes))
+  pub commands : read.commands ≡ commands_of (good_front 0 (entries_in bytes))
+  pub bad : read.bad ≡ first_out 0 1 (entries_in bytes)
+
+-- lines without their numbers
+abbrev pub plain_lines : List NumberedLine → List Line
+plain_lines lines = map (λ numbered. numbered.line) lines
+
+-- the number of the first line that plans no fault
+abbrev pub first_file : List NumberedLine → Option ℕ
+first_file [] = None
+first_file (numbered ∷ rest) = if is_fault numbered.line then first_file rest else Some numbered.number
+
+-- the number of the first line that a store doesn't take over the files so far
+abbrev pub first_untaken : Bool → State → List NumberedLine → Option ℕ
+first_untaken fresh state [] = None
+first_untaken fresh state (numbered ∷ rest) =
+    if (fresh || is_fault numbered.line) && takes state.files numbered.line
+    then first_untaken fresh (with_line state numbered.line) rest
+    else Some numbered.number
+
+-- the first, where there is one, else the second
+abbrev pub or_else : Option ℕ → Option ℕ → Option ℕ
+or_else None second = second
+or_else (Some first) second = Some first
+
+-- entries of which the one of the number `limit` is bad, whatever its line says; no public clause cites it
+abbrev pub bad_from : ℕ → ℕ → List Entry → List Entry
+bad_from limit number [] = []
+bad_from limit number (entry ∷ entries) = (if number == limit then Bad else entry) ∷ bad_from limit (number + 1) entries
