@@ -25,8 +25,8 @@ returns-in-Err-Refused g c =
     }
 
 -- there was no memory
-pub returns-in-Err-NoMemory : goal.returns-in-Err-NoMemory
-returns-in-Err-NoMemory g c = record {
+pub returns : goal.returns
+returns g c = record {
   ran = λ bytes source left parses gave. starved_script _ _ _ _ _ _ _ bytes _ gave (never_fall_from-SameCounts _ _ c.load_script.ensures.counts) refl;
   noted = λ two. absurd (omega (arith, two));
 }
