@@ -20,14 +20,13 @@ use Rattle.hdfs_cluster.specs.MemShown.{shown_of}
 use Rattle.hdfs_cluster.specs.Nodes.{node_at}
 use Rattle.hdfs_cluster.proofs.Failing.{faults-le}
 use Rattle.hdfs_cluster.specs.Starting.{Starts}
-use Rattle.hdfs_script.specs.declared.entry.Script.{Script}
-use Rattle.hdfs_script.specs.Scripts.{is_fault, script, script_world}
+use Rattle.hdfs_script.specs.Scripts.{Script, is_fault, script, script_world}
 use Rattle.hdfs_script.specs.Texts.{fault_text}
 use Rattle.hdfs_streams.specs.Streams.{SourceShown, SinkShown, Wrote}
 use Rattle.hdfs_top.specs.declared.note.Note.{Note}
 use Rattle.hdfs_top.specs.declared.note.Note.TheVariants as notes
 use Rattle.hdfs_top.specs.Top.{IsClosed, IsKnown, IsSession, Loaded, NoneFailed, NotesFault, RanProgram, StatusOf, outside}
-use Rattle.hdfs_in_memory.specs.Program.{Streams, IsUnfailed, IsNew, IsFaultless, FailsAsPlanned, RanStore, PrintsReplies, PrintsFault, NotesPrinted, FaultlessDecides}
+use Rattle.hdfs_in_memory.specs.Program.{Streams, IsUnfailed, IsNew, IsFaultless, FailsAsPlanned, RanStore, PrintsRefusal, PrintsReplies, PrintsFault, NotesPrinted, FaultlessDecides}
 
 -- below the root alone no file is being written
 not_written : (test : Bool) (content : Content) → (if test then Some Dir else None) ≡ Some (Writing content) → ⊥
@@ -66,8 +65,10 @@ ran_store words a status b old new fresh fresh' is_new is planned ran = record {
 }
 
 -- the script is refused
-pub refused_new : (words : List (List ℕ)) (a : Streams) (status : ℕ) (b : Streams) (bytes : List ℕ) → RanStore words a status b → status ≡ 1 → IsSession words → a.source.left ≡ Some bytes → script true empty_state bytes ≡ Err 0
-refused_new words a status b bytes run one is told = (run.ran.no_script one is bytes empty_state (known_new a.source a.sink run.old bytes told run.is_new)).0
+pub refused_new : (words : List (List ℕ)) (a : Streams) (status : ℕ) (b : Streams) (bytes : List ℕ) → RanStore words a status b → status ≡ 1 → IsSession words → a.source.left ≡ Some bytes → PrintsRefusal bytes a.sink b.sink
+refused_new words a status b bytes run one is told =
+    let refused = run.ran.no_script one is bytes empty_state (known_new a.source a.sink run.old bytes told run.is_new) in
+    record { line = refused.0; is = refused.1; wrote = refused.2 }
 
 -- the session came to its end
 pub replies_new : (words : List (List ℕ)) (a : Streams) (status : ℕ) (b : Streams) (bytes : List ℕ) → RanStore words a status b → status ≡ 0 → a.source.left ≡ Some bytes → PrintsReplies bytes a.sink b.sink
@@ -178,7 +179,7 @@ decides_new words a status b bytes run is told parsed found faultless no_read no
     ⊎_elim
     (λ is_zero. decides_loaded words a status b bytes run is told (run.ran.done is_zero bytes empty_state known).1.parsed (run.ran.done is_zero bytes empty_state known).1.loaded parsed found faultless no_read no_write)
     (⊎_elim
-    (λ one. let no = (run.ran.no_script one is bytes empty_state known).0 in absurd (cc (no, found)))
+    (λ one. let no = (run.ran.no_script one is bytes empty_state known).1 in absurd (cc (no, found)))
     (⊎_elim
     (λ two. decides_loaded words a status b bytes run is told (run.ran.stopped two bytes empty_state known).1.parsed (run.ran.stopped two bytes empty_state known).1.loaded parsed found faultless no_read no_write)
     (⊎_elim

@@ -1,5 +1,5 @@
 -- What the program does over a new cluster in memory.
-use Rattle.std.specs.Prelude.{◌≡◌, ◌≢◌, ◌⊎◌, ℕ, ◌≤◌, Bool, true, false, List, [], Ok}
+use Rattle.std.specs.Prelude.{◌≡◌, ◌≢◌, ◌⊎◌, ℕ, ◌≤◌, Bool, true, false, List, [], Ok, Err}
 use Rattle.std.specs.List.{list_any}
 use Rattle.hdfs_model.specs.declared.commands.Reply.{Reply}
 use Rattle.hdfs_model.specs.declared.errors.Fault.{Fault}
@@ -12,9 +12,8 @@ use Rattle.hdfs_model.specs.Loading.{with_lines}
 use Rattle.hdfs_model.specs.Sessions.{Fits}
 use Rattle.hdfs_model.specs.Shown.{Shown}
 use Rattle.hdfs_cluster.specs.Memory.{fault_count}
-use Rattle.hdfs_script.specs.declared.entry.Script.{Script}
-use Rattle.hdfs_script.specs.Scripts.{is_fault, script, script_world}
-use Rattle.hdfs_script.specs.Texts.{replies_text, fault_text}
+use Rattle.hdfs_script.specs.Scripts.{Script, is_fault, script, script_world}
+use Rattle.hdfs_script.specs.Texts.{replies_text, fault_text, refusal_text}
 use Rattle.hdfs_streams.specs.Streams.{SourceShown, SinkShown, Wrote}
 use Rattle.hdfs_top.specs.declared.note.Note.{Note}
 use Rattle.hdfs_top.specs.declared.note.Note.TheVariants as notes
@@ -66,6 +65,12 @@ pub record RanStore (words : List (List ℕ)) (before : Streams) (status : ℕ) 
 -- a run of the program over a new store
 abbrev pub RanNew : List (List ℕ) → Streams → ℕ → Streams → Type 0
 RanNew words before status after = HadNoStore before status after ⊎ RanStore words before status after
+
+-- the refusal of the script's first bad line over no files
+pub record PrintsRefusal (bytes : List ℕ) (before after : SinkShown) : Type 0 where
+  pub line : ℕ
+  pub is : script true empty_state bytes ≡ Err line
+  pub wrote : Wrote before (refusal_text line) after
 
 -- the replies of the script's commands over its files, which stand below a root that was empty
 pub record PrintsReplies (bytes : List ℕ) (before after : SinkShown) : Type 0 where

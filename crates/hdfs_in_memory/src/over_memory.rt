@@ -1,9 +1,7 @@
 //! A run of the program over a new cluster in memory.
-ghost use Rattle.std.specs.Prelude.{◌≡◌, ◌≤◌, ℕ, List, Some, Ok, Err, true, map, string_bytes};
-ghost use Rattle.hdfs_model.specs.Files.{empty_state};
-ghost use Rattle.hdfs_script.specs.Scripts.{script};
+ghost use Rattle.std.specs.Prelude.{◌≡◌, ◌≤◌, ℕ, List, Some, map, string_bytes};
 ghost use Rattle.hdfs_top.specs.Top.{IsSession};
-ghost use Rattle.hdfs_in_memory.specs.Program.{RanNew, PrintsReplies, PrintsFault, NotesPrinted, FaultlessDecides};
+ghost use Rattle.hdfs_in_memory.specs.Program.{RanNew, PrintsRefusal, PrintsReplies, PrintsFault, NotesPrinted, FaultlessDecides};
 
 use hdfs_cluster::{MemCluster, MemSettings};
 use hdfs_streams::{Sink, Source};
@@ -26,7 +24,7 @@ pub fn run_words<S: Source, K: Sink>(
 
     // over a source that tells its bytes
     ensures refused { result ≡ 1 → IsSession (map string_bytes words.now) → (bytes : List ℕ) → (S.shown source.old).left ≡ Some bytes
-        → script true empty_state bytes ≡ Err 0 }
+        → PrintsRefusal bytes (K.shown sink.old) (K.shown sink.new) }
     ensures done { result ≡ 0 → (bytes : List ℕ) → (S.shown source.old).left ≡ Some bytes
         → PrintsReplies bytes (K.shown sink.old) (K.shown sink.new) }
     ensures stopped { result ≡ 2 → (bytes : List ℕ) → (S.shown source.old).left ≡ Some bytes

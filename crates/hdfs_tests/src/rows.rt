@@ -1,5 +1,6 @@
 //! Scripts, and what the program writes for them.
-use crate::support::{answer, expected, plain_answer};
+use crate::support::{answer, expected, plain_answer, refused};
+use std::alloc::Global;
 use std::test::Fail;
 
 /// Scripts without faults, what is written, and the status.
@@ -140,73 +141,87 @@ fn a_broken_packet_fails_the_read_that_met_it(rt: HostRuntime) -> Result<(), Fai
     Ok(())
 }
 
-/// Scripts with a bad line.
-const BAD: [&str; 58] = [
-    "file  /a 644 1 8 00",
-    " file /a 644 1 8 00",
-    "file /a 644 1 8 00 ",
-    "file /a 644 1 8 ",
-    "file /a 644 1 8",
-    "file /a +644 1 8 00",
-    "file /a 644 +1 8 00",
-    "file /a 644 1 +8 00",
-    "file /a -1 1 8 00",
-    "file /a 0644 1 8 00",
-    "file /a 644 01 8 00",
-    "file /a 644 1 08 00",
-    "file /a 648 1 8 00",
-    "file /a 10000 1 8 00",
-    "file /a 644 0 8 00",
-    "file /a 644 2 8 00",
-    "file /a 644 4294967296 8 00",
-    "file /a 644 1 0 -",
-    "file /a 644 1 9223372036854775808 -",
-    "file /a 644 1 18446744073709551616 -",
-    "file /a 644 1 8 0A",
-    "file /a 644 1 8 000",
-    "file /a 644 1 8 0g",
-    "file /a 644 1 8 --",
-    "file /a 644 1 1 0001",
-    "file a 644 1 8 00",
-    "file // 644 1 8 00",
-    "file /a/ 644 1 8 00",
-    "file /. 644 1 8 00",
-    "file /.. 644 1 8 00",
-    "file / 644 1 8 00",
-    "file /a/b 644 1 8 00",
-    "file /a 644 1 8 00\nfile /a 644 1 8 00",
-    "file /a 644 1 8 00\nfile /a/b 644 1 8 00",
-    "file /\t 644 1 8 00",
-    "file /\u{7f} 644 1 8 00",
-    "file /\u{e9} 644 1 8 00",
-    "# \u{e9}",
-    "file /a 644 1 8 00\r\n",
-    "File /a 644 1 8 00",
-    "do read /a 0",
-    "do read /a 0 1 2",
-    "do read /a -1 0",
-    "do read /a 0 18446744073709551616",
-    "do read a 0 0",
-    "do read /a/../b 0 0",
-    "do write /a 00",
-    "do  read /a 0 0",
-    "fault read 4294967296 1 broken",
-    "fault read 0 0 broken",
-    "fault read 0 18446744073709551616 broken",
-    "fault read 0 1 damaged",
-    "fault link 1 broken",
-    "fault read 0 1 broken\nfile /a 644 1 8 00",
-    "do read /x 0 0\nfault read 0 1 broken",
-    "do read /x 0 0\nfile /a 644 1 8 00",
-    "set nodes 3",
-    "dir /a",
+/// Scripts that are refused, and their first bad line.
+const BAD: [(&str, u64); 72] = [
+    ("file  /a 644 1 8 00", 1),
+    (" file /a 644 1 8 00", 1),
+    ("file /a 644 1 8 00 ", 1),
+    ("file /a 644 1 8 ", 1),
+    ("file /a 644 1 8", 1),
+    ("file /a +644 1 8 00", 1),
+    ("file /a 644 +1 8 00", 1),
+    ("file /a 644 1 +8 00", 1),
+    ("file /a -1 1 8 00", 1),
+    ("file /a 0644 1 8 00", 1),
+    ("file /a 644 01 8 00", 1),
+    ("file /a 644 1 08 00", 1),
+    ("file /a 648 1 8 00", 1),
+    ("file /a 10000 1 8 00", 1),
+    ("file /a 644 0 8 00", 1),
+    ("file /a 644 2 8 00", 1),
+    ("file /a 644 4294967296 8 00", 1),
+    ("file /a 644 1 0 -", 1),
+    ("file /a 644 1 9223372036854775808 -", 1),
+    ("file /a 644 1 18446744073709551616 -", 1),
+    ("file /a 644 1 8 0A", 1),
+    ("file /a 644 1 8 000", 1),
+    ("file /a 644 1 8 0g", 1),
+    ("file /a 644 1 8 --", 1),
+    ("file /a 644 1 1 0001", 1),
+    ("file a 644 1 8 00", 1),
+    ("file // 644 1 8 00", 1),
+    ("file /a/ 644 1 8 00", 1),
+    ("file /. 644 1 8 00", 1),
+    ("file /.. 644 1 8 00", 1),
+    ("file / 644 1 8 00", 1),
+    ("file /a/b 644 1 8 00", 1),
+    ("file /a 644 1 8 00\nfile /a 644 1 8 00", 2),
+    ("file /a 644 1 8 00\nfile /a/b 644 1 8 00", 2),
+    ("file /\t 644 1 8 00", 1),
+    ("file /\u{7f} 644 1 8 00", 1),
+    ("file /\u{e9} 644 1 8 00", 1),
+    ("# \u{e9}", 1),
+    ("file /a 644 1 8 00\r\n", 1),
+    ("File /a 644 1 8 00", 1),
+    ("do read /a 0", 1),
+    ("do read /a 0 1 2", 1),
+    ("do read /a -1 0", 1),
+    ("do read /a 0 18446744073709551616", 1),
+    ("do read a 0 0", 1),
+    ("do read /a/../b 0 0", 1),
+    ("do write /a 00", 1),
+    ("do  read /a 0 0", 1),
+    ("fault read 4294967296 1 broken", 1),
+    ("fault read 0 0 broken", 1),
+    ("fault read 0 18446744073709551616 broken", 1),
+    ("fault read 0 1 damaged", 1),
+    ("fault link 1 broken", 1),
+    ("fault read 0 1 broken\nfile /a 644 1 8 00", 2),
+    ("do read /x 0 0\nfault read 0 1 broken", 2),
+    ("do read /x 0 0\nfile /a 644 1 8 00", 2),
+    ("set nodes 3", 1),
+    ("dir /a", 1),
+    ("# files\nfile a 644 1 8 00\n", 2),
+    ("# files\n\nset nodes 3\n", 3),
+    ("\n\n\nset\n", 4),
+    ("# one\n# \u{c3}\n", 2),
+    ("file /a 644 1 8 00\n\nfault read 0 1 broken\n# more\nfile /b 644 1 8 00\n", 5),
+    ("set\nset\n", 1),
+    ("file /a 644 1 8 00\nfile /b 644 1 8 0A\nfile /c 644 1 8 0B\n", 2),
+    ("file /a 644 1 8 00\n# again\nfile /a 644 1 8 00\nfile /a 644 1 8 00\n", 3),
+    ("file /a/b 644 1 8 00\n", 1),
+    ("file /a 644 1 8 00\nfile /a 644 1 8 01\nset\n", 2),
+    ("file /a 644 1 8 00\nset\nfile /a 644 1 8 01\n", 2),
+    ("file /a 644 1 8 00\nfile /a 644 1 8 01\ndo read /a 0 1\nfile /b 644 1 8 00\n", 2),
+    ("file /a 644 1 1 0001\ndo read a 0 1\n", 1),
+    ("do read /a 0 1\n# more\ndo read /a 0 1 2", 3),
 ];
 
 #[test]
-fn a_bad_line_is_refused(rt: HostRuntime) -> Result<(), Fail> {
+fn the_first_bad_line_is_told(rt: HostRuntime) -> Result<(), Fail> {
     let alloc = rt.alloc();
-    let bad = expected(alloc, 1, "bad 0\n")?;
-    for script in &BAD {
+    for (script, line) in &BAD {
+        let bad = refused(alloc, *line)?;
         assert_eq!(rt; answer(alloc, script.as_bytes())?, bad, "{script:?}");
         assert_eq!(rt; plain_answer(alloc, script.as_bytes())?, bad, "{script:?}");
     }
@@ -219,6 +234,33 @@ fn a_script_has_at_most_16_777_216_bytes(rt: HostRuntime) -> Result<(), Fail> {
     let mut script = vec![in alloc; b'#'; 16777216]?;
     assert_eq!(rt; answer(alloc, &script)?, expected(alloc, 0, "")?);
     script.push(b'#')?;
-    assert_eq!(rt; answer(alloc, &script)?, expected(alloc, 1, "bad 0\n")?);
+    assert_eq!(rt; answer(alloc, &script)?, refused(alloc, 1)?);
+    Ok(())
+}
+
+/// So many comments, each of 65,536 bytes with its newline.
+fn comments(alloc: Global, count: usize) -> Result<Vec<u8>, Fail> {
+    let mut line = vec![in alloc; b'#'; 65535]?;
+    line.push(b'\n')?;
+    let mut script = Vec::new(alloc);
+    for _ in 0..count {
+        script.extend_from_slice(&line)?;
+    }
+    Ok(script)
+}
+
+#[test]
+fn the_line_that_passes_the_limit_is_told(rt: HostRuntime) -> Result<(), Fail> {
+    let alloc = rt.alloc();
+    let mut script = comments(alloc, 256)?;
+    assert_eq!(rt; answer(alloc, &script)?, expected(alloc, 0, "")?);
+    script.push(b'#')?;
+    assert_eq!(rt; answer(alloc, &script)?, refused(alloc, 257)?);
+    let mut early = Vec::from_slice(alloc, b"set\n")?;
+    early.extend_from_slice(&script)?;
+    assert_eq!(rt; answer(alloc, &early)?, refused(alloc, 1)?);
+    let mut late = comments(alloc, 256)?;
+    late.extend_from_slice(b"\nset\n")?;
+    assert_eq!(rt; answer(alloc, &late)?, refused(alloc, 257)?);
     Ok(())
 }

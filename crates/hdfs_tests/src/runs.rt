@@ -65,9 +65,13 @@ fn a_sink_that_fails_has_a_prefix_of_the_text(rt: HostRuntime) -> Result<(), Fai
 }
 
 /// Scripts over a cluster that holds `/a`, the status, and what is written.
-const HELD: [(&str, u8, &str); 4] = [
+const HELD: [(&str, u8, &str); 8] = [
     ("do read /a 1 2\n", 0, "ok bytes 0102\n"),
-    ("file /b 644 1 8 00\n", 1, "bad 0\n"),
+    ("file /b 644 1 8 00\n", 1, "bad 1\n"),
+    ("# more\nfile /b 644 1 8 00\nset\n", 1, "bad 2\n"),
+    ("fault read 0 1 broken\nfile /b 644 1 8 00\n", 1, "bad 2\n"),
+    ("fault read 0 1 broken\n\nset\n", 1, "bad 3\n"),
+    ("set\nfile /b 644 1 8 00\n", 1, "bad 1\n"),
     (
         "fault read 0 1 broken\ndo read /a 1 2\n",
         2,
@@ -88,9 +92,10 @@ fn a_held_store_keeps_its_files(rt: HostRuntime) -> Result<(), Fail> {
 }
 
 /// Scripts over one and the same cluster, which holds `/a`.
-const IN_TURN: [(&str, u8, &str); 3] = [
-    ("file /b 644 1 8 00\n", 1, "bad 0\n"),
+const IN_TURN: [(&str, u8, &str); 4] = [
+    ("file /b 644 1 8 00\n", 1, "bad 1\n"),
     ("do read /b 0 0\n", 2, "fault 1 RPCError\n"),
+    ("fault read 0 1 broken\nset\n", 1, "bad 2\n"),
     ("do read /a 0 4\n", 0, "ok bytes 00010203\n"),
 ];
 

@@ -5,7 +5,7 @@ ghost use Rattle.hdfs_cluster.specs.MemShown.{shown_of};
 use hdfs_cluster::{MemCluster, MemSettings};
 use hdfs_model::{Attributes, Line, Reply, Store};
 use hdfs_plain::{PlainFiles, PlainFold, PlainRefusal};
-use hdfs_script::{SCRIPT_HOME, ScriptFault, parse};
+use hdfs_script::{SCRIPT_HOME, parse};
 use hdfs_streams::{MemSink, MemSource};
 use hdfs_top::{Note, top};
 use hdfs_wire::{Blob, List, Text};
@@ -104,20 +104,27 @@ pub(crate) fn expected(alloc: Global, status: u8, text: &str) -> Result<Ending, 
     })
 }
 
+/// What is answered to a script with this first bad line.
+pub(crate) fn refused(alloc: Global, line: u64) -> Result<Ending, Fail> {
+    Ok(Ending {
+        status: 1,
+        text: format!(in alloc; "bad {line}\n")?,
+    })
+}
+
 /// What the plain program answers to a script without faults.
 pub(crate) fn plain_answer(alloc: Global, script: &[u8]) -> Result<Ending, Fail> {
-    let script = match parse(alloc, script) {
-        Ok(script) => script,
-        Err(ScriptFault::Bad(0)) => return expected(alloc, 1, "bad 0\n"),
-        Err(fault) => return Err(fault)?,
-    };
+    let read = parse(alloc, script)?;
     let mut files = PlainFiles::new(alloc)?;
-    for line in script.lines.into_vec() {
-        if !load(&mut files, line)? {
-            return expected(alloc, 1, "bad 0\n");
+    for numbered in read.lines.into_vec() {
+        if !load(&mut files, numbered.line)? {
+            return refused(alloc, numbered.number);
         }
     }
-    let fold = hdfs_plain::run(alloc, SCRIPT_HOME, &files, script.commands.as_slice())?;
+    if let Some(line) = read.bad {
+        return refused(alloc, line);
+    }
+    let fold = hdfs_plain::run(alloc, SCRIPT_HOME, &files, read.commands.as_slice())?;
     print(alloc, &fold)
 }
 

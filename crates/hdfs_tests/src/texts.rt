@@ -1,8 +1,11 @@
 //! The texts of errors.
-use crate::support::{cluster, sink, source, words};
+ghost use Rattle.std.specs.Prelude.{◌<◌};
+ghost use Rattle.hdfs_cluster.specs.MemShown.{shown_of};
+
+use crate::support::{cluster, held, sink, source, words};
+use hdfs_cluster::MemCluster;
 use hdfs_model::{AddFault, ArgFault, AskFault, Fault, HdfsError, LinkFault, TransferFault};
 use hdfs_plain::PlainRefusal;
-use hdfs_script::ScriptFault;
 use hdfs_streams::{IoFailed, ReadFault};
 use hdfs_top::{Note, top};
 use hdfs_wire::{List, NoMemory, Text};
@@ -68,14 +71,13 @@ fn errors_of_the_outside(rt: HostRuntime) -> Result<(), Fail> {
     check(&rt, alloc, &AddFault::NoMemory, "out of memory")?;
     check(&rt, alloc, &ReadFault::Failed, "the source failed")?;
     check(&rt, alloc, &IoFailed, "a read or a write failed")?;
-    check(&rt, alloc, &ScriptFault::Bad(0), "not a script")?;
     check(&rt, alloc, &NoMemory, "out of memory")?;
     let missing = PlainRefusal::Missing;
     check(&rt, alloc, &missing, "nothing stands at the path")
 }
 
 /// Scripts, and what is noted beside their status.
-const NOTES: [(&str, &str); 21] = [
+const NOTES: [(&str, &str); 23] = [
     ("", "the script has no command"),
     (
         "set\n",
@@ -151,16 +153,25 @@ const NOTES: [(&str, &str); 21] = [
         "file /a 644 1 8 00\n#\nfile /a 644 1 8 00\n",
         "line 3: something stands at PATH already, or its parent is no directory",
     ),
+    (
+        "file /a 644 1 8 00\nfile /a 644 1 8 00\nset\n",
+        "line 2: something stands at PATH already, or its parent is no directory",
+    ),
+    (
+        "file /a 644 1 8 00\nset\nfile /a 644 1 8 00\n",
+        "line 2: begins with none of `file`, `fault`, `do` and `#`",
+    ),
 ];
 
-// What the program notes beside its status over a new cluster.
-fn note_on(alloc: Global, script: &str) -> Result<Note, Fail> {
-    let mut store = cluster(alloc)?;
-    let mut source = source(alloc, script.as_bytes())?;
+// What the program notes beside its status over a cluster.
+fn note_on(alloc: Global, script: &[u8], store: &mut MemCluster) -> Result<Note, Fail>
+    requires { 0 < (shown_of store.old).namenodes }
+{
+    let mut source = source(alloc, script)?;
     let mut sink = sink(alloc);
     let mut note = Note::Nothing;
     let words = words(alloc, &["session"])?;
-    let _status = top(alloc, &words, &mut source, &mut sink, &mut store, &mut note);
+    let _status = top(alloc, &words, &mut source, &mut sink, store, &mut note);
     Ok(note)
 }
 
@@ -168,7 +179,40 @@ fn note_on(alloc: Global, script: &str) -> Result<Note, Fail> {
 fn notes_on_scripts(rt: HostRuntime) -> Result<(), Fail> {
     let alloc = rt.alloc();
     for (script, wanted) in &NOTES {
-        check(&rt, alloc, &note_on(alloc, script)?, wanted)?;
+        let note = note_on(alloc, script.as_bytes(), &mut cluster(alloc)?)?;
+        check(&rt, alloc, &note, wanted)?;
     }
     Ok(())
+}
+
+/// Scripts over a cluster that holds a file, and what is noted beside their status.
+const HELD_NOTES: [(&str, &str); 2] = [
+    (
+        "# more\nfile /b 644 1 8 00\nset\n",
+        "line 2: the store isn't fresh, so it takes no line with a file",
+    ),
+    (
+        "fault read 0 1 broken\nfile /b 644 1 8 00\n",
+        "line 2: out of order, since files come first, then faults, then commands",
+    ),
+];
+
+#[test]
+fn notes_on_scripts_over_a_held_store(rt: HostRuntime) -> Result<(), Fail> {
+    let alloc = rt.alloc();
+    for (script, wanted) in &HELD_NOTES {
+        let note = note_on(alloc, script.as_bytes(), &mut held(alloc)?)?;
+        check(&rt, alloc, &note, wanted)?;
+    }
+    Ok(())
+}
+
+#[test]
+fn a_note_on_a_script_that_is_too_long(rt: HostRuntime) -> Result<(), Fail> {
+    let alloc = rt.alloc();
+    let mut script = vec![in alloc; b'\n'; 3]?;
+    script.resize(16777217, b'#')?;
+    let note = note_on(alloc, &script, &mut cluster(alloc)?)?;
+    let wanted = "line 4: the script has more than 16777216 bytes";
+    check(&rt, alloc, &note, wanted)
 }

@@ -1,6 +1,7 @@
-use Rattle.std.proofs.Common.{inr, map, List, ℕ}
+use Rattle.std.proofs.Common.{inr, refl, map, List, ℕ}
 use Rattle.std.specs.String.{string_bytes}
-use Rattle.hdfs_in_memory.proofs.ProgramLemmas.{planned_faults, new_from-Starts, ran_store, refused_new, replies_new, fault_new, notes_new, decides_new}
+use Rattle.hdfs_in_memory.specs.Program.{Streams}
+use Rattle.hdfs_in_memory.proofs.ProgramLemmas.{planned_faults, new_from-Starts, ran_store, refused_new, replies_new, fault_new, notes_new, decides_new, starved_decides}
 use Rattle.hdfs_in_memory.proofs.over_memory.run_words.Goals as goal
 
 -- the program ran over the new cluster
@@ -19,3 +20,9 @@ returns g c =
       stopped = λ two bytes told. fault_new _ _ _ _ bytes run two told;
       complete = λ is bytes told. decides_new _ _ _ _ bytes run is told;
     }
+
+-- there was no memory for a cluster
+pub returns-in_default-clause-complete : goal.returns-in_default-clause-complete
+returns-in_default-clause-complete g c is bytes told =
+    let streams : Streams = record { source = g.S.Source.shown c.args.source.now; sink = g.K.Sink.shown c.args.sink.now } in
+    starved_decides streams 3 streams bytes refl
