@@ -20,7 +20,7 @@ Bytes are pairs of lower-case hexadecimal digits, or `-` for none.
 
 Status  Meaning
 0       every reply was written
-1       the script is refused, and `bad N` was written, N its first bad line; or the words are, and `bad 0` was
+1       `bad N` was written: line N of the script is the first bad one, or 0 where the words are refused
 2       a command failed: the replies before it were written, and a line `fault NUMBER NAME`
 3       there was no memory; nothing was written
 4       standard input failed; nothing was written

@@ -1,8 +1,7 @@
 -- A script's entries, one after another.
-use Rattle.std.proofs.Common.{◌≡◌, ℕ, ◌+◌, ◌<◌, ◌≤◌, ◌==◌, Bool, true, false, nat_le, List, [], ◌∷◌, ◌++◌, length, get_or, take, drop, map, Option, Some, None, if◌then◌else◌, refl, sym, ◌∙◌, ap, arith, append_assoc}
-use Rattle.std.specs.List.{slice_split, count_by}
+use Rattle.std.proofs.Common.{◌≡◌, ℕ, ◌+◌, ◌<◌, ◌≤◌, ◌==◌, true, false, nat_le, List, [], ◌∷◌, ◌++◌, length, get_or, take, drop, map, Option, Some, None, if◌then◌else◌, refl, sym, ◌∙◌, ap, arith, append_assoc}
+use Rattle.std.specs.List.{slice_split}
 use Rattle.std.proofs.lemmas.List.{at_drop_more, append-nil, length-map}
-use Rattle.std.proofs.lemmas.List.Splits.{length-slice_split}
 use Rattle.std.proofs.lemmas.Bool.Decides.{nat_tests}
 use Rattle.hdfs_model.specs.declared.commands.Command.{Command}
 use Rattle.hdfs_script.specs.declared.entry.Entry.{Entry}

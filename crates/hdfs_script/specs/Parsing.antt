@@ -8,7 +8,7 @@ use Rattle.hdfs_script.specs.declared.entry.Entry.{Entry}
 use Rattle.hdfs_script.specs.declared.entry.Entry.TheVariants.{Loads, Bad}
 use Rattle.hdfs_script.specs.declared.entry.NumberedLine.{NumberedLine}
 use Rattle.hdfs_script.specs.declared.entry.Parsed.{Parsed}
-use Rattle.hdfs_script.specs.Scripts.{Script, entries_in, commands_of, is_fault, part_of, may_stand}
+use Rattle.hdfs_script.specs.Scripts.{entries_in, commands_of, is_fault, part_of, may_stand}
 
 -- the entries in front of the first that is bad by its text or its place
 abbrev pub good_front : ℕ → List Entry → List Entry

@@ -122,9 +122,8 @@ fn wrong_at(alloc: Global, fresh: bool, part: u8, line: &[u8], entry: &Entry) ->
     }
     match entry {
         Entry::Bad => wrong_line(alloc, line),
-        entry if !may_stand(part, entry) => Wrong::Order,
-        Entry::Loads(line) => untaken(fresh, line),
-        Entry::Blank | Entry::Runs(_) => Wrong::Order,
+        Entry::Loads(line) if may_stand(part, entry) => untaken(fresh, line),
+        _ => Wrong::Order,
     }
 }
 

@@ -103,11 +103,7 @@ fn count_lines(bytes: &[u8]) -> u64
 }
 
 // Puts the lines of a script up to the first bad one behind what was read, and answers its number.
-fn read_script(
-    alloc: Global,
-    bytes: &[u8],
-    read: &mut Parsed,
-) -> Result<Option<u64>, NoMemory>
+fn read_script(alloc: Global, bytes: &[u8], read: &mut Parsed) -> Result<Option<u64>, NoMemory>
     ensures bad { IfOk result (λ bad. bad ≡ first_out 0 1 (entries_in bytes.now)) }
     ensures lines { OnOk result (read.new.lines ≡ read.old.lines ++ numbered_from 1 (good_front 0 (entries_in bytes.now))) }
     ensures commands { OnOk result (read.new.commands ≡ read.old.commands ++ commands_of (good_front 0 (entries_in bytes.now))) }

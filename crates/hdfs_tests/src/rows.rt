@@ -205,14 +205,26 @@ const BAD: [(&str, u64); 72] = [
     ("# files\n\nset nodes 3\n", 3),
     ("\n\n\nset\n", 4),
     ("# one\n# \u{c3}\n", 2),
-    ("file /a 644 1 8 00\n\nfault read 0 1 broken\n# more\nfile /b 644 1 8 00\n", 5),
+    (
+        "file /a 644 1 8 00\n\nfault read 0 1 broken\n# more\nfile /b 644 1 8 00\n",
+        5,
+    ),
     ("set\nset\n", 1),
-    ("file /a 644 1 8 00\nfile /b 644 1 8 0A\nfile /c 644 1 8 0B\n", 2),
-    ("file /a 644 1 8 00\n# again\nfile /a 644 1 8 00\nfile /a 644 1 8 00\n", 3),
+    (
+        "file /a 644 1 8 00\nfile /b 644 1 8 0A\nfile /c 644 1 8 0B\n",
+        2,
+    ),
+    (
+        "file /a 644 1 8 00\n# again\nfile /a 644 1 8 00\nfile /a 644 1 8 00\n",
+        3,
+    ),
     ("file /a/b 644 1 8 00\n", 1),
     ("file /a 644 1 8 00\nfile /a 644 1 8 01\nset\n", 2),
     ("file /a 644 1 8 00\nset\nfile /a 644 1 8 01\n", 2),
-    ("file /a 644 1 8 00\nfile /a 644 1 8 01\ndo read /a 0 1\nfile /b 644 1 8 00\n", 2),
+    (
+        "file /a 644 1 8 00\nfile /a 644 1 8 01\ndo read /a 0 1\nfile /b 644 1 8 00\n",
+        2,
+    ),
     ("file /a 644 1 1 0001\ndo read a 0 1\n", 1),
     ("do read /a 0 1\n# more\ndo read /a 0 1 2", 3),
 ];

@@ -57,8 +57,8 @@ entries_long bytes long =
 entries-take : (bytes : List ℕ) → entries_in bytes ≡ entries_in (take (script_limit + 1) bytes)
 entries-take bytes = ⊎_elim
     (λ long.
-        entries_long bytes long ∙ ap (λ front. ends_bad (line_entries front)) (sym (take-take script_limit (script_limit + 1) bytes (omega arith)))
-        ∙ sym (entries_long (take (script_limit + 1) bytes) (omega (arith, length-take-le (script_limit + 1) bytes (omega (arith, long))))))
+    entries_long bytes long ∙ ap (λ front. ends_bad (line_entries front)) (sym (take-take script_limit (script_limit + 1) bytes (omega arith)))
+    ∙ sym (entries_long (take (script_limit + 1) bytes) (omega (arith, length-take-le (script_limit + 1) bytes (omega (arith, long))))))
     (λ short. ap entries_in (sym (take_all (script_limit + 1) bytes (omega (arith, short)))))
     (cases_lt script_limit (length bytes))
 
@@ -90,7 +90,7 @@ refused_script a b given read line status gave parses refuses counts (inl whole)
     (λ _. refused_wrote a b line (refused_at a b given read line gave parses refuses) whole.wrote)
 refused_script a b given read line status gave parses refuses counts (inr part) words is =
     ran_sink_failed words a b (refusal_text line) status (kept_session words a b status is counts gave.taken) gave.fine part
-    (λ _ bytes state known. inl (record { line = line; none = (refused_at a b given read line gave parses refuses bytes state known).0; is_text = refl }))
+    (λ _ bytes state known. inl (record { line = line; is = (refused_at a b given read line gave parses refuses bytes state known).0; is_text = refl }))
 
 -- there was no memory for a script
 pub starved_script : (source left : SourceShown) (sink : SinkShown) (store store' : Shown) (fresh fresh' : Bool) (given : List ℕ) (status : ℕ) → Gave source given left → NeverFall store.counts store'.counts → status ≡ 3 → RanSession (outside source sink store fresh) status (outside left sink store' fresh')

@@ -72,7 +72,7 @@ pub record Halts (before : Outside) (bytes : List ℕ) (state : State) (text : L
 -- the bytes are no script over the store: the text tells the number of their first bad line
 pub record Refuses (before : Outside) (bytes : List ℕ) (state : State) (text : List ℕ) : Type 0 where
   pub line : ℕ
-  pub none : script before.fresh state bytes ≡ Err line
+  pub is : script before.fresh state bytes ≡ Err line
   pub is_text : text ≡ refusal_text line
 
 -- a text that the program may write

@@ -21,7 +21,7 @@ pub enum Note {
     /// The script goes wrong at a line.
     #[error("{0}")]
     Script(Complaint),
-    /// The script is refused, and there was no memory to say where.
+    /// The script is refused, and there was no memory to say why.
     #[error("not a script")]
     NoScript,
     /// A session stopped at this command, counted from 1, or at 0 before the first.

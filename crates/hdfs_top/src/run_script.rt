@@ -86,7 +86,11 @@ fn run_parsed<K: Sink, C: Store>(
         → NotesFault (outside source (K.shown sink.old) (C.shown store.old) (C.is_fresh store.old)) note.new
         (outside left (K.shown sink.new) (C.shown store.new) (C.is_fresh store.new)) }
 {
-    let Parsed { lines, commands, bad } = read;
+    let Parsed {
+        lines,
+        commands,
+        bad,
+    } = read;
     let fresh = store.fresh();
     match load_script(store, lines, bad) {
         Ok(()) => run_commands(alloc, commands.as_slice(), sink, store, note),

@@ -1,4 +1,4 @@
-use Rattle.std.proofs.Common.{◌∙◌, ap, arith, map, sym}
+use Rattle.std.proofs.Common.{◌∙◌, ap, arith, map}
 use Rattle.std.proofs.lemmas.Bool.Decides.{nat_tests}
 use Rattle.hdfs_script.proofs.WordLemmas.{entry_of_ascii, entry_of_words}
 use Rattle.hdfs_script.proofs.line.entry.Goals as goal

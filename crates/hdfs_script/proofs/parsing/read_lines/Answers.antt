@@ -1,4 +1,4 @@
-use Rattle.std.proofs.Common.{◌==◌, ◌+◌, length, map, sym, ◌∙◌, ap, arith, rules, tests}
+use Rattle.std.proofs.Common.{◌==◌, length, map, sym, arith, rules, tests}
 use Rattle.std.proofs.lemmas.List.{length_push, at_drop_all}
 use Rattle.std.specs.List.{slice_split}
 use Rattle.std.proofs.lemmas.Iterator.Splits.{YieldsList-from_slice_split}

@@ -1,4 +1,4 @@
-use Rattle.std.proofs.Common.{◌≡◌, ◌++◌, ap, ◌∙◌, refl, sym, arith}
+use Rattle.std.proofs.Common.{◌++◌, ap, ◌∙◌, refl, arith}
 use Rattle.std.proofs.lemmas.List.{length-take-le}
 use Rattle.hdfs_script.specs.Parsing.{good_front, first_out, numbered_from}
 use Rattle.hdfs_script.specs.Scripts.{commands_of}
