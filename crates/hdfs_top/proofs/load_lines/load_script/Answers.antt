@@ -1,9 +1,7 @@
-use Rattle.std.proofs.Common.{◌≡◌, ◌∙◌, Bool, true, false, None, ap, subst, sym, arith}
+use Rattle.std.proofs.Common.{◌∙◌}
 use Rattle.std.proofs.lemmas.Result.{err_from_is_err_and}
-use Rattle.hdfs_script.specs.Parsing.{first_file, or_else}
-use Rattle.hdfs_top.specs.declared.load_lines.LoadFault.TheVariants as faults
 use Rattle.hdfs_top.proofs.ScriptLemmas.{same_shown_refl}
-use Rattle.hdfs_top.proofs.LoadLemmas.{loads_script, refuses_unloaded, refuses_untaken, refuses_bad}
+use Rattle.hdfs_top.proofs.LoadLemmas.{loads_script, refuses_unloaded, refuses_untaken}
 use Rattle.hdfs_top.proofs.load_lines.load_script.Goals as goal
 
 -- nothing was loaded
