@@ -29,6 +29,12 @@ tells_from-FailsAt path offset len old new errors.Failed h = absurd h
 tells_from-FailsAt path offset len old new (errors.DataTransferError (transfer.Read byte)) h = (offset, len, (refl, refl), omega (arith, h))
 tells_from-FailsAt path offset len old new (errors.InvalidArgument fault) h = absurd h
 tells_from-FailsAt path offset len old new (errors.FileNotFound name) h = absurd h
+tells_from-FailsAt path offset len old new (errors.IOError fault) h = absurd h
+tells_from-FailsAt path offset len old new (errors.DataTransferError transfer.Setup) h = absurd h
+tells_from-FailsAt path offset len old new (errors.DataTransferError transfer.AllNodes) h = absurd h
+tells_from-FailsAt path offset len old new (errors.DataTransferError (transfer.BadAck seqno)) h = absurd h
+tells_from-FailsAt path offset len old new (errors.AlreadyExists message) h = absurd h
+tells_from-FailsAt path offset len old new (errors.OperationFailed name) h = absurd h
 tells_from-FailsAt path offset len old new (errors.RPCError class message) h = absurd h
 
 -- an error of datanodes is no refusal
@@ -38,6 +44,12 @@ not_early P errors.Failed h early = early
 not_early P (errors.DataTransferError (transfer.Read byte)) h early = early
 not_early P (errors.InvalidArgument fault) h early = h
 not_early P (errors.FileNotFound name) h early = h
+not_early P (errors.IOError fault) h early = h
+not_early P (errors.DataTransferError transfer.Setup) h early = h
+not_early P (errors.DataTransferError transfer.AllNodes) h early = h
+not_early P (errors.DataTransferError (transfer.BadAck seqno)) h early = h
+not_early P (errors.AlreadyExists message) h early = h
+not_early P (errors.OperationFailed name) h early = h
 not_early P (errors.RPCError class message) h early = h
 
 module _ (w : World) (s s' : Shown) (state : State) (path : List ℕ) (offset len : ℕ) (meets : Meets s state path) where
@@ -50,6 +62,15 @@ module _ (w : World) (s s' : Shown) (state : State) (path : List ℕ) (offset le
       let told = is_told s.picture state.files meets.agrees in
       absurd (h told.0 told.1 meets.one (is_closed s state path meets told.0 told.1))
   look_cause (errors.DataTransferError fault) h =
+      let told = is_told s.picture state.files meets.agrees in
+      absurd (h told.0 told.1 meets.one (is_closed s state path meets told.0 told.1))
+  look_cause (errors.IOError fault) h =
+      let told = is_told s.picture state.files meets.agrees in
+      absurd (h told.0 told.1 meets.one (is_closed s state path meets told.0 told.1))
+  look_cause (errors.AlreadyExists message) h =
+      let told = is_told s.picture state.files meets.agrees in
+      absurd (h told.0 told.1 meets.one (is_closed s state path meets told.0 told.1))
+  look_cause (errors.OperationFailed name) h =
       let told = is_told s.picture state.files meets.agrees in
       absurd (h told.0 told.1 meets.one (is_closed s state path meets told.0 told.1))
   look_cause (errors.InvalidArgument fault) h =
@@ -151,6 +172,12 @@ module _ (w : World) (s s' : Shown) (state : State) (path : List ℕ) (offset le
             )
         blocks_cause (errors.InvalidArgument fault) h = absurd (h here.3.content.bytes stored)
         blocks_cause (errors.FileNotFound name) h = absurd (h here.3.content.bytes stored)
+        blocks_cause (errors.IOError fault) h = absurd (h here.3.content.bytes stored)
+        blocks_cause (errors.DataTransferError transfer.Setup) h = absurd (h here.3.content.bytes stored)
+        blocks_cause (errors.DataTransferError transfer.AllNodes) h = absurd (h here.3.content.bytes stored)
+        blocks_cause (errors.DataTransferError (transfer.BadAck seqno)) h = absurd (h here.3.content.bytes stored)
+        blocks_cause (errors.AlreadyExists message) h = absurd (h here.3.content.bytes stored)
+        blocks_cause (errors.OperationFailed name) h = absurd (h here.3.content.bytes stored)
         blocks_cause (errors.RPCError class message) h = absurd (h here.3.content.bytes stored)
 
       pub agrees_read : (u : Shown) → OnlyReads s' u → Agrees u.picture state.files

@@ -75,6 +75,12 @@ complete_command w s s' state command errors.NoMemory size ready h none = memory
 complete_command w s s' state command errors.Failed size ready h none = absurd h.0
 complete_command w s s' state command (errors.DataTransferError (transfer.Read byte)) size ready h none =
     absurd (command_not_lost w state s.namenodes s.counts s' (target_of w command) command (errors.DataTransferError (transfer.Read byte)) byte (closed_at w s state command ready) h.1 none h.0.1)
+complete_command w s s' state command (errors.IOError fault) size ready h none = absurd h.0
+complete_command w s s' state command (errors.DataTransferError transfer.Setup) size ready h none = absurd h.0
+complete_command w s s' state command (errors.DataTransferError transfer.AllNodes) size ready h none = absurd h.0
+complete_command w s s' state command (errors.DataTransferError (transfer.BadAck seqno)) size ready h none = absurd h.0
+complete_command w s s' state command (errors.AlreadyExists message) size ready h none = absurd h.0
+complete_command w s s' state command (errors.OperationFailed name) size ready h none = absurd h.0
 complete_command w s s' state command (errors.InvalidArgument (args.Range offset len long)) size ready h none =
     subst (λ (x : Outcome). Answers x (errors.InvalidArgument (args.Range offset len long))) (sym h.0.0) (inr tt)
 complete_command w s s' state command (errors.FileNotFound name) size ready h none = subst (λ (x : Outcome). Answers x (errors.FileNotFound name)) (sym h.0.1) (inr tt)

@@ -57,6 +57,12 @@ module _ (old middle new : Shown) (before : Later old middle) where
   cause_since w state command errors.Failed h = h
   cause_since w state command (errors.DataTransferError (transfer.Read byte)) h = (h.0, command_lost_since (target_of w command) command byte h.1)
   cause_since w state command (errors.InvalidArgument (args.Range offset len length)) h = h
+  cause_since w state command (errors.IOError fault) h = h
+  cause_since w state command (errors.DataTransferError transfer.Setup) h = h
+  cause_since w state command (errors.DataTransferError transfer.AllNodes) h = h
+  cause_since w state command (errors.DataTransferError (transfer.BadAck seqno)) h = h
+  cause_since w state command (errors.AlreadyExists message) h = h
+  cause_since w state command (errors.OperationFailed name) h = h
   cause_since w state command (errors.FileNotFound name) h = h
   cause_since w state command (errors.RPCError class message) h =
       ⊎_elim (λ stands. inl stands) (λ rose. inr (rose.0, rose.1, rose_since (old.counts.calls rose.0) (middle.counts.calls rose.0) (new.counts.calls rose.0) (new.counts.calls rose.0) (before.counts.calls rose.0) rose.2 (omega arith))) h
@@ -67,6 +73,12 @@ module _ (old middle new : Shown) (before : Later old middle) where
   tells_since command errors.Failed h = h
   tells_since command (errors.DataTransferError (transfer.Read byte)) h = h
   tells_since command (errors.InvalidArgument (args.Range offset len length)) h = h
+  tells_since command (errors.IOError fault) h = h
+  tells_since command (errors.DataTransferError transfer.Setup) h = h
+  tells_since command (errors.DataTransferError transfer.AllNodes) h = h
+  tells_since command (errors.DataTransferError (transfer.BadAck seqno)) h = h
+  tells_since command (errors.AlreadyExists message) h = h
+  tells_since command (errors.OperationFailed name) h = h
   tells_since command (errors.FileNotFound name) h = h
   tells_since command (errors.RPCError class message) h = h
 

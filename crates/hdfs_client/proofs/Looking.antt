@@ -1,5 +1,5 @@
 -- What an ask for the blocks of a closed file says of the picture.
-use Rattle.std.proofs.Common.{◌≡◌, ◌⊎◌, inl, inr, ⊎_elim, ℕ, ◌<◌, List, Some, None, Result, Ok, Err, arith}
+use Rattle.std.proofs.Common.{◌≡◌, ◌⊎◌, inl, inr, ⊎_elim, ℕ, ◌<◌, true, false, List, Some, None, Result, Ok, Err, arith}
 use Rattle.hdfs_model.specs.declared.messages.LocatedBlocks.{LocatedBlocks}
 use Rattle.hdfs_model.specs.declared.asks.Ask.{Ask}
 use Rattle.hdfs_model.specs.declared.asks.Ask.TheVariants as asks
@@ -12,7 +12,8 @@ use Rattle.hdfs_model.specs.declared.errors.HdfsError.{HdfsError}
 use Rattle.hdfs_model.specs.declared.errors.HdfsError.TheVariants as errors
 use Rattle.hdfs_model.specs.Counts.{Rose}
 use Rattle.hdfs_model.specs.Picture.{Picture, SameFiles, SameButActive, kinds}
-use Rattle.hdfs_model.specs.Namenode.{Locates, Row, ServesTold, IsNoFile, StandsForNoFile}
+use Rattle.hdfs_model.specs.Namenode.{Locates, Row, MayBeDone, ServesTold, IsNoFile, StandsForNoFile}
+use Rattle.hdfs_model.proofs.Asking.{served_keeps}
 use Rattle.hdfs_model.specs.Shown.{Shown, Served, SameLinks, SamePlaces}
 use Rattle.hdfs_model.specs.Causes.{CallsRose, Tells}
 use Rattle.hdfs_model.proofs.Frames.{told_after, told_weaker}
@@ -20,23 +21,10 @@ use Rattle.hdfs_client.specs.Meeting.{IsClosed}
 use Rattle.hdfs_client.specs.Looking.{TellsLook}
 
 -- a look-up by its row leaves the picture, but for which namenode is active
-row_same : (p q : Picture) (ask : Ask) (answer : Answer) → Row p ask answer q → SameButActive p q
-row_same p q (asks.GetBlockLocations src offset length) (answers.GetBlockLocations None) row = row.1
-row_same p q (asks.GetBlockLocations src offset length) (answers.GetBlockLocations (Some found)) row = row.1
-
--- the read links keep their places, whatever is answered
-places_stay : (risen : Type 0) (p q : Picture) (i : ℕ) (ask : Ask) (result : Result Answer AskFault) → ServesTold risen p i ask result q → (link : ℕ) → q.reads link ≡ p.reads link
-places_stay risen p q i ask (Ok answer) h link = ⊎_elim (λ row. (row_same p q ask answer row).reads link) (λ own. own.1.reads link) h.2
-places_stay risen p q i ask (Err faults.NoMemory) h link = h.rest.reads link
-places_stay risen p q i ask (Err (faults.Exception class message)) h link =
-    ⊎_elim (λ standby. standby.2.rest.reads link) (λ rest. ⊎_elim (λ refused. refused.2.rest.reads link) (λ more. ⊎_elim (λ own. own.2.1.reads link) (λ rose. ⊎_elim (λ same. same.reads link) (λ own. own.1.reads link) rose.1) more) rest) h
-
--- and so do the write links
-writes_stay : (risen : Type 0) (p q : Picture) (i : ℕ) (ask : Ask) (result : Result Answer AskFault) → ServesTold risen p i ask result q → (link : ℕ) → q.writes link ≡ p.writes link
-writes_stay risen p q i ask (Ok answer) h link = ⊎_elim (λ row. (row_same p q ask answer row).writes link) (λ own. own.1.writes link) h.2
-writes_stay risen p q i ask (Err faults.NoMemory) h link = h.rest.writes link
-writes_stay risen p q i ask (Err (faults.Exception class message)) h link =
-    ⊎_elim (λ standby. standby.2.rest.writes link) (λ rest. ⊎_elim (λ refused. refused.2.rest.writes link) (λ more. ⊎_elim (λ own. own.2.1.writes link) (λ rose. ⊎_elim (λ same. same.writes link) (λ own. own.1.writes link) rose.1) more) rest) h
+row_same : (p q : Picture) (src : List ℕ) (offset length : ℕ) (answer : Answer) → Row p (asks.GetBlockLocations src offset length) answer q → SameButActive p q
+row_same p q src offset length (answers.GetBlockLocations None) row = row.1
+row_same p q src offset length (answers.GetBlockLocations (Some found)) row = row.1
+row_same p q src offset length answer row = absurd row
 
 -- so an ask leaves all links
 pub links_from-Served : (old new : Shown) (i : ℕ) (ask : Ask) (result : Result Answer AskFault) → Served old i ask result new → SameLinks old new
@@ -44,15 +32,27 @@ links_from-Served old new i ask result served = record {
   links = served.reads;
   writes = served.writes;
   places = told_weaker (λ p q. ServesTold (Rose (old.counts.calls i) (new.counts.calls i)) p i ask result q) (SamePlaces old) old.picture new.picture
-      (λ p q h. (λ link is. places_stay (Rose (old.counts.calls i) (new.counts.calls i)) p q i ask result h link, writes_stay (Rose (old.counts.calls i) (new.counts.calls i)) p q i ask result h)) served.picture;
+      (λ p q h. let kept = served_keeps (Rose (old.counts.calls i) (new.counts.calls i)) p q i ask result h in (λ link is. kept.reads link, kept.writes)) served.picture;
 }
+
+-- where nobody writes the file, a missing answer leaves the files
+done_same : (p q : Picture) (src : List ℕ) (offset length : ℕ) → IsClosed p src → MayBeDone (asks.GetBlockLocations src offset length) p q → SameFiles p q
+done_same p q src offset length closed (inl same) = same.files
+done_same p q src offset length closed (inr (inl row)) = (row_same p q src offset length row.0 row.2).files
+done_same p q src offset length closed (inr (inr own)) = absurd (closed own.0)
 
 -- files stay, where nobody writes the one that is asked for
 files_of : (risen : Type 0) (p q : Picture) (i : ℕ) (src : List ℕ) (offset length : ℕ) (result : Result Answer AskFault) → IsClosed p src → ServesTold risen p i (asks.GetBlockLocations src offset length) result q → SameFiles p q
-files_of risen p q i src offset length (Ok answer) closed h = ⊎_elim (λ row. (row_same p q (asks.GetBlockLocations src offset length) answer row).files) (λ own. absurd (closed own.0)) h.2
-files_of risen p q i src offset length (Err faults.NoMemory) closed h = h.rest.files
+files_of risen p q i src offset length (Ok (answers.GetBlockLocations found)) closed h = ⊎_elim (λ row. (row_same p q src offset length (answers.GetBlockLocations found) row).files) (λ own. absurd (closed own.0)) h.2
+files_of risen p q i src offset length (Ok (answers.GetServerDefaults defaults)) closed h = ⊎_elim (λ row. absurd row) (λ own. absurd (closed own.0)) h.2
+files_of risen p q i src offset length (Ok (answers.Create status)) closed h = ⊎_elim (λ row. absurd row) (λ own. absurd (closed own.0)) h.2
+files_of risen p q i src offset length (Ok (answers.Append appended)) closed h = ⊎_elim (λ row. absurd row) (λ own. absurd (closed own.0)) h.2
+files_of risen p q i src offset length (Ok (answers.AddBlock block)) closed h = ⊎_elim (λ row. absurd row) (λ own. absurd (closed own.0)) h.2
+files_of risen p q i src offset length (Ok (answers.Complete true)) closed h = ⊎_elim (λ row. absurd row) (λ own. absurd (closed own.0)) h.2
+files_of risen p q i src offset length (Ok (answers.Complete false)) closed h = ⊎_elim (λ own. absurd (closed own.2.0)) (λ rose. done_same p q src offset length closed rose.1) h
+files_of risen p q i src offset length (Err faults.NoMemory) closed h = done_same p q src offset length closed h.1
 files_of risen p q i src offset length (Err (faults.Exception class message)) closed h =
-    ⊎_elim (λ standby. standby.2.rest.files) (λ rest. ⊎_elim (λ refused. refused.2.rest.files) (λ more. ⊎_elim (λ own. absurd (closed own.2.0)) (λ rose. ⊎_elim (λ same. same.files) (λ own. absurd (closed own.0)) rose.1) more) rest) h
+    ⊎_elim (λ standby. standby.2.rest.files) (λ rest. ⊎_elim (λ refused. refused.2.rest.files) (λ more. ⊎_elim (λ own. absurd (closed own.2.0)) (λ rose. done_same p q src offset length closed rose.1) more) rest) h
 
 module _ (old new : Shown) (i : ℕ) (src : List ℕ) (offset length : ℕ) (result : Result Answer AskFault) (served : Served old i (asks.GetBlockLocations src offset length) result new) (p : Picture) (told : old.picture ≡ Some p) where
   -- what the ask did to the picture
@@ -82,5 +82,8 @@ tells_from-TellsLook path offset len old new errors.NoMemory h = tt
 tells_from-TellsLook path offset len old new errors.Failed h = absurd h
 tells_from-TellsLook path offset len old new (errors.DataTransferError fault) h = absurd h
 tells_from-TellsLook path offset len old new (errors.InvalidArgument fault) h = absurd h
+tells_from-TellsLook path offset len old new (errors.IOError fault) h = absurd h
+tells_from-TellsLook path offset len old new (errors.AlreadyExists message) h = absurd h
+tells_from-TellsLook path offset len old new (errors.OperationFailed name) h = absurd h
 tells_from-TellsLook path offset len old new (errors.FileNotFound name) h = h
 tells_from-TellsLook path offset len old new (errors.RPCError class message) h = h

@@ -200,4 +200,10 @@ module _ (start now : Shown) (p : Picture) (told : start.picture ≡ Some p) (on
   fails_first new (errors.DataTransferError (transfer.Read byte)) only' lies blames = first_lost new byte only' lies (blames (λ same. absurd (cc)))
   fails_first new (errors.InvalidArgument fault) only' lies blames = lies
   fails_first new (errors.FileNotFound path) only' lies blames = lies
+  fails_first new (errors.IOError fault) only' lies blames = lies
+  fails_first new (errors.DataTransferError transfer.Setup) only' lies blames = lies
+  fails_first new (errors.DataTransferError transfer.AllNodes) only' lies blames = lies
+  fails_first new (errors.DataTransferError (transfer.BadAck seqno)) only' lies blames = lies
+  fails_first new (errors.AlreadyExists message) only' lies blames = lies
+  fails_first new (errors.OperationFailed name) only' lies blames = lies
   fails_first new (errors.RPCError class message) only' lies blames = lies

@@ -41,6 +41,7 @@ pub(crate) fn locate<C: Cluster>(
     match cluster.ask(0, &ask) {
         Ok(Answer::GetBlockLocations(Some(found))) => Ok(found),
         Ok(Answer::GetBlockLocations(None)) => Err(HdfsError::FileNotFound(path.copy(alloc)?)),
+        Ok(_) => unreachable!(),
         Err(AskFault::NoMemory) => Err(HdfsError::NoMemory),
         Err(AskFault::Exception { class, message }) => Err(HdfsError::RPCError(class, message)),
     }

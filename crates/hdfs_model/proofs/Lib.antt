@@ -1,3 +1,4 @@
+pub mod Asking
 pub mod Folding
 pub mod Frames
 pub mod Loads

@@ -1,6 +1,7 @@
 pub mod Anywhere
 pub mod Causes
 pub mod Counts
+pub mod Effects
 pub mod Files
 pub mod Folds
 pub mod Headline
@@ -11,9 +12,11 @@ pub use Rattle.hdfs_names.specs.Paths
 pub mod Picture
 pub mod Pipes
 pub mod Reading
+pub mod Refusals
 pub mod Sending
 pub mod Sessions
 pub mod Shown
+pub mod Sound
 pub mod Steps
 pub mod Stores
 pub mod Writing

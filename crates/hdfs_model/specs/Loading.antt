@@ -1,5 +1,5 @@
 -- The lines that are loaded into a store: which it takes, and what they make of the files.
-use Rattle.std.specs.Prelude.{◌≡◌, ℕ, Bool, true, false, ◌&&◌, List, [], ◌∷◌, ◌++◌, length, Option, Some, None, is_none, if◌then◌else◌}
+use Rattle.std.specs.Prelude.{◌≡◌, ℕ, Bool, true, false, ◌&&◌, List, [], ◌∷◌, ◌++◌, length, Option, Some, None, is_none, IsSome, if◌then◌else◌}
 use Rattle.std.specs.Str.{bytes_eq}
 use Rattle.hdfs_model.specs.declared.store.Line.{Line}
 use Rattle.hdfs_model.specs.declared.store.Line.TheVariants as lines
@@ -41,12 +41,14 @@ abbrev pub with_lines : State → List Line → State
 with_lines state [] = state
 with_lines state (line ∷ lines) = with_lines (with_line state line) lines
 
--- a fault changes nothing of the picture; a file nothing but the names, the block table and the held bytes
+-- a fault changes nothing of the picture; a file nothing but the names, and blocks that weren't in the table before
 pub record LoadsAt (old new : Picture) : Type 0 where
   pub active : new.active ≡ old.active
   pub defaults : new.defaults ≡ old.defaults
   pub reads : (link : ℕ) → new.reads link ≡ old.reads link
   pub writes : (link : ℕ) → new.writes link ≡ old.writes link
+  pub table : (id : ℕ) → IsSome (old.table id) → new.table id ≡ old.table id
+  pub held : (node : List ℕ) (id : ℕ) → IsSome (old.table id) → new.held node id ≡ old.held node id
 
 -- what a line leaves as it was in the picture
 abbrev pub LoadsLine : Line → Picture → Picture → Type 0

@@ -1,5 +1,5 @@
 -- What a namenode may answer to an ask, and what its answer does to the picture.
-use Rattle.std.specs.Prelude.{◌≡◌, ◌≢◌, ◌⊎◌, ℕ, ◌+◌, ◌-◌, ◌<◌, ◌^◌, List, [], ◌∷◌, All, Contains, Option, Some, None, Result, Ok, Err, codes}
+use Rattle.std.specs.Prelude.{◌≡◌, ◌≢◌, ◌⊎◌, ℕ, ◌+◌, ◌-◌, ◌<◌, ◌≤◌, ◌^◌, ◌==◌, Bool, true, false, length, List, [], ◌∷◌, All, Contains, IfSome, Option, Some, None, Result, Ok, Err, codes}
 use Rattle.hdfs_model.specs.declared.messages.LocatedBlock.{LocatedBlock}
 use Rattle.hdfs_model.specs.declared.messages.LocatedBlocks.{LocatedBlocks}
 use Rattle.hdfs_model.specs.declared.asks.Ask.{Ask}
@@ -13,13 +13,24 @@ use Rattle.hdfs_model.specs.declared.picture.LastAnswer.TheVariants as last_answ
 use Rattle.hdfs_model.specs.declared.picture.Entry.TheVariants as entries
 use Rattle.hdfs_model.specs.declared.picture.BlockEntry.{BlockEntry}
 use Rattle.hdfs_model.specs.declared.picture.FileEntry.{FileEntry}
-use Rattle.hdfs_model.specs.Files.{Kind, NoFile, NotDirectory, Missing, NotFile, no_file, OpenFile}
+use Rattle.hdfs_model.specs.Effects.{HasStatus, HasBlock, IsLast, Creates, Opens, AddsBlock, Completes}
+use Rattle.hdfs_model.specs.Files.{Kind, Directory, ClosedFile, NoFile, NotDirectory, Missing, NotFile, no_file, OpenFile}
 use Rattle.hdfs_model.specs.Picture.{Picture, SameButActive, SamePicture, kinds}
+use Rattle.hdfs_model.specs.Refusals.{Refusal, BadPath, WrongState, Exists, Lacks, BadRange, create_refusal, append_refusal}
 use Rattle.hdfs_model.specs.Sending.{uuids}
+use Rattle.hdfs_model.specs.Sound.{IsFileAt}
 
 -- the exceptions by their Java classes
 abbrev pub standby : List ℕ
 standby = codes "org.apache.hadoop.ipc.StandbyException"
+
+-- something stands at the path already
+abbrev pub already_exists : List ℕ
+already_exists = codes "org.apache.hadoop.fs.FileAlreadyExistsException"
+
+-- the file is open for writing
+abbrev pub being_created : List ℕ
+being_created = codes "org.apache.hadoop.hdfs.protocol.AlreadyBeingCreatedException"
 
 -- nothing stands at the path
 abbrev pub not_found : List ℕ
@@ -71,23 +82,111 @@ pub record Locates (p : Picture) (src : List ℕ) (found : LocatedBlocks) : Type
   pub named : p.names src ≡ Some (entries.File file)
   pub blocks : LocatesBlocks p.table 0 found.file_length file.blocks found.blocks
 
+-- a flag of create asks for overwriting
+abbrev pub overwrites : ℕ → Bool
+overwrites flag = flag == 3
+
+-- a file as it is created
+abbrev pub new_file : ℕ → ℕ → ℕ → FileEntry
+new_file permission replication block_size = record {
+  attributes = record { permission = permission; replication = replication; block_size = block_size };
+  blocks = [];
+  is_open = true;
+}
+
+-- a block that is to be written has from 1 to 256 locations, as many storages, and below 2^63 bytes
+pub record IsToWrite (block : LocatedBlock) : Type 0 where
+  pub some : 0 < length block.locs
+  pub few : length block.locs ≤ 256
+  pub types : length block.storage_types ≡ length block.locs
+  pub ids : length block.storage_ids ≡ length block.locs
+  pub below : block.b.num_bytes < 2 ^ 63
+
+-- An answer's shape, whether the picture is told or not: the blocks of a whole file stand one behind another from its
+-- start to its end, and no length or end reaches 2^63.
+abbrev pub Follow : ℕ → ℕ → List LocatedBlock → Type 0
+Follow at end [] = end ≡ at
+Follow at end (block ∷ blocks) = (block.offset ≡ at) × Follow (at + block.b.num_bytes) end blocks
+
+-- An answer is that of its ask. Its lengths and offsets are in their limits, the blocks of a whole file follow one another, a
+-- block that is to be written has its locations, and a new one is empty.
+abbrev pub IsShaped : Ask → Answer → Type 0
+IsShaped (asks.GetBlockLocations src offset length) (answers.GetBlockLocations None) = Unit {0}
+IsShaped (asks.GetBlockLocations src offset length) (answers.GetBlockLocations (Some found)) =
+    (found.file_length < 2 ^ 63)
+    × All (λ block. block.offset + block.b.num_bytes < 2 ^ 63) found.blocks
+    × (offset ≡ 0 → length ≡ 2 ^ 63 - 1 → Follow 0 found.file_length found.blocks)
+IsShaped asks.GetServerDefaults (answers.GetServerDefaults defaults) = Unit {0}
+IsShaped (asks.Create src masked client flag parents replication block_size) (answers.Create status) = Unit {0}
+IsShaped (asks.Append src client flag) (answers.Append appended) = IfSome appended.block IsToWrite
+IsShaped (asks.AddBlock src client previous excludes file_id) (answers.AddBlock block) = IsToWrite block × (block.b.num_bytes ≡ 0)
+IsShaped (asks.Complete src client last file_id) (answers.Complete done) = Unit {0}
+IsShaped ask answer = ⊥
+
 -- The row of an ask: what an active namenode answers, and what it does to all but which namenode is active. A look-up
--- changes nothing.
+-- changes nothing. False is no answer of the row to `complete`.
 abbrev pub Row : Picture → Ask → Answer → Picture → Type 0
 Row old (asks.GetBlockLocations src offset length) (answers.GetBlockLocations None) new = IsNoFile old src × SameButActive old new
 Row old (asks.GetBlockLocations src offset length) (answers.GetBlockLocations (Some found)) new = Locates old src found × SameButActive old new
+Row old asks.GetServerDefaults (answers.GetServerDefaults defaults) new = (defaults ≡ old.defaults) × SameButActive old new
+Row old (asks.Create src masked client flag parents replication block_size) (answers.Create status) new =
+    (create_refusal (kinds old) src (overwrites flag) parents ≡ None)
+    × HasStatus (new_file masked replication block_size) status
+    × Creates src (new_file masked replication block_size) old new
+Row old (asks.Append src client flag) (answers.Append appended) new =
+    (append_refusal (kinds old) src ≡ None) × ((file : FileEntry) × IsFileAt old src file × HasStatus file appended.stat × Opens src file appended.block old new)
+Row old (asks.AddBlock src client previous excludes file_id) (answers.AddBlock block) new =
+    (file : FileEntry) × IsFileAt old src file × AddsBlock src file previous block old new
+Row old (asks.Complete src client last file_id) (answers.Complete true) new = (file : FileEntry) × IsFileAt old src file × Completes src file last old new
+Row old ask answer new = ⊥
+
+-- the class of the exception that stands for what is in the way at a path
+abbrev pub class_in_the_way : Option Kind → List ℕ
+class_in_the_way None = already_exists
+class_in_the_way (Some Directory) = already_exists
+class_in_the_way (Some ClosedFile) = already_exists
+class_in_the_way (Some OpenFile) = being_created
+
+-- an exception of this class stands for a refusal at a path at which this stands
+abbrev pub StandsForRefusal : Option Kind → Refusal → List ℕ → Type 0
+StandsForRefusal kind Exists class = class ≡ class_in_the_way kind
+StandsForRefusal kind (Lacks why) class = class ≡ class_for why
+StandsForRefusal kind BadPath class = ⊥
+StandsForRefusal kind WrongState class = ⊥
+StandsForRefusal kind BadRange class = ⊥
+
+-- an exception of this class stands for what refuses something at a path
+abbrev pub StandsForAny : Option Kind → Option Refusal → List ℕ → Type 0
+StandsForAny kind refusal class = (why : Refusal) × (refusal ≡ Some why) × StandsForRefusal kind why class
 
 -- the exception of this class stands for a refusal of the ask
 abbrev pub IsRefusal : Picture → Ask → List ℕ → Type 0
 IsRefusal p (asks.GetBlockLocations src offset length) class = StandsForNoFile (kinds p) src class
+IsRefusal p asks.GetServerDefaults class = ⊥
+IsRefusal p (asks.Create src masked client flag parents replication block_size) class =
+    StandsForAny (kinds p src) (create_refusal (kinds p) src (overwrites flag) parents) class
+IsRefusal p (asks.Append src client flag) class = StandsForAny (kinds p src) (append_refusal (kinds p) src) class
+IsRefusal p (asks.AddBlock src client previous excludes file_id) class = ⊥
+IsRefusal p (asks.Complete src client last file_id) class = ⊥
 
--- The answer is the implementation's own: the blocks of a file that is being written.
+-- The answer is the implementation's own: the blocks of a file that is being written; a block more of what is no open file,
+-- or behind a block that it doesn't have; the closing of what is no file with this last block.
 abbrev pub IsOwn : Picture → Ask → Type 0
 IsOwn p (asks.GetBlockLocations src offset length) = kinds p src ≡ Some OpenFile
+IsOwn p asks.GetServerDefaults = ⊥
+IsOwn p (asks.Create src masked client flag parents replication block_size) = ⊥
+IsOwn p (asks.Append src client flag) = ⊥
+IsOwn p (asks.AddBlock src client previous excludes file_id) = (file : FileEntry) → IsFileAt p src file → file.is_open ≡ true → HasBlock file.blocks previous → ⊥
+IsOwn p (asks.Complete src client last file_id) = (file : FileEntry) → IsFileAt p src file → IsLast file.blocks last → ⊥
 
--- the path that an ask names
+-- the path that an ask names; one that asks for the defaults names none
 abbrev pub src_of : Ask → List ℕ
 src_of (asks.GetBlockLocations src offset length) = src
+src_of asks.GetServerDefaults = []
+src_of (asks.Create src masked client flag parents replication block_size) = src
+src_of (asks.Append src client flag) = src
+src_of (asks.AddBlock src client previous excludes file_id) = src
+src_of (asks.Complete src client last file_id) = src
 
 -- the block is one of the file at this path
 abbrev pub IsBlockOf : Picture → List ℕ → ℕ → Type 0
@@ -106,29 +205,21 @@ pub record KeepsOthers (path : List ℕ) (old new : Picture) : Type 0 where
 abbrev pub IsOwnOf : Ask → Picture → Picture → Type 0
 IsOwnOf ask old new = IsOwn old ask × KeepsOthers (src_of ask) old new
 
+-- An ask whose answer is missing: it had no effect, or the effect of its row, or one of the implementation's own.
+abbrev pub MayBeDone : Ask → Picture → Picture → Type 0
+MayBeDone ask old new = SameButActive old new ⊎ ((answer : Answer) × IsShaped ask answer × Row old ask answer new) ⊎ IsOwnOf ask old new
+
 -- From one picture to the next, for an ask of namenode i whose count has risen or not. Only the active namenode answers,
--- and only where the count has risen does another one answer or become active, or does an exception come that nothing
--- explains.
+-- and only where the count has risen does another one answer or become active, does an exception come that nothing
+-- explains, or false to `complete`.
 abbrev pub ServesTold : Type 0 → Picture → ℕ → Ask → Result Answer AskFault → Picture → Type 0
+ServesTold risen old i ask (Ok (answers.Complete false)) new =
+    ((i ≡ old.active) × (new.active ≡ old.active) × IsOwnOf ask old new) ⊎ (risen × MayBeDone ask old new)
 ServesTold risen old i ask (Ok answer) new =
     ((i ≡ old.active) ⊎ risen) × ((new.active ≡ old.active) ⊎ risen) × (Row old ask answer new ⊎ IsOwnOf ask old new)
-ServesTold risen old i ask (Err faults.NoMemory) new = SamePicture old new
+ServesTold risen old i ask (Err faults.NoMemory) new = (new.active ≡ old.active) × MayBeDone ask old new
 ServesTold risen old i ask (Err (faults.Exception class message)) new =
     ((i ≢ old.active) × (class ≡ standby) × SamePicture old new)
     ⊎ ((i ≡ old.active) × IsRefusal old ask class × SamePicture old new)
     ⊎ ((i ≡ old.active) × (new.active ≡ old.active) × IsOwnOf ask old new)
-    ⊎ (risen × (SameButActive old new ⊎ IsOwnOf ask old new))
-
--- An answer's shape, whether the picture is told or not: the blocks of a whole file stand one behind another from its
--- start to its end, and no length or end reaches 2^63.
-abbrev pub Follow : ℕ → ℕ → List LocatedBlock → Type 0
-Follow at end [] = end ≡ at
-Follow at end (block ∷ blocks) = (block.offset ≡ at) × Follow (at + block.b.num_bytes) end blocks
-
--- the answer's lengths and offsets are in their limits, and the blocks of a whole file follow one another
-abbrev pub IsShaped : Ask → Answer → Type 0
-IsShaped (asks.GetBlockLocations src offset length) (answers.GetBlockLocations None) = Unit {0}
-IsShaped (asks.GetBlockLocations src offset length) (answers.GetBlockLocations (Some found)) =
-    (found.file_length < 2 ^ 63)
-    × All (λ block. block.offset + block.b.num_bytes < 2 ^ 63) found.blocks
-    × (offset ≡ 0 → length ≡ 2 ^ 63 - 1 → Follow 0 found.file_length found.blocks)
+    ⊎ (risen × MayBeDone ask old new)

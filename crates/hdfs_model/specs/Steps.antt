@@ -8,17 +8,7 @@ use Rattle.hdfs_model.specs.declared.commands.Reply.{Reply}
 use Rattle.hdfs_model.specs.declared.commands.Reply.TheVariants.{Bytes}
 use Rattle.hdfs_model.specs.Paths.{is_path, absolute}
 use Rattle.hdfs_model.specs.Files.{State, Node, Dir, File, Writing, Content, NoFile, Missing, no_file, kinds_of}
-
--- why a command is refused
-pub data Refusal : Type 0 where
-  -- its path breaks the path rule
-  BadPath : Refusal
-  -- the session has the path open
-  WrongState : Refusal
-  -- there is no file at its path
-  Lacks : NoFile → Refusal
-  -- its range ends behind the file
-  BadRange : Refusal
+pub use Rattle.hdfs_model.specs.Refusals.{Refusal, BadPath, WrongState, Lacks, BadRange}
 
 -- what a step comes to: a refusal, or a reply and the next state
 pub data Outcome : Type 0 where

@@ -3,8 +3,10 @@ ghost use Rattle.std.specs.Prelude.{◌≡◌};
 ghost use Rattle.hdfs_model.specs.declared.asks.AskFault.TheVariants as ask_faults;
 ghost use Rattle.hdfs_model.specs.declared.asks.LinkFault.TheVariants as link_faults;
 
-use crate::messages::LocatedBlocks;
-use hdfs_wire::{NoMemory, Text};
+use crate::messages::{
+    Appended, Block, DatanodeInfo, FileStatusMsg, LocatedBlock, LocatedBlocks, ServerDefaults,
+};
+use hdfs_wire::{List, NoMemory, Text};
 use std::alloc::{AllocError, AllocFailed};
 use thiserror::Error;
 
@@ -12,13 +14,58 @@ use thiserror::Error;
 #[derive(Debug, Drop)]
 pub enum Ask {
     /// The blocks of the file `src` that lie in `length` bytes from `offset` on.
-    GetBlockLocations { src: Text, offset: u64, length: u64 },
+    GetBlockLocations {
+        src: Text,
+        offset: u64,
+        length: u64,
+    },
+    /// What is taken where a client says nothing.
+    GetServerDefaults,
+    /// A new file at `src`, open for this client: its permission bits, its replication and the size of its blocks in bytes.
+    /// `create_flag` is 1, and 3 where an older file is overwritten. Directories that aren't there are made where
+    /// `create_parent` says so.
+    Create {
+        src: Text,
+        masked: u32,
+        client_name: Text,
+        create_flag: u32,
+        create_parent: bool,
+        replication: u32,
+        block_size: u64,
+    },
+    /// The file at `src`, open for this client. `flag` is 4.
+    Append {
+        src: Text,
+        client_name: Text,
+        flag: u32,
+    },
+    /// A block more of the open file at `src`, behind its block `previous`, which has the length that it is named with.
+    AddBlock {
+        src: Text,
+        client_name: Text,
+        previous: Option<Block>,
+        excludes: List<DatanodeInfo>,
+        file_id: Option<u64>,
+    },
+    /// The open file at `src` is to be closed. `last` is its last block, with its length.
+    Complete {
+        src: Text,
+        client_name: Text,
+        last: Option<Block>,
+        file_id: Option<u64>,
+    },
 }
 
 /// What a namenode answers to the ask of the same name.
 #[derive(Debug, Drop)]
 pub enum Answer {
     GetBlockLocations(Option<LocatedBlocks>),
+    GetServerDefaults(ServerDefaults),
+    Create(Option<FileStatusMsg>),
+    Append(Appended),
+    AddBlock(LocatedBlock),
+    /// Whether the file is closed.
+    Complete(bool),
 }
 
 /// Why an ask has no answer.

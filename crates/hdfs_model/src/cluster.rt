@@ -4,6 +4,7 @@ ghost use Rattle.hdfs_model.specs.Namenode.{IsShaped};
 ghost use Rattle.hdfs_model.specs.Picture.{Picture};
 ghost use Rattle.hdfs_model.specs.Pipes.{IsSetup, WriteOpened, WriteNotOpened, FollowsOn, Sent, NotSent, IsAwaited, Acknowledged, NotAcknowledged, WriteEnded, ShowsWrites};
 ghost use Rattle.hdfs_model.specs.Shown.{Shown, Served, Opened, NotOpened, Given, NotGiven, Ended};
+ghost use Rattle.hdfs_model.specs.Sound.{IsSound};
 ghost use Rattle.hdfs_model.specs.declared.asks.Ask.{Ask};
 ghost use Rattle.hdfs_model.specs.declared.asks.Answer.{Answer};
 ghost use Rattle.hdfs_model.specs.declared.asks.AskFault.{AskFault};
@@ -86,6 +87,9 @@ pub trait Cluster {
 
     /// A told picture has the place of each open write link.
     ghost shows_writes: { (s : Self) (p : Picture) → (shown s).picture ≡ Some p → ShowsWrites (shown s) p };
+
+    /// In a told picture each block of a file stands in the block table, and at one place of one file.
+    ghost sound: { (s : Self) (p : Picture) → (shown s).picture ≡ Some p → IsSound p };
 
     /// The active namenode is one of them.
     ghost active_below: { (s : Self) (p : Picture) → (shown s).picture ≡ Some p → p.active < (shown s).namenodes };

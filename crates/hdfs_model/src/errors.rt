@@ -7,12 +7,29 @@ use hdfs_wire::{List, NoMemory, Text};
 use std::alloc::{AllocError, AllocFailed};
 use thiserror::Error;
 
+/// Which connection broke.
+#[derive(Debug, Drop, Error)]
+pub enum IoFault {
+    /// One to datanodes, while a pipeline was set up.
+    #[error("the connection to the pipeline broke")]
+    Link,
+}
+
 /// Why bytes could not be moved from or to datanodes.
 #[derive(Debug, Drop, Error)]
 pub enum TransferFault {
     /// No listed datanode gave the byte at this offset of its block.
     #[error("no datanode gave the byte at offset {offset} of its block")]
     Read { offset: u64 },
+    /// A datanode refused to have a pipeline set up.
+    #[error("the pipeline was refused")]
+    Setup,
+    /// Datanodes of a pipeline have failed.
+    #[error("the pipeline has failed")]
+    AllNodes,
+    /// An acknowledgement of this packet came that wasn't due.
+    #[error("a bad acknowledgement of packet {seqno}")]
+    BadAck { seqno: i64 },
 }
 
 /// Why an argument is refused.
@@ -31,10 +48,18 @@ pub enum HdfsError {
     /// An earlier call of the same object failed.
     #[error("failed before")]
     Failed,
+    #[error("IO error occurred while communicating with HDFS: {}", .0.name())]
+    IOError(IoFault),
     #[error("data transfer error: {}", .0.name())]
     DataTransferError(TransferFault),
     #[error("invalid argument: {}", .0.name())]
     InvalidArgument(ArgFault),
+    /// Something stands at the path already, or is being written. The namenode's message.
+    #[error("file already exists: {}", .0.as_str())]
+    AlreadyExists(Text),
+    /// The namenode wouldn't say that the file at this path is closed.
+    #[error("operation failed: {}", .0.as_str())]
+    OperationFailed(Text),
     /// There is no file at this path.
     #[error("file not found: {}", .0.as_str())]
     FileNotFound(Text),
@@ -53,11 +78,23 @@ pub struct Fault {
     pub done: List<Reply>,
 }
 
+impl IoFault {
+    // The name of the variant, which the text of an `HdfsError` shows.
+    fn name(&self) -> &'static str {
+        match self {
+            IoFault::Link => "Link",
+        }
+    }
+}
+
 impl TransferFault {
     // The name of the variant, which the text of an `HdfsError` shows.
     fn name(&self) -> &'static str {
         match self {
             TransferFault::Read { .. } => "Read",
+            TransferFault::Setup => "Setup",
+            TransferFault::AllNodes => "AllNodes",
+            TransferFault::BadAck { .. } => "BadAck",
         }
     }
 }

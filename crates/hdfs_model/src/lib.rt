@@ -14,11 +14,11 @@ pub use asks::{Answer, Ask, AskFault, LinkFault};
 pub use attributes::Attributes;
 pub use cluster::Cluster;
 pub use commands::{Command, Reply, Settings};
-pub use errors::{ArgFault, Fault, HdfsError, TransferFault};
+pub use errors::{ArgFault, Fault, HdfsError, IoFault, TransferFault};
 pub use hdfs_names::{absolute_path, is_path, nearest_ancestor, parent_of};
 pub use messages::{
-    Block, DatanodeId, DatanodeInfo, LocatedBlock, LocatedBlocks, ReadAsk, ServerDefaults, Setup,
-    Stage, Token,
+    Appended, Block, DatanodeId, DatanodeInfo, FileStatusMsg, LocatedBlock, LocatedBlocks, ReadAsk,
+    ServerDefaults, Setup, Stage, Token,
 };
 pub use picture::{BlockEntry, Entry, FileEntry, LastAnswer, OpenRead, OpenWrite, ReadPlace};
 pub use store::{AddFault, FaultLine, Line, ReadKind, Store};

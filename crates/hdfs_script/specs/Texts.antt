@@ -29,8 +29,11 @@ replies_text (reply ∷ replies) = reply_text reply ++ replies_text replies
 abbrev pub variant_name : HdfsError → List ℕ
 variant_name errors.NoMemory = codes "NoMemory"
 variant_name errors.Failed = codes "Failed"
+variant_name (errors.IOError fault) = codes "IOError"
 variant_name (errors.DataTransferError fault) = codes "DataTransferError"
 variant_name (errors.InvalidArgument fault) = codes "InvalidArgument"
+variant_name (errors.AlreadyExists message) = codes "AlreadyExists"
+variant_name (errors.OperationFailed path) = codes "OperationFailed"
 variant_name (errors.FileNotFound path) = codes "FileNotFound"
 variant_name (errors.RPCError class message) = codes "RPCError"
 

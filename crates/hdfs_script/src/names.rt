@@ -11,8 +11,11 @@ pub fn variant_name(error: &HdfsError) -> &'static str
     match error {
         HdfsError::NoMemory => "NoMemory",
         HdfsError::Failed => "Failed",
+        HdfsError::IOError(_) => "IOError",
         HdfsError::DataTransferError(_) => "DataTransferError",
         HdfsError::InvalidArgument(_) => "InvalidArgument",
+        HdfsError::AlreadyExists(_) => "AlreadyExists",
+        HdfsError::OperationFailed(_) => "OperationFailed",
         HdfsError::FileNotFound(_) => "FileNotFound",
         HdfsError::RPCError(_, _) => "RPCError",
     }

@@ -5,6 +5,7 @@ use Rattle.hdfs_model.specs.Picture.{Picture}
 use Rattle.slab.specs.Slab as slab
 use Rattle.hdfs_model.specs.Pipes.{ShowsWrites}
 use Rattle.hdfs_model.specs.Shown.{Shown}
+use Rattle.hdfs_model.specs.Sound.{IsSound}
 use Rattle.hdfs_tests.specs.declared.fake_cluster.FakeCluster.{FakeCluster}
 
 -- no picture, one namenode, and one count for all datanodes
@@ -26,3 +27,7 @@ no_picture fake p told = absurd (none-some p told)
 -- so no place of a write link either
 pub no_writes : (fake : FakeCluster) (p : Picture) → (shown_of fake).picture ≡ Some p → ShowsWrites (shown_of fake) p
 no_writes fake p told = absurd (none-some p told)
+
+-- nor a file
+pub nothing_shown : (fake : FakeCluster) (p : Picture) → (shown_of fake).picture ≡ Some p → IsSound p
+nothing_shown fake p told = absurd (none-some p told)

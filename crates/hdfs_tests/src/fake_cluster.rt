@@ -170,7 +170,7 @@ fn packet(alloc: Global, offset: i64, bytes: &'static [u8]) -> Result<ReadPacket
 impl Cluster for FakeCluster {
     ghost use Rattle.hdfs_model.specs.Pipes.{WriteEnded};
     ghost use Rattle.hdfs_model.specs.Shown.{Served};
-    ghost use Rattle.hdfs_tests.specs.Fakes.{shown_of, no_picture, no_writes};
+    ghost use Rattle.hdfs_tests.specs.Fakes.{shown_of, no_picture, no_writes, nothing_shown};
 
     ghost shown = { shown_of };
 
@@ -188,8 +188,12 @@ impl Cluster for FakeCluster {
         1
     }
 
+    /// It answers where a file lies, and has no memory for any other answer.
     fn ask(&mut self, _i: u32, ask: &Ask) -> Result<Answer, AskFault> {
-        let Ask::GetBlockLocations { .. } = ask;
+        let Ask::GetBlockLocations { .. } = ask else {
+            self.last = LastAnswer::NoMemory;
+            return Err(AskFault::NoMemory);
+        };
         match self.look {
             Look::NoFile => {
                 self.last = LastAnswer::Fine;
@@ -259,6 +263,8 @@ impl Cluster for FakeCluster {
     fn end_write(&mut self, link: u64) {
         let _ended = self.writes.try_remove(link as usize);
     }
+
+    ghost sound = { nothing_shown };
 
     ghost active_below = { no_picture };
 }

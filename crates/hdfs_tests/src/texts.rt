@@ -4,7 +4,9 @@ ghost use Rattle.hdfs_cluster.specs.MemShown.{shown_of};
 
 use crate::support::{cluster, held, sink, source, words};
 use hdfs_cluster::MemCluster;
-use hdfs_model::{AddFault, ArgFault, AskFault, Fault, HdfsError, LinkFault, TransferFault};
+use hdfs_model::{
+    AddFault, ArgFault, AskFault, Fault, HdfsError, IoFault, LinkFault, TransferFault,
+};
 use hdfs_plain::PlainRefusal;
 use hdfs_streams::{IoFailed, ReadFault};
 use hdfs_top::{Note, top};
@@ -27,6 +29,8 @@ fn client_errors(rt: HostRuntime) -> Result<(), Fail> {
     let path = Text::from_str(alloc, "/a/\u{fc}")?;
     let class = Text::from_str(alloc, "java.io.IOException")?;
     let message = Text::from_str(alloc, "none")?;
+    let taken = Text::from_str(alloc, "/a is there")?;
+    let open = Text::from_str(alloc, "/b")?;
     let read = TransferFault::Read { offset: 5 };
     let range = ArgFault::Range {
         offset: 2,
@@ -41,6 +45,15 @@ fn client_errors(rt: HostRuntime) -> Result<(), Fail> {
             "data transfer error: Read",
         ),
         (HdfsError::InvalidArgument(range), "invalid argument: Range"),
+        (
+            HdfsError::IOError(IoFault::Link),
+            "IO error occurred while communicating with HDFS: Link",
+        ),
+        (
+            HdfsError::AlreadyExists(taken),
+            "file already exists: /a is there",
+        ),
+        (HdfsError::OperationFailed(open), "operation failed: /b"),
         (HdfsError::FileNotFound(path), "file not found: /a/\u{fc}"),
         (
             HdfsError::RPCError(class, message),

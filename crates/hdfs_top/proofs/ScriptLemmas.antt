@@ -126,6 +126,12 @@ cause_since w state (commands.Read text offset len) old mid new (errors.DataTran
       },
     )
 cause_since w state command old mid new (errors.InvalidArgument (args.Range offset len length)) same cause = cause
+cause_since w state command old mid new (errors.IOError fault) same cause = absurd cause
+cause_since w state command old mid new (errors.DataTransferError transfer.Setup) same cause = absurd cause
+cause_since w state command old mid new (errors.DataTransferError transfer.AllNodes) same cause = absurd cause
+cause_since w state command old mid new (errors.DataTransferError (transfer.BadAck seqno)) same cause = absurd cause
+cause_since w state command old mid new (errors.AlreadyExists message) same cause = absurd cause
+cause_since w state command old mid new (errors.OperationFailed name) same cause = absurd cause
 cause_since w state command old mid new (errors.FileNotFound name) same cause = cause
 cause_since w state command old mid new (errors.RPCError class message) same cause =
     ⊎_elim (λ stands. inl stands) (λ rose. inr (rose.0, rose.1, rw (← same.calls rose.0) rose.2)) cause

@@ -1,5 +1,5 @@
 //! What an error means for the one who asked.
-use hdfs_model::{ArgFault, HdfsError, TransferFault};
+use hdfs_model::{ArgFault, HdfsError};
 
 /// What to do after an error.
 #[derive(Clone, Copy, Debug, PartialEq, Eq)]
@@ -25,8 +25,11 @@ pub(crate) fn advice_on(error: &HdfsError) -> Advice {
     match error {
         HdfsError::NoMemory => Advice::FreeMemory,
         HdfsError::Failed => Advice::MakeANewSession,
-        HdfsError::DataTransferError(TransferFault::Read { .. }) => Advice::AskAgain,
+        HdfsError::IOError(_) => Advice::AskAgain,
+        HdfsError::DataTransferError(_) => Advice::AskAgain,
         HdfsError::InvalidArgument(ArgFault::Range { .. }) => Advice::ChangeTheRequest,
+        HdfsError::AlreadyExists(_) => Advice::ChangeTheRequest,
+        HdfsError::OperationFailed(_) => Advice::AskAgain,
         HdfsError::FileNotFound(_) => Advice::ChangeTheRequest,
         HdfsError::RPCError(class, _) if MISSING.contains(&class.as_str()) => {
             Advice::ChangeTheRequest

@@ -1,0 +1,62 @@
+-- What an ask leaves as it was, whatever is answered.
+use Rattle.std.proofs.Common.{inl, inr, ⊎_elim, ℕ, Bool, true, false, List, Option, Some, None, Result, Ok, Err}
+use Rattle.hdfs_model.specs.declared.asks.Ask.{Ask}
+use Rattle.hdfs_model.specs.declared.asks.Ask.TheVariants as asks
+use Rattle.hdfs_model.specs.declared.asks.Answer.{Answer}
+use Rattle.hdfs_model.specs.declared.asks.Answer.TheVariants as answers
+use Rattle.hdfs_model.specs.declared.asks.AskFault.{AskFault}
+use Rattle.hdfs_model.specs.declared.asks.AskFault.TheVariants as faults
+use Rattle.hdfs_model.specs.declared.messages.Block.{Block}
+use Rattle.hdfs_model.specs.declared.messages.LocatedBlock.{LocatedBlock}
+use Rattle.hdfs_model.specs.declared.picture.FileEntry.{FileEntry}
+use Rattle.hdfs_model.specs.Effects.{KeepsBytes, Opens, AddsBlock, ClosesIf}
+use Rattle.hdfs_model.specs.Picture.{Picture, SameButActive}
+use Rattle.hdfs_model.specs.Namenode.{Row, IsOwnOf, MayBeDone, ServesTold}
+
+keeps_same : (p q : Picture) → SameButActive p q → KeepsBytes p q
+keeps_same p q same = record { held = same.files.held; defaults = same.files.defaults; reads = same.reads; writes = same.writes }
+
+keeps_own : (ask : Ask) (p q : Picture) → IsOwnOf ask p q → KeepsBytes p q
+keeps_own ask p q own = record { held = own.1.held; defaults = own.1.defaults; reads = own.1.reads; writes = own.1.writes }
+
+opens_keeps : (src : List ℕ) (file : FileEntry) (block : Option LocatedBlock) (p q : Picture) → Opens src file block p q → KeepsBytes p q
+opens_keeps src file None p q opens = opens.1.bytes
+opens_keeps src file (Some block) p q opens = opens.6.bytes
+
+adds_keeps : (src : List ℕ) (file : FileEntry) (previous : Option Block) (block : LocatedBlock) (p q : Picture) → AddsBlock src file previous block p q → KeepsBytes p q
+adds_keeps src file previous block p q (inl again) = again.changes.bytes
+adds_keeps src file previous block p q (inr added) = added.changes.bytes
+
+closes_keeps : (b : Bool) (src : List ℕ) (file : FileEntry) (last : Option Block) (p q : Picture) → ClosesIf b src file last p q → KeepsBytes p q
+closes_keeps true src file last p q changes = changes.bytes
+closes_keeps false src file last p q changes = changes.bytes
+
+-- the effect of a row
+pub row_keeps : (p q : Picture) (ask : Ask) (answer : Answer) → Row p ask answer q → KeepsBytes p q
+row_keeps p q (asks.GetBlockLocations src offset length) (answers.GetBlockLocations None) row = keeps_same p q row.1
+row_keeps p q (asks.GetBlockLocations src offset length) (answers.GetBlockLocations (Some found)) row = keeps_same p q row.1
+row_keeps p q asks.GetServerDefaults (answers.GetServerDefaults defaults) row = keeps_same p q row.1
+row_keeps p q (asks.Create src masked client flag parents replication block_size) (answers.Create status) row = row.2.changes.bytes
+row_keeps p q (asks.Append src client flag) (answers.Append appended) row = opens_keeps src row.1.0 appended.block p q row.1.3
+row_keeps p q (asks.AddBlock src client previous excludes file_id) (answers.AddBlock block) row = adds_keeps src row.0 previous block p q row.2
+row_keeps p q (asks.Complete src client last file_id) (answers.Complete true) row = closes_keeps row.0.is_open src row.0 last p q row.2.1
+row_keeps p q ask answer row = absurd row
+
+-- a missing answer
+pub may_be_done_keeps : (ask : Ask) (p q : Picture) → MayBeDone ask p q → KeepsBytes p q
+may_be_done_keeps ask p q (inl same) = keeps_same p q same
+may_be_done_keeps ask p q (inr (inl row)) = row_keeps p q ask row.0 row.2
+may_be_done_keeps ask p q (inr (inr own)) = keeps_own ask p q own
+
+-- an ask changes neither what datanodes hold, nor the defaults, nor the links
+pub served_keeps : (risen : Type 0) (p q : Picture) (i : ℕ) (ask : Ask) (result : Result Answer AskFault) → ServesTold risen p i ask result q → KeepsBytes p q
+served_keeps risen p q i ask (Ok (answers.Complete false)) h = ⊎_elim (λ own. keeps_own ask p q own.2) (λ rose. may_be_done_keeps ask p q rose.1) h
+served_keeps risen p q i ask (Ok (answers.Complete true)) h = ⊎_elim (row_keeps p q ask (answers.Complete true)) (keeps_own ask p q) h.2
+served_keeps risen p q i ask (Ok (answers.GetBlockLocations found)) h = ⊎_elim (row_keeps p q ask (answers.GetBlockLocations found)) (keeps_own ask p q) h.2
+served_keeps risen p q i ask (Ok (answers.GetServerDefaults defaults)) h = ⊎_elim (row_keeps p q ask (answers.GetServerDefaults defaults)) (keeps_own ask p q) h.2
+served_keeps risen p q i ask (Ok (answers.Create status)) h = ⊎_elim (row_keeps p q ask (answers.Create status)) (keeps_own ask p q) h.2
+served_keeps risen p q i ask (Ok (answers.Append appended)) h = ⊎_elim (row_keeps p q ask (answers.Append appended)) (keeps_own ask p q) h.2
+served_keeps risen p q i ask (Ok (answers.AddBlock block)) h = ⊎_elim (row_keeps p q ask (answers.AddBlock block)) (keeps_own ask p q) h.2
+served_keeps risen p q i ask (Err faults.NoMemory) h = may_be_done_keeps ask p q h.1
+served_keeps risen p q i ask (Err (faults.Exception class message)) h =
+    ⊎_elim (λ standby. keeps_same p q standby.2.rest) (λ rest. ⊎_elim (λ refused. keeps_same p q refused.2.rest) (λ more. ⊎_elim (λ own. keeps_own ask p q own.2) (λ rose. may_be_done_keeps ask p q rose.1) more) rest) h
