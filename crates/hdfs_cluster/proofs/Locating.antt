@@ -6,7 +6,8 @@ use Rattle.hdfs_model.specs.declared.picture.BlockEntry.{BlockEntry}
 use Rattle.hdfs_model.specs.declared.messages.LocatedBlock.{LocatedBlock}
 use Rattle.std.specs.List.{All}
 use Rattle.std.proofs.lemmas.List.Elements.{All-cons, All-nil}
-use Rattle.hdfs_cluster.specs.Memory.{total, plus_length, is_length}
+use Rattle.hdfs_cluster.specs.Memory.{total, is_length}
+use Rattle.hdfs_cluster.specs.Soundness.{total_first, total_known}
 use Rattle.hdfs_model.specs.Namenode.{LocatesBlock, LocatesBlocks, Follow}
 
 pub LocatesBlocks-push : (table : ℕ → Option BlockEntry) (at end id : ℕ) (ids : List ℕ) (blocks : List LocatedBlock) (entry : BlockEntry) (block : LocatedBlock)
@@ -17,17 +18,6 @@ LocatesBlocks-push table at end id (i ∷ ids) (b ∷ blocks) entry block so_far
     (so_far.0, LocatesBlocks-push table (at + b.b.num_bytes) end id ids blocks entry block so_far.1 is here)
 LocatesBlocks-push table at end id [] (b ∷ blocks) entry block so_far is here = absurd so_far
 LocatesBlocks-push table at end id (i ∷ ids) [] entry block so_far is here = absurd so_far
-
--- what the total says of the first block
-pub total_first : (first : Option BlockEntry) (rest : Option ℕ) (n : ℕ) → plus_length first rest ≡ Some n
-    → (entry : BlockEntry) × (first ≡ Some entry) × (m : ℕ) × (rest ≡ Some m) × (n ≡ entry.length + m)
-total_first (Some entry) (Some m) n is = (entry, refl, m, refl, cc)
-total_first (Some entry) None n is = absurd (cc)
-total_first None rest n is = absurd (cc)
-
-pub total_known : (t : Option ℕ) → is_length t ≡ true → (n : ℕ) × (t ≡ Some n) × (n < 2 ^ 63)
-total_known None is = absurd (cc)
-total_known (Some n) is = (n, refl, ltb-true n (2 ^ 63) is)
 
 -- what is left of the lengths, one block on
 pub total_next : (table : ℕ → Option BlockEntry) (ids : List ℕ) (i at : ℕ) → i < length ids → (rest : ℕ) × (total table (drop i ids) ≡ Some rest) × (at + rest < 2 ^ 63)

@@ -2,6 +2,7 @@
 use Rattle.std.proofs.Common.{◌≡◌, ℕ, Bool, true, false, cond, ◌&&◌, ◌||◌, List, [], ◌∷◌, Option, Some, None, IsSome, is_none, String, refl, sym, ◌∙◌, ap, subst, arith}
 use Rattle.std.proofs.lemmas.List.Elements.{All-cons, All-nil, All-head, All-tail}
 use Rattle.std.proofs.lemmas.Map.Text.{is_eq-slice_cmp}
+use Rattle.std.proofs.lemmas.Bool.{false≢true}
 use Rattle.std.proofs.lemmas.Slice.Eq.{bytes_eq-Decides}
 use Rattle.std.specs.List.{All, list_all}
 use Rattle.std.specs.Map.{lookup}
@@ -21,10 +22,12 @@ use Rattle.hdfs_model.specs.Paths.{root, is_path, ancestors, parent_of}
 use Rattle.hdfs_model.specs.Picture.{entry_kind, kinds_in}
 use Rattle.hdfs_model.proofs.Loads.{and_parts, none_from_test}
 use Rattle.hdfs_model.proofs.Trees.{tree_with}
-use Rattle.hdfs_cluster.specs.Memory.{is_dir, is_placed, is_sized, is_length, total, is_bare, is_bare_at, accepts}
-use Rattle.hdfs_cluster.specs.Adding.{IsPlace, Names}
+use Rattle.hdfs_cluster.specs.Memory.{is_dir, is_placed, is_sized, is_length, total, is_bare, is_bare_at, is_kth, accepts, AreApart, IsBare}
+use Rattle.hdfs_cluster.specs.Adding.{IsPlace, AreNew, Names}
+use Rattle.hdfs_model.specs.Effects.{blocks_at}
+use Rattle.hdfs_cluster.proofs.Apart.{apart_with, apart_fewer, no_kth}
 
-kind_from_dir : (o : Option Entry) → is_dir o ≡ true → option_map entry_kind o ≡ Some Directory
+pub kind_from_dir : (o : Option Entry) → is_dir o ≡ true → option_map entry_kind o ≡ Some Directory
 kind_from_dir None is = absurd (cc)
 kind_from_dir (Some entries.Dir) is = refl
 kind_from_dir (Some (entries.File file)) is = absurd (cc)
@@ -73,10 +76,10 @@ module _ (names : List ℕ → Option Entry) where
   both : (a b : Bool) → a ≡ true → b ≡ true → (a && b) ≡ true
   both a b is is' = ap (λ (x : Bool). x && b) is ∙ is'
 
-  placed_from_tree : IsTree (kinds_in names) → (path : List ℕ) → is_placed names path ≡ true
+  pub placed_from_tree : IsTree (kinds_in names) → (path : List ℕ) → is_placed names path ≡ true
   placed_from_tree tree path = test_from_rule (names path) (is_path path && list_all (λ a. is_dir (names a)) (ancestors path)) (λ some. both (is_path path) (list_all (λ a. is_dir (names a)) (ancestors path)) (tree.named path some) (tests_from_all (ancestors path) (tree.above path some)))
 
-  rooted_from_tree : IsTree (kinds_in names) → is_dir (names root) ≡ true
+  pub rooted_from_tree : IsTree (kinds_in names) → is_dir (names root) ≡ true
   rooted_from_tree tree = dir_from_kind (names root) tree.root
 
 -- what a namespace keeps of its names
@@ -84,6 +87,7 @@ pub record Sound (names : List ℕ → Option Entry) (table : ℕ → Option Blo
   pub rooted : is_dir (names root) ≡ true
   pub placed : (path : List ℕ) → is_placed names path ≡ true
   pub sized : (path : List ℕ) → is_sized table (names path) ≡ true
+  pub apart : AreApart names
 
 module _ (names names' : List ℕ → Option Entry) (table : ℕ → Option BlockEntry) (path : List ℕ) (file : FileEntry) (now : Names names names' path file) where
   kind_at : (b : Bool) (o : Option Entry) → option_map entry_kind (cond b (Some (entries.File file)) o) ≡ cond b (Some (entry_kind (entries.File file))) (option_map entry_kind o)
@@ -94,15 +98,28 @@ module _ (names names' : List ℕ → Option Entry) (table : ℕ → Option Bloc
   sized_at true o here there = here
   sized_at false o here there = there
 
+  blocks_with : (b : Bool) (o : Option Entry) → blocks_at (cond b (Some (entries.File file)) o) ≡ cond b file.blocks (blocks_at o)
+  blocks_with true o = refl
+  blocks_with false o = refl
+
   -- a file at a place for one keeps a namespace sound
-  pub sound_with : Sound names table → IsPlace names path → is_length (total table file.blocks) ≡ true → Sound names' table
-  sound_with sound place sized =
+  pub sound_with : Sound names table → IsPlace names path → is_length (total table file.blocks) ≡ true → AreNew names file.blocks → Sound names' table
+  sound_with sound place sized new =
       let tree = tree_with (kinds_in names) (kinds_in names') path (entry_kind (entries.File file)) (tree_from_tests names sound.rooted sound.placed) (ap (option_map entry_kind) place.absent) (kind_from_dir (names (parent_of path)) place.parent) place.named (λ q. ap (option_map entry_kind) (now q) ∙ kind_at (bytes_eq path q) (names q)) in
       record {
         rooted = rooted_from_tree names' tree;
         placed = placed_from_tree names' tree;
         sized = λ q. ap (is_sized table) (now q) ∙ sized_at (bytes_eq path q) (names q) sized (sound.sized q);
+        apart = apart_with names names' path file.blocks (λ q. ap blocks_at (now q) ∙ blocks_with (bytes_eq path q) (names q)) sound.apart (λ q k n id other. new.unused q k n id) new.distinct;
       }
+
+  -- where a file stands that didn't, there is more than the root
+  pub more_with : is_dir (names root) ≡ true → names path ≡ None → IsBare names' → ⊥
+  more_with rooted absent bare = at_root (names path) (bytes_eq root path) refl absent (sym (ap (is_bare_at (bytes_eq root path)) (now path ∙ ap (λ (b : Bool). cond b (Some (entries.File file)) (names path)) ((bytes_eq-Decides path path).1 refl))) ∙ bare path)
+    where
+      at_root : (o : Option Entry) (b : Bool) → bytes_eq root path ≡ b → o ≡ None → is_bare_at (bytes_eq root path) (Some (entries.File file)) ≡ true → ⊥
+      at_root o true is none here = false≢true (sym (ap (λ (x : Bool). is_bare_at x (Some (entries.File file))) is) ∙ here)
+      at_root o false is none here = false≢true (sym (ap (λ (x : Bool). is_bare_at x (Some (entries.File file))) is) ∙ here)
 
 pub place_from_test : (names : List ℕ → Option Entry) (path : List ℕ) (attributes : Attributes) (count : ℕ) → accepts names path attributes count ≡ true → IsPlace names path
 place_from_test names path attributes count is =
@@ -119,7 +136,7 @@ dir_entry : (e : Entry) → is_dir (Some e) ≡ true → e ≡ entries.Dir
 dir_entry entries.Dir is = refl
 dir_entry (entries.File file) is = absurd (cc)
 
-bytes_eq_flip : (xs ys : List ℕ) → bytes_eq xs ys ≡ bytes_eq ys xs
+pub bytes_eq_flip : (xs ys : List ℕ) → bytes_eq xs ys ≡ bytes_eq ys xs
 bytes_eq_flip xs ys = by_tests (bytes_eq xs ys) (bytes_eq ys xs) (λ is. (bytes_eq-Decides ys xs).1 (sym ((bytes_eq-Decides xs ys).0 is))) (λ is. (bytes_eq-Decides xs ys).1 (sym ((bytes_eq-Decides ys xs).0 is)))
   where
     by_tests : (a b : Bool) → (a ≡ true → b ≡ true) → (b ≡ true → a ≡ true) → a ≡ b
@@ -167,8 +184,13 @@ sound_bare es table bare =
       rooted = rooted_from_tree (look es) tree;
       placed = placed_from_tree (look es) tree;
       sized = λ q. ap (is_sized table) (now q) ∙ sized_at (bytes_eq root q);
+      apart = λ q other k n id here there. absurd (no_kth k id (sym (ap (λ (o : Option Entry). is_kth (blocks_at o) k id) (now q) ∙ ap (λ (l : List ℕ). is_kth l k id) (no_blocks (bytes_eq root q))) ∙ here));
     }
   where
+    no_blocks : (b : Bool) → blocks_at (cond b (Some entries.Dir) None) ≡ []
+    no_blocks true = refl
+    no_blocks false = refl
+
     kind_at : (b : Bool) → option_map entry_kind (cond b (Some entries.Dir) None) ≡ cond b (Some Directory) None
     kind_at true = refl
     kind_at false = refl

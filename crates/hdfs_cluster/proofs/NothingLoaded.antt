@@ -1,5 +1,5 @@
 -- What a line that wasn't loaded leaves.
-use Rattle.std.proofs.Common.{◌≡◌, ℕ, List, map, Result, Ok, Err, OnErr, refl, ap}
+use Rattle.std.proofs.Common.{◌≡◌, ℕ, List, map, Option, Some, None, IsSome, Result, Ok, Err, OnErr, refl, ap}
 use Rattle.std.specs.BTreeMap.{is_at}
 use Rattle.std.specs.Map.{lookup}
 use Rattle.std.specs.Ordering.{nat_cmp}
@@ -9,7 +9,7 @@ use Rattle.slab.specs.Slab as slab
 use Rattle.slab.specs.Slab.{Slab}
 use Rattle.hdfs_model.specs.declared.messages.ServerDefaults.{ServerDefaults}
 use Rattle.hdfs_model.specs.declared.picture.LastAnswer.{LastAnswer}
-use Rattle.hdfs_model.specs.Loading.{LoadsNothing}
+use Rattle.hdfs_model.specs.Loading.{LoadsAt, LoadsNothing}
 use Rattle.hdfs_cluster.specs.declared.loaded.Kept.{Kept}
 use Rattle.hdfs_cluster.specs.declared.namespace.Namespace.{Namespace}
 use Rattle.hdfs_cluster.specs.declared.datanodes.Datanodes.{Datanodes}
@@ -28,6 +28,27 @@ pub on_err : {T E P : Type 0} (r : Result T E) → P → OnErr r P
 on_err (Ok x) p = tt
 on_err (Err e) p = p
 
+was_kept : {X : Type 0} (o o' : Option X) → ((x : X) → o ≡ Some x → o' ≡ Some x) → IsSome o → o' ≡ o
+was_kept None o' kept some = absurd (cc)
+was_kept (Some x) o' kept some = kept x refl
+
+is_kept : {X Y : Type 0} (o : Option X) (y y' : Y) → ((x : X) → o ≡ Some x → y' ≡ y) → IsSome o → y' ≡ y
+is_kept None y y' kept some = absurd (cc)
+is_kept (Some x) y y' kept some = kept x refl
+
+-- a load keeps the blocks that were there
+pub loads_at : (space space' : Namespace) (nodes nodes' : Datanodes) (active : ℕ) (defaults : ServerDefaults) (s : Slab MemLink)
+    → KeepsBlocks (table_of space.table.entries) (table_of space'.table.entries) (held_in nodes) (held_in nodes')
+    → ((d : List ℕ) (b link : ℕ) → undisturbed_in nodes' d b link ≡ undisturbed_in nodes d b link) → LoadsAt (picture_at space nodes active defaults s) (picture_at space' nodes' active defaults s)
+loads_at space space' nodes nodes' active defaults s kept links = record {
+  active = refl;
+  defaults = refl;
+  reads = λ link. refl;
+  writes = λ link. place_same nodes nodes' links link (slab.get s link);
+  table = λ id. was_kept (table_of space.table.entries id) (table_of space'.table.entries id) (kept.table id);
+  held = λ node id. is_kept (table_of space.table.entries id) (held_in nodes node id) (held_in nodes' node id) (λ entry is. kept.held id entry is node);
+}
+
 -- the names and the lines stay, the blocks are kept, and no datanode has failed
 pub nothing_loaded : (space space' : Namespace) (active : ℕ) (defaults : ServerDefaults) (last : LastAnswer) (namenodes : ℕ) (items items' : List Kept) (nodes nodes' : Datanodes) (s : Slab MemLink) → items' ≡ items → space'.names.entries ≡ space.names.entries
     → KeepsBlocks (table_of space.table.entries) (table_of space'.table.entries) (held_in nodes) (held_in nodes') → ((d : List ℕ) → faults_of (node_at nodes' d) ≡ faults_of (node_at nodes d))
@@ -36,7 +57,7 @@ pub nothing_loaded : (space space' : Namespace) (active : ℕ) (defaults : Serve
 nothing_loaded space space' active defaults last namenodes items items' nodes nodes' s lines names kept faults links = record {
   rest = record { counts = record { calls = λ i. refl; links = refl; nodes = faults }; last = refl; namenodes = refl; reads = λ link. refl; writes = λ link. refl };
   lines = ap (map line_of) lines;
-  picture = record { active = refl; defaults = refl; reads = λ link. refl; writes = λ link. place_same nodes nodes' links link (slab.get s link) };
+  picture = loads_at space space' nodes nodes' active defaults s kept links;
   files = λ state was. agrees_kept (picture_at space nodes active defaults s) (picture_at space' nodes' active defaults s) state kept
       (λ q. ap (lookup (is_at (λ k. slice_cmp nat_cmp q (string_bytes k)))) names) was;
 }

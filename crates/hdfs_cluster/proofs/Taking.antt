@@ -21,11 +21,7 @@ use Rattle.hdfs_model.proofs.Loads.{and_parts}
 use Rattle.hdfs_cluster.specs.declared.loaded.Kept.{Kept}
 use Rattle.hdfs_cluster.specs.declared.loaded.Kept.TheVariants as keeps
 use Rattle.hdfs_cluster.specs.Lines.{line_of}
-use Rattle.hdfs_cluster.specs.Memory.{is_nil, is_dir, accepts, breaks, breaks_at, uuid_of, node_of, nth_of}
-
-pub is_nil_push : {X : Type 0} (xs : List X) (x : X) → is_nil (xs ++ x ∷ []) ≡ false
-is_nil_push [] x = refl
-is_nil_push (y ∷ xs) x = refl
+use Rattle.hdfs_cluster.specs.Memory.{is_dir, accepts, breaks, breaks_at, uuid_of, node_of, nth_of}
 
 -- a packet that breaks by the lines, or by the new one, breaks by all of them
 pub breaks_push : (items : List Kept) (x : Kept) (d : List ℕ) (packet : ℕ) → (breaks (map line_of items) d packet ≡ true) ⊎ (breaks_at d packet (line_of x) ≡ true) → breaks (map line_of (items ++ x ∷ [])) d packet ≡ true

@@ -1,14 +1,18 @@
 -- How blocks and files come into a cluster in memory.
-use Rattle.std.specs.Prelude.{◌≡◌, ◌≢◌, ℕ, true, false, List, [], ◌∷◌, Option, Some, None, if◌then◌else◌}
+use Rattle.std.specs.Prelude.{◌≡◌, ◌≢◌, ◌<◌, ℕ, Bool, true, false, List, [], ◌∷◌, ◌++◌, length, All, Contains, Option, Some, None, unwrap_or, if◌then◌else◌}
+use Rattle.std.specs.List.{list_any}
 use Rattle.std.specs.Str.{bytes_eq}
 use Rattle.hdfs_model.specs.declared.picture.Entry.{Entry}
 use Rattle.hdfs_model.specs.declared.picture.Entry.TheVariants as entries
 use Rattle.hdfs_model.specs.declared.picture.BlockEntry.{BlockEntry}
 use Rattle.hdfs_model.specs.declared.picture.FileEntry.{FileEntry}
-use Rattle.hdfs_model.specs.Paths.{is_path, parent_of}
+use Rattle.hdfs_model.specs.declared.messages.Block.{Block}
+use Rattle.hdfs_model.specs.declared.messages.LocatedBlock.{LocatedBlock}
+use Rattle.hdfs_model.specs.Effects.{HasBlock, IsEntry, IsLast, IsRetried, with_block, with_entry, with_length}
+use Rattle.hdfs_model.specs.Paths.{is_path, ancestors, parent_of}
 use Rattle.hdfs_model.specs.Picture.{Picture}
 use Rattle.hdfs_model.specs.Stores.{StoresBlocks}
-use Rattle.hdfs_cluster.specs.Memory.{first_node, total, is_length, is_dir}
+use Rattle.hdfs_cluster.specs.Memory.{first_node, total, is_length, is_dir, is_kth, is_kth_at}
 
 -- a file can stand at the path: it is new, and its parent is a directory
 pub record IsPlace (names : List ℕ → Option Entry) (path : List ℕ) : Type 0 where
@@ -24,6 +28,11 @@ pub record AddsBlock (old new : ℕ → Option BlockEntry) (id length : ℕ) : T
   pub has_length : entry.length ≡ length
   pub on : entry.nodes ≡ first_node ∷ []
   pub others : (other : ℕ) → other ≢ id → new other ≡ old other
+
+-- these blocks are distinct, and of no file
+pub record AreNew (names : List ℕ → Option Entry) (ids : List ℕ) : Type 0 where
+  pub unused : (path : List ℕ) (k n id : ℕ) → is_kth ids k id ≡ true → is_kth_at names path n id ≡ true → ⊥
+  pub distinct : (k n id : ℕ) → is_kth ids k id ≡ true → is_kth ids n id ≡ true → k ≡ n
 
 -- the blocks that were there are there
 abbrev pub Keeps : (ℕ → Option BlockEntry) → (ℕ → Option BlockEntry) → Type 0
@@ -54,3 +63,80 @@ pub record KeepsBlocks (old new : ℕ → Option BlockEntry) (was now : List ℕ
 pub record StoresBytes (new : ℕ → Option BlockEntry) (held' : List ℕ → ℕ → List ℕ) (ids bytes : List ℕ) : Type 0 where
   pub sized : is_length (total new ids) ≡ true
   pub stores : StoresBlocks (blocks_picture new held') ids bytes
+
+-- a map with a directory at each path above this one at which nothing stood
+abbrev pub with_directories : {X : Type 0} → (List ℕ → Option X) → X → List ℕ → List ℕ → Option X
+with_directories map dir path q = if list_any (bytes_eq q) (ancestors path) then Some (unwrap_or (map q) dir) else map q
+
+-- a file that is open, or closed
+abbrev pub with_open : FileEntry → Bool → FileEntry
+with_open file is_open = record { attributes = file.attributes; blocks = file.blocks; is_open = is_open }
+
+-- a file with a block more
+abbrev pub with_more : FileEntry → ℕ → FileEntry
+with_more file id = record { attributes = file.attributes; blocks = file.blocks ++ id ∷ []; is_open = file.is_open }
+
+-- A file stands at the path and has the named block, if one is named. It stays below 2^63 bytes where that gets its length.
+pub record CanTake (names : List ℕ → Option Entry) (table : ℕ → Option BlockEntry) (path : List ℕ) (named : Option Block) : Type 0 where
+  pub file : FileEntry
+  pub is : names path ≡ Some (entries.File file)
+  pub has : HasBlock file.blocks named
+  pub sized : is_length (total (with_length table named) file.blocks) ≡ true
+
+-- A new block is listed on the first datanode, which holds nothing of it, behind the others of the file at a path.
+pub record AddsBehind (names : List ℕ → Option Entry) (table : ℕ → Option BlockEntry) (held : List ℕ → ℕ → List ℕ) (path : List ℕ) (previous : Option Block)
+    (names' : List ℕ → Option Entry) (table' : ℕ → Option BlockEntry) (block : LocatedBlock) : Type 0 where
+  pub id : ℕ
+  pub entry : BlockEntry
+  pub absent : table id ≡ None
+  pub empty : entry.length ≡ 0
+  pub on : entry.nodes ≡ first_node ∷ []
+  pub bare : held first_node id ≡ []
+  pub answered : IsEntry block id entry
+  pub behind : (file : FileEntry) → names path ≡ Some (entries.File file) → (q : List ℕ) → names' q ≡ with_entry names path (with_more file id) q
+  pub listed : (b : ℕ) → table' b ≡ with_block (with_length table previous) id entry b
+
+-- The last block of a file, which is empty, is given again, and the one before it gets its length.
+pub record GivesLast (names : List ℕ → Option Entry) (table : ℕ → Option BlockEntry) (file : FileEntry) (previous : Option Block)
+    (names' : List ℕ → Option Entry) (table' : ℕ → Option BlockEntry) (block : LocatedBlock) : Type 0 where
+  pub id : ℕ
+  pub retried : IsRetried table file.blocks previous id
+  pub answered : IsEntry block id retried.entry
+  pub same : (q : List ℕ) → names' q ≡ names q
+  pub listed : (b : ℕ) → table' b ≡ with_length table previous b
+
+-- The file has a new block, and no empty one that it could be given again.
+pub record AddsLast (names : List ℕ → Option Entry) (table : ℕ → Option BlockEntry) (held : List ℕ → ℕ → List ℕ) (path : List ℕ) (file : FileEntry) (previous : Option Block)
+    (names' : List ℕ → Option Entry) (table' : ℕ → Option BlockEntry) (block : LocatedBlock) : Type 0 where
+  pub first : (last : ℕ) → IsRetried table file.blocks previous last → ⊥
+  pub replicated : 0 < file.attributes.replication
+  pub adds : AddsBehind names table held path previous names' table' block
+
+-- a block with another generation stamp
+abbrev pub with_stamp : BlockEntry → ℕ → BlockEntry
+with_stamp entry stamp = record { length = entry.length; stamp = stamp; nodes = entry.nodes }
+
+-- the block is one of the file at a path
+pub record HasOne (names : List ℕ → Option Entry) (path : List ℕ) (id : ℕ) : Type 0 where
+  pub file : FileEntry
+  pub is : names path ≡ Some (entries.File file)
+  pub has : Contains file.blocks id
+
+-- The file at a path is opened, and its block has a greater stamp. All of its datanodes hold it whole.
+pub record Reopened (names : List ℕ → Option Entry) (table : ℕ → Option BlockEntry) (held : List ℕ → ℕ → List ℕ) (path : List ℕ) (id : ℕ)
+    (names' : List ℕ → Option Entry) (table' : ℕ → Option BlockEntry) (block : LocatedBlock) : Type 0 where
+  pub entry : BlockEntry
+  pub is : table id ≡ Some entry
+  pub answered : IsEntry block id (with_stamp entry block.b.generation_stamp)
+  pub same_length : block.b.num_bytes ≡ entry.length
+  pub greater : entry.stamp < block.b.generation_stamp
+  pub whole : All (λ node. length (held node id) ≡ entry.length) entry.nodes
+  pub opened : (file : FileEntry) → names path ≡ Some (entries.File file) → (q : List ℕ) → names' q ≡ with_entry names path (with_open file true) q
+  pub listed : (b : ℕ) → table' b ≡ with_block table id (with_stamp entry block.b.generation_stamp) b
+
+-- a file is opened: one without blocks, or one with its last block
+abbrev pub OpensAgain : (List ℕ → Option Entry) → (ℕ → Option BlockEntry) → (List ℕ → ℕ → List ℕ) → List ℕ → FileEntry → (List ℕ → Option Entry) → (ℕ → Option BlockEntry) → Option LocatedBlock → Type 0
+OpensAgain names table held path file names' table' None =
+    (file.blocks ≡ []) × ((q : List ℕ) → names' q ≡ with_entry names path (with_open file true) q) × ((b : ℕ) → table' b ≡ table b)
+OpensAgain names table held path file names' table' (Some block) =
+    (id : ℕ) × IsLast file.blocks (Some block.b) × (block.b.block_id ≡ id) × Reopened names table held path id names' table' block

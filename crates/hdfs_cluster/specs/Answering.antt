@@ -12,8 +12,9 @@ use Rattle.hdfs_model.specs.declared.picture.Entry.{Entry}
 use Rattle.hdfs_model.specs.declared.picture.Entry.TheVariants as entries
 use Rattle.hdfs_model.specs.declared.picture.FileEntry.{FileEntry}
 use Rattle.hdfs_model.specs.Files.{Kind, NoFile, no_file}
-use Rattle.hdfs_model.specs.Namenode.{LocatesBlocks, Locates, IsRefusal, class_for, standby}
-use Rattle.hdfs_model.specs.Picture.{Picture}
+use Rattle.hdfs_model.specs.Namenode.{LocatesBlocks, IsOwn, IsRefusal, Row, StandsForAny, class_for, not_found, standby}
+use Rattle.hdfs_model.specs.Picture.{Picture, SamePicture}
+use Rattle.hdfs_model.specs.Refusals.{Refusal}
 
 -- the answer has the length and the blocks of the file at the path
 pub record LocatesFile (names : List ℕ → Option Entry) (table : ℕ → Option BlockEntry) (src : List ℕ) (found : LocatedBlocks) : Type 0 where
@@ -26,14 +27,35 @@ abbrev pub StandsForRefusal : (List ℕ → Option Kind) → List ℕ → AskFau
 StandsForRefusal kinds src faults.NoMemory = Unit {0}
 StandsForRefusal kinds src (faults.Exception class message) = (why : NoFile) × (no_file kinds src ≡ Some why) × (class ≡ class_for why) × (message ≡ [])
 
--- an answer locates a file as a closed one, also where the file is being written, and it is never that there is none
-abbrev pub Located : Picture → Ask → Answer → Type 0
-Located p (asks.GetBlockLocations src offset length) (answers.GetBlockLocations None) = ⊥
-Located p (asks.GetBlockLocations src offset length) (answers.GetBlockLocations (Some found)) = Locates p src found
+-- the same of a refusal of a writer, at a path at which this stands
+abbrev pub StandsForWritten : Option Kind → Option Refusal → AskFault → Type 0
+StandsForWritten kind refusal faults.NoMemory = Unit {0}
+StandsForWritten kind refusal (faults.Exception class message) = StandsForAny kind refusal class × (message ≡ [])
 
--- the active namenode answers by the picture, and another one with the exception of a standby; beside that only want of
--- memory comes
-abbrev pub Answers : Picture → ℕ → Ask → Result Answer AskFault → Type 0
-Answers p i ask (Ok answer) = (i ≡ p.active) × Located p ask answer
-Answers p i ask (Err faults.NoMemory) = Unit {0}
-Answers p i ask (Err (faults.Exception class message)) = ((i ≢ p.active) × (class ≡ standby) × (message ≡ [])) ⊎ ((i ≡ p.active) × IsRefusal p ask class × (message ≡ []))
+-- want of memory, or a file that isn't found, where a writer strays
+abbrev pub StandsForStray : Type 0 → AskFault → Type 0
+StandsForStray strays faults.NoMemory = Unit {0}
+StandsForStray strays (faults.Exception class message) = strays × (class ≡ not_found) × (message ≡ [])
+
+-- a namenode looks up every file, also one that is being written, and answers never that there is none
+abbrev pub IsLocated : Answer → Type 0
+IsLocated (answers.GetBlockLocations None) = ⊥
+IsLocated answer = Unit {0}
+
+-- a block that no open file has is named, or none where there is one
+abbrev pub IsStray : Picture → Ask → Type 0
+IsStray p (asks.AddBlock src client previous excludes file_id) = IsOwn p (asks.AddBlock src client previous excludes file_id)
+IsStray p (asks.Complete src client last file_id) = IsOwn p (asks.Complete src client last file_id)
+IsStray p ask = ⊥
+
+-- An active namenode's exception stands for a refusal, or is a file that isn't found where a writer strays.
+abbrev pub IsExcused : Picture → Ask → List ℕ → Type 0
+IsExcused p ask class = IsRefusal p ask class ⊎ (IsStray p ask × (class ≡ not_found))
+
+-- The active namenode answers by the row of the ask, or with an exception. Another one answers with the exception of a
+-- standby. Beside that only want of memory comes. Where no answer comes, nothing changes.
+abbrev pub Answers : Picture → ℕ → Ask → Result Answer AskFault → Picture → Type 0
+Answers p i ask (Ok answer) q = (i ≡ p.active) × (q.active ≡ p.active) × IsLocated answer × Row p ask answer q
+Answers p i ask (Err faults.NoMemory) q = SamePicture p q
+Answers p i ask (Err (faults.Exception class message)) q =
+    (message ≡ []) × SamePicture p q × (((i ≢ p.active) × (class ≡ standby)) ⊎ ((i ≡ p.active) × IsExcused p ask class))

@@ -1,5 +1,5 @@
 -- The laws that the cluster in memory keeps as a cluster and as a store.
-use Rattle.std.proofs.Common.{◌≡◌, ◌↔◌, ℕ, ◌<◌, Bool, true, false, cond, IsTrue, List, [], ◌∷◌, map, Option, Some, None, unwrap_or, refl, sym, ◌∙◌, subst, ap}
+use Rattle.std.proofs.Common.{◌≡◌, ◌↔◌, ℕ, ◌<◌, Bool, true, false, cond, not, ◌&&◌, IsTrue, List, [], ◌∷◌, map, Option, Some, None, unwrap_or, refl, sym, ◌∙◌, subst, ap}
 use Rattle.std.proofs.lemmas.Bool.{false≢true}
 use Rattle.std.specs.Str.{bytes_eq}
 use Rattle.hdfs_model.specs.declared.picture.Entry.{Entry}
@@ -12,6 +12,11 @@ use Rattle.hdfs_cluster.specs.declared.mem_cluster.MemCluster.{MemCluster}
 use Rattle.hdfs_cluster.specs.Lines.{line_of}
 use Rattle.slab.specs.Slab as slab
 use Rattle.hdfs_model.specs.declared.picture.OpenWrite.{OpenWrite}
+use Rattle.hdfs_model.specs.declared.store.Line.{Line}
+use Rattle.std.specs.BTreeMap.{get_by_text}
+use Rattle.hdfs_model.specs.Sound.{IsSound}
+use Rattle.hdfs_model.proofs.Loads.{and_parts}
+use Rattle.hdfs_cluster.specs.Soundness.{sound_from}
 use Rattle.hdfs_model.specs.Pipes.{IsPlaceOf, ShowsWrites}
 use Rattle.hdfs_model.specs.Sending.{WritePlace}
 use Rattle.hdfs_cluster.specs.declared.datanodes.Datanodes.{Datanodes}
@@ -60,10 +65,31 @@ agrees_at_root p false (Some entry) is = absurd (false≢true is)
 pub agrees_bare : (p : Picture) → ((q : List ℕ) → is_bare_at (bytes_eq root q) (p.names q) ≡ true) → Agrees (Some p) only_root
 agrees_bare p bare q = agrees_at_root p (bytes_eq root q) (p.names q) (bare q)
 
+bare_from_agrees : (p : Picture) (b : Bool) (o : Option Entry) → AgreesAt p o (cond b (Some Dir) None) → is_bare_at b o ≡ true
+bare_from_agrees p true None h = absurd h
+bare_from_agrees p true (Some entries.Dir) h = refl
+bare_from_agrees p true (Some (entries.File file)) h = absurd h
+bare_from_agrees p false None h = refl
+bare_from_agrees p false (Some entry) h = absurd h
+
+not_true : (b : Bool) → (b ≡ true → ⊥) → not b ≡ true
+not_true true never = absurd (never refl)
+not_true false never = refl
+
+not_false : (b : Bool) → not b ≡ true → b ≡ false
+not_false true is = absurd (false≢true is)
+not_false false is = refl
+
 -- a cluster is fresh exactly where no line was loaded and it has the root alone
 pub fresh_law : (m : MemCluster) (p : Picture) → (shown_of m).picture ≡ Some p → IsTrue (is_fresh_of m) ↔ (((shown_of m).loaded ≡ []) × Agrees (Some p) only_root)
 fresh_law m p told =
     subst (λ (q : Picture). IsTrue (is_fresh_of m) ↔ (((shown_of m).loaded ≡ []) × Agrees (Some q) only_root)) (told_picture m p told) (
-      λ fresh. (nil_from_test (shown_of m).loaded fresh, agrees_bare (picture_of m) (m.bare (sym (is_nil-map line_of m.loaded.items) ∙ fresh))),
-      λ both. ap is_nil both.0,
+      λ fresh. (let both = and_parts (is_nil (shown_of m).loaded) (not m.space.grown) fresh in
+          (nil_from_test (shown_of m).loaded both.0, agrees_bare (picture_of m) (m.space.bare (not_false m.space.grown both.1)))),
+      λ both. ap (λ (lines : List Line). is_nil lines && not m.space.grown) both.0
+          ∙ not_true m.space.grown (λ grown. m.space.more grown (λ path. bare_from_agrees (picture_of m) (bytes_eq root path) (get_by_text m.space.names path) (both.1 path))),
     )
+
+-- each block of a file is in the table, and at one place
+pub sound_law : (m : MemCluster) (p : Picture) → (shown_of m).picture ≡ Some p → IsSound p
+sound_law m p told = subst IsSound (told_picture m p told) (sound_from (picture_of m) m.space.sized m.space.apart)

@@ -10,5 +10,6 @@ pub mod Nodes
 pub mod Pieces
 pub mod Replicas
 pub mod Settings
+pub mod Soundness
 pub mod Starting
 pub mod Writes

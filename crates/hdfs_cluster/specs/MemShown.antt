@@ -1,5 +1,5 @@
 -- What the cluster in memory shows.
-use Rattle.std.specs.Prelude.{◌≡◌, ◌≢◌, ℕ, ◌+◌, ◌^◌, ◌<◌, IsSome, Bool, true, false, List, length, slice_index, map, Some, Result, Ok, Err, if◌then◌else◌}
+use Rattle.std.specs.Prelude.{◌≡◌, ◌≢◌, ℕ, ◌+◌, ◌^◌, ◌<◌, IsSome, Bool, true, false, not, ◌&&◌, List, length, slice_index, map, Some, Result, Ok, Err, if◌then◌else◌}
 use Rattle.std.specs.BTreeMap.{get_by_text}
 use Rattle.slab.specs.Slab as slab
 use Rattle.slab.specs.Slab.{Slab}
@@ -11,7 +11,7 @@ use Rattle.hdfs_model.specs.declared.asks.LinkFault.{LinkFault}
 use Rattle.hdfs_model.specs.declared.asks.LinkFault.TheVariants as link_faults
 use Rattle.hdfs_model.specs.declared.messages.ServerDefaults.{ServerDefaults}
 use Rattle.hdfs_model.specs.Counts.{FaultCounts, SameCounts}
-use Rattle.hdfs_model.specs.Picture.{Picture, SamePicture}
+use Rattle.hdfs_model.specs.Picture.{Picture}
 use Rattle.hdfs_model.specs.Shown.{Shown, Served}
 use Rattle.hdfs_cluster.specs.declared.namespace.Namespace.{Namespace}
 use Rattle.hdfs_cluster.specs.declared.datanodes.Datanodes.{Datanodes}
@@ -56,9 +56,9 @@ shown_of m = record {
   loaded = map line_of m.loaded.items;
 }
 
--- nothing was loaded
+-- nothing was loaded, and there never was more than the root
 abbrev pub is_fresh_of : MemCluster → Bool
-is_fresh_of m = is_nil (shown_of m).loaded
+is_fresh_of m = is_nil (shown_of m).loaded && not m.space.grown
 
 -- how many packets were asked of a datanode
 abbrev pub packets_at : MemCluster → List ℕ → ℕ
@@ -87,12 +87,11 @@ pub record CountsNothing (old new : MemCluster) : Type 0 where
   pub packets : (d : List ℕ) → packets_at new d ≡ packets_at old d
   pub there : HasNodesOf old new
 
--- What an ask does, exactly: it is served, nothing is counted, the picture stays, and the answer is that of the picture.
+-- What an ask does, exactly: it is served, nothing is counted, and the answer is that of the picture.
 pub record MemServes (old : MemCluster) (i : ℕ) (ask : Ask) (result : Result Answer AskFault) (new : MemCluster) : Type 0 where
   pub served : Served (shown_of old) i ask result (shown_of new)
   pub counted : CountsNothing old new
-  pub picture : SamePicture (picture_of old) (picture_of new)
-  pub answers : Answers (picture_of old) i ask result
+  pub answers : Answers (picture_of old) i ask result (picture_of new)
 
 -- the connection broke
 abbrev pub is_broken : Result ReadPacket LinkFault → Bool

@@ -1,5 +1,5 @@
 -- How the parts of the cluster in memory are seen.
-use Rattle.std.specs.Prelude.{ℕ, ◌+◌, ◌^◌, zero, suc, nat_lt, ◌==◌, Bool, true, false, ◌&&◌, ◌||◌, List, [], ◌∷◌, ◌++◌, Option, Some, None, is_none, count_by, codes, String, string_bytes, if◌then◌else◌}
+use Rattle.std.specs.Prelude.{◌≡◌, ℕ, ◌+◌, ◌^◌, zero, suc, nat_lt, ◌==◌, Bool, true, false, ◌&&◌, ◌||◌, List, [], ◌∷◌, ◌++◌, length, slice_index, Option, Some, None, is_none, count_by, codes, String, string_bytes, if◌then◌else◌}
 use Rattle.std.specs.List.{list_all, list_any}
 use Rattle.std.specs.Map.{lookup}
 use Rattle.std.specs.Ordering.{nat_cmp}
@@ -15,6 +15,7 @@ use Rattle.hdfs_model.specs.declared.store.Line.TheVariants as lines
 use Rattle.hdfs_model.specs.declared.store.FaultLine.{FaultLine}
 use Rattle.hdfs_model.specs.declared.store.FaultLine.TheVariants as fault_lines
 use Rattle.hdfs_model.specs.Paths.{root, is_path, ancestors, parent_of}
+use Rattle.hdfs_model.specs.Effects.{blocks_at}
 use Rattle.hdfs_model.specs.Limits.{in_limits}
 
 -- the length of the blocks together, where each of them is there
@@ -38,6 +39,18 @@ abbrev pub is_sized : (ℕ → Option BlockEntry) → Option Entry → Bool
 is_sized table None = true
 is_sized table (Some entries.Dir) = true
 is_sized table (Some (entries.File file)) = is_length (total table file.blocks)
+
+-- whether this is the kth of these blocks
+abbrev pub is_kth : List ℕ → ℕ → ℕ → Bool
+is_kth ids k id = nat_lt k (length ids) && (slice_index ids k == id)
+
+-- whether this is the kth block of the file at a path
+abbrev pub is_kth_at : (List ℕ → Option Entry) → List ℕ → ℕ → ℕ → Bool
+is_kth_at names path = is_kth (blocks_at (names path))
+
+-- no block stands at two places
+abbrev pub AreApart : (List ℕ → Option Entry) → Type 0
+AreApart names = (path other : List ℕ) (k n id : ℕ) → is_kth_at names path k id ≡ true → is_kth_at names other n id ≡ true → (bytes_eq path other && (k == n)) ≡ true
 
 -- the block table as a look-up
 abbrev pub table_of : List (ℕ × BlockEntry) → ℕ → Option BlockEntry
@@ -68,6 +81,10 @@ is_bare (e ∷ f ∷ rest) = false
 abbrev pub is_bare_at : Bool → Option Entry → Bool
 is_bare_at true o = is_dir o
 is_bare_at false o = is_none o
+
+-- the root is all that is named
+abbrev pub IsBare : (List ℕ → Option Entry) → Type 0
+IsBare names = (path : List ℕ) → is_bare_at (bytes_eq root path) (names path) ≡ true
 
 -- whether a list is empty
 abbrev pub is_nil : {X : Type 0} → List X → Bool

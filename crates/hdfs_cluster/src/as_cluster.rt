@@ -1,48 +1,22 @@
 //! The calls of the cluster in memory.
 ghost use Rattle.std.specs.Prelude.{◌≡◌, false, IfOk, IfErr, IfSome, IsSome, OnOk};
-ghost use Rattle.hdfs_model.specs.Namenode.{IsShaped, src_of};
 ghost use Rattle.hdfs_model.specs.Pipes.{IsSetup, WriteOpened, WriteNotOpened, FollowsOn, Sent, NotSent, IsAwaited, Acknowledged, NotAcknowledged, WriteEnded};
 ghost use Rattle.hdfs_model.specs.Shown.{Opened, NotOpened, Given, NotGiven, Ended};
 
 use crate::mem_cluster::MemCluster;
 use crate::mem_link::MemLink;
-use crate::namenode::{STANDBY, exception, last_answer};
+use crate::namenode::last_answer;
 use crate::read_link::{MemRead, next_packet, opened};
+use crate::responding::respond;
 use crate::write_link::MemWrite;
 use hdfs_model::{
     Answer, Ask, AskFault, Cluster, LastAnswer, LinkFault, OpenRead, ReadAsk, ReadPlace, Setup,
 };
 use hdfs_wire::{Ack, NoMemory, ReadPacket, WritePacket};
 
-/// The path that an ask names.
-fn source(ask: &Ask) -> &str
-    ensures { result.now ≡ src_of ask.now }
-{
-    match ask {
-        Ask::GetBlockLocations { src, .. } => src.as_str(),
-    }
-}
-
-impl MemCluster {
-    ghost use Rattle.hdfs_cluster.specs.MemShown.{picture_of};
-    ghost use Rattle.hdfs_cluster.specs.Answering.{Answers};
-
-    /// What a namenode answers.
-    fn respond(&self, i: u32, ask: &Ask) -> Result<Answer, AskFault>
-        ensures answers { Answers (picture_of self.now) i ask.now result }
-        ensures shape { IfOk result (λ answer. IsShaped ask.now answer) }
-    {
-        if i != self.config.active {
-            return Err(exception(self.alloc, STANDBY)?);
-        }
-        let found = self.space.locations(self.alloc, source(ask))?;
-        Ok(Answer::GetBlockLocations(Some(found)))
-    }
-}
-
 impl Cluster for MemCluster {
     ghost use Rattle.hdfs_cluster.specs.MemShown.{shown_of, MemServes, CountsNothing, AsksPacket};
-    ghost use Rattle.hdfs_cluster.specs.Laws.{active_law, writes_law};
+    ghost use Rattle.hdfs_cluster.specs.Laws.{active_law, sound_law, writes_law};
 
     ghost shown = { shown_of };
 
@@ -57,7 +31,14 @@ impl Cluster for MemCluster {
     }
 
     fn ask(&mut self, i: u32, ask: &Ask) -> Result<Answer, AskFault> {
-        let result = self.respond(i, ask);
+        let result = respond(
+            self.alloc,
+            &self.config,
+            &mut self.space,
+            &mut self.nodes,
+            i,
+            ask,
+        );
         match last_answer(self.alloc, &result) {
             Ok(last) => {
                 self.last = last;
@@ -182,6 +163,8 @@ impl Cluster for MemCluster {
     ghost ends_row = { λ old new link ended. ended };
 
     ghost shows_writes = { writes_law };
+
+    ghost sound = { sound_law };
 
     ghost active_below = { active_law };
 }

@@ -111,7 +111,7 @@ impl Store for MemCluster {
     ghost is_fresh = { is_fresh_of };
 
     fn fresh(&self) -> bool {
-        self.loaded.is_empty()
+        self.loaded.is_empty() && !self.space.grown
     }
 
     fn load(&mut self, line: Line) -> Result<(), AddFault>

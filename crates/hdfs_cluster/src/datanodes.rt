@@ -62,6 +62,16 @@ impl Datanodes {
         node.hold(alloc, block, bytes)
     }
 
+    /// Whether the first datanode may hold bytes of a block.
+    pub(crate) fn may_hold(&self, block: u64) -> bool
+        ensures { result ≡ false → held_in self.now first_node block ≡ [] }
+    {
+        match self.by_uuid.get(FIRST_NODE) {
+            Some(node) => node.blocks.contains_key(&block),
+            None => false,
+        }
+    }
+
     /// Takes memory for a piece of a block, of which nothing is seen before it is taken. There is none on a datanode that
     /// isn't there.
     pub(crate) fn offer(

@@ -1,9 +1,14 @@
 //! A cluster in memory: namenodes and datanodes that hold the files and faults that were loaded into them.
 #![tactic(auto)]
 
+mod adding;
+mod appending;
 mod as_cluster;
 mod as_store;
+mod blocks;
+mod closing;
 mod counts;
+mod creating;
 mod datanode;
 mod datanodes;
 mod loaded;
@@ -17,18 +22,21 @@ mod pipeline;
 mod pipeline_tests;
 mod read_link;
 mod replica;
+mod responding;
 mod storing;
 #[cfg(test)]
 mod tests;
 mod write_link;
+#[cfg(test)]
+mod writing_tests;
 
 pub use counts::Counts;
 pub use hdfs_model::{
-    AddFault, Answer, ArgFault, Ask, AskFault, Attributes, Block, BlockEntry, Cluster, Command,
-    DatanodeId, DatanodeInfo, Entry, Fault, FaultLine, FileEntry, HdfsError, LastAnswer, Line,
-    LinkFault, LocatedBlock, LocatedBlocks, OpenRead, OpenWrite, ReadAsk, ReadKind, ReadPlace,
-    Reply, ServerDefaults, Settings, Setup, Stage, Store, Token, TransferFault, is_path,
-    nearest_ancestor, parent_of,
+    AddFault, Answer, Appended, ArgFault, Ask, AskFault, Attributes, Block, BlockEntry, Cluster,
+    Command, DatanodeId, DatanodeInfo, Entry, Fault, FaultLine, FileEntry, FileStatusMsg,
+    HdfsError, LastAnswer, Line, LinkFault, LocatedBlock, LocatedBlocks, OpenRead, OpenWrite,
+    ReadAsk, ReadKind, ReadPlace, Reply, ServerDefaults, Settings, Setup, Stage, Store, Token,
+    TransferFault, is_path, nearest_ancestor, parent_of,
 };
 pub use mem_cluster::MemCluster;
 pub use mem_settings::MemSettings;

@@ -1,12 +1,9 @@
 //! A cluster in memory, and how it is made.
 ghost use Rattle.std.specs.Prelude.{◌≡◌, ◌<◌, ℕ, List, true, is_some, map, IfOk};
-ghost use Rattle.std.specs.BTreeMap.{get_by_text};
-ghost use Rattle.std.specs.Str.{bytes_eq};
 ghost use Rattle.hdfs_model.specs.Files.{empty_state};
-ghost use Rattle.hdfs_model.specs.Paths.{root};
 ghost use Rattle.hdfs_model.specs.Sessions.{Fits};
 ghost use Rattle.hdfs_cluster.specs.Lines.{line_of};
-ghost use Rattle.hdfs_cluster.specs.Memory.{is_bare_at, is_nil, breaks};
+ghost use Rattle.hdfs_cluster.specs.Memory.{breaks};
 ghost use Rattle.hdfs_cluster.specs.Settings.{AreValid};
 ghost use Rattle.hdfs_cluster.specs.Nodes.{node_at, breaks_in, packets_of};
 
@@ -30,7 +27,6 @@ pub struct MemCluster {
     pub(crate) nodes: Datanodes,
     pub(crate) links: Slab<MemLink>,
     pub(crate) loaded: Vec<Kept>,
-    ghost bare: { (p : is_nil loaded.items ≡ true) (q : List ℕ) → is_bare_at (bytes_eq root q) (get_by_text space.names q) ≡ true },
     ghost planned: { (d : List ℕ) (packet : ℕ) → breaks_in (node_at nodes d) packet ≡ true
         → breaks (map line_of loaded.items) d packet ≡ true },
     ghost acts: { (d : List ℕ) (packet : ℕ) → is_some (node_at nodes d) ≡ true → packets_of (node_at nodes d) < packet

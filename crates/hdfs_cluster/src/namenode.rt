@@ -1,9 +1,10 @@
 //! What the namenodes of a cluster in memory answer.
-ghost use Rattle.std.specs.Prelude.{◌≡◌, ◌⊎◌, ◌<◌, ◌^◌, ℕ, [], true, Bool, List, Option, None, IfOk, IfErr, OnOk};
+ghost use Rattle.std.specs.Prelude.{◌≡◌, ◌⊎◌, ◌<◌, ◌^◌, ℕ, [], true, Bool, List, length, Option, None, IfOk, IfErr, IsErr, OnOk, OnErr};
 ghost use Rattle.std.specs.List.{list_any};
 ghost use Rattle.std.specs.BTreeMap.{get_by_text};
+ghost use Rattle.hdfs_model.specs.Effects.{IsEntry};
 ghost use Rattle.hdfs_model.specs.Files.{no_file, is_file};
-ghost use Rattle.hdfs_model.specs.Namenode.{last_of, LocatesBlock, LocatesBlocks, Follow};
+ghost use Rattle.hdfs_model.specs.Namenode.{last_of, IsToWrite, LocatesBlock, LocatesBlocks, Follow};
 ghost use Rattle.hdfs_model.specs.Sending.{uuids};
 ghost use Rattle.hdfs_model.specs.Paths.{ancestors};
 ghost use Rattle.hdfs_model.specs.Picture.{kinds_in};
@@ -21,9 +22,15 @@ use std::collections::BTreeMap;
 
 pub(crate) const STANDBY: &str = "org.apache.hadoop.ipc.StandbyException";
 
-const NOT_FOUND: &str = "java.io.FileNotFoundException";
+pub(crate) const NOT_FOUND: &str = "java.io.FileNotFoundException";
 
-const PARENT_NOT_DIRECTORY: &str = "org.apache.hadoop.fs.ParentNotDirectoryException";
+pub(crate) const PARENT_NOT_DIRECTORY: &str = "org.apache.hadoop.fs.ParentNotDirectoryException";
+
+/// The storage type of a disk.
+const DISK: u32 = 1;
+
+/// How many locations a block has at most that is to be written.
+const MAX_LOCATIONS: usize = 256;
 
 /// The port on which datanodes give their blocks.
 const TRANSFER_PORT: u32 = 9866;
@@ -33,7 +40,8 @@ pub(crate) fn last_answer(
     alloc: Global,
     answer: &Result<Answer, AskFault>,
 ) -> Result<LastAnswer, NoMemory>
-    ensures { IfOk result (λ last. last ≡ last_of answer.now) }
+    ensures last { IfOk result (λ last. last ≡ last_of answer.now) }
+    ensures answered { OnErr result (IsErr answer.now) }
 {
     match answer {
         Ok(_) => Ok(LastAnswer::Fine),
@@ -90,14 +98,33 @@ fn no_token(alloc: Global) -> Token {
     }
 }
 
-fn located_block(
+/// So many storages, all of them disks.
+fn storages(alloc: Global, count: usize) -> Result<(List<u32>, List<Text>), NoMemory>
+    ensures types { IfOk result (λ storages. length storages.0 ≡ count) }
+    ensures ids { IfOk result (λ storages. length storages.1 ≡ count) }
+{
+    let mut types = Vec::new(alloc);
+    let mut ids = Vec::new(alloc);
+    for _done in 0..count {
+        types.push(DISK)?;
+        ids.push(Text::new(alloc))?;
+    }
+    Ok((List::from_vec(types), List::from_vec(ids)))
+}
+
+pub(crate) fn located_block(
     alloc: Global,
     id: u64,
     entry: &BlockEntry,
     offset: u64,
 ) -> Result<LocatedBlock, NoMemory>
-    ensures { IfOk result (λ block. LocatesBlock entry.now offset id block) }
+    ensures block { IfOk result (λ block. LocatesBlock entry.now offset id block) }
+    ensures stamp { IfOk result (λ block. block.b.generation_stamp ≡ entry.now.stamp) }
+    ensures types { IfOk result (λ block. length block.storage_types ≡ length entry.now.nodes) }
+    ensures ids { IfOk result (λ block. length block.storage_ids ≡ length entry.now.nodes) }
 {
+    let nodes = entry.nodes.as_slice();
+    let (storage_types, storage_ids) = storages(alloc, nodes.len())?;
     Ok(LocatedBlock {
         b: Block {
             pool_id: Text::new(alloc),
@@ -106,14 +133,31 @@ fn located_block(
             num_bytes: entry.length,
         },
         offset,
-        locs: List::from_vec(infos(alloc, entry.nodes.as_slice())?),
+        locs: List::from_vec(infos(alloc, nodes)?),
         corrupt: false,
         block_token: no_token(alloc),
-        storage_types: List::new(alloc),
-        storage_ids: List::new(alloc),
+        storage_types,
+        storage_ids,
         block_indices: None,
         block_tokens: List::new(alloc),
     })
+}
+
+/// A block that is to be written. There is no memory for one that has no location, or too many, or too many bytes.
+pub(crate) fn block_to_write(
+    alloc: Global,
+    id: u64,
+    entry: &BlockEntry,
+) -> Result<LocatedBlock, NoMemory>
+    ensures entry { IfOk result (λ block. IsEntry block id entry.now) }
+    ensures length { IfOk result (λ block. block.b.num_bytes ≡ entry.now.length) }
+    ensures shape { IfOk result IsToWrite }
+{
+    let count = entry.nodes.as_slice().len();
+    if count == 0 || count > MAX_LOCATIONS || entry.length >= 1 << 63 {
+        return Err(NoMemory);
+    }
+    located_block(alloc, id, entry, 0)
 }
 
 fn locate(
@@ -171,7 +215,7 @@ impl Namespace {
         }
     }
 
-    fn is_below_file(&self, src: &str) -> bool
+    pub(crate) fn is_below_file(&self, src: &str) -> bool
         ensures { result ≡ list_any (λ ancestor. is_file (kinds_in (get_by_text self.now.names) ancestor)) (ancestors src.now) }
     {
         let mut path = src;

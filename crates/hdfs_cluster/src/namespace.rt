@@ -1,10 +1,9 @@
 //! The names and the blocks of a cluster in memory.
-ghost use Rattle.std.specs.Prelude.{◌≡◌, ◌≤◌, ◌+◌, ◌^◌, ◌<◌, ℕ, List, [], ◌∷◌, true, Some, None, is_none, string_bytes, OnOk, OnErr, IfOk};
+ghost use Rattle.std.specs.Prelude.{◌≡◌, ◌≤◌, ◌+◌, ◌^◌, ◌<◌, ℕ, List, [], ◌∷◌, true, false, Some, None, is_none, string_bytes, OnOk, OnErr, IfOk};
 ghost use Rattle.std.specs.BTreeMap.{get_by_text};
-ghost use Rattle.std.specs.Str.{bytes_eq};
 ghost use Rattle.hdfs_model.specs.Paths.{root};
-ghost use Rattle.hdfs_cluster.specs.Memory.{table_of, total, is_length, is_sized, is_dir, is_placed, is_bare_at, accepts, first_node};
-ghost use Rattle.hdfs_cluster.specs.Adding.{IsPlace, AddsBlock, Keeps, Names};
+ghost use Rattle.hdfs_cluster.specs.Memory.{table_of, total, is_length, is_sized, is_dir, is_placed, accepts, first_node, AreApart, IsBare};
+ghost use Rattle.hdfs_cluster.specs.Adding.{IsPlace, AddsBlock, AreNew, Keeps, Names};
 
 use hdfs_model::{Attributes, BlockEntry, Entry, FileEntry, is_path, parent_of};
 use hdfs_wire::{List, NoMemory, Text};
@@ -12,24 +11,32 @@ use std::alloc::Global;
 use std::collections::BTreeMap;
 
 /// What stands at each path, and the block table. Block ids are multiples of 256, and from `next_block` on none is
-/// taken.
+/// taken. Generation stamps and the ids of files rise. It is `grown` once more than the root was there.
 #[derive(Drop)]
 pub struct Namespace {
     pub(crate) names: BTreeMap<String, Entry>,
     pub(crate) table: BTreeMap<u64, BlockEntry>,
     pub(crate) next_block: u64,
+    pub(crate) next_stamp: u64,
+    pub(crate) next_file: u64,
+    pub(crate) grown: bool,
     ghost rooted: { is_dir (get_by_text names root) ≡ true },
     ghost placed: { (path : List ℕ) → is_placed (get_by_text names) path ≡ true },
     ghost sized: { (path : List ℕ) → is_sized (table_of table.entries) (get_by_text names path) ≡ true },
+    ghost apart: { AreApart (get_by_text names) },
+    ghost bare: { (p : grown ≡ false) → IsBare (get_by_text names) },
+    ghost more: { (p : grown ≡ true) → IsBare (get_by_text names) → ⊥ },
     ghost numbered: { (id : ℕ) → next_block ≤ id → is_none (table_of table.entries id) ≡ true },
 }
 
-const FIRST_BLOCK: u64 = 256;
+pub(crate) const FIRST_BLOCK: u64 = 256;
 
 const FIRST_STAMP: u64 = 1000;
 
+const FIRST_FILE: u64 = 1;
+
 /// The list with the uuid of the datanode that holds the blocks.
-fn first_nodes(alloc: Global) -> Result<List<Text>, NoMemory>
+pub(crate) fn first_nodes(alloc: Global) -> Result<List<Text>, NoMemory>
     ensures { IfOk result (λ nodes. nodes ≡ first_node ∷ []) }
 {
     let mut nodes = List::new(alloc);
@@ -40,7 +47,8 @@ fn first_nodes(alloc: Global) -> Result<List<Text>, NoMemory>
 impl Namespace {
     /// The root alone.
     pub(crate) fn new(alloc: Global) -> Result<Namespace, NoMemory>
-        ensures bare { IfOk result (λ space. (q : List ℕ) → is_bare_at (bytes_eq root q) (get_by_text space.names q) ≡ true) }
+        ensures bare { IfOk result (λ space. IsBare (get_by_text space.names)) }
+        ensures grown { IfOk result (λ space. space.grown ≡ false) }
         ensures empty { IfOk result (λ space. (id : ℕ) → table_of space.table.entries id ≡ None) }
     {
         let mut names = BTreeMap::new(alloc);
@@ -49,6 +57,9 @@ impl Namespace {
             names,
             table: BTreeMap::new(alloc),
             next_block: FIRST_BLOCK,
+            next_stamp: FIRST_STAMP,
+            next_file: FIRST_FILE,
+            grown: false,
         })
     }
 
@@ -76,20 +87,25 @@ impl Namespace {
     pub(crate) fn add_block(&mut self, alloc: Global, length: u64) -> Result<u64, NoMemory>
         ensures added { IfOk result (λ id. AddsBlock (table_of self.old.table.entries) (table_of self.new.table.entries) id length) }
         ensures ids { IfOk result (λ id. (id ≡ self.old.next_block) × (self.new.next_block ≡ id + 256)) }
-        ensures names { self.new.names ≡ self.old.names }
+        ensures names { (self.new.names ≡ self.old.names) × (self.new.grown ≡ self.old.grown) }
         ensures kept { Keeps (table_of self.old.table.entries) (table_of self.new.table.entries) }
     {
         let id = self.next_block;
         let Some(next) = id.checked_add(FIRST_BLOCK) else {
             return Err(NoMemory);
         };
+        let stamp = self.next_stamp;
+        let Some(next_stamp) = stamp.checked_add(1) else {
+            return Err(NoMemory);
+        };
         let entry = BlockEntry {
             length,
-            stamp: FIRST_STAMP - 1 + id / FIRST_BLOCK,
+            stamp,
             nodes: first_nodes(alloc)?,
         };
         self.table.insert(id, entry)?;
         self.next_block = next;
+        self.next_stamp = next_stamp;
         Ok(id)
     }
 
@@ -97,11 +113,14 @@ impl Namespace {
     pub(crate) fn add_file(&mut self, path: String, file: FileEntry) -> Result<(), NoMemory>
         requires place { IsPlace (get_by_text self.old.names) (string_bytes path) }
         requires sized { is_length (total (table_of self.old.table.entries) file.blocks) ≡ true }
+        requires new { AreNew (get_by_text self.old.names) file.blocks }
         ensures ok { OnOk result (Names (get_by_text self.old.names) (get_by_text self.new.names) (string_bytes path) file) }
-        ensures err { OnErr result (self.new.names.entries ≡ self.old.names.entries) }
+        ensures err { OnErr result ((self.new.names.entries ≡ self.old.names.entries) × (self.new.grown ≡ self.old.grown)) }
+        ensures grown { OnOk result (self.new.grown ≡ true) }
         ensures table { self.new.table ≡ self.old.table }
     {
         self.names.insert(path, Entry::File(file))?;
+        self.grown = true;
         Ok(())
     }
 }

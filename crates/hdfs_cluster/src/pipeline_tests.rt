@@ -39,24 +39,24 @@ fn token(alloc: Global) -> Token {
     }
 }
 
-fn block(alloc: Global) -> Block {
+fn block(alloc: Global, id: u64) -> Block {
     Block {
         pool_id: Text::new(alloc),
-        block_id: 4096,
+        block_id: id,
         generation_stamp: 1000,
         num_bytes: 0,
     }
 }
 
 /// A pipeline of two datanodes over a new block.
-fn setup(alloc: Global) -> Result<Setup, Fail>
+fn setup(alloc: Global, id: u64) -> Result<Setup, Fail>
     ensures { IfOk result IsSetup }
 {
     let locs = vec![in alloc; info(alloc, "dn0")?, info(alloc, "dn1")?]?;
     let storage_types = vec![in alloc; 0, 0]?;
     let storage_ids = vec![in alloc; Text::new(alloc), Text::new(alloc)]?;
     Ok(Setup {
-        block: block(alloc),
+        block: block(alloc, id),
         stage: Stage::Create,
         locs: List::from_vec(locs),
         storage_types: List::from_vec(storage_types),
@@ -92,8 +92,8 @@ fn put(cluster: &mut MemCluster, link: u64, packet: &WritePacket) -> Result<i64,
 }
 
 /// Writes seven bytes in two packets, and an empty last one.
-fn written(alloc: Global, cluster: &mut MemCluster) -> Result<(), Fail> {
-    let link = cluster.open_write(setup(alloc)?)?;
+pub(crate) fn written(alloc: Global, cluster: &mut MemCluster, id: u64) -> Result<(), Fail> {
+    let link = cluster.open_write(setup(alloc, id)?)?;
     let first = put(cluster, link, &packet(alloc, 0, 0, &[1, 2, 3, 4])?)?;
     let second = put(cluster, link, &packet(alloc, 4, 1, &[5, 6, 7])?)?;
     let mut end = packet(alloc, 7, 2, &[])?;
@@ -107,12 +107,17 @@ fn written(alloc: Global, cluster: &mut MemCluster) -> Result<(), Fail> {
 }
 
 /// Bytes of the block from a datanode.
-fn read_back(alloc: Global, cluster: &mut MemCluster, uuid: &str) -> Result<Vec<u8>, Fail> {
+pub(crate) fn read_back(
+    alloc: Global,
+    cluster: &mut MemCluster,
+    uuid: &str,
+    id: u64,
+) -> Result<Vec<u8>, Fail> {
     let link = cluster.open_read(
         None,
         &ReadAsk {
             node: node(alloc, uuid)?,
-            block: block(alloc),
+            block: block(alloc, id),
             offset: 0,
             len: 7,
             token: token(alloc),
@@ -128,13 +133,13 @@ fn read_back(alloc: Global, cluster: &mut MemCluster, uuid: &str) -> Result<Vec<
 #[test]
 fn a_block_is_written_and_read_back(rt: HostRuntime) -> Result<(), Fail> {
     let mut cluster = MemCluster::new(rt.alloc(), MemSettings::of_scripts())?;
-    written(rt.alloc(), &mut cluster)?;
-    let idle = cluster.open_write(setup(rt.alloc())?)?;
+    written(rt.alloc(), &mut cluster, 4096)?;
+    let idle = cluster.open_write(setup(rt.alloc(), 4096)?)?;
     cluster.end_write(idle);
     assert_eq!(rt;
-        read_back(rt.alloc(), &mut cluster, "dn1")?.as_slice(),
+        read_back(rt.alloc(), &mut cluster, "dn1", 4096)?.as_slice(),
         [1, 2, 3, 4, 5, 6, 7].as_slice()
     );
-    assert!(rt; read_back(rt.alloc(), &mut cluster, "dn2")?.is_empty());
+    assert!(rt; read_back(rt.alloc(), &mut cluster, "dn2", 4096)?.is_empty());
     Ok(())
 }

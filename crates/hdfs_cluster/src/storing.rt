@@ -7,7 +7,7 @@ ghost use Rattle.hdfs_model.specs.Loading.{with_file};
 ghost use Rattle.hdfs_model.specs.Stores.{Agrees};
 ghost use Rattle.slab.specs.Slab.{Slab};
 ghost use Rattle.hdfs_cluster.specs.declared.mem_link.MemLink.{MemLink};
-ghost use Rattle.hdfs_cluster.specs.Adding.{IsPlace, KeepsBlocks, StoresBytes};
+ghost use Rattle.hdfs_cluster.specs.Adding.{IsPlace, AreNew, KeepsBlocks, StoresBytes};
 ghost use Rattle.hdfs_cluster.specs.MemShown.{picture_at};
 ghost use Rattle.hdfs_cluster.specs.Memory.{table_of};
 ghost use Rattle.hdfs_cluster.specs.Nodes.{node_at, held_in, undisturbed_in, SameFaults};
@@ -30,7 +30,8 @@ fn store_bytes(
     ensures stores { IfOk result (λ ids. StoresBytes (table_of space.new.table.entries) (held_in nodes.new) ids bytes) }
     ensures kept { KeepsBlocks (table_of space.old.table.entries) (table_of space.new.table.entries)
         (held_in nodes.old) (held_in nodes.new) }
-    ensures names { space.new.names ≡ space.old.names }
+    ensures new { IfOk result (AreNew (get_by_text space.old.names)) }
+    ensures names { (space.new.names ≡ space.old.names) × (space.new.grown ≡ space.old.grown) }
     ensures faults { (d : List ℕ) → SameFaults (node_at nodes.old d) (node_at nodes.new d) }
     ensures links { (d : List ℕ) (block link : ℕ) → undisturbed_in nodes.new d block link ≡ undisturbed_in nodes.old d block link }
 {

@@ -3,7 +3,8 @@ use Rattle.std.proofs.lemmas.List.{take_more}
 use Rattle.hdfs_model.specs.declared.picture.BlockEntry.{BlockEntry}
 use Rattle.hdfs_cluster.specs.Memory.{table_of, total}
 use Rattle.hdfs_model.specs.Namenode.{LocatesBlocks}
-use Rattle.hdfs_cluster.proofs.Locating.{LocatesBlocks-push, total_next, total_known, Follow_from-LocatesBlocks}
+use Rattle.hdfs_cluster.proofs.Locating.{LocatesBlocks-push, total_next, Follow_from-LocatesBlocks}
+use Rattle.hdfs_cluster.specs.Soundness.{total_known}
 use Rattle.hdfs_cluster.proofs.namenode.locate.Goals as goal
 
 pub loop-id-init : goal.loop-id-init
@@ -30,7 +31,7 @@ loop-id-preserved c =
     let next = total_next table ids i c.loop-id.at c.loop-id-test.true c.loop-id.invariant.rest in
     let same : next.0 ≡ entry = cc (next.1, found) in
     let block = c.in_ok-located_block.field-0 in
-    let here = c.in_ok-located_block.ensures in
+    let here = c.in_ok-located_block.ensures.block in
     record {
       so_far = rw (take_more ids i 0 c.loop-id-test.true, c.in_ok-push.ensures.items) (subst (λ (n : ℕ). LocatesBlocks table 0 (c.loop-id.at + n) (take i ids ++ get_or ids i 0 ∷ []) (c.loop-id.blocks.items ++ block ∷ [])) here.length (LocatesBlocks-push table 0 c.loop-id.at (get_or ids i 0) (take i ids) c.loop-id.blocks.items entry block c.loop-id.invariant.so_far found here));
       rest = (next.2, next.3, subst (λ (e : BlockEntry). c.loop-id.at + e.length + next.2 < 2 ^ 63) same next.4);
@@ -39,3 +40,15 @@ loop-id-preserved c =
 pub returns-clause-follow : goal.returns-clause-follow
 returns-clause-follow c =
     rw c.from_vec.ensures (Follow_from-LocatesBlocks (table_of c.args.table.now.entries) 0 c.loop-id.at (take c.loop-id.id-index c.as_slice-id-items.result.now) c.loop-id.blocks.items c.loop-id.invariant.so_far)
+
+pub overflow_add-at : goal.overflow_add-at
+overflow_add-at c =
+    let table = table_of c.args.table.now.entries in
+    let ids = c.as_slice-id-items.result.now in
+    let i = c.loop-id.id-index in
+    let entry = c.in-Some.entry.now in
+    let found : table (get_or ids i 0) ≡ Some entry = sym c.in-Some.ensures.value in
+    let next = total_next table ids i c.loop-id.at c.loop-id-test.true c.loop-id.invariant.rest in
+    let same : next.0 ≡ entry = cc (next.1, found) in
+    let below = subst (λ (e : BlockEntry). c.loop-id.at + e.length + next.2 < 2 ^ 63) same next.4 in
+    omega (arith, below)

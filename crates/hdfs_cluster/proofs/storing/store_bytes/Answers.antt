@@ -4,7 +4,19 @@ use Rattle.hdfs_cluster.specs.Adding.{AddsBlock, StoresBytes}
 use Rattle.hdfs_cluster.specs.Memory.{table_of}
 use Rattle.hdfs_cluster.specs.Nodes.{held_in}
 use Rattle.hdfs_cluster.proofs.Agreeing.{stored_one}
+use Rattle.std.proofs.Common.{None}
+use Rattle.std.specs.BTreeMap.{get_by_text}
+use Rattle.hdfs_model.proofs.Loads.{none_from_test}
+use Rattle.hdfs_cluster.specs.Adding.{AreNew}
+use Rattle.hdfs_cluster.proofs.Apart.{new_block, no_new_block}
 use Rattle.hdfs_cluster.proofs.storing.store_bytes.Goals as goal
+
+pub returns-clause-new : goal.returns-clause-new
+returns-clause-new c =
+    let names = get_by_text c.args.space.now.names in
+    let id = c.in_ok-id.id in
+    let ids : c.push.new.self ≡ id ∷ [] = c.in_ok-push.ensures.ok ∙ ap (λ (l : List ℕ). l ++ id ∷ []) c.new-ids.ensures in
+    subst (AreNew names) (sym ids) (new_block names (table_of c.args.space.now.table.entries) id c.args.space.now.sized c.in_ok-id.ensures.added.absent)
 
 pub returns-clause-stores : goal.returns-clause-stores
 returns-clause-stores c =

@@ -29,6 +29,6 @@ returns-clause-files c =
     let p' = picture_at c.add_file.new.self c.store_bytes.new.nodes active defaults links in
     agrees_with_file (picture_at space c.args.nodes.now active defaults links) p' state path content (entries.File file) was
     kept
-    (subst (λ names. Names (get_by_text names) (get_by_text c.add_file.new.self.names) path file) c.store_bytes.ensures.names named)
+    (subst (λ names. Names (get_by_text names) (get_by_text c.add_file.new.self.names) path file) c.store_bytes.ensures.names.0 named)
     (refl, refl, stores_in p' blocks bytes stores.stores))
     c.add_file.ensures.ok

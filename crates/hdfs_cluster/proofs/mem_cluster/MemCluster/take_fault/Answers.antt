@@ -1,20 +1,19 @@
 -- The fault breaks no packet but its own, and changes nothing of the picture.
 use Rattle.std.proofs.Common.{◌≡◌, ◌<◌, ⊎_elim, inl, inr, ℕ, true, List, [], ◌∷◌, ◌++◌, map, is_some, refl, sym, ◌∙◌, ap, subst, arith}
-use Rattle.std.proofs.lemmas.Bool.{false≢true}
 use Rattle.std.proofs.lemmas.List.{map-append}
 use Rattle.std.specs.BTreeMap.{get_by_text}
 use Rattle.slab.specs.Slab as slab
 use Rattle.hdfs_cluster.specs.declared.loaded.Kept.{Kept}
 use Rattle.hdfs_cluster.specs.declared.loaded.Kept.TheVariants as keeps
 use Rattle.hdfs_cluster.specs.Lines.{line_of}
-use Rattle.hdfs_cluster.specs.Memory.{is_nil, breaks, uuid_of}
+use Rattle.hdfs_cluster.specs.Memory.{breaks, uuid_of}
 use Rattle.hdfs_cluster.specs.MemShown.{picture_of, picture_at}
 use Rattle.hdfs_cluster.proofs.Agreeing.{agrees_at}
 use Rattle.hdfs_cluster.specs.Nodes.{node_at, breaks_in, packets_of}
 use Rattle.hdfs_cluster.specs.Replicas.{held_by, undisturbed_by}
 use Rattle.hdfs_cluster.proofs.Places.{place_same}
 use Rattle.hdfs_cluster.proofs.NothingLoaded.{on_err, nothing_loaded}
-use Rattle.hdfs_cluster.proofs.Taking.{is_nil_push, breaks_push, breaks_pull, fault_at, breaks_fault}
+use Rattle.hdfs_cluster.proofs.Taking.{breaks_push, breaks_pull, fault_at, breaks_fault}
 use Rattle.hdfs_cluster.proofs.mem_cluster.MemCluster.take_fault.Goals as goal
 
 pub invariant_of-self-2 : goal.invariant_of-self-2
@@ -23,7 +22,6 @@ invariant_of-self-2 c =
     let kept = keeps.Fault c.args.fault in
     let items : c.push_reserved.new.self.items ≡ m.loaded.items ++ kept ∷ [] = c.push_reserved.ensures.items ∙ ap (λ (xs : List Kept). xs ++ kept ∷ []) c.reserve.ensures.items in
     record {
-      bare = λ none. absurd (false≢true (sym (is_nil_push m.loaded.items kept) ∙ ap is_nil (sym items) ∙ none));
       planned = λ d packet broken.
           ap (λ (xs : List Kept). breaks (map line_of xs) d packet) items
           ∙ breaks_push m.loaded.items kept d packet

@@ -2,7 +2,6 @@
 use Rattle.std.proofs.Common.{◌≡◌, ℕ, List, [], ◌∷◌, ◌++◌, map, Some, refl, ◌∙◌, ap, subst, rules}
 use Rattle.std.specs.String.{string_bytes}
 use Rattle.std.proofs.lemmas.List.{map-append}
-use Rattle.slab.specs.Slab as slab
 use Rattle.hdfs_model.specs.declared.store.Line.TheVariants as lines
 use Rattle.hdfs_model.specs.Loading.{with_file}
 use Rattle.hdfs_model.specs.Stores.{Agrees}
@@ -10,8 +9,7 @@ use Rattle.hdfs_cluster.specs.MemShown.{picture_at}
 use Rattle.hdfs_cluster.specs.declared.loaded.Kept.{Kept}
 use Rattle.hdfs_cluster.specs.declared.loaded.Kept.TheVariants as keeps
 use Rattle.hdfs_cluster.specs.Lines.{line_of}
-use Rattle.hdfs_cluster.proofs.Places.{place_same}
-use Rattle.hdfs_cluster.proofs.NothingLoaded.{on_err, nothing_loaded}
+use Rattle.hdfs_cluster.proofs.NothingLoaded.{on_err, loads_at, nothing_loaded}
 use Rattle.hdfs_cluster.proofs.mem_cluster.MemCluster.take_file.Goals as goal
 
 pub returns-in_err-store_file-clause-err : goal.returns-in_err-store_file-clause-err
@@ -34,7 +32,7 @@ returns-clause-loads c =
     record {
       rest = record { counts = record { calls = λ i. refl; links = refl; nodes = λ d. (c.store_file.ensures.faults d).faults }; last = refl; namenodes = refl; reads = λ link. refl; writes = λ link. refl };
       lines = ap (map line_of) items ∙ map-append line_of m.loaded.items (kept ∷ []) ∙ ap (λ (bytes : List ℕ). map line_of m.loaded.items ++ lines.File c.args.path c.args.attributes bytes ∷ []) told;
-      picture = record { active = refl; defaults = refl; reads = λ link. refl; writes = λ link. place_same m.nodes c.store_file.new.nodes c.store_file.ensures.links link (slab.get m.links link) };
+      picture = loads_at m.space c.store_file.new.space m.nodes c.store_file.new.nodes m.config.active m.config.defaults m.links c.store_file.ensures.kept c.store_file.ensures.links;
       files = λ state was.
           (let p' = picture_at c.store_file.new.space c.store_file.new.nodes m.config.active m.config.defaults m.links in
           let here = c.in_ok-store_file.ensures.files m.config.active m.config.defaults m.links state was in

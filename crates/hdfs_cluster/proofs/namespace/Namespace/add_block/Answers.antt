@@ -20,5 +20,8 @@ invariant_of-self-2 c =
       rooted = old.rooted;
       placed = old.placed;
       sized = λ path. sized_kept t t' (keeps_others t t' id absent others) (get_by_text old.names path) (old.sized path);
+      apart = old.apart;
+      bare = old.bare;
+      more = old.more;
       numbered = λ other behind. (let apart : other ≢ id = omega arith in ap is_none (others other apart) ∙ old.numbered other (omega arith));
     }

@@ -1,5 +1,6 @@
 -- The root alone is a tree.
 use Rattle.std.proofs.Common.{◌≡◌, ℕ, true, ◌&&◌, List, [], ◌∷◌, String, is_none, ◌∙◌, ap}
+use Rattle.std.proofs.lemmas.Bool.{false≢true}
 use Rattle.std.specs.BTreeMap.{insert_entry}
 use Rattle.std.specs.Str.{bytes_eq}
 use Rattle.std.specs.String.{string_bytes, string_cmp}
@@ -22,6 +23,9 @@ invariant_of-result c =
       rooted = sound.rooted;
       placed = sound.placed;
       sized = sound.sized;
+      apart = sound.apart;
+      bare = λ new. bare_at c.insert.new.self.entries bare;
+      more = λ grown. absurd (false≢true grown);
       numbered = λ id behind. ap (λ es. is_none (table_of es id)) c.new.ensures.empty;
     }
 

@@ -1,0 +1,74 @@
+//! How the namenodes of a cluster in memory respond to what is asked.
+ghost use Rattle.std.specs.Prelude.{◌≡◌, IfOk, IfErr};
+ghost use Rattle.hdfs_model.specs.Namenode.{IsShaped};
+ghost use Rattle.slab.specs.Slab.{Slab};
+ghost use Rattle.hdfs_cluster.specs.declared.mem_link.MemLink.{MemLink};
+ghost use Rattle.hdfs_cluster.specs.Answering.{Answers};
+ghost use Rattle.hdfs_cluster.specs.MemShown.{picture_at};
+ghost use Rattle.hdfs_cluster.specs.Nodes.{SameNodes};
+
+use crate::datanodes::Datanodes;
+use crate::mem_settings::Config;
+use crate::namenode::{STANDBY, exception};
+use crate::namespace::Namespace;
+use hdfs_model::{Answer, Ask, AskFault, Attributes};
+use std::alloc::Global;
+
+/// The flag by which an older file is overwritten.
+const OVERWRITE: u32 = 3;
+
+/// What namenode `i` answers, and what that does.
+pub(crate) fn respond(
+    alloc: Global,
+    config: &Config,
+    space: &mut Namespace,
+    nodes: &mut Datanodes,
+    i: u32,
+    ask: &Ask,
+) -> Result<Answer, AskFault>
+    ensures answers { (links : Slab MemLink) → Answers (picture_at space.old nodes.old config.now.active config.now.defaults links) i ask.now result
+        (picture_at space.new nodes.new config.now.active config.now.defaults links) }
+    ensures shape { IfOk result (IsShaped ask.now) }
+    ensures rest { SameNodes nodes.old nodes.new }
+{
+    if i != config.active {
+        return Err(exception(alloc, STANDBY)?);
+    }
+    match ask {
+        Ask::GetBlockLocations { src, .. } => {
+            let found = space.locations(alloc, src.as_str())?;
+            Ok(Answer::GetBlockLocations(Some(found)))
+        }
+        Ask::GetServerDefaults => Ok(Answer::GetServerDefaults(config.defaults)),
+        Ask::Create {
+            src,
+            masked,
+            create_flag,
+            create_parent,
+            replication,
+            block_size,
+            ..
+        } => {
+            let attributes = Attributes {
+                permission: *masked,
+                replication: *replication,
+                block_size: *block_size,
+            };
+            let overwrite = *create_flag == OVERWRITE;
+            let status = space.create(alloc, src.as_str(), attributes, overwrite, *create_parent)?;
+            Ok(Answer::Create(Some(status)))
+        }
+        Ask::Append { src, .. } => {
+            let appended = space.append(alloc, nodes, src.as_str())?;
+            Ok(Answer::Append(appended))
+        }
+        Ask::AddBlock { src, previous, .. } => {
+            let block = space.extend(alloc, nodes, src.as_str(), previous)?;
+            Ok(Answer::AddBlock(block))
+        }
+        Ask::Complete { src, last, .. } => {
+            space.complete(alloc, src.as_str(), last)?;
+            Ok(Answer::Complete(true))
+        }
+    }
+}
