@@ -11,3 +11,12 @@ pub mod OnlyBlocks
 pub mod Prefixes
 pub mod Ranges
 pub mod Starting
+mod GivingUp
+mod Finishing
+mod Flushing
+mod Filling
+mod Flushed
+pub mod Wrote
+mod Closing
+mod Opening
+pub mod Beside

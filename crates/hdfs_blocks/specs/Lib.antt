@@ -1,4 +1,7 @@
 pub mod Blocks
 pub mod Carrying
 pub mod Going
+pub mod Piped
 pub mod Reader
+pub mod Writers
+pub mod Writes

@@ -1,7 +1,14 @@
-//! Readers of blocks.
+//! Readers and writers of blocks.
 #![tactic(auto)]
 
 mod block_read;
+mod block_writer;
 mod packets;
+mod packing;
+mod pipe;
+mod pipe_failure;
+mod set_up;
 
 pub use block_read::BlockRead;
+pub use block_writer::BlockWriter;
+pub use pipe::WriteFault;

@@ -1,0 +1,31 @@
+-- The goals of BlockWriter::write_all.
+use Rattle.std.proofs.Common.{ℕ, List, ◌++◌, length, take, sym, ◌∙◌, ap, arith}
+use Rattle.std.proofs.lemmas.List.{length-drop, take_rest, length-take-le}
+use Rattle.hdfs_blocks.proofs.Wrote.{wrote_trans, fails_after, some_after, pieces_join}
+use Rattle.hdfs_blocks.proofs.block_writer.BlockWriter.write_all.Goals as goal
+
+pub pieces-preserved : goal.pieces-preserved
+pieces-preserved g c =
+    let s = g.C.Cluster.shown c.args.cluster.now in
+    let t = g.C.Cluster.shown c.pieces.cluster in
+    let u = g.C.Cluster.shown c.write_piece.new.cluster in
+    let before = c.pieces.invariant in
+    let now = c.in-Ok.ensures in
+    let n = c.in-Ok.taken in
+    let rest = c.pieces.rest.now in
+    let told = before.told in
+    record {
+      stands = now.stands;
+      some = some_after c.pieces.self c.write_piece.new.self now.wrote.link before.some;
+      room = omega (arith, before.room, now.count.1, now.wrote.length, now.wrote.keeps.block_size, length-take-le n rest now.count.1, length-drop n rest, ap length (take_rest rest n));
+      told = (
+        told.0 ++ take n rest,
+        pieces_join c.args.bytes.now rest told.0 n told.1 ∙ ap (λ (l : List ℕ). told.0 ++ take n rest ++ l) (sym (take_rest rest n)),
+        wrote_trans s t u c.args.self.now c.pieces.self c.write_piece.new.self told.0 (take n rest) told.2 now.wrote,
+      );
+    }
+
+pub returns-in-Err-clause-err : goal.returns-in-Err-clause-err
+returns-in-Err-clause-err g c =
+    let told = c.pieces.invariant.told in
+    fails_after (g.C.Cluster.shown c.args.cluster.now) (g.C.Cluster.shown c.pieces.cluster) (g.C.Cluster.shown c.write_piece.new.cluster) c.args.self.now c.pieces.self told.0 c.in-Err.fault told.2 c.write_piece.new.self c.in-Err.ensures.err
