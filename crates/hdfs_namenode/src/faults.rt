@@ -1,0 +1,44 @@
+//! What an answer and a fault of a namenode are for a caller.
+ghost use Rattle.std.specs.Prelude.{◌≡◌};
+ghost use Rattle.hdfs_namenode.specs.Asked.{outcome_of, error_of, is_taken};
+
+use hdfs_model::{Answer, AskFault, HdfsError};
+
+/// The exceptions that say that something stands at the path.
+const TAKEN: [&str; 2] = [
+    "org.apache.hadoop.fs.FileAlreadyExistsException",
+    "org.apache.hadoop.hdfs.protocol.AlreadyBeingCreatedException",
+];
+
+/// Whether the exception says that something stands at the path, or is being written.
+fn is_taken(class: &str) -> bool
+    ensures { result ≡ is_taken class.now }
+{
+    class == TAKEN[0] || class == TAKEN[1]
+}
+
+/// The error that stands for a fault.
+fn error_of(fault: AskFault) -> HdfsError
+    ensures { result ≡ error_of fault }
+{
+    match fault {
+        AskFault::NoMemory => HdfsError::NoMemory,
+        AskFault::Exception { class, message } => {
+            if is_taken(class.as_str()) {
+                HdfsError::AlreadyExists(message)
+            } else {
+                HdfsError::RPCError(class, message)
+            }
+        }
+    }
+}
+
+/// What a caller has of what a namenode gave.
+pub(crate) fn outcome_of(given: Result<Answer, AskFault>) -> Result<Answer, HdfsError>
+    ensures { result ≡ outcome_of given }
+{
+    match given {
+        Ok(answer) => Ok(answer),
+        Err(fault) => Err(error_of(fault)),
+    }
+}

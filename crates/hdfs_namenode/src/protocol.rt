@@ -1,0 +1,236 @@
+//! The calls of a namenode.
+ghost use Rattle.std.specs.Prelude.{◌≡◌, ◌<◌, Some, None, Ok, IfOk, IfSome, OnErr, option_copied};
+ghost use Rattle.hdfs_model.specs.Namenode.{IsShaped};
+ghost use Rattle.hdfs_model.specs.declared.asks.Ask.TheVariants as asks;
+ghost use Rattle.hdfs_model.specs.declared.asks.Answer.TheVariants as answers;
+ghost use Rattle.hdfs_model.specs.declared.errors.HdfsError.TheVariants as errors;
+ghost use Rattle.hdfs_namenode.specs.Asked.{Asked, AskedOnce, as_answer};
+
+use crate::copies::{copy_block, copy_nodes};
+use crate::faults::outcome_of;
+use hdfs_model::{
+    Answer, Appended, Ask, Block, Cluster, DatanodeInfo, FileStatusMsg, HdfsError, LocatedBlock,
+    LocatedBlocks, ServerDefaults,
+};
+use hdfs_wire::{NoMemory, Text};
+use std::alloc::Global;
+use uuid::Uuid;
+
+/// What is asked of namenodes in the name of one client, by the names of ClientProtocol's calls (upstream's
+/// `NamenodeProtocol`). Each call asks the first namenode once. Its errors: `AlreadyExists` with the exception's message where
+/// something stands at the path already or is being written, `RPCError` with the class and the message of any other exception,
+/// and `NoMemory`, also where there was none for the ask, which wasn't made then.
+#[derive(Drop)]
+pub struct NamenodeProtocol {
+    pub(crate) alloc: Global,
+    pub(crate) client: Text,
+    pub(crate) defaults: Option<ServerDefaults>,
+}
+
+/// Asks the first namenode.
+fn ask_first<C: Cluster>(cluster: &mut C, ask: &Ask) -> Result<Answer, HdfsError>
+    requires { 0 < (C.shown cluster.old).namenodes }
+    ensures asked { Asked C.serves ask.now cluster.old result cluster.new }
+    ensures shape { IfOk result (IsShaped ask.now) }
+{
+    outcome_of(cluster.ask(0, ask))
+}
+
+impl NamenodeProtocol {
+    ghost use Rattle.hdfs_namenode.specs.Clients.{client_name, name_of, defaults_of};
+
+    /// Asks in the name `hdfs_native_client-` and the client's sixteen bytes as a UUID.
+    pub fn new(alloc: Global, client: [u8; 16]) -> Result<NamenodeProtocol, NoMemory>
+        ensures name { IfOk result (λ namenode. name_of namenode ≡ client_name client) }
+        ensures defaults { IfOk result (λ namenode. defaults_of namenode ≡ None) }
+    {
+        let mut buffer = Uuid::encode_buffer();
+        let id = Uuid::from_bytes(client)
+            .hyphenated()
+            .encode_lower(&mut buffer);
+        let name = format!(in alloc; "hdfs_native_client-{id}")?;
+        Ok(NamenodeProtocol {
+            alloc,
+            client: Text::from_string(name),
+            defaults: None,
+        })
+    }
+
+    /// The name in which it asks, by which namenodes and datanodes know the client.
+    pub fn client_name(&self) -> &str
+        ensures { result.now ≡ name_of self.now }
+    {
+        self.client.as_str()
+    }
+
+    /// The blocks of the file `src` that lie in `length` bytes from `offset` on, or none where there is no such file.
+    pub fn get_block_locations<C: Cluster>(
+        &self,
+        cluster: &mut C,
+        src: &str,
+        offset: u64,
+        length: u64,
+    ) -> Result<Option<LocatedBlocks>, HdfsError>
+        requires { 0 < (C.shown cluster.old).namenodes }
+        ensures asked { AskedOnce C.serves (asks.GetBlockLocations src.now offset length) cluster.old (as_answer answers.GetBlockLocations result) cluster.new }
+    {
+        let ask = Ask::GetBlockLocations {
+            src: Text::from_str(self.alloc, src)?,
+            offset,
+            length,
+        };
+        match ask_first(cluster, &ask) {
+            Ok(Answer::GetBlockLocations(found)) => Ok(found),
+            Ok(_) => unreachable!(),
+            Err(error) => Err(error),
+        }
+    }
+
+    /// What the cluster takes where a client says nothing.
+    pub fn get_server_defaults<C: Cluster>(
+        &self,
+        cluster: &mut C,
+    ) -> Result<ServerDefaults, HdfsError>
+        requires { 0 < (C.shown cluster.old).namenodes }
+        ensures asked { Asked C.serves asks.GetServerDefaults cluster.old (as_answer answers.GetServerDefaults result) cluster.new }
+    {
+        match ask_first(cluster, &Ask::GetServerDefaults) {
+            Ok(Answer::GetServerDefaults(defaults)) => Ok(defaults),
+            Ok(_) => unreachable!(),
+            Err(error) => Err(error),
+        }
+    }
+
+    /// The same, asked for once: what was answered is kept, and given again.
+    pub fn get_cached_server_defaults<C: Cluster>(
+        &mut self,
+        cluster: &mut C,
+    ) -> Result<ServerDefaults, HdfsError>
+        requires { 0 < (C.shown cluster.old).namenodes }
+        ensures known { IfSome (defaults_of self.old) (λ kept. (result ≡ Ok kept) × (cluster.new ≡ cluster.old)) }
+        ensures asked { defaults_of self.old ≡ None
+            → Asked C.serves asks.GetServerDefaults cluster.old (as_answer answers.GetServerDefaults result) cluster.new }
+        ensures kept { IfOk result (λ defaults. defaults_of self.new ≡ Some defaults) }
+        ensures err { OnErr result (defaults_of self.new ≡ None) }
+        ensures name { name_of self.new ≡ name_of self.old }
+    {
+        if let Some(defaults) = self.defaults {
+            return Ok(defaults);
+        }
+        match self.get_server_defaults(cluster) {
+            Ok(defaults) => {
+                self.defaults = Some(defaults);
+                Ok(defaults)
+            }
+            Err(error) => Err(error),
+        }
+    }
+
+    /// A new file at `src`, open for this client: its permission bits `masked`, its replication and the size of its blocks in
+    /// bytes. `create_flag` is 1, and 3 where an older file is overwritten. Directories that aren't there are made where
+    /// `create_parent` says so.
+    pub fn create<C: Cluster>(
+        &self,
+        cluster: &mut C,
+        src: &str,
+        masked: u32,
+        create_flag: u32,
+        create_parent: bool,
+        replication: u32,
+        block_size: u64,
+    ) -> Result<Option<FileStatusMsg>, HdfsError>
+        requires { 0 < (C.shown cluster.old).namenodes }
+        ensures asked { AskedOnce C.serves (asks.Create src.now masked (name_of self.now) create_flag create_parent replication block_size)
+            cluster.old (as_answer answers.Create result) cluster.new }
+    {
+        let ask = Ask::Create {
+            src: Text::from_str(self.alloc, src)?,
+            masked,
+            client_name: self.client.copy(self.alloc)?,
+            create_flag,
+            create_parent,
+            replication,
+            block_size,
+        };
+        match ask_first(cluster, &ask) {
+            Ok(Answer::Create(status)) => Ok(status),
+            Ok(_) => unreachable!(),
+            Err(error) => Err(error),
+        }
+    }
+
+    /// The file at `src`, open for this client to be gone on with: its last block, and the file. `flag` is 4.
+    pub fn append<C: Cluster>(
+        &self,
+        cluster: &mut C,
+        src: &str,
+        flag: u32,
+    ) -> Result<Appended, HdfsError>
+        requires { 0 < (C.shown cluster.old).namenodes }
+        ensures asked { AskedOnce C.serves (asks.Append src.now (name_of self.now) flag) cluster.old (as_answer answers.Append result) cluster.new }
+    {
+        let ask = Ask::Append {
+            src: Text::from_str(self.alloc, src)?,
+            client_name: self.client.copy(self.alloc)?,
+            flag,
+        };
+        match ask_first(cluster, &ask) {
+            Ok(Answer::Append(appended)) => Ok(appended),
+            Ok(_) => unreachable!(),
+            Err(error) => Err(error),
+        }
+    }
+
+    /// A block more of the open file at `src`, behind its block `previous`, which has the length that it is named with, and on
+    /// none of the datanodes `excludes`.
+    pub fn add_block<C: Cluster>(
+        &self,
+        cluster: &mut C,
+        src: &str,
+        previous: Option<&Block>,
+        excludes: &[DatanodeInfo],
+        file_id: Option<u64>,
+    ) -> Result<LocatedBlock, HdfsError>
+        requires { 0 < (C.shown cluster.old).namenodes }
+        ensures asked { AskedOnce C.serves (asks.AddBlock src.now (name_of self.now) (option_copied previous.entry) excludes.now file_id)
+            cluster.old (as_answer answers.AddBlock result) cluster.new }
+    {
+        let ask = Ask::AddBlock {
+            src: Text::from_str(self.alloc, src)?,
+            client_name: self.client.copy(self.alloc)?,
+            previous: copy_block(self.alloc, previous)?,
+            excludes: copy_nodes(self.alloc, excludes)?,
+            file_id,
+        };
+        match ask_first(cluster, &ask) {
+            Ok(Answer::AddBlock(block)) => Ok(block),
+            Ok(_) => unreachable!(),
+            Err(error) => Err(error),
+        }
+    }
+
+    /// Whether the open file at `src` is closed now. `last` is its last block, with its length.
+    pub fn complete<C: Cluster>(
+        &self,
+        cluster: &mut C,
+        src: &str,
+        last: Option<&Block>,
+        file_id: Option<u64>,
+    ) -> Result<bool, HdfsError>
+        requires { 0 < (C.shown cluster.old).namenodes }
+        ensures asked { AskedOnce C.serves (asks.Complete src.now (name_of self.now) (option_copied last.entry) file_id)
+            cluster.old (as_answer answers.Complete result) cluster.new }
+    {
+        let ask = Ask::Complete {
+            src: Text::from_str(self.alloc, src)?,
+            client_name: self.client.copy(self.alloc)?,
+            last: copy_block(self.alloc, last)?,
+            file_id,
+        };
+        match ask_first(cluster, &ask) {
+            Ok(Answer::Complete(done)) => Ok(done),
+            Ok(_) => unreachable!(),
+            Err(error) => Err(error),
+        }
+    }
+}
