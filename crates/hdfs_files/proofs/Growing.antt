@@ -1,0 +1,107 @@
+-- A file that gets a block more, and one that is closed.
+use Rattle.std.proofs.Common.{◌≡◌, ⊎_elim, ℕ, true, false, Bool, List, [], Option, Some, None, refl, sym, ◌∙◌, subst}
+use Rattle.std.specs.List.{list_any}
+use Rattle.std.specs.Prelude.{Contains, cond, unwrap_or}
+use Rattle.std.specs.Str.{bytes_eq}
+use Rattle.hdfs_model.specs.Paths.{ancestors}
+use Rattle.hdfs_model.specs.declared.messages.Block.{Block}
+use Rattle.hdfs_model.specs.declared.messages.LocatedBlock.{LocatedBlock}
+use Rattle.hdfs_model.specs.declared.picture.Entry.{Entry}
+use Rattle.hdfs_model.specs.declared.picture.Entry.TheVariants as entries
+use Rattle.hdfs_model.specs.declared.picture.FileEntry.{FileEntry}
+use Rattle.hdfs_model.specs.Effects.{Changes, Creates, AddsBlock, HasBlock, IsLast, ClosesIf, Completes, with_entry, with_length}
+use Rattle.hdfs_model.specs.Files.{File}
+use Rattle.hdfs_model.specs.Picture.{Picture}
+use Rattle.hdfs_model.specs.Sending.{uuids}
+use Rattle.hdfs_model.specs.Sound.{IsSound, IsFileAt}
+use Rattle.hdfs_model.specs.Stores.{AgreesAt, StoresBlocks}
+use Rattle.hdfs_blocks.specs.Carrying.{HoldsWhole}
+use Rattle.hdfs_files.specs.OnlyFiles.{OnlyFile, SameFile}
+use Rattle.hdfs_files.specs.Tails.{Bare, StoresFront, FileCarries}
+use Rattle.hdfs_files.specs.Writers.{tail_by}
+use Rattle.hdfs_files.proofs.Adding as adding
+use Rattle.hdfs_files.proofs.Placing.{at_path}
+use Rattle.hdfs_files.proofs.Touching as touching
+
+-- the file is open, its blocks but the last, which is this new one, store its bytes, and the datanodes that are named hold the
+-- new one, which is empty
+pub record Grown (p : Picture) (path bytes : List ℕ) (found : LocatedBlock) (q : Picture) : Type 0 where
+  pub file : FileEntry
+  pub named : IsFileAt q path file
+  pub being_written : file.is_open ≡ true
+  pub front : StoresFront q file.blocks found.b.block_id bytes []
+  pub whole : HoldsWhole q found.b.block_id 0 (uuids found.locs) []
+  pub only : OnlyFile path p q
+  pub same : SameFile path p q
+
+-- the last block that is done is one of the file's, and its last one
+pub last_of_carried : (p : Picture) (path : List ℕ) (last : Option Block) (bytes : List ℕ) (c : FileCarries p path (tail_by None last) bytes) → IsSound p → HasBlock c.file.blocks last × IsLast c.file.blocks last
+last_of_carried p path None bytes c sound = (tt, c.carries.0)
+last_of_carried p path (Some block) bytes c sound =
+    (adding.has_last p p sound path c.file c.named block.block_id block.num_bytes bytes block refl refl c.carries, adding.ends_in_last p p sound path c.file c.named block.block_id block.num_bytes bytes block refl refl c.carries)
+
+-- a block more
+pub grows : (p q : Picture) → IsSound p → (path : List ℕ) (last : Option Block) (bytes : List ℕ) (c : FileCarries p path (tail_by None last) bytes) (found : LocatedBlock) → AddsBlock path c.file last found p q → Grown p path bytes found q
+grows p q sound path None bytes c found adds =
+    let new = adding.first_new p q sound path c.file c.named c.carries.0 found adds in
+    let stored = adding.first_stored p q sound path c.file c.named c.carries.0 bytes c.carries.1 in record {
+      file = adding.grown_file p q sound path c.file c.named None bytes found new stored;
+      named = adding.grown_named p q sound path c.file c.named None bytes found new stored;
+      being_written = c.being_written;
+      front = adding.new_front p q sound path c.file c.named None bytes found new stored;
+      whole = adding.new_located p q sound path c.file c.named None bytes found new stored;
+      only = touching.only_file_added p q path c.file c.named None (λ other away. refl) found new;
+      same = touching.same_file_added p q path c.file c.named None (λ other away. refl) found new;
+    }
+grows p q sound path (Some block) bytes c found adds =
+    let new = adding.behind_new p q sound path c.file c.named block.block_id block.num_bytes bytes block refl refl c.carries found adds in
+    let lengths = adding.length_away p q sound path c.file c.named block.block_id block.num_bytes bytes block refl refl c.carries in
+    let stored : ((other : ℕ) → Contains c.file.blocks other → q.table other ≡ with_length p.table (Some block) other) → StoresBlocks q c.file.blocks bytes =
+    λ table. adding.all_stored p q sound path c.file c.named block.block_id block.num_bytes bytes block refl refl c.carries table new.changes.bytes.held in record {
+      file = adding.grown_file p q sound path c.file c.named (Some block) bytes found new stored;
+      named = adding.grown_named p q sound path c.file c.named (Some block) bytes found new stored;
+      being_written = c.being_written;
+      front = adding.new_front p q sound path c.file c.named (Some block) bytes found new stored;
+      whole = adding.new_located p q sound path c.file c.named (Some block) bytes found new stored;
+      only = touching.only_file_added p q path c.file c.named (Some block) lengths found new;
+      same = touching.same_file_added p q path c.file c.named (Some block) lengths found new;
+    }
+
+-- a closed file as it was written, and all else as it was
+pub record IsClosedAs (p : Picture) (path bytes : List ℕ) (last : Option Block) (file : FileEntry) (q : Picture) : Type 0 where
+  pub only : OnlyFile path p q
+  pub ends : IsLast file.blocks last
+  pub named : IsFileAt q path (record file { is_open = false })
+  pub stores : StoresBlocks q file.blocks bytes
+
+-- it agrees with a file of its attributes and bytes
+pub closed_agrees : (p q : Picture) (path bytes : List ℕ) (last : Option Block) (file : FileEntry) → IsClosedAs p path bytes last file q → AgreesAt q (q.names path) (Some (File (record { bytes = bytes; attributes = file.attributes })))
+closed_agrees p q path bytes last file closed =
+    subst (λ (e : Option Entry). AgreesAt q e (Some (File (record { bytes = bytes; attributes = file.attributes })))) (sym closed.named) (refl, refl, closed.stores)
+
+-- the file is closed
+pub closes : (p q : Picture) → IsSound p → (path : List ℕ) (last : Option Block) (bytes : List ℕ) (c : FileCarries p path (tail_by None last) bytes) → Completes path c.file last p q → IsClosedAs p path bytes last c.file q
+closes p q sound path None bytes c done =
+    let changes : Changes p q (with_entry p.names path (record c.file { is_open = false })) (with_length p.table None) = subst (λ (b : Bool). ClosesIf b path c.file None p q) c.being_written done.1 in record {
+      only = touching.only_file_length p q path c.file c.named None (λ other away. refl) (record c.file { is_open = false }) refl changes;
+      ends = done.0;
+      named = adding.named_after p q path (record c.file { is_open = false }) (with_length p.table None) changes;
+      stores = adding.first_stored p q sound path c.file c.named c.carries.0 bytes c.carries.1 (λ other there. changes.table other);
+    }
+closes p q sound path (Some block) bytes c done =
+    let changes : Changes p q (with_entry p.names path (record c.file { is_open = false })) (with_length p.table (Some block)) = subst (λ (b : Bool). ClosesIf b path c.file (Some block) p q) c.being_written done.1 in record {
+      only = touching.only_file_length p q path c.file c.named (Some block) (adding.length_away p q sound path c.file c.named block.block_id block.num_bytes bytes block refl refl c.carries) (record c.file { is_open = false }) refl changes;
+      ends = done.0;
+      named = adding.named_after p q path (record c.file { is_open = false }) (with_length p.table (Some block)) changes;
+      stores = adding.all_stored p q sound path c.file c.named block.block_id block.num_bytes bytes block refl refl c.carries (λ other there. changes.table other) changes.bytes.held;
+    }
+
+-- a file that was just created has no block and no bytes
+pub created_carries : (p q : Picture) (path : List ℕ) (file : FileEntry) → Creates path file p q → FileCarries q path Bare []
+created_carries p q path file created = record {
+  file = file;
+  named = created.changes.names path ∙ ⊎_elim (λ here. here.1) (λ away. absurd (away.0 refl))
+      (at_path path path (Some (entries.File file)) (cond (list_any (bytes_eq path) (ancestors path)) (Some (unwrap_or (p.names path) entries.Dir)) (p.names path)));
+  being_written = created.is_open;
+  carries = (created.none, refl);
+}

@@ -1,0 +1,142 @@
+-- How the calls of a writer of a file join.
+use Rattle.std.proofs.Common.{◌≡◌, ℕ, List, [], ◌++◌, Some, None, refl, sym, ◌∙◌, ap, subst, arith, append_assoc}
+use Rattle.std.proofs.lemmas.List.{append-nil}
+use Rattle.hdfs_model.specs.declared.attributes.Attributes.{Attributes}
+use Rattle.hdfs_model.specs.declared.errors.HdfsError.{HdfsError}
+use Rattle.hdfs_model.specs.declared.errors.HdfsError.TheVariants as errors
+use Rattle.hdfs_model.specs.declared.errors.IoFault.TheVariants as io_faults
+use Rattle.hdfs_model.specs.declared.errors.TransferFault.TheVariants as transfer
+use Rattle.hdfs_model.specs.declared.picture.FileEntry.{FileEntry}
+use Rattle.hdfs_model.specs.Causes.{CallsRose}
+use Rattle.hdfs_model.specs.Files.{File}
+use Rattle.hdfs_model.specs.Picture.{Picture}
+use Rattle.hdfs_model.specs.Shown.{Shown, Later}
+use Rattle.hdfs_model.specs.Sound.{IsFileAt}
+use Rattle.hdfs_model.specs.Stores.{AgreesAt}
+use Rattle.hdfs_model.proofs.Frames.{rose_since}
+use Rattle.hdfs_files.specs.declared.file_writer.FileWriter.{FileWriter}
+use Rattle.hdfs_files.specs.Failing.{TellsWrite, TellsClose, CauseOfWrite}
+use Rattle.hdfs_files.specs.OnlyFiles.{OnlyFile}
+use Rattle.hdfs_files.specs.Tails.{FileCarries}
+use Rattle.hdfs_files.specs.Writers.{link_of, tail_of, Keeps, Wrote, Fails, FailsToClose, Closed, HasCause}
+use Rattle.hdfs_files.proofs.Moving.{own_link_refl, own_link_trans, only_file_trans}
+use Rattle.hdfs_files.proofs.Steps.{carries_nothing, carries_trans, touches_behind}
+
+pub keeps_refl : (w : FileWriter) → Keeps w w
+keeps_refl w = record { path = refl; file_id = refl; sizes = refl }
+
+pub keeps_trans : (w x y : FileWriter) → Keeps w x → Keeps x y → Keeps w y
+keeps_trans w x y one two = record { path = two.path ∙ one.path; file_id = two.file_id ∙ one.file_id; sizes = two.sizes ∙ one.sizes }
+
+pub wrote_nothing : (a : Shown) (w : FileWriter) → Wrote a w [] a w
+wrote_nothing a w = record { keeps = keeps_refl w; own = own_link_refl a (link_of w); carries = carries_nothing a w }
+
+pub wrote_trans : (a b c : Shown) (w x y : FileWriter) (one two : List ℕ) → Wrote a w one b x → Wrote b x two c y → Wrote a w (one ++ two) c y
+wrote_trans a b c w x y one two first then = record {
+  keeps = keeps_trans w x y first.keeps then.keeps;
+  own = own_link_trans a b c (link_of w) (link_of x) (link_of y) first.own then.own;
+  carries = λ p bytes told carried.
+      (let both = carries_trans a b c w x y one two first.keeps.path first.carries then.carries p bytes told carried in
+      (both.0, both.1, subst (FileCarries both.0 w.path (tail_of y)) (append_assoc bytes one two) both.2, both.3, both.4));
+}
+
+pub tells_since : (a b c : Shown) (e : HdfsError) → Later a b → Later b c → TellsWrite b c e → TellsWrite a c e
+tells_since a b c errors.NoMemory later after h = tt
+tells_since a b c errors.Failed later after h = absurd h
+tells_since a b c (errors.IOError io_faults.Link) later after h = rose_since a.counts.links b.counts.links c.counts.links c.counts.links later.counts.links h (omega arith)
+tells_since a b c (errors.DataTransferError (transfer.Read byte)) later after h = absurd h
+tells_since a b c (errors.DataTransferError transfer.Setup) later after h = rose_since a.counts.links b.counts.links c.counts.links c.counts.links later.counts.links h (omega arith)
+tells_since a b c (errors.DataTransferError transfer.AllNodes) later after h = (h.0, rose_since (a.counts.nodes h.0) (b.counts.nodes h.0) (c.counts.nodes h.0) (c.counts.nodes h.0) (later.counts.nodes h.0) h.1 (omega arith))
+tells_since a b c (errors.DataTransferError (transfer.BadAck seqno)) later after h = rose_since a.counts.links b.counts.links c.counts.links c.counts.links later.counts.links h (omega arith)
+tells_since a b c (errors.InvalidArgument fault) later after h = absurd h
+tells_since a b c (errors.AlreadyExists message) later after h = h
+tells_since a b c (errors.OperationFailed name) later after h = absurd h
+tells_since a b c (errors.FileNotFound name) later after h = absurd h
+tells_since a b c (errors.RPCError class message) later after h = h
+
+-- what a write tells a close tells
+pub tells_close : (path : List ℕ) (a b : Shown) (e : HdfsError) → TellsWrite a b e → TellsClose path a b e
+tells_close path a b errors.NoMemory h = h
+tells_close path a b errors.Failed h = h
+tells_close path a b (errors.IOError fault) h = h
+tells_close path a b (errors.DataTransferError fault) h = h
+tells_close path a b (errors.InvalidArgument fault) h = h
+tells_close path a b (errors.AlreadyExists message) h = h
+tells_close path a b (errors.OperationFailed name) h = absurd h
+tells_close path a b (errors.FileNotFound name) h = h
+tells_close path a b (errors.RPCError class message) h = h
+
+close_since : (path : List ℕ) (a b c : Shown) (e : HdfsError) → Later a b → Later b c → TellsClose path b c e → TellsClose path a c e
+close_since path a b c errors.NoMemory later after h = tells_since a b c errors.NoMemory later after h
+close_since path a b c errors.Failed later after h = tells_since a b c errors.Failed later after h
+close_since path a b c (errors.IOError fault) later after h = tells_since a b c (errors.IOError fault) later after h
+close_since path a b c (errors.DataTransferError fault) later after h = tells_since a b c (errors.DataTransferError fault) later after h
+close_since path a b c (errors.InvalidArgument fault) later after h = tells_since a b c (errors.InvalidArgument fault) later after h
+close_since path a b c (errors.AlreadyExists message) later after h = tells_since a b c (errors.AlreadyExists message) later after h
+close_since path a b c (errors.OperationFailed name) later after h = h
+close_since path a b c (errors.FileNotFound name) later after h = tells_since a b c (errors.FileNotFound name) later after h
+close_since path a b c (errors.RPCError class message) later after h = tells_since a b c (errors.RPCError class message) later after h
+
+calls_since : (a b c : Shown) → Later a b → CallsRose b.counts c → CallsRose a.counts c
+calls_since a b c later h = (h.0, h.1, rose_since (a.counts.calls h.0) (b.counts.calls h.0) (c.counts.calls h.0) (c.counts.calls h.0) (later.counts.calls h.0) h.2 (omega arith))
+
+pub cause_since : (a b c : Shown) (e : HdfsError) → Later a b → CauseOfWrite b c e → CauseOfWrite a c e
+cause_since a b c errors.NoMemory later h = tt
+cause_since a b c errors.Failed later h = tt
+cause_since a b c (errors.IOError fault) later h = tt
+cause_since a b c (errors.DataTransferError fault) later h = tt
+cause_since a b c (errors.InvalidArgument fault) later h = tt
+cause_since a b c (errors.AlreadyExists message) later h = calls_since a b c later h
+cause_since a b c (errors.OperationFailed name) later h = calls_since a b c later h
+cause_since a b c (errors.FileNotFound name) later h = tt
+cause_since a b c (errors.RPCError class message) later h = calls_since a b c later h
+
+has_cause_behind : (a b c : Shown) (w x : FileWriter) (one : List ℕ) (e : HdfsError) → Wrote a w one b x → HasCause b x e c → HasCause a w e c
+has_cause_behind a b c w x one e first then p bytes told size carried =
+    let f = first.carries p bytes told carried in
+    cause_since a b c e first.own.later (then f.0 (bytes ++ one) f.1 (first.own.later.namenodes ∙ size) (subst (λ (path : List ℕ). FileCarries f.0 path (tail_of x) (bytes ++ one)) (sym first.keeps.path) f.2))
+
+-- a call that fails behind others
+pub fails_after : (a b c : Shown) (w x : FileWriter) (one : List ℕ) (e : HdfsError) → Wrote a w one b x → Fails b x e c → Fails a w e c
+fails_after a b c w x one e first then = record {
+  own = own_link_trans a b c (link_of w) (link_of x) None first.own then.own;
+  tells = tells_since a b c e first.own.later then.own.later then.tells;
+  touches = touches_behind a b c w x one first.keeps.path first.carries then.touches;
+  cause = has_cause_behind a b c w x one e first then.cause;
+}
+
+pub fails_to_close : (a b : Shown) (w : FileWriter) (e : HdfsError) → Fails a w e b → FailsToClose a w e b
+fails_to_close a b w e fails = record { own = fails.own; tells = tells_close w.path a b e fails.tells; touches = fails.touches; cause = fails.cause }
+
+pub fails_to_close_after : (a b c : Shown) (w x : FileWriter) (one : List ℕ) (e : HdfsError) → Wrote a w one b x → FailsToClose b x e c → FailsToClose a w e c
+fails_to_close_after a b c w x one e first then = record {
+  own = own_link_trans a b c (link_of w) (link_of x) None first.own then.own;
+  tells = close_since w.path a b c e first.own.later then.own.later (subst (λ (path : List ℕ). TellsClose path b c e) first.keeps.path then.tells);
+  touches = touches_behind a b c w x one first.keeps.path first.carries then.touches;
+  cause = has_cause_behind a b c w x one e first then.cause;
+}
+
+attributes_same : (q : Picture) (path : List ℕ) (file mine : FileEntry) (blocks : List ℕ) → IsFileAt q path (record file { blocks = blocks }) → IsFileAt q path mine → mine.attributes ≡ file.attributes
+attributes_same q path file mine blocks one two =
+    let same : record file { blocks = blocks } ≡ mine = cc (one, two) in
+    sym (ap (λ (f : FileEntry). f.attributes) same)
+
+-- a close behind the end of the last block
+pub closed_after : (a b c : Shown) (w x : FileWriter) → Wrote a w [] b x → Closed b x c → Closed a w c
+closed_after a b c w x first then = record {
+  own = own_link_trans a b c (link_of w) (link_of x) None first.own then.own;
+  closes = λ p bytes told carried.
+      (let f = first.carries p bytes told carried in
+      let q = f.0 in
+      let carried' : FileCarries q x.path (tail_of x) bytes = subst (FileCarries q x.path (tail_of x)) (append-nil bytes) (subst (λ (path : List ℕ). FileCarries q path (tail_of x) (bytes ++ [])) (sym first.keeps.path) f.2) in
+      let t = then.closes q bytes f.1 carried' in
+      let same = f.4 carried.file carried.named in
+      let kept : carried'.file.attributes ≡ carried.file.attributes =
+      attributes_same q w.path carried.file carried'.file same.0 same.1 (subst (λ (path : List ℕ). IsFileAt q path carried'.file) first.keeps.path carried'.named) in (
+        t.0,
+        t.1,
+        only_file_trans w.path p q t.0 f.3 (subst (λ (path : List ℕ). OnlyFile path q t.0) first.keeps.path t.2),
+        subst (λ (at : Attributes). AgreesAt t.0 (t.0.names w.path) (Some (File (record { bytes = bytes; attributes = at })))) kept
+            (subst (λ (path : List ℕ). AgreesAt t.0 (t.0.names path) (Some (File (record { bytes = bytes; attributes = carried'.file.attributes })))) first.keeps.path t.3),
+      ));
+}

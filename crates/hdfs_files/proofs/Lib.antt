@@ -1,0 +1,14 @@
+pub mod Adding
+pub mod Moving
+pub mod Others
+pub mod Placing
+pub mod Storing
+pub mod Touching
+pub mod Asked
+pub mod Blocks
+pub mod Growing
+pub mod Completing
+pub mod Steps
+pub mod Joining
+pub mod Closing
+pub mod Standing

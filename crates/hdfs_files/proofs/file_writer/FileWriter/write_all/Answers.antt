@@ -1,0 +1,31 @@
+-- The goals of FileWriter::write_all.
+use Rattle.std.proofs.Common.{ℕ, [], List, ◌++◌, take, sym, ◌∙◌, ap, refl}
+use Rattle.std.proofs.lemmas.List.{take_rest}
+use Rattle.hdfs_blocks.proofs.Wrote.{pieces_join}
+use Rattle.hdfs_files.proofs.Joining.{wrote_nothing, wrote_trans, fails_after}
+use Rattle.hdfs_files.proofs.file_writer.FileWriter.write_all.Goals as goal
+
+pub blocks-2-init : goal.blocks-2-init
+blocks-2-init g c = record { stands = c.requires.stands; fine = c.requires.fine; told = ([], refl, wrote_nothing (g.C.Cluster.shown c.args.cluster.now) c.args.self.now) }
+
+pub blocks-2-preserved : goal.blocks-2-preserved
+blocks-2-preserved g c =
+    let before = c.blocks-2.invariant in
+    let now = c.in-Ok.ensures in
+    let n = c.in-Ok.taken in
+    let rest = c.blocks-2.rest.now in
+    let told = before.told in
+    record {
+      stands = now.stands;
+      fine = now.fine;
+      told = (
+        told.0 ++ take n rest,
+        pieces_join c.args.bytes.now rest told.0 n told.1 ∙ ap (λ (l : List ℕ). told.0 ++ take n rest ++ l) (sym (take_rest rest n)),
+        wrote_trans (g.C.Cluster.shown c.args.cluster.now) (g.C.Cluster.shown c.blocks-2.cluster) (g.C.Cluster.shown c.write_piece.new.cluster) c.args.self.now c.blocks-2.self c.write_piece.new.self told.0 (take n rest) told.2 now.wrote,
+      );
+    }
+
+pub returns-in-Err-clause-err : goal.returns-in-Err-clause-err
+returns-in-Err-clause-err g c =
+    let told = c.blocks-2.invariant.told in
+    fails_after (g.C.Cluster.shown c.args.cluster.now) (g.C.Cluster.shown c.blocks-2.cluster) (g.C.Cluster.shown c.write_piece.new.cluster) c.args.self.now c.blocks-2.self told.0 c.in-Err.error told.2 c.in-Err.ensures.err

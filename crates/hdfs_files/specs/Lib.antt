@@ -1,0 +1,5 @@
+pub mod Faults
+pub mod Failing
+pub mod OnlyFiles
+pub mod Tails
+pub mod Writers

@@ -1,0 +1,41 @@
+-- What a writer of a file has to do with the file's bytes.
+use Rattle.std.specs.Prelude.{◌≡◌, ℕ, true, List, [], ◌∷◌, ◌++◌}
+use Rattle.hdfs_model.specs.declared.picture.FileEntry.{FileEntry}
+use Rattle.hdfs_model.specs.Picture.{Picture}
+use Rattle.hdfs_model.specs.Sound.{IsFileAt}
+use Rattle.hdfs_model.specs.Stores.{StoresBlocks}
+use Rattle.hdfs_blocks.specs.Carrying.{HoldsWhole}
+use Rattle.hdfs_blocks.specs.Writers.{block_of, Carries}
+use Rattle.hdfs_blocks.specs.declared.block_writer.BlockWriter.{BlockWriter}
+
+-- How the last block of a file stands that is being written: the file has none; the last one has this id and length, and is
+-- held whole; or it is being written by this writer.
+pub data Tail : Type 0 where
+  Bare : Tail
+  Finished : ℕ → ℕ → Tail
+  Going : BlockWriter → Tail
+
+-- the blocks before the last store the first bytes of the file, and the rest is the last one's
+pub record StoresFront (p : Picture) (blocks : List ℕ) (last : ℕ) (bytes rest : List ℕ) : Type 0 where
+  pub front : List ℕ
+  pub ends : blocks ≡ front ++ last ∷ []
+  pub before : List ℕ
+  pub cut : bytes ≡ before ++ rest
+  pub stored : StoresBlocks p front before
+
+-- The last block is as its writer has it. The length of a finished one is what the writer names next, which the block table may
+-- not say yet.
+abbrev pub TailCarries : Picture → List ℕ → Tail → List ℕ → Type 0
+TailCarries p blocks Bare bytes = (blocks ≡ []) × (bytes ≡ [])
+TailCarries p blocks (Finished id length) bytes =
+    (rest : List ℕ) × StoresFront p blocks id bytes rest × ((nodes : List (List ℕ)) × HoldsWhole p id length nodes rest)
+TailCarries p blocks (Going writer) bytes =
+    (rest : List ℕ) × StoresFront p blocks (block_of writer).block_id bytes rest × ((nodes : List (List ℕ)) × Carries p nodes writer rest)
+
+-- The writer of the file at a path carries these bytes: the file is open, the blocks before the last store the first of them,
+-- and the last block, or its writer, has the rest.
+pub record FileCarries (p : Picture) (path : List ℕ) (tail : Tail) (bytes : List ℕ) : Type 0 where
+  pub file : FileEntry
+  pub named : IsFileAt p path file
+  pub being_written : file.is_open ≡ true
+  pub carries : TailCarries p file.blocks tail bytes

@@ -1,0 +1,132 @@
+-- A writer of one file, as its callers see it.
+use Rattle.std.specs.Prelude.{◌≡◌, ◌≢◌, ◌⊎◌, ℕ, ◌^◌, ◌<◌, ◌≤◌, true, false, Bool, List, ◌++◌, Option, Some, None, IsSome}
+use Rattle.hdfs_wire.specs.Outgoing.{ArePacketSizes}
+use Rattle.hdfs_model.specs.declared.messages.Block.{Block}
+use Rattle.hdfs_model.specs.declared.errors.HdfsError.{HdfsError}
+use Rattle.hdfs_model.specs.Files.{File}
+use Rattle.hdfs_model.specs.Picture.{Picture}
+use Rattle.hdfs_model.specs.Shown.{Shown, Later}
+use Rattle.hdfs_model.specs.Stores.{AgreesAt}
+use Rattle.hdfs_blocks.specs.Writers as blocks
+use Rattle.hdfs_blocks.specs.declared.block_writer.BlockWriter.{BlockWriter}
+use Rattle.hdfs_files.specs.Failing.{TellsWrite, TellsClose, CauseOfWrite}
+use Rattle.hdfs_files.specs.OnlyFiles.{OnlyFile, SameFile}
+use Rattle.hdfs_files.specs.Tails.{Tail, Bare, Finished, Going, FileCarries}
+use Rattle.hdfs_files.specs.declared.file_writer.FileWriter.{FileWriter}
+use Rattle.hdfs_files.specs.declared.sizes.WriteSizes.{WriteSizes}
+
+-- a block size from 1 to 2^63 - 1, the sizes of packets, and a window from 1 to 1,000
+pub record AreSizes (sizes : WriteSizes) : Type 0 where
+  pub block : 0 < sizes.block_size
+  pub below : sizes.block_size < 2 ^ 63
+  pub packets : ArePacketSizes sizes.chunk sizes.packet_size
+  pub window : (1 ≤ sizes.window) × (sizes.window ≤ 1000)
+
+-- the path of its file
+abbrev pub path_of : FileWriter → List ℕ
+path_of writer = writer.path
+
+-- whether a call has failed
+abbrev pub has_failed : FileWriter → Bool
+has_failed writer = writer.failed
+
+-- how the last block stands, by the block that is done and by the writer of the one behind it
+abbrev pub tail_by : Option BlockWriter → Option Block → Tail
+tail_by (Some writer) last = Going writer
+tail_by None None = Bare
+tail_by None (Some block) = Finished block.block_id block.num_bytes
+
+-- how the last block of its file stands
+abbrev pub tail_of : FileWriter → Tail
+tail_of writer = tail_by writer.going writer.last
+
+-- the link of a block that is being written
+abbrev pub link_by : Option BlockWriter → Option ℕ
+link_by None = None
+link_by (Some writer) = blocks.link_of writer
+
+-- the write link that it keeps
+abbrev pub link_of : FileWriter → Option ℕ
+link_of writer = link_by writer.going
+
+-- the writer of a block stands as its last call left it, and its block has the size of the file's blocks
+pub record BlockStands (shown : Shown) (sizes : WriteSizes) (writer : BlockWriter) : Type 0 where
+  pub stands : blocks.Stands shown writer
+  pub size : blocks.size_of writer ≡ sizes.block_size
+
+-- What a writer of a file is between calls. Once it has failed it keeps no link.
+pub record Stands (shown : Shown) (writer : FileWriter) : Type 0 where
+  pub sizes : AreSizes writer.sizes
+  pub going : (block : BlockWriter) → writer.going ≡ Some block → BlockStands shown writer.sizes block
+  pub is_open : writer.failed ≡ false → (block : BlockWriter) → writer.going ≡ Some block → IsSome (blocks.link_of block)
+  pub idle : writer.failed ≡ true → link_of writer ≡ None
+
+-- a block is being written that has room for a byte
+abbrev pub HasRoom : FileWriter → Type 0
+HasRoom writer = (block : BlockWriter) × (writer.going ≡ Some block) × (blocks.length_of block ≢ blocks.size_of block)
+
+-- what every call keeps of a writer
+pub record Keeps (writer writer' : FileWriter) : Type 0 where
+  pub path : writer'.path ≡ writer.path
+  pub file_id : writer'.file_id ≡ writer.file_id
+  pub sizes : writer'.sizes ≡ writer.sizes
+
+-- Calls on the cluster in the writer's name: read links stay, and so do the write links that were open and aren't its own; none
+-- is left open but its own, which it had before or wasn't open.
+pub record OnlyOwnLink (old : Shown) (before : Option ℕ) (new : Shown) (after : Option ℕ) : Type 0 where
+  pub later : Later old new
+  pub reads : (link : ℕ) → new.reads link ≡ old.reads link
+  pub others : (link : ℕ) → IsSome (old.writes link) → before ≢ Some link → new.writes link ≡ old.writes link
+  pub none : (link : ℕ) → (old.writes link ≡ None) ⊎ (before ≡ Some link) → after ≢ Some link → new.writes link ≡ None
+  pub fresh : (link : ℕ) → after ≡ Some link → (before ≡ Some link) ⊎ (old.writes link ≡ None)
+
+-- over a told picture: these bytes more are carried, and nothing changed but the file
+abbrev pub CarriesMore : Shown → FileWriter → List ℕ → Shown → FileWriter → Type 0
+CarriesMore old writer more new writer' =
+    (p : Picture) (bytes : List ℕ) → old.picture ≡ Some p → FileCarries p writer.path (tail_of writer) bytes
+    → (q : Picture) × (new.picture ≡ Some q) × FileCarries q writer.path (tail_of writer') (bytes ++ more)
+    × OnlyFile writer.path p q × SameFile writer.path p q
+
+-- over a told picture: whatever came of it, nothing changed but the file
+abbrev pub TouchesFile : Shown → FileWriter → Shown → Type 0
+TouchesFile old writer new =
+    (p : Picture) (bytes : List ℕ) → old.picture ≡ Some p → FileCarries p writer.path (tail_of writer) bytes
+    → (q : Picture) × (new.picture ≡ Some q) × OnlyFile writer.path p q
+
+-- over a told picture of one namenode, for a writer that carries its file: an exception has its cause
+abbrev pub HasCause : Shown → FileWriter → HdfsError → Shown → Type 0
+HasCause old writer error new =
+    (p : Picture) (bytes : List ℕ) → old.picture ≡ Some p → old.namenodes ≡ 1 → FileCarries p writer.path (tail_of writer) bytes → CauseOfWrite old new error
+
+-- over a told picture: a closed file stands at the path with the attributes and the bytes, and nothing changed but the file
+abbrev pub Closes : Shown → FileWriter → Shown → Type 0
+Closes old writer new =
+    (p : Picture) (bytes : List ℕ) → old.picture ≡ Some p → (carries : FileCarries p writer.path (tail_of writer) bytes)
+    → (q : Picture) × (new.picture ≡ Some q) × OnlyFile writer.path p q
+    × AgreesAt q (q.names writer.path) (Some (File (record { bytes = bytes; attributes = carries.file.attributes })))
+
+-- These bytes were taken.
+pub record Wrote (old : Shown) (writer : FileWriter) (more : List ℕ) (new : Shown) (writer' : FileWriter) : Type 0 where
+  pub keeps : Keeps writer writer'
+  pub own : OnlyOwnLink old (link_of writer) new (link_of writer')
+  pub carries : CarriesMore old writer more new writer'
+
+-- A call has failed: no link is left, the error tells what it stands for, and over a told picture nothing changed but the file, and
+-- an exception of a namenode has its cause.
+pub record Fails (old : Shown) (writer : FileWriter) (error : HdfsError) (new : Shown) : Type 0 where
+  pub own : OnlyOwnLink old (link_of writer) new None
+  pub tells : TellsWrite old new error
+  pub touches : TouchesFile old writer new
+  pub cause : HasCause old writer error new
+
+-- the same of a close
+pub record FailsToClose (old : Shown) (writer : FileWriter) (error : HdfsError) (new : Shown) : Type 0 where
+  pub own : OnlyOwnLink old (link_of writer) new None
+  pub tells : TellsClose writer.path old new error
+  pub touches : TouchesFile old writer new
+  pub cause : HasCause old writer error new
+
+-- the file was closed
+pub record Closed (old : Shown) (writer : FileWriter) (new : Shown) : Type 0 where
+  pub own : OnlyOwnLink old (link_of writer) new None
+  pub closes : Closes old writer new

@@ -1,0 +1,332 @@
+//! Writes a file, block by block.
+ghost use Rattle.std.specs.Prelude.{◌≡◌, ◌<◌, ◌≤◌, [], true, false, length, take, None, Some, Err, IsTrue, ◌↔◌, IfOk, IfErr, OnOk, OnErr};
+ghost use Rattle.hdfs_model.specs.Shown.{Shown};
+ghost use Rattle.hdfs_model.specs.declared.errors.HdfsError.TheVariants as errors;
+
+use crate::faults::error_of;
+use crate::sizes::WriteSizes;
+use hdfs_blocks::BlockWriter;
+use hdfs_model::{Block, Cluster, HdfsError};
+use hdfs_namenode::NamenodeProtocol;
+use hdfs_wire::Text;
+use std::alloc::Global;
+
+/// How often a namenode is asked whether a file is closed (upstream's number).
+const COMPLETE_RETRIES: u32 = 5;
+
+/// Writes a file: its bytes go into blocks, one behind another. A writer that is let go leaves its file open, and its link too;
+/// `abandon` ends the link.
+#[derive(Drop)]
+pub struct FileWriter {
+    pub(crate) alloc: Global,
+    pub(crate) path: Text,
+    pub(crate) file_id: Option<u64>,
+    pub(crate) sizes: WriteSizes,
+    // the last block that is done
+    pub(crate) last: Option<Block>,
+    // the writer of the block behind it
+    pub(crate) going: Option<BlockWriter>,
+    pub(crate) failed: bool,
+}
+
+impl FileWriter {
+    ghost use Rattle.hdfs_files.specs.Tails.{Bare};
+    ghost use Rattle.hdfs_files.specs.Writers.{AreSizes, path_of, has_failed, link_of, tail_of, Stands, Keeps, HasRoom, OnlyOwnLink, TouchesFile, Wrote, Closed, Fails, FailsToClose};
+
+    /// A writer of a file that was just created at `path`, which has the size of blocks that `sizes` says. `file_id` is the id that
+    /// the namenode told.
+    pub fn new(alloc: Global, path: Text, file_id: Option<u64>, sizes: WriteSizes) -> FileWriter
+        requires { AreSizes sizes }
+        ensures path { path_of result ≡ path }
+        ensures tail { tail_of result ≡ Bare }
+        ensures idle { (link_of result ≡ None) × (has_failed result ≡ false) }
+        ensures stands { (shown : Shown) → Stands shown result }
+    {
+        FileWriter {
+            alloc,
+            path,
+            file_id,
+            sizes,
+            last: None,
+            going: None,
+            failed: false,
+        }
+    }
+
+    /// Ends the block that is being written.
+    fn finish_block<C: Cluster>(&mut self, cluster: &mut C) -> Result<(), HdfsError>
+        requires stands { Stands (C.shown cluster.old) self.old }
+        requires fine { self.old.failed ≡ false }
+        ensures fine { self.new.failed ≡ false }
+        ensures none { self.new.going ≡ None }
+        ensures wrote { OnOk result (Wrote (C.shown cluster.old) self.old [] (C.shown cluster.new) self.new) }
+        ensures err { IfErr result (λ error. Fails (C.shown cluster.old) self.old error (C.shown cluster.new)) }
+        ensures keeps { Keeps self.old self.new }
+    {
+        let Some(block) = self.going.take() else {
+            return Ok(());
+        };
+        match block.close(cluster) {
+            Ok(block) => {
+                self.last = Some(block);
+                Ok(())
+            }
+            Err(fault) => Err(error_of(fault)),
+        }
+    }
+
+    /// Begins a block behind those that are done.
+    fn begin_block<C: Cluster>(
+        &mut self,
+        cluster: &mut C,
+        namenode: &NamenodeProtocol,
+    ) -> Result<(), HdfsError>
+        requires namenode { 0 < (C.shown cluster.old).namenodes }
+        requires stands { Stands (C.shown cluster.old) self.old }
+        requires fine { self.old.failed ≡ false }
+        requires none { self.old.going ≡ None }
+        ensures fine { self.new.failed ≡ false }
+        ensures stands { OnOk result (Stands (C.shown cluster.new) self.new) }
+        ensures room { OnOk result (HasRoom self.new) }
+        ensures wrote { OnOk result (Wrote (C.shown cluster.old) self.old [] (C.shown cluster.new) self.new) }
+        ensures err { IfErr result (λ error. Fails (C.shown cluster.old) self.old error (C.shown cluster.new)) }
+        ensures keeps { Keeps self.old self.new }
+    {
+        let client = match Text::from_str(self.alloc, namenode.client_name()) {
+            Ok(client) => client,
+            Err(_) => return Err(HdfsError::NoMemory),
+        };
+        let located = match namenode.add_block(
+            cluster,
+            self.path.as_str(),
+            self.last.as_ref(),
+            &[],
+            self.file_id,
+        ) {
+            Ok(located) => located,
+            Err(error) => return Err(error),
+        };
+        match BlockWriter::replicated(
+            self.alloc,
+            cluster,
+            located,
+            self.sizes.block_size,
+            self.sizes.chunk,
+            self.sizes.packet_size,
+            self.sizes.window,
+            &client,
+        ) {
+            Ok(block) => {
+                self.going = Some(block);
+                Ok(())
+            }
+            Err(fault) => Err(error_of(fault)),
+        }
+    }
+
+    /// Sees to it that a block is being written that has room for a byte.
+    fn make_room<C: Cluster>(
+        &mut self,
+        cluster: &mut C,
+        namenode: &NamenodeProtocol,
+    ) -> Result<(), HdfsError>
+        requires namenode { 0 < (C.shown cluster.old).namenodes }
+        requires stands { Stands (C.shown cluster.old) self.old }
+        requires fine { self.old.failed ≡ false }
+        ensures fine { self.new.failed ≡ false }
+        ensures stands { OnOk result (Stands (C.shown cluster.new) self.new) }
+        ensures room { OnOk result (HasRoom self.new) }
+        ensures wrote { OnOk result (Wrote (C.shown cluster.old) self.old [] (C.shown cluster.new) self.new) }
+        ensures err { IfErr result (λ error. Fails (C.shown cluster.old) self.old error (C.shown cluster.new)) }
+        ensures keeps { Keeps self.old self.new }
+    {
+        if self.has_room() {
+            return Ok(());
+        }
+        match self.finish_block(cluster) {
+            Ok(()) => {}
+            Err(error) => return Err(error),
+        }
+        match self.begin_block(cluster, namenode) {
+            Ok(()) => Ok(()),
+            Err(error) => Err(error),
+        }
+    }
+
+    /// Whether a block is being written that has room for a byte.
+    fn has_room(&self) -> bool
+        ensures { IsTrue result ↔ HasRoom self.now }
+    {
+        match &self.going {
+            Some(block) => !block.is_full(),
+            None => false,
+        }
+    }
+
+    /// Takes some of the bytes, at least one, and says how many.
+    fn write_piece<C: Cluster>(
+        &mut self,
+        cluster: &mut C,
+        namenode: &NamenodeProtocol,
+        bytes: &[u8],
+    ) -> Result<usize, HdfsError>
+        requires namenode { 0 < (C.shown cluster.old).namenodes }
+        requires stands { Stands (C.shown cluster.old) self.old }
+        requires fine { self.old.failed ≡ false }
+        requires bytes { 0 < length bytes.now }
+        ensures fine { self.new.failed ≡ false }
+        ensures stands { OnOk result (Stands (C.shown cluster.new) self.new) }
+        ensures count { IfOk result (λ n. (0 < n) × (n ≤ length bytes.now)) }
+        ensures wrote { IfOk result (λ n. Wrote (C.shown cluster.old) self.old (take n bytes.now) (C.shown cluster.new) self.new) }
+        ensures err { IfErr result (λ error. Fails (C.shown cluster.old) self.old error (C.shown cluster.new)) }
+        ensures keeps { Keeps self.old self.new }
+    {
+        match self.make_room(cluster, namenode) {
+            Ok(()) => {}
+            Err(error) => return Err(error),
+        }
+        let Some(block) = &mut self.going else {
+            unreachable!();
+        };
+        match block.write(cluster, bytes) {
+            Ok(taken) => Ok(taken),
+            Err(fault) => Err(error_of(fault)),
+        }
+    }
+
+    /// Takes the bytes, and answers how many they are. A block that is full is ended, and the next one begun, once a byte comes
+    /// that it has no room for.
+    ///
+    /// Errors: `NoMemory`; `Failed` after an earlier error; `IOError(Link)` and `DataTransferError(Setup)` where a pipeline wasn't set
+    /// up, `DataTransferError(AllNodes)` where a datanode of it failed, `DataTransferError(BadAck)` where an acknowledgement wasn't due;
+    /// `RPCError` and `AlreadyExists` with a namenode's exception. After an error the writer has failed, and its link is ended.
+    pub fn write<C: Cluster>(
+        &mut self,
+        cluster: &mut C,
+        namenode: &NamenodeProtocol,
+        bytes: &[u8],
+    ) -> Result<usize, HdfsError>
+        requires namenode { 0 < (C.shown cluster.old).namenodes }
+        requires stands { Stands (C.shown cluster.old) self.old }
+
+        ensures stands { Stands (C.shown cluster.new) self.new × Keeps self.old self.new }
+        ensures count { IfOk result (λ n. n ≡ length bytes.now) }
+        ensures failed { has_failed self.old ≡ true
+            → (result ≡ Err errors.Failed) × (self.new ≡ self.old) × (cluster.new ≡ cluster.old) }
+        ensures fails { (OnOk result (has_failed self.new ≡ false)) × (OnErr result (has_failed self.new ≡ true)) }
+
+        // Over a told picture these bytes are carried too, and nothing but the file changes.
+        ensures wrote { OnOk result (Wrote (C.shown cluster.old) self.old bytes.now (C.shown cluster.new) self.new) }
+        ensures err { IfErr result (λ error. has_failed self.old ≡ false → Fails (C.shown cluster.old) self.old error (C.shown cluster.new)) }
+    {
+        if self.failed {
+            return Err(HdfsError::Failed);
+        }
+        match self.write_all(cluster, namenode, bytes) {
+            Ok(()) => Ok(bytes.len()),
+            Err(error) => {
+                self.failed = true;
+                self.going = None;
+                Err(error)
+            }
+        }
+    }
+
+    /// Takes the bytes.
+    fn write_all<C: Cluster>(
+        &mut self,
+        cluster: &mut C,
+        namenode: &NamenodeProtocol,
+        bytes: &[u8],
+    ) -> Result<(), HdfsError>
+        requires namenode { 0 < (C.shown cluster.old).namenodes }
+        requires stands { Stands (C.shown cluster.old) self.old }
+        requires fine { self.old.failed ≡ false }
+        ensures fine { self.new.failed ≡ false }
+        ensures stands { OnOk result (Stands (C.shown cluster.new) self.new) }
+        ensures wrote { OnOk result (Wrote (C.shown cluster.old) self.old bytes.now (C.shown cluster.new) self.new) }
+        ensures err { IfErr result (λ error. Fails (C.shown cluster.old) self.old error (C.shown cluster.new)) }
+        ensures keeps { Keeps self.old self.new }
+    {
+        let mut rest = bytes;
+        'blocks: while !rest.is_empty() {
+            match self.write_piece(cluster, namenode, rest) {
+                Ok(taken) => rest = &rest[taken..],
+                Err(error) => return Err(error),
+            }
+        }
+        Ok(())
+    }
+
+    /// Asks until the namenode says that the file is closed.
+    fn complete<C: Cluster>(
+        &self,
+        cluster: &mut C,
+        namenode: &NamenodeProtocol,
+    ) -> Result<(), HdfsError>
+        requires namenode { 0 < (C.shown cluster.old).namenodes }
+        requires none { self.now.going ≡ None }
+        ensures closed { OnOk result (Closed (C.shown cluster.old) self.now (C.shown cluster.new)) }
+        ensures err { IfErr result (λ error. FailsToClose (C.shown cluster.old) self.now error (C.shown cluster.new)) }
+    {
+        for _ in 0..COMPLETE_RETRIES {
+            match namenode.complete(
+                cluster,
+                self.path.as_str(),
+                self.last.as_ref(),
+                self.file_id,
+            ) {
+                Ok(true) => return Ok(()),
+                Ok(false) => {}
+                Err(error) => return Err(error),
+            }
+        }
+        match self.path.copy(self.alloc) {
+            Ok(path) => Err(HdfsError::OperationFailed(path)),
+            Err(_) => Err(HdfsError::NoMemory),
+        }
+    }
+
+    /// Ends the block that is being written, and closes the file.
+    ///
+    /// Errors: those of `write`, and `OperationFailed` with the path where a namenode answers five times that the file isn't closed.
+    /// Whatever comes of it, the writer's link is ended.
+    pub fn close<C: Cluster>(
+        mut self,
+        cluster: &mut C,
+        namenode: &NamenodeProtocol,
+    ) -> Result<(), HdfsError>
+        requires namenode { 0 < (C.shown cluster.old).namenodes }
+        requires stands { Stands (C.shown cluster.old) self }
+
+        ensures failed { has_failed self ≡ true → (result ≡ Err errors.Failed) × (cluster.new ≡ cluster.old) }
+
+        // Over a told picture the closed file has the bytes, and nothing but the file changes.
+        ensures closed { OnOk result (Closed (C.shown cluster.old) self (C.shown cluster.new)) }
+        ensures err { IfErr result (λ error. has_failed self ≡ false → FailsToClose (C.shown cluster.old) self error (C.shown cluster.new)) }
+    {
+        if self.failed {
+            return Err(HdfsError::Failed);
+        }
+        match self.finish_block(cluster) {
+            Ok(()) => {}
+            Err(error) => return Err(error),
+        }
+        match self.complete(cluster, namenode) {
+            Ok(()) => Ok(()),
+            Err(error) => Err(error),
+        }
+    }
+
+    /// Gives the writer up: its link is ended, and nothing else is done. The file stays open.
+    pub fn abandon<C: Cluster>(mut self, cluster: &mut C)
+        requires stands { Stands (C.shown cluster.old) self }
+        ensures own { OnlyOwnLink (C.shown cluster.old) (link_of self) (C.shown cluster.new) None }
+        ensures idle { link_of self ≡ None → cluster.new ≡ cluster.old }
+        ensures touches { TouchesFile (C.shown cluster.old) self (C.shown cluster.new) }
+    {
+        if let Some(block) = self.going.take() {
+            block.abandon(cluster);
+        }
+    }
+}

@@ -1,0 +1,9 @@
+//! Writers of files: a file's bytes go into blocks, one behind another.
+#![tactic(auto)]
+
+mod faults;
+mod file_writer;
+mod sizes;
+
+pub use file_writer::FileWriter;
+pub use sizes::WriteSizes;
