@@ -29,7 +29,7 @@ fn read(alloc: Global, path: &str, offset: u64, len: u64) -> Result<Command, Fai
     })
 }
 
-fn run_one<C: Cluster>(
+pub(crate) fn run_one<C: Cluster>(
     alloc: Global,
     cluster: &mut C,
     path: &str,

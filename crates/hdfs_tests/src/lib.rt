@@ -7,6 +7,8 @@ mod fake_cluster;
 #[cfg(test)]
 mod falling_over;
 #[cfg(test)]
+mod file_writing;
+#[cfg(test)]
 mod rows;
 #[cfg(test)]
 mod runs;

@@ -1,0 +1,147 @@
+//! Files are written block by block in memory, and read back.
+ghost use Rattle.std.specs.Prelude.{◌≡◌, ◌<◌, ◌^◌, IfOk};
+ghost use Rattle.hdfs_cluster.specs.MemShown.{shown_of};
+ghost use Rattle.hdfs_files.specs.Writers.{Stands};
+ghost use Rattle.hdfs_model.specs.Shown.{Shown};
+
+use crate::asking::run_one;
+use crate::support::cluster;
+use hdfs_cluster::MemCluster;
+use hdfs_files::{FileWriter, WriteSizes};
+use hdfs_model::{Cluster, HdfsError, Reply};
+use hdfs_namenode::NamenodeProtocol;
+use hdfs_wire::Text;
+use std::alloc::Global;
+use std::test::Fail;
+
+/// Creates `/f`, and gives its writer: chunks of four bytes, packets of one chunk, at most two of which wait.
+fn create(
+    alloc: Global,
+    cluster: &mut MemCluster,
+    namenode: &NamenodeProtocol,
+    block_size: u64,
+) -> Result<FileWriter, Fail>
+    requires namenode { 0 < (shown_of cluster.old).namenodes }
+    requires size { (0 < block_size) × (block_size < 2 ^ 63) }
+    ensures { IfOk result (λ writer. (shown : Shown) → Stands shown writer) }
+{
+    let Ok(Some(status)) = namenode.create(cluster, "/f", 0o644, 1, true, 1, block_size) else {
+        return Err("not created".into());
+    };
+    let sizes = WriteSizes {
+        block_size,
+        chunk: 4,
+        packet_size: 41,
+        window: 2,
+    };
+    let path = Text::from_str(alloc, "/f")?;
+    Ok(FileWriter::new(alloc, path, status.file_id, sizes))
+}
+
+/// Writes all of the bytes.
+fn write(
+    writer: &mut FileWriter,
+    cluster: &mut MemCluster,
+    namenode: &NamenodeProtocol,
+    bytes: &[u8],
+) -> Result<(), Fail>
+    requires { Stands (shown_of cluster.old) writer.old }
+    ensures { Stands (shown_of cluster.new) writer.new }
+{
+    if cluster.namenodes() == 0 {
+        return Err("no namenode".into());
+    }
+    match writer.write(cluster, namenode, bytes) {
+        Ok(count) if count == bytes.len() => Ok(()),
+        _ => Err("not written".into()),
+    }
+}
+
+/// What is read of a file that was written by two calls, its first byte on.
+fn written_and_read(
+    alloc: Global,
+    block_size: u64,
+    first: &[u8],
+    second: &[u8],
+) -> Result<Vec<u8>, Fail>
+    requires { (0 < block_size) × (block_size < 2 ^ 63) }
+{
+    let mut cluster = cluster(alloc)?;
+    let namenode = NamenodeProtocol::new(alloc, [0; 16])?;
+    let mut writer = create(alloc, &mut cluster, &namenode, block_size)?;
+    write(&mut writer, &mut cluster, &namenode, first)?;
+    write(&mut writer, &mut cluster, &namenode, second)?;
+    if cluster.namenodes() == 0 {
+        return Err("no namenode".into());
+    }
+    if writer.close(&mut cluster, &namenode).is_err() {
+        return Err("not closed".into());
+    }
+    if cluster.namenodes() == 0 {
+        return Err("no namenode".into());
+    }
+    let count = (first.len() + second.len()) as u64;
+    match run_one(alloc, &mut cluster, "/f", 0, count)? {
+        Ok(replies) => match replies.as_slice() {
+            [Reply::Bytes { bytes }] => Ok(Vec::from_slice(alloc, bytes.as_slice())?),
+            _ => Err("another reply".into()),
+        },
+        Err(_) => Err("not read".into()),
+    }
+}
+
+#[test]
+fn a_file_of_many_blocks_is_read_back(rt: HostRuntime) -> Result<(), Fail> {
+    let alloc = rt.alloc();
+    let bytes: [u8; 20] = [
+        7, 1, 2, 3, 4, 5, 6, 0, 255, 9, 10, 11, 12, 13, 14, 15, 16, 17, 18, 19,
+    ];
+    for block_size in [1, 3, 4, 7, 8, 20, 64] {
+        for (cut, end) in [(0, 0), (0, 1), (1, 20), (8, 20), (9, 9), (16, 17), (20, 20)] {
+            if block_size == 0 || block_size > 64 || cut > end || end > 20 {
+                return Err("a bad row".into());
+            }
+            let found = written_and_read(alloc, block_size, &bytes[..cut], &bytes[cut..end])?;
+            assert_eq!(rt; found.as_slice(), &bytes[..end]);
+        }
+    }
+    Ok(())
+}
+
+#[test]
+fn an_exception_of_create_is_answered_by_its_error(rt: HostRuntime) -> Result<(), Fail> {
+    let alloc = rt.alloc();
+    let mut cluster = cluster(alloc)?;
+    let namenode = NamenodeProtocol::new(alloc, [0; 16])?;
+    assert_eq!(rt;
+        namenode.client_name(),
+        "hdfs_native_client-00000000-0000-0000-0000-000000000000"
+    );
+    let rows = [
+        ("/f", 1, false, ""),
+        ("/f", 1, false, "AlreadyExists"),
+        ("/f", 3, false, ""),
+        ("/", 3, false, "AlreadyExists"),
+        (
+            "/f/g",
+            1,
+            true,
+            "org.apache.hadoop.fs.ParentNotDirectoryException",
+        ),
+        ("/d/g", 1, false, "java.io.FileNotFoundException"),
+        ("/d/g", 1, true, ""),
+        ("/d", 1, true, "AlreadyExists"),
+    ];
+    for (path, flag, parents, wanted) in &rows {
+        if cluster.namenodes() == 0 {
+            return Err("no namenode".into());
+        }
+        match namenode.create(&mut cluster, path, 0o644, *flag, *parents, 1, 8) {
+            Ok(_) => assert_eq!(rt; *wanted, "", "{path}"),
+            Err(HdfsError::AlreadyExists(_)) => assert_eq!(rt; *wanted, "AlreadyExists", "{path}"),
+            Err(HdfsError::RPCError(class, _)) => assert_eq!(rt; *wanted, class.as_str(), "{path}"),
+            Err(_) => assert!(rt; false, "{path}"),
+        }
+    }
+    Ok(())
+}
