@@ -136,12 +136,14 @@ fn an_exception_of_create_is_answered_by_its_error(rt: HostRuntime) -> Result<()
         if cluster.namenodes() == 0 {
             return Err("no namenode".into());
         }
-        match namenode.create(&mut cluster, path, 0o644, *flag, *parents, 1, 8) {
-            Ok(_) => assert_eq!(rt; *wanted, "", "{path}"),
-            Err(HdfsError::AlreadyExists(_)) => assert_eq!(rt; *wanted, "AlreadyExists", "{path}"),
-            Err(HdfsError::RPCError(class, _)) => assert_eq!(rt; *wanted, class.as_str(), "{path}"),
-            Err(_) => assert!(rt; false, "{path}"),
-        }
+        let answer = namenode.create(&mut cluster, path, 0o644, *flag, *parents, 1, 8);
+        let found = match &answer {
+            Ok(_) => "",
+            Err(HdfsError::AlreadyExists(_)) => "AlreadyExists",
+            Err(HdfsError::RPCError(class, _)) => class.as_str(),
+            Err(_) => "another error",
+        };
+        assert_eq!(rt; found, *wanted, "{path}");
     }
     Ok(())
 }
