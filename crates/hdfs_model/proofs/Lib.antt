@@ -1,4 +1,5 @@
 pub mod Asking
+pub mod Completing
 pub mod Folding
 pub mod Frames
 pub mod Loads

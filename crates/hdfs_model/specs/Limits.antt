@@ -1,8 +1,64 @@
--- The limits of what a file is made with.
-use Rattle.std.specs.Prelude.{ℕ, ◌^◌, nat_le, nat_lt, Bool, ◌&&◌, ◌==◌}
+-- The limits of numbers: of files, of the cluster's defaults, of a session's settings, and of what a command asks for.
+use Rattle.std.specs.Prelude.{ℕ, ◌+◌, ◌^◌, nat_le, nat_lt, Bool, true, ◌&&◌, ◌||◌, ◌==◌, Option, Some, None, List, [], ◌∷◌, false}
 use Rattle.hdfs_model.specs.declared.attributes.Attributes.{Attributes}
+use Rattle.hdfs_model.specs.declared.commands.Command.{Command}
+use Rattle.hdfs_model.specs.declared.commands.Command.TheVariants as commands
+use Rattle.hdfs_model.specs.declared.commands.Settings.{Settings}
+use Rattle.hdfs_model.specs.declared.commands.WriteOptions.{WriteOptions}
+use Rattle.hdfs_model.specs.declared.messages.ServerDefaults.{ServerDefaults}
 
 -- permission bits up to 7777 in octal, one replica, a block size from 1 to 2^63 - 1, and no more bytes than one block has
 abbrev pub in_limits : Attributes → ℕ → Bool
 in_limits attributes count =
     nat_le attributes.permission 4095 && (attributes.replication == 1) && nat_le 1 attributes.block_size && nat_lt attributes.block_size (2 ^ 63) && nat_le count attributes.block_size
+
+-- a replication is from 1 to 65,535
+abbrev pub is_replication : ℕ → Bool
+is_replication n = nat_le 1 n && nat_le n 65535
+
+-- a block has from 1 to 2^63 - 1 bytes
+abbrev pub is_block_size : ℕ → Bool
+is_block_size n = nat_le 1 n && nat_lt n (2 ^ 63)
+
+-- a chunk has from 1 to 2^30 bytes, and a packet room for one with its header, or size 0
+abbrev pub are_sizes : ℕ → ℕ → Bool
+are_sizes chunk packet = nat_le 1 chunk && nat_le chunk (2 ^ 30) && ((packet == 0) || (nat_le (chunk + 37) packet && nat_lt packet (2 ^ 31)))
+
+-- permission bits are up to 7777 in octal
+abbrev pub is_permission : ℕ → Bool
+is_permission n = nat_le n 4095
+
+-- a number that is left open is in its limits
+abbrev pub if_given : (ℕ → Bool) → Option ℕ → Bool
+if_given test None = true
+if_given test (Some n) = test n
+
+-- the cluster's defaults are in their limits
+abbrev pub are_defaults : ServerDefaults → Bool
+are_defaults d = is_replication d.replication && is_block_size d.block_size && are_sizes d.bytes_per_checksum d.write_packet_size
+
+-- what is given of the options is in its limits
+abbrev pub are_options : WriteOptions → Bool
+are_options options = is_permission options.permission && if_given is_replication options.replication && if_given is_block_size options.block_size
+
+-- the attributes of a file that is written are in their limits
+abbrev pub are_attributes : Attributes → Bool
+are_attributes attributes = is_replication attributes.replication && is_block_size attributes.block_size
+
+-- a text begins with a slash
+abbrev pub begins_with_slash : List ℕ → Bool
+begins_with_slash [] = false
+begins_with_slash (c ∷ rest) = c == 47
+
+-- the settings of a session are in their limits: its home begins with a slash, and its window is from 1 to 1,000
+abbrev pub are_settings : Settings → Bool
+are_settings settings = begins_with_slash settings.home && nat_le 1 settings.window && nat_le settings.window 1000
+
+-- The numbers that a command brings or uses are in their limits: the options and the defaults where it creates, the defaults
+-- where it appends.
+abbrev pub are_numbers : ServerDefaults → Command → Bool
+are_numbers defaults (commands.Create path options) = are_options options && are_defaults defaults
+are_numbers defaults (commands.Append path) = are_defaults defaults
+are_numbers defaults (commands.Write path bytes) = true
+are_numbers defaults (commands.Close path) = true
+are_numbers defaults (commands.Read path offset len) = true

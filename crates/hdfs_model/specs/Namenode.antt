@@ -1,5 +1,6 @@
 -- What a namenode may answer to an ask, and what its answer does to the picture.
-use Rattle.std.specs.Prelude.{◌≡◌, ◌≢◌, ◌⊎◌, ℕ, ◌+◌, ◌-◌, ◌<◌, ◌≤◌, ◌^◌, ◌==◌, Bool, true, false, length, List, [], ◌∷◌, All, Contains, IfSome, Option, Some, None, Result, Ok, Err, codes}
+use Rattle.std.specs.Prelude.{◌≡◌, ◌≢◌, ◌⊎◌, ℕ, ◌+◌, ◌-◌, ◌<◌, ◌≤◌, ◌^◌, ◌==◌, ◌||◌, Bool, true, false, length, List, [], ◌∷◌, All, Contains, IfSome, Option, Some, None, Result, Ok, Err, codes}
+use Rattle.std.specs.Str.{bytes_eq}
 use Rattle.hdfs_model.specs.declared.messages.LocatedBlock.{LocatedBlock}
 use Rattle.hdfs_model.specs.declared.messages.LocatedBlocks.{LocatedBlocks}
 use Rattle.hdfs_model.specs.declared.asks.Ask.{Ask}
@@ -31,6 +32,10 @@ already_exists = codes "org.apache.hadoop.fs.FileAlreadyExistsException"
 -- the file is open for writing
 abbrev pub being_created : List ℕ
 being_created = codes "org.apache.hadoop.hdfs.protocol.AlreadyBeingCreatedException"
+
+-- the exception says that something stands at the path already, or is being written
+abbrev pub is_taken : List ℕ → Bool
+is_taken class = bytes_eq class already_exists || bytes_eq class being_created
 
 -- nothing stands at the path
 abbrev pub not_found : List ℕ

@@ -9,19 +9,20 @@ use Rattle.hdfs_model.specs.declared.picture.OpenWrite.{OpenWrite}
 use Rattle.hdfs_model.specs.Counts.{Rose}
 use Rattle.hdfs_model.specs.Picture.{Picture, SamePicture, Told}
 use Rattle.hdfs_model.specs.Sending.{Came, Broke, WritePlace, uuids, end_of, seqno_of}
-use Rattle.hdfs_model.specs.Shown.{Shown, Later, IsUnused}
+use Rattle.hdfs_model.specs.Shown.{Shown, Later, SameReadPlaces, IsUnused}
 use Rattle.hdfs_model.specs.Writing.{WritesAt, Starts, Sends, IsBehind, MayBeBehind, Responds, Releases}
 
 -- the datanodes of an open link, by their uuids
 abbrev pub nodes_of : OpenWrite → List (List ℕ)
 nodes_of write = uuids write.setup.locs
 
--- what every call on a write link keeps: what was asked of namenodes, and the read links
+-- what every call on a write link keeps: what was asked of namenodes, and the read links with their places
 pub record OnlyWrites (old new : Shown) : Type 0 where
   pub later : Later old new
   pub last : new.last ≡ old.last
   pub calls : (i : ℕ) → new.counts.calls i ≡ old.counts.calls i
   pub reads : (other : ℕ) → new.reads other ≡ old.reads other
+  pub places : Told (SameReadPlaces old) old.picture new.picture
 
 -- a call that names one write link, and changes nothing else, or nothing at all
 pub record WritesLink (link : ℕ) (old new : Shown) : Type 0 where

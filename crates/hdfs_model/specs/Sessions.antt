@@ -1,37 +1,39 @@
 -- A session's words: when a cluster fits a state of files, what an error spares, and how errors stand for refusals.
-use Rattle.std.specs.Prelude.{◌≡◌, ◌⊎◌, ℕ, ◌+◌, ◌≤◌, Bool, false, List, length, Some, Result, IfErr, MatchResult}
+use Rattle.std.specs.Prelude.{◌≡◌, ◌⊎◌, ℕ, ◌+◌, ◌≤◌, Bool, true, false, not, ◌&&◌, ◌||◌, List, [], ◌∷◌, length, Option, Some, None, is_none, Result, IfErr, MatchResult}
 use Rattle.std.specs.List.{list_any}
 use Rattle.std.specs.Str.{bytes_eq}
 use Rattle.hdfs_model.specs.declared.commands.Command.{Command}
 use Rattle.hdfs_model.specs.declared.commands.Command.TheVariants as commands
+use Rattle.hdfs_model.specs.declared.commands.Reply.{Reply}
+use Rattle.hdfs_model.specs.declared.commands.Settings.{Settings}
+use Rattle.hdfs_model.specs.declared.errors.ArgFault.TheVariants as args
 use Rattle.hdfs_model.specs.declared.errors.Fault.{Fault}
 use Rattle.hdfs_model.specs.declared.errors.HdfsError.{HdfsError}
 use Rattle.hdfs_model.specs.declared.errors.HdfsError.TheVariants as errors
-use Rattle.hdfs_model.specs.declared.commands.Settings.{Settings}
-use Rattle.hdfs_model.specs.Paths.{is_path}
+use Rattle.hdfs_model.specs.declared.messages.ServerDefaults.{ServerDefaults}
+use Rattle.hdfs_model.specs.Paths.{is_path, ancestors}
 use Rattle.hdfs_model.specs.Files.{State, IsState, Writing, Content}
-use Rattle.hdfs_model.specs.Steps.{World, Outcome, Refused, Done, path_of, target_of}
+use Rattle.hdfs_model.specs.Limits.{are_numbers, are_attributes}
+use Rattle.hdfs_model.specs.Picture.{Picture}
+use Rattle.hdfs_model.specs.Steps.{World, Outcome, Refused, Done, path_of, target_of, is_opened, step}
 use Rattle.hdfs_model.specs.Folds.{Folded, Ends, Stops}
 use Rattle.hdfs_model.specs.Shown.{Shown}
 use Rattle.hdfs_model.specs.Causes.{IsKind}
 use Rattle.hdfs_model.specs.Stores.{Agrees}
 
+-- the defaults of a cluster that tells them
+abbrev pub defaults_of : Option Picture → ServerDefaults
+defaults_of None = record { block_size = 0; bytes_per_checksum = 0; write_packet_size = 0; replication = 0; encrypt_data_transfer = false }
+defaults_of (Some picture) = picture.defaults
+
 -- the world of a session with these settings
 abbrev pub world_of : Settings → Shown → World
-world_of settings shown = record { home = settings.home }
-
--- absolute paths that keep the path rule
-abbrev pub has_path : Command → Bool
-has_path command = is_path (path_of command)
+world_of settings shown = record { home = settings.home; defaults = defaults_of shown.picture }
 
 -- The cluster tells its picture, which agrees with the files of the state.
 pub record Fits (shown : Shown) (state : State) : Type 0 where
   pub is_state : IsState state
   pub agrees : Agrees shown.picture state.files
-
--- whether the session of a state has a path open
-abbrev pub is_opened : State → List ℕ → Bool
-is_opened state path = list_any (bytes_eq path) state.opened
 
 -- no path is open
 abbrev pub none_open : List ℕ → Bool
@@ -48,11 +50,65 @@ IsStrange state path = (content : Content) × (state.files path ≡ Some (Writin
 -- the command doesn't read a file that another client is writing
 abbrev pub Avoids : World → State → Command → Type 0
 Avoids world state (commands.Read path offset len) = IsStrange state (target_of world (commands.Read path offset len)) → ⊥
+Avoids world state command = Unit {0}
 
--- whether nothing is said of a path once a command over a state has failed with an error; a command that only reads spares
--- no path
+-- the attributes of the file that a write goes on with are in their limits
+abbrev pub WritesInLimits : State → List ℕ → Command → Type 0
+WritesInLimits state path (commands.Write text bytes) =
+    (content : Content) → state.files path ≡ Some (Writing content) → are_attributes content.attributes ≡ true
+WritesInLimits state path command = Unit {0}
+
+-- what a command brings or uses over a state is in its limits
+pub record IsLimited (world : World) (state : State) (command : Command) : Type 0 where
+  pub numbers : are_numbers world.defaults command ≡ true
+  pub attributes : WritesInLimits state (target_of world command) command
+
+-- the same of each command up to the first that is refused, over the state that those before it leave
+abbrev pub AreLimited : World → State → List Command → Type 0
+AreLimited world state [] = Unit {0}
+AreLimited world state (command ∷ commands) =
+    IsLimited world state command × ((reply : Reply) (next : State) → step world state command ≡ Done reply next → AreLimited world next commands)
+
+-- a write and a close want the path open, all others want it not
+abbrev pub is_misplaced : Command → Bool → Bool
+is_misplaced (commands.Write path bytes) is_open = not is_open
+is_misplaced (commands.Close path) is_open = not is_open
+is_misplaced command is_open = is_open
+
+-- the error says neither of the path rule nor of what the session has open
+abbrev pub IsNotOwed : HdfsError → Type 0
+IsNotOwed (errors.InvalidPath text) = ⊥
+IsNotOwed (errors.InvalidArgument args.State) = ⊥
+IsNotOwed error = Unit {0}
+
+-- the error that is owed where the path rule is broken, or what the session has open
+abbrev pub OwedBy : Bool → Bool → List ℕ → HdfsError → Type 0
+OwedBy false misplaced path error = error ≡ errors.InvalidPath path
+OwedBy true true path error = error ≡ errors.InvalidArgument args.State
+OwedBy true false path error = IsNotOwed error
+
+-- What a command is refused for before anything is asked, exactly: the path rule comes first, then what the session has open.
+-- Want of memory may come instead.
+abbrev pub Owed : World → (List ℕ → Bool) → Command → HdfsError → Type 0
+Owed world opened command error =
+    (error ≡ errors.NoMemory) ⊎ OwedBy (is_path (target_of world command)) (is_misplaced command (opened (target_of world command))) (path_of command) error
+
+-- The paths that a command touches: its own where it writes, and where it creates those above it at which nothing stood. One
+-- that only reads touches none.
+abbrev pub touched : State → List ℕ → Command → List ℕ → Bool
+touched state path (commands.Create text options) q = bytes_eq path q || (is_none (state.files q) && list_any (bytes_eq q) (ancestors path))
+touched state path (commands.Read text offset len) q = false
+touched state path command q = bytes_eq path q
+
+-- whether an error comes before anything is asked that has an effect
+abbrev pub is_before_asking : HdfsError → Bool
+is_before_asking (errors.InvalidPath text) = true
+is_before_asking (errors.InvalidArgument fault) = true
+is_before_asking error = false
+
+-- whether nothing is said of a path once a command over a state has failed with an error
 abbrev pub spared : World → State → Command → HdfsError → List ℕ → Bool
-spared world state (commands.Read text offset len) error path = false
+spared world state command error path = not (is_before_asking error) && touched state (target_of world command) command path
 
 -- Where nothing failed, a command that is not refused is done, and one that is refused answers the error of that kind. Want
 -- of memory may always come.

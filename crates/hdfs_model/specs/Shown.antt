@@ -47,6 +47,15 @@ SameNodes old new = (d : List ℕ) → new.counts.nodes d ≡ old.counts.nodes d
 abbrev pub SameWrites : Picture → Picture → Type 0
 SameWrites old new = (link : ℕ) → new.writes link ≡ old.writes link
 
+-- the places of the read links that are open stay
+abbrev pub SameReadPlaces : Shown → Picture → Picture → Type 0
+SameReadPlaces shown old new = (link : ℕ) → IsSome (shown.reads link) → new.reads link ≡ old.reads link
+
+-- no read link was changed, none was closed, and none is left open
+pub record SameReads (old new : Shown) : Type 0 where
+  pub links : (link : ℕ) → new.reads link ≡ old.reads link
+  pub places : Told (SameReadPlaces old) old.picture new.picture
+
 -- the places of the read links that are open stay, and the write links
 abbrev pub SamePlaces : Shown → Picture → Picture → Type 0
 SamePlaces shown old new = ((link : ℕ) → IsSome (shown.reads link) → new.reads link ≡ old.reads link) × SameWrites old new

@@ -1,6 +1,8 @@
 //! The attributes of a file.
 ghost use Rattle.std.specs.Prelude.{◌≡◌};
 
+use crate::limits::{MAX_BLOCK_SIZE, MAX_PERMISSION};
+
 /// What a file is made with: its permission bits, its replication, and the size of its blocks in bytes.
 #[derive(Clone, Copy, Debug, PartialEq, Eq)]
 pub struct Attributes {
@@ -8,12 +10,6 @@ pub struct Attributes {
     pub replication: u32,
     pub block_size: u64,
 }
-
-/// The greatest permission, 7777 in octal.
-const MAX_PERMISSION: u32 = 0o7777;
-
-/// The greatest block size in bytes, 2^63 - 1.
-const MAX_BLOCK_SIZE: u64 = i64::MAX as u64;
 
 impl Attributes {
     ghost use Rattle.hdfs_model.specs.Limits.{in_limits};

@@ -1,21 +1,156 @@
 //! Commands of a session, and their replies.
+ghost use Rattle.std.specs.Prelude.{◌≡◌, Some, None, true, false};
+ghost use Rattle.hdfs_model.specs.Limits.{are_options, are_settings};
+
+use crate::limits::{is_block_size, is_permission, is_replication};
 use hdfs_wire::{Blob, Text};
 
-/// What a session is run with. `home` is the directory under which relative paths stand.
+/// What a session is run with. `home` is the directory under which relative paths stand, `client` are the sixteen bytes of the
+/// client's name, and of a block at most `window` packets wait for their acknowledgement, from 1 to 1,000.
 #[derive(Debug, Drop)]
 pub struct Settings {
     pub home: Text,
+    pub client: [u8; 16],
+    pub window: u32,
 }
 
-/// One command of a session.
+/// How many packets of a block may wait at most.
+const MAX_WINDOW: u32 = 1_000;
+
+impl Settings {
+    /// Whether the settings are in their limits: the home begins with a slash, and the window is from 1 to 1,000.
+    pub fn are_limited(&self) -> bool
+        ensures { result ≡ are_settings self.now }
+    {
+        self.home.as_str().as_bytes().first() == Some(&b'/')
+            && self.window >= 1
+            && self.window <= MAX_WINDOW
+    }
+}
+
+/// How a file is created: its permission bits, up to 7777 in octal; its block size in bytes, from 1 to 2^63 - 1, and its
+/// replication, from 1 to 65,535, where they aren't the cluster's defaults; whether an older file is overwritten, and whether
+/// directories that aren't there are made (upstream's `WriteOptions`).
+#[derive(Clone, Copy, Debug, PartialEq, Eq)]
+pub struct WriteOptions {
+    pub block_size: Option<u64>,
+    pub replication: Option<u32>,
+    pub permission: u32,
+    pub overwrite: bool,
+    pub create_parent: bool,
+}
+
+/// The permission bits of a file that says none, 644 in octal.
+const DEFAULT_PERMISSION: u32 = 0o644;
+
+impl WriteOptions {
+    /// The cluster's block size and replication, permission 644 in octal, no older file, and directories are made.
+    pub fn default() -> WriteOptions
+        ensures { result ≡ record { block_size = None; replication = None; permission = 420; overwrite = false; create_parent = true } }
+    {
+        WriteOptions {
+            block_size: None,
+            replication: None,
+            permission: DEFAULT_PERMISSION,
+            overwrite: false,
+            create_parent: true,
+        }
+    }
+
+    /// Whether what is given is in its limits.
+    pub fn are_limited(&self) -> bool
+        ensures { result ≡ are_options self.now }
+    {
+        let replication = match self.replication {
+            Some(replication) => is_replication(replication),
+            None => true,
+        };
+        let block_size = match self.block_size {
+            Some(block_size) => is_block_size(block_size),
+            None => true,
+        };
+        is_permission(self.permission) && replication && block_size
+    }
+
+    pub fn block_size(self, block_size: u64) -> WriteOptions
+        ensures { result ≡ record self { block_size = Some block_size } }
+    {
+        WriteOptions {
+            block_size: Some(block_size),
+            ..self
+        }
+    }
+
+    pub fn replication(self, replication: u32) -> WriteOptions
+        ensures { result ≡ record self { replication = Some replication } }
+    {
+        WriteOptions {
+            replication: Some(replication),
+            ..self
+        }
+    }
+
+    pub fn permission(self, permission: u32) -> WriteOptions
+        ensures { result ≡ record self { permission = permission } }
+    {
+        WriteOptions { permission, ..self }
+    }
+
+    pub fn overwrite(self, overwrite: bool) -> WriteOptions
+        ensures { result ≡ record self { overwrite = overwrite } }
+    {
+        WriteOptions { overwrite, ..self }
+    }
+
+    pub fn create_parent(self, create_parent: bool) -> WriteOptions
+        ensures { result ≡ record self { create_parent = create_parent } }
+    {
+        WriteOptions {
+            create_parent,
+            ..self
+        }
+    }
+}
+
+/// One command of a session. Its path is absolute, or stands under the session's home.
 #[derive(Debug, Drop)]
 pub enum Command {
-    /// Reads `len` bytes from `offset` of the file at `path`.
+    /// Creates a file, and opens it.
+    Create { path: Text, options: WriteOptions },
+    /// Opens the closed file at `path`, to be gone on with.
+    Append { path: Text },
+    /// Puts bytes behind those of the open file at `path`.
+    Write { path: Text, bytes: Blob },
+    /// Closes the open file at `path`.
+    Close { path: Text },
+    /// Reads `len` bytes from `offset` of the closed file at `path`.
     Read { path: Text, offset: u64, len: u64 },
+}
+
+impl Command {
+    ghost use Rattle.hdfs_model.specs.Steps.{path_of};
+
+    /// The path that the command names, as it is written.
+    pub fn path(&self) -> &Text
+        ensures { result.now ≡ path_of self.now }
+    {
+        match self {
+            Command::Create { path, .. }
+            | Command::Append { path }
+            | Command::Write { path, .. }
+            | Command::Close { path }
+            | Command::Read { path, .. } => path,
+        }
+    }
 }
 
 /// The reply to the command of the same kind.
 #[derive(Debug, Drop)]
 pub enum Reply {
+    Created,
+    Appended,
+    /// How many bytes were written.
+    Written { bytes: u64 },
+    Closed,
     Bytes { bytes: Blob },
 }

@@ -35,6 +35,18 @@ pub enum TransferFault {
 /// Why an argument is refused.
 #[derive(Debug, Drop, Error)]
 pub enum ArgFault {
+    /// The session has the path open where the command wants it closed, or hasn't where it wants it open.
+    #[error("the path is open, or isn't")]
+    State,
+    /// A setting of the session is out of its limits.
+    #[error("a setting is out of its limits")]
+    Settings,
+    /// An option of the command, or an attribute of the file, is out of its limits.
+    #[error("an option is out of its limits")]
+    Options,
+    /// The cluster's defaults are out of their limits.
+    #[error("the server's defaults are out of their limits")]
+    Defaults,
     /// `offset + len` is above the file's `length`.
     #[error("{len} bytes from offset {offset} on end behind the file's {length}")]
     Range { offset: u64, len: u64, length: u64 },
@@ -52,6 +64,9 @@ pub enum HdfsError {
     IOError(IoFault),
     #[error("data transfer error: {}", .0.name())]
     DataTransferError(TransferFault),
+    /// The path breaks the path rule. The path as it was given.
+    #[error("invalid path: {}", .0.as_str())]
+    InvalidPath(Text),
     #[error("invalid argument: {}", .0.name())]
     InvalidArgument(ArgFault),
     /// Something stands at the path already, or is being written. The namenode's message.
@@ -103,6 +118,10 @@ impl ArgFault {
     // The name of the variant, which the text of an `HdfsError` shows.
     fn name(&self) -> &'static str {
         match self {
+            ArgFault::State => "State",
+            ArgFault::Settings => "Settings",
+            ArgFault::Options => "Options",
+            ArgFault::Defaults => "Defaults",
             ArgFault::Range { .. } => "Range",
         }
     }

@@ -6,6 +6,7 @@ mod attributes;
 mod cluster;
 mod commands;
 mod errors;
+mod limits;
 mod messages;
 mod picture;
 mod store;
@@ -13,9 +14,10 @@ mod store;
 pub use asks::{Answer, Ask, AskFault, LinkFault};
 pub use attributes::Attributes;
 pub use cluster::Cluster;
-pub use commands::{Command, Reply, Settings};
+pub use commands::{Command, Reply, Settings, WriteOptions};
 pub use errors::{ArgFault, Fault, HdfsError, IoFault, TransferFault};
 pub use hdfs_names::{absolute_path, is_path, nearest_ancestor, parent_of};
+pub use limits::{is_block_size, is_permission, is_replication};
 pub use messages::{
     Appended, Block, DatanodeId, DatanodeInfo, FileStatusMsg, LocatedBlock, LocatedBlocks, ReadAsk,
     ServerDefaults, Setup, Stage, Token,

@@ -1,0 +1,66 @@
+-- Where nothing failed and the numbers are in their limits, an error of a command is that of its refusal, or want of memory.
+use Rattle.std.proofs.Common.{◌≡◌, ◌⊎◌, ⊎_elim, inl, inr, ℕ, ◌<◌, Bool, true, false, ◌&&◌, List, refl, sym, ◌∙◌, subst}
+use Rattle.std.proofs.lemmas.Bool.{false≢true}
+use Rattle.hdfs_model.specs.declared.commands.Command.{Command}
+use Rattle.hdfs_model.specs.declared.commands.Command.TheVariants as commands
+use Rattle.hdfs_model.specs.declared.errors.ArgFault.TheVariants as args
+use Rattle.hdfs_model.specs.declared.errors.HdfsError.{HdfsError}
+use Rattle.hdfs_model.specs.declared.errors.HdfsError.TheVariants as errors
+use Rattle.hdfs_model.specs.declared.errors.IoFault.TheVariants as io_faults
+use Rattle.hdfs_model.specs.declared.errors.TransferFault.TheVariants as transfer
+use Rattle.hdfs_model.specs.Causes.{Cause, CommandLost, OptionsOut, UsesDefaults}
+use Rattle.hdfs_model.specs.Counts.{NoneRose, Rose}
+use Rattle.hdfs_model.specs.Files.{State}
+use Rattle.hdfs_model.specs.Limits.{are_numbers, are_options, are_defaults}
+use Rattle.hdfs_model.specs.Sessions.{Answers, IsLimited, WritesInLimits}
+use Rattle.hdfs_model.specs.Shown.{Shown}
+use Rattle.hdfs_model.specs.Steps.{World, Outcome, Refused, Done, Refusal, BadPath, WrongState, Exists, Lacks, BadRange, step, target_of}
+
+both_true : (a b : Bool) → (a && b) ≡ true → (a ≡ true) × (b ≡ true)
+both_true true b both = (refl, both)
+both_true false b both = absurd (false≢true both)
+
+options_in : (world : World) (state : State) (path : List ℕ) (command : Command) → are_numbers world.defaults command ≡ true → WritesInLimits state path command → OptionsOut state path command → ⊥
+options_in world state path (commands.Create text options) numbers keeps out = false≢true (sym out ∙ (both_true (are_options options) (are_defaults world.defaults) numbers).0)
+options_in world state path (commands.Write text bytes) numbers keeps out = false≢true (sym out.2 ∙ keeps out.0 out.1)
+options_in world state path (commands.Append text) numbers keeps out = out
+options_in world state path (commands.Close text) numbers keeps out = out
+options_in world state path (commands.Read text offset len) numbers keeps out = out
+
+defaults_in : (world : World) (command : Command) → are_numbers world.defaults command ≡ true → UsesDefaults command → are_defaults world.defaults ≡ false → ⊥
+defaults_in world (commands.Create text options) numbers uses out = false≢true (sym out ∙ (both_true (are_options options) (are_defaults world.defaults) numbers).1)
+defaults_in world (commands.Append text) numbers uses out = false≢true (sym out ∙ numbers)
+defaults_in world (commands.Write text bytes) numbers uses out = uses
+defaults_in world (commands.Close text) numbers uses out = uses
+defaults_in world (commands.Read text offset len) numbers uses out = uses
+
+memory_answers : (outcome : Outcome) → Answers outcome errors.NoMemory
+memory_answers (Done reply next) = refl
+memory_answers (Refused why) = inl refl
+
+module _ (world : World) (state : State) (command : Command) (old new : Shown) (size : new.namenodes ≡ old.namenodes) (limited : IsLimited world state command) (none : NoneRose old.namenodes old.counts new.counts)
+    (found : (byte : ℕ) → CommandLost old.counts new (target_of world command) command byte → ⊥) where
+  at_refusal : (why : Refusal) (error : HdfsError) → step world state command ≡ Refused why → Answers (Refused why) error → Answers (step world state command) error
+  at_refusal why error is h = subst (λ (o : Outcome). Answers o error) (sym is) h
+
+  none_called : (i : ℕ) → i < new.namenodes → Rose (old.counts.calls i) (new.counts.calls i) → ⊥
+  none_called i below rose = none.calls i (subst (λ (n : ℕ). i < n) size below) rose
+
+  pub cause_completes : (error : HdfsError) → Cause world state command old new error → Answers (step world state command) error
+  cause_completes errors.NoMemory h = memory_answers (step world state command)
+  cause_completes errors.Failed h = absurd h
+  cause_completes (errors.IOError io_faults.Link) h = absurd (none.links h.1)
+  cause_completes (errors.DataTransferError (transfer.Read byte)) h = absurd (found byte h.1)
+  cause_completes (errors.DataTransferError transfer.Setup) h = absurd (none.links h.1)
+  cause_completes (errors.DataTransferError transfer.AllNodes) h = (let f = h.1.failed in absurd (none.nodes f.1 f.4))
+  cause_completes (errors.DataTransferError (transfer.BadAck seqno)) h = absurd (none.links h.1)
+  cause_completes (errors.InvalidPath text) h = at_refusal BadPath (errors.InvalidPath text) h (inr tt)
+  cause_completes (errors.InvalidArgument args.State) h = at_refusal WrongState (errors.InvalidArgument args.State) h (inr tt)
+  cause_completes (errors.InvalidArgument args.Settings) h = absurd h
+  cause_completes (errors.InvalidArgument args.Options) h = absurd (options_in world state (target_of world command) command limited.numbers limited.attributes h)
+  cause_completes (errors.InvalidArgument args.Defaults) h = absurd (defaults_in world command limited.numbers h.0 h.1)
+  cause_completes (errors.InvalidArgument (args.Range offset len n)) h = at_refusal BadRange (errors.InvalidArgument (args.Range offset len n)) h.0 (inr tt)
+  cause_completes (errors.AlreadyExists message) h = ⊎_elim (λ is. at_refusal Exists (errors.AlreadyExists message) is (inr tt)) (λ rose. absurd (none_called rose.0 rose.1 rose.2)) h
+  cause_completes (errors.OperationFailed name) h = absurd (none_called h.1.0 h.1.1 h.1.2)
+  cause_completes (errors.FileNotFound name) h = at_refusal (Lacks h.0) (errors.FileNotFound name) h.1 (inr tt)
+  cause_completes (errors.RPCError class message) h = ⊎_elim (λ is. at_refusal (Lacks is.0) (errors.RPCError class message) is.1 (inr tt)) (λ rose. absurd (none_called rose.0 rose.1 rose.2)) h
