@@ -1,16 +1,20 @@
-//! The files as a map.
-ghost use Rattle.std.specs.Prelude.{◌≡◌, ℕ, List as Items, Some, None, true, false, ◌↔◌, IfOk, IsTrue, MatchBool, ◌&&◌, is_none, option_copied, option_map};
+//! The files as a map, and the paths that are open.
+ghost use Rattle.std.specs.Prelude.{◌≡◌, ◌++◌, ℕ, List as Items, Some, None, true, false, ◌↔◌, IfOk, IsTrue, MatchBool, ◌&&◌, is_none, option_copied, option_map};
 ghost use Rattle.std.specs.List.{list_any};
 ghost use Rattle.std.specs.BTreeMap.{get_by_text};
 ghost use Rattle.hdfs_model.specs.Files as spec;
 ghost use Rattle.hdfs_model.specs.Loading.{takes, is_directory, with_line};
 ghost use Rattle.hdfs_model.specs.Paths.{ancestors, parent_of};
-ghost use Rattle.hdfs_plain.specs.Plain.{Holds, files_of, is_free};
+ghost use Rattle.hdfs_model.specs.Steps.{read_content};
+ghost use Rattle.hdfs_plain.specs.declared.files.PlainFiles.{PlainFiles};
+ghost use Rattle.hdfs_plain.specs.Answers.{Comes};
+ghost use Rattle.hdfs_plain.specs.Plain.{Holds, content_in, files_of, has_open, is_free};
 
-use hdfs_model::{Attributes, Line, is_path, nearest_ancestor, parent_of};
+use crate::outcome::{PlainOutcome, PlainRefusal};
+use hdfs_model::{Attributes, Line, Reply, is_path, nearest_ancestor, parent_of};
 use hdfs_wire::{Blob, NoMemory};
 use std::alloc::Global;
-use std::collections::BTreeMap;
+use std::collections::{BTreeMap, BTreeSet};
 
 /// A file: its bytes and its attributes.
 #[derive(Drop)]
@@ -19,37 +23,90 @@ pub struct PlainFile {
     pub attributes: Attributes,
 }
 
-/// What stands at a path.
+/// What stands at a path: a directory, a closed file, or one that is being written.
 #[derive(Drop)]
 pub enum PlainNode {
     Dir,
     File(PlainFile),
+    Writing(PlainFile),
 }
 
-/// Files in memory.
+/// Files in memory, and the paths that the session has open.
 #[derive(Drop)]
 pub struct PlainFiles {
     pub alloc: Global,
     pub nodes: BTreeMap<String, PlainNode>,
+    pub opened: BTreeSet<String>,
+}
+
+impl PlainFile {
+    /// The same file with more bytes behind its own.
+    pub(crate) fn with_more(&self, alloc: Global, more: &[u8]) -> Result<PlainFile, NoMemory>
+        ensures { IfOk result (λ file. content_in file ≡ record (content_in self.now) { bytes = self.now.bytes ++ more.now }) }
+    {
+        let mut bytes = Vec::from_slice(alloc, self.bytes.as_slice())?;
+        bytes.extend_from_slice(more)?;
+        Ok(PlainFile {
+            bytes: Blob::from_vec(bytes),
+            attributes: self.attributes,
+        })
+    }
+
+    /// The bytes of a range, where it ends within the file.
+    pub(crate) fn range(
+        &self,
+        alloc: Global,
+        offset: u64,
+        len: u64,
+    ) -> Result<PlainOutcome, NoMemory>
+        ensures { IfOk result (λ outcome. (state : spec.State) (files : PlainFiles) → Holds files state
+            → Comes outcome (read_content state (Some (content_in self.now)) offset len) state files) }
+    {
+        let bytes = self.bytes.as_slice();
+        let count = bytes.len() as u64;
+        if offset > count || len > count - offset {
+            return Ok(PlainOutcome::Refused(PlainRefusal::BadRange));
+        }
+        let from = offset as usize;
+        let bytes = Vec::from_slice(alloc, &bytes[from..from + len as usize])?;
+        Ok(PlainOutcome::Done(Reply::Bytes {
+            bytes: Blob::from_vec(bytes),
+        }))
+    }
+
+    /// The same file in memory of its own.
+    pub(crate) fn copy(&self, alloc: Global) -> Result<PlainFile, NoMemory>
+        ensures { IfOk result (λ file. content_in file ≡ content_in self.now) }
+    {
+        Ok(PlainFile {
+            bytes: self.bytes.copy(alloc)?,
+            attributes: self.attributes,
+        })
+    }
 }
 
 impl PlainFiles {
-    /// The root alone.
+    /// The root alone, and nothing open.
     pub fn new(alloc: Global) -> Result<PlainFiles, NoMemory>
-        ensures { IfOk result (λ files. Holds (get_by_text files.nodes) spec.empty_state) }
+        ensures { IfOk result (λ files. Holds files spec.empty_state) }
     {
         let mut nodes = BTreeMap::new(alloc);
         nodes.insert(String::from_str(alloc, "/")?, PlainNode::Dir)?;
-        Ok(PlainFiles { alloc, nodes })
+        let opened = BTreeSet::new(alloc);
+        Ok(PlainFiles {
+            alloc,
+            nodes,
+            opened,
+        })
     }
 
     /// Whether a file stands above a path.
     pub fn has_file_above(&self, path: &str) -> bool
-        ensures { result ≡ list_any (λ a. spec.is_file (spec.kinds_of (files_of (get_by_text self.now.nodes)) a)) (ancestors path.now) }
+        ensures { result ≡ list_any (λ a. spec.is_file (spec.kinds_of (files_of self.now) a)) (ancestors path.now) }
     {
         let mut rest = path;
         'up: while let Some(front) = nearest_ancestor(rest) {
-            if let Some(PlainNode::File(_)) = self.nodes.get(front) {
+            if self.is_file(front) {
                 return true;
             }
             rest = front;
@@ -57,9 +114,25 @@ impl PlainFiles {
         false
     }
 
+    fn is_file(&self, path: &str) -> bool
+        ensures { result ≡ spec.is_file (spec.kinds_of (files_of self.now) path.now) }
+    {
+        match self.nodes.get(path) {
+            None | Some(PlainNode::Dir) => false,
+            Some(PlainNode::File(_)) | Some(PlainNode::Writing(_)) => true,
+        }
+    }
+
+    /// Whether the session has a path open.
+    pub(crate) fn has_open(&self, path: &str) -> bool
+        ensures { result ≡ has_open self.now path.now }
+    {
+        self.opened.contains(path)
+    }
+
     /// Whether a line may be loaded.
     pub fn takes(&self, line: &Line) -> bool
-        ensures { result ≡ takes (files_of (get_by_text self.now.nodes)) line.now }
+        ensures { result ≡ takes (files_of self.now) line.now }
     {
         match line {
             Line::File {
@@ -74,13 +147,14 @@ impl PlainFiles {
     }
 
     fn is_free(&self, path: &str) -> bool
-        ensures { result ≡ is_free (files_of (get_by_text self.now.nodes)) path.now }
+        ensures { result ≡ is_free (files_of self.now) path.now }
     {
         is_path(path) && self.is_absent(path) && self.is_directory(parent_of(path))
     }
 
-    fn is_absent(&self, path: &str) -> bool
-        ensures { result ≡ is_none (files_of (get_by_text self.now.nodes) path.now) }
+    /// Whether nothing stands at a path.
+    pub(crate) fn is_absent(&self, path: &str) -> bool
+        ensures { result ≡ is_none (files_of self.now path.now) }
     {
         match self.nodes.get(path) {
             Some(_) => false,
@@ -89,15 +163,17 @@ impl PlainFiles {
     }
 
     fn is_directory(&self, path: &str) -> bool
-        ensures { result ≡ is_directory (files_of (get_by_text self.now.nodes) path.now) }
+        ensures { result ≡ is_directory (files_of self.now path.now) }
     {
-        matches!(self.nodes.get(path), Some(PlainNode::Dir))
+        match self.nodes.get(path) {
+            Some(PlainNode::Dir) => true,
+            None | Some(PlainNode::File(_)) | Some(PlainNode::Writing(_)) => false,
+        }
     }
 
     /// Loads a line that may be loaded.
     pub fn load(&mut self, line: Line) -> Result<(), NoMemory>
-        ensures { IfOk result (λ done. (state : spec.State) → Holds (get_by_text self.old.nodes) state
-            → Holds (get_by_text self.new.nodes) (with_line state line)) }
+        ensures { IfOk result (λ done. (state : spec.State) → Holds self.old state → Holds self.new (with_line state line)) }
     {
         match line {
             Line::File {

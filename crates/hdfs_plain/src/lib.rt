@@ -2,7 +2,12 @@
 #![tactic(auto)]
 
 mod files;
+mod outcome;
 mod running;
+#[cfg(test)]
+mod tests;
+mod writing;
 
 pub use files::{PlainFile, PlainFiles, PlainNode};
-pub use running::{PlainFold, PlainOutcome, PlainRefusal, run};
+pub use outcome::{PlainOutcome, PlainRefusal};
+pub use running::{PlainFold, PlainWorld, run};

@@ -1,44 +1,23 @@
 //! Commands one after another.
-ghost use Rattle.std.specs.Prelude.{◌≡◌, ◌++◌, ◌∷◌, [], ℕ, List as Items, take, Option, Some, None, IfOk, string_bytes, option_map};
-ghost use Rattle.std.specs.BTreeMap.{get_by_text};
-ghost use Rattle.hdfs_model.specs.Files as spec;
+ghost use Rattle.std.specs.Prelude.{◌≡◌, ◌++◌, ◌∷◌, [], ℕ, Bool, true, false, not, List as Items, take, Option, Some, None, IfOk, string_bytes, option_map};
 ghost use Rattle.hdfs_model.specs.Files.{State};
 ghost use Rattle.hdfs_model.specs.Folds.{fold};
-ghost use Rattle.hdfs_model.specs.Steps.{step, read_file, read_content};
-ghost use Rattle.hdfs_plain.specs.Plain.{Holds, files_of};
-ghost use Rattle.hdfs_plain.specs.Answers.{refusal_of, outcome_of, folded_of};
+ghost use Rattle.hdfs_model.specs.Sessions as sessions;
+ghost use Rattle.hdfs_model.specs.Steps as spec;
+ghost use Rattle.hdfs_model.specs.Steps.{step, step_at};
+ghost use Rattle.hdfs_plain.specs.Plain.{Holds};
+ghost use Rattle.hdfs_plain.specs.Answers.{Comes, refusal_of, folded_of, world_of};
 
-use crate::files::{PlainFiles, PlainNode};
-use hdfs_model::{Command, Reply, absolute_path, is_path};
-use hdfs_wire::{Blob, List, NoMemory};
-use std::alloc::Global;
-use thiserror::Error;
+use crate::files::PlainFiles;
+use crate::outcome::{PlainOutcome, PlainRefusal};
+use hdfs_model::{Command, Reply, ServerDefaults, absolute_path, is_path};
+use hdfs_wire::{List, NoMemory, Text};
 
-/// Why a command is refused.
-#[derive(Clone, Copy, Debug, PartialEq, Eq, Error)]
-pub enum PlainRefusal {
-    /// The path breaks the path rule.
-    #[error("the path breaks the path rule")]
-    BadPath,
-    /// A file stands above the path.
-    #[error("a file stands above the path")]
-    NotDirectory,
-    /// Nothing stands at the path.
-    #[error("nothing stands at the path")]
-    Missing,
-    /// A directory stands at the path.
-    #[error("a directory stands at the path")]
-    NotFile,
-    /// The range ends behind the file.
-    #[error("the range ends behind the file")]
-    BadRange,
-}
-
-/// What a command answers. None of today's commands changes a file.
+/// What commands take beside the files: the directory under which relative paths stand, and the cluster's defaults.
 #[derive(Drop)]
-pub enum PlainOutcome {
-    Refused(PlainRefusal),
-    Done(Reply),
+pub struct PlainWorld {
+    pub home: Text,
+    pub defaults: ServerDefaults,
 }
 
 /// The replies up to the first command that is refused, and why it is.
@@ -48,71 +27,78 @@ pub struct PlainFold {
     pub refused: Option<PlainRefusal>,
 }
 
-fn read(
-    alloc: Global,
-    files: &PlainFiles,
-    path: &str,
-    offset: u64,
-    len: u64,
-) -> Result<PlainOutcome, NoMemory>
-    ensures { IfOk result (λ outcome. (state : State) → Holds (get_by_text files.now.nodes) state
-        → outcome_of outcome state ≡ read_file state path.now (spec.no_file (spec.kinds_of state.files) path.now) offset len) }
+// Whether a command wants a path closed that is open, or open that isn't.
+fn is_misplaced(command: &Command, is_open: bool) -> bool
+    ensures { result ≡ sessions.is_misplaced command.now is_open }
 {
-    if files.has_file_above(path) {
-        return Ok(PlainOutcome::Refused(PlainRefusal::NotDirectory));
-    }
-    match files.nodes.get(path) {
-        None => Ok(PlainOutcome::Refused(PlainRefusal::Missing)),
-        Some(PlainNode::Dir) => Ok(PlainOutcome::Refused(PlainRefusal::NotFile)),
-        Some(PlainNode::File(file)) => range(alloc, file.bytes.as_slice(), offset, len),
+    match command {
+        Command::Write { .. } | Command::Close { .. } => !is_open,
+        Command::Create { .. } | Command::Append { .. } | Command::Read { .. } => is_open,
     }
 }
 
-fn range(alloc: Global, bytes: &[u8], offset: u64, len: u64) -> Result<PlainOutcome, NoMemory>
-    ensures { IfOk result (λ outcome. (state : State) (content : spec.Content) → content.bytes ≡ bytes.now
-        → outcome_of outcome state ≡ read_content state (Some content) offset len) }
+// Does a command at its path.
+fn run_at(
+    world: &PlainWorld,
+    files: &mut PlainFiles,
+    path: &str,
+    command: &Command,
+) -> Result<PlainOutcome, NoMemory>
+    ensures { IfOk result (λ outcome. (state : State) → Holds files.old state
+        → Comes outcome (step_at (world_of world.now) state path.now command.now) state files.new) }
 {
-    let count = bytes.len() as u64;
-    if offset > count || len > count - offset {
-        return Ok(PlainOutcome::Refused(PlainRefusal::BadRange));
+    if is_misplaced(command, files.has_open(path)) {
+        return Ok(PlainOutcome::Refused(PlainRefusal::WrongState));
     }
-    let from = offset as usize;
-    let bytes = Vec::from_slice(alloc, &bytes[from..from + len as usize])?;
-    Ok(PlainOutcome::Done(Reply::Bytes {
-        bytes: Blob::from_vec(bytes),
-    }))
+    match command {
+        Command::Create { options, .. } => Ok(files.create(world, path, options)?),
+        Command::Append { .. } => Ok(files.append(path)?),
+        Command::Write { bytes, .. } => Ok(files.write(path, bytes.as_slice())?),
+        Command::Close { .. } => Ok(files.close(path)?),
+        Command::Read { offset, len, .. } => Ok(files.read(path, *offset, *len)?),
+    }
+}
+
+// The path that a command names, as it is written.
+fn path_of(command: &Command) -> &str
+    ensures { result.now ≡ spec.path_of command.now }
+{
+    match command {
+        Command::Create { path, .. } => path.as_str(),
+        Command::Append { path } => path.as_str(),
+        Command::Write { path, .. } => path.as_str(),
+        Command::Close { path } => path.as_str(),
+        Command::Read { path, .. } => path.as_str(),
+    }
 }
 
 fn run_one(
-    alloc: Global,
-    home: &str,
-    files: &PlainFiles,
+    world: &PlainWorld,
+    files: &mut PlainFiles,
     command: &Command,
 ) -> Result<PlainOutcome, NoMemory>
-    ensures { IfOk result (λ outcome. (state : State) → Holds (get_by_text files.now.nodes) state
-        → outcome_of outcome state ≡ step (record { home = home.now }) state command.now) }
+    ensures { IfOk result (λ outcome. (state : State) → Holds files.old state
+        → Comes outcome (step (world_of world.now) state command.now) state files.new) }
 {
-    let Command::Read { path, offset, len } = command;
-    let path = absolute_path(alloc, home, path.as_str())?;
+    let path = absolute_path(files.alloc, world.home.as_str(), path_of(command))?;
     if !is_path(path.as_str()) {
         return Ok(PlainOutcome::Refused(PlainRefusal::BadPath));
     }
-    read(alloc, files, path.as_str(), *offset, *len)
+    Ok(run_at(world, files, path.as_str(), command)?)
 }
 
 /// Runs commands in order up to the first that is refused: the fold.
 pub fn run(
-    alloc: Global,
-    home: &str,
-    files: &PlainFiles,
+    world: &PlainWorld,
+    files: &mut PlainFiles,
     commands: &[Command],
 ) -> Result<PlainFold, NoMemory>
-    ensures { IfOk result (λ answer. (state : State) → Holds (get_by_text files.now.nodes) state
-        → folded_of answer state ≡ fold (record { home = home.now }) state commands.now) }
+    ensures { IfOk result (λ answer. (state : State) → Holds files.old state
+        → (last : State) × (fold (world_of world.now) state commands.now ≡ folded_of answer last) × Holds files.new last) }
 {
-    let mut replies = Vec::new(alloc);
+    let mut replies = Vec::new(files.alloc);
     for command in commands {
-        match run_one(alloc, home, files, command)? {
+        match run_one(world, files, command)? {
             PlainOutcome::Done(reply) => replies.push(reply)?,
             PlainOutcome::Refused(why) => {
                 return Ok(PlainFold {

@@ -1,7 +1,6 @@
 use Rattle.std.proofs.Common.{◌≡◌, length}
 use Rattle.std.specs.List.{list_any}
 use Rattle.std.specs.Str.{IsUtf8}
-use Rattle.std.specs.BTreeMap.{get_by_text}
 use Rattle.hdfs_model.specs.Files.{is_file, kinds_of}
 use Rattle.hdfs_model.specs.Paths.{ancestors}
 use Rattle.hdfs_plain.specs.Plain.{files_of}
@@ -10,7 +9,7 @@ use Rattle.hdfs_plain.proofs.files.PlainFiles.has_file_above.Given as goal
 abbrev pub invariant-up : goal.invariant-up
 invariant-up l = record {
   text : IsUtf8 l.rest;
-  same : list_any (λ a. is_file (kinds_of (files_of (get_by_text l.self.nodes)) a)) (ancestors l.fn.path) ≡ list_any (λ a. is_file (kinds_of (files_of (get_by_text l.self.nodes)) a)) (ancestors l.rest);
+  same : list_any (λ a. is_file (kinds_of (files_of l.self) a)) (ancestors l.fn.path) ≡ list_any (λ a. is_file (kinds_of (files_of l.self) a)) (ancestors l.rest);
 }
 
 abbrev pub decreases-up : goal.decreases-up
