@@ -1,6 +1,5 @@
 pub mod HalfLemmas
 pub mod NumberLemmas
 pub mod ParseLemmas
-pub mod PathLemmas
 pub mod PrintLemmas
 pub mod WordLemmas

@@ -7,7 +7,8 @@ use Rattle.std.proofs.lemmas.Str.Ascii.{IsAscii-nil, IsAscii-cons}
 use Rattle.std.proofs.lemmas.Bool.Decides.{nat_tests}
 use Rattle.hdfs_script.specs.declared.entry.Entry.{Entry}
 use Rattle.hdfs_script.specs.declared.entry.Entry.TheVariants.{Bad}
-use Rattle.hdfs_script.specs.Entries.{is_word, words_entry, ascii_entry, entry_of}
+use Rattle.hdfs_script.specs.Entries.{words_entry, ascii_entry, entry_of}
+use Rattle.hdfs_script.specs.Words.{is_word}
 
 -- printable bytes are ASCII
 pub IsAscii-from_printable : (text : List ℕ) → list_all (λ c. nat_le 33 c && nat_le c 126) text ≡ true → IsAscii text
@@ -20,19 +21,21 @@ printable_from_word text h = grind (arith, nat_tests)
 pub IsUtf8-from_word : (text : List ℕ) → is_word text ≡ true → IsUtf8 text
 IsUtf8-from_word text h = IsUtf8-from_ascii text (IsAscii-from_printable text (printable_from_word text h))
 
--- a line of neither five nor six words
-pub words_entry_other : {X : Type 0} (now : X → List ℕ) (words : List X) → length words ≢ 5 → length words ≢ 6 → Bad ≡ words_entry (map now words)
-words_entry_other now [] five six = refl
-words_entry_other now (a ∷ []) five six = refl
-words_entry_other now (a ∷ b ∷ []) five six = refl
-words_entry_other now (a ∷ b ∷ c ∷ []) five six = refl
-words_entry_other now (a ∷ b ∷ c ∷ d ∷ []) five six = refl
-words_entry_other now (a ∷ b ∷ c ∷ d ∷ e ∷ []) five six = absurd (five refl)
-words_entry_other now (a ∷ b ∷ c ∷ d ∷ e ∷ f ∷ []) five six = absurd (six refl)
-words_entry_other now (a ∷ b ∷ c ∷ d ∷ e ∷ f ∷ g ∷ rest) five six = refl
+-- a line of as many words as no line has
+pub words_entry_other : {X : Type 0} (now : X → List ℕ) (words : List X) → length words ≢ 3 → length words ≢ 4 → length words ≢ 5 → length words ≢ 6 → length words ≢ 8 → Bad ≡ words_entry (map now words)
+words_entry_other now [] three four five six eight = refl
+words_entry_other now (a ∷ []) three four five six eight = refl
+words_entry_other now (a ∷ b ∷ []) three four five six eight = refl
+words_entry_other now (a ∷ b ∷ c ∷ []) three four five six eight = absurd (three refl)
+words_entry_other now (a ∷ b ∷ c ∷ d ∷ []) three four five six eight = absurd (four refl)
+words_entry_other now (a ∷ b ∷ c ∷ d ∷ e ∷ []) three four five six eight = absurd (five refl)
+words_entry_other now (a ∷ b ∷ c ∷ d ∷ e ∷ f ∷ []) three four five six eight = absurd (six refl)
+words_entry_other now (a ∷ b ∷ c ∷ d ∷ e ∷ f ∷ g ∷ []) three four five six eight = refl
+words_entry_other now (a ∷ b ∷ c ∷ d ∷ e ∷ f ∷ g ∷ h ∷ []) three four five six eight = absurd (eight refl)
+words_entry_other now (a ∷ b ∷ c ∷ d ∷ e ∷ f ∷ g ∷ h ∷ i ∷ rest) three four five six eight = refl
 
--- seven words tell as much as all
-pub words_entry-take : (words : List (List ℕ)) → words_entry (take 7 words) ≡ words_entry words
+-- nine words tell as much as all
+pub words_entry-take : (words : List (List ℕ)) → words_entry (take 9 words) ≡ words_entry words
 words_entry-take [] = refl
 words_entry-take (a ∷ []) = refl
 words_entry-take (a ∷ b ∷ []) = refl
@@ -40,10 +43,36 @@ words_entry-take (a ∷ b ∷ c ∷ []) = refl
 words_entry-take (a ∷ b ∷ c ∷ d ∷ []) = refl
 words_entry-take (a ∷ b ∷ c ∷ d ∷ e ∷ []) = refl
 words_entry-take (a ∷ b ∷ c ∷ d ∷ e ∷ f ∷ []) = refl
-words_entry-take (a ∷ b ∷ c ∷ d ∷ e ∷ f ∷ g ∷ rest) = refl
+words_entry-take (a ∷ b ∷ c ∷ d ∷ e ∷ f ∷ g ∷ []) = refl
+words_entry-take (a ∷ b ∷ c ∷ d ∷ e ∷ f ∷ g ∷ h ∷ []) = refl
+words_entry-take (a ∷ b ∷ c ∷ d ∷ e ∷ f ∷ g ∷ h ∷ i ∷ rest) = refl
+
+-- eight words, each by its place
+pub eight_at : {X : Type 0} (now : X → List ℕ) (d : X) (words : List X) → length words ≡ 8 → map now words ≡ now (get_or words 0 d) ∷ now (get_or words 1 d) ∷ now (get_or words 2 d) ∷ now (get_or words 3 d) ∷ now (get_or words 4 d) ∷ now (get_or words 5 d) ∷ now (get_or words 6 d) ∷ now (get_or words 7 d) ∷ []
+eight_at now d [] is = absurd (omega arith)
+eight_at now d (a ∷ []) is = absurd (omega arith)
+eight_at now d (a ∷ b ∷ []) is = absurd (omega arith)
+eight_at now d (a ∷ b ∷ c ∷ []) is = absurd (omega arith)
+eight_at now d (a ∷ b ∷ c ∷ e ∷ []) is = absurd (omega arith)
+eight_at now d (a ∷ b ∷ c ∷ e ∷ f ∷ []) is = absurd (omega arith)
+eight_at now d (a ∷ b ∷ c ∷ e ∷ f ∷ g ∷ []) is = absurd (omega arith)
+eight_at now d (a ∷ b ∷ c ∷ e ∷ f ∷ g ∷ h ∷ []) is = absurd (omega arith)
+eight_at now d (a ∷ b ∷ c ∷ e ∷ f ∷ g ∷ h ∷ i ∷ []) is = refl
+eight_at now d (a ∷ b ∷ c ∷ e ∷ f ∷ g ∷ h ∷ i ∷ j ∷ rest) is = absurd (omega arith)
+
+-- six words, each by its place
+pub six_at : {X : Type 0} (now : X → List ℕ) (d : X) (words : List X) → length words ≡ 6 → map now words ≡ now (get_or words 0 d) ∷ now (get_or words 1 d) ∷ now (get_or words 2 d) ∷ now (get_or words 3 d) ∷ now (get_or words 4 d) ∷ now (get_or words 5 d) ∷ []
+six_at now d [] is = absurd (omega arith)
+six_at now d (a ∷ []) is = absurd (omega arith)
+six_at now d (a ∷ b ∷ []) is = absurd (omega arith)
+six_at now d (a ∷ b ∷ c ∷ []) is = absurd (omega arith)
+six_at now d (a ∷ b ∷ c ∷ e ∷ []) is = absurd (omega arith)
+six_at now d (a ∷ b ∷ c ∷ e ∷ f ∷ []) is = absurd (omega arith)
+six_at now d (a ∷ b ∷ c ∷ e ∷ f ∷ g ∷ []) is = refl
+six_at now d (a ∷ b ∷ c ∷ e ∷ f ∷ g ∷ h ∷ rest) is = absurd (omega arith)
 
 -- a line that isn't blank
-pub entry_of_words : (line : List ℕ) → length line ≢ 0 → get_or line 0 0 ≢ 35 → (words : List (List ℕ)) → words ≡ take 7 (slice_split (λ b. eqb b 32) line) → words_entry words ≡ ascii_entry line
+pub entry_of_words : (line : List ℕ) → length line ≢ 0 → get_or line 0 0 ≢ 35 → (words : List (List ℕ)) → words ≡ take 9 (slice_split (λ b. eqb b 32) line) → words_entry words ≡ ascii_entry line
 entry_of_words [] some other words is = absurd (some refl)
 entry_of_words (c ∷ rest) some other words is =
     let no : eqb c 35 ≡ false = grind (arith, nat_tests) in

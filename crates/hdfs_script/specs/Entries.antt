@@ -1,20 +1,16 @@
 -- What each line of a script says.
-use Rattle.std.specs.Prelude.{ℕ, ◌^◌, nat_le, nat_lt, Bool, ◌&&◌, ◌==◌, List, [], ◌∷◌, length, Option, Some, None, if◌then◌else◌, codes}
+use Rattle.std.specs.Prelude.{ℕ, ◌^◌, nat_le, nat_lt, ◌&&◌, ◌==◌, List, [], ◌∷◌, Option, Some, None, if◌then◌else◌, codes}
 use Rattle.std.specs.List.{list_all, slice_split}
 use Rattle.std.specs.Str.{bytes_eq}
 use Rattle.hdfs_model.specs.declared.attributes.Attributes.{Attributes}
 use Rattle.hdfs_model.specs.declared.store.Line.TheVariants as lines
 use Rattle.hdfs_model.specs.declared.store.FaultLine.TheVariants as faults
 use Rattle.hdfs_model.specs.declared.store.ReadKind.TheVariants as read_kinds
-use Rattle.hdfs_model.specs.declared.commands.Command.TheVariants as commands
-use Rattle.hdfs_model.specs.Paths.{is_path}
 use Rattle.hdfs_script.specs.declared.entry.Entry.{Entry}
-use Rattle.hdfs_script.specs.declared.entry.Entry.TheVariants.{Blank, Loads, Runs, Bad}
+use Rattle.hdfs_script.specs.declared.entry.Entry.TheVariants.{Blank, Loads, Bad}
+use Rattle.hdfs_script.specs.Commands.{append_entry, close_entry, create_entry, options_of, read_entry, write_entry}
 use Rattle.hdfs_script.specs.Numbers.{number, hex_bytes}
-
--- the bytes that a path may have in a script, one or more of them
-abbrev pub is_word : List ℕ → Bool
-is_word text = nat_le 1 (length text) && list_all (λ c. nat_le 33 c && nat_le c 126) text
+use Rattle.hdfs_script.specs.Words.{is_word}
 
 -- the attributes of a file, where each is a number
 abbrev pub attributes : Option ℕ → Option ℕ → Option ℕ → Option Attributes
@@ -36,20 +32,31 @@ abbrev pub fault_entry : Option ℕ → Option ℕ → Entry
 fault_entry (Some node) (Some nth) = if nat_le 1 nth then Loads (lines.Fault (faults.ReadOf node nth read_kinds.Broken)) else Bad
 fault_entry _ _ = Bad
 
--- `do read PATH OFFSET LEN`
-abbrev pub read_entry : List ℕ → Option ℕ → Option ℕ → Entry
-read_entry path (Some offset) (Some len) = if is_word path && is_path path then Runs (commands.Read path offset len) else Bad
-read_entry _ _ _ = Bad
+-- three words: `do append PATH` or `do close PATH`
+abbrev pub three_words : List ℕ → List ℕ → List ℕ → Entry
+three_words a b c =
+    if bytes_eq a (codes "do") && bytes_eq b (codes "append") then append_entry c
+    else if bytes_eq a (codes "do") && bytes_eq b (codes "close") then close_entry c
+    else Bad
 
--- the entry that the words of a line are
-abbrev pub words_entry : List (List ℕ) → Entry
-words_entry (a ∷ b ∷ c ∷ d ∷ e ∷ f ∷ []) =
-    if bytes_eq a (codes "file") then file_entry b (attributes_of c d e) (hex_bytes f) else Bad
-words_entry (a ∷ b ∷ c ∷ d ∷ e ∷ []) =
+-- five words: `fault read D N broken` or `do read PATH OFFSET LEN`
+abbrev pub five_words : List ℕ → List ℕ → List ℕ → List ℕ → List ℕ → Entry
+five_words a b c d e =
     if bytes_eq a (codes "fault") && bytes_eq b (codes "read") && bytes_eq e (codes "broken")
     then fault_entry (number 10 (2 ^ 32) c) (number 10 (2 ^ 64) d)
     else if bytes_eq a (codes "do") && bytes_eq b (codes "read") then read_entry c (number 10 (2 ^ 64) d) (number 10 (2 ^ 64) e)
     else Bad
+
+-- The entry that the words of a line are. Four words are a write, six a file, and eight a new file.
+abbrev pub words_entry : List (List ℕ) → Entry
+words_entry (a ∷ b ∷ c ∷ d ∷ e ∷ f ∷ g ∷ h ∷ []) =
+    if bytes_eq a (codes "do") && bytes_eq b (codes "create") then create_entry c (options_of d e f g h) else Bad
+words_entry (a ∷ b ∷ c ∷ d ∷ e ∷ f ∷ []) =
+    if bytes_eq a (codes "file") then file_entry b (attributes_of c d e) (hex_bytes f) else Bad
+words_entry (a ∷ b ∷ c ∷ d ∷ e ∷ []) = five_words a b c d e
+words_entry (a ∷ b ∷ c ∷ d ∷ []) =
+    if bytes_eq a (codes "do") && bytes_eq b (codes "write") then write_entry c (hex_bytes d) else Bad
+words_entry (a ∷ b ∷ c ∷ []) = three_words a b c
 words_entry words = Bad
 
 -- an empty line, a comment, or words with one space between them

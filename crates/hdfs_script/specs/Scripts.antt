@@ -1,12 +1,15 @@
 -- What a whole script says: lines to load, and commands to run. Lines with files stand before those with faults, and these
 -- before the commands. Or else which of its lines is the first bad one, counted from 1.
-use Rattle.std.specs.Prelude.{ℕ, ◌+◌, nat_le, Bool, true, false, ◌&&◌, ◌||◌, ◌==◌, List, [], ◌∷◌, length, take, map, codes, Option, Some, None, Result, Ok, Err, if◌then◌else◌}
+use Rattle.std.specs.Prelude.{ℕ, ◌+◌, nat_le, Bool, true, false, ◌&&◌, ◌||◌, ◌==◌, List, [], ◌∷◌, length, take, map, replicate, codes, Option, Some, None, Result, Ok, Err, if◌then◌else◌}
 use Rattle.std.specs.List.{slice_split}
 use Rattle.hdfs_model.specs.declared.store.Line.{Line}
 use Rattle.hdfs_model.specs.declared.store.Line.TheVariants as lines
 use Rattle.hdfs_model.specs.declared.commands.Command.{Command}
+use Rattle.hdfs_model.specs.declared.commands.Settings.{Settings}
 use Rattle.hdfs_model.specs.Files.{State}
 use Rattle.hdfs_model.specs.Loading.{takes, with_line}
+use Rattle.hdfs_model.specs.Sessions.{world_of}
+use Rattle.hdfs_model.specs.Shown.{Shown}
 use Rattle.hdfs_model.specs.Steps.{World}
 use Rattle.hdfs_script.specs.declared.entry.Entry.{Entry}
 use Rattle.hdfs_script.specs.declared.entry.Entry.TheVariants.{Loads, Runs, Bad}
@@ -91,6 +94,10 @@ unless_bad (Some line) entries = Err line
 abbrev pub script : Bool → State → List ℕ → Result Script ℕ
 script fresh state bytes = unless_bad (first_bad fresh state 0 1 (entries_in bytes)) (entries_in bytes)
 
--- the world of a script's session
-abbrev pub script_world : World
-script_world = record { home = codes "/user/user" }
+-- the settings of a script's session
+abbrev pub script_settings : Settings
+script_settings = record { home = codes "/user/user"; client = replicate 16 0; window = 100 }
+
+-- the world of a script's session over a cluster that shows this
+abbrev pub script_world : Shown → World
+script_world shown = world_of script_settings shown

@@ -2,7 +2,7 @@
 use Rattle.std.specs.Prelude.{ℕ, List, [], ◌∷◌, ◌++◌, codes, decimal}
 use Rattle.hex.specs.Hex.{encode_lower}
 use Rattle.hdfs_model.specs.declared.commands.Reply.{Reply}
-use Rattle.hdfs_model.specs.declared.commands.Reply.TheVariants.{Bytes}
+use Rattle.hdfs_model.specs.declared.commands.Reply.TheVariants as replies
 use Rattle.hdfs_model.specs.declared.errors.Fault.{Fault}
 use Rattle.hdfs_model.specs.declared.errors.HdfsError.{HdfsError}
 use Rattle.hdfs_model.specs.declared.errors.HdfsError.TheVariants as errors
@@ -16,14 +16,22 @@ hex_text (byte ∷ bytes) = encode_lower (byte ∷ bytes)
 abbrev pub bytes_line : List ℕ → List ℕ
 bytes_line bytes = codes "ok bytes " ++ hex_text bytes ++ codes "\n"
 
+-- the line of bytes that were written: how many they are
+abbrev pub written_line : ℕ → List ℕ
+written_line count = codes "ok written " ++ decimal count ++ codes "\n"
+
 -- the line of a reply
 abbrev pub reply_text : Reply → List ℕ
-reply_text (Bytes bytes) = bytes_line bytes
+reply_text replies.Created = codes "ok created\n"
+reply_text replies.Appended = codes "ok appended\n"
+reply_text (replies.Written count) = written_line count
+reply_text replies.Closed = codes "ok closed\n"
+reply_text (replies.Bytes bytes) = bytes_line bytes
 
 -- a line for each reply
 abbrev pub replies_text : List Reply → List ℕ
 replies_text [] = []
-replies_text (reply ∷ replies) = reply_text reply ++ replies_text replies
+replies_text (reply ∷ rest) = reply_text reply ++ replies_text rest
 
 -- the name of an error, without what it carries
 abbrev pub variant_name : HdfsError → List ℕ
@@ -31,6 +39,7 @@ variant_name errors.NoMemory = codes "NoMemory"
 variant_name errors.Failed = codes "Failed"
 variant_name (errors.IOError fault) = codes "IOError"
 variant_name (errors.DataTransferError fault) = codes "DataTransferError"
+variant_name (errors.InvalidPath path) = codes "InvalidPath"
 variant_name (errors.InvalidArgument fault) = codes "InvalidArgument"
 variant_name (errors.AlreadyExists message) = codes "AlreadyExists"
 variant_name (errors.OperationFailed path) = codes "OperationFailed"

@@ -1,8 +1,10 @@
 //! Why a script that is refused goes wrong at its first bad line. It is read once more for this.
+use crate::command::{flag, given_block_size, given_replication};
 use crate::entry::Entry;
-use crate::line::{U32_MOST, U64_MOST, entry, is_ascii, is_text, is_word, words};
+use crate::line::entry;
 use crate::numbers::number;
 use crate::parsing::{SCRIPT_LIMIT, may_stand, part_of_entry};
+use crate::words::{U32_MOST, U64_MOST, is_ascii, is_text, is_word, words};
 use crate::wrong::{Complaint, Wrong};
 use hdfs_model::{Line, is_path};
 use std::alloc::Global;
@@ -38,10 +40,52 @@ fn wrong_fault(words: &[&[u8]]) -> Wrong {
     Wrong::Nth
 }
 
-// Why the words of a line are no command, which begins with `do`.
-fn wrong_command(words: &[&[u8]]) -> Wrong {
-    if words.len() != 5 || !is_text(words[1], "read") {
-        return Wrong::CommandWords;
+// Why the words of a line are no new file, which begins with `do create`.
+fn wrong_create(words: &[&[u8]]) -> Wrong {
+    if words.len() != 8 {
+        return Wrong::CreateWords;
+    }
+    if !is_word(words[2]) {
+        return Wrong::Unprintable;
+    }
+    if number(8, U32_MOST, words[3]).is_none() {
+        return Wrong::PermissionDigits;
+    }
+    if given_replication(words[4]).is_none() {
+        return Wrong::GivenReplication;
+    }
+    if given_block_size(words[5]).is_none() {
+        return Wrong::GivenBlockSize;
+    }
+    if flag(words[6]).is_none() {
+        return Wrong::Overwrite;
+    }
+    Wrong::Parent
+}
+
+// Why the words of a line don't name a path behind a call of these words.
+fn wrong_call(words: &[&[u8]], wrong: Wrong) -> Wrong {
+    if words.len() != 3 {
+        return wrong;
+    }
+    Wrong::Unprintable
+}
+
+// Why the words of a line are no write, which begins with `do write`.
+fn wrong_write(words: &[&[u8]]) -> Wrong {
+    if words.len() != 4 {
+        return Wrong::WriteWords;
+    }
+    if !is_word(words[2]) {
+        return Wrong::Unprintable;
+    }
+    Wrong::Hex
+}
+
+// Why the words of a line are no read, which begins with `do read`.
+fn wrong_read(words: &[&[u8]]) -> Wrong {
+    if words.len() != 5 {
+        return Wrong::ReadWords;
     }
     if number(10, U64_MOST, words[3]).is_none() {
         return Wrong::Offset;
@@ -49,10 +93,28 @@ fn wrong_command(words: &[&[u8]]) -> Wrong {
     if number(10, U64_MOST, words[4]).is_none() {
         return Wrong::Length;
     }
-    if !is_word(words[2]) {
-        return Wrong::Unprintable;
+    Wrong::Unprintable
+}
+
+// Why the words of a line are no command, which begins with `do`.
+fn wrong_command(words: &[&[u8]]) -> Wrong {
+    if words.len() < 2 {
+        return Wrong::CommandWords;
     }
-    Wrong::Path
+    let call = words[1];
+    if is_text(call, "create") {
+        wrong_create(words)
+    } else if is_text(call, "append") {
+        wrong_call(words, Wrong::AppendWords)
+    } else if is_text(call, "write") {
+        wrong_write(words)
+    } else if is_text(call, "close") {
+        wrong_call(words, Wrong::CloseWords)
+    } else if is_text(call, "read") {
+        wrong_read(words)
+    } else {
+        Wrong::CommandWords
+    }
 }
 
 // Why words are no line.

@@ -1,6 +1,7 @@
 //! Scripts for a session over a store, both ways: from bytes to lines and commands, and from replies to text.
 #![tactic(auto)]
 
+mod command;
 mod complaint;
 mod entry;
 mod line;
@@ -8,11 +9,16 @@ mod names;
 mod numbers;
 mod parsing;
 mod printing;
+mod settings;
+#[cfg(test)]
+mod tests;
+mod words;
 mod wrong;
 
 pub use complaint::complaint_at;
 pub use entry::{Entry, NumberedLine, Parsed};
 pub use names::variant_name;
-pub use parsing::{SCRIPT_HOME, SCRIPT_LIMIT, is_fault, parse};
+pub use parsing::{SCRIPT_LIMIT, is_fault, parse};
 pub use printing::{write_fault, write_hex, write_refusal, write_replies, write_reply};
+pub use settings::{SCRIPT_HOME, script_settings};
 pub use wrong::{Complaint, Wrong};

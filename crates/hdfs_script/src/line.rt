@@ -1,53 +1,17 @@
 //! One line of a script.
-ghost use Rattle.std.specs.Prelude.{◌≡◌, ◌==◌, ◌&&◌, ◌^◌, nat_le, nat_lt, ℕ, Bool, true, false, List, [], ◌∷◌, length, map, take, Option, Some, None, IfOk, MatchOption};
-ghost use Rattle.std.specs.List.{list_all, slice_split};
+ghost use Rattle.std.specs.Prelude.{◌≡◌, ◌==◌, ◌&&◌, ◌^◌, nat_le, nat_lt, ℕ, Bool, true, false, List, [], ◌∷◌, length, map, Option, Some, None, IfOk, codes, if◌then◌else◌};
 ghost use Rattle.std.specs.Str.{bytes_eq};
+ghost use Rattle.hdfs_script.specs.Commands.{create_entry as create_entry_of};
 ghost use Rattle.hdfs_script.specs.Entries as spec;
 ghost use Rattle.hdfs_script.specs.Numbers.{number as number_of, hex_bytes as hex_bytes_of};
 
+use crate::command::{append_entry, close_entry, create_entry, options, read_entry, write_entry};
 use crate::entry::Entry;
 use crate::numbers::{hex_bytes, number};
-use hdfs_model::{Attributes, Command, FaultLine, Line, ReadKind, is_path};
+use crate::words::{U32_MOST, U64_MOST, is_ascii, is_text, word, words};
+use hdfs_model::{Attributes, FaultLine, Line, ReadKind, WriteOptions};
 use hdfs_wire::{NoMemory, Text};
-use std::alloc::{AllocError, Global};
-
-/// The greatest number of 32 bits.
-pub(crate) const U32_MOST: u64 = 4294967295;
-
-/// The greatest number of 64 bits.
-pub(crate) const U64_MOST: u64 = 18446744073709551615;
-
-fn is_printable(c: u8) -> bool
-    ensures { result ≡ (nat_le 33 c && nat_le c 126) }
-{
-    c >= 33 && c <= 126
-}
-
-fn are_printable(text: &[u8]) -> bool
-    ensures { result ≡ list_all (λ c. nat_le 33 c && nat_le c 126) text.now }
-{
-    text.iter().all(|c| is_printable(*c))
-}
-
-/// Whether a text is one or more bytes that a path may have.
-pub(crate) fn is_word(text: &[u8]) -> bool
-    ensures { result ≡ spec.is_word text.now }
-{
-    !text.is_empty() && are_printable(text)
-}
-
-// A word as text.
-fn word(text: &[u8]) -> Option<&str>
-    ensures { MatchOption result (spec.is_word text.now ≡ false) (λ word. (spec.is_word text.now ≡ true) × (word.now ≡ text.now)) }
-{
-    if !is_word(text) {
-        return None;
-    }
-    match str::from_utf8(text) {
-        Ok(word) => Some(word),
-        Err(_) => None,
-    }
-}
+use std::alloc::Global;
 
 // `PERM REPL BLOCK`
 fn attributes(permission: &[u8], replication: &[u8], block_size: &[u8]) -> Option<Attributes>
@@ -103,28 +67,21 @@ fn fault_entry(node: &[u8], nth: &[u8]) -> Entry
     }))
 }
 
-// `do read PATH OFFSET LEN`
-fn read_entry(alloc: Global, path: &[u8], offset: &[u8], len: &[u8]) -> Result<Entry, NoMemory>
-    ensures { IfOk result (λ entry. entry ≡ spec.read_entry path.now (number_of 10 (2 ^ 64) offset.now) (number_of 10 (2 ^ 64) len.now)) }
+// A line of eight words, of which the last five are options.
+fn eight_words(
+    alloc: Global,
+    kind: &[u8],
+    call: &[u8],
+    path: &[u8],
+    options: Option<WriteOptions>,
+) -> Result<Entry, NoMemory>
+    ensures { IfOk result (λ entry. entry ≡ (if bytes_eq kind.now (codes "do") && bytes_eq call.now (codes "create")
+        then create_entry_of path.now options else Entry.Bad)) }
 {
-    let (Some(offset), Some(len)) = (number(10, U64_MOST, offset), number(10, U64_MOST, len)) else {
-        return Ok(Entry::Bad);
-    };
-    let Some(path) = word(path) else {
-        return Ok(Entry::Bad);
-    };
-    if !is_path(path) {
+    if !is_text(kind, "do") || !is_text(call, "create") {
         return Ok(Entry::Bad);
     }
-    let path = Text::from_str(alloc, path)?;
-    Ok(Entry::Runs(Command::Read { path, offset, len }))
-}
-
-/// The words of a line, up to seven of them.
-pub(crate) fn words(alloc: Global, line: &[u8]) -> Result<Vec<&[u8]>, AllocError>
-    ensures { IfOk result (λ words. map (λ word. word.now) words.items ≡ take 7 (slice_split (λ b. b == 32) line.now)) }
-{
-    line.split(|b| *b == b' ').take(7).collect(alloc)
+    Ok(create_entry(alloc, path, options)?)
 }
 
 // A line of six words.
@@ -170,15 +127,53 @@ fn five_words(
     Ok(Entry::Bad)
 }
 
+// A line of four words.
+fn four_words(
+    alloc: Global,
+    kind: &[u8],
+    call: &[u8],
+    path: &[u8],
+    bytes: &[u8],
+) -> Result<Entry, NoMemory>
+    ensures { IfOk result (λ entry. entry ≡ spec.words_entry (kind.now ∷ call.now ∷ path.now ∷ bytes.now ∷ [])) }
+{
+    if !is_text(kind, "do") || !is_text(call, "write") {
+        return Ok(Entry::Bad);
+    }
+    Ok(write_entry(alloc, path, bytes)?)
+}
+
+// A line of three words.
+fn three_words(alloc: Global, kind: &[u8], call: &[u8], path: &[u8]) -> Result<Entry, NoMemory>
+    ensures { IfOk result (λ entry. entry ≡ spec.words_entry (kind.now ∷ call.now ∷ path.now ∷ [])) }
+{
+    if !is_text(kind, "do") {
+        return Ok(Entry::Bad);
+    }
+    if is_text(call, "append") {
+        return Ok(append_entry(alloc, path)?);
+    }
+    if is_text(call, "close") {
+        return Ok(close_entry(alloc, path)?);
+    }
+    Ok(Entry::Bad)
+}
+
 // What the words of a line say.
 fn words_entry(alloc: Global, words: &[&[u8]]) -> Result<Entry, NoMemory>
     ensures { IfOk result (λ entry. entry ≡ spec.words_entry (map (λ word. word.now) words.now)) }
 {
     match words.len() {
+        8 => {
+            let options = options(words[3], words[4], words[5], words[6], words[7]);
+            Ok(eight_words(alloc, words[0], words[1], words[2], options)?)
+        }
         6 => Ok(six_words(
             alloc, words[0], words[1], words[2], words[3], words[4], words[5],
         )?),
         5 => Ok(five_words(alloc, words[0], words[1], words[2], words[3], words[4])?),
+        4 => Ok(four_words(alloc, words[0], words[1], words[2], words[3])?),
+        3 => Ok(three_words(alloc, words[0], words[1], words[2])?),
         _ => Ok(Entry::Bad),
     }
 }
@@ -195,18 +190,4 @@ pub(crate) fn entry(alloc: Global, line: &[u8]) -> Result<Entry, NoMemory>
     }
     let words = words(alloc, line)?;
     Ok(words_entry(alloc, words.as_slice())?)
-}
-
-/// Whether all bytes are ASCII.
-pub(crate) fn is_ascii(bytes: &[u8]) -> bool
-    ensures { result ≡ list_all (λ b. nat_lt b 128) bytes.now }
-{
-    bytes.iter().all(|b| *b < 128)
-}
-
-/// Whether a word is this text.
-pub(crate) fn is_text(word: &[u8], text: &str) -> bool
-    ensures { result ≡ bytes_eq word.now text.now }
-{
-    word == text.as_bytes()
 }

@@ -13,6 +13,7 @@ pub fn variant_name(error: &HdfsError) -> &'static str
         HdfsError::Failed => "Failed",
         HdfsError::IOError(_) => "IOError",
         HdfsError::DataTransferError(_) => "DataTransferError",
+        HdfsError::InvalidPath(_) => "InvalidPath",
         HdfsError::InvalidArgument(_) => "InvalidArgument",
         HdfsError::AlreadyExists(_) => "AlreadyExists",
         HdfsError::OperationFailed(_) => "OperationFailed",

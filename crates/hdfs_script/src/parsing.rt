@@ -15,9 +15,6 @@ use std::alloc::Global;
 /// How many bytes a script may have.
 pub const SCRIPT_LIMIT: usize = 16777216;
 
-/// The home of a script's session.
-pub const SCRIPT_HOME: &str = "/user/user";
-
 /// Whether a line plans a fault.
 pub fn is_fault(line: &Line) -> bool
     ensures { result ≡ spec.is_fault line.now }

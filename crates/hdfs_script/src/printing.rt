@@ -2,7 +2,7 @@
 ghost use Rattle.std.specs.Prelude.{◌≡◌, ◌≤◌, length, map};
 ghost use Rattle.std.specs.List.{concat};
 ghost use Rattle.hex.specs.Hex.{encode_lower};
-ghost use Rattle.hdfs_script.specs.Texts.{hex_text, bytes_line, fault_line, reply_text, replies_text, fault_text, refusal_text};
+ghost use Rattle.hdfs_script.specs.Texts.{hex_text, bytes_line, fault_line, written_line, reply_text, replies_text, fault_text, refusal_text};
 ghost use Rattle.hdfs_streams.specs.Streams.{Prints};
 
 use crate::names::variant_name;
@@ -59,12 +59,26 @@ fn write_bytes<K: Sink>(sink: &mut K, bytes: &[u8]) -> Result<(), IoFailed>
     Ok(())
 }
 
+// Writes the line of so many bytes that were written.
+fn write_written<K: Sink>(sink: &mut K, count: u64) -> Result<(), IoFailed>
+    ensures { Prints (K.shown sink.old) (written_line count) result (K.shown sink.new) }
+{
+    let mut buffer = Buffer::new();
+    let count = buffer.format(count);
+    let pieces = [b"ok written ".as_slice(), count.as_bytes(), b"\n"];
+    write_pieces(sink, &pieces)
+}
+
 /// Writes a reply's line.
 pub fn write_reply<K: Sink>(sink: &mut K, reply: &Reply) -> Result<(), IoFailed>
     ensures { Prints (K.shown sink.old) (reply_text reply.now) result (K.shown sink.new) }
 {
     match reply {
-        Reply::Bytes { bytes } => Ok(write_bytes(sink, bytes.as_slice())?),
+        Reply::Created => write_all(sink, b"ok created\n"),
+        Reply::Appended => write_all(sink, b"ok appended\n"),
+        Reply::Written { bytes } => write_written(sink, *bytes),
+        Reply::Closed => write_all(sink, b"ok closed\n"),
+        Reply::Bytes { bytes } => write_bytes(sink, bytes.as_slice()),
     }
 }
 

@@ -14,8 +14,18 @@ pub enum Wrong {
     FileWords,
     #[error("not `fault read NODE NTH broken`, with one space between words")]
     FaultWords,
-    #[error("not `do read PATH OFFSET LENGTH`, with one space between words")]
+    #[error("begins with none of `do create`, `do append`, `do write`, `do close` and `do read`")]
     CommandWords,
+    #[error("not `do create PATH PERMISSION REPLICATION BLOCK_SIZE OVERWRITE PARENT`, with one space between words")]
+    CreateWords,
+    #[error("not `do append PATH`, with one space between words")]
+    AppendWords,
+    #[error("not `do write PATH HEX`, with one space between words")]
+    WriteWords,
+    #[error("not `do close PATH`, with one space between words")]
+    CloseWords,
+    #[error("not `do read PATH OFFSET LENGTH`, with one space between words")]
+    ReadWords,
     #[error("PATH isn't absolute, or has a component that is empty, `.` or `..`")]
     Path,
     #[error("PATH is empty, or has a byte that isn't printable")]
@@ -26,6 +36,16 @@ pub enum Wrong {
     Replication,
     #[error("BLOCK_SIZE isn't a number from 1 to 9223372036854775807")]
     BlockSize,
+    #[error("PERMISSION isn't a number from 0 to 37777777777 in octal digits")]
+    PermissionDigits,
+    #[error("REPLICATION isn't `-` or 1")]
+    GivenReplication,
+    #[error("BLOCK_SIZE isn't `-` or a number from 0 to 18446744073709551615")]
+    GivenBlockSize,
+    #[error("OVERWRITE isn't `true` or `false`")]
+    Overwrite,
+    #[error("PARENT isn't `true` or `false`")]
+    Parent,
     #[error("HEX isn't `-` or pairs of lower-case hexadecimal digits")]
     Hex,
     #[error("HEX has more bytes than BLOCK_SIZE")]

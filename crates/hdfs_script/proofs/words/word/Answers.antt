@@ -1,6 +1,6 @@
 use Rattle.std.proofs.Common.{sym}
 use Rattle.hdfs_script.proofs.WordLemmas.{IsUtf8-from_word}
-use Rattle.hdfs_script.proofs.line.word.Goals as goal
+use Rattle.hdfs_script.proofs.words.word.Goals as goal
 
 -- a word is ASCII, and so text
 pub returns-in-Err : goal.returns-in-Err
