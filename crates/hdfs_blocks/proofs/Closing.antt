@@ -8,7 +8,7 @@ use Rattle.hdfs_model.specs.Sending.{WritePlace}
 use Rattle.hdfs_model.specs.Shown.{Shown}
 use Rattle.hdfs_model.specs.Stores.{HoldsPrefix}
 use Rattle.hdfs_model.specs.Writing.{OnlyBlock, GoesFurther, Releases}
-use Rattle.hdfs_model.proofs.Frames.{told_after}
+use Rattle.hdfs_model.proofs.Frames.{told_after, only_writes_trans}
 use Rattle.hdfs_pipeline.specs.Driving.{Settles, SentMore}
 use Rattle.hdfs_pipeline.proofs.DrivingOn.{on_trans, further_trans}
 use Rattle.hdfs_blocks.specs.declared.pipe.Pipe.{Pipe}
@@ -21,7 +21,6 @@ use Rattle.hdfs_blocks.proofs.Prefixes.{length-joined, slices_join, total_join, 
 use Rattle.hdfs_blocks.proofs.Links.{holds_goes, ended_holds, next_at}
 use Rattle.hdfs_blocks.proofs.Listed.{first_listed, listed_after}
 use Rattle.hdfs_blocks.proofs.OnlyBlocks.{only_block_same, only_block_trans, only_block_from-WritesAt}
-use Rattle.hdfs_blocks.proofs.GivingUp.{only_writes_trans}
 use Rattle.hdfs_blocks.proofs.Flushing.{settles_from-LinkCarries, linked_all}
 use Rattle.hdfs_blocks.proofs.Wrote.{at_link_trans, block_id_same, carries_over, is_apart, link_is}
 

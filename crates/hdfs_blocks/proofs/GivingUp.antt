@@ -12,7 +12,7 @@ use Rattle.hdfs_model.specs.Pipes.{OnlyWrites, WriteEnded, nodes_of}
 use Rattle.hdfs_model.specs.Sending.{WritePlace}
 use Rattle.hdfs_model.specs.Shown.{Shown}
 use Rattle.hdfs_model.specs.Writing.{OnlyBlock, GoesFurther, Releases}
-use Rattle.hdfs_model.proofs.Frames.{told_after, later_trans, rose_since}
+use Rattle.hdfs_model.proofs.Frames.{told_after, rose_since, only_writes_trans}
 use Rattle.hdfs_pipeline.specs.Pipelines.{Pipeline, End, Done, Failed, Bad, pending_of}
 use Rattle.hdfs_pipeline.specs.Cores.{IsCore}
 use Rattle.hdfs_pipeline.specs.Ends.{end_of, handed_back}
@@ -26,14 +26,6 @@ use Rattle.hdfs_pipeline.specs.Driving.{HasCause as DriverCause}
 use Rattle.hdfs_pipeline.specs.Driving.{IsNotLast}
 use Rattle.hdfs_blocks.specs.Piped.{Goes, Pushed, GivesUp, failure_of}
 use Rattle.hdfs_blocks.proofs.OnlyBlocks.{only_block_trans, only_block_same, only_block_from-WritesAt}
-
-pub only_writes_trans : (a b c : Shown) → OnlyWrites a b → OnlyWrites b c → OnlyWrites a c
-only_writes_trans a b c f g = record {
-  later = later_trans a b c f.later g.later;
-  last = g.last ∙ f.last;
-  calls = λ i. g.calls i ∙ f.calls i;
-  reads = λ other. g.reads other ∙ f.reads other;
-}
 
 -- What is left of a link that was used and then ended: nothing but its block at its datanodes was touched.
 pub record Left (link : ℕ) (core : Pipeline) (a z : Shown) : Type 0 where

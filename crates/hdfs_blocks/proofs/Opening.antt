@@ -36,6 +36,11 @@ empty_is_core window nodes windows some = record {
   failed = λ places is. absurd (cc is);
 }
 
+-- the window of a pipe over an empty pipeline
+pub new_window : (mine pipe : Pipe) (window nodes : ℕ) → mine.core ≡ empty_pipeline window nodes → Some mine ≡ Some pipe → pipe.core.window ≡ window
+new_window mine pipe window nodes empty same =
+    ap (λ (x : Pipe). x.core.window) (sym (pipe_is mine pipe same)) ∙ ap (λ (x : Pipeline). x.window) empty
+
 module _ (located : LocatedBlock) (chunk window link : ℕ) (client : List ℕ) (w : BlockWriter) (core : Pipeline) (a b : Shown) (to_write : IsToWrite located) (windows : (1 ≤ window) × (window ≤ 1000)) (empty : core ≡ empty_pipeline window (length located.locs))
     (opened : WriteOpened a (setup_of located chunk client) link b) (piped : w.pipe ≡ Some (record { core = core; link = link })) (none : w.packet ≡ None) (block : w.block ≡ located.b) (len : w.length ≡ located.b.num_bytes) where
   abbrev new_pipe : Pipe

@@ -7,7 +7,7 @@ use Rattle.hdfs_model.specs.Picture.{Picture}
 use Rattle.hdfs_model.specs.Pipes.{OnlyWrites, WriteEnded, IsStillOpen, nodes_of}
 use Rattle.hdfs_model.specs.Shown.{Shown}
 use Rattle.hdfs_model.specs.Writing.{Releases}
-use Rattle.hdfs_model.proofs.Frames.{told_after, later_refl, rose_since}
+use Rattle.hdfs_model.proofs.Frames.{told_after, rose_since, only_writes_refl, only_writes_trans}
 use Rattle.hdfs_pipeline.specs.Driving.{OnLink}
 use Rattle.hdfs_blocks.specs.declared.pipe.Pipe.{Pipe}
 use Rattle.hdfs_blocks.specs.declared.pipe.WriteFault.{WriteFault}
@@ -17,7 +17,6 @@ use Rattle.hdfs_blocks.specs.Carrying.{BlockView, BlockCarries}
 use Rattle.hdfs_blocks.specs.Piped.{Goes, GivesUp, HasCause}
 use Rattle.hdfs_blocks.specs.Writers.{filling_of, view_of, link_in, link_of, Carries}
 use Rattle.hdfs_blocks.specs.Writes.{Keeps, AtLink, StaysOpen, Wrote, GaveUp, Fails, Fills}
-use Rattle.hdfs_blocks.proofs.GivingUp.{only_writes_trans}
 use Rattle.hdfs_blocks.proofs.OnlyBlocks.{only_block_refl, only_block_trans, only_block_same, only_block_from-WritesAt}
 use Rattle.hdfs_blocks.proofs.Carried.{carries_fill}
 use Rattle.hdfs_blocks.proofs.Flushing.{settles_from-LinkCarries, linked_all, view_same}
@@ -33,7 +32,7 @@ pub keeps_trans : (a b c : BlockWriter) → Keeps a b → Keeps b c → Keeps a 
 keeps_trans a b c f g = record { block = g.block ∙ f.block; block_size = g.block_size ∙ f.block_size; chunk = g.chunk ∙ f.chunk; packet_size = g.packet_size ∙ f.packet_size }
 
 pub at_link_refl : (link : Option ℕ) (a : Shown) → AtLink link a a
-at_link_refl link a = record { only = record { later = later_refl a; last = refl; calls = λ i. refl; reads = λ other. refl }; others = λ other apart. refl }
+at_link_refl link a = record { only = only_writes_refl a; others = λ other apart. refl }
 
 pub at_link_trans : (link : Option ℕ) (a b c : Shown) → AtLink link a b → AtLink link b c → AtLink link a c
 at_link_trans link a b c f g = record { only = only_writes_trans a b c f.only g.only; others = λ other apart. g.others other apart ∙ f.others other apart }

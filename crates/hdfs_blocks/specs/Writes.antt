@@ -36,12 +36,15 @@ setup_of located chunk client = record {
   client = client;
 }
 
--- a new writer of this block, whose first packet has the seqno 0
-pub record IsNew (located : LocatedBlock) (block_size : ℕ) (writer : BlockWriter) : Type 0 where
+-- a new writer of this block, whose first packet has the seqno 0, with what it was asked to write with
+pub record IsNew (located : LocatedBlock) (block_size bytes_per_chunk bytes_per_packet packets : ℕ) (writer : BlockWriter) : Type 0 where
   pub block : block_of writer ≡ located.b
   pub length : length_of writer ≡ located.b.num_bytes
   pub size : size_of writer ≡ block_size
   pub first : seqno_of writer ≡ 0
+  pub chunk : writer.chunk ≡ bytes_per_chunk
+  pub packet_size : writer.packet_size ≡ bytes_per_packet
+  pub window : (pipe : Pipe) → writer.pipe ≡ Some pipe → pipe.core.window ≡ packets
 
 -- the writer's pipeline was set up so, on a fresh link, and nothing else changed
 abbrev pub OpensLink : Shown → Setup → BlockWriter → Shown → Type 0

@@ -73,6 +73,7 @@ module _ (space : Namespace) (active : ℕ) (defaults : ServerDefaults) (last : 
       last = refl;
       calls = λ i. refl;
       reads = slot_stays (λ l. read_told) s s' link (slab.get s link) slot refl updates (told_none ∙ sym (no_read (slab.get s link) there));
+      places = λ l is. quiet_writes.records.reads l;
     };
     others = λ l apart. ap write_told (updates.others l apart);
     picture = inr quiet_writes;

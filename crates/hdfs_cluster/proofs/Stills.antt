@@ -109,7 +109,7 @@ module _ (space : Namespace) (active : ℕ) (defaults : ServerDefaults) (last : 
       still_picture = record { rest = record { files = still_files; reads = same.read_places; writes = λ l. still_place l (slab.get s' l) ∙ same.write_places nodes l }; active = refl }
 
       only : OnlyWrites old new
-      only = record { later = still_later; last = refl; calls = λ i. refl; reads = same.reads }
+      only = record { later = still_later; last = refl; calls = λ i. refl; reads = same.reads; places = λ l is. same.read_places l }
 
       still_link : (link : ℕ) → WritesLink link old new
       still_link link = record { only = only; others = λ l apart. same.writes l; picture = inl still_picture }

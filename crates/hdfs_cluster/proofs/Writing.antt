@@ -76,7 +76,7 @@ pub not_opened_write : (space : Namespace) (active : ℕ) (defaults : ServerDefa
     → ((d : List ℕ) (b other : ℕ) → (link ≡ other → ⊥) → undisturbed_in nodes' d b other ≡ undisturbed_in nodes d b other) → ((d : List ℕ) (b : ℕ) → held_in nodes' d b ≡ held_in nodes d b)
     → fault ≡ link_faults.NoMemory → WriteNotOpened (shown_at space active defaults last namenodes loaded nodes s) setup fault (shown_at space active defaults last namenodes loaded nodes' s')
 not_opened_write space active defaults last namenodes loaded nodes nodes' s s' link setup fault rest vacant slots others bytes is = record {
-  only = record { later = still_later space active defaults last namenodes loaded nodes nodes' rest s s'; last = refl; calls = λ i. refl; reads = λ l. ap read_told (slots l) };
+  only = record { later = still_later space active defaults last namenodes loaded nodes nodes' rest s s'; last = refl; calls = λ i. refl; reads = λ l. ap read_told (slots l); places = λ l is. ap read_place (slots l) };
   writes = λ l. ap write_told (slots l);
   picture = record {
     rest = record {
@@ -152,7 +152,13 @@ module _ (space : Namespace) (active : ℕ) (defaults : ServerDefaults) (last : 
     -- a pipeline was set up
     pub opened_write : WriteOpened old setup link new
     opened_write = record {
-      only = record { later = later; last = refl; calls = λ i. refl; reads = slot_stays (λ l. read_told) s s' link None (Some (links.Write w)) vacant updates refl };
+      only = record {
+        later = later;
+        last = refl;
+        calls = λ i. refl;
+        reads = slot_stays (λ l. read_told) s s' link None (Some (links.Write w)) vacant updates refl;
+        places = λ l is. starts.reads l;
+      };
       fresh = record { read = ap read_told vacant; write = ap write_told vacant };
       others = λ l apart. ap write_told (updates.others l apart);
       opened = ap write_told updates.changed ∙ ap Some is_told;
@@ -298,7 +304,13 @@ module _ (space : Namespace) (active : ℕ) (defaults : ServerDefaults) (last : 
     pub sent_packet : Sent old link packet new
     sent_packet = record {
       writes = record {
-        only = record { later = later; last = refl; calls = λ i. refl; reads = slot_stays (λ l. read_told) s s' link (Some (links.Write v)) (Some (links.Write w)) was updates refl };
+        only = record {
+          later = later;
+          last = refl;
+          calls = λ i. refl;
+          reads = slot_stays (λ l. read_told) s s' link (Some (links.Write v)) (Some (links.Write w)) was updates refl;
+          places = λ l is. slot_stays (λ l. read_place) s s' link (Some (links.Write v)) (Some (links.Write w)) was updates refl l;
+        };
         others = λ l apart. ap write_told (updates.others l apart);
         picture = inr writes_at;
       };

@@ -1,6 +1,6 @@
 //! What a cluster in memory is made with.
 ghost use Rattle.std.specs.Prelude.{◌≡◌, ◌↔◌, ◌<◌, ◌^◌, IsTrue};
-ghost use Rattle.hdfs_cluster.specs.Settings.{AreValid};
+ghost use Rattle.hdfs_cluster.specs.Settings.{AreValid, script_defaults};
 
 use crate::read_link::packet_limit;
 use hdfs_model::ServerDefaults;
@@ -33,6 +33,7 @@ impl MemSettings {
         ensures valid { AreValid result }
         ensures namenodes { result.namenodes ≡ 1 }
         ensures nodes { result.nodes ≡ 3 }
+        ensures defaults { result.defaults ≡ script_defaults }
     {
         MemSettings {
             namenodes: 1,

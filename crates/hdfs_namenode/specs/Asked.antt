@@ -1,17 +1,12 @@
 -- A namenode is asked, and the caller has its answer.
-use Rattle.std.specs.Prelude.{◌≡◌, ◌⊎◌, ℕ, Bool, ◌||◌, List, Result, Ok, Err, IfOk, if◌then◌else◌}
-use Rattle.std.specs.Str.{bytes_eq}
+use Rattle.std.specs.Prelude.{◌≡◌, ◌⊎◌, ℕ, Result, Ok, Err, IfOk, if◌then◌else◌}
 use Rattle.hdfs_model.specs.declared.asks.Ask.{Ask}
 use Rattle.hdfs_model.specs.declared.asks.Answer.{Answer}
 use Rattle.hdfs_model.specs.declared.asks.AskFault.{AskFault}
 use Rattle.hdfs_model.specs.declared.asks.AskFault.TheVariants as faults
 use Rattle.hdfs_model.specs.declared.errors.HdfsError.{HdfsError}
 use Rattle.hdfs_model.specs.declared.errors.HdfsError.TheVariants as errors
-use Rattle.hdfs_model.specs.Namenode.{IsShaped, already_exists, being_created}
-
--- the exception says that something stands at the path already, or is being written
-abbrev pub is_taken : List ℕ → Bool
-is_taken class = bytes_eq class already_exists || bytes_eq class being_created
+use Rattle.hdfs_model.specs.Namenode.{IsShaped, is_taken}
 
 -- the error that stands for a fault of a namenode
 abbrev pub error_of : AskFault → HdfsError

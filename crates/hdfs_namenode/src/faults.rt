@@ -1,6 +1,7 @@
 //! What an answer and a fault of a namenode are for a caller.
 ghost use Rattle.std.specs.Prelude.{◌≡◌};
-ghost use Rattle.hdfs_namenode.specs.Asked.{outcome_of, error_of, is_taken};
+ghost use Rattle.hdfs_model.specs.Namenode.{is_taken};
+ghost use Rattle.hdfs_namenode.specs.Asked.{outcome_of, error_of};
 
 use hdfs_model::{Answer, AskFault, HdfsError};
 

@@ -1,6 +1,6 @@
 //! The calls of a namenode.
 ghost use Rattle.std.specs.Prelude.{◌≡◌, ◌<◌, Some, None, Ok, IfOk, IfSome, OnErr, option_copied};
-ghost use Rattle.hdfs_model.specs.Namenode.{IsShaped};
+ghost use Rattle.hdfs_model.specs.Namenode.{IsShaped, IsToWrite};
 ghost use Rattle.hdfs_model.specs.declared.asks.Ask.TheVariants as asks;
 ghost use Rattle.hdfs_model.specs.declared.asks.Answer.TheVariants as answers;
 ghost use Rattle.hdfs_model.specs.declared.errors.HdfsError.TheVariants as errors;
@@ -168,6 +168,7 @@ impl NamenodeProtocol {
     ) -> Result<Appended, HdfsError>
         requires { 0 < (C.shown cluster.old).namenodes }
         ensures asked { AskedOnce C.serves (asks.Append src.now (name_of self.now) flag) cluster.old (as_answer answers.Append result) cluster.new }
+        ensures block { IfOk result (λ appended. IfSome appended.block IsToWrite) }
     {
         let ask = Ask::Append {
             src: Text::from_str(self.alloc, src)?,

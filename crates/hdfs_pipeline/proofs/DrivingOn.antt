@@ -15,7 +15,7 @@ use Rattle.hdfs_model.specs.Pipes.{NotAcknowledged, NotSent, nodes_of}
 use Rattle.hdfs_model.specs.Sending.{uuids, WritePlace}
 use Rattle.hdfs_model.specs.Shown.{Shown}
 use Rattle.hdfs_model.specs.Writing.{OnlyBlock, GoesFurther, Sends, MayBeBehind}
-use Rattle.hdfs_model.proofs.Frames.{told_after, later_refl, later_trans, rose_since, same_picture_refl}
+use Rattle.hdfs_model.proofs.Frames.{told_after, rose_since, same_picture_refl, only_writes_refl, only_writes_trans}
 use Rattle.hdfs_pipeline.specs.declared.event.Event.TheVariants.{Push, Take, Wrote, WriteFailed}
 use Rattle.hdfs_pipeline.specs.Cores.{Follows, CanTake, next_of}
 use Rattle.hdfs_pipeline.proofs.Rows.{pushes, takes, writes, fails_to_write}
@@ -27,12 +27,7 @@ use Rattle.hdfs_pipeline.proofs.Driving.{RoseAt, IsNotLast}
 -- calls on a link, one after another
 pub on_trans : (link : ℕ) (a b c : Shown) → OnLink link a b → OnLink link b c → OnLink link a c
 on_trans link a b c f g = record {
-  only = record {
-    later = later_trans a b c f.only.later g.only.later;
-    last = g.only.last ∙ f.only.last;
-    calls = λ i. g.only.calls i ∙ f.only.calls i;
-    reads = λ other. g.only.reads other ∙ f.only.reads other;
-  };
+  only = only_writes_trans a b c f.only g.only;
   others = λ other apart. g.others other apart ∙ f.others other apart;
   still_open = λ write is. let first = f.still_open write is in let then = g.still_open first.0 first.1 in (then.0, then.1, then.2 ∙ first.2);
 }
@@ -166,7 +161,7 @@ module _ (link : ℕ) (more : List Outgoing) (c d e : Pipeline) (a b z : Shown) 
 pub drove_refl : (link : ℕ) (core : Pipeline) (a : Shown) → Drives a link core → Drove link [] core a core a
 drove_refl link core a drives = record {
   on = record {
-    only = record { later = later_refl a; last = refl; calls = λ i. refl; reads = λ other. refl };
+    only = only_writes_refl a;
     others = λ other apart. refl;
     still_open = λ write is. (write, is, refl);
   };
