@@ -25,30 +25,30 @@ use Rattle.hdfs_namenode.specs.Asked.{AskedOnce, as_answer, error_of as asked_er
 use Rattle.hdfs_files.specs.declared.file_writer.FileWriter.{FileWriter}
 use Rattle.hdfs_files.specs.OnlyFiles.{OnlyFile}
 use Rattle.hdfs_files.specs.Tails.{FileCarries}
-use Rattle.hdfs_files.specs.Writers.{tail_by, tail_of, link_of, link_by, OnlyOwnLink, Closed, FailsToClose}
+use Rattle.hdfs_files.specs.Writers.{tail_done, tail_by, tail_of, IsBetweenBlocks, link_of, link_by, OnlyOwnLink, Closed, FailsToClose}
 use Rattle.hdfs_files.proofs.Completing.{IsAsked, says_closed, says_not, says_nothing, says_rose}
 use Rattle.hdfs_files.proofs.Growing.{closed_agrees}
 use Rattle.hdfs_files.proofs.Joining.{tells_since, tells_close}
 use Rattle.hdfs_files.proofs.Moving.{own_link_refl, own_link_trans, own_link_served, only_file_refl}
-use Rattle.hdfs_files.proofs.Steps.{Shows, tells_exception, exception_cause}
+use Rattle.hdfs_files.proofs.Steps.{Shows, as_done, tells_exception, exception_cause}
 
 -- So many answers were false, each of which says that the namenode has failed; and the file is closed, or not yet.
 pub record Asking (tries : ℕ) (a : Shown) (w : FileWriter) (b : Shown) : Type 0 where
   pub size : b.namenodes ≡ a.namenodes
   pub own : OnlyOwnLink a None b None
   pub last : (tries ≡ 0) ⊎ (b.last ≡ last_answers.Fine)
-  pub told : (p : Picture) (bytes : List ℕ) → a.picture ≡ Some p → (c : FileCarries p w.path (tail_by None w.last) bytes)
+  pub told : (p : Picture) (bytes : List ℕ) → a.picture ≡ Some p → (c : FileCarries p w.path (tail_done w.last) bytes)
       → (q : Picture) × (b.picture ≡ Some q) × IsAsked p w.path bytes w.last c.file q × ((tries ≡ 0) ⊎ CallsRose a.counts b)
 
-module _ (a b : Shown) (w : FileWriter) (none : w.going ≡ None) (sound : Shows IsSound b) (tries : ℕ) (asking : Asking tries a w b) where
+module _ (a b : Shown) (w : FileWriter) (between : IsBetweenBlocks w) (sound : Shows IsSound b) (tries : ℕ) (asking : Asking tries a w b) where
   own_link : (x : Shown) → OnlyOwnLink a None x None → OnlyOwnLink a (link_of w) x None
-  own_link x own = subst (λ (g : Option BlockWriter). OnlyOwnLink a (link_by g) x None) (sym none) own
+  own_link x own = subst (λ (g : Option BlockWriter). OnlyOwnLink a (link_by g) x None) (sym between.none) own
 
   -- what is known of what the writer carries
-  known : (p : Picture) (bytes : List ℕ) → a.picture ≡ Some p → FileCarries p w.path (tail_of w) bytes → FileCarries p w.path (tail_by None w.last) bytes
-  known p bytes told c = subst (λ (g : Option BlockWriter). FileCarries p w.path (tail_by g w.last) bytes) none c
+  known : (p : Picture) (bytes : List ℕ) → a.picture ≡ Some p → FileCarries p w.path (tail_of w) bytes → FileCarries p w.path (tail_done w.last) bytes
+  known p bytes told c = as_done w between p w.path bytes c
 
-  only_asked : (p q : Picture) (bytes : List ℕ) (c : FileCarries p w.path (tail_by None w.last) bytes) → IsAsked p w.path bytes w.last c.file q → OnlyFile w.path p q
+  only_asked : (p q : Picture) (bytes : List ℕ) (c : FileCarries p w.path (tail_done w.last) bytes) → IsAsked p w.path bytes w.last c.file q → OnlyFile w.path p q
   only_asked p q bytes c (inl still) = still.only
   only_asked p q bytes c (inr closed) = closed.only
 
@@ -94,13 +94,14 @@ module _ (a b : Shown) (w : FileWriter) (none : w.going ≡ None) (sound : Shows
     pub asked_true : Served b 0 (asks.Complete w.path client w.last w.file_id) (Ok (answers.Complete true)) c → Closed a w c
     asked_true served = record {
       own = own_link c (own_link_trans a b c None None None asking.own (own_link_served b c 0 (asks.Complete w.path client w.last w.file_id) (Ok (answers.Complete true)) None served));
-      closes = λ p bytes told carried. closes_by p bytes told w.going none carried;
+      closes = λ p bytes told carried. closes_by p bytes told w.going w.reopened between.none between.done carried;
     }
       where
-        closes_by : (p : Picture) (bytes : List ℕ) → a.picture ≡ Some p → (g : Option BlockWriter) → g ≡ None → (carried : FileCarries p w.path (tail_by g w.last) bytes)
+        closes_by : (p : Picture) (bytes : List ℕ) → a.picture ≡ Some p → (g : Option BlockWriter) (o : Option LocatedBlock) → g ≡ None → o ≡ None → (carried : FileCarries p w.path (tail_by g o w.last) bytes)
             → (q : Picture) × (c.picture ≡ Some q) × OnlyFile w.path p q × AgreesAt q (q.names w.path) (Some (File (record { bytes = bytes; attributes = carried.file.attributes })))
-        closes_by p bytes told (Some block) is carried = absurd (cc is)
-        closes_by p bytes told None is carried =
+        closes_by p bytes told (Some block) o is done carried = absurd (cc is)
+        closes_by p bytes told None (Some located) is done carried = absurd (cc done)
+        closes_by p bytes told None None is done carried =
             let f = asking.told p bytes told carried in
             let says = says_closed p w.path bytes w.last carried.file b c 0 client w.file_id f.0 f.1 (sound f.0 f.1) f.2 served in
             (says.0, says.1, says.2.only, closed_agrees p says.0 w.path bytes w.last carried.file says.2)
@@ -115,7 +116,7 @@ module _ (a b : Shown) (w : FileWriter) (none : w.going ≡ None) (sound : Shows
           (let c' = known p bytes told carried in
           let f = asking.told p bytes told c' in
           says_nothing p w.path bytes w.last c'.file b c 0 client w.file_id f.0 f.1 (sound f.0 f.1) fault f.2 served);
-      cause = λ p bytes told size carried. exception_cause a c fault (λ class message same.
+      cause = λ p bytes told size carried. exception_cause w.path a c fault (λ class message same.
           (let c' = known p bytes told carried in
           let f = asking.told p bytes told c' in
           let first : 0 ≡ f.0.active = omega (arith, active f.0 f.1, asking.size, size) in

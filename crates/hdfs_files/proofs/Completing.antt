@@ -16,7 +16,7 @@ use Rattle.hdfs_model.specs.Sound.{IsSound}
 use Rattle.hdfs_blocks.specs.Carrying.{HoldsWhole}
 use Rattle.hdfs_files.specs.OnlyFiles.{KeepsBlocks, OnlyFile}
 use Rattle.hdfs_files.specs.Tails.{StoresFront, FileCarries}
-use Rattle.hdfs_files.specs.Writers.{tail_by}
+use Rattle.hdfs_files.specs.Writers.{tail_done}
 use Rattle.hdfs_files.proofs.Asked.{completed, not_completed, not_answered, complete_rose}
 use Rattle.hdfs_files.proofs.Growing.{IsClosedAs, closes, last_of_carried}
 use Rattle.hdfs_files.proofs.Moving.{only_file_trans}
@@ -40,7 +40,7 @@ whole_same p q id n nodes bytes same w = record {
   same_listed = w.same_listed;
 }
 
-pub carries_same : (p q : Picture) (path : List ℕ) (last : Option Block) (bytes : List ℕ) → SameFiles p q → FileCarries p path (tail_by None last) bytes → FileCarries q path (tail_by None last) bytes
+pub carries_same : (p q : Picture) (path : List ℕ) (last : Option Block) (bytes : List ℕ) → SameFiles p q → FileCarries p path (tail_done last) bytes → FileCarries q path (tail_done last) bytes
 carries_same p q path None bytes same c = record { file = c.file; named = same.names path ∙ c.named; being_written = c.being_written; carries = c.carries }
 carries_same p q path (Some block) bytes same c = record {
   file = c.file;
@@ -49,7 +49,7 @@ carries_same p q path (Some block) bytes same c = record {
   carries = (c.carries.0, front_same p q c.file.blocks block.block_id bytes c.carries.0 same c.carries.1, (c.carries.2.0, whole_same p q block.block_id block.num_bytes c.carries.2.0 c.carries.0 same c.carries.2.1));
 }
 
-same_file_kept : (p q : Picture) (path : List ℕ) (last : Option Block) (bytes : List ℕ) (same : SameFiles p q) (c : FileCarries p path (tail_by None last) bytes) → (carries_same p q path last bytes same c).file ≡ c.file
+same_file_kept : (p q : Picture) (path : List ℕ) (last : Option Block) (bytes : List ℕ) (same : SameFiles p q) (c : FileCarries p path (tail_done last) bytes) → (carries_same p q path last bytes same c).file ≡ c.file
 unfolding carries_same
 same_file_kept p q path None bytes same c = refl
 same_file_kept p q path (Some block) bytes same c = refl
@@ -57,7 +57,7 @@ same_file_kept p q path (Some block) bytes same c = refl
 -- the file is still being written
 pub record IsStill (p : Picture) (path bytes : List ℕ) (last : Option Block) (file : FileEntry) (q : Picture) : Type 0 where
   pub only : OnlyFile path p q
-  pub carried : FileCarries q path (tail_by None last) bytes
+  pub carried : FileCarries q path (tail_done last) bytes
   pub same : carried.file ≡ file
 
 -- it is closed, or not yet

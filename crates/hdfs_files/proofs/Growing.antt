@@ -18,7 +18,7 @@ use Rattle.hdfs_model.specs.Stores.{AgreesAt, StoresBlocks}
 use Rattle.hdfs_blocks.specs.Carrying.{HoldsWhole}
 use Rattle.hdfs_files.specs.OnlyFiles.{OnlyFile, SameFile}
 use Rattle.hdfs_files.specs.Tails.{Bare, StoresFront, FileCarries}
-use Rattle.hdfs_files.specs.Writers.{tail_by}
+use Rattle.hdfs_files.specs.Writers.{tail_done}
 use Rattle.hdfs_files.proofs.Adding as adding
 use Rattle.hdfs_files.proofs.Placing.{at_path}
 use Rattle.hdfs_files.proofs.Touching as touching
@@ -35,13 +35,13 @@ pub record Grown (p : Picture) (path bytes : List ℕ) (found : LocatedBlock) (q
   pub same : SameFile path p q
 
 -- the last block that is done is one of the file's, and its last one
-pub last_of_carried : (p : Picture) (path : List ℕ) (last : Option Block) (bytes : List ℕ) (c : FileCarries p path (tail_by None last) bytes) → IsSound p → HasBlock c.file.blocks last × IsLast c.file.blocks last
+pub last_of_carried : (p : Picture) (path : List ℕ) (last : Option Block) (bytes : List ℕ) (c : FileCarries p path (tail_done last) bytes) → IsSound p → HasBlock c.file.blocks last × IsLast c.file.blocks last
 last_of_carried p path None bytes c sound = (tt, c.carries.0)
 last_of_carried p path (Some block) bytes c sound =
     (adding.has_last p p sound path c.file c.named block.block_id block.num_bytes bytes block refl refl c.carries, adding.ends_in_last p p sound path c.file c.named block.block_id block.num_bytes bytes block refl refl c.carries)
 
 -- a block more
-pub grows : (p q : Picture) → IsSound p → (path : List ℕ) (last : Option Block) (bytes : List ℕ) (c : FileCarries p path (tail_by None last) bytes) (found : LocatedBlock) → AddsBlock path c.file last found p q → Grown p path bytes found q
+pub grows : (p q : Picture) → IsSound p → (path : List ℕ) (last : Option Block) (bytes : List ℕ) (c : FileCarries p path (tail_done last) bytes) (found : LocatedBlock) → AddsBlock path c.file last found p q → Grown p path bytes found q
 grows p q sound path None bytes c found adds =
     let new = adding.first_new p q sound path c.file c.named c.carries.0 found adds in
     let stored = adding.first_stored p q sound path c.file c.named c.carries.0 bytes c.carries.1 in record {
@@ -80,7 +80,7 @@ closed_agrees p q path bytes last file closed =
     subst (λ (e : Option Entry). AgreesAt q e (Some (File (record { bytes = bytes; attributes = file.attributes })))) (sym closed.named) (refl, refl, closed.stores)
 
 -- the file is closed
-pub closes : (p q : Picture) → IsSound p → (path : List ℕ) (last : Option Block) (bytes : List ℕ) (c : FileCarries p path (tail_by None last) bytes) → Completes path c.file last p q → IsClosedAs p path bytes last c.file q
+pub closes : (p q : Picture) → IsSound p → (path : List ℕ) (last : Option Block) (bytes : List ℕ) (c : FileCarries p path (tail_done last) bytes) → Completes path c.file last p q → IsClosedAs p path bytes last c.file q
 closes p q sound path None bytes c done =
     let changes : Changes p q (with_entry p.names path (record c.file { is_open = false })) (with_length p.table None) = subst (λ (b : Bool). ClosesIf b path c.file None p q) c.being_written done.1 in record {
       only = touching.only_file_length p q path c.file c.named None (λ other away. refl) (record c.file { is_open = false }) refl changes;

@@ -7,7 +7,7 @@ use Rattle.hdfs_model.specs.declared.errors.HdfsError.TheVariants as errors
 use Rattle.hdfs_model.specs.declared.errors.IoFault.TheVariants as io_faults
 use Rattle.hdfs_model.specs.declared.errors.TransferFault.TheVariants as transfer
 use Rattle.hdfs_model.specs.declared.picture.FileEntry.{FileEntry}
-use Rattle.hdfs_model.specs.Causes.{CallsRose}
+use Rattle.hdfs_model.specs.Causes.{CallsRose, PipelineFailed}
 use Rattle.hdfs_model.specs.Files.{File}
 use Rattle.hdfs_model.specs.Picture.{Picture}
 use Rattle.hdfs_model.specs.Shown.{Shown, Later}
@@ -48,6 +48,7 @@ tells_since a b c (errors.DataTransferError (transfer.Read byte)) later after h 
 tells_since a b c (errors.DataTransferError transfer.Setup) later after h = rose_since a.counts.links b.counts.links c.counts.links c.counts.links later.counts.links h (omega arith)
 tells_since a b c (errors.DataTransferError transfer.AllNodes) later after h = (h.0, rose_since (a.counts.nodes h.0) (b.counts.nodes h.0) (c.counts.nodes h.0) (c.counts.nodes h.0) (later.counts.nodes h.0) h.1 (omega arith))
 tells_since a b c (errors.DataTransferError (transfer.BadAck seqno)) later after h = rose_since a.counts.links b.counts.links c.counts.links c.counts.links later.counts.links h (omega arith)
+tells_since a b c (errors.InvalidPath text) later after h = absurd h
 tells_since a b c (errors.InvalidArgument fault) later after h = absurd h
 tells_since a b c (errors.AlreadyExists message) later after h = h
 tells_since a b c (errors.OperationFailed name) later after h = absurd h
@@ -60,6 +61,7 @@ tells_close path a b errors.NoMemory h = h
 tells_close path a b errors.Failed h = h
 tells_close path a b (errors.IOError fault) h = h
 tells_close path a b (errors.DataTransferError fault) h = h
+tells_close path a b (errors.InvalidPath text) h = h
 tells_close path a b (errors.InvalidArgument fault) h = h
 tells_close path a b (errors.AlreadyExists message) h = h
 tells_close path a b (errors.OperationFailed name) h = absurd h
@@ -71,6 +73,7 @@ close_since path a b c errors.NoMemory later after h = tells_since a b c errors.
 close_since path a b c errors.Failed later after h = tells_since a b c errors.Failed later after h
 close_since path a b c (errors.IOError fault) later after h = tells_since a b c (errors.IOError fault) later after h
 close_since path a b c (errors.DataTransferError fault) later after h = tells_since a b c (errors.DataTransferError fault) later after h
+close_since path a b c (errors.InvalidPath text) later after h = tells_since a b c (errors.InvalidPath text) later after h
 close_since path a b c (errors.InvalidArgument fault) later after h = tells_since a b c (errors.InvalidArgument fault) later after h
 close_since path a b c (errors.AlreadyExists message) later after h = tells_since a b c (errors.AlreadyExists message) later after h
 close_since path a b c (errors.OperationFailed name) later after h = h
@@ -80,21 +83,44 @@ close_since path a b c (errors.RPCError class message) later after h = tells_sin
 calls_since : (a b c : Shown) → Later a b → CallsRose b.counts c → CallsRose a.counts c
 calls_since a b c later h = (h.0, h.1, rose_since (a.counts.calls h.0) (b.counts.calls h.0) (c.counts.calls h.0) (c.counts.calls h.0) (later.counts.calls h.0) h.2 (omega arith))
 
-pub cause_since : (a b c : Shown) (e : HdfsError) → Later a b → CauseOfWrite b c e → CauseOfWrite a c e
-cause_since a b c errors.NoMemory later h = tt
-cause_since a b c errors.Failed later h = tt
-cause_since a b c (errors.IOError fault) later h = tt
-cause_since a b c (errors.DataTransferError fault) later h = tt
-cause_since a b c (errors.InvalidArgument fault) later h = tt
-cause_since a b c (errors.AlreadyExists message) later h = calls_since a b c later h
-cause_since a b c (errors.OperationFailed name) later h = calls_since a b c later h
-cause_since a b c (errors.FileNotFound name) later h = tt
-cause_since a b c (errors.RPCError class message) later h = calls_since a b c later h
+failed_since : (path : List ℕ) (a b c : Shown) → Later a b → PipelineFailed b.counts c path → PipelineFailed a.counts c path
+failed_since path a b c later h = record {
+  picture = h.picture;
+  told = h.told;
+  file = h.file;
+  named = h.named;
+  front = h.front;
+  id = h.id;
+  last = h.last;
+  entry = h.entry;
+  is = h.is;
+  failed =
+      let any = h.failed in
+      let node = any.1 in
+      (any.0, node, any.2, any.3, rose_since (a.counts.nodes node) (b.counts.nodes node) (c.counts.nodes node) (c.counts.nodes node) (later.counts.nodes node) any.4 (omega arith));
+}
+
+pub cause_since : (path : List ℕ) (a b c : Shown) (e : HdfsError) → Later a b → CauseOfWrite path b c e → CauseOfWrite path a c e
+cause_since path a b c errors.NoMemory later h = tt
+cause_since path a b c errors.Failed later h = tt
+cause_since path a b c (errors.IOError fault) later h = tt
+cause_since path a b c (errors.DataTransferError (transfer.Read byte)) later h = tt
+cause_since path a b c (errors.DataTransferError transfer.Setup) later h = tt
+cause_since path a b c (errors.DataTransferError transfer.AllNodes) later h = failed_since path a b c later h
+cause_since path a b c (errors.DataTransferError (transfer.BadAck seqno)) later h = tt
+cause_since path a b c (errors.InvalidPath text) later h = tt
+cause_since path a b c (errors.InvalidArgument fault) later h = tt
+cause_since path a b c (errors.AlreadyExists message) later h = calls_since a b c later h
+cause_since path a b c (errors.OperationFailed name) later h = calls_since a b c later h
+cause_since path a b c (errors.FileNotFound name) later h = tt
+cause_since path a b c (errors.RPCError class message) later h = calls_since a b c later h
 
 has_cause_behind : (a b c : Shown) (w x : FileWriter) (one : List ℕ) (e : HdfsError) → Wrote a w one b x → HasCause b x e c → HasCause a w e c
 has_cause_behind a b c w x one e first then p bytes told size carried =
     let f = first.carries p bytes told carried in
-    cause_since a b c e first.own.later (then f.0 (bytes ++ one) f.1 (first.own.later.namenodes ∙ size) (subst (λ (path : List ℕ). FileCarries f.0 path (tail_of x) (bytes ++ one)) (sym first.keeps.path) f.2))
+    let carried' = subst (λ (path : List ℕ). FileCarries f.0 path (tail_of x) (bytes ++ one)) (sym first.keeps.path) f.2 in
+    cause_since w.path a b c e first.own.later
+    (subst (λ (path : List ℕ). CauseOfWrite path b c e) first.keeps.path (then f.0 (bytes ++ one) f.1 (first.own.later.namenodes ∙ size) carried'))
 
 -- a call that fails behind others
 pub fails_after : (a b c : Shown) (w x : FileWriter) (one : List ℕ) (e : HdfsError) → Wrote a w one b x → Fails b x e c → Fails a w e c

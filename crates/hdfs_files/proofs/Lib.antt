@@ -12,3 +12,5 @@ pub mod Steps
 pub mod Joining
 pub mod Closing
 pub mod Standing
+pub mod Reopening
+pub mod Creating

@@ -8,9 +8,12 @@ use Rattle.hdfs_model.specs.declared.asks.Ask.{Ask}
 use Rattle.hdfs_model.specs.declared.asks.AskFault.{AskFault}
 use Rattle.hdfs_model.specs.declared.asks.LinkFault.{LinkFault}
 use Rattle.hdfs_model.specs.declared.messages.Setup.{Setup}
-use Rattle.hdfs_model.specs.Pipes.{WriteOpened, WriteNotOpened}
-use Rattle.hdfs_model.specs.Shown.{Shown, Served}
-use Rattle.hdfs_model.proofs.Frames.{later_refl, later_trans}
+use Rattle.hdfs_model.specs.Counts.{Rose}
+use Rattle.hdfs_model.specs.Namenode.{ServesTold}
+use Rattle.hdfs_model.specs.Pipes.{OnlyWrites, WriteOpened, WriteNotOpened}
+use Rattle.hdfs_model.specs.Shown.{Shown, Served, SameReads, SameReadPlaces}
+use Rattle.hdfs_model.proofs.Asking.{served_keeps}
+use Rattle.hdfs_model.proofs.Frames.{later_refl, later_trans, told_weaker, same_reads_refl, same_reads_trans}
 use Rattle.hdfs_blocks.specs.Writes.{AtLink}
 use Rattle.hdfs_files.specs.OnlyFiles.{OnlyFile, SameFile}
 use Rattle.hdfs_files.specs.Writers.{OnlyOwnLink}
@@ -62,10 +65,22 @@ none_or_some : {X : Type 0} (o : Option X) → (o ≡ None) ⊎ IsSome o
 none_or_some None = inl refl
 none_or_some (Some x) = inr refl
 
+-- calls on write links leave the read links
+only_writes_reads : (a b : Shown) → OnlyWrites a b → SameReads a b
+only_writes_reads a b only = record { links = only.reads; places = only.places }
+
+-- and so does an ask
+served_reads : (a b : Shown) (i : ℕ) (ask : Ask) (result : Result Answer AskFault) → Served a i ask result b → SameReads a b
+served_reads a b i ask result served = record {
+  links = served.reads;
+  places = told_weaker (λ p q. ServesTold (Rose (a.counts.calls i) (b.counts.calls i)) p i ask result q) (SameReadPlaces a) a.picture b.picture
+      (λ p q h link is. (served_keeps (Rose (a.counts.calls i) (b.counts.calls i)) p q i ask result h).reads link) served.picture;
+}
+
 pub own_link_trans : (a b c : Shown) (x y z : Option ℕ) → OnlyOwnLink a x b y → OnlyOwnLink b y c z → OnlyOwnLink a x c z
 own_link_trans a b c x y z one two = record {
   later = later_trans a b c one.later two.later;
-  reads = λ link. two.reads link ∙ one.reads link;
+  reads = same_reads_trans a b c one.reads two.reads;
   others = λ link some apart.
       (let same = one.others link some apart in
       let still : IsSome (b.writes link) = subst IsSome (sym same) some in
@@ -87,7 +102,7 @@ own_link_trans a b c x y z one two = record {
 pub own_link_refl : (a : Shown) (x : Option ℕ) → OnlyOwnLink a x a x
 own_link_refl a x = record {
   later = later_refl a;
-  reads = λ link. refl;
+  reads = same_reads_refl a;
   others = λ link some apart. refl;
   none = λ link was apart. ⊎_elim (λ none. none) (λ own. absurd (apart own)) was;
   fresh = λ link mine. inl mine;
@@ -97,7 +112,7 @@ own_link_refl a x = record {
 pub own_link_at : (a b : Shown) (x : Option ℕ) → AtLink x a b → OnlyOwnLink a x b x
 own_link_at a b x at = record {
   later = at.only.later;
-  reads = at.only.reads;
+  reads = only_writes_reads a b at.only;
   others = λ link some apart. at.others link apart;
   none = λ link was apart. ⊎_elim (λ none. at.others link apart ∙ none) (λ own. absurd (apart own)) was;
   fresh = λ link mine. inl mine;
@@ -107,7 +122,7 @@ own_link_at a b x at = record {
 pub own_link_ended : (a b : Shown) (x : Option ℕ) → AtLink x a b → ((link : ℕ) → x ≡ Some link → b.writes link ≡ None) → OnlyOwnLink a x b None
 own_link_ended a b x at ended = record {
   later = at.only.later;
-  reads = at.only.reads;
+  reads = only_writes_reads a b at.only;
   others = λ link some apart. at.others link apart;
   none = λ link was apart. ⊎_elim
       (λ none. ⊎_elim (λ own. ended link own) (λ away. at.others link away ∙ none) (own_cases x link))
@@ -120,7 +135,7 @@ own_link_ended a b x at ended = record {
 pub own_link_served : (a b : Shown) (i : ℕ) (ask : Ask) (result : Result Answer AskFault) (x : Option ℕ) → Served a i ask result b → OnlyOwnLink a x b x
 own_link_served a b i ask result x served = record {
   later = served.later;
-  reads = served.reads;
+  reads = served_reads a b i ask result served;
   others = λ link some apart. served.writes link;
   none = λ link was apart. ⊎_elim (λ none. served.writes link ∙ none) (λ own. absurd (apart own)) was;
   fresh = λ link mine. inl mine;
@@ -130,7 +145,7 @@ own_link_served a b i ask result x served = record {
 pub own_link_opened : (a b : Shown) (setup : Setup) (link : ℕ) (x : Option ℕ) → x ≡ Some link → WriteOpened a setup link b → OnlyOwnLink a None b x
 own_link_opened a b setup link x is opened = record {
   later = opened.only.later;
-  reads = opened.only.reads;
+  reads = only_writes_reads a b opened.only;
   others = λ other some apart. opened.others other (λ same. some_none (a.writes other) some (ap a.writes same ∙ opened.fresh.write));
   none = λ other was apart. ⊎_elim (λ none. opened.others other (λ same. apart (is ∙ ap (λ (n : ℕ). Some n) (sym same))) ∙ none) (λ own. absurd (cc own)) was;
   fresh = λ other mine. inr (ap a.writes (let same : other ≡ link = cc (mine, is) in same) ∙ opened.fresh.write);
@@ -140,7 +155,7 @@ own_link_opened a b setup link x is opened = record {
 pub own_link_unopened : (a b : Shown) (setup : Setup) (fault : LinkFault) (x : Option ℕ) → WriteNotOpened a setup fault b → OnlyOwnLink a x b x
 own_link_unopened a b setup fault x not_opened = record {
   later = not_opened.only.later;
-  reads = not_opened.only.reads;
+  reads = only_writes_reads a b not_opened.only;
   others = λ link some apart. not_opened.writes link;
   none = λ link was apart. ⊎_elim (λ none. not_opened.writes link ∙ none) (λ own. absurd (apart own)) was;
   fresh = λ link mine. inl mine;

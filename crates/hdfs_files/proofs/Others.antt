@@ -1,5 +1,5 @@
 -- What a writer of one file leaves of the others.
-use Rattle.std.proofs.Common.{◌≡◌, ◌≢◌, ℕ, List, [], ◌∷◌, Option, Some, None, refl, sym, ◌∙◌, subst, arith}
+use Rattle.std.proofs.Common.{◌≡◌, ◌≢◌, ℕ, List, [], ◌∷◌, Option, Some, None, refl, sym, ◌∙◌, ap, subst, arith}
 use Rattle.std.proofs.lemmas.List.{get_or_default}
 use Rattle.std.specs.Prelude.{Contains, slice_index_or, IsSome}
 use Rattle.hdfs_model.specs.declared.picture.Entry.{Entry}
@@ -8,12 +8,18 @@ use Rattle.hdfs_model.specs.declared.picture.FileEntry.{FileEntry}
 use Rattle.hdfs_model.specs.Effects.{blocks_at}
 use Rattle.hdfs_model.specs.Files.{Node, Dir, File, Writing}
 use Rattle.hdfs_model.specs.Picture.{Picture}
+use Rattle.hdfs_model.specs.Shown.{Shown}
 use Rattle.hdfs_model.specs.Sound.{IsSound, IsFileAt, IsBlockAt}
 use Rattle.hdfs_model.specs.Stores.{AgreesAt}
+use Rattle.hdfs_model.specs.Sending.{WritePlace, uuids}
+use Rattle.hdfs_blocks.specs.Carrying.{HoldsWhole}
 use Rattle.hdfs_blocks.specs.Writers.{block_of, view_of}
+use Rattle.hdfs_blocks.proofs.Beside.{still_stands}
 use Rattle.hdfs_blocks.proofs.Carried.{carries_stays}
+use Rattle.hdfs_files.specs.declared.file_writer.FileWriter.{FileWriter}
 use Rattle.hdfs_files.specs.OnlyFiles.{KeepsBlocks, OnlyFile}
-use Rattle.hdfs_files.specs.Tails.{Tail, Bare, Finished, Going, StoresFront, TailCarries, FileCarries}
+use Rattle.hdfs_files.specs.Tails.{Tail, Bare, Finished, Reopened, Going, StoresFront, TailCarries, FileCarries}
+use Rattle.hdfs_files.specs.Writers.{link_by, link_of, Stands}
 use Rattle.hdfs_files.proofs.Placing.{contains_last, contains_left}
 use Rattle.hdfs_files.proofs.Storing.{block_stays, stores_keeps}
 
@@ -30,20 +36,63 @@ pub apart_blocks : (p : Picture) → IsSound p → (path other : List ℕ) (mine
 apart_blocks p sound path other mine file id apart is is' here there =
     apart (sound.once other path there.0 here.0 id (block_at p other file id is' there) (block_at p path mine id is here)).0
 
-module _ (path : List ℕ) (p q : Picture) (sound : IsSound p) (only : OnlyFile path p q) where
-  -- a block of another file isn't one of this file's
-  elsewhere : (other : List ℕ) (file : FileEntry) → other ≢ path → IsFileAt p other file → (id : ℕ) → Contains file.blocks id → Contains (blocks_at (p.names path)) id → ⊥
-  elsewhere other file apart is id there here = by_entry (p.names path) refl here
-    where
-      by_entry : (e : Option Entry) → p.names path ≡ e → Contains (blocks_at e) id → ⊥
-      by_entry None named h = absurd (omega (arith, h.1))
-      by_entry (Some entries.Dir) named h = absurd (omega (arith, h.1))
-      by_entry (Some (entries.File mine)) named h = apart_blocks p sound path other mine file id apart named is h there
+-- a block of another file isn't one of the file's at this path
+pub elsewhere : (p : Picture) → IsSound p → (path other : List ℕ) (file : FileEntry) → other ≢ path → IsFileAt p other file → (id : ℕ) → Contains file.blocks id → Contains (blocks_at (p.names path)) id → ⊥
+elsewhere p sound path other file apart is id there here = by_entry (p.names path) refl here
+  where
+    by_entry : (e : Option Entry) → p.names path ≡ e → Contains (blocks_at e) id → ⊥
+    by_entry None named h = absurd (omega (arith, h.1))
+    by_entry (Some entries.Dir) named h = absurd (omega (arith, h.1))
+    by_entry (Some (entries.File mine)) named h = apart_blocks p sound path other mine file id apart named is h there
 
+-- a file whose blocks stay, and the write links that have them, is carried as it was
+module _ (p q : Picture) (file : FileEntry) (keeps : KeepsBlocks p q file.blocks)
+    (writes : (link : ℕ) (place : WritePlace) → p.writes link ≡ Some place → Contains file.blocks place.block → q.writes link ≡ Some place) where
+  front_stays : (last : ℕ) (bytes rest : List ℕ) → StoresFront p file.blocks last bytes rest → StoresFront q file.blocks last bytes rest
+  front_stays last bytes rest s = record {
+    front = s.front;
+    ends = s.ends;
+    before = s.before;
+    cut = s.cut;
+    stored = stores_keeps p q s.front s.before (λ id there. keeps id (subst (λ (l : List ℕ). Contains l id) (sym s.ends) (contains_left s.front (last ∷ []) id there))) s.stored;
+  }
+
+  whole_stays : (id n : ℕ) (nodes : List (List ℕ)) (bytes : List ℕ) → Contains file.blocks id → HoldsWhole p id n nodes bytes → HoldsWhole q id n nodes bytes
+  whole_stays id n nodes bytes there whole = record {
+    entry = whole.entry;
+    is = (keeps id there).0 ∙ whole.is;
+    stores = block_stays p q id (record whole.entry { length = n }) bytes (keeps id there).1 whole.stores;
+    whole = λ k d lt. (keeps id there).1 (slice_index_or nodes k d) ∙ whole.whole k d lt;
+    some = whole.some;
+    same_listed = whole.same_listed;
+  }
+
+  is_last : (last : ℕ) (bytes rest : List ℕ) → StoresFront p file.blocks last bytes rest → Contains file.blocks last
+  is_last last bytes rest s = subst (λ (l : List ℕ). Contains l last) (sym s.ends) (contains_last s.front last)
+
+  pub tail_stays : (tail : Tail) (bytes : List ℕ) → TailCarries p file.blocks tail bytes → TailCarries q file.blocks tail bytes
+  tail_stays Bare bytes t = t
+  tail_stays (Finished id n) bytes t = (t.0, front_stays id bytes t.0 t.1, (t.2.0, whole_stays id n t.2.0 t.0 (is_last id bytes t.0 t.1) t.2.1))
+  tail_stays (Reopened located) bytes t =
+      let id = located.b.block_id in
+      (t.0, front_stays id bytes t.0 t.1, whole_stays id located.b.num_bytes (uuids located.locs) t.0 (is_last id bytes t.0 t.1) t.2)
+  tail_stays (Going writer) bytes t =
+      let id = (block_of writer).block_id in
+      let there = is_last id bytes t.0 t.1 in
+      let held = t.2.1 in
+      let view = view_of writer held.pipe t.2.0 in
+      let on = held.carries.linked.on in
+      let link = writes view.link on.place on.told (subst (Contains file.blocks) (sym on.block) there) in (
+        t.0,
+        front_stays id bytes t.0 t.1,
+        (t.2.0, record { pipe = held.pipe; is = held.is; many = held.many; carries = carries_stays p view t.0 held.carries q link (keeps id there).0 (keeps id there).1 }),
+      )
+
+module _ (path : List ℕ) (p q : Picture) (sound : IsSound p) (only : OnlyFile path p q) where
   -- the blocks of another file stay
   pub others_keep : (other : List ℕ) (file : FileEntry) → other ≢ path → IsFileAt p other file → KeepsBlocks p q file.blocks
   others_keep other file apart is id there =
-      only.blocks id (is_listed p sound other file id is there) (elsewhere other file apart is id there)
+      only.blocks id (is_listed p sound other file id is there) (elsewhere p sound path other file apart is id there)
 
   agrees_by : (other : List ℕ) (e : Option Entry) (node : Option Node) → other ≢ path → p.names other ≡ e → AgreesAt p e node → AgreesAt q e node
   agrees_by other None None apart is h = tt
@@ -61,48 +110,9 @@ module _ (path : List ℕ) (p q : Picture) (sound : IsSound p) (only : OnlyFile 
   pub agrees_others : (other : List ℕ) (node : Option Node) → other ≢ path → AgreesAt p (p.names other) node → AgreesAt q (q.names other) node
   agrees_others other node apart h = subst (λ (e : Option Entry). AgreesAt q e node) (sym (only.names other apart)) (agrees_by other (p.names other) node apart refl h)
 
-  front_stays : (blocks : List ℕ) (last : ℕ) (bytes rest : List ℕ) → KeepsBlocks p q blocks → StoresFront p blocks last bytes rest → StoresFront q blocks last bytes rest
-  front_stays blocks last bytes rest keeps s = record {
-    front = s.front;
-    ends = s.ends;
-    before = s.before;
-    cut = s.cut;
-    stored = stores_keeps p q s.front s.before (λ id there. keeps id (subst (λ (l : List ℕ). Contains l id) (sym s.ends) (contains_left s.front (last ∷ []) id there))) s.stored;
-  }
-
-  tail_stays : (file : FileEntry) (tail : Tail) (bytes : List ℕ) → (other : List ℕ) → other ≢ path → IsFileAt p other file → TailCarries p file.blocks tail bytes → TailCarries q file.blocks tail bytes
-  tail_stays file Bare bytes other apart is t = t
-  tail_stays file (Finished id n) bytes other apart is t =
-      let keeps = others_keep other file apart is in
-      let last = keeps id (subst (λ (l : List ℕ). Contains l id) (sym t.1.ends) (contains_last t.1.front id)) in
-      let whole = t.2.1 in (
-        t.0,
-        front_stays file.blocks id bytes t.0 keeps t.1,
-        (
-          t.2.0,
-          record {
-            entry = whole.entry;
-            is = last.0 ∙ whole.is;
-            stores = block_stays p q id (record whole.entry { length = n }) t.0 last.1 whole.stores;
-            whole = λ k d lt. last.1 (slice_index_or t.2.0 k d) ∙ whole.whole k d lt;
-            some = whole.some;
-            same_listed = whole.same_listed;
-          },
-        ),
-      )
-  tail_stays file (Going writer) bytes other apart is t =
-      let id = (block_of writer).block_id in
-      let keeps = others_keep other file apart is in
-      let there = subst (λ (l : List ℕ). Contains l id) (sym t.1.ends) (contains_last t.1.front id) in
-      let last = keeps id there in
-      let held = t.2.1 in
-      let view = view_of writer held.pipe t.2.0 in
-      let on = held.carries.linked.on in
-      let link = only.writes view.link on.place on.told (subst (λ (i : ℕ). IsSome (p.table i)) (sym on.block) (is_listed p sound other file id is there)) (subst (λ (i : ℕ). Contains (blocks_at (p.names path)) i → ⊥) (sym on.block) (elsewhere other file apart is id there)) in (
-        t.0,
-        front_stays file.blocks id bytes t.0 keeps t.1,
-        (t.2.0, record { pipe = held.pipe; is = held.is; many = held.many; carries = carries_stays p view t.0 held.carries q link last.0 last.1 }),
-      )
+  others_link : (other : List ℕ) (file : FileEntry) → other ≢ path → IsFileAt p other file → (link : ℕ) (place : WritePlace) → p.writes link ≡ Some place → Contains file.blocks place.block → q.writes link ≡ Some place
+  others_link other file apart is link place told there =
+      only.writes link place told (is_listed p sound other file place.block is there) (elsewhere p sound path other file apart is place.block there)
 
   -- what the writer of another file carries it carries still
   pub carries_others : (other : List ℕ) (tail : Tail) (bytes : List ℕ) → other ≢ path → FileCarries p other tail bytes → FileCarries q other tail bytes
@@ -110,5 +120,18 @@ module _ (path : List ℕ) (p q : Picture) (sound : IsSound p) (only : OnlyFile 
     file = c.file;
     named = only.names other apart ∙ c.named;
     being_written = c.being_written;
-    carries = tail_stays c.file tail bytes other apart c.named c.carries;
+    carries = tail_stays p q c.file (others_keep other c.file apart c.named) (others_link other c.file apart c.named) tail bytes c.carries;
   }
+
+-- A writer stands still where its link stayed.
+pub stands_beside : (a b : Shown) (w : FileWriter) → ((link : ℕ) → link_of w ≡ Some link → b.writes link ≡ a.writes link) → Stands a w → Stands b w
+stands_beside a b w stays stands = record {
+  packets = stands.packets;
+  going = λ block is.
+      (let going = stands.going block is in
+      record { limited = going.limited; stands = still_stands a b block (λ link named. stays link (ap link_by is ∙ named)) going.stands; size = going.size });
+  is_open = stands.is_open;
+  idle = stands.idle;
+  reopened = stands.reopened;
+  apart = stands.apart;
+}

@@ -1,7 +1,7 @@
 -- How a writer of a file stands behind each step, and what the step has done.
 use Rattle.std.proofs.Common.{◌≡◌, ℕ, ◌<◌, ◌≤◌, min, true, false, List, [], Option, Some, None, IsSome, refl, sym, ◌∙◌, ap, subst, arith}
 use Rattle.std.proofs.lemmas.Bool.{false≢true}
-use Rattle.std.specs.Prelude.{Ok, Err}
+use Rattle.std.specs.Prelude.{Ok, Err, IfSome}
 use Rattle.hdfs_model.specs.declared.asks.Answer.TheVariants as answers
 use Rattle.hdfs_model.specs.declared.asks.Ask.TheVariants as asks
 use Rattle.hdfs_model.specs.declared.asks.AskFault.{AskFault}
@@ -9,9 +9,9 @@ use Rattle.hdfs_model.specs.declared.asks.LinkFault.{LinkFault}
 use Rattle.hdfs_model.specs.declared.errors.HdfsError.TheVariants as errors
 use Rattle.hdfs_model.specs.declared.messages.LocatedBlock.{LocatedBlock}
 use Rattle.hdfs_model.specs.declared.messages.Setup.{Setup}
-use Rattle.hdfs_model.specs.Namenode.{last_of}
+use Rattle.hdfs_model.specs.Namenode.{last_of, IsToWrite}
 use Rattle.hdfs_model.specs.Picture.{Picture}
-use Rattle.hdfs_model.specs.Pipes.{WriteNotOpened}
+use Rattle.hdfs_model.specs.Pipes.{WriteNotOpened, ShowsWrites}
 use Rattle.hdfs_model.specs.Shown.{Shown, Served}
 use Rattle.hdfs_model.specs.Sound.{IsSound}
 use Rattle.hdfs_namenode.specs.Asked.{error_of as asked_error}
@@ -23,11 +23,12 @@ use Rattle.hdfs_blocks.specs.declared.pipe.WriteFault.{WriteFault}
 use Rattle.hdfs_files.specs.declared.file_writer.FileWriter.{FileWriter}
 use Rattle.hdfs_files.specs.declared.sizes.WriteSizes.{WriteSizes}
 use Rattle.hdfs_files.specs.Faults.{error_of}
-use Rattle.hdfs_files.specs.Writers.{AreSizes, link_of, link_by, Keeps, Stands, BlockStands, OnlyOwnLink, Wrote, Fails}
+use Rattle.hdfs_files.specs.Writers.{AreLimited, ArePackets, AreSizes, link_of, link_by, Keeps, Stands, IsBetweenBlocks, BlockStands, OnlyOwnLink, Wrote, Fails}
 use Rattle.hdfs_files.proofs.Asked.{add_rose}
 use Rattle.hdfs_files.proofs.Growing.{last_of_carried}
-use Rattle.hdfs_files.proofs.Moving.{own_link_refl, own_link_trans, own_link_at, own_link_ended, own_link_served, own_link_opened, own_link_unopened, only_file_refl}
-use Rattle.hdfs_files.proofs.Steps.{Shows, ended_carries, gave_up_touches, gave_up_tells, block_cause, wrote_carries, begun_carries, unopened_touches, unopened_tells, unanswered_touches, as_done, tells_exception, exception_cause}
+use Rattle.hdfs_files.proofs.Moving.{own_link_refl, own_link_at, own_link_ended, own_link_served, own_link_opened, own_link_unopened, only_file_refl}
+use Rattle.hdfs_files.proofs.Placing.{some_none}
+use Rattle.hdfs_files.proofs.Steps.{Shows, ended_carries, gave_up_touches, gave_up_tells, gave_up_failed, block_cause, unopened_cause, wrote_carries, added_carries, opened_carries, settled_carries, unopened_touches, unopened_tells, unanswered_touches, as_done, tells_exception, exception_cause}
 
 -- there was no memory before anything was done
 pub starved_fails : (a : Shown) (w : FileWriter) → link_of w ≡ None → Fails a w errors.NoMemory a
@@ -43,20 +44,20 @@ module _ (a b : Shown) (sound : Shows IsSound a) (w : FileWriter) (block : Block
   own_from x own = subst (λ (g : Option BlockWriter). OnlyOwnLink a (link_by g) b x) (sym going) own
 
   -- its block was ended
-  pub ended_wrote : (w' : FileWriter) → Keeps w w' → w'.going ≡ None → w'.last ≡ Some (block_so_far block) → Ends a block b → Wrote a w [] b w'
-  ended_wrote w' keeps none last ends = record {
+  pub ended_wrote : (w' : FileWriter) → Keeps w w' → IsBetweenBlocks w' → w'.last ≡ Some (block_so_far block) → Ends a block b → Wrote a w [] b w'
+  ended_wrote w' keeps between last ends = record {
     keeps = keeps;
-    own = subst (λ (g : Option BlockWriter). OnlyOwnLink a (link_of w) b (link_by g)) (sym none) (own_from None (own_link_ended a b (block_link block) ends.at ends.ended));
-    carries = ended_carries a b sound w block going w' none last ends;
+    own = subst (λ (g : Option BlockWriter). OnlyOwnLink a (link_of w) b (link_by g)) (sym between.none) (own_from None (own_link_ended a b (block_link block) ends.at ends.ended));
+    carries = ended_carries a b sound w block going w' between last ends;
   }
 
   -- its block was given up
-  pub gave_up_fails : BlockStands a w.sizes block → IsSome (block_link block) → (fault : WriteFault) → GaveUp a block fault b → Fails a w (error_of fault) b
-  gave_up_fails stands some fault gave = record {
+  pub gave_up_fails : Shows (ShowsWrites a) a → BlockStands a w.sizes block → IsSome (block_link block) → (fault : WriteFault) → GaveUp a block fault b → Fails a w (error_of fault) b
+  gave_up_fails shows stands some fault gave = record {
     own = own_from None (own_link_ended a b (block_link block) gave.at gave.ended);
     tells = gave_up_tells a b sound w block going stands.stands some fault gave;
     touches = gave_up_touches a b sound w block going fault gave;
-    cause = λ p bytes told size c. block_cause a b fault;
+    cause = λ p bytes told size c. block_cause w.path a b fault (gave_up_failed a b sound w block going shows stands.stands some fault gave p bytes told c);
   }
 
   -- more bytes went into its block
@@ -69,12 +70,13 @@ module _ (a b : Shown) (sound : Shows IsSound a) (w : FileWriter) (block : Block
     carries = wrote_carries a b sound w block going w' block' more going' wrote;
   }
 
-  pub more_stands : (w' : FileWriter) (block' : BlockWriter) (more : List ℕ) → Stands a w → w.failed ≡ false → w'.failed ≡ false → Keeps w w' → w'.going ≡ Some block' → BlockWrote a block more b block' → StandsItself b block' → Stands b w'
-  more_stands w' block' more stands fine fine' keeps going' wrote itself = record {
-    sizes = subst (λ (s : WriteSizes). AreSizes s) (sym keeps.sizes) stands.sizes;
+  pub more_stands : (w' : FileWriter) (block' : BlockWriter) (more : List ℕ) → Stands a w → w.failed ≡ false → w'.failed ≡ false → Keeps w w' → w'.going ≡ Some block' → w'.reopened ≡ w.reopened → BlockWrote a block more b block' → StandsItself b block' → Stands b w'
+  more_stands w' block' more stands fine fine' keeps going' rest wrote itself = record {
+    packets = subst (λ (s : WriteSizes). ArePackets s) (sym keeps.sizes) stands.packets;
     going = λ other is.
         (let same : block' ≡ other = cc (going', is) in
         subst (λ (x : BlockWriter). BlockStands b w'.sizes x) same (record {
+          limited = subst (λ (s : WriteSizes). AreLimited s) (sym keeps.sizes) (stands.going block going).limited;
           stands = itself;
           size = wrote.keeps.block_size ∙ (stands.going block going).size ∙ ap (λ (s : WriteSizes). s.block_size) (sym keeps.sizes);
         }));
@@ -82,66 +84,82 @@ module _ (a b : Shown) (sound : Shows IsSound a) (w : FileWriter) (block : Block
         (let same : block' ≡ other = cc (going', is) in
         subst (λ (x : BlockWriter). IsSome (block_link x)) same (subst IsSome (sym wrote.link) (stands.is_open fine block going)));
     idle = λ failed. absurd (false≢true (sym fine' ∙ failed));
+    reopened = subst (λ (o : Option LocatedBlock). IfSome o IsToWrite) (sym rest) stands.reopened;
+    apart = λ some. (let none : w.going ≡ None = stands.apart (subst IsSome rest some) in absurd (cc (none, going)));
   }
 
   -- it was let go
   pub let_go_own : LetsGo a block b → OnlyOwnLink a (link_of w) b None
   let_go_own gone = own_from None (own_link_ended a b (block_link block) gone.at gone.ended)
 
--- a writer of a file that begins a block
-module _ (a m : Shown) (sound : Shows IsSound a) (w : FileWriter) (none : w.going ≡ None) (client : List ℕ) where
-  idle_own : (x : Shown) (y : Option ℕ) → OnlyOwnLink a None x y → OnlyOwnLink a (link_of w) x y
-  idle_own x y own = subst (λ (g : Option BlockWriter). OnlyOwnLink a (link_by g) x y) (sym none) own
+idle_own : (a x : Shown) (w : FileWriter) (y : Option ℕ) → w.going ≡ None → OnlyOwnLink a None x y → OnlyOwnLink a (link_of w) x y
+idle_own a x w y none own = subst (λ (g : Option BlockWriter). OnlyOwnLink a (link_by g) x y) (sym none) own
 
-  module _ (found : LocatedBlock) (served : Served a 0 (asks.AddBlock w.path client w.last [] w.file_id) (Ok (answers.AddBlock found)) m) where
-    asked_own : OnlyOwnLink a None m None
-    asked_own = own_link_served a m 0 (asks.AddBlock w.path client w.last [] w.file_id) (Ok (answers.AddBlock found)) None served
+-- a writer of a file that asks for a block
+module _ (a m : Shown) (sound : Shows IsSound a) (w : FileWriter) (between : IsBetweenBlocks w) (client : List ℕ) where
+  pub added_wrote : (found : LocatedBlock) → found.b.num_bytes ≡ 0 → Served a 0 (asks.AddBlock w.path client w.last [] w.file_id) (Ok (answers.AddBlock found)) m → Wrote a w [] m (record w { going = None; reopened = Some found })
+  added_wrote found empty served = record {
+    keeps = record { path = refl; file_id = refl; sizes = refl };
+    own = idle_own a m w None between.none (own_link_served a m 0 (asks.AddBlock w.path client w.last [] w.file_id) (Ok (answers.AddBlock found)) None served);
+    carries = added_carries a m sound w between client found empty served;
+  }
 
-    pub begun_wrote : (b : Shown) (w' : FileWriter) (block : BlockWriter) (size : ℕ) (setup : Setup) → Keeps w w' → w'.going ≡ Some block → found.b.num_bytes ≡ 0 → IsNew found size block → OpensLink m setup block b → BeginsWhole m found block b → Wrote a w [] b w'
-    begun_wrote b w' block size setup keeps going' empty new opens begins = record {
-      keeps = keeps;
-      own = idle_own b (link_of w')
-          (subst (λ (g : Option BlockWriter). OnlyOwnLink a None b (link_by g)) (sym going')
-          (own_link_trans a m b None None (block_link block) asked_own (own_link_opened m b setup opens.0 (block_link block) opens.1 opens.2)));
-      carries = begun_carries a m sound w none client found served b w' block size setup going' empty new opens begins;
-    }
+  pub unanswered_fails : (fault : AskFault) → Served a 0 (asks.AddBlock w.path client w.last [] w.file_id) (Err fault) m → 0 < a.namenodes → ((p : Picture) → a.picture ≡ Some p → p.active < a.namenodes) → Fails a w (asked_error fault) m
+  unanswered_fails fault served some active = record {
+    own = idle_own a m w None between.none (own_link_served a m 0 (asks.AddBlock w.path client w.last [] w.file_id) (Err fault) None served);
+    tells = tells_exception a m fault (λ class message same. served.last ∙ ap (λ (f : AskFault). last_of (Err f)) same);
+    touches = unanswered_touches a m sound w between client fault served;
+    cause = λ p bytes told size c. exception_cause w.path a m fault (λ class message same.
+        (let c' = as_done w between p w.path bytes c in
+        let first : 0 ≡ p.active = omega (arith, active p told, size) in (
+          0,
+          omega (arith, some, served.later.namenodes),
+          add_rose a m 0 w.path client w.last [] w.file_id p c'.file told c'.named c'.being_written (last_of_carried p w.path w.last bytes c' (sound p told)).0 class message
+              (subst (λ (x : AskFault). Served a 0 (asks.AddBlock w.path client w.last [] w.file_id) (Err x) m) same served) first,
+        )));
+  }
 
-    pub unopened_fails : (b : Shown) (setup : Setup) (fault : LinkFault) → WriteNotOpened m setup fault b → Fails a w (error_of (fault_of fault)) b
-    unopened_fails b setup fault not_opened = record {
-      own = idle_own b None (own_link_trans a m b None None None asked_own (own_link_unopened m b setup fault None not_opened));
-      tells = unopened_tells a m sound w none client found served b setup fault not_opened;
-      touches = unopened_touches a m sound w none client found served b setup fault not_opened;
-      cause = λ p bytes told size c. block_cause a b (fault_of fault);
-    }
+-- a writer of a file that opens the pipeline of a block
+module _ (m b : Shown) (w : FileWriter) (found : LocatedBlock) (none : w.going ≡ None) (reopened : w.reopened ≡ Some found) where
+  pub opened_wrote : (w' : FileWriter) (block : BlockWriter) (size chunk packet window : ℕ) (setup : Setup) → Keeps w w' → w'.going ≡ Some block → IsNew found size chunk packet window block → OpensLink m setup block b → BeginsWhole m found block b → Wrote m w [] b w'
+  opened_wrote w' block size chunk packet window setup keeps going' new opens begins = record {
+    keeps = keeps;
+    own = idle_own m b w (link_of w') none
+        (subst (λ (g : Option BlockWriter). OnlyOwnLink m None b (link_by g)) (sym going')
+        (own_link_opened m b setup opens.0 (block_link block) opens.1 opens.2));
+    carries = opened_carries m b w found none reopened w' block size chunk packet window setup going' new opens begins;
+  }
 
-  module _ (fault : AskFault) (served : Served a 0 (asks.AddBlock w.path client w.last [] w.file_id) (Err fault) m) where
-    pub unanswered_fails : 0 < a.namenodes → ((p : Picture) → a.picture ≡ Some p → p.active < a.namenodes) → Fails a w (asked_error fault) m
-    unanswered_fails some active = record {
-      own = idle_own m None (own_link_served a m 0 (asks.AddBlock w.path client w.last [] w.file_id) (Err fault) None served);
-      tells = tells_exception a m fault (λ class message same. served.last ∙ ap (λ (f : AskFault). last_of (Err f)) same);
-      touches = unanswered_touches a m sound w none client fault served;
-      cause = λ p bytes told size c. exception_cause a m fault (λ class message same.
-          (let c' = as_done a m sound w none client p bytes c in
-          let first : 0 ≡ p.active = omega (arith, active p told, size) in (
-            0,
-            omega (arith, some, served.later.namenodes),
-            add_rose a m 0 w.path client w.last [] w.file_id p c'.file told c'.named c'.being_written (last_of_carried p w.path w.last bytes c' (sound p told)).0 class message
-                (subst (λ (x : AskFault). Served a 0 (asks.AddBlock w.path client w.last [] w.file_id) (Err x) m) same served) first,
-          )));
-    }
+  pub unopened_fails : (setup : Setup) (fault : LinkFault) → WriteNotOpened m setup fault b → Fails m w (error_of (fault_of fault)) b
+  unopened_fails setup fault not_opened = record {
+    own = idle_own m b w None none (own_link_unopened m b setup fault None not_opened);
+    tells = unopened_tells m b w found none reopened setup fault not_opened;
+    touches = unopened_touches m b w found none reopened setup fault not_opened;
+    cause = λ p bytes told size c. unopened_cause w.path m b fault;
+  }
+
+-- a block that isn't gone on with is done
+pub settled_wrote : (a : Shown) (w w' : FileWriter) (found : LocatedBlock) → Keeps w w' → w.going ≡ None → w.reopened ≡ Some found → IsBetweenBlocks w' → w'.last ≡ Some found.b → Wrote a w [] a w'
+settled_wrote a w w' found keeps none reopened between last = record {
+  keeps = keeps;
+  own = idle_own a a w (link_of w') none (subst (λ (g : Option BlockWriter). OnlyOwnLink a None a (link_by g)) (sym between.none) (own_link_refl a None));
+  carries = settled_carries a w w' found none reopened between last;
+}
 
 -- a writer of a file whose block was begun
-pub begun_stands : (b m : Shown) (w w' : FileWriter) (block : BlockWriter) (found : LocatedBlock) (setup : Setup) → AreSizes w.sizes → w'.failed ≡ false → w'.sizes ≡ w.sizes → w'.going ≡ Some block
-    → StandsItself b block → IsNew found w.sizes.block_size block → OpensLink m setup block b → Stands b w'
-begun_stands b m w w' block found setup sizes fine same going itself new opens = record {
-  sizes = subst (λ (s : WriteSizes). AreSizes s) (sym same) sizes;
+pub begun_stands : (b m : Shown) (w w' : FileWriter) (block : BlockWriter) (found : LocatedBlock) (setup : Setup) → AreSizes w.sizes → w'.failed ≡ false → w'.sizes ≡ w.sizes → w'.going ≡ Some block → w'.reopened ≡ None
+    → StandsItself b block → IsNew found w.sizes.block_size w.sizes.chunk w.sizes.packet_size w.sizes.window block → OpensLink m setup block b → Stands b w'
+begun_stands b m w w' block found setup sizes fine same going done itself new opens = record {
+  packets = subst (λ (s : WriteSizes). ArePackets s) (sym same) sizes.packets;
   going = λ other is.
       (let one : block ≡ other = cc (going, is) in
-      subst (λ (x : BlockWriter). BlockStands b w'.sizes x) one (record { stands = itself; size = new.size ∙ ap (λ (s : WriteSizes). s.block_size) (sym same) }));
+      subst (λ (x : BlockWriter). BlockStands b w'.sizes x) one (record { limited = subst (λ (s : WriteSizes). AreLimited s) (sym same) sizes.limited; stands = itself; size = new.size ∙ ap (λ (s : WriteSizes). s.block_size) (sym same) }));
   is_open = λ fine' other is.
       (let one : block ≡ other = cc (going, is) in
       subst (λ (x : BlockWriter). IsSome (block_link x)) one (subst IsSome (sym opens.1) refl));
   idle = λ failed. absurd (false≢true (sym fine ∙ failed));
+  reopened = subst (λ (o : Option LocatedBlock). IfSome o IsToWrite) (sym done) tt;
+  apart = λ some. absurd (some_none w'.reopened some done);
 }
 
 -- a block has no more bytes than it may have
@@ -157,10 +175,12 @@ pub min_some : (n a b : ℕ) → n ≡ min a b → 0 < a → 0 < b → (0 < n) �
 min_some n a b is one two = (omega (arith, is, one, two), omega (arith, is))
 
 -- a writer that has failed keeps no link
-pub failed_stands : (shown shown' : Shown) (w w' : FileWriter) → Stands shown w → Keeps w w' → w'.going ≡ None → w'.failed ≡ true → Stands shown' w'
-failed_stands shown shown' w w' stands keeps none failed = record {
-  sizes = subst (λ (s : WriteSizes). AreSizes s) (sym keeps.sizes) stands.sizes;
-  going = λ block is. absurd (cc (none, is));
-  is_open = λ fine block is. absurd (cc (none, is));
-  idle = λ is. ap link_by none;
+pub failed_stands : (shown shown' : Shown) (w w' : FileWriter) → Stands shown w → Keeps w w' → IsBetweenBlocks w' → w'.failed ≡ true → Stands shown' w'
+failed_stands shown shown' w w' stands keeps between failed = record {
+  packets = subst (λ (s : WriteSizes). ArePackets s) (sym keeps.sizes) stands.packets;
+  going = λ block is. absurd (let none : w'.going ≡ None = between.none in cc (none, is));
+  is_open = λ fine block is. absurd (let none : w'.going ≡ None = between.none in cc (none, is));
+  idle = λ is. ap link_by between.none;
+  reopened = subst (λ (o : Option LocatedBlock). IfSome o IsToWrite) (sym between.done) tt;
+  apart = λ some. between.none;
 }

@@ -2,7 +2,7 @@
 use Rattle.std.proofs.Common.{◌≡◌, ⊎_elim, ℕ, Bool, true, false, List, [], ◌++◌, Option, Some, None, IsSome, refl, sym, ◌∙◌, ap, subst}
 use Rattle.std.proofs.lemmas.List.{append-nil}
 use Rattle.std.proofs.lemmas.Bool.{false≢true}
-use Rattle.std.specs.Prelude.{Contains, Ok, Err, cond}
+use Rattle.std.specs.Prelude.{Any, Contains, Ok, Err, cond}
 use Rattle.hdfs_model.specs.declared.asks.Answer.TheVariants as answers
 use Rattle.hdfs_model.specs.declared.asks.Ask.TheVariants as asks
 use Rattle.hdfs_model.specs.declared.asks.AskFault.{AskFault}
@@ -16,21 +16,23 @@ use Rattle.hdfs_model.specs.declared.messages.Setup.{Setup}
 use Rattle.hdfs_model.specs.declared.picture.Entry.{Entry}
 use Rattle.hdfs_model.specs.declared.picture.OpenWrite.{OpenWrite}
 use Rattle.hdfs_model.specs.declared.picture.LastAnswer.TheVariants as last_answers
-use Rattle.hdfs_model.specs.Causes.{CallsRose}
+use Rattle.hdfs_model.specs.Causes.{CallsRose, PipelineFailed}
 use Rattle.hdfs_model.specs.Counts.{Rose}
 use Rattle.hdfs_model.specs.Effects.{blocks_at}
 use Rattle.hdfs_model.specs.Picture.{Picture, SamePicture}
-use Rattle.hdfs_model.specs.Pipes.{WriteNotOpened}
-use Rattle.hdfs_model.specs.Sending.{uuids}
+use Rattle.hdfs_model.specs.Pipes.{WriteNotOpened, ShowsWrites}
+use Rattle.hdfs_model.specs.Sending.{uuids, WritePlace}
 use Rattle.hdfs_model.specs.Shown.{Shown, Served}
 use Rattle.hdfs_model.specs.Sound.{IsSound}
 use Rattle.hdfs_model.specs.Writing.{Starts}
 use Rattle.hdfs_model.proofs.Frames.{told_after}
-use Rattle.hdfs_namenode.specs.Asked.{is_taken, error_of as asked_error}
+use Rattle.hdfs_model.specs.Namenode.{is_taken}
+use Rattle.hdfs_namenode.specs.Asked.{error_of as asked_error}
 use Rattle.hdfs_blocks.specs.Carrying.{HoldsWhole}
 use Rattle.hdfs_blocks.specs.Piped.{HasCause as LinkCause}
 use Rattle.hdfs_blocks.specs.Writers.{block_of, length_of, block_so_far, link_of as block_link, link_in, Stands as BlockStands}
 use Rattle.hdfs_blocks.specs.Writes.{Ends, GaveUp, LetsGo, Wrote, IsNew, OpensLink, BeginsWhole, fault_of}
+use Rattle.hdfs_blocks.proofs.Wrote.{link_is}
 use Rattle.hdfs_blocks.specs.declared.block_writer.BlockWriter.{BlockWriter}
 use Rattle.hdfs_blocks.specs.declared.pipe.Pipe.{Pipe}
 use Rattle.hdfs_blocks.specs.declared.pipe.WriteFault.{WriteFault}
@@ -39,12 +41,12 @@ use Rattle.hdfs_files.specs.declared.file_writer.FileWriter.{FileWriter}
 use Rattle.hdfs_files.specs.Failing.{TellsWrite, CauseOfWrite}
 use Rattle.hdfs_files.specs.Faults.{error_of}
 use Rattle.hdfs_files.specs.OnlyFiles.{OnlyFile, SameFile}
-use Rattle.hdfs_files.specs.Tails.{Going, StoresFront, FileCarries}
-use Rattle.hdfs_files.specs.Writers.{tail_by, tail_of, CarriesMore, TouchesFile}
+use Rattle.hdfs_files.specs.Tails.{Reopened, Going, StoresFront, FileCarries}
+use Rattle.hdfs_files.specs.Writers.{tail_done, tail_by, tail_of, IsBetweenBlocks, CarriesMore, TouchesFile, LeavesFile}
 use Rattle.hdfs_files.proofs.Asked.{added, not_added}
 use Rattle.hdfs_files.proofs.Blocks.{touches_own, going_more, going_ended}
 use Rattle.hdfs_files.proofs.Completing.{front_same}
-use Rattle.hdfs_files.proofs.Growing.{Grown, grows, last_of_carried}
+use Rattle.hdfs_files.proofs.Growing.{grows, last_of_carried}
 use Rattle.hdfs_files.proofs.Moving.{only_file_refl, only_file_trans, same_file_refl, same_file_trans}
 use Rattle.hdfs_files.proofs.Touching.{only_file_active}
 
@@ -66,14 +68,21 @@ open_link shown block stands some = by_pipe block.pipe refl some
         let drives = (stands pipe is).1.goes.going.drives in
         (pipe.link, ap link_in is, (drives.0, drives.1))
 
--- a fault of a block's writer is no exception of a namenode
-pub block_cause : (a b : Shown) (fault : WriteFault) → CauseOfWrite a b (error_of fault)
-block_cause a b faults.NoMemory = tt
-block_cause a b faults.Failed = tt
-block_cause a b faults.Link = tt
-block_cause a b faults.Setup = tt
-block_cause a b (faults.BadAck seqno) = tt
-block_cause a b faults.AllNodes = tt
+-- a fault of a block's writer is no exception of a namenode, and a pipeline fails for its cause
+pub block_cause : (path : List ℕ) (a b : Shown) (fault : WriteFault) → (fault ≡ faults.AllNodes → PipelineFailed a.counts b path)
+    → CauseOfWrite path a b (error_of fault)
+block_cause path a b faults.NoMemory failed = tt
+block_cause path a b faults.Failed failed = tt
+block_cause path a b faults.Link failed = tt
+block_cause path a b faults.Setup failed = tt
+block_cause path a b (faults.BadAck seqno) failed = tt
+block_cause path a b faults.AllNodes failed = failed refl
+
+-- no fault of a set-up is that of a pipeline
+pub unopened_cause : (path : List ℕ) (a b : Shown) (fault : LinkFault) → CauseOfWrite path a b (error_of (fault_of fault))
+unopened_cause path a b link_faults.NoMemory = tt
+unopened_cause path a b link_faults.Broken = tt
+unopened_cause path a b link_faults.Refused = tt
 
 tells_fault : (a b : Shown) (link : ℕ) (write : OpenWrite) → a.writes link ≡ Some write → (fault : WriteFault) → LinkCause link a fault b → TellsWrite a b (error_of fault)
 tells_fault a b link write open_at faults.NoMemory cause = tt
@@ -83,21 +92,35 @@ tells_fault a b link write open_at faults.Setup cause = absurd cause
 tells_fault a b link write open_at (faults.BadAck seqno) cause = cause
 tells_fault a b link write open_at faults.AllNodes cause = (let rose = cause write open_at in (rose.1, rose.4))
 
+place_same : (writes : ℕ → Option WritePlace) (m n : ℕ) (v w : WritePlace) → m ≡ n → writes m ≡ Some v → writes n ≡ Some w → v ≡ w
+place_same writes m n v w same one two = let three : writes n ≡ Some v = ap writes (sym same) ∙ one in cc (two, three)
+
+-- what is carried between blocks
+pub as_done : (writer : FileWriter) → IsBetweenBlocks writer → (p : Picture) (path bytes : List ℕ) → FileCarries p path (tail_of writer) bytes → FileCarries p path (tail_done writer.last) bytes
+as_done writer between p path bytes c =
+    subst (λ (o : Option LocatedBlock). FileCarries p path (tail_by None o writer.last) bytes) between.done
+    (subst (λ (g : Option BlockWriter). FileCarries p path (tail_by g writer.reopened writer.last) bytes) between.none c)
+
+from_done : (p : Picture) (path : List ℕ) (writer : FileWriter) → IsBetweenBlocks writer → (bytes : List ℕ) → FileCarries p path (tail_done writer.last) bytes → FileCarries p path (tail_of writer) bytes
+from_done p path writer between bytes c =
+    subst (λ (g : Option BlockWriter). FileCarries p path (tail_by g writer.reopened writer.last) bytes) (sym between.none)
+    (subst (λ (o : Option LocatedBlock). FileCarries p path (tail_by None o writer.last) bytes) (sym between.done) c)
+
 module _ (a b : Shown) (sound : Shows IsSound a) (writer : FileWriter) (block : BlockWriter) (going : writer.going ≡ Some block) where
   as_going : (p : Picture) (bytes : List ℕ) → FileCarries p writer.path (tail_of writer) bytes → FileCarries p writer.path (Going block) bytes
-  as_going p bytes c = subst (λ (g : Option BlockWriter). FileCarries p writer.path (tail_by g writer.last) bytes) going c
+  as_going p bytes c = subst (λ (g : Option BlockWriter). FileCarries p writer.path (tail_by g writer.reopened writer.last) bytes) going c
 
   -- the block was ended
-  pub ended_carries : (writer' : FileWriter) → writer'.going ≡ None → writer'.last ≡ Some (block_so_far block) → Ends a block b → CarriesMore a writer [] b writer'
-  ended_carries writer' none last ends p bytes told c =
+  pub ended_carries : (writer' : FileWriter) → IsBetweenBlocks writer' → writer'.last ≡ Some (block_so_far block) → Ends a block b → CarriesMore a writer [] b writer'
+  ended_carries writer' between last ends p bytes told c =
       let c' = as_going p bytes c in
       let whole = ends.whole p c'.carries.2.0 c'.carries.0 told c'.carries.2.1 in
       let touches = touches_own p (sound p told) writer.path block bytes c' whole.0 c'.carries.2.0 whole.3 in (
         whole.0,
         whole.1,
         subst (FileCarries whole.0 writer.path (tail_of writer')) (sym (append-nil bytes))
-            (subst (λ (g : Option BlockWriter). FileCarries whole.0 writer.path (tail_by g writer'.last) bytes) (sym none)
-            (subst (λ (l : Option Block). FileCarries whole.0 writer.path (tail_by None l) bytes) (sym last)
+            (from_done whole.0 writer.path writer' between bytes
+            (subst (λ (l : Option Block). FileCarries whole.0 writer.path (tail_done l) bytes) (sym last)
             (going_ended p (sound p told) writer.path block bytes c' whole.0 (length_of block) whole.3 whole.2))),
         touches.0,
         touches.1,
@@ -115,6 +138,35 @@ module _ (a b : Shown) (sound : Shows IsSound a) (writer : FileWriter) (block : 
       let link = open_link a block stands some in
       tells_fault a b link.0 link.2.0 link.2.1 fault (gave.cause link.0 link.1)
 
+  -- where its pipeline has failed, a datanode has that is listed for the file's last block
+  pub gave_up_failed : Shows (ShowsWrites a) a → BlockStands a block → IsSome (block_link block) → (fault : WriteFault) → GaveUp a block fault b
+      → (p : Picture) (bytes : List ℕ) → a.picture ≡ Some p → FileCarries p writer.path (tail_of writer) bytes
+      → fault ≡ faults.AllNodes → PipelineFailed a.counts b writer.path
+  gave_up_failed shows stands some fault gave p bytes told c is =
+      let c' = as_going p bytes c in
+      let held = c'.carries.2.1 in
+      let on = held.carries.linked.on in
+      let only = gave.touches p c'.carries.2.0 c'.carries.0 told held in
+      let id = (block_of block).block_id in
+      let link = open_link a block stands some in
+      let place = shows p told link.0 link.2.0 link.2.1 in
+      let same : link.0 ≡ held.pipe.link = link_is block held.pipe link.0 held.is link.1 in
+      let one : place.0 ≡ on.place = place_same p.writes link.0 held.pipe.link place.0 on.place same place.1 on.told in
+      let any = subst (λ (f : WriteFault). LinkCause link.0 a f b) is (gave.cause link.0 link.1) link.2.0 link.2.1 in
+      record {
+        picture = only.0;
+        told = only.1;
+        file = c'.file;
+        named = only.2.records.names writer.path ∙ c'.named;
+        front = c'.carries.1.front;
+        id = id;
+        last = c'.carries.1.ends;
+        entry = held.carries.entry;
+        is = only.2.records.table id ∙ held.carries.is;
+        failed = subst (Any (λ node. Rose (a.counts.nodes node) (b.counts.nodes node)))
+            (sym place.2.nodes ∙ ap (λ (w : WritePlace). w.nodes) one ∙ on.same_nodes ∙ sym held.carries.same_listed) any;
+      }
+
   -- more bytes went into it
   pub wrote_carries : (writer' : FileWriter) (block' : BlockWriter) (more : List ℕ) → writer'.going ≡ Some block' → Wrote a block more b block' → CarriesMore a writer more b writer'
   wrote_carries writer' block' more going' wrote p bytes told c =
@@ -123,7 +175,7 @@ module _ (a b : Shown) (sound : Shows IsSound a) (writer : FileWriter) (block : 
       let touches = touches_own p (sound p told) writer.path block bytes c' on.0 c'.carries.2.0 on.3 in (
         on.0,
         on.1,
-        subst (λ (g : Option BlockWriter). FileCarries on.0 writer.path (tail_by g writer'.last) (bytes ++ more)) (sym going')
+        subst (λ (g : Option BlockWriter). FileCarries on.0 writer.path (tail_by g writer'.reopened writer'.last) (bytes ++ more)) (sym going')
             (going_more p (sound p told) writer.path block bytes c' on.0 block' more (ap (λ (x : Block). x.block_id) wrote.keeps.block) on.3 on.2),
         touches.0,
         touches.1,
@@ -163,62 +215,91 @@ only_file_started path p q link setup starts = record {
   defaults = starts.files.defaults;
 }
 
-module _ (a m : Shown) (sound : Shows IsSound a) (writer : FileWriter) (none : writer.going ≡ None) (client : List ℕ) where
-  pub as_done : (p : Picture) (bytes : List ℕ) → FileCarries p writer.path (tail_of writer) bytes → FileCarries p writer.path (tail_by None writer.last) bytes
-  as_done p bytes c = subst (λ (g : Option BlockWriter). FileCarries p writer.path (tail_by g writer.last) bytes) none c
-
-  module _ (found : LocatedBlock) (served : Served a 0 (asks.AddBlock writer.path client writer.last [] writer.file_id) (Ok (answers.AddBlock found)) m) where
-    grown : (p : Picture) (bytes : List ℕ) → a.picture ≡ Some p → FileCarries p writer.path (tail_of writer) bytes → (q : Picture) × (m.picture ≡ Some q) × Grown p writer.path bytes found q
-    grown p bytes told c =
-        let c' = as_done p bytes c in
-        let add = added a m 0 writer.path client writer.last [] writer.file_id p c'.file told c'.named c'.being_written (last_of_carried p writer.path writer.last bytes c' (sound p told)).0 found served in
-        (add.0, add.1, grows p add.0 (sound p told) writer.path writer.last bytes c' found add.2)
-
-    -- a block was begun
-    pub begun_carries : (b : Shown) (writer' : FileWriter) (block : BlockWriter) (size : ℕ) (setup : Setup) → writer'.going ≡ Some block → found.b.num_bytes ≡ 0 → IsNew found size block → OpensLink m setup block b → BeginsWhole m found block b → CarriesMore a writer [] b writer'
-    begun_carries b writer' block size setup going' empty new opens begins p bytes told c =
-        let g = grown p bytes told c in
-        let q = g.0 in
-        let on = begins q [] g.1 (subst (λ (n : ℕ). HoldsWhole q found.b.block_id n (uuids found.locs) []) (sym empty) g.2.whole) in
-        let r = on.0 in
-        let after = told_after (Starts opens.0 setup) m.picture b.picture q opens.2.starts g.1 in
-        let starts : Starts opens.0 setup q r = subst (Starts opens.0 setup q) (some_same after.0 r b.picture after.1 on.1) after.2 in
-        let only : OnlyFile writer.path q r = only_file_started writer.path q r opens.0 setup starts in
-        let front : StoresFront r g.2.file.blocks (block_of block).block_id bytes [] =
-        subst (λ (x : Block). StoresFront r g.2.file.blocks x.block_id bytes []) (sym new.block) (front_same q r g.2.file.blocks found.b.block_id bytes [] starts.files g.2.front) in (
-          r,
-          on.1,
-          subst (FileCarries r writer.path (tail_of writer')) (sym (append-nil bytes))
-              (subst (λ (o : Option BlockWriter). FileCarries r writer.path (tail_by o writer'.last) bytes) (sym going') (record {
-                file = g.2.file;
-                named = starts.files.names writer.path ∙ g.2.named;
-                being_written = g.2.being_written;
-                carries = ([], front, (uuids found.locs, on.2));
-              })),
-          only_file_trans writer.path p q r g.2.only only,
-          same_file_trans writer.path p q r g.2.same (λ file is. (file.blocks, starts.files.names writer.path ∙ is)),
-        )
-
-    -- no pipeline was set up for it
-    pub unopened_touches : (b : Shown) (setup : Setup) (fault : LinkFault) → WriteNotOpened m setup fault b → TouchesFile a writer b
-    unopened_touches b setup fault not_opened p bytes told c =
-        let g = grown p bytes told c in
-        let after = told_after SamePicture m.picture b.picture g.0 not_opened.picture g.1 in
-        (after.0, after.1, only_file_trans writer.path p g.0 after.0 g.2.only (only_file_active writer.path g.0 after.0 after.2.rest))
-
-    pub unopened_tells : (b : Shown) (setup : Setup) (fault : LinkFault) → WriteNotOpened m setup fault b → TellsWrite a b (error_of (fault_of fault))
-    unopened_tells b setup link_faults.NoMemory not_opened = tt
-    unopened_tells b setup link_faults.Broken not_opened = subst (λ (n : ℕ). Rose n b.counts.links) served.links (not_opened.cause (λ same. absurd (cc same)))
-    unopened_tells b setup link_faults.Refused not_opened = subst (λ (n : ℕ). Rose n b.counts.links) served.links (not_opened.cause (λ same. absurd (cc same)))
+module _ (a m : Shown) (sound : Shows IsSound a) (writer : FileWriter) (between : IsBetweenBlocks writer) (client : List ℕ) where
+  -- a block was answered, which is to be written
+  pub added_carries : (found : LocatedBlock) → found.b.num_bytes ≡ 0 → Served a 0 (asks.AddBlock writer.path client writer.last [] writer.file_id) (Ok (answers.AddBlock found)) m → CarriesMore a writer [] m (record writer { going = None; reopened = Some found })
+  added_carries found empty served p bytes told c =
+      let c' = as_done writer between p writer.path bytes c in
+      let add = added a m 0 writer.path client writer.last [] writer.file_id p c'.file told c'.named c'.being_written (last_of_carried p writer.path writer.last bytes c' (sound p told)).0 found served in
+      let g = grows p add.0 (sound p told) writer.path writer.last bytes c' found add.2 in (
+        add.0,
+        add.1,
+        subst (FileCarries add.0 writer.path (Reopened found)) (sym (append-nil bytes)) (record {
+          file = g.file;
+          named = g.named;
+          being_written = g.being_written;
+          carries = ([], g.front, subst (λ (n : ℕ). HoldsWhole add.0 found.b.block_id n (uuids found.locs) []) (sym empty) g.whole);
+        }),
+        g.only,
+        g.same,
+      )
 
   -- no block was answered
-  module _ (fault : AskFault) (served : Served a 0 (asks.AddBlock writer.path client writer.last [] writer.file_id) (Err fault) m) where
-    pub unanswered_touches : TouchesFile a writer m
-    unanswered_touches p bytes told c =
-        let c' = as_done p bytes c in
-        let has = (last_of_carried p writer.path writer.last bytes c' (sound p told)).0 in
-        let add = not_added a m 0 writer.path client writer.last [] writer.file_id p c'.file told c'.named c'.being_written has fault served in
-        (add.0, add.1, ⊎_elim (λ same. only_file_active writer.path p add.0 same) (λ found. (grows p add.0 (sound p told) writer.path writer.last bytes c' found.0 found.1).only) add.2)
+  pub unanswered_touches : (fault : AskFault) → Served a 0 (asks.AddBlock writer.path client writer.last [] writer.file_id) (Err fault) m → TouchesFile a writer m
+  unanswered_touches fault served p bytes told c =
+      let c' = as_done writer between p writer.path bytes c in
+      let has = (last_of_carried p writer.path writer.last bytes c' (sound p told)).0 in
+      let add = not_added a m 0 writer.path client writer.last [] writer.file_id p c'.file told c'.named c'.being_written has fault served in
+      (add.0, add.1, ⊎_elim (λ same. only_file_active writer.path p add.0 same) (λ found. (grows p add.0 (sound p told) writer.path writer.last bytes c' found.0 found.1).only) add.2)
+
+-- a block that is to be gone on with
+module _ (m b : Shown) (writer : FileWriter) (found : LocatedBlock) (none : writer.going ≡ None) (reopened : writer.reopened ≡ Some found) where
+  as_reopened : (p : Picture) (bytes : List ℕ) → FileCarries p writer.path (tail_of writer) bytes → FileCarries p writer.path (Reopened found) bytes
+  as_reopened p bytes c =
+      subst (λ (o : Option LocatedBlock). FileCarries p writer.path (tail_by None o writer.last) bytes) reopened
+      (subst (λ (g : Option BlockWriter). FileCarries p writer.path (tail_by g writer.reopened writer.last) bytes) none c)
+
+  -- is gone on with
+  pub opened_carries : (writer' : FileWriter) (block : BlockWriter) (size chunk packet window : ℕ) (setup : Setup) → writer'.going ≡ Some block → IsNew found size chunk packet window block → OpensLink m setup block b → BeginsWhole m found block b → CarriesMore m writer [] b writer'
+  opened_carries writer' block size chunk packet window setup going' new opens begins p bytes told c =
+      let c' = as_reopened p bytes c in
+      let on = begins p c'.carries.0 told c'.carries.2 in
+      let r = on.0 in
+      let after = told_after (Starts opens.0 setup) m.picture b.picture p opens.2.starts told in
+      let starts : Starts opens.0 setup p r = subst (Starts opens.0 setup p) (some_same after.0 r b.picture after.1 on.1) after.2 in
+      let front : StoresFront r c'.file.blocks (block_of block).block_id bytes c'.carries.0 =
+      subst (λ (x : Block). StoresFront r c'.file.blocks x.block_id bytes c'.carries.0) (sym new.block) (front_same p r c'.file.blocks found.b.block_id bytes c'.carries.0 starts.files c'.carries.1) in (
+        r,
+        on.1,
+        subst (FileCarries r writer.path (tail_of writer')) (sym (append-nil bytes))
+            (subst (λ (o : Option BlockWriter). FileCarries r writer.path (tail_by o writer'.reopened writer'.last) bytes) (sym going') (record {
+              file = c'.file;
+              named = starts.files.names writer.path ∙ c'.named;
+              being_written = c'.being_written;
+              carries = (c'.carries.0, front, (uuids found.locs, on.2));
+            })),
+        only_file_started writer.path p r opens.0 setup starts,
+        λ file is. (file.blocks, starts.files.names writer.path ∙ is),
+      )
+
+  -- its pipeline was not set up
+  pub unopened_touches : (setup : Setup) (fault : LinkFault) → WriteNotOpened m setup fault b → TouchesFile m writer b
+  unopened_touches setup fault not_opened p bytes told c =
+      let after = told_after SamePicture m.picture b.picture p not_opened.picture told in
+      (after.0, after.1, only_file_active writer.path p after.0 after.2.rest)
+
+  pub unopened_tells : (setup : Setup) (fault : LinkFault) → WriteNotOpened m setup fault b → TellsWrite m b (error_of (fault_of fault))
+  unopened_tells setup link_faults.NoMemory not_opened = tt
+  unopened_tells setup link_faults.Broken not_opened = not_opened.cause (λ same. absurd (cc same))
+  unopened_tells setup link_faults.Refused not_opened = not_opened.cause (λ same. absurd (cc same))
+
+-- a block that isn't gone on with is the last that is done
+pub settled_carries : (a : Shown) (writer writer' : FileWriter) (found : LocatedBlock) → writer.going ≡ None → writer.reopened ≡ Some found → IsBetweenBlocks writer' → writer'.last ≡ Some found.b → CarriesMore a writer [] a writer'
+settled_carries a writer writer' found none reopened between last p bytes told c =
+    let c' = as_reopened a a writer found none reopened p bytes c in (
+      p,
+      told,
+      subst (FileCarries p writer.path (tail_of writer')) (sym (append-nil bytes))
+          (from_done p writer.path writer' between bytes
+          (subst (λ (l : Option Block). FileCarries p writer.path (tail_done l) bytes) (sym last) (record {
+            file = c'.file;
+            named = c'.named;
+            being_written = c'.being_written;
+            carries = (c'.carries.0, c'.carries.1, (uuids found.locs, c'.carries.2));
+          }))),
+      only_file_refl writer.path p,
+      same_file_refl writer.path p,
+    )
 
 -- an exception of a namenode, as it is told
 pub tells_exception : (a b : Shown) (fault : AskFault) → ((class message : List ℕ) → fault ≡ ask_faults.Exception class message → b.last ≡ last_answers.Exception class message) → TellsWrite a b (asked_error fault)
@@ -230,17 +311,22 @@ tells_exception a b (ask_faults.Exception class message) last = by_class (is_tak
     by_class false is = last class message refl
 
 -- and where it has its cause
-pub exception_cause : (a b : Shown) (fault : AskFault) → ((class message : List ℕ) → fault ≡ ask_faults.Exception class message → CallsRose a.counts b) → CauseOfWrite a b (asked_error fault)
-exception_cause a b ask_faults.NoMemory rose = tt
-exception_cause a b (ask_faults.Exception class message) rose = by_class (is_taken class)
+pub exception_cause : (path : List ℕ) (a b : Shown) (fault : AskFault) → ((class message : List ℕ) → fault ≡ ask_faults.Exception class message → CallsRose a.counts b) → CauseOfWrite path a b (asked_error fault)
+exception_cause path a b ask_faults.NoMemory rose = tt
+exception_cause path a b (ask_faults.Exception class message) rose = by_class (is_taken class)
   where
-    by_class : (t : Bool) → CauseOfWrite a b (cond t (errors.AlreadyExists message) (errors.RPCError class message))
+    by_class : (t : Bool) → CauseOfWrite path a b (cond t (errors.AlreadyExists message) (errors.RPCError class message))
     by_class true = rose class message refl
     by_class false = rose class message refl
 
 -- a block's writer was let go
-pub let_go_touches : (a b : Shown) → Shows IsSound a → (writer : FileWriter) (block : BlockWriter) → writer.going ≡ Some block → LetsGo a block b → TouchesFile a writer b
-let_go_touches a b sound writer block going gone p bytes told c =
+pub let_go_leaves : (a b : Shown) → Shows IsSound a → (writer : FileWriter) (block : BlockWriter) → writer.going ≡ Some block → LetsGo a block b → LeavesFile a writer b
+let_go_leaves a b sound writer block going gone p bytes told c =
     let c' = as_going a b sound writer block going p bytes c in
     let only = gone.touches p c'.carries.2.0 c'.carries.0 told c'.carries.2.1 in
-    (only.0, only.1, (touches_own p (sound p told) writer.path block bytes c' only.0 c'.carries.2.0 only.2).0)
+    (only.0, only.1, (touches_own p (sound p told) writer.path block bytes c' only.0 c'.carries.2.0 only.2).0, only.2.records)
+
+-- nothing was done
+pub idle_leaves : (a : Shown) (writer : FileWriter) → LeavesFile a writer a
+idle_leaves a writer p bytes told c =
+    (p, told, only_file_refl writer.path p, record { names = λ path. refl; table = λ id. refl; active = refl; defaults = refl; reads = λ other. refl })

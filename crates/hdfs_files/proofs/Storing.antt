@@ -16,10 +16,10 @@ block_stays p q id entry bytes same s = record {
   whole = (s.whole.0, s.whole.1, s.whole.2, s.whole.3, same s.whole.1 ∙ s.whole.4);
 }
 
-contains_head : (id : ℕ) (ids : List ℕ) → Contains (id ∷ ids) id
+pub contains_head : (id : ℕ) (ids : List ℕ) → Contains (id ∷ ids) id
 contains_head id ids = (0, omega arith, refl)
 
-contains_later : (id other : ℕ) (ids : List ℕ) → Contains ids other → Contains (id ∷ ids) other
+pub contains_later : (id other : ℕ) (ids : List ℕ) → Contains ids other → Contains (id ∷ ids) other
 contains_later id other ids h = (suc h.0, omega (arith, h.1), h.2)
 
 -- blocks that stay store what they stored
@@ -34,10 +34,10 @@ stores_keeps p q (id ∷ ids) bytes keeps s =
       stores_keeps p q ids (drop s.0.length bytes) (λ other is. keeps other (contains_later id other ids is)) s.4,
     )
 
-all_taken : (b : List ℕ) (n : ℕ) → length b ≡ n → take n b ≡ b
+pub all_taken : (b : List ℕ) (n : ℕ) → length b ≡ n → take n b ≡ b
 all_taken b n same = take_whole n b (omega (arith, same))
 
-none_left : (b : List ℕ) (n : ℕ) → length b ≡ n → drop n b ≡ []
+pub none_left : (b : List ℕ) (n : ℕ) → length b ≡ n → drop n b ≡ []
 none_left b n same = drop_all n b (omega (arith, same))
 
 -- one block more

@@ -1,7 +1,9 @@
 -- What a writer of a file has to do with the file's bytes.
 use Rattle.std.specs.Prelude.{◌≡◌, ℕ, true, List, [], ◌∷◌, ◌++◌}
 use Rattle.hdfs_model.specs.declared.picture.FileEntry.{FileEntry}
+use Rattle.hdfs_model.specs.declared.messages.LocatedBlock.{LocatedBlock}
 use Rattle.hdfs_model.specs.Picture.{Picture}
+use Rattle.hdfs_model.specs.Sending.{uuids}
 use Rattle.hdfs_model.specs.Sound.{IsFileAt}
 use Rattle.hdfs_model.specs.Stores.{StoresBlocks}
 use Rattle.hdfs_blocks.specs.Carrying.{HoldsWhole}
@@ -9,10 +11,12 @@ use Rattle.hdfs_blocks.specs.Writers.{block_of, Carries}
 use Rattle.hdfs_blocks.specs.declared.block_writer.BlockWriter.{BlockWriter}
 
 -- How the last block of a file stands that is being written: the file has none; the last one has this id and length, and is
--- held whole; or it is being written by this writer.
+-- held whole; the same of one that is to be gone on with, by the datanodes that are named for it; or it is being written by this
+-- writer.
 pub data Tail : Type 0 where
   Bare : Tail
   Finished : ℕ → ℕ → Tail
+  Reopened : LocatedBlock → Tail
   Going : BlockWriter → Tail
 
 -- the blocks before the last store the first bytes of the file, and the rest is the last one's
@@ -29,6 +33,8 @@ abbrev pub TailCarries : Picture → List ℕ → Tail → List ℕ → Type 0
 TailCarries p blocks Bare bytes = (blocks ≡ []) × (bytes ≡ [])
 TailCarries p blocks (Finished id length) bytes =
     (rest : List ℕ) × StoresFront p blocks id bytes rest × ((nodes : List (List ℕ)) × HoldsWhole p id length nodes rest)
+TailCarries p blocks (Reopened located) bytes =
+    (rest : List ℕ) × StoresFront p blocks located.b.block_id bytes rest × HoldsWhole p located.b.block_id located.b.num_bytes (uuids located.locs) rest
 TailCarries p blocks (Going writer) bytes =
     (rest : List ℕ) × StoresFront p blocks (block_of writer).block_id bytes rest × ((nodes : List (List ℕ)) × Carries p nodes writer rest)
 

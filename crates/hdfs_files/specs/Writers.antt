@@ -1,44 +1,73 @@
 -- A writer of one file, as its callers see it.
-use Rattle.std.specs.Prelude.{◌≡◌, ◌≢◌, ◌⊎◌, ℕ, ◌^◌, ◌<◌, ◌≤◌, true, false, Bool, List, ◌++◌, Option, Some, None, IsSome}
+use Rattle.std.specs.Prelude.{◌≡◌, ◌≢◌, ◌⊎◌, ℕ, ◌^◌, ◌<◌, ◌≤◌, true, false, Bool, List, ◌++◌, Option, Some, None, IsSome, IfSome}
 use Rattle.hdfs_wire.specs.Outgoing.{ArePacketSizes}
 use Rattle.hdfs_model.specs.declared.messages.Block.{Block}
+use Rattle.hdfs_model.specs.declared.messages.LocatedBlock.{LocatedBlock}
 use Rattle.hdfs_model.specs.declared.errors.HdfsError.{HdfsError}
 use Rattle.hdfs_model.specs.Files.{File}
+use Rattle.hdfs_model.specs.Namenode.{IsToWrite}
 use Rattle.hdfs_model.specs.Picture.{Picture}
-use Rattle.hdfs_model.specs.Shown.{Shown, Later}
+use Rattle.hdfs_model.specs.Shown.{Shown, Later, SameReads}
 use Rattle.hdfs_model.specs.Stores.{AgreesAt}
+use Rattle.hdfs_model.specs.Writing.{SameRecords}
 use Rattle.hdfs_blocks.specs.Writers as blocks
 use Rattle.hdfs_blocks.specs.declared.block_writer.BlockWriter.{BlockWriter}
 use Rattle.hdfs_files.specs.Failing.{TellsWrite, TellsClose, CauseOfWrite}
 use Rattle.hdfs_files.specs.OnlyFiles.{OnlyFile, SameFile}
-use Rattle.hdfs_files.specs.Tails.{Tail, Bare, Finished, Going, FileCarries}
+use Rattle.hdfs_files.specs.Tails.{Tail, Bare, Finished, Reopened, Going, FileCarries}
 use Rattle.hdfs_files.specs.declared.file_writer.FileWriter.{FileWriter}
 use Rattle.hdfs_files.specs.declared.sizes.WriteSizes.{WriteSizes}
 
--- a block size from 1 to 2^63 - 1, the sizes of packets, and a window from 1 to 1,000
-pub record AreSizes (sizes : WriteSizes) : Type 0 where
+-- a replication from 1 to 65,535, and a block size from 1 to 2^63 - 1
+pub record AreLimited (sizes : WriteSizes) : Type 0 where
   pub block : 0 < sizes.block_size
   pub below : sizes.block_size < 2 ^ 63
-  pub packets : ArePacketSizes sizes.chunk sizes.packet_size
+  pub replication : (1 ≤ sizes.replication) × (sizes.replication ≤ 65535)
+
+-- the sizes of packets, and a window from 1 to 1,000
+pub record ArePackets (sizes : WriteSizes) : Type 0 where
+  pub packet : ArePacketSizes sizes.chunk sizes.packet_size
   pub window : (1 ≤ sizes.window) × (sizes.window ≤ 1000)
+
+-- all of them
+pub record AreSizes (sizes : WriteSizes) : Type 0 where
+  pub limited : AreLimited sizes
+  pub packets : ArePackets sizes
 
 -- the path of its file
 abbrev pub path_of : FileWriter → List ℕ
 path_of writer = writer.path
 
+-- the id of its file, where the namenode told it
+abbrev pub file_id_of : FileWriter → Option ℕ
+file_id_of writer = writer.file_id
+
+-- with what its file is written
+abbrev pub sizes_of : FileWriter → WriteSizes
+sizes_of writer = writer.sizes
+
 -- whether a call has failed
 abbrev pub has_failed : FileWriter → Bool
 has_failed writer = writer.failed
 
--- how the last block stands, by the block that is done and by the writer of the one behind it
-abbrev pub tail_by : Option BlockWriter → Option Block → Tail
-tail_by (Some writer) last = Going writer
-tail_by None None = Bare
-tail_by None (Some block) = Finished block.block_id block.num_bytes
+-- how the last block stands, by the block that is done
+abbrev pub tail_done : Option Block → Tail
+tail_done None = Bare
+tail_done (Some block) = Finished block.block_id block.num_bytes
+
+-- the same by the block that is to be gone on with
+abbrev pub tail_opened : Option LocatedBlock → Option Block → Tail
+tail_opened None last = tail_done last
+tail_opened (Some located) last = Reopened located
+
+-- the same by the writer of a block that is being written
+abbrev pub tail_by : Option BlockWriter → Option LocatedBlock → Option Block → Tail
+tail_by None reopened last = tail_opened reopened last
+tail_by (Some writer) reopened last = Going writer
 
 -- how the last block of its file stands
 abbrev pub tail_of : FileWriter → Tail
-tail_of writer = tail_by writer.going writer.last
+tail_of writer = tail_by writer.going writer.reopened writer.last
 
 -- the link of a block that is being written
 abbrev pub link_by : Option BlockWriter → Option ℕ
@@ -49,21 +78,29 @@ link_by (Some writer) = blocks.link_of writer
 abbrev pub link_of : FileWriter → Option ℕ
 link_of writer = link_by writer.going
 
--- the writer of a block stands as its last call left it, and its block has the size of the file's blocks
+-- the writer of a block stands as its last call left it, and its block has the size of the file's blocks, which is in its limits
 pub record BlockStands (shown : Shown) (sizes : WriteSizes) (writer : BlockWriter) : Type 0 where
+  pub limited : AreLimited sizes
   pub stands : blocks.Stands shown writer
   pub size : blocks.size_of writer ≡ sizes.block_size
 
 -- What a writer of a file is between calls. Once it has failed it keeps no link.
 pub record Stands (shown : Shown) (writer : FileWriter) : Type 0 where
-  pub sizes : AreSizes writer.sizes
+  pub packets : ArePackets writer.sizes
   pub going : (block : BlockWriter) → writer.going ≡ Some block → BlockStands shown writer.sizes block
   pub is_open : writer.failed ≡ false → (block : BlockWriter) → writer.going ≡ Some block → IsSome (blocks.link_of block)
   pub idle : writer.failed ≡ true → link_of writer ≡ None
+  pub reopened : IfSome writer.reopened IsToWrite
+  pub apart : IsSome writer.reopened → writer.going ≡ None
 
 -- a block is being written that has room for a byte
 abbrev pub HasRoom : FileWriter → Type 0
 HasRoom writer = (block : BlockWriter) × (writer.going ≡ Some block) × (blocks.length_of block ≢ blocks.size_of block)
+
+-- no block is being written, and none is to be gone on with
+pub record IsBetweenBlocks (writer : FileWriter) : Type 0 where
+  pub none : writer.going ≡ None
+  pub done : writer.reopened ≡ None
 
 -- what every call keeps of a writer
 pub record Keeps (writer writer' : FileWriter) : Type 0 where
@@ -75,7 +112,7 @@ pub record Keeps (writer writer' : FileWriter) : Type 0 where
 -- is left open but its own, which it had before or wasn't open.
 pub record OnlyOwnLink (old : Shown) (before : Option ℕ) (new : Shown) (after : Option ℕ) : Type 0 where
   pub later : Later old new
-  pub reads : (link : ℕ) → new.reads link ≡ old.reads link
+  pub reads : SameReads old new
   pub others : (link : ℕ) → IsSome (old.writes link) → before ≢ Some link → new.writes link ≡ old.writes link
   pub none : (link : ℕ) → (old.writes link ≡ None) ⊎ (before ≡ Some link) → after ≢ Some link → new.writes link ≡ None
   pub fresh : (link : ℕ) → after ≡ Some link → (before ≡ Some link) ⊎ (old.writes link ≡ None)
@@ -93,10 +130,17 @@ TouchesFile old writer new =
     (p : Picture) (bytes : List ℕ) → old.picture ≡ Some p → FileCarries p writer.path (tail_of writer) bytes
     → (q : Picture) × (new.picture ≡ Some q) × OnlyFile writer.path p q
 
--- over a told picture of one namenode, for a writer that carries its file: an exception has its cause
+-- over a told picture: nothing changed but what datanodes hold of the file's blocks
+abbrev pub LeavesFile : Shown → FileWriter → Shown → Type 0
+LeavesFile old writer new =
+    (p : Picture) (bytes : List ℕ) → old.picture ≡ Some p → FileCarries p writer.path (tail_of writer) bytes
+    → (q : Picture) × (new.picture ≡ Some q) × OnlyFile writer.path p q × SameRecords p q
+
+-- over a told picture of one namenode, for a writer that carries its file: an error has its cause
 abbrev pub HasCause : Shown → FileWriter → HdfsError → Shown → Type 0
 HasCause old writer error new =
-    (p : Picture) (bytes : List ℕ) → old.picture ≡ Some p → old.namenodes ≡ 1 → FileCarries p writer.path (tail_of writer) bytes → CauseOfWrite old new error
+    (p : Picture) (bytes : List ℕ) → old.picture ≡ Some p → old.namenodes ≡ 1 → FileCarries p writer.path (tail_of writer) bytes
+    → CauseOfWrite writer.path old new error
 
 -- over a told picture: a closed file stands at the path with the attributes and the bytes, and nothing changed but the file
 abbrev pub Closes : Shown → FileWriter → Shown → Type 0

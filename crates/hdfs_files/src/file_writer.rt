@@ -1,12 +1,13 @@
 //! Writes a file, block by block.
-ghost use Rattle.std.specs.Prelude.{◌≡◌, ◌<◌, ◌≤◌, [], true, false, length, take, None, Some, Err, IsTrue, ◌↔◌, IfOk, IfErr, OnOk, OnErr};
+ghost use Rattle.std.specs.Prelude.{◌≡◌, ◌<◌, ◌≤◌, [], true, false, length, take, None, Some, Err, IsTrue, ◌↔◌, IfOk, IfErr, IfSome, OnOk, OnErr};
 ghost use Rattle.hdfs_model.specs.Shown.{Shown};
+ghost use Rattle.hdfs_model.specs.declared.errors.ArgFault.TheVariants as args;
 ghost use Rattle.hdfs_model.specs.declared.errors.HdfsError.TheVariants as errors;
 
 use crate::faults::error_of;
 use crate::sizes::WriteSizes;
 use hdfs_blocks::BlockWriter;
-use hdfs_model::{Block, Cluster, HdfsError};
+use hdfs_model::{ArgFault, Block, Cluster, HdfsError, LocatedBlock};
 use hdfs_namenode::NamenodeProtocol;
 use hdfs_wire::Text;
 use std::alloc::Global;
@@ -26,18 +27,21 @@ pub struct FileWriter {
     pub(crate) last: Option<Block>,
     // the writer of the block behind it
     pub(crate) going: Option<BlockWriter>,
+    // the last block of an appended file, which is to be gone on with
+    pub(crate) reopened: Option<LocatedBlock>,
     pub(crate) failed: bool,
 }
 
 impl FileWriter {
     ghost use Rattle.hdfs_files.specs.Tails.{Bare};
-    ghost use Rattle.hdfs_files.specs.Writers.{AreSizes, path_of, has_failed, link_of, tail_of, Stands, Keeps, HasRoom, OnlyOwnLink, TouchesFile, Wrote, Closed, Fails, FailsToClose};
+    ghost use Rattle.hdfs_model.specs.Namenode.{IsToWrite};
+    ghost use Rattle.hdfs_files.specs.Writers.{AreLimited, ArePackets, AreSizes, path_of, file_id_of, sizes_of, has_failed, link_of, tail_of, tail_opened, Stands, Keeps, IsBetweenBlocks, HasRoom, OnlyOwnLink, LeavesFile, Wrote, Closed, Fails, FailsToClose};
 
     /// A writer of a file that was just created at `path`, which has the size of blocks that `sizes` says. `file_id` is the id that
     /// the namenode told.
     pub fn new(alloc: Global, path: Text, file_id: Option<u64>, sizes: WriteSizes) -> FileWriter
         requires { AreSizes sizes }
-        ensures path { path_of result ≡ path }
+        ensures path { (path_of result ≡ path) × (sizes_of result ≡ sizes) × (file_id_of result ≡ file_id) }
         ensures tail { tail_of result ≡ Bare }
         ensures idle { (link_of result ≡ None) × (has_failed result ≡ false) }
         ensures stands { (shown : Shown) → Stands shown result }
@@ -49,62 +53,90 @@ impl FileWriter {
             sizes,
             last: None,
             going: None,
+            reopened: None,
             failed: false,
         }
     }
 
-    /// Ends the block that is being written.
+    /// A writer of a file that was just opened to be gone on with: `block` is its last block, if it has one, with the datanodes that
+    /// the namenode named for it. The first write goes on in that block where it isn't full, or is refused where the file's replication
+    /// or block size is out of its limits.
+    pub fn appended(
+        alloc: Global,
+        path: Text,
+        file_id: Option<u64>,
+        sizes: WriteSizes,
+        block: Option<LocatedBlock>,
+    ) -> FileWriter
+        requires packets { ArePackets sizes }
+        requires block { IfSome block IsToWrite }
+        ensures path { (path_of result ≡ path) × (sizes_of result ≡ sizes) × (file_id_of result ≡ file_id) }
+        ensures tail { tail_of result ≡ tail_opened block None }
+        ensures idle { (link_of result ≡ None) × (has_failed result ≡ false) }
+        ensures stands { (shown : Shown) → Stands shown result }
+    {
+        FileWriter {
+            alloc,
+            path,
+            file_id,
+            sizes,
+            last: None,
+            going: None,
+            reopened: block,
+            failed: false,
+        }
+    }
+
+    /// Ends the block that is being written, or leaves the one that was to be gone on with.
     fn finish_block<C: Cluster>(&mut self, cluster: &mut C) -> Result<(), HdfsError>
         requires stands { Stands (C.shown cluster.old) self.old }
         requires fine { self.old.failed ≡ false }
         ensures fine { self.new.failed ≡ false }
-        ensures none { self.new.going ≡ None }
+        ensures keeps { Keeps self.old self.new }
+        ensures between { OnOk result (IsBetweenBlocks self.new) }
         ensures wrote { OnOk result (Wrote (C.shown cluster.old) self.old [] (C.shown cluster.new) self.new) }
         ensures err { IfErr result (λ error. Fails (C.shown cluster.old) self.old error (C.shown cluster.new)) }
-        ensures keeps { Keeps self.old self.new }
     {
-        let Some(block) = self.going.take() else {
-            return Ok(());
-        };
-        match block.close(cluster) {
-            Ok(block) => {
-                self.last = Some(block);
-                Ok(())
+        match self.reopened.take() {
+            Some(located) => {
+                self.last = Some(located.b);
+                return Ok(());
             }
-            Err(fault) => Err(error_of(fault)),
+            None => {}
+        }
+        match self.going.take() {
+            Some(block) => match block.close(cluster) {
+                Ok(block) => {
+                    self.last = Some(block);
+                    Ok(())
+                }
+                Err(fault) => Err(error_of(fault)),
+            },
+            None => Ok(()),
         }
     }
 
-    /// Begins a block behind those that are done.
-    fn begin_block<C: Cluster>(
+    /// Opens the pipeline of a block that has room for a byte.
+    fn open_block<C: Cluster>(
         &mut self,
         cluster: &mut C,
         namenode: &NamenodeProtocol,
+        located: LocatedBlock,
     ) -> Result<(), HdfsError>
-        requires namenode { 0 < (C.shown cluster.old).namenodes }
-        requires stands { Stands (C.shown cluster.old) self.old }
+        requires sizes { AreSizes self.old.sizes }
         requires fine { self.old.failed ≡ false }
-        requires none { self.old.going ≡ None }
+        requires between { IsBetweenBlocks self.old }
+        requires block { IsToWrite located }
+        requires room { located.b.num_bytes < self.old.sizes.block_size }
         ensures fine { self.new.failed ≡ false }
-        ensures stands { OnOk result (Stands (C.shown cluster.new) self.new) }
-        ensures room { OnOk result (HasRoom self.new) }
-        ensures wrote { OnOk result (Wrote (C.shown cluster.old) self.old [] (C.shown cluster.new) self.new) }
-        ensures err { IfErr result (λ error. Fails (C.shown cluster.old) self.old error (C.shown cluster.new)) }
         ensures keeps { Keeps self.old self.new }
+        ensures stands { OnOk result (Stands (C.shown cluster.new) self.new × HasRoom self.new) }
+        ensures wrote { OnOk result (Wrote (C.shown cluster.old) (record self.old { reopened = Some located }) [] (C.shown cluster.new) self.new) }
+        ensures err { IfErr result (λ error. Fails (C.shown cluster.old) (record self.old { reopened = Some located }) error (C.shown cluster.new)) }
     {
         let client = match Text::from_str(self.alloc, namenode.client_name()) {
             Ok(client) => client,
             Err(_) => return Err(HdfsError::NoMemory),
-        };
-        let located = match namenode.add_block(
-            cluster,
-            self.path.as_str(),
-            self.last.as_ref(),
-            &[],
-            self.file_id,
-        ) {
-            Ok(located) => located,
-            Err(error) => return Err(error),
         };
         match BlockWriter::replicated(
             self.alloc,
@@ -124,6 +156,53 @@ impl FileWriter {
         }
     }
 
+    /// Begins a block behind those that are done.
+    fn begin_block<C: Cluster>(
+        &mut self,
+        cluster: &mut C,
+        namenode: &NamenodeProtocol,
+    ) -> Result<(), HdfsError>
+        requires namenode { 0 < (C.shown cluster.old).namenodes }
+        requires sizes { AreSizes self.old.sizes }
+        requires fine { self.old.failed ≡ false }
+        requires between { IsBetweenBlocks self.old }
+        ensures fine { self.new.failed ≡ false }
+        ensures keeps { Keeps self.old self.new }
+        ensures stands { OnOk result (Stands (C.shown cluster.new) self.new × HasRoom self.new) }
+        ensures wrote { OnOk result (Wrote (C.shown cluster.old) self.old [] (C.shown cluster.new) self.new) }
+        ensures err { IfErr result (λ error. Fails (C.shown cluster.old) self.old error (C.shown cluster.new)) }
+    {
+        let located = match namenode.add_block(
+            cluster,
+            self.path.as_str(),
+            self.last.as_ref(),
+            &[],
+            self.file_id,
+        ) {
+            Ok(located) => located,
+            Err(error) => return Err(error),
+        };
+        match self.open_block(cluster, namenode, located) {
+            Ok(()) => Ok(()),
+            Err(error) => Err(error),
+        }
+    }
+
+    /// The block that is to be gone on with, where it has room for a byte.
+    fn take_reopened(&mut self) -> Option<LocatedBlock>
+        ensures some { IfSome result (λ located. (self.old.reopened ≡ Some located)
+            × (located.b.num_bytes < self.old.sizes.block_size) × (self.new ≡ record self.old { reopened = None })) }
+        ensures none { result ≡ None → self.new ≡ self.old }
+    {
+        match self.reopened.take() {
+            Some(located) if located.b.num_bytes < self.sizes.block_size => Some(located),
+            other => {
+                self.reopened = other;
+                None
+            }
+        }
+    }
+
     /// Sees to it that a block is being written that has room for a byte.
     fn make_room<C: Cluster>(
         &mut self,
@@ -131,17 +210,26 @@ impl FileWriter {
         namenode: &NamenodeProtocol,
     ) -> Result<(), HdfsError>
         requires namenode { 0 < (C.shown cluster.old).namenodes }
+        requires sizes { AreLimited self.old.sizes }
         requires stands { Stands (C.shown cluster.old) self.old }
         requires fine { self.old.failed ≡ false }
         ensures fine { self.new.failed ≡ false }
-        ensures stands { OnOk result (Stands (C.shown cluster.new) self.new) }
-        ensures room { OnOk result (HasRoom self.new) }
+        ensures keeps { Keeps self.old self.new }
+        ensures stands { OnOk result (Stands (C.shown cluster.new) self.new × HasRoom self.new) }
         ensures wrote { OnOk result (Wrote (C.shown cluster.old) self.old [] (C.shown cluster.new) self.new) }
         ensures err { IfErr result (λ error. Fails (C.shown cluster.old) self.old error (C.shown cluster.new)) }
-        ensures keeps { Keeps self.old self.new }
     {
         if self.has_room() {
             return Ok(());
+        }
+        match self.take_reopened() {
+            Some(located) => {
+                return match self.open_block(cluster, namenode, located) {
+                    Ok(()) => Ok(()),
+                    Err(error) => Err(error),
+                };
+            }
+            None => {}
         }
         match self.finish_block(cluster) {
             Ok(()) => {}
@@ -171,6 +259,7 @@ impl FileWriter {
         bytes: &[u8],
     ) -> Result<usize, HdfsError>
         requires namenode { 0 < (C.shown cluster.old).namenodes }
+        requires sizes { AreLimited self.old.sizes }
         requires stands { Stands (C.shown cluster.old) self.old }
         requires fine { self.old.failed ≡ false }
         requires bytes { 0 < length bytes.now }
@@ -195,9 +284,10 @@ impl FileWriter {
     }
 
     /// Takes the bytes, and answers how many they are. A block that is full is ended, and the next one begun, once a byte comes
-    /// that it has no room for.
+    /// that it has no room for. No bytes touch nothing of the cluster.
     ///
-    /// Errors: `NoMemory`; `Failed` after an earlier error; `IOError(Link)` and `DataTransferError(Setup)` where a pipeline wasn't set
+    /// Errors: `NoMemory`; `Failed` after an earlier error; `InvalidArgument(Options)` where the file's replication or block size is
+    /// out of its limits; `IOError(Link)` and `DataTransferError(Setup)` where a pipeline wasn't set
     /// up, `DataTransferError(AllNodes)` where a datanode of it failed, `DataTransferError(BadAck)` where an acknowledgement wasn't due;
     /// `RPCError` and `AlreadyExists` with a namenode's exception. After an error the writer has failed, and its link is ended.
     pub fn write<C: Cluster>(
@@ -210,26 +300,42 @@ impl FileWriter {
         requires stands { Stands (C.shown cluster.old) self.old }
 
         ensures stands { Stands (C.shown cluster.new) self.new × Keeps self.old self.new }
-        ensures count { IfOk result (λ n. n ≡ length bytes.now) }
+        ensures count { IfOk result (λ n. (n ≡ length bytes.now) × AreLimited (sizes_of self.old)) }
+        ensures none { bytes.now ≡ [] → cluster.new ≡ cluster.old }
         ensures failed { has_failed self.old ≡ true
             → (result ≡ Err errors.Failed) × (self.new ≡ self.old) × (cluster.new ≡ cluster.old) }
         ensures fails { (OnOk result (has_failed self.new ≡ false)) × (OnErr result (has_failed self.new ≡ true)) }
+        ensures options { has_failed self.old ≡ false → (AreLimited (sizes_of self.old) → ⊥)
+            → (result ≡ Err (errors.InvalidArgument args.Options)) × (link_of self.old ≡ None) × (cluster.new ≡ cluster.old) }
 
         // Over a told picture these bytes are carried too, and nothing but the file changes.
         ensures wrote { OnOk result (Wrote (C.shown cluster.old) self.old bytes.now (C.shown cluster.new) self.new) }
-        ensures err { IfErr result (λ error. has_failed self.old ≡ false → Fails (C.shown cluster.old) self.old error (C.shown cluster.new)) }
+        ensures err { IfErr result (λ error. has_failed self.old ≡ false → AreLimited (sizes_of self.old)
+            → Fails (C.shown cluster.old) self.old error (C.shown cluster.new)) }
     {
         if self.failed {
             return Err(HdfsError::Failed);
         }
+        if !self.sizes.are_limited() {
+            self.let_go();
+            return Err(HdfsError::InvalidArgument(ArgFault::Options));
+        }
         match self.write_all(cluster, namenode, bytes) {
             Ok(()) => Ok(bytes.len()),
             Err(error) => {
-                self.failed = true;
-                self.going = None;
+                self.let_go();
                 Err(error)
             }
         }
+    }
+
+    /// Has failed from now on, and keeps no block.
+    fn let_go(&mut self)
+        ensures { self.new ≡ record self.old { failed = true; reopened = None; going = None } }
+    {
+        self.failed = true;
+        self.reopened = None;
+        self.going = None;
     }
 
     /// Takes the bytes.
@@ -240,6 +346,7 @@ impl FileWriter {
         bytes: &[u8],
     ) -> Result<(), HdfsError>
         requires namenode { 0 < (C.shown cluster.old).namenodes }
+        requires sizes { AreLimited self.old.sizes }
         requires stands { Stands (C.shown cluster.old) self.old }
         requires fine { self.old.failed ≡ false }
         ensures fine { self.new.failed ≡ false }
@@ -247,6 +354,7 @@ impl FileWriter {
         ensures wrote { OnOk result (Wrote (C.shown cluster.old) self.old bytes.now (C.shown cluster.new) self.new) }
         ensures err { IfErr result (λ error. Fails (C.shown cluster.old) self.old error (C.shown cluster.new)) }
         ensures keeps { Keeps self.old self.new }
+        ensures none { bytes.now ≡ [] → cluster.new ≡ cluster.old }
     {
         let mut rest = bytes;
         'blocks: while !rest.is_empty() {
@@ -265,7 +373,7 @@ impl FileWriter {
         namenode: &NamenodeProtocol,
     ) -> Result<(), HdfsError>
         requires namenode { 0 < (C.shown cluster.old).namenodes }
-        requires none { self.now.going ≡ None }
+        requires between { IsBetweenBlocks self.now }
         ensures closed { OnOk result (Closed (C.shown cluster.old) self.now (C.shown cluster.new)) }
         ensures err { IfErr result (λ error. FailsToClose (C.shown cluster.old) self.now error (C.shown cluster.new)) }
     {
@@ -323,7 +431,8 @@ impl FileWriter {
         requires stands { Stands (C.shown cluster.old) self }
         ensures own { OnlyOwnLink (C.shown cluster.old) (link_of self) (C.shown cluster.new) None }
         ensures idle { link_of self ≡ None → cluster.new ≡ cluster.old }
-        ensures touches { TouchesFile (C.shown cluster.old) self (C.shown cluster.new) }
+        ensures last { (C.shown cluster.new).last ≡ (C.shown cluster.old).last }
+        ensures touches { LeavesFile (C.shown cluster.old) self (C.shown cluster.new) }
     {
         if let Some(block) = self.going.take() {
             block.abandon(cluster);

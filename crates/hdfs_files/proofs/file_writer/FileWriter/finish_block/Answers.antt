@@ -1,39 +1,49 @@
 -- The goals of FileWriter::finish_block.
-use Rattle.std.proofs.Common.{◌≡◌, [], Option, None, Some, sym, subst, refl, ap}
+use Rattle.std.proofs.Common.{◌≡◌, [], Option, None, Some, IsSome, sym, subst, refl, ◌∙◌, ap}
 use Rattle.hdfs_blocks.specs.declared.block_writer.BlockWriter.{BlockWriter}
 use Rattle.hdfs_model.specs.declared.errors.HdfsError.{HdfsError}
+use Rattle.hdfs_model.specs.declared.messages.LocatedBlock.{LocatedBlock}
 use Rattle.hdfs_files.specs.Writers.{Wrote, Fails}
 use Rattle.hdfs_files.proofs.Joining.{wrote_nothing}
-use Rattle.hdfs_files.proofs.Standing.{ended_wrote, gave_up_fails}
+use Rattle.hdfs_files.proofs.Standing.{ended_wrote, gave_up_fails, settled_wrote}
 use Rattle.hdfs_files.proofs.file_writer.FileWriter.finish_block.Goals as goal
 
-pub returns-in_default-clause-wrote : goal.returns-in_default-clause-wrote
-returns-in_default-clause-wrote g c =
+pub returns-in-Some-clause-wrote : goal.returns-in-Some-clause-wrote
+returns-in-Some-clause-wrote g c =
+    let w = c.args.self.now in
+    let reopened : w.reopened ≡ Some c.in-Some.located = sym c.take.ensures.value ∙ c.in-Some.is in
+    let none : w.going ≡ None = c.requires.stands.apart (subst IsSome (sym reopened) refl) in
+    settled_wrote (g.C.Cluster.shown c.args.cluster.now) w (record w { last = Some c.in-Some.located.b; reopened = c.take.new.self }) c.in-Some.located
+    (record { path = refl; file_id = refl; sizes = refl }) none reopened (record { none = none; done = c.take.ensures.after }) refl
+
+pub returns-in-None-take-clause-wrote : goal.returns-in-None-take-clause-wrote
+returns-in-None-take-clause-wrote g c =
     let s = g.C.Cluster.shown c.args.cluster.now in
     let w = c.args.self.now in
-    let same : w.going ≡ c.take.new.self = search in
-    subst (λ (o : Option BlockWriter). Wrote s w [] s (record w { going = o })) same (wrote_nothing s w)
+    let going : w.going ≡ c.take-2.new.self = sym c.take-2.ensures.value ∙ c.in-None-take.is ∙ sym c.take-2.ensures.after in
+    let reopened : w.reopened ≡ c.take.new.self = sym c.take.ensures.value ∙ c.in-None.is ∙ sym c.take.ensures.after in
+    subst (λ (o : Option LocatedBlock). Wrote s w [] s (record w { going = c.take-2.new.self; reopened = o })) reopened
+    (subst (λ (o : Option BlockWriter). Wrote s w [] s (record w { going = o })) going (wrote_nothing s w))
 
 pub close-requires : goal.close-requires
 close-requires g c =
-    let going : c.args.self.now.going ≡ Some c.in-Some.block = search in
-    (c.requires.stands.going c.in-Some.block going).stands
+    let going : c.args.self.now.going ≡ Some c.in-Some-take.block = sym c.take-2.ensures.value ∙ c.in-Some-take.is in
+    (c.requires.stands.going c.in-Some-take.block going).stands
 
 pub returns-in-Ok-clause-wrote : goal.returns-in-Ok-clause-wrote
 returns-in-Ok-clause-wrote g c =
-    let s = g.C.Cluster.shown c.args.cluster.now in
-    let t = g.C.Cluster.shown c.close.new.cluster in
-    let going : c.args.self.now.going ≡ Some c.in-Some.block = search in
-    let none : c.take.new.self ≡ None = search in
-    ended_wrote s t (g.met.C.Cluster.sound c.args.cluster.now) c.args.self.now c.in-Some.block going
-    (record c.args.self.now { last = Some c.in-Ok.block; going = c.take.new.self })
-    (record { path = refl; file_id = refl; sizes = refl }) none (ap Some c.in-Ok.ensures.closed.named) c.in-Ok.ensures.closed.ends
+    let w = c.args.self.now in
+    let going : w.going ≡ Some c.in-Some-take.block = sym c.take-2.ensures.value ∙ c.in-Some-take.is in
+    ended_wrote (g.C.Cluster.shown c.args.cluster.now) (g.C.Cluster.shown c.close.new.cluster) (g.met.C.Cluster.sound c.args.cluster.now) w c.in-Some-take.block going
+    (record w { last = Some c.in-Ok.block; going = c.take-2.new.self; reopened = c.take.new.self })
+    (record { path = refl; file_id = refl; sizes = refl }) (record { none = c.take-2.ensures.after; done = c.take.ensures.after }) (ap Some c.in-Ok.ensures.closed.named) c.in-Ok.ensures.closed.ends
 
 pub returns-in-Err-clause-err : goal.returns-in-Err-clause-err
 returns-in-Err-clause-err g c =
     let s = g.C.Cluster.shown c.args.cluster.now in
     let t = g.C.Cluster.shown c.close.new.cluster in
-    let going : c.args.self.now.going ≡ Some c.in-Some.block = search in
-    subst (λ (e : HdfsError). Fails s c.args.self.now e t) (sym c.error_of.ensures)
-    (gave_up_fails s t (g.met.C.Cluster.sound c.args.cluster.now) c.args.self.now c.in-Some.block going
-    (c.requires.stands.going c.in-Some.block going) (c.requires.stands.is_open c.requires.fine c.in-Some.block going) c.in-Err.fault c.in-Err.ensures.err)
+    let w = c.args.self.now in
+    let block = c.in-Some-take.block in
+    let going : w.going ≡ Some block = sym c.take-2.ensures.value ∙ c.in-Some-take.is in
+    subst (λ (e : HdfsError). Fails s w e t) (sym c.error_of.ensures)
+    (gave_up_fails s t (g.met.C.Cluster.sound c.args.cluster.now) w block going (g.met.C.Cluster.shows_writes c.args.cluster.now) (c.requires.stands.going block going) (c.requires.stands.is_open c.requires.fine block going) c.in-Err.fault c.in-Err.ensures.err)

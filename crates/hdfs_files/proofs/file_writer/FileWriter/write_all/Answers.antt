@@ -1,12 +1,16 @@
 -- The goals of FileWriter::write_all.
-use Rattle.std.proofs.Common.{ℕ, [], List, ◌++◌, take, sym, ◌∙◌, ap, refl}
-use Rattle.std.proofs.lemmas.List.{take_rest}
+use Rattle.std.proofs.Common.{◌≡◌, ◌<◌, ℕ, [], List, ◌++◌, length, take, sym, ◌∙◌, ap, refl, arith}
+use Rattle.std.proofs.lemmas.List.{take_rest, length-append}
 use Rattle.hdfs_blocks.proofs.Wrote.{pieces_join}
 use Rattle.hdfs_files.proofs.Joining.{wrote_nothing, wrote_trans, fails_after}
 use Rattle.hdfs_files.proofs.file_writer.FileWriter.write_all.Goals as goal
 
+-- no bytes are left of none
+none_left : (bytes done rest : List ℕ) → bytes ≡ [] → bytes ≡ done ++ rest → 0 < length rest → ⊥
+none_left bytes done rest empty cut some = omega (arith, ap length (sym cut ∙ empty), length-append done rest, some)
+
 pub blocks-2-init : goal.blocks-2-init
-blocks-2-init g c = record { stands = c.requires.stands; fine = c.requires.fine; told = ([], refl, wrote_nothing (g.C.Cluster.shown c.args.cluster.now) c.args.self.now) }
+blocks-2-init g c = record { stands = c.requires.stands; fine = c.requires.fine; told = ([], refl, wrote_nothing (g.C.Cluster.shown c.args.cluster.now) c.args.self.now); none = λ empty. refl }
 
 pub blocks-2-preserved : goal.blocks-2-preserved
 blocks-2-preserved g c =
@@ -15,6 +19,7 @@ blocks-2-preserved g c =
     let n = c.in-Ok.taken in
     let rest = c.blocks-2.rest.now in
     let told = before.told in
+    let some : 0 < length rest = omega (arith, now.count) in
     record {
       stands = now.stands;
       fine = now.fine;
@@ -23,6 +28,7 @@ blocks-2-preserved g c =
         pieces_join c.args.bytes.now rest told.0 n told.1 ∙ ap (λ (l : List ℕ). told.0 ++ take n rest ++ l) (sym (take_rest rest n)),
         wrote_trans (g.C.Cluster.shown c.args.cluster.now) (g.C.Cluster.shown c.blocks-2.cluster) (g.C.Cluster.shown c.write_piece.new.cluster) c.args.self.now c.blocks-2.self c.write_piece.new.self told.0 (take n rest) told.2 now.wrote,
       );
+      none = λ empty. absurd (none_left c.args.bytes.now told.0 rest empty told.1 some);
     }
 
 pub returns-in-Err-clause-err : goal.returns-in-Err-clause-err

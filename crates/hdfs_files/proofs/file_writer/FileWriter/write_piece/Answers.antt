@@ -10,20 +10,20 @@ use Rattle.hdfs_files.proofs.Standing.{more_stands, more_wrote, gave_up_fails, w
 use Rattle.hdfs_files.proofs.file_writer.FileWriter.write_piece.Goals as goal
 
 pub write-requires : goal.write-requires
-write-requires g c = (c.in-Ok.ensures.stands.going c.in-Some.block c.in-Some.is).stands
+write-requires g c = (c.in-Ok.ensures.stands.0.going c.in-Some.block c.in-Some.is).stands
 
 pub returns-in-Ok-write-clause-stands : goal.returns-in-Ok-write-clause-stands
 returns-in-Ok-write-clause-stands g c =
     more_stands (g.C.Cluster.shown c.make_room.new.cluster) (g.C.Cluster.shown c.write.new.cluster) (g.met.C.Cluster.sound c.make_room.new.cluster) c.make_room.new.self c.in-Some.block c.in-Some.is
     (record c.make_room.new.self { going = Some c.write.new.self }) c.write.new.self (take c.in-Ok-write.taken c.args.bytes.now)
-    c.in-Ok.ensures.stands c.in-Ok.ensures.fine c.in-Ok.ensures.fine (record { path = refl; file_id = refl; sizes = refl }) refl c.in-Ok-write.ensures.wrote c.in-Ok-write.ensures.stands
+    c.in-Ok.ensures.stands.0 c.in-Ok.ensures.fine c.in-Ok.ensures.fine (record { path = refl; file_id = refl; sizes = refl }) refl refl c.in-Ok-write.ensures.wrote c.in-Ok-write.ensures.stands
 
 pub returns-in-Ok-write-clause-count : goal.returns-in-Ok-write-clause-count
 returns-in-Ok-write-clause-count g c =
     let block = c.in-Some.block in
-    let room = c.in-Ok.ensures.room in
+    let room = c.in-Ok.ensures.stands.1 in
     let same : room.0 ≡ block = cc (room.1, c.in-Some.is) in
-    let within = within_size (g.C.Cluster.shown c.make_room.new.cluster) block (c.in-Ok.ensures.stands.going block c.in-Some.is).stands (c.in-Ok.ensures.stands.is_open c.in-Ok.ensures.fine block c.in-Some.is) in
+    let within = within_size (g.C.Cluster.shown c.make_room.new.cluster) block (c.in-Ok.ensures.stands.0.going block c.in-Some.is).stands (c.in-Ok.ensures.stands.0.is_open c.in-Ok.ensures.fine block c.in-Some.is) in
     let apart : (length_of block ≡ size_of block) → ⊥ = subst (λ (x : BlockWriter). (length_of x ≡ size_of x) → ⊥) same room.2 in
     min_some c.in-Ok-write.taken (length c.args.bytes.now) (size_of block - length_of block) c.in-Ok-write.ensures.count c.requires.bytes (omega (arith, within, apart))
 
@@ -44,7 +44,7 @@ returns-in-Err-write-clause-err g c =
     let t = g.C.Cluster.shown c.write.new.cluster in
     let w1 = c.make_room.new.self in
     let block = c.in-Some.block in
-    let stands = c.in-Ok.ensures.stands in
+    let stands = c.in-Ok.ensures.stands.0 in
     subst (λ (e : HdfsError). Fails s c.args.self.now e t) (sym c.error_of.ensures)
     (fails_after s m t c.args.self.now w1 [] (error_of c.in-Err-write.fault) c.in-Ok.ensures.wrote
-    (gave_up_fails m t (g.met.C.Cluster.sound c.make_room.new.cluster) w1 block c.in-Some.is (stands.going block c.in-Some.is) (stands.is_open c.in-Ok.ensures.fine block c.in-Some.is) c.in-Err-write.fault c.in-Err-write.ensures.err.gave_up))
+    (gave_up_fails m t (g.met.C.Cluster.sound c.make_room.new.cluster) w1 block c.in-Some.is (g.met.C.Cluster.shows_writes c.make_room.new.cluster) (stands.going block c.in-Some.is) (stands.is_open c.in-Ok.ensures.fine block c.in-Some.is) c.in-Err-write.fault c.in-Err-write.ensures.err.gave_up))
