@@ -1,6 +1,10 @@
 -- Why a read fails, and what it gives.
-use Rattle.std.proofs.Common.{◌≡◌, inl, inr, ⊎_elim, ℕ, ◌+◌, ◌-◌, ◌<◌, ◌≤◌, List, [], length, get_or, Some, refl, sym, ◌∙◌, ap, subst, arith}
+use Rattle.std.proofs.Common.{◌≡◌, ◌⊎◌, inl, inr, ⊎_elim, ℕ, ◌+◌, ◌-◌, ◌<◌, ◌≤◌, Bool, true, false, cond, List, [], length, get_or, Some, Err, refl, sym, ◌∙◌, ap, subst, arith}
+use Rattle.std.proofs.lemmas.Bool.{false≢true}
 use Rattle.hdfs_model.specs.declared.messages.LocatedBlocks.{LocatedBlocks}
+use Rattle.hdfs_model.specs.declared.asks.Ask.TheVariants as asks
+use Rattle.hdfs_model.specs.declared.asks.AskFault.{AskFault}
+use Rattle.hdfs_model.specs.declared.asks.AskFault.TheVariants as faults
 use Rattle.hdfs_model.specs.declared.commands.Command.{Command}
 use Rattle.hdfs_model.specs.declared.commands.Command.TheVariants as commands
 use Rattle.hdfs_model.specs.declared.commands.Reply.TheVariants as replies
@@ -8,108 +12,96 @@ use Rattle.hdfs_model.specs.declared.errors.HdfsError.{HdfsError}
 use Rattle.hdfs_model.specs.declared.errors.HdfsError.TheVariants as errors
 use Rattle.hdfs_model.specs.declared.errors.ArgFault.TheVariants as args
 use Rattle.hdfs_model.specs.declared.errors.TransferFault.TheVariants as transfer
-use Rattle.hdfs_model.specs.Files.{State}
+use Rattle.hdfs_model.specs.Files.{State, NoFile, NotDirectory, Missing, NotFile}
 use Rattle.hdfs_model.specs.Steps.{World, Done, content_of, range_of, step}
-use Rattle.hdfs_model.specs.Picture.{Picture, SameFiles}
-use Rattle.hdfs_model.specs.Namenode.{Locates}
-use Rattle.hdfs_model.specs.Shown.{Shown, Later, OnlyReads}
+use Rattle.hdfs_model.specs.Picture.{Picture, SameFiles, kinds}
+use Rattle.hdfs_model.specs.Namenode.{Locates, IsNoFile, StandsForNoFile, class_for, is_taken}
+use Rattle.hdfs_model.specs.Shown.{Shown, Later, Served, OnlyReads}
 use Rattle.hdfs_model.specs.Stores.{Agrees}
-use Rattle.hdfs_model.specs.Causes.{AllFailed, ByteLost, FileLost, HasLength, Cause, Tells, IsEarly}
+use Rattle.hdfs_model.specs.Causes.{AllFailed, ByteLost, CallsRose, FileLost, HasLength, Cause, Tells, IsEarly}
 use Rattle.hdfs_model.proofs.Frames.{told_after, rose_since}
+use Rattle.hdfs_namenode.specs.Asked.{error_of}
 use Rattle.hdfs_client.specs.Meeting.{Meets, IsClosed}
-use Rattle.hdfs_client.specs.Looking.{CauseOfLook}
 use Rattle.hdfs_client.specs.Ranges.{Stored, FailsAt}
 use Rattle.hdfs_client.proofs.Agreeing.{agrees_moved, agrees_files, is_told, byte_lost, locates_blocks, stores_blocks}
-use Rattle.hdfs_client.proofs.Stepping.{Found, found_file, is_closed, refused_read, done_read, bad_range, step_is, resolved_path}
+use Rattle.hdfs_client.proofs.Looking.{exception_there}
+use Rattle.hdfs_client.proofs.Stepping.{Found, found_file, is_closed, refused_read, done_read, bad_range}
 
 -- what holds of an error over any cluster
-pub tells_from-FailsAt : (path : List ℕ) (offset len : ℕ) (old new : Shown) (e : HdfsError) → FailsAt (λ byte. offset < offset + len) e → Tells (commands.Read path offset len) old new e
-tells_from-FailsAt path offset len old new errors.NoMemory h = tt
-tells_from-FailsAt path offset len old new errors.Failed h = absurd h
-tells_from-FailsAt path offset len old new (errors.DataTransferError (transfer.Read byte)) h = (offset, len, (refl, refl), omega (arith, h))
-tells_from-FailsAt path offset len old new (errors.InvalidArgument fault) h = absurd h
-tells_from-FailsAt path offset len old new (errors.FileNotFound name) h = absurd h
-tells_from-FailsAt path offset len old new (errors.IOError fault) h = absurd h
-tells_from-FailsAt path offset len old new (errors.DataTransferError transfer.Setup) h = absurd h
-tells_from-FailsAt path offset len old new (errors.DataTransferError transfer.AllNodes) h = absurd h
-tells_from-FailsAt path offset len old new (errors.DataTransferError (transfer.BadAck seqno)) h = absurd h
-tells_from-FailsAt path offset len old new (errors.AlreadyExists message) h = absurd h
-tells_from-FailsAt path offset len old new (errors.OperationFailed name) h = absurd h
-tells_from-FailsAt path offset len old new (errors.RPCError class message) h = absurd h
+pub tells_from-FailsAt : (name : List ℕ) (offset len : ℕ) (old new : Shown) (e : HdfsError) → FailsAt (λ byte. offset < offset + len) e → Tells (commands.Read name offset len) old new e
+tells_from-FailsAt name offset len old new errors.NoMemory h = tt
+tells_from-FailsAt name offset len old new (errors.DataTransferError (transfer.Read byte)) h = (offset, len, (refl, refl), omega (arith, h))
+tells_from-FailsAt name offset len old new e h = absurd h
 
 -- an error of datanodes is no refusal
-pub not_early : (P : ℕ → Type 0) (e : HdfsError) → FailsAt P e → IsEarly e → ⊥
-not_early P errors.NoMemory h early = early
-not_early P errors.Failed h early = early
-not_early P (errors.DataTransferError (transfer.Read byte)) h early = early
-not_early P (errors.InvalidArgument fault) h early = h
-not_early P (errors.FileNotFound name) h early = h
-not_early P (errors.IOError fault) h early = h
-not_early P (errors.DataTransferError transfer.Setup) h early = h
-not_early P (errors.DataTransferError transfer.AllNodes) h early = h
-not_early P (errors.DataTransferError (transfer.BadAck seqno)) h early = h
-not_early P (errors.AlreadyExists message) h early = h
-not_early P (errors.OperationFailed name) h early = h
-not_early P (errors.RPCError class message) h early = h
+pub not_early : (command : Command) (P : ℕ → Type 0) (e : HdfsError) → FailsAt P e → IsEarly command e → ⊥
+not_early command P errors.NoMemory h early = early
+not_early command P (errors.DataTransferError (transfer.Read byte)) h early = early
+not_early command P e h early = absurd h
 
-module _ (w : World) (s s' : Shown) (state : State) (path : List ℕ) (offset len : ℕ) (meets : Meets s state path) where
+-- the exceptions that stand for a missing file don't say that something stands at the path
+not_taken : (why : NoFile) → is_taken (class_for why) ≡ false
+not_taken NotDirectory = refl
+not_taken Missing = refl
+not_taken NotFile = refl
+
+module _ (w : World) (s s' : Shown) (state : State) (name path : List ℕ) (offset len : ℕ) (meets : Meets w s state name path) where
   abbrev command : Command
-  command = commands.Read path offset len
+  command = commands.Read name offset len
 
-  pub look_cause : (e : HdfsError) → ((p : Picture) → s.picture ≡ Some p → s.namenodes ≡ 1 → IsClosed p path → CauseOfLook p path s s' e) → Cause w state command s s' e
-  look_cause errors.NoMemory h = tt
-  look_cause errors.Failed h =
+  -- the picture in which the file is closed
+  closed_there : (p : Picture) × (s.picture ≡ Some p) × IsClosed p path
+  closed_there =
       let told = is_told s.picture state.files meets.agrees in
-      absurd (h told.0 told.1 meets.one (is_closed s state path meets told.0 told.1))
-  look_cause (errors.DataTransferError fault) h =
-      let told = is_told s.picture state.files meets.agrees in
-      absurd (h told.0 told.1 meets.one (is_closed s state path meets told.0 told.1))
-  look_cause (errors.IOError fault) h =
-      let told = is_told s.picture state.files meets.agrees in
-      absurd (h told.0 told.1 meets.one (is_closed s state path meets told.0 told.1))
-  look_cause (errors.AlreadyExists message) h =
-      let told = is_told s.picture state.files meets.agrees in
-      absurd (h told.0 told.1 meets.one (is_closed s state path meets told.0 told.1))
-  look_cause (errors.OperationFailed name) h =
-      let told = is_told s.picture state.files meets.agrees in
-      absurd (h told.0 told.1 meets.one (is_closed s state path meets told.0 told.1))
-  look_cause (errors.InvalidArgument fault) h =
-      let told = is_told s.picture state.files meets.agrees in
-      absurd (h told.0 told.1 meets.one (is_closed s state path meets told.0 told.1))
-  look_cause (errors.FileNotFound name) h =
-      let told = is_told s.picture state.files meets.agrees in
-      let lacking = h told.0 told.1 meets.one (is_closed s state path meets told.0 told.1) in
-      (lacking.0, step_is w state path offset len meets.absolute ∙ refused_read s state path meets told.0 told.1 path offset len lacking.0 lacking.1)
-  look_cause (errors.RPCError class message) h =
-      let told = is_told s.picture state.files meets.agrees in
-      ⊎_elim (λ stands. inl (stands.0, step_is w state path offset len meets.absolute ∙ refused_read s state path meets told.0 told.1 path offset len stands.0 stands.1, stands.2)) (λ rose. inr rose) (h told.0 told.1 meets.one (is_closed s state path meets told.0 told.1))
+      (told.0, told.1, is_closed w s state name path meets told.0 told.1)
+
+  -- a file that the namenode doesn't know isn't there
+  pub missing_cause : ((p : Picture) → s.picture ≡ Some p → IsClosed p path → IsNoFile p path) → Cause w state command s s' (errors.FileNotFound name)
+  missing_cause h =
+      let t = closed_there in
+      let lacking = h t.0 t.1 t.2 in
+      (lacking.0, refused_read w s state name path meets t.0 t.1 offset len lacking.0 lacking.1)
+
+  exception_cause : (class message : List ℕ) → (p : Picture) → s.picture ≡ Some p → StandsForNoFile (kinds p) path class ⊎ CallsRose s.counts s' → Cause w state command s s' (error_of (faults.Exception class message))
+  exception_cause class message p told h = by_test (is_taken class) refl
+    where
+      by_test : (b : Bool) → is_taken class ≡ b → Cause w state command s s' (cond b (errors.AlreadyExists message) (errors.RPCError class message))
+      by_test true is = ⊎_elim (λ stands. absurd (false≢true (sym (not_taken stands.0) ∙ sym (ap is_taken stands.2) ∙ is))) (λ rose. inr rose) h
+      by_test false is = ⊎_elim (λ stands. inl (stands.0, refused_read w s state name path meets p told offset len stands.0 stands.1, stands.2)) (λ rose. inr rose) h
+
+  -- why the look-up fails
+  pub fault_cause : ((p : Picture) → s.picture ≡ Some p → p.active < s.namenodes) → (from count : ℕ) (fault : AskFault) → Served s 0 (asks.GetBlockLocations path from count) (Err fault) s' → Cause w state command s s' (error_of fault)
+  fault_cause active from count faults.NoMemory served = tt
+  fault_cause active from count (faults.Exception class message) served =
+      let t = closed_there in
+      exception_cause class message t.0 t.1 (exception_there s s' path from count t.0 t.1 t.2 class message served meets.one (active t.0 t.1))
 
   module _ (files : (p : Picture) → s.picture ≡ Some p → IsClosed p path → (q : Picture) × (s'.picture ≡ Some q) × SameFiles p q) where
     -- the files agree behind the look-up
     pub agrees_looked : Agrees s'.picture state.files
     agrees_looked =
         let told = is_told s.picture state.files meets.agrees in
-        let after = files told.0 told.1 (is_closed s state path meets told.0 told.1) in
+        let after = files told.0 told.1 (is_closed w s state name path meets told.0 told.1) in
         agrees_moved s.picture s'.picture told.0 after.0 state.files told.1 after.1 after.2 meets.agrees
 
     module _ (found : LocatedBlocks) (locates : (p : Picture) → s.picture ≡ Some p → IsClosed p path → Locates p path found) where
       here : (p : Picture) × (s.picture ≡ Some p) × Locates p path found × Found p state path found
       here =
           let told = is_told s.picture state.files meets.agrees in
-          let there = locates told.0 told.1 (is_closed s state path meets told.0 told.1) in
-          (told.0, told.1, there, found_file s state path meets told.0 told.1 found there)
+          let there = locates told.0 told.1 (is_closed w s state name path meets told.0 told.1) in
+          (told.0, told.1, there, found_file w s state name path meets told.0 told.1 found there)
 
       pub range_cause : found.file_length < offset + len → Cause w state command s s' (errors.InvalidArgument (args.Range offset len found.file_length))
       range_cause past =
           let f = here.3 in
           let length_is : HasLength state path found.file_length = (f.content, ap content_of f.filed, f.long) in (
-            step_is w state path offset len meets.absolute ∙ bad_range s state path meets here.0 here.1 found here.2 f path offset len (omega (arith, past, f.long)),
-            subst (λ (q : List ℕ). HasLength state q found.file_length) (sym (resolved_path w.home path meets.absolute)) length_is,
+            bad_range w s state name path meets here.0 here.1 found here.2 f offset len (omega (arith, past, f.long)),
+            subst (λ (q : List ℕ). HasLength state q found.file_length) (sym meets.called) length_is,
           )
 
       -- the blocks that were found store the file, still
       after : (q : Picture) × (s'.picture ≡ Some q) × SameFiles here.0 q
-      after = files here.0 here.1 (is_closed s state path meets here.0 here.1)
+      after = files here.0 here.1 (is_closed w s state name path meets here.0 here.1)
 
       stored : Stored s' found.blocks here.3.content.bytes
       stored =
@@ -129,7 +121,7 @@ module _ (w : World) (s s' : Shown) (state : State) (path : List ℕ) (offset le
           let inside : offset + len ≤ length f.content.bytes = omega (arith, within, f.long) in
           let count : offset + len - offset ≡ len = omega arith in
           let is : out ≡ range_of f.content.bytes offset len = gives f.content.bytes stored inside ∙ ap (range_of f.content.bytes offset) count in
-          step_is w state path offset len meets.absolute ∙ done_read s state path meets here.0 here.1 found here.2 f path offset len inside ∙ ap (λ (bytes : List ℕ). Done (replies.Bytes bytes) state) (sym is)
+          done_read w s state name path meets here.0 here.1 found here.2 f offset len inside ∙ ap (λ (bytes : List ℕ). Done (replies.Bytes bytes) state) (sym is)
 
       module _ (u : Shown) (later : Later s s') (only : OnlyReads s' u) (within : offset + len ≤ found.file_length) where
         file_lost : (byte : ℕ) → ((content : List ℕ) (st : Stored s' found.blocks content) → ByteLost st.picture st.ids offset (offset + len) (AllFailed s'.counts u.counts st.picture) byte) → FileLost s.counts u path offset (offset + len) byte
@@ -160,25 +152,16 @@ module _ (w : World) (s s' : Shown) (state : State) (path : List ℕ) (offset le
 
         pub blocks_cause : (e : HdfsError) → ((content : List ℕ) (st : Stored s' found.blocks content) → FailsAt (ByteLost st.picture st.ids offset (offset + len) (AllFailed s'.counts u.counts st.picture)) e) → Cause w state command s u e
         blocks_cause errors.NoMemory h = tt
-        blocks_cause errors.Failed h = absurd (h here.3.content.bytes stored)
         blocks_cause (errors.DataTransferError (transfer.Read byte)) h =
             let f = here.3 in (
               (
                 replies.Bytes (range_of f.content.bytes offset len),
                 state,
-                step_is w state path offset len meets.absolute ∙ done_read s state path meets here.0 here.1 found here.2 f path offset len (omega (arith, within, f.long)),
+                done_read w s state name path meets here.0 here.1 found here.2 f offset len (omega (arith, within, f.long)),
               ),
-              subst (λ (q : List ℕ). FileLost s.counts u q offset (offset + len) byte) (sym (resolved_path w.home path meets.absolute)) (file_lost byte h),
+              subst (λ (q : List ℕ). FileLost s.counts u q offset (offset + len) byte) (sym meets.called) (file_lost byte h),
             )
-        blocks_cause (errors.InvalidArgument fault) h = absurd (h here.3.content.bytes stored)
-        blocks_cause (errors.FileNotFound name) h = absurd (h here.3.content.bytes stored)
-        blocks_cause (errors.IOError fault) h = absurd (h here.3.content.bytes stored)
-        blocks_cause (errors.DataTransferError transfer.Setup) h = absurd (h here.3.content.bytes stored)
-        blocks_cause (errors.DataTransferError transfer.AllNodes) h = absurd (h here.3.content.bytes stored)
-        blocks_cause (errors.DataTransferError (transfer.BadAck seqno)) h = absurd (h here.3.content.bytes stored)
-        blocks_cause (errors.AlreadyExists message) h = absurd (h here.3.content.bytes stored)
-        blocks_cause (errors.OperationFailed name) h = absurd (h here.3.content.bytes stored)
-        blocks_cause (errors.RPCError class message) h = absurd (h here.3.content.bytes stored)
+        blocks_cause e h = absurd (h here.3.content.bytes stored)
 
       pub agrees_read : (u : Shown) → OnlyReads s' u → Agrees u.picture state.files
       agrees_read u only = agrees_files s'.picture u.picture state.files only.files agrees_looked

@@ -1,125 +1,134 @@
 -- How a session goes on from command to command, and where it stops.
-use Rattle.std.proofs.Common.{◌≡◌, inl, inr, ⊎_elim, ℕ, ◌+◌, ◌-◌, ◌<◌, List, [], ◌∷◌, ◌++◌, length, take, get_or, Err, refl, sym, ◌∙◌, ap, subst, arith}
+use Rattle.std.proofs.Common.{◌≡◌, inr, ℕ, ◌+◌, ◌-◌, ◌<◌, List, [], ◌∷◌, ◌++◌, length, take, get_or, Ok, Err, refl, sym, ◌∙◌, ap, subst, arith}
+use Rattle.std.specs.Prelude.{All}
 use Rattle.std.specs.List.{slice_get}
 use Rattle.std.proofs.lemmas.List.{take_more}
 use Rattle.std.proofs.lemmas.List.Elements.{All-cons, All-nil}
 use Rattle.std.proofs.lemmas.Option.{slice_get_read}
 use Rattle.hdfs_model.specs.declared.commands.Command.{Command}
-use Rattle.hdfs_model.specs.declared.commands.Command.TheVariants as commands
 use Rattle.hdfs_model.specs.declared.commands.Reply.{Reply}
 use Rattle.hdfs_model.specs.declared.errors.Fault.{Fault}
-use Rattle.hdfs_model.specs.declared.errors.HdfsError.{HdfsError}
-use Rattle.hdfs_model.specs.declared.errors.HdfsError.TheVariants as errors
-use Rattle.hdfs_model.specs.declared.errors.ArgFault.TheVariants as args
-use Rattle.hdfs_model.specs.declared.errors.TransferFault.TheVariants as transfer
 use Rattle.hdfs_model.specs.Counts.{NoneRose}
 use Rattle.hdfs_model.specs.Files.{State}
-use Rattle.hdfs_model.specs.Steps.{World, Done, step, target_of}
 use Rattle.hdfs_model.specs.Folds.{Ends, fold}
-use Rattle.hdfs_model.specs.Shown.{Shown, Later}
-use Rattle.hdfs_model.specs.Stores.{AgreesBut}
-use Rattle.hdfs_model.specs.Causes.{FileLost, CommandLost, Cause, Tells}
-use Rattle.hdfs_model.specs.Sessions.{Fits, SameOpened, Avoids, Complete, none_open, spared}
-use Rattle.hdfs_model.specs.Headline.{Ready, Stopped}
-use Rattle.hdfs_model.proofs.Frames.{rose_since}
+use Rattle.hdfs_model.specs.Headline.{Applied, Stopped}
+use Rattle.hdfs_model.specs.Sessions.{Fits, SameOpened, Avoids, AreLimited, Complete, none_open, spared}
+use Rattle.hdfs_model.specs.Shown.{Shown, Later, SameReads}
+use Rattle.hdfs_model.specs.Steps.{World, Done, step}
 use Rattle.hdfs_model.proofs.Folding.{fold-push}
-use Rattle.hdfs_client.proofs.Completing.{complete_command, complete_stopped, none_rose_later}
-use Rattle.hdfs_client.proofs.Stepping.{reading}
+use Rattle.hdfs_client.specs.Acting.{Acts, IsReady, world_at}
+use Rattle.hdfs_client.specs.Session.{Carried, CarriesOpen, LeavesFiles, opened_of, scene_of}
+use Rattle.hdfs_client.specs.declared.session.Session.{Session}
+use Rattle.hdfs_client.proofs.Agreeing.{agrees_but, agrees_from-AgreesBut}
+use Rattle.hdfs_client.proofs.Onward.{cause_on, none_rose_earlier}
+use Rattle.hdfs_client.proofs.Avoiding.{avoids_next}
+use Rattle.hdfs_client.proofs.Finishing.{are_limited_push, is_limited_at, complete_stopped}
+use Rattle.hdfs_client.proofs.Since.{cause_since, none_rose_later}
 
--- a cause since a time is one since an earlier time
-module _ (old middle new : Shown) (before : Later old middle) where
-  lost_since : (path : List ℕ) (from end byte : ℕ) → FileLost middle.counts new path from end byte → FileLost old.counts new path from end byte
-  lost_since path from end byte h = record {
-    picture = h.picture;
-    told = h.told;
-    file = h.file;
-    named = h.named;
-    lost = record {
-      id = h.lost.id;
-      at = h.lost.at;
-      lies = h.lost.lies;
-      entry = h.lost.entry;
-      is = h.lost.is;
-      behind = h.lost.behind;
-      before = h.lost.before;
-      inside = h.lost.inside;
-      all_failed = λ k below whole.
-          (let d = get_or h.lost.entry.nodes k [] in
-          rose_since (old.counts.nodes d) (middle.counts.nodes d) (new.counts.nodes d) (new.counts.nodes d) (before.counts.nodes d) (h.lost.all_failed k below whole) (omega arith));
+-- So many commands were done as the fold does them, and the session carries the state that they leave.
+pub record GoneOn (w : World) (state : State) (commands : List Command) (n : ℕ) (replies : List Reply) (now : Shown) (session : Session) : Type 0 where
+  pub last : State
+  pub folds : fold w state (take n commands) ≡ Ends replies last
+  pub limited : AreLimited w state (take n commands)
+  pub fits : Fits now last
+  pub opened : SameOpened (opened_of session) last
+  pub avoids : All (Avoids w last) commands
+  pub carried : Carried now session last
+  pub world : world_at session now ≡ w
+
+-- before the first command
+pub gone_none : (w : World) (state : State) (commands : List Command) (now : Shown) (session : Session) → Fits now state → SameOpened (opened_of session) state → All (Avoids w state) commands
+    → Carried now session state → world_at session now ≡ w → GoneOn w state commands 0 [] now session
+gone_none w state commands now session fits opened avoids carried world =
+    record { last = state; folds = refl; limited = tt; fits = fits; opened = opened; avoids = avoids; carried = carried; world = world }
+
+-- at the next command
+module _ (w : World) (state : State) (commands : List Command) (n : ℕ) (replies : List Reply) (now : Shown) (session : Session) (command : Command) (gone : GoneOn w state commands n replies now session)
+    (below : n < length commands) (here : command ≡ get_or commands n command) (one : now.namenodes ≡ 1) where
+  more : take (n + 1) commands ≡ take n commands ++ command ∷ []
+  more = take_more commands n command below ∙ ap (λ (x : Command). take n commands ++ x ∷ []) (sym here)
+
+  avoids : Avoids w gone.last command
+  avoids = subst (Avoids w gone.last) (sym here) (gone.avoids n command below)
+
+  is_ready : IsReady now session gone.last command
+  is_ready = record {
+    ready = record {
+      one = one;
+      fits = gone.fits;
+      opened = gone.opened;
+      avoids = All-cons (Avoids (world_at session now) gone.last) command [] (subst (λ (x : World). Avoids x gone.last command) (sym gone.world) avoids) (All-nil (Avoids (world_at session now) gone.last));
     };
+    carried = gone.carried;
   }
 
-  command_lost_since : (path : List ℕ) (command : Command) (byte : ℕ) → CommandLost middle.counts new path command byte → CommandLost old.counts new path command byte
-  command_lost_since path (commands.Read text offset len) byte h = lost_since path offset (offset + len) byte h
-
-  pub cause_since : (w : World) (state : State) (command : Command) (e : HdfsError) → Cause w state command middle new e → Cause w state command old new e
-  cause_since w state command errors.NoMemory h = tt
-  cause_since w state command errors.Failed h = h
-  cause_since w state command (errors.DataTransferError (transfer.Read byte)) h = (h.0, command_lost_since (target_of w command) command byte h.1)
-  cause_since w state command (errors.InvalidArgument (args.Range offset len length)) h = h
-  cause_since w state command (errors.IOError fault) h = h
-  cause_since w state command (errors.DataTransferError transfer.Setup) h = h
-  cause_since w state command (errors.DataTransferError transfer.AllNodes) h = h
-  cause_since w state command (errors.DataTransferError (transfer.BadAck seqno)) h = h
-  cause_since w state command (errors.AlreadyExists message) h = h
-  cause_since w state command (errors.OperationFailed name) h = h
-  cause_since w state command (errors.FileNotFound name) h = h
-  cause_since w state command (errors.RPCError class message) h =
-      ⊎_elim (λ stands. inl stands) (λ rose. inr (rose.0, rose.1, rose_since (old.counts.calls rose.0) (middle.counts.calls rose.0) (new.counts.calls rose.0) (new.counts.calls rose.0) (before.counts.calls rose.0) rose.2 (omega arith))) h
-
-  -- what an error tells since a time it tells since an earlier time
-  pub tells_since : (command : Command) (e : HdfsError) → Tells command middle new e → Tells command old new e
-  tells_since command errors.NoMemory h = tt
-  tells_since command errors.Failed h = h
-  tells_since command (errors.DataTransferError (transfer.Read byte)) h = h
-  tells_since command (errors.InvalidArgument (args.Range offset len length)) h = h
-  tells_since command (errors.IOError fault) h = h
-  tells_since command (errors.DataTransferError transfer.Setup) h = h
-  tells_since command (errors.DataTransferError transfer.AllNodes) h = h
-  tells_since command (errors.DataTransferError (transfer.BadAck seqno)) h = h
-  tells_since command (errors.AlreadyExists message) h = h
-  tells_since command (errors.OperationFailed name) h = h
-  tells_since command (errors.FileNotFound name) h = h
-  tells_since command (errors.RPCError class message) h = h
-
--- a session at the command with this number, behind those that were done
-module _ (w : World) (start now : Shown) (state last : State) (commands : List Command) (i : ℕ) (command : Command) (done : List Reply)
-    (below : i < length commands) (here : command ≡ get_or commands i command) (later : Later start now) (ready : Ready w (reading start) state commands)
-    (so_far : fold w state (take i commands) ≡ Ends done last) (same : last ≡ state) (fits : Fits now last) (opened : SameOpened none_open last) where
-  -- it is ready for it
-  pub ready_for : Ready w (reading now) last (command ∷ [])
-  ready_for = record {
-    one = later.namenodes ∙ ready.one;
-    fits = fits;
-    opened = opened;
-    avoids = All-cons (Avoids w last) command [] (subst (λ (x : State). Avoids w x command) (sym same) (subst (Avoids w state) (sym here) (ready.avoids i command below))) (All-nil (Avoids w last));
-  }
-
-  -- where it is done too, the fold goes on
-  pub folds_on : (reply : Reply) (next : State) → step w last command ≡ Done reply next → fold w state (take (i + 1) commands) ≡ Ends (done ++ reply ∷ []) next
-  folds_on reply next is =
-      ap (fold w state) (take_more commands i command below ∙ ap (λ (x : Command). take i commands ++ x ∷ []) (sym here))
-      ∙ fold-push w state (take i commands) command done last reply next so_far is
-
-  module _ (new : Shown) (fault : Fault) (after : Later now new) (at : fault.at ≡ i + 1) (cause : Cause w last command now new fault.error × AgreesBut (spared w last command fault.error) new.picture last.files) where
-    -- where it fails, the session stops there
-    pub stops_there : fault.done ≡ done → Stopped w state commands start new fault
-    stops_there replies =
-        let number : fault.at - 1 ≡ i = omega (arith, at) in
+  module _ (new : Shown) (session' : Session) where
+    -- where it is done the fold goes on
+    pub goes_on : (reply : Reply) → Acts command now session new session' (Ok reply) → GoneOn w state commands (n + 1) (replies ++ reply ∷ []) new session'
+    goes_on reply acts =
+        let applied = subst (λ (x : World). Applied x gone.last command (scene_of session now) (scene_of session' new) (Ok reply)) gone.world (acts.applied gone.last is_ready) in
+        let done = applied.ok in
+        let next = done.0 in
+        let at_world = subst (λ (x : World). step x gone.last command ≡ Done reply next) (sym gone.world) done.1 in
         record {
-          last = last;
-          done = ap (λ (n : ℕ). fold w state (take n commands)) number ∙ so_far ∙ ap (λ (rs : List Reply). Ends rs last) (sym replies);
-          cause = λ some. (
-            command,
-            ap (slice_get commands) number ∙ slice_get_read commands (length commands) i command refl below here,
-            cause_since start now new later w last command fault.error cause.0,
-            cause.1,
-          );
-          start = λ none. absurd (omega (arith, at, none));
+          last = next;
+          folds = ap (fold w state) more ∙ fold-push w state (take n commands) command replies gone.last reply next gone.folds done.1;
+          limited = subst (AreLimited w state) (sym more) (are_limited_push w state (take n commands) command replies gone.last gone.folds gone.limited done.2);
+          fits = done.3;
+          opened = done.4;
+          avoids = avoids_next w gone.last next command reply done.1 commands gone.avoids;
+          carried = acts.carried gone.last is_ready next at_world;
+          world = acts.world gone.last is_ready ∙ gone.world;
         }
 
-    -- and where no count rose, it stops there as the fold does, but for want of memory
-    pub complete_there : (T : Type 0) → NoneRose start.namenodes start.counts new.counts → Complete {T = T} (fold w state commands) (Err fault)
-    complete_there T none =
-        let since : NoneRose now.namenodes now.counts new.counts = subst (λ (n : ℕ). NoneRose n now.counts new.counts) (sym later.namenodes) (none_rose_later start.namenodes start.counts now.counts new.counts later.counts none) in
-        complete_stopped T w state commands i command done last fault below here so_far at (complete_command w now new last command fault.error after.namenodes ready_for cause since)
+    -- where it fails the session stops, once it has given up its files
+    module _ (start final : Shown) (later : Later start now) (later' : Later now new) (later'' : Later new final) (reads : SameReads new final) (leaves : (state : State) → CarriesOpen new session' state → LeavesFiles new final state)
+        (fault : Fault) (acts : Acts command now session new session' (Err fault.error)) (at : fault.at ≡ n + 1) where
+      applied_err : Applied w gone.last command (scene_of session now) (scene_of session' new) (Err fault.error)
+      applied_err = subst (λ (x : World). Applied x gone.last command (scene_of session now) (scene_of session' new) (Err fault.error)) gone.world (acts.applied gone.last is_ready)
+
+      left : LeavesFiles new final gone.last
+      left = leaves gone.last (acts.spares gone.last is_ready)
+
+      pub stops_there : fault.done ≡ replies → Stopped w state commands start final fault
+      stops_there done =
+          let number : fault.at - 1 ≡ n = omega (arith, at) in
+          record {
+            last = gone.last;
+            done = ap (λ (i : ℕ). fold w state (take i commands)) number ∙ gone.folds ∙ ap (λ (rs : List Reply). Ends rs gone.last) (sym done);
+            cause = λ some. (
+              command,
+              ap (slice_get commands) number ∙ slice_get_read commands (length commands) n command refl below here,
+              cause_since start now final later.counts w gone.last command fault.error (cause_on now new final later'' reads gone.last left w command avoids fault.error applied_err.err.0),
+              left.agrees (spared w gone.last command fault.error) applied_err.err.1,
+            );
+            start = λ none. absurd (omega (arith, at, none));
+          }
+
+      -- and where no count rose, it stops as the fold does, but for want of memory
+      pub complete_there : (T : Type 0) → AreLimited w state commands → NoneRose start.namenodes start.counts final.counts → Complete {T = T} (fold w state commands) (Err fault)
+      complete_there T limited none =
+          let until : NoneRose start.namenodes start.counts new.counts = none_rose_earlier start.namenodes start.counts new.counts final.counts later''.counts none in
+          let since : NoneRose now.namenodes now.counts new.counts =
+          subst (λ (i : ℕ). NoneRose i now.counts new.counts) (sym later.namenodes) (none_rose_later start.namenodes start.counts now.counts new.counts later.counts until) in
+          let within = is_limited_at w state commands n command replies gone.last below here gone.folds limited in
+          complete_stopped T w state commands n command replies gone.last fault below here gone.folds at (applied_err.complete within since)
+
+-- a session that carries its files carries those of which it has a link
+pub open_carried : (shown : Shown) (session : Session) (state : State) → Carried shown session state → CarriesOpen shown session state
+open_carried shown session state carried = record { each = λ p told path writer is. inr (carried.each p told path writer is) }
+
+-- all commands were done, and the files given up
+pub ends_there : (w : World) (state : State) (commands : List Command) (n : ℕ) (replies : List Reply) (now final : Shown) (session : Session) (gone : GoneOn w state commands n replies now session)
+    → take n commands ≡ commands → ((state : State) → CarriesOpen now session state → LeavesFiles now final state)
+    → (last : State) × (fold w state commands ≡ Ends replies last) × AreLimited w state commands × Fits final last
+ends_there w state commands n replies now final session gone all leaves =
+    let left = leaves gone.last (open_carried now session gone.last gone.carried) in (
+      gone.last,
+      ap (fold w state) (sym all) ∙ gone.folds,
+      subst (AreLimited w state) all gone.limited,
+      record {
+        is_state = gone.fits.is_state;
+        agrees = agrees_from-AgreesBut none_open final.picture gone.last.files (λ path. refl) (left.agrees none_open (agrees_but none_open now.picture gone.last.files gone.fits.agrees));
+      },
+    )

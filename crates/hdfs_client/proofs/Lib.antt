@@ -1,10 +1,43 @@
+mod AbandonFiles
+mod Abandoning
+mod Acted
 pub mod Agreeing
-pub mod Causing
-pub mod Completing
-pub mod Going
-pub mod Looking
-pub mod Parts
-pub mod Pieces
-pub mod Readers
-pub mod Running
-pub mod Stepping
+mod Avoiding
+mod Begun
+mod Beside
+mod Causing
+mod CloseActs
+mod Early
+mod Ending
+mod Failing
+mod Finishing
+mod Going
+mod Limited
+mod Links
+mod Looking
+mod Lost
+mod Moved
+mod OneFile
+mod Onward
+mod OpenFiles
+mod Opening
+mod Owing
+mod Owning
+mod Parts
+mod Pieces
+mod Planting
+mod Prepared
+mod ReadActs
+mod Readers
+mod Refusing
+mod SendActs
+mod SendFails
+pub mod Since
+mod Sizing
+mod Starting
+mod Stepping
+mod Still
+mod WithWriting
+mod WriteActs
+mod WriteEnds
+mod WriteFaults

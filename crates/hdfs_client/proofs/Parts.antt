@@ -196,14 +196,5 @@ module _ (start now : Shown) (p : Picture) (told : start.picture ≡ Some p) (on
 
   pub fails_first : (new : Shown) (e : HdfsError) → OnlyReads now new → FailsAt (LiesIn block offset end) e → (IsRead e → (g : List ℕ) → HoldsBlock now block g → length g ≡ block.b.num_bytes → AllBlamed now.counts new block g) → FailsAt (ByteLost p ids offset end (AllFailed start.counts new.counts p)) e
   fails_first new errors.NoMemory only' lies blames = tt
-  fails_first new errors.Failed only' lies blames = lies
   fails_first new (errors.DataTransferError (transfer.Read byte)) only' lies blames = first_lost new byte only' lies (blames (λ same. absurd (cc)))
-  fails_first new (errors.InvalidArgument fault) only' lies blames = lies
-  fails_first new (errors.FileNotFound path) only' lies blames = lies
-  fails_first new (errors.IOError fault) only' lies blames = lies
-  fails_first new (errors.DataTransferError transfer.Setup) only' lies blames = lies
-  fails_first new (errors.DataTransferError transfer.AllNodes) only' lies blames = lies
-  fails_first new (errors.DataTransferError (transfer.BadAck seqno)) only' lies blames = lies
-  fails_first new (errors.AlreadyExists message) only' lies blames = lies
-  fails_first new (errors.OperationFailed name) only' lies blames = lies
-  fails_first new (errors.RPCError class message) only' lies blames = lies
+  fails_first new e only' lies blames = absurd lies

@@ -60,14 +60,5 @@ module _ (s : Shown) (r : BlockRead) (block : LocatedBlock) (offset len : ℕ) (
 -- a byte of what is left of a range is one of what was left of it before
 pub fails_from : (r q : BlockRead) (e : HdfsError) → wanted_of q ≤ wanted_of r → end_of r ≡ end_of q → FailsAt (λ byte. (wanted_of r ≤ byte) × (byte < end_of r)) e → FailsAt (λ byte. (wanted_of q ≤ byte) × (byte < end_of q)) e
 fails_from r q errors.NoMemory on end h = tt
-fails_from r q errors.Failed on end h = h
 fails_from r q (errors.DataTransferError (transfer.Read byte)) on end h = (omega (arith, on, h.0), omega (arith, end, h.1))
-fails_from r q (errors.InvalidArgument fault) on end h = h
-fails_from r q (errors.FileNotFound name) on end h = h
-fails_from r q (errors.IOError fault) on end h = h
-fails_from r q (errors.DataTransferError transfer.Setup) on end h = h
-fails_from r q (errors.DataTransferError transfer.AllNodes) on end h = h
-fails_from r q (errors.DataTransferError (transfer.BadAck seqno)) on end h = h
-fails_from r q (errors.AlreadyExists message) on end h = h
-fails_from r q (errors.OperationFailed name) on end h = h
-fails_from r q (errors.RPCError class message) on end h = h
+fails_from r q e on end h = absurd h

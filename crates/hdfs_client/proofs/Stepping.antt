@@ -1,7 +1,6 @@
 -- What a step says of a path, over a picture that agrees with the files.
-use Rattle.std.proofs.Common.{◌≡◌, ℕ, ◌+◌, ◌<◌, ◌≤◌, nat_lt, Bool, true, false, cond, ◌||◌, ◌&&◌, ◌++◌, List, [], ◌∷◌, length, drop, Option, Some, None, option_map, refl, sym, ◌∙◌, ap, subst, arith}
-use Rattle.std.specs.List.{list_any, list_all, slice_split}
-use Rattle.std.specs.Str.{bytes_eq}
+use Rattle.std.proofs.Common.{◌≡◌, ℕ, ◌+◌, ◌<◌, ◌≤◌, nat_lt, Bool, true, false, cond, ◌||◌, List, [], ◌∷◌, length, drop, Option, Some, None, option_map, refl, sym, ◌∙◌, ap, subst, arith}
+use Rattle.std.specs.List.{list_any}
 use Rattle.std.proofs.lemmas.Bool.Decides.{nat_tests}
 use Rattle.std.proofs.lemmas.List.{length-drop}
 use Rattle.hdfs_model.specs.declared.picture.Entry.{Entry}
@@ -10,19 +9,15 @@ use Rattle.hdfs_model.specs.declared.picture.BlockEntry.{BlockEntry}
 use Rattle.hdfs_model.specs.declared.picture.FileEntry.{FileEntry}
 use Rattle.hdfs_model.specs.declared.messages.LocatedBlock.{LocatedBlock}
 use Rattle.hdfs_model.specs.declared.messages.LocatedBlocks.{LocatedBlocks}
-use Rattle.hdfs_model.specs.declared.commands.Command.{Command}
 use Rattle.hdfs_model.specs.declared.commands.Command.TheVariants as commands
-use Rattle.hdfs_model.specs.declared.commands.Reply.{Reply}
 use Rattle.hdfs_model.specs.declared.commands.Reply.TheVariants as replies
-use Rattle.hdfs_model.specs.Paths.{is_path, is_slash, is_component, ancestors, absolute}
+use Rattle.hdfs_model.specs.Paths.{is_path, ancestors, absolute}
 use Rattle.hdfs_model.specs.Files.{Node, Dir, File, Writing, Content, Kind, ClosedFile, OpenFile, State, NoFile, NotDirectory, kinds_of, kind_of, no_file, no_file_at, is_file}
-use Rattle.hdfs_model.specs.Steps.{World, Outcome, Refused, Done, Refusal, WrongState, Lacks, BadRange, BadPath, content_of, range_of, read_content, read_file, step_at, step, target_of}
+use Rattle.hdfs_model.specs.Steps.{World, Outcome, Refused, Done, WrongState, Lacks, BadRange, BadPath, content_of, range_of, is_opened, read_content, read_file, step_at, step}
 use Rattle.hdfs_model.specs.Picture.{Picture, kinds, entry_kind}
 use Rattle.hdfs_model.specs.Namenode.{Locates, LocatesBlocks}
 use Rattle.hdfs_model.specs.Shown.{Shown}
 use Rattle.hdfs_model.specs.Stores.{AgreesAt, StoresBlocks}
-use Rattle.hdfs_model.specs.Sessions.{SameOpened, none_open}
-use Rattle.hdfs_model.specs.Headline.{Scene, Ready}
 use Rattle.hdfs_client.specs.Meeting.{Meets, IsClosed}
 use Rattle.hdfs_client.proofs.Agreeing.{agrees_told}
 
@@ -80,10 +75,17 @@ total_is p at total (id ∷ ids) (b ∷ blocks) bytes located stored =
 total_is p at total [] (b ∷ blocks) bytes located stored = absurd located
 total_is p at total (id ∷ ids) [] bytes located stored = absurd located
 
-no_opened : (state : State) (path : List ℕ) (o : Outcome) → SameOpened none_open state → cond (list_any (bytes_eq path) state.opened) (Refused WrongState) o ≡ o
-no_opened state path o none = ap (λ (b : Bool). cond b (Refused WrongState) o) (none path)
+no_opened : (state : State) (path : List ℕ) (o : Outcome) → is_opened state path ≡ false → cond (is_opened state path) (Refused WrongState) o ≡ o
+no_opened state path o none = ap (λ (b : Bool). cond b (Refused WrongState) o) none
 
-module _ (s : Shown) (state : State) (path : List ℕ) (meets : Meets s state path) (p : Picture) (told : s.picture ≡ Some p) where
+-- A step at a path is the step of a command whose name stands for that path.
+pub step_is : (w : World) (state : State) (name path : List ℕ) (offset len : ℕ) → absolute w.home name ≡ path → is_path path ≡ true
+    → step w state (commands.Read name offset len) ≡ step_at w state path (commands.Read name offset len)
+step_is w state name path offset len called is =
+    ap (λ (q : List ℕ). cond (is_path q) (step_at w state q (commands.Read name offset len)) (Refused BadPath)) called
+    ∙ ap (λ (b : Bool). cond b (step_at w state path (commands.Read name offset len)) (Refused BadPath)) is
+
+module _ (w : World) (s : Shown) (state : State) (name path : List ℕ) (meets : Meets w s state name path) (p : Picture) (told : s.picture ≡ Some p) where
   kinds_same : (q : List ℕ) → kinds p q ≡ kinds_of state.files q
   kinds_same q = same_kind p (p.names q) (state.files q) (agrees_told s.picture p state.files meets.agrees told q)
 
@@ -98,9 +100,10 @@ module _ (s : Shown) (state : State) (path : List ℕ) (meets : Meets s state pa
       at_node (Some (Writing content)) is closed = closed content refl
 
   -- a path that lacks a file is refused for that
-  pub refused_read : (text : List ℕ) (offset len : ℕ) (why : NoFile) → no_file (kinds p) path ≡ Some why → step_at state path (commands.Read text offset len) ≡ Refused (Lacks why)
-  refused_read text offset len why is =
-      no_opened state path (read_file state path (no_file (kinds_of state.files) path) offset len) meets.none_open
+  pub refused_read : (offset len : ℕ) (why : NoFile) → no_file (kinds p) path ≡ Some why → step w state (commands.Read name offset len) ≡ Refused (Lacks why)
+  refused_read offset len why is =
+      step_is w state name path offset len meets.called meets.is_path
+      ∙ no_opened state path (read_file state path (no_file (kinds_of state.files) path) offset len) meets.not_open
       ∙ ap (λ (o : Option NoFile). read_file state path o offset len) (sym (same_no_file (kinds p) (kinds_of state.files) path kinds_same) ∙ is)
 
   pub found_file : (found : LocatedBlocks) → Locates p path found → Found p state path found
@@ -117,77 +120,16 @@ module _ (s : Shown) (state : State) (path : List ℕ) (meets : Meets s state pa
         long = omega (arith, total_is p 0 found.file_length locates.file.blocks found.blocks node.0.bytes locates.blocks node.2);
       }
 
-  module _ (found : LocatedBlocks) (locates : Locates p path found) (f : Found p state path found) (text : List ℕ) (offset len : ℕ) where
-    read_of : step_at state path (commands.Read text offset len) ≡ read_content state (Some f.content) offset len
+  module _ (found : LocatedBlocks) (locates : Locates p path found) (f : Found p state path found) (offset len : ℕ) where
+    read_of : step w state (commands.Read name offset len) ≡ read_content state (Some f.content) offset len
     read_of =
-        no_opened state path (read_file state path (no_file (kinds_of state.files) path) offset len) meets.none_open
+        step_is w state name path offset len meets.called meets.is_path
+        ∙ no_opened state path (read_file state path (no_file (kinds_of state.files) path) offset len) meets.not_open
         ∙ ap (λ (o : Option NoFile). read_file state path o offset len) (sym (same_no_file (kinds p) (kinds_of state.files) path kinds_same) ∙ locates.allowed)
         ∙ ap (λ (node : Option Node). read_content state (content_of node) offset len) f.filed
 
-    pub done_read : offset + len ≤ length f.content.bytes → step_at state path (commands.Read text offset len) ≡ Done (replies.Bytes (range_of f.content.bytes offset len)) state
+    pub done_read : offset + len ≤ length f.content.bytes → step w state (commands.Read name offset len) ≡ Done (replies.Bytes (range_of f.content.bytes offset len)) state
     done_read within = read_of ∙ ap (λ (b : Bool). cond b (Refused BadRange) (Done (replies.Bytes (range_of f.content.bytes offset len)) state)) (not_below (length f.content.bytes) (offset + len) within)
 
-    pub bad_range : length f.content.bytes < offset + len → step_at state path (commands.Read text offset len) ≡ Refused BadRange
+    pub bad_range : length f.content.bytes < offset + len → step w state (commands.Read name offset len) ≡ Refused BadRange
     bad_range past = read_of ∙ ap (λ (b : Bool). cond b (Refused BadRange) (Done (replies.Bytes (range_of f.content.bytes offset len)) state)) (is_below (length f.content.bytes) (offset + len) past)
-
-and_left : (a b : Bool) → a && b ≡ true → a ≡ true
-and_left true b is = refl
-and_left false b is = is
-
--- an absolute path stands for itself
-pub resolved_path : (home path : List ℕ) → is_path path ≡ true → absolute home path ≡ path
-resolved_path home [] is = absurd (cc)
-resolved_path home (c ∷ rest) is = ap (λ (b : Bool). cond b (c ∷ rest) (home ++ 47 ∷ c ∷ rest)) (and_left (is_slash c) (bytes_eq rest [] || list_all is_component (slice_split is_slash rest)) is)
-
--- so a step at such a path is the step there
-pub step_is : (w : World) (state : State) (path : List ℕ) (offset len : ℕ) → is_path path ≡ true → step w state (commands.Read path offset len) ≡ step_at state path (commands.Read path offset len)
-step_is w state path offset len is =
-    ap (λ (q : List ℕ). cond (is_path q) (step_at state q (commands.Read path offset len)) (Refused BadPath)) (resolved_path w.home path is)
-    ∙ ap (λ (b : Bool). cond b (step_at state path (commands.Read path offset len)) (Refused BadPath)) is
-
--- a session that has nothing open, over what is shown
-abbrev pub reading : Shown → Scene
-reading shown = record { opened = none_open; shown = shown }
-
--- nobody writes the file of a command that a session is ready for
-pub closed_at : (w : World) (s : Shown) (state : State) (command : Command) → Ready w (reading s) state (command ∷ []) → (content : Content) → state.files (target_of w command) ≡ Some (Writing content) → ⊥
-closed_at w s state (commands.Read path offset len) ready content writing =
-    ready.avoids 0 (commands.Read path offset len) (omega arith) (content, writing, ready.opened (target_of w (commands.Read path offset len)))
-
--- a command that a session is ready for meets the files at its path
-pub meets_from-Ready : (w : World) (s : Shown) (state : State) (path : List ℕ) (offset len : ℕ) → is_path path ≡ true → Ready w (reading s) state (commands.Read path offset len ∷ []) → Meets s state path
-meets_from-Ready w s state path offset len is ready = record {
-  one = ready.one;
-  agrees = ready.fits.agrees;
-  none_open = ready.opened;
-  absolute = is;
-  closed = λ content writing. closed_at w s state (commands.Read path offset len) ready content (subst (λ (q : List ℕ). state.files q ≡ Some (Writing content)) (sym (resolved_path w.home path is)) writing);
-}
-
--- a read that is done leaves the state
-cond_done : (b : Bool) (state next : State) (reply reply' : Reply) (why : Refusal) → cond b (Refused why) (Done reply state) ≡ Done reply' next → next ≡ state
-cond_done true state next reply reply' why is = absurd (cc)
-cond_done false state next reply reply' why is = cc
-
-content_done : (state next : State) (content : Option Content) (offset len : ℕ) (reply : Reply) → read_content state content offset len ≡ Done reply next → next ≡ state
-content_done state next None offset len reply is = absurd (cc)
-content_done state next (Some content) offset len reply is = cond_done (nat_lt (length content.bytes) (offset + len)) state next (replies.Bytes (range_of content.bytes offset len)) reply BadRange is
-
-file_done : (state next : State) (path : List ℕ) (why : Option NoFile) (offset len : ℕ) (reply : Reply) → read_file state path why offset len ≡ Done reply next → next ≡ state
-file_done state next path None offset len reply is = content_done state next (content_of (state.files path)) offset len reply is
-file_done state next path (Some why) offset len reply is = absurd (cc)
-
-refused_or : (b : Bool) (o : Outcome) (why : Refusal) (reply : Reply) (next : State) → cond b (Refused why) o ≡ Done reply next → o ≡ Done reply next
-refused_or true o why reply next is = absurd (cc)
-refused_or false o why reply next is = is
-
-or_refused : (b : Bool) (o : Outcome) (why : Refusal) (reply : Reply) (next : State) → cond b o (Refused why) ≡ Done reply next → o ≡ Done reply next
-or_refused true o why reply next is = is
-or_refused false o why reply next is = absurd (cc)
-
-pub step_keeps : (w : World) (state next : State) (command : Command) (reply : Reply) → step w state command ≡ Done reply next → next ≡ state
-step_keeps w state next (commands.Read text offset len) reply is =
-    let path = target_of w (commands.Read text offset len) in
-    file_done state next path (no_file (kinds_of state.files) path) offset len reply
-    (refused_or (list_any (bytes_eq path) state.opened) (read_file state path (no_file (kinds_of state.files) path) offset len) WrongState reply next
-    (or_refused (is_path path) (step_at state path (commands.Read text offset len)) BadPath reply next is))

@@ -1,18 +1,21 @@
 //! The bytes of a range of a file, block by block.
-ghost use Rattle.std.specs.Prelude.{◌≡◌, ◌<◌, ◌≤◌, ◌+◌, ◌-◌, ◌^◌, ◌++◌, ℕ, List, None, OnOk, IfOk, IfErr, MatchBool, length, false};
+ghost use Rattle.std.specs.Prelude.{◌≡◌, ◌<◌, ◌≤◌, ◌+◌, ◌-◌, ◌^◌, ◌++◌, ℕ, List, Some, None, OnOk, IfOk, IfErr, MatchBool, length, false};
 ghost use Rattle.hdfs_blocks.specs.Reader.{wanted_of, end_of, link_of, has_failed, Stands, Keeps, Reads, ShowsBlock, AllBlamed, IsRead};
 ghost use Rattle.hdfs_model.specs.Anywhere.{Applies};
 ghost use Rattle.hdfs_model.specs.Causes.{Cause, AllFailed, ByteLost};
 ghost use Rattle.hdfs_model.specs.Files.{State};
+ghost use Rattle.hdfs_model.specs.Picture.{Picture, SameFiles};
+ghost use Rattle.hdfs_model.specs.Sessions.{IsNotOwed};
 ghost use Rattle.hdfs_model.specs.Shown.{OnlyReads, SameLinks};
 ghost use Rattle.hdfs_model.specs.Steps.{World, Done, step, range_of};
 ghost use Rattle.hdfs_model.specs.Stores.{Agrees};
-ghost use Rattle.hdfs_client.specs.Meeting.{Meets};
+ghost use Rattle.hdfs_client.specs.Meeting.{IsClosed, Meets};
 ghost use Rattle.hdfs_client.specs.Ranges.{Stored, HoldsBlock, GoesOn, FailsAt, FailsToRead, LiesIn, IsOutside, part_of};
 
 use crate::locate::locate;
 use hdfs_blocks::BlockRead;
 use hdfs_model::{ArgFault, Cluster, Command, HdfsError, LocatedBlock, Reply};
+use hdfs_namenode::NamenodeProtocol;
 use hdfs_wire::{Blob, Text};
 use std::alloc::Global;
 
@@ -172,23 +175,30 @@ fn is_within(offset: u64, len: u64, length: u64) -> bool
     offset <= length && len <= length - offset
 }
 
-/// Reads `len` bytes from `offset` of the file at a path. Where the range isn't within the file, no block is opened.
+/// Reads `len` bytes from `offset` of the file at a path, which a command calls `name`. Where the range isn't within the file, no
+/// block is opened.
 pub(crate) fn read_file<C: Cluster>(
     alloc: Global,
     cluster: &mut C,
-    path: &Text,
+    namenode: &NamenodeProtocol,
+    name: &Text,
+    path: &str,
     offset: u64,
     len: u64,
 ) -> Result<Reply, HdfsError>
     requires { 0 < (C.shown cluster.old).namenodes }
-    ensures anywhere { Applies (Command.Read path.now offset len) (C.shown cluster.old) (C.shown cluster.new) result }
-    ensures ok { IfOk result (λ reply. (world : World) (state : State) → Meets (C.shown cluster.old) state path.now
-        → (step world state (Command.Read path.now offset len) ≡ Done reply state) × Agrees (C.shown cluster.new).picture state.files) }
-    ensures err { IfErr result (λ e. (world : World) (state : State) → Meets (C.shown cluster.old) state path.now
-        → Cause world state (Command.Read path.now offset len) (C.shown cluster.old) (C.shown cluster.new) e
+    ensures anywhere { Applies (Command.Read name.now offset len) (C.shown cluster.old) (C.shown cluster.new) result }
+    ensures links { SameLinks (C.shown cluster.old) (C.shown cluster.new) }
+    ensures owed { IfErr result IsNotOwed }
+    ensures files { (p : Picture) → (C.shown cluster.old).picture ≡ Some p → IsClosed p path.now
+        → (q : Picture) × ((C.shown cluster.new).picture ≡ Some q) × SameFiles p q }
+    ensures ok { IfOk result (λ reply. (world : World) (state : State) → Meets world (C.shown cluster.old) state name.now path.now
+        → (step world state (Command.Read name.now offset len) ≡ Done reply state) × Agrees (C.shown cluster.new).picture state.files) }
+    ensures err { IfErr result (λ e. (world : World) (state : State) → Meets world (C.shown cluster.old) state name.now path.now
+        → Cause world state (Command.Read name.now offset len) (C.shown cluster.old) (C.shown cluster.new) e
         × Agrees (C.shown cluster.new).picture state.files) }
 {
-    let found = locate(alloc, cluster, path)?;
+    let found = locate(alloc, cluster, namenode, name, path)?;
     if !is_within(offset, len, found.file_length) {
         return Err(HdfsError::InvalidArgument(ArgFault::Range {
             offset,

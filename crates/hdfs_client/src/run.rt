@@ -1,18 +1,19 @@
 //! A session from its first command to its last.
-ghost use Rattle.std.specs.Prelude.{◌≡◌, ◌<◌, true};
-ghost use Rattle.std.specs.List.{list_all};
+ghost use Rattle.std.specs.Prelude.{◌≡◌, ◌<◌, true, false};
 ghost use Rattle.hdfs_model.specs.Anywhere.{Runs};
 ghost use Rattle.hdfs_model.specs.Headline.{WhereReady, Ran};
-ghost use Rattle.hdfs_model.specs.Sessions.{world_of, has_path, none_open};
+ghost use Rattle.hdfs_model.specs.Sessions.{world_of, none_open};
+ghost use Rattle.hdfs_model.specs.Limits.{are_settings};
+ghost use Rattle.hdfs_client.specs.Session.{StopsAtOnce};
 
 use crate::session::Session;
 use hdfs_model::{Cluster, Command, Fault, HdfsError, Reply, Settings};
 use hdfs_wire::List;
 use std::alloc::Global;
 
-/// Runs commands, whose paths are absolute, in order up to the first error, and answers their replies. What `Ran` says is
-/// the contract: the main theorem. The errors are those of `Session::apply` but `Failed`. Number 0 is want of memory before
-/// the first command.
+/// Runs commands in order up to the first error, and answers their replies. The files that are open then stay open, and their links
+/// are ended. What `Ran` says is the contract: the main theorem. The errors are those of `Session::new`, with number 0, and those of
+/// `Session::apply` but `Failed`.
 pub fn run_session<C: Cluster>(
     alloc: Global,
     cluster: &mut C,
@@ -20,9 +21,9 @@ pub fn run_session<C: Cluster>(
     commands: &[Command],
 ) -> Result<Vec<Reply>, Fault>
     requires namenode { 0 < (C.shown cluster.old).namenodes }
-    requires paths { list_all has_path commands.now ≡ true }
+    ensures settings { are_settings settings.now ≡ false → StopsAtOnce settings.now result × (cluster.new ≡ cluster.old) }
     ensures anywhere { Runs commands.now (C.shown cluster.old) (C.shown cluster.new) result }
-    ensures ran { let old = C.shown cluster.old in
+    ensures ran { are_settings settings.now ≡ true → let old = C.shown cluster.old in
         let world = world_of settings.now old in
         WhereReady world (record { opened = none_open; shown = old }) commands.now
         (λ state. Ran world state commands.now old (C.shown cluster.new) result) }
@@ -38,11 +39,13 @@ pub fn run_session<C: Cluster>(
         match session.apply(cluster, command) {
             Ok(reply) => replies.push_reserved(reply),
             Err(error) => {
+                session.abandon(cluster);
                 let at = replies.len() as u64 + 1;
                 return Err(fault_at(at, error, replies));
             }
         }
     }
+    session.abandon(cluster);
     Ok(replies)
 }
 

@@ -4,8 +4,16 @@ use Rattle.hdfs_model.specs.declared.messages.LocatedBlock.{LocatedBlock}
 use Rattle.hdfs_model.specs.Steps.{range_of}
 use Rattle.hdfs_client.specs.Ranges.{Stored, FailsAt}
 use Rattle.hdfs_model.specs.Causes.{AllFailed, ByteLost}
-use Rattle.hdfs_client.proofs.Causing.{look_cause, agrees_looked, range_cause, read_done, blocks_cause, agrees_read}
+use Rattle.hdfs_client.proofs.Causing.{agrees_looked, range_cause, read_done, blocks_cause, agrees_read}
+use Rattle.hdfs_client.proofs.Looking.{applies_looked}
+use Rattle.hdfs_client.proofs.Owing.{reader_not_owed}
 use Rattle.hdfs_client.proofs.reading.read_file.Goals as goal
+
+pub returns-in_err-found-clause-anywhere : goal.returns-in_err-found-clause-anywhere
+returns-in_err-found-clause-anywhere g c =
+    let p = err_from_is_err_and c.from_residual.result c.from_residual.ensures.1 in
+    let h = c.in_err-found.ensures in
+    rw (p.1, p.2) (applies_looked c.args.name.now c.args.offset c.args.len (g.C.Cluster.shown c.args.cluster.now) (g.C.Cluster.shown c.locate.new.cluster) c.in_err-found.field-0.0 h.looks (h.tells c.args.offset c.args.len))
 
 pub returns-in_err-found-clause-err : goal.returns-in_err-found-clause-err
 returns-in_err-found-clause-err g c =
@@ -13,7 +21,7 @@ returns-in_err-found-clause-err g c =
     let s = g.C.Cluster.shown c.args.cluster.now in
     let s' = g.C.Cluster.shown c.locate.new.cluster in
     let h = c.in_err-found.ensures in
-    rw (p.1, p.2) (λ w state meets. (look_cause w s s' state c.args.path.now c.args.offset c.args.len meets c.in_err-found.field-0.0 h.cause, agrees_looked w s s' state c.args.path.now c.args.offset c.args.len meets h.files))
+    rw (p.1, p.2) (λ w state meets. (h.cause w state c.args.offset c.args.len meets, agrees_looked w s s' state c.args.name.now c.args.path.now c.args.offset c.args.len meets h.files))
 
 pub returns-then-not-is_within-clause-err : goal.returns-then-not-is_within-clause-err
 returns-then-not-is_within-clause-err g c =
@@ -21,7 +29,7 @@ returns-then-not-is_within-clause-err g c =
     let s' = g.C.Cluster.shown c.locate.new.cluster in
     let h = c.in_ok-found.ensures in
     let past : c.in_ok-found.found.file_length < c.args.offset + c.args.len = search rules in
-    λ w state meets. (range_cause w s s' state c.args.path.now c.args.offset c.args.len meets h.files c.in_ok-found.found h.found past, agrees_looked w s s' state c.args.path.now c.args.offset c.args.len meets h.files)
+    λ w state meets. (range_cause w s s' state c.args.name.now c.args.path.now c.args.offset c.args.len meets h.files c.in_ok-found.found h.found past, agrees_looked w s s' state c.args.name.now c.args.path.now c.args.offset c.args.len meets h.files)
 
 pub returns-in_err-out-clause-err : goal.returns-in_err-out-clause-err
 returns-in_err-out-clause-err g c =
@@ -29,7 +37,7 @@ returns-in_err-out-clause-err g c =
     let s = g.C.Cluster.shown c.args.cluster.now in
     let s' = g.C.Cluster.shown c.locate.new.cluster in
     let h = c.in_ok-found.ensures in
-    rw (p.1, p.2) (λ w state meets. (tt, agrees_looked w s s' state c.args.path.now c.args.offset c.args.len meets h.files))
+    rw (p.1, p.2) (λ w state meets. (tt, agrees_looked w s s' state c.args.name.now c.args.path.now c.args.offset c.args.len meets h.files))
 
 pub returns-in_err-read_blocks-clause-err : goal.returns-in_err-read_blocks-clause-err
 returns-in_err-read_blocks-clause-err g c =
@@ -43,8 +51,8 @@ returns-in_err-read_blocks-clause-err g c =
     let lost : (content : List ℕ) (stored : Stored s' c.in_ok-found.found.blocks content) → FailsAt (ByteLost stored.picture stored.ids c.args.offset (c.args.offset + c.args.len) (AllFailed s'.counts u.counts stored.picture)) e
     = subst (λ (bs : List LocatedBlock). (content : List ℕ) (stored : Stored s' bs content) → FailsAt (ByteLost stored.picture stored.ids c.args.offset (c.args.offset + c.args.len) (AllFailed s'.counts u.counts stored.picture)) e) c.into_vec.ensures c.in_err-read_blocks.ensures.lost in
     rw (p.1, p.2) (λ w state meets. (
-      blocks_cause w s s' state c.args.path.now c.args.offset c.args.len meets h.files c.in_ok-found.found h.found u h.looks.later c.in_err-read_blocks.ensures.only within e lost,
-      agrees_read w s s' state c.args.path.now c.args.offset c.args.len meets h.files c.in_ok-found.found h.found u c.in_err-read_blocks.ensures.only,
+      blocks_cause w s s' state c.args.name.now c.args.path.now c.args.offset c.args.len meets h.files c.in_ok-found.found h.found u h.looks.later c.in_err-read_blocks.ensures.only within e lost,
+      agrees_read w s s' state c.args.name.now c.args.path.now c.args.offset c.args.len meets h.files c.in_ok-found.found h.found u c.in_err-read_blocks.ensures.only,
     ))
 
 pub returns-clause-ok : goal.returns-clause-ok
@@ -55,10 +63,20 @@ returns-clause-ok g c =
     let h = c.in_ok-found.ensures in
     let within : c.args.offset + c.args.len ≤ c.in_ok-found.found.file_length = search rules in
     λ w state meets. (
-      read_done w s s' state c.args.path.now c.args.offset c.args.len meets h.files c.in_ok-found.found h.found c.from_vec.result within
+      read_done w s s' state c.args.name.now c.args.path.now c.args.offset c.args.len meets h.files c.in_ok-found.found h.found c.from_vec.result within
           (λ content st inside.
           (let out : c.read_blocks.new.out.items ≡ c.in_ok-out.out.items ++ range_of content c.args.offset (c.args.offset + c.args.len - c.args.offset) =
           c.in_ok-read_blocks.ensures.bytes content (subst (λ (bs : List LocatedBlock). Stored s' bs content) (sym c.into_vec.ensures) st) inside in
           c.from_vec.ensures ∙ out ∙ ap (λ (l : List ℕ). l ++ range_of content c.args.offset (c.args.offset + c.args.len - c.args.offset)) c.in_ok-out.ensures.items)),
-      agrees_read w s s' state c.args.path.now c.args.offset c.args.len meets h.files c.in_ok-found.found h.found u c.in_ok-read_blocks.ensures.only,
+      agrees_read w s s' state c.args.name.now c.args.path.now c.args.offset c.args.len meets h.files c.in_ok-found.found h.found u c.in_ok-read_blocks.ensures.only,
     )
+
+pub returns-in_err-found-clause-owed : goal.returns-in_err-found-clause-owed
+returns-in_err-found-clause-owed g c =
+    let p = err_from_is_err_and c.from_residual.result c.from_residual.ensures.1 in
+    rw (p.1, p.2) c.in_err-found.ensures.owed
+
+pub returns-in_err-read_blocks-clause-owed : goal.returns-in_err-read_blocks-clause-owed
+returns-in_err-read_blocks-clause-owed g c =
+    let p = err_from_is_err_and c.from_residual-in_err-read_blocks.result c.from_residual-in_err-read_blocks.ensures.1 in
+    rw (p.1, p.2) (reader_not_owed (λ byte. c.args.offset < c.args.offset + c.args.len) c.in_err-read_blocks.field-0.0 c.in_err-read_blocks.ensures.fails)

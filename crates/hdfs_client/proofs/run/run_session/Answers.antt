@@ -1,20 +1,23 @@
 -- The loop's fold goes on by one command, or stops there.
-use Rattle.std.proofs.Common.{◌≡◌, ℕ, ◌+◌, List, [], ◌∷◌, length, Ok, Err, sym, ◌∙◌, ap, subst, arith}
+use Rattle.std.proofs.Common.{◌≡◌, ℕ, ◌+◌, List, length, Result, Err, Vec, sym, ◌∙◌, ap, subst, arith}
+use Rattle.std.specs.declared.alloc.Global.{Global}
 use Rattle.std.proofs.lemmas.List.{take_all, length_push}
-use Rattle.hdfs_model.specs.declared.errors.HdfsError.{HdfsError}
-use Rattle.hdfs_model.specs.Causes.{Cause}
-use Rattle.hdfs_model.specs.Stores.{AgreesBut}
 use Rattle.hdfs_model.specs.declared.commands.Reply.{Reply}
-use Rattle.hdfs_model.specs.declared.commands.Settings.{Settings}
 use Rattle.hdfs_model.specs.Steps.{World}
-use Rattle.hdfs_model.specs.Folds.{Ends, fold}
-use Rattle.hdfs_model.specs.Headline.{Applied, WhereReady}
-use Rattle.hdfs_model.specs.Sessions.{world_of, spared}
-use Rattle.hdfs_model.proofs.Frames.{later_trans, same_links_trans}
-use Rattle.hdfs_client.proofs.Completing.{complete_done}
-use Rattle.hdfs_client.proofs.Going.{ready_for, folds_on, stops_there, complete_there}
-use Rattle.hdfs_client.proofs.Stepping.{reading, step_keeps}
+use Rattle.hdfs_model.specs.Sessions.{world_of}
+use Rattle.hdfs_model.proofs.Frames.{later_trans, same_reads_trans}
+use Rattle.hdfs_model.specs.declared.errors.HdfsError.{HdfsError}
+use Rattle.hdfs_model.specs.Folds.{fold}
+use Rattle.hdfs_client.specs.Acting.{Acts}
+use Rattle.hdfs_client.proofs.Ending.{runs_failed}
+use Rattle.hdfs_client.proofs.Finishing.{complete_done}
+use Rattle.hdfs_client.proofs.Going.{GoneOn, goes_on, stops_there, complete_there, ends_there}
+use Rattle.hdfs_client.proofs.Owning.{own_next}
 use Rattle.hdfs_client.proofs.run.run_session.Goals as goal
+
+-- a result that is an error
+abbrev failed_with : HdfsError → Result Reply HdfsError
+failed_with e = Err e
 
 pub loop-command-preserved : goal.loop-command-preserved
 loop-command-preserved g c =
@@ -23,63 +26,73 @@ loop-command-preserved g c =
     let u = g.C.Cluster.shown c.apply.new.cluster in
     let before = c.loop-command.invariant in
     let now = c.in-Ok-apply.ensures in
-    let any = now.anywhere before.fine in
+    let acts = now.acts before.fine in
     let w : World = world_of c.args.settings.now s in
     let i = c.loop-command.command-index in
     let command = c.command-item.result in
     let reply = c.in-Ok-apply.reply in
     record {
-      later = later_trans s t u before.later any.later;
-      links = same_links_trans s t u before.links any.links;
-      fine = now.fine;
-      settings = now.settings ∙ before.settings;
+      later = later_trans s t u before.later acts.anywhere.later;
+      reads = same_reads_trans s t u before.reads acts.anywhere.reads;
+      own = own_next s t u c.loop-command.session c.apply.new.self before.own acts.links;
+      stands = now.keeps.1;
+      fine = now.fails.1;
+      settings = now.keeps.0 ∙ before.settings;
       count = ap length c.push_reserved.ensures.items ∙ length_push c.loop-command.replies.items reply ∙ ap (λ (n : ℕ). n + 1) before.count;
       room = omega (arith, before.room, c.push_reserved.ensures.capacity);
       told = λ state ready.
-          (let told = before.told state ready in
-          let here = ready_for w s t state told.0 c.args.commands.now i command c.loop-command.replies.items c.loop-command-test.true c.command-item.is before.later ready told.1 told.2 told.3 told.4 in
-          let applied = subst (λ (x : Settings). WhereReady (world_of x t) (reading t) (command ∷ []) (λ st. Applied (world_of x t) st command (reading t) (reading u) (Ok reply))) before.settings (now.applied before.fine) in
-          let done = (applied told.0 here).ok in (
-            done.0,
-            folds_on w s t state told.0 c.args.commands.now i command c.loop-command.replies.items c.loop-command-test.true c.command-item.is before.later ready told.1 told.2 told.3 told.4 reply done.0 done.1
-                ∙ ap (λ (rs : List Reply). Ends rs done.0) (sym c.push_reserved.ensures.items),
-            step_keeps w told.0 done.0 command reply done.1 ∙ told.2,
-            done.2,
-            done.3,
-          ));
+          subst (λ (rs : List Reply). GoneOn w state c.args.commands.now (i + 1) rs u c.apply.new.self) (sym c.push_reserved.ensures.items)
+          (goes_on w state c.args.commands.now i c.loop-command.replies.items t c.loop-command.session command (before.told state ready) c.loop-command-test.true c.command-item.is (before.later.namenodes ∙ ready.one) u c.apply.new.self reply acts);
     }
 
-pub returns-in-Err-apply-clause-ran : goal.returns-in-Err-apply-clause-ran
-returns-in-Err-apply-clause-ran g c = λ state ready.
+pub returns-in-Err-apply-clause-anywhere : goal.returns-in-Err-apply-clause-anywhere
+returns-in-Err-apply-clause-anywhere g c =
     let s = g.C.Cluster.shown c.args.cluster.now in
     let t = g.C.Cluster.shown c.loop-command.cluster in
     let u = g.C.Cluster.shown c.apply.new.cluster in
+    let v = g.C.Cluster.shown c.abandon.new.cluster in
     let before = c.loop-command.invariant in
-    let now = c.in-Err-apply.ensures in
-    let any = now.anywhere before.fine in
+    let f = c.fault_at-in-Err-apply in
+    let command = c.command-item.result in
+    let acts = subst (λ (e : HdfsError). Acts command t c.loop-command.session u c.apply.new.self (failed_with e)) (sym f.ensures.error) (c.in-Err-apply.ensures.acts before.fine) in
+    let at : f.result.at ≡ c.loop-command.command-index + 1 = omega (arith, f.ensures.at, c.len.ensures, c.loop-command.replies.ok, before.count) in
+    let kept = c.abandon.ensures.keeps in
+    runs_failed c.args.commands.now s t u v c.loop-command.session c.apply.new.self c.loop-command.command-index command f.result c.loop-command-test.true c.command-item.is before.later before.reads before.own acts
+    kept.0 kept.1 kept.2 c.abandon.ensures.others c.abandon.ensures.none at
+
+pub returns-in-Err-apply-clause-ran : goal.returns-in-Err-apply-clause-ran
+returns-in-Err-apply-clause-ran g c = λ good state ready.
+    let s = g.C.Cluster.shown c.args.cluster.now in
+    let t = g.C.Cluster.shown c.loop-command.cluster in
+    let u = g.C.Cluster.shown c.apply.new.cluster in
+    let v = g.C.Cluster.shown c.abandon.new.cluster in
     let w : World = world_of c.args.settings.now s in
+    let before = c.loop-command.invariant in
+    let f = c.fault_at-in-Err-apply in
     let i = c.loop-command.command-index in
     let command = c.command-item.result in
     let replies = c.loop-command.replies.items in
-    let f = c.fault_at-in-Err-apply in
-    let told = before.told state ready in
-    let here = ready_for w s t state told.0 c.args.commands.now i command replies c.loop-command-test.true c.command-item.is before.later ready told.1 told.2 told.3 told.4 in
-    let applied = subst (λ (x : Settings). WhereReady (world_of x t) (reading t) (command ∷ []) (λ st. Applied (world_of x t) st command (reading t) (reading u) (Err c.in-Err-apply.error))) before.settings (now.applied before.fine) in
+    let acts = subst (λ (e : HdfsError). Acts command t c.loop-command.session u c.apply.new.self (failed_with e)) (sym f.ensures.error) (c.in-Err-apply.ensures.acts before.fine) in
     let at : f.result.at ≡ i + 1 = omega (arith, f.ensures.at, c.len.ensures, c.loop-command.replies.ok, before.count) in
-    let cause = subst (λ (e : HdfsError). Cause w told.0 command t u e × AgreesBut (spared w told.0 command e) u.picture told.0.files) (sym f.ensures.error) (applied told.0 here).err in
+    let one = before.later.namenodes ∙ ready.one in
+    let gone = before.told state ready in
+    let kept = c.abandon.ensures.keeps in
     record {
       ok = tt;
-      err = stops_there w s t state told.0 c.args.commands.now i command replies c.loop-command-test.true c.command-item.is before.later ready told.1 told.2 told.3 told.4 u f.result any.later at cause f.ensures.done;
-      complete = λ none. complete_there w s t state told.0 c.args.commands.now i command replies c.loop-command-test.true c.command-item.is before.later ready told.1 told.2 told.3 told.4 u f.result any.later at cause _ none;
+      err = stops_there w state c.args.commands.now i replies t c.loop-command.session command gone c.loop-command-test.true c.command-item.is one u c.apply.new.self s v before.later acts.anywhere.later kept.0 kept.1 c.abandon.ensures.files f.result acts at f.ensures.done;
+      complete = λ limited none. complete_there w state c.args.commands.now i replies t c.loop-command.session command gone c.loop-command-test.true c.command-item.is one u c.apply.new.self s v before.later acts.anywhere.later kept.0 kept.1 c.abandon.ensures.files f.result acts at (Vec Reply Global) limited none;
     }
 
 pub returns-clause-ran : goal.returns-clause-ran
-returns-clause-ran g c = λ state ready.
-    let told = c.loop-command.invariant.told state ready in
+returns-clause-ran g c = λ good state ready.
+    let t = g.C.Cluster.shown c.loop-command.cluster in
+    let v = g.C.Cluster.shown c.abandon-2.new.cluster in
     let w : World = world_of c.args.settings.now (g.C.Cluster.shown c.args.cluster.now) in
-    let folds : fold w state c.args.commands.now ≡ Ends c.loop-command.replies.items told.0 = ap (fold w state) (sym (take_all c.loop-command.command-index c.args.commands.now c.loop-command-test.false)) ∙ told.1 in
+    let gone = c.loop-command.invariant.told state ready in
+    let all = take_all c.loop-command.command-index c.args.commands.now c.loop-command-test.false in
+    let end = ends_there w state c.args.commands.now c.loop-command.command-index c.loop-command.replies.items t v c.loop-command.session gone all c.abandon-2.ensures.files in
     record {
-      ok = (told.0, folds, told.3);
+      ok = end;
       err = tt;
-      complete = λ none. complete_done _ (fold w state c.args.commands.now) c.loop-command.replies c.loop-command.replies.items told.0 folds;
+      complete = λ limited none. complete_done (fold w state c.args.commands.now) c.loop-command.replies c.loop-command.replies.items end.0 end.1;
     }

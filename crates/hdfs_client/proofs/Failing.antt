@@ -1,0 +1,210 @@
+-- Errors of a command that opens a file to be written.
+use Rattle.std.proofs.Common.{◌≡◌, ◌⊎◌, inl, inr, ⊎_elim, ℕ, ◌<◌, Bool, true, false, cond, is_some, List, Option, Some, None, Err, refl, sym, ◌∙◌, ap, subst, arith}
+use Rattle.std.specs.BTreeMap.{get_by_text}
+use Rattle.hdfs_model.specs.declared.asks.Ask.{Ask}
+use Rattle.hdfs_model.specs.declared.asks.Ask.TheVariants as asks
+use Rattle.hdfs_model.specs.declared.asks.AskFault.{AskFault}
+use Rattle.hdfs_model.specs.declared.asks.AskFault.TheVariants as faults
+use Rattle.hdfs_model.specs.declared.commands.Command.{Command}
+use Rattle.hdfs_model.specs.declared.commands.Command.TheVariants as commands
+use Rattle.hdfs_model.specs.declared.commands.Reply.{Reply}
+use Rattle.hdfs_model.specs.declared.commands.WriteOptions.{WriteOptions}
+use Rattle.hdfs_model.specs.declared.errors.ArgFault.TheVariants as args
+use Rattle.hdfs_model.specs.declared.errors.HdfsError.{HdfsError}
+use Rattle.hdfs_model.specs.declared.errors.HdfsError.TheVariants as errors
+use Rattle.hdfs_model.specs.declared.messages.ServerDefaults.{ServerDefaults}
+use Rattle.hdfs_model.specs.declared.picture.LastAnswer.TheVariants as last_answers
+use Rattle.hdfs_model.specs.Causes.{CallsRose, Cause, CommandLost, Tells, UsesDefaults}
+use Rattle.hdfs_model.specs.Files.{State}
+use Rattle.hdfs_model.specs.Namenode.{IsOwn, MayBeDone, is_taken}
+use Rattle.hdfs_model.specs.Picture.{Picture, SameButActive, SameFiles, kinds}
+use Rattle.hdfs_model.specs.Sessions.{defaults_of, is_before_asking, spared}
+use Rattle.hdfs_model.specs.Limits.{are_defaults, are_options}
+use Rattle.hdfs_model.specs.Shown.{Shown, Served}
+use Rattle.hdfs_model.specs.Steps.{is_opened, path_of, target_of}
+use Rattle.hdfs_model.specs.Stores.{Agrees}
+use Rattle.hdfs_model.proofs.Frames.{rose_since, told_before, told_weaker}
+use Rattle.hdfs_namenode.specs.Asked.{error_of}
+use Rattle.hdfs_files.specs.Writers as files
+use Rattle.hdfs_files.specs.declared.file_writer.FileWriter.{FileWriter}
+use Rattle.std.proofs.lemmas.Bool.{false≢true}
+use Rattle.hdfs_client.specs.Acting.{Acts, IsReady, world_at}
+use Rattle.hdfs_client.specs.Looking.{OnlyLooks}
+use Rattle.hdfs_client.specs.Preparing.{AreTold, LacksDefaults, Prepares}
+use Rattle.hdfs_client.specs.Session.{CarriesFile, CarriesOpen, Stands, after, writer_of}
+use Rattle.hdfs_client.specs.declared.session.Session.{Session}
+use Rattle.hdfs_client.proofs.Still.{carries_stays}
+use Rattle.hdfs_client.proofs.Acted.{failed_acts, spares_but}
+use Rattle.hdfs_client.proofs.Agreeing.{agrees_but, agrees_files, is_told}
+use Rattle.hdfs_client.proofs.Opening.{Over}
+use Rattle.hdfs_client.proofs.Prepared.{looks_from-Served, looks_refl, looks_trans}
+use Rattle.hdfs_client.proofs.Refusing.{excepted, exception_cause, fault_tells, unanswered}
+
+-- namenodes that have failed since a time have failed since an earlier time
+rose_before : (a b c : Shown) → OnlyLooks a b → CallsRose b.counts c → CallsRose a.counts c
+rose_before a b c looks rose = (
+  rose.0,
+  rose.1,
+  rose_since (a.counts.calls rose.0) (b.counts.calls rose.0) (c.counts.calls rose.0) (c.counts.calls rose.0) (looks.later.counts.calls rose.0) rose.2 (omega arith),
+)
+
+not_early : (fault : AskFault) → is_before_asking (error_of fault) ≡ false
+not_early faults.NoMemory = refl
+not_early (faults.Exception class message) = by_test (is_taken class)
+  where
+    by_test : (b : Bool) → is_before_asking (cond b (errors.AlreadyExists message) (errors.RPCError class message)) ≡ false
+    by_test true = refl
+    by_test false = refl
+
+-- the command asks for no bytes, and uses the defaults
+pub record Opens (command : Command) : Type 0 where
+  pub uses : UsesDefaults command
+  pub found : (old new : Shown) (path : List ℕ) (byte : ℕ) → CommandLost old.counts new path command byte → ⊥
+
+pub create_opens : (name : List ℕ) (options : WriteOptions) → Opens (commands.Create name options)
+create_opens name options = record { uses = tt; found = λ old new path byte lost. lost }
+
+pub append_opens : (name : List ℕ) → Opens (commands.Append name)
+append_opens name = record { uses = tt; found = λ old new path byte lost. lost }
+
+-- options that are out of their limits
+pub options_acts : (s : Shown) (session : Session) (name : List ℕ) (options : WriteOptions) → Stands s session → are_options options ≡ false
+    → Acts (commands.Create name options) s session s (after {T = Reply} session (Err (errors.InvalidArgument args.Options))) (Err (errors.InvalidArgument args.Options))
+options_acts s session name options stands out =
+    failed_acts (commands.Create name options) s s session session (errors.InvalidArgument args.Options) stands (looks_refl s) (λ r. refl) refl tt (λ path byte lost. lost)
+    (λ state ready. (out, agrees_but (spared (world_at session s) state (commands.Create name options) (errors.InvalidArgument args.Options)) s.picture state.files ready.ready.fits.agrees))
+    (λ state ready. record { each = λ p told r writer is. inr (ready.carried.each p told r writer is) })
+
+module _ (command : Command) (opens : Opens command) (s m : Shown) (session session' : Session) (stands : Stands s session) (active : (p : Picture) → s.picture ≡ Some p → p.active < s.namenodes)
+    (prepares : Prepares s session m session') where
+  kept : (r : List ℕ) → writer_of session' r ≡ writer_of session r
+  kept r = ap (λ w. get_by_text w r) prepares.writers
+
+  agrees_still : (state : State) → IsReady s session state command → Agrees m.picture state.files
+  agrees_still state ready =
+      agrees_files s.picture m.picture state.files (told_weaker SameButActive SameFiles s.picture m.picture (λ p q same. same.files) prepares.picture) ready.ready.fits.agrees
+
+  -- the session's files are carried still
+  carried_still : (state : State) → IsReady s session state command → (p : Picture) → m.picture ≡ Some p → (r : List ℕ) (writer : FileWriter) → writer_of session r ≡ Some writer → CarriesFile p state r writer
+  carried_still state ready p told r writer is =
+      let one = told_before SameButActive s.picture m.picture p prepares.picture told in
+      carries_stays one.0 p one.2.files one.2.writes state r writer (ready.carried.each one.0 one.1 r writer is)
+
+  open_still : (state : State) → IsReady s session state command → CarriesOpen m session' state
+  open_still state ready = record { each = λ p told r writer is. inr (carried_still state ready p told r writer (sym (kept r) ∙ is)) }
+
+  -- want of memory, once the defaults were asked for
+  pub starved_acts : Acts command s session m (after {T = Reply} session' (Err errors.NoMemory)) (Err errors.NoMemory)
+  starved_acts =
+      failed_acts command s m session session' errors.NoMemory stands prepares.looks kept prepares.settings tt (opens.found s m)
+      (λ state ready. (tt, agrees_but (spared (world_at session s) state command errors.NoMemory) m.picture state.files (agrees_still state ready)))
+      open_still
+
+  fault_cause : (state : State) → IsReady s session state command → (fault : AskFault) → Served s 0 asks.GetServerDefaults (Err fault) m → Cause (world_at session s) state command s m (error_of fault)
+  fault_cause state ready faults.NoMemory served = tt
+  fault_cause state ready (faults.Exception class message) served =
+      let told = is_told s.picture state.files ready.ready.fits.agrees in
+      exception_cause (world_at session s) state command s m None None (λ why is. absurd (cc is)) class message
+      (⊎_elim (λ refused. absurd refused) (λ rose. inr rose)
+      (excepted s m asks.GetServerDefaults told.0 told.1 (λ own. own) class message served ready.ready.one (active told.0 told.1)))
+
+  out_cause : (state : State) → IsReady s session state command → (defaults : ServerDefaults) → are_defaults defaults ≡ false → AreTold s session defaults → Cause (world_at session s) state command s m (errors.InvalidArgument args.Defaults)
+  out_cause state ready defaults out same =
+      let told = is_told s.picture state.files ready.ready.fits.agrees in
+      (opens.uses, ap (λ (o : Option Picture). are_defaults (defaults_of o)) told.1 ∙ ap are_defaults (sym (same told.0 told.1 ready.carried.defaults)) ∙ out)
+
+  -- no defaults
+  pub lacks_acts : (error : HdfsError) → LacksDefaults s session error m → Acts command s session m (after {T = Reply} session' (Err error)) (Err error)
+  lacks_acts error (inl fault) =
+      subst (λ (e : HdfsError). Acts command s session m (after {T = Reply} session' (Err e)) (Err e)) (sym fault.1)
+      (failed_acts command s m session session' (error_of fault.0) stands prepares.looks kept prepares.settings (fault_tells command s m fault.0 fault.2.last) (opens.found s m)
+      (λ state ready. (fault_cause state ready fault.0 fault.2, agrees_but (spared (world_at session s) state command (error_of fault.0)) m.picture state.files (agrees_still state ready)))
+      open_still)
+  lacks_acts error (inr out) =
+      subst (λ (e : HdfsError). Acts command s session m (after {T = Reply} session' (Err e)) (Err e)) (sym out.0)
+      (failed_acts command s m session session' (errors.InvalidArgument args.Defaults) stands prepares.looks kept prepares.settings opens.uses (opens.found s m)
+      (λ state ready. (out_cause state ready out.1 out.2 out.3, agrees_but (spared (world_at session s) state command (errors.InvalidArgument args.Defaults)) m.picture state.files (agrees_still state ready)))
+      open_still)
+
+  module _ (t : Shown) (session'' : Session) (writers : (r : List ℕ) → writer_of session'' r ≡ writer_of session' r) (settings : session''.settings ≡ session'.settings) (ask : Ask) (path : List ℕ)
+      (active' : (p : Picture) → m.picture ≡ Some p → p.active < m.namenodes)
+      (called : (state : State) → target_of (world_at session s) command ≡ path)
+      (over : (state : State) → IsReady s session state command → (p : Picture) → m.picture ≡ Some p → Over p (world_at session s) state command path ask) where
+    -- what the writers of other files carry they carry behind an ask that may have been done
+    others_open : (state : State) → IsReady s session state command → (p : Picture) → m.picture ≡ Some p → (q : Picture) → t.picture ≡ Some q → MayBeDone ask p q → CarriesOpen t session'' state
+    others_open state ready p was q now may = record {
+      each = λ x told r writer is.
+          (let there : writer_of session r ≡ Some writer = sym (writers r ∙ kept r) ∙ is in
+          let o = over state ready p was in
+          let opened : is_opened state r ≡ true = ready.ready.opened r ∙ ap is_some there in
+          let c = carried_still state ready p was r writer there in
+          let same : q ≡ x = cc (now, told) in
+          inr (subst (λ (y : Picture). CarriesFile y state r writer) same (record {
+            content = c.content;
+            named = c.named;
+            carries = o.keeps q may r (files.tail_of writer) c.content.bytes (λ is_path. false≢true (sym o.closed ∙ ap (is_opened state) (sym is_path) ∙ opened)) c.carries;
+            replication = c.replication;
+            block_size = c.block_size;
+          })));
+    }
+
+    -- an error behind an ask that may have been done
+    pub late_acts : (error : HdfsError) → is_before_asking error ≡ false → OnlyLooks m t → Tells command s t error
+        → ((state : State) → IsReady s session state command → (p : Picture) → m.picture ≡ Some p → Cause (world_at session s) state command s t error × ((q : Picture) × (t.picture ≡ Some q) × MayBeDone ask p q))
+        → Acts command s session t (after {T = Reply} session'' (Err error)) (Err error)
+    late_acts error late looks tells cause =
+        failed_acts command s t session session'' error stands (looks_trans s m t prepares.looks looks) (λ r. writers r ∙ kept r) (settings ∙ prepares.settings) tells (opens.found s t)
+        (λ state ready.
+        (let told = is_told m.picture state.files (agrees_still state ready) in
+        let h = cause state ready told.0 told.1 in (
+          h.0,
+          spares_but (world_at session s) state command error path t.picture h.1.0 (called state) late h.1.1 ((over state ready told.0 told.1).spares h.1.0 h.1.2),
+        )))
+        (λ state ready.
+        (let told = is_told m.picture state.files (agrees_still state ready) in
+        let h = cause state ready told.0 told.1 in
+        others_open state ready told.0 told.1 h.1.0 h.1.1 h.1.2))
+
+    asked_cause : (state : State) → IsReady s session state command → (p : Picture) → m.picture ≡ Some p → ((p : Picture) → IsOwn p ask → ⊥) → (fault : AskFault) → Served m 0 ask (Err fault) t → Cause (world_at session s) state command s t (error_of fault)
+    asked_cause state ready p told no_own faults.NoMemory served = tt
+    asked_cause state ready p told no_own (faults.Exception class message) served =
+        let o = over state ready p told in
+        exception_cause (world_at session s) state command s t (kinds p path) o.refusal o.stepped class message
+        (⊎_elim (λ refused. inl (o.refused class refused)) (λ rose. inr (rose_before s m t prepares.looks rose))
+        (excepted m t ask p told (no_own p) class message served (prepares.looks.later.namenodes ∙ ready.ready.one) (active' p told)))
+
+    -- an error of the ask
+    pub asked_acts : ((p : Picture) → IsOwn p ask → ⊥) → (fault : AskFault) → Served m 0 ask (Err fault) t → Acts command s session t (after {T = Reply} session'' (Err (error_of fault))) (Err (error_of fault))
+    asked_acts no_own fault served =
+        late_acts (error_of fault) (not_early fault) (looks_from-Served m t ask (Err fault) served) (fault_tells command s t fault served.last)
+        (λ state ready p told. (asked_cause state ready p told no_own fault served, unanswered m t ask p told (no_own p) fault served))
+
+-- an error of an ask that was made once, or not at all for want of memory
+pub refused_acts : {C : Type 0} (shown : C → Shown) (a b : C) (command : Command) → Opens command → (s : Shown) (session session' : Session) → Stands s session → ((p : Picture) → s.picture ≡ Some p → p.active < s.namenodes)
+    → Prepares s session (shown a) session' → (ask : Ask) (path : List ℕ) → ((p : Picture) → (shown a).picture ≡ Some p → p.active < (shown a).namenodes) → (target_of (world_at session s) command ≡ path)
+    → ((state : State) → IsReady s session state command → (p : Picture) → (shown a).picture ≡ Some p → Over p (world_at session s) state command path ask) → ((p : Picture) → IsOwn p ask → ⊥) → (error : HdfsError)
+    → ((fault : AskFault) × (error ≡ error_of fault) × Served (shown a) 0 ask (Err fault) (shown b)) ⊎ ((error ≡ errors.NoMemory) × (b ≡ a))
+    → Acts command s session (shown b) (after {T = Reply} session' (Err error)) (Err error)
+refused_acts shown a b command opens s session session' stands active prepares ask path active' called over no_own error (inl fault) =
+    subst (λ (e : HdfsError). Acts command s session (shown b) (after {T = Reply} session' (Err e)) (Err e)) (sym fault.1)
+    (asked_acts command opens s (shown a) session session' stands active prepares (shown b) session' (λ r. refl) refl ask path active' (λ state. called) over no_own fault.0 fault.2)
+refused_acts {C} shown a b command opens s session session' stands active prepares ask path active' called over no_own error (inr nothing) =
+    subst (λ (x : C). Acts command s session (shown x) (after {T = Reply} session' (Err error)) (Err error)) (sym nothing.1)
+    (subst (λ (e : HdfsError). Acts command s session (shown a) (after {T = Reply} session' (Err e)) (Err e)) (sym nothing.0)
+    (starved_acts command opens s (shown a) session session' stands active prepares))
+
+-- want of memory once the file was made, so that the session doesn't keep its writer
+pub unkept_acts : (command : Command) → Opens command → (s m t : Shown) (session session' session'' : Session) → Stands s session → ((p : Picture) → s.picture ≡ Some p → p.active < s.namenodes) → Prepares s session m session'
+    → ((r : List ℕ) → writer_of session'' r ≡ writer_of session' r) → session''.settings ≡ session'.settings → (ask : Ask) (path : List ℕ) → ((p : Picture) → m.picture ≡ Some p → p.active < m.namenodes)
+    → target_of (world_at session s) command ≡ path → ((state : State) → IsReady s session state command → (p : Picture) → m.picture ≡ Some p → Over p (world_at session s) state command path ask)
+    → OnlyLooks m t → ((p : Picture) → m.picture ≡ Some p → (q : Picture) × (t.picture ≡ Some q) × MayBeDone ask p q) → Acts command s session t (after {T = Reply} session'' (Err errors.NoMemory)) (Err errors.NoMemory)
+unkept_acts command opens s m t session session' session'' stands active prepares writers settings ask path active' called over looks done =
+    late_acts command opens s m session session' stands active prepares t session'' writers settings ask path active' (λ state. called) over errors.NoMemory refl looks tt (λ state ready p told. (tt, done p told))
+
+-- no status of the file was answered, of which an answer over a told picture always tells
+pub unstated_acts : (command : Command) → Opens command → (name : List ℕ) → name ≡ path_of command → (s m t : Shown) (session session' : Session) → Stands s session → ((p : Picture) → s.picture ≡ Some p → p.active < s.namenodes) → Prepares s session m session'
+    → (ask : Ask) (path : List ℕ) → ((p : Picture) → m.picture ≡ Some p → p.active < m.namenodes) → target_of (world_at session s) command ≡ path
+    → ((state : State) → IsReady s session state command → (p : Picture) → m.picture ≡ Some p → Over p (world_at session s) state command path ask) → OnlyLooks m t → t.last ≡ last_answers.Fine
+    → ((p : Picture) → m.picture ≡ Some p → ⊥) → Acts command s session t (after {T = Reply} session' (Err (errors.FileNotFound name))) (Err (errors.FileNotFound name))
+unstated_acts command opens name is s m t session session' stands active prepares ask path active' called over looks last none =
+    late_acts command opens s m session session' stands active prepares t session' (λ r. refl) refl ask path active' (λ state. called) over (errors.FileNotFound name) refl looks (is, last) (λ state ready p told. absurd (none p told))

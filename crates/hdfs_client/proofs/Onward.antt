@@ -1,0 +1,147 @@
+-- What holds of an error holds still once the session's files are given up.
+use Rattle.std.proofs.Common.{◌≡◌, inl, inr, ⊎_elim, ℕ, ◌+◌, ◌<◌, List, [], ◌∷◌, length, Contains, get_or, Option, Some, sym, ◌∙◌, ap, subst, arith}
+use Rattle.hdfs_model.specs.declared.commands.Command.{Command}
+use Rattle.hdfs_model.specs.declared.commands.Command.TheVariants as commands
+use Rattle.hdfs_model.specs.declared.commands.Reply.{Reply}
+use Rattle.hdfs_model.specs.declared.errors.ArgFault.TheVariants as args
+use Rattle.hdfs_model.specs.declared.errors.HdfsError.{HdfsError}
+use Rattle.hdfs_model.specs.declared.errors.HdfsError.TheVariants as errors
+use Rattle.hdfs_model.specs.declared.errors.IoFault.TheVariants as io_faults
+use Rattle.hdfs_model.specs.declared.errors.TransferFault.TheVariants as transfer
+use Rattle.hdfs_model.specs.declared.picture.BlockEntry.{BlockEntry}
+use Rattle.hdfs_model.specs.Causes.{LiesAt, FileLost, CommandLost, PipelineFailed, CallsRose, Cause, Tells}
+use Rattle.hdfs_model.specs.Counts.{FaultCounts, NeverFall, NoneRose, Rose}
+use Rattle.hdfs_model.specs.Files.{State, Content, File}
+use Rattle.hdfs_model.specs.Sessions.{Avoids}
+use Rattle.hdfs_model.specs.Shown.{Shown, Later, SameReadPlaces, SameReads}
+use Rattle.hdfs_model.specs.Steps.{World, Done, step, target_of}
+use Rattle.hdfs_model.proofs.Frames.{rose_since, told_after}
+use Rattle.hdfs_files.proofs.Storing.{contains_head, contains_later}
+use Rattle.hdfs_client.specs.Session.{LeavesFiles}
+use Rattle.hdfs_client.proofs.Avoiding.{read_closed}
+
+-- where the table stays a block lies where it lay, and is one of the file's
+lies_still : (t t' : ℕ → Option BlockEntry) → ((id : ℕ) → t' id ≡ t id) → (from : ℕ) (ids : List ℕ) (id at : ℕ) → LiesAt t from ids id at → LiesAt t' from ids id at
+lies_still t t' same from [] id at h = absurd h
+lies_still t t' same from (first ∷ ids) id at h =
+    ⊎_elim (λ here. inl here) (λ rest. inr (rest.0, same first ∙ rest.1, lies_still t t' same (from + rest.0.length) ids id at rest.2)) h
+
+lies_among : (t : ℕ → Option BlockEntry) (from : ℕ) (ids : List ℕ) (id at : ℕ) → LiesAt t from ids id at → Contains ids id
+lies_among t from [] id at h = absurd h
+lies_among t from (first ∷ ids) id at h =
+    ⊎_elim (λ here. subst (Contains (first ∷ ids)) here.0 (contains_head first ids)) (λ rest. contains_later first id ids (lies_among t (from + rest.0.length) ids id at rest.2)) h
+
+module _ (old u v : Shown) (later : Later u v) where
+  links_on : Rose old.counts.links u.counts.links → Rose old.counts.links v.counts.links
+  links_on rose = rose_since old.counts.links old.counts.links u.counts.links v.counts.links (omega arith) rose later.counts.links
+
+  node_on : (d : List ℕ) → Rose (old.counts.nodes d) (u.counts.nodes d) → Rose (old.counts.nodes d) (v.counts.nodes d)
+  node_on d rose = rose_since (old.counts.nodes d) (old.counts.nodes d) (u.counts.nodes d) (v.counts.nodes d) (omega arith) rose (later.counts.nodes d)
+
+  calls_on : CallsRose old.counts u → CallsRose old.counts v
+  calls_on rose =
+      let i = rose.0 in
+      (i, subst (λ (n : ℕ). i < n) (sym later.namenodes) rose.1, rose_since (old.counts.calls i) (old.counts.calls i) (u.counts.calls i) (v.counts.calls i) (omega arith) rose.2 (later.counts.calls i))
+
+  -- what an error tells
+  pub tells_on : v.last ≡ u.last → (command : Command) (e : HdfsError) → Tells command old u e → Tells command old v e
+  tells_on last command errors.NoMemory h = tt
+  tells_on last command errors.Failed h = h
+  tells_on last command (errors.IOError io_faults.Link) h = (h.0, links_on h.1)
+  tells_on last command (errors.DataTransferError (transfer.Read byte)) h = h
+  tells_on last command (errors.DataTransferError transfer.Setup) h = (h.0, links_on h.1)
+  tells_on last command (errors.DataTransferError transfer.AllNodes) h = (h.0, (h.1.0, node_on h.1.0 h.1.1))
+  tells_on last command (errors.DataTransferError (transfer.BadAck seqno)) h = (h.0, links_on h.1)
+  tells_on last command (errors.InvalidPath text) h = h
+  tells_on last command (errors.InvalidArgument args.State) h = h
+  tells_on last command (errors.InvalidArgument args.Settings) h = h
+  tells_on last command (errors.InvalidArgument args.Options) h = h
+  tells_on last command (errors.InvalidArgument args.Defaults) h = h
+  tells_on last command (errors.InvalidArgument (args.Range offset len length)) h = h
+  tells_on last command (errors.AlreadyExists message) h = (h.0, h.1, last ∙ h.2)
+  tells_on last command (errors.OperationFailed name) h = (h.0, last ∙ h.1)
+  tells_on last command (errors.FileNotFound name) h = (h.0, last ∙ h.1)
+  tells_on last command (errors.RPCError class message) h = last ∙ h
+
+  module _ (reads : SameReads u v) (state : State) (leaves : LeavesFiles u v state) where
+    pipeline_on : (path : List ℕ) → PipelineFailed old.counts u path → PipelineFailed old.counts v path
+    pipeline_on path h =
+        let after = told_after (SameReadPlaces u) u.picture v.picture h.picture reads.places h.told in
+        let records = leaves.records h.picture after.0 h.told after.1 in
+        record {
+          picture = after.0;
+          told = after.1;
+          file = h.file;
+          named = records.names path ∙ h.named;
+          front = h.front;
+          id = h.id;
+          last = h.last;
+          entry = h.entry;
+          is = records.table h.id ∙ h.is;
+          failed = (h.failed.0, h.failed.1, h.failed.2, h.failed.3, node_on h.failed.1 h.failed.4);
+        }
+
+    lost_on : (path : List ℕ) (content : Content) → state.files path ≡ Some (File content) → (from end byte : ℕ) → FileLost old.counts u path from end byte → FileLost old.counts v path from end byte
+    lost_on path content closed from end byte h =
+        let after = told_after (SameReadPlaces u) u.picture v.picture h.picture reads.places h.told in
+        let records = leaves.records h.picture after.0 h.told after.1 in
+        let lost = h.lost in
+        let among : Contains h.file.blocks lost.id = lies_among h.picture.table 0 h.file.blocks lost.id lost.at lost.lies in
+        record {
+          picture = after.0;
+          told = after.1;
+          file = h.file;
+          named = records.names path ∙ h.named;
+          lost = record {
+            id = lost.id;
+            at = lost.at;
+            lies = lies_still h.picture.table after.0.table records.table 0 h.file.blocks lost.id lost.at lost.lies;
+            entry = lost.entry;
+            is = records.table lost.id ∙ lost.is;
+            behind = lost.behind;
+            before = lost.before;
+            inside = lost.inside;
+            all_failed = λ k below whole.
+                (let d = get_or lost.entry.nodes k [] in
+                let same = leaves.closed h.picture after.0 h.told after.1 path content closed h.file h.named lost.id among d in
+                node_on d (lost.all_failed k below (ap length (sym same) ∙ whole)));
+          };
+        }
+
+    command_lost_on : (w : World) (command : Command) → Avoids w state command → (reply : Reply) (next : State) → step w state command ≡ Done reply next
+        → (byte : ℕ) → CommandLost old.counts u (target_of w command) command byte → CommandLost old.counts v (target_of w command) command byte
+    command_lost_on w (commands.Read text offset len) avoids reply next done byte h =
+        let closed = read_closed w state next text offset len reply done avoids in
+        lost_on (target_of w (commands.Read text offset len)) closed.0 closed.1 offset (offset + len) byte h
+    command_lost_on w (commands.Create text options) avoids reply next done byte h = h
+    command_lost_on w (commands.Append text) avoids reply next done byte h = h
+    command_lost_on w (commands.Write text bytes) avoids reply next done byte h = h
+    command_lost_on w (commands.Close text) avoids reply next done byte h = h
+
+    -- a cause
+    pub cause_on : (w : World) (command : Command) → Avoids w state command → (e : HdfsError) → Cause w state command old u e → Cause w state command old v e
+    cause_on w command avoids errors.NoMemory h = tt
+    cause_on w command avoids errors.Failed h = h
+    cause_on w command avoids (errors.IOError io_faults.Link) h = (h.0, links_on h.1)
+    cause_on w command avoids (errors.DataTransferError (transfer.Read byte)) h = (h.0, command_lost_on w command avoids h.0.0 h.0.1 h.0.2 byte h.1)
+    cause_on w command avoids (errors.DataTransferError transfer.Setup) h = (h.0, links_on h.1)
+    cause_on w command avoids (errors.DataTransferError transfer.AllNodes) h = (h.0, pipeline_on (target_of w command) h.1)
+    cause_on w command avoids (errors.DataTransferError (transfer.BadAck seqno)) h = (h.0, links_on h.1)
+    cause_on w command avoids (errors.InvalidPath text) h = h
+    cause_on w command avoids (errors.InvalidArgument args.State) h = h
+    cause_on w command avoids (errors.InvalidArgument args.Settings) h = h
+    cause_on w command avoids (errors.InvalidArgument args.Options) h = h
+    cause_on w command avoids (errors.InvalidArgument args.Defaults) h = h
+    cause_on w command avoids (errors.InvalidArgument (args.Range offset len length)) h = h
+    cause_on w command avoids (errors.AlreadyExists message) h = ⊎_elim (λ is. inl is) (λ rose. inr (calls_on rose)) h
+    cause_on w command avoids (errors.OperationFailed name) h = (h.0, calls_on h.1)
+    cause_on w command avoids (errors.FileNotFound name) h = h
+    cause_on w command avoids (errors.RPCError class message) h = ⊎_elim (λ is. inl is) (λ rose. inr (calls_on rose)) h
+
+-- where no count rose until a time none did until an earlier time
+pub none_rose_earlier : (n : ℕ) (a b c : FaultCounts) → NeverFall b c → NoneRose n a c → NoneRose n a b
+none_rose_earlier n a b c fall none = record {
+  calls = λ i below rose. none.calls i below (rose_since (a.calls i) (a.calls i) (b.calls i) (c.calls i) (omega arith) rose (fall.calls i));
+  links = λ rose. none.links (rose_since a.links a.links b.links c.links (omega arith) rose fall.links);
+  nodes = λ d rose. none.nodes d (rose_since (a.nodes d) (a.nodes d) (b.nodes d) (c.nodes d) (omega arith) rose (fall.nodes d));
+}

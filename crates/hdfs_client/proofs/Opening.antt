@@ -1,0 +1,192 @@
+-- What the asks do that open a file to be written: the one for a new file, and the one for a file that is gone on with.
+use Rattle.std.proofs.Common.{◌≡◌, ◌≢◌, ◌⊎◌, inl, inr, ⊎_elim, ℕ, Bool, true, false, cond, ◌&&◌, ◌||◌, List, [], Option, Some, None, is_none, Result, Ok, refl, sym, ◌∙◌, ap, subst}
+use Rattle.std.proofs.lemmas.Bool.{false≢true}
+use Rattle.std.proofs.lemmas.Slice.Eq.{bytes_eq-Decides}
+use Rattle.std.specs.List.{list_any}
+use Rattle.std.specs.Str.{bytes_eq}
+use Rattle.hdfs_model.specs.declared.asks.Answer.{Answer}
+use Rattle.hdfs_model.specs.declared.asks.Answer.TheVariants as answers
+use Rattle.hdfs_model.specs.declared.asks.Ask.{Ask}
+use Rattle.hdfs_model.specs.declared.asks.Ask.TheVariants as asks
+use Rattle.hdfs_model.specs.declared.asks.AskFault.{AskFault}
+use Rattle.hdfs_model.specs.declared.commands.Command.{Command}
+use Rattle.hdfs_model.specs.declared.commands.Command.TheVariants as commands
+use Rattle.hdfs_model.specs.declared.commands.WriteOptions.{WriteOptions}
+use Rattle.hdfs_model.specs.declared.messages.Appended.{Appended}
+use Rattle.hdfs_model.specs.declared.messages.FileStatusMsg.{FileStatusMsg}
+use Rattle.hdfs_model.specs.declared.picture.FileEntry.{FileEntry}
+use Rattle.hdfs_model.specs.declared.errors.HdfsError.{HdfsError}
+use Rattle.hdfs_model.specs.Counts.{Rose}
+use Rattle.hdfs_model.specs.Effects.{Creates, HasStatus, Opens}
+use Rattle.hdfs_model.specs.Files.{State, Kind, kinds_of}
+use Rattle.hdfs_model.specs.Namenode.{IsRefusal, IsShaped, MayBeDone, Row, ServesTold, StandsForAny, new_file, overwrites}
+use Rattle.hdfs_model.specs.Paths.{ancestors, is_path}
+use Rattle.hdfs_model.specs.Picture.{Picture, SameButActive, kinds}
+use Rattle.hdfs_model.specs.Refusals.{Refusal, append_refusal, create_refusal}
+use Rattle.hdfs_model.specs.Sessions.{touched}
+use Rattle.hdfs_model.specs.Shown.{Shown, Served}
+use Rattle.hdfs_model.specs.Sound.{IsSound, IsFileAt}
+use Rattle.hdfs_model.specs.Steps.{World, Refused, append_file, create_file, created, is_opened, step, target_of}
+use Rattle.hdfs_model.specs.Stores.{AgreesAt}
+use Rattle.hdfs_model.proofs.Frames.{told_after}
+use Rattle.hdfs_namenode.specs.Asked.{AskedOnce}
+use Rattle.hdfs_client.proofs.Agreeing.{agrees_files}
+use Rattle.hdfs_files.specs.Tails.{Tail, FileCarries}
+use Rattle.hdfs_files.proofs.Creating.{created_others}
+use Rattle.hdfs_files.proofs.Others.{carries_others}
+use Rattle.hdfs_client.proofs.Still.{file_stays}
+use Rattle.hdfs_client.proofs.Begun.{create_spares, open_spares, opened_only}
+use Rattle.hdfs_client.proofs.Refusing.{append_step, create_step, kinds_same}
+
+-- An ask of a command at its path, over a picture that agrees with the files: its refusals are the command's, it changes nothing that
+-- the command doesn't touch, and what writers of other files carry they carry still.
+pub record Over (p : Picture) (world : World) (state : State) (command : Command) (path : List ℕ) (ask : Ask) : Type 0 where
+  pub refusal : Option Refusal
+  pub refused : (class : List ℕ) → IsRefusal p ask class → StandsForAny (kinds p path) refusal class
+  pub stepped : (why : Refusal) → refusal ≡ Some why → step world state command ≡ Refused why
+  pub spares : (q : Picture) → MayBeDone ask p q → (r : List ℕ) → touched state path command r ≡ false → AgreesAt q (q.names r) (state.files r)
+  pub closed : is_opened state path ≡ false
+  pub keeps : (q : Picture) → MayBeDone ask p q → (r : List ℕ) (tail : Tail) (bytes : List ℕ) → r ≢ path → FileCarries p r tail bytes → FileCarries q r tail bytes
+
+flag_is : (overwrite : Bool) → overwrites (cond overwrite 3 1) ≡ overwrite
+flag_is true = refl
+flag_is false = refl
+
+or_false : (a b : Bool) → (a || b) ≡ false → (a ≡ false) × (b ≡ false)
+or_false true b is = absurd (false≢true (sym is))
+or_false false b is = (refl, is)
+
+apart_from : (path r : List ℕ) → bytes_eq path r ≡ false → r ≢ path
+apart_from path r test same = false≢true (sym test ∙ (bytes_eq-Decides path r).1 (sym same))
+
+module _ (path client : List ℕ) (options : WriteOptions) (replication block_size : ℕ) where
+  -- the ask for a new file
+  abbrev pub creating : Ask
+  creating = asks.Create path options.permission client (cond options.overwrite 3 1) options.create_parent replication block_size
+
+  abbrev pub made : FileEntry
+  made = new_file options.permission replication block_size
+
+  module _ (p : Picture) where
+    -- the row of it
+    abbrev pub Made : Picture → Type 0
+    Made q = (create_refusal (kinds p) path options.overwrite options.create_parent ≡ None) × Creates path made p q
+
+    made_by : (q : Picture) (status : Option FileStatusMsg) → Row p creating (answers.Create status) q → Made q
+    made_by q status row = (ap (λ (b : Bool). create_refusal (kinds p) path b options.create_parent) (sym (flag_is options.overwrite)) ∙ row.0, row.2)
+
+    may_be_made : (q : Picture) → MayBeDone creating p q → SameButActive p q ⊎ Made q
+    may_be_made q (inl same) = inl same
+    may_be_made q (inr (inl (answers.Create status, shaped, row))) = inr (made_by q status row)
+    may_be_made q (inr (inl (answers.AddBlock found, shaped, row))) = absurd row
+    may_be_made q (inr (inl (answers.GetBlockLocations found, shaped, row))) = absurd row
+    may_be_made q (inr (inl (answers.GetServerDefaults defaults, shaped, row))) = absurd row
+    may_be_made q (inr (inl (answers.Append appended, shaped, row))) = absurd row
+    may_be_made q (inr (inl (answers.Complete done, shaped, row))) = absurd row
+    may_be_made q (inr (inr own)) = absurd own.0
+
+    -- a file that was answered to be created is
+    pub was_made : (s t : Shown) (status : Option FileStatusMsg) → s.picture ≡ Some p → Served s 0 creating (Ok (answers.Create status)) t
+        → (q : Picture) × (t.picture ≡ Some q) × Made q × MayBeDone creating p q
+    was_made s t status told served =
+        let one = told_after (λ p q. ServesTold (Rose (s.counts.calls 0) (t.counts.calls 0)) p 0 creating (Ok (answers.Create status)) q) s.picture t.picture p served.picture told in
+        let row : Row p creating (answers.Create status) one.0 = ⊎_elim (λ row. row) (λ own. absurd own.0) one.2.2 in
+        (one.0, one.1, made_by one.0 status row, inr (inl (answers.Create status, tt, row)))
+
+    module _ (world : World) (state : State) (name : List ℕ) (sound : IsSound p) (agrees : (r : List ℕ) → AgreesAt p (p.names r) (state.files r)) (named : is_path path ≡ true) (closed : is_opened state path ≡ false)
+        (called : target_of world (commands.Create name options) ≡ path) where
+      refusal_same : create_refusal (kinds_of state.files) path options.overwrite options.create_parent ≡ create_refusal (kinds p) path (overwrites (cond options.overwrite 3 1)) options.create_parent
+      refusal_same =
+          ap (λ (k : List ℕ → Option Kind). create_refusal k path options.overwrite options.create_parent) (sym (kinds_same p state.files agrees))
+          ∙ ap (λ (b : Bool). create_refusal (kinds p) path b options.create_parent) (sym (flag_is options.overwrite))
+
+      spares_made : (q : Picture) → MayBeDone creating p q → (r : List ℕ) → touched state path (commands.Create name options) r ≡ false → AgreesAt q (q.names r) (state.files r)
+      spares_made q may r free =
+          let parts = or_false (bytes_eq path r) (is_none (state.files r) && list_any (bytes_eq r) (ancestors path)) free in
+          ⊎_elim
+          (λ same. agrees_files (Some p) (Some q) state.files same.files agrees r)
+          (λ done. create_spares p q sound state agrees path made (record { bytes = []; attributes = made.attributes }) refl done.1 r parts.0 parts.1)
+          (may_be_made q may)
+
+      pub create_over : Over p world state (commands.Create name options) path creating
+      create_over = record {
+        refusal = create_refusal (kinds p) path (overwrites (cond options.overwrite 3 1)) options.create_parent;
+        refused = λ class h. h;
+        stepped = λ why is. create_step world state path named closed name options called ∙ ap (create_file state path (created world options)) (refusal_same ∙ is);
+        spares = spares_made;
+        closed = closed;
+        keeps = λ q may r tail bytes apart c. ⊎_elim
+            (λ same. file_stays p q same.files same.writes r tail bytes c)
+            (λ done. created_others p q sound path made done.1 r tail bytes apart c)
+            (may_be_made q may);
+      }
+
+module _ (path client : List ℕ) (flag : ℕ) where
+  -- the ask for a file that is gone on with
+  abbrev pub appending : Ask
+  appending = asks.Append path client flag
+
+  module _ (p : Picture) where
+    -- the row of it
+    pub record Reopened (q : Picture) (appended : Appended) : Type 0 where
+      pub none : append_refusal (kinds p) path ≡ None
+      pub file : FileEntry
+      pub at : IsFileAt p path file
+      pub status : HasStatus file appended.stat
+      pub opens : Opens path file appended.block p q
+
+    reopened_by : (q : Picture) (appended : Appended) → Row p appending (answers.Append appended) q → Reopened q appended
+    reopened_by q appended row = record { none = row.0; file = row.1.0; at = row.1.1; status = row.1.2; opens = row.1.3 }
+
+    may_be_reopened : (q : Picture) → MayBeDone appending p q → SameButActive p q ⊎ ((appended : Appended) × Reopened q appended)
+    may_be_reopened q (inl same) = inl same
+    may_be_reopened q (inr (inl (answers.Append appended, shaped, row))) = inr (appended, reopened_by q appended row)
+    may_be_reopened q (inr (inl (answers.AddBlock found, shaped, row))) = absurd row
+    may_be_reopened q (inr (inl (answers.GetBlockLocations found, shaped, row))) = absurd row
+    may_be_reopened q (inr (inl (answers.GetServerDefaults defaults, shaped, row))) = absurd row
+    may_be_reopened q (inr (inl (answers.Create status, shaped, row))) = absurd row
+    may_be_reopened q (inr (inl (answers.Complete done, shaped, row))) = absurd row
+    may_be_reopened q (inr (inr own)) = absurd own.0
+
+    -- a file that was answered to be opened is
+    pub was_reopened : (s t : Shown) (appended : Appended) → s.picture ≡ Some p → IsShaped appending (answers.Append appended) → Served s 0 appending (Ok (answers.Append appended)) t
+        → (q : Picture) × (t.picture ≡ Some q) × Reopened q appended × MayBeDone appending p q
+    was_reopened s t appended told shaped served =
+        let one = told_after (λ p q. ServesTold (Rose (s.counts.calls 0) (t.counts.calls 0)) p 0 appending (Ok (answers.Append appended)) q) s.picture t.picture p served.picture told in
+        let row : Row p appending (answers.Append appended) one.0 = ⊎_elim (λ row. row) (λ own. absurd own.0) one.2.2 in
+        (one.0, one.1, reopened_by one.0 appended row, inr (inl (answers.Append appended, shaped, row)))
+
+    module _ (world : World) (state : State) (name : List ℕ) (sound : IsSound p) (agrees : (r : List ℕ) → AgreesAt p (p.names r) (state.files r)) (named : is_path path ≡ true) (closed : is_opened state path ≡ false)
+        (called : target_of world (commands.Append name) ≡ path) where
+      refusal_kept : append_refusal (kinds_of state.files) path ≡ append_refusal (kinds p) path
+      refusal_kept = ap (λ (k : List ℕ → Option Kind). append_refusal k path) (sym (kinds_same p state.files agrees))
+
+      pub append_over : Over p world state (commands.Append name) path appending
+      append_over = record {
+        refusal = append_refusal (kinds p) path;
+        refused = λ class h. h;
+        stepped = λ why is. append_step world state path named closed name called ∙ ap (append_file state path) (refusal_kept ∙ is);
+        spares = λ q may r free. ⊎_elim
+            (λ same. agrees_files (Some p) (Some q) state.files same.files agrees r)
+            (λ done. open_spares p q sound state agrees path done.1.file done.0.block done.1.at done.1.opens r (apart_from path r free))
+            (may_be_reopened q may);
+        closed = closed;
+        keeps = λ q may r tail bytes apart c. ⊎_elim
+            (λ same. file_stays p q same.files same.writes r tail bytes c)
+            (λ done. carries_others path p q sound (opened_only p q path done.1.file done.1.at done.0.block done.1.opens) r tail bytes apart c)
+            (may_be_reopened q may);
+      }
+
+-- an ask for a new file, as it is written
+pub creating_as : {C : Type 0} (serves : C → ℕ → Ask → Result Answer AskFault → C → Type 0) (src path client : List ℕ) (options : WriteOptions) (flag r r' k k' : ℕ) (outcome : Result Answer HdfsError) (a b : C) → src ≡ path
+    → flag ≡ cond options.overwrite 3 1 → r ≡ r' → k ≡ k' → AskedOnce serves (asks.Create src options.permission client flag options.create_parent r k) a outcome b → AskedOnce serves (creating path client options r' k') a outcome b
+creating_as serves src path client options flag r r' k k' outcome a b one two three four asked =
+    subst (λ (x : ℕ). AskedOnce serves (creating path client options r' x) a outcome b) four
+    (subst (λ (x : ℕ). AskedOnce serves (creating path client options x k) a outcome b) three
+    (subst (λ (x : ℕ). AskedOnce serves (asks.Create path options.permission client x options.create_parent r k) a outcome b) two
+    (subst (λ (x : List ℕ). AskedOnce serves (asks.Create x options.permission client flag options.create_parent r k) a outcome b) one asked)))
+
+-- an ask for a file that is gone on with, as it is written
+pub appending_as : {C : Type 0} (serves : C → ℕ → Ask → Result Answer AskFault → C → Type 0) (src path client : List ℕ) (flag : ℕ) (outcome : Result Answer HdfsError) (a b : C) → src ≡ path
+    → AskedOnce serves (asks.Append src client flag) a outcome b → AskedOnce serves (appending path client flag) a outcome b
+appending_as serves src path client flag outcome a b one asked = subst (λ (x : List ℕ). AskedOnce serves (asks.Append x client flag) a outcome b) one asked

@@ -1,0 +1,120 @@
+-- A write or a close that fails.
+use Rattle.std.proofs.Common.{◌≡◌, ℕ, Bool, false, not, ◌&&◌, List, Some, Err, refl, sym, ◌∙◌, ap, subst}
+use Rattle.std.specs.Str.{bytes_eq}
+use Rattle.hdfs_model.specs.declared.commands.Command.{Command}
+use Rattle.hdfs_model.specs.declared.commands.Command.TheVariants as commands
+use Rattle.hdfs_model.specs.declared.errors.ArgFault.TheVariants as args
+use Rattle.hdfs_model.specs.declared.errors.HdfsError.{HdfsError}
+use Rattle.hdfs_model.specs.declared.errors.HdfsError.TheVariants as errors
+use Rattle.hdfs_model.specs.Causes.{Sends, TouchesNothing, CommandLost, IsDone}
+use Rattle.hdfs_model.specs.Counts.{FaultCounts}
+use Rattle.hdfs_model.specs.Files.{State, Writing}
+use Rattle.hdfs_model.specs.Paths.{absolute}
+use Rattle.hdfs_model.specs.Picture.{Picture}
+use Rattle.hdfs_model.specs.Sessions.{spared, touched, is_before_asking}
+use Rattle.hdfs_model.specs.Shown.{Shown, Later, SameReads, SameNodes}
+use Rattle.hdfs_model.specs.Sound.{IsSound}
+use Rattle.hdfs_model.specs.Steps.{step, target_of}
+use Rattle.hdfs_files.specs.Failing.{TellsClose, CauseOfWrite}
+use Rattle.hdfs_files.specs.OnlyFiles.{OnlyFile}
+use Rattle.hdfs_files.specs.Tails.{FileCarries}
+use Rattle.hdfs_files.specs.Writers.{AreLimited, TouchesFile, HasCause, tail_of, sizes_of}
+use Rattle.hdfs_files.specs.declared.file_writer.FileWriter.{FileWriter}
+use Rattle.hdfs_files.proofs.Moving.{only_file_refl}
+use Rattle.hdfs_client.specs.Acting.{world_at, Acts}
+use Rattle.hdfs_client.specs.Session.{settings_of, writer_of, Stands, OnlyOwnLinks, Carried, CarriesOpen}
+use Rattle.hdfs_client.specs.declared.session.Session.{Session}
+use Rattle.hdfs_client.proofs.SendActs.{OpenAt, open_at, acts_failed}
+use Rattle.hdfs_client.proofs.Limited.{attributes_out}
+use Rattle.hdfs_client.proofs.OneFile.{agrees_but_by_path, agrees_elsewhere, apart_by_test}
+use Rattle.hdfs_client.proofs.WriteFaults.{is_after_asking, tells_sending, not_early, cause_sending}
+
+-- a command that sends bytes touches its own path
+touched_sending : (command : Command) → Sends command → (state : State) (path q : List ℕ) → touched state path command q ≡ bytes_eq path q
+touched_sending (commands.Write name bytes) sends state path q = refl
+touched_sending (commands.Close name) sends state path q = refl
+touched_sending (commands.Create name options) sends state path q = absurd sends
+touched_sending (commands.Append name) sends state path q = absurd sends
+touched_sending (commands.Read name offset len) sends state path q = absurd sends
+
+-- and asks for none
+loses_none : (command : Command) → Sends command → (old : FaultCounts) (new : Shown) (path : List ℕ) (byte : ℕ) → CommandLost old new path command byte → ⊥
+loses_none (commands.Write name bytes) sends old new path byte lost = lost
+loses_none (commands.Close name) sends old new path byte lost = lost
+loses_none (commands.Create name options) sends old new path byte lost = lost
+loses_none (commands.Append name) sends old new path byte lost = lost
+loses_none (commands.Read name offset len) sends old new path byte lost = absurd sends
+
+module _ (command : Command) (sends : Sends command) (old new : Shown) (session session' : Session) (path : List ℕ) (writer : FileWriter)
+    (here : writer_of session path ≡ Some writer) (before : Stands old session) (called : target_of (world_at session old) command ≡ path)
+    (done : (state : State) → OpenAt old path writer state → IsDone (step (world_at session old) state command))
+    (later : Later old new) (reads : SameReads old new) (links : OnlyOwnLinks old session new session') (stands : Stands new session')
+    (others : (p q : Picture) → old.picture ≡ Some p → new.picture ≡ Some q → IsSound p → OnlyFile path p q → (state : State) → Carried old session state → CarriesOpen new session' state) where
+  -- once something was asked nothing is said of the path alone
+  spared_at : (error : HdfsError) → is_before_asking error ≡ false → (state : State) (q : List ℕ) → spared (world_at session old) state command error q ≡ bytes_eq path q
+  spared_at error asked state q =
+      ap (λ (b : Bool). not b && touched state (target_of (world_at session old) command) command q) asked
+      ∙ touched_sending command sends state (target_of (world_at session old) command) q
+      ∙ ap (λ (x : List ℕ). bytes_eq x q) called
+
+  -- only the file at the path was touched
+  touches_at : TouchesFile old writer new → (p : Picture) (bytes : List ℕ) → old.picture ≡ Some p → FileCarries p path (tail_of writer) bytes → (q : Picture) × (new.picture ≡ Some q) × OnlyFile path p q
+  touches_at touches =
+      subst
+      (λ (x : List ℕ). (p : Picture) (bytes : List ℕ) → old.picture ≡ Some p → FileCarries p x (tail_of writer) bytes → (q : Picture) × (new.picture ≡ Some q) × OnlyFile x p q)
+      (before.each path writer here).1
+      touches
+
+  -- an exception has its cause
+  causes_at : (error : HdfsError) → HasCause old writer error new → (p : Picture) (bytes : List ℕ) → old.picture ≡ Some p → old.namenodes ≡ 1 → FileCarries p path (tail_of writer) bytes → CauseOfWrite path old new error
+  causes_at error causes =
+      subst
+      (λ (x : List ℕ). (p : Picture) (bytes : List ℕ) → old.picture ≡ Some p → old.namenodes ≡ 1 → FileCarries p x (tail_of writer) bytes → CauseOfWrite x old new error)
+      (before.each path writer here).1
+      causes
+
+  -- a write or a close that fails once something was asked
+  pub sending_fails : (TouchesNothing command → SameNodes old new) → ((p : Picture) → old.picture ≡ Some p → IsSound p) → (error : HdfsError) → TellsClose path old new error → TouchesFile old writer new → HasCause old writer error new
+      → Acts command old session new session' (Err error)
+  sending_fails idle sound error tells touches causes =
+      acts_failed command old new session session' later reads idle links stands error
+      (tells_sending path old new command sends error tells)
+      (λ early. absurd (not_early path old new command sends error tells early))
+      (λ at byte lost. loses_none command sends old.counts new at byte lost)
+      (λ state ready.
+      (let o = open_at old session state command path writer ready here in
+      let on = touches_at touches o.picture o.file.content.bytes o.told o.file.carries in (
+        cause_sending path old new command sends (world_at session old) state called (done state o) error tells (causes_at error causes o.picture o.file.content.bytes o.told o.one o.file.carries),
+        agrees_but_by_path (spared (world_at session old) state command error) new.picture on.0 state.files on.1
+            (λ other free. agrees_elsewhere path o.picture on.0 (sound o.picture o.told) on.2 state.files o.agrees other
+            (apart_by_test path other (sym (spared_at error (is_after_asking path old new error tells) state other) ∙ free))),
+      )))
+      (λ state ready.
+      (let o = open_at old session state command path writer ready here in
+      let on = touches_at touches o.picture o.file.content.bytes o.told o.file.carries in
+      others o.picture on.0 o.told on.1 (sound o.picture o.told) on.2 state ready.carried))
+
+-- a write that is refused, as the file's attributes are out of their limits
+pub write_refused : (old new : Shown) (session session' : Session) (name path more : List ℕ) (writer : FileWriter) → writer_of session path ≡ Some writer → absolute (settings_of session).home name ≡ path
+    → (AreLimited (sizes_of writer) → ⊥) → new ≡ old → Later old new → SameReads old new → SameNodes old new → OnlyOwnLinks old session new session' → Stands new session'
+    → ((p q : Picture) → old.picture ≡ Some p → new.picture ≡ Some q → IsSound p → OnlyFile path p q → (state : State) → Carried old session state → CarriesOpen new session' state)
+    → ((p : Picture) → old.picture ≡ Some p → IsSound p)
+    → Acts (commands.Write name more) old session new session' (Err (errors.InvalidArgument args.Options))
+write_refused old new session session' name path more writer here called out same later reads nodes links stands others sound =
+    acts_failed (commands.Write name more) old new session session' later reads (λ none. nodes) links stands (errors.InvalidArgument args.Options)
+    tt
+    (λ early. nodes)
+    (λ at byte lost. lost)
+    (λ state ready.
+    (let o = open_at old session state (commands.Write name more) path writer ready here in (
+      (
+        o.file.content,
+        subst (λ (x : List ℕ). state.files x ≡ Some (Writing o.file.content)) (sym called) o.file.named,
+        attributes_out (sizes_of writer) o.file.content.attributes o.file.replication o.file.block_size out,
+      ),
+      agrees_but_by_path (spared (world_at session old) state (commands.Write name more) (errors.InvalidArgument args.Options)) new.picture o.picture state.files
+          (ap (λ (s : Shown). s.picture) same ∙ o.told) (λ other free. o.agrees other),
+    )))
+    (λ state ready.
+    (let o = open_at old session state (commands.Write name more) path writer ready here in
+    others o.picture o.picture o.told (ap (λ (s : Shown). s.picture) same ∙ o.told) (sound o.picture o.told) (only_file_refl path o.picture) state ready.carried))

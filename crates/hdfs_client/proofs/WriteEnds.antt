@@ -1,0 +1,148 @@
+-- How a write and a close of a session end.
+use Rattle.std.proofs.Common.{◌≡◌, ⊎_elim, ℕ, true, false, cond, List, [], length, Option, Some, None, Ok, Err, refl, sym, ◌∙◌, ap, subst}
+use Rattle.std.proofs.lemmas.Bool.{false≢true}
+use Rattle.std.specs.Str.{bytes_eq}
+use Rattle.hdfs_model.specs.declared.commands.Command.TheVariants as commands
+use Rattle.hdfs_model.specs.declared.commands.Reply.TheVariants as replies
+use Rattle.hdfs_model.specs.declared.errors.ArgFault.TheVariants as args
+use Rattle.hdfs_model.specs.declared.errors.HdfsError.{HdfsError}
+use Rattle.hdfs_model.specs.declared.errors.HdfsError.TheVariants as errors
+use Rattle.hdfs_model.specs.Paths.{is_path, absolute}
+use Rattle.hdfs_model.specs.Picture.{Picture}
+use Rattle.hdfs_model.specs.Sessions.{IsNotOwed}
+use Rattle.hdfs_model.specs.Shown.{Shown, SameNodes}
+use Rattle.hdfs_model.specs.Sound.{IsSound}
+use Rattle.hdfs_files.specs.Failing.{TellsClose}
+use Rattle.hdfs_files.specs.Writers as files
+use Rattle.hdfs_files.specs.declared.file_writer.FileWriter.{FileWriter}
+use Rattle.hdfs_files.proofs.Moving.{own_link_refl}
+use Rattle.hdfs_files.proofs.Others.{stands_beside}
+use Rattle.hdfs_client.specs.Acting.{world_at, Acts}
+use Rattle.hdfs_client.specs.Session.{settings_of, writer_of, defaults_known, Stands}
+use Rattle.hdfs_client.specs.declared.session.Session.{Session}
+use Rattle.hdfs_client.proofs.SendActs.{acts_done}
+use Rattle.hdfs_client.proofs.Beside.{link_in, OneCall, links_of_one, stands_after, others_open}
+use Rattle.hdfs_client.proofs.CloseActs.{close_comes}
+use Rattle.hdfs_client.proofs.Limited.{limited_cases}
+use Rattle.hdfs_client.proofs.OpenFiles.{written_state, closed_state, write_is_done, close_is_done}
+use Rattle.hdfs_client.proofs.SendFails.{sending_fails, write_refused}
+use Rattle.hdfs_client.proofs.WriteActs.{write_comes}
+use Rattle.hdfs_client.proofs.WriteFaults.{fails_as_close, not_owed}
+
+-- What is known of a call of the writer at a path, of which this is left behind it.
+pub record Called (old : Shown) (session : Session) (name path : List ℕ) (writer : FileWriter) (now : Option FileWriter) (session' : Session) : Type 0 where
+  pub here : writer_of session path ≡ Some writer
+  pub writers : (other : List ℕ) → writer_of session' other ≡ cond (bytes_eq path other) now (writer_of session other)
+  pub before : Stands old session
+  pub sound : (p : Picture) → old.picture ≡ Some p → IsSound p
+  pub called : absolute (settings_of session).home name ≡ path
+  pub named : is_path path ≡ true
+  pub settings : settings_of session' ≡ settings_of session
+  pub known : defaults_known session' ≡ defaults_known session
+
+module _ (old new : Shown) (session session' : Session) (name path : List ℕ) (writer : FileWriter) where
+  -- the call, by the links that it leaves
+  call_of : (now : Option FileWriter) → Called old session name path writer now session' → files.OnlyOwnLink old (files.link_of writer) new (link_in now) → OneCall old session path (Some writer) now new session'
+  call_of now c own = record { here = c.here; writers = c.writers; own = own }
+
+  module _ (writer' : FileWriter) (c : Called old session name path writer (Some writer') session') (stands : files.Stands new writer' × files.Keeps writer writer') where
+    -- the session stands behind a write
+    write_stands : files.OnlyOwnLink old (files.link_of writer) new (files.link_of writer') → (session'.failed ≡ false → (session.failed ≡ false) × (files.has_failed writer' ≡ false)) → Stands new session'
+    write_stands own fine =
+        stands_after old new session session' path (Some writer) (Some writer') (call_of (Some writer') c own) c.before (stands_beside old new) c.settings
+        (λ w is. (let same : writer' ≡ w = cc in
+        subst (λ (x : FileWriter). files.Stands new x × (files.path_of x ≡ path)) same (stands.0, stands.1.path ∙ (c.before.each path writer c.here).1)))
+        (λ not_failed. ((fine not_failed).0, λ w is. (let same : writer' ≡ w = cc in subst (λ (x : FileWriter). files.has_failed x ≡ false) same (fine not_failed).1)))
+
+    -- a writer that has failed keeps no link
+    failed_own : files.has_failed writer' ≡ true → (before : Option ℕ) → files.OnlyOwnLink old before new None → files.OnlyOwnLink old before new (files.link_of writer')
+    failed_own failed before own = subst (files.OnlyOwnLink old before new) (sym (stands.0.idle failed)) own
+
+    module _ (more : List ℕ) (empty : more ≡ [] → SameNodes old new) where
+      -- a write that is done
+      pub write_acts : (session'.failed ≡ false → session.failed ≡ false) → files.has_failed writer' ≡ false → files.Wrote old writer more new writer' → files.AreLimited (files.sizes_of writer)
+          → (n : ℕ) → n ≡ length more → Acts (commands.Write name more) old session new session' (Ok (replies.Written n))
+      write_acts failed fine wrote limited n count =
+          let call = call_of (Some writer') c wrote.own in
+          subst (λ (k : ℕ). Acts (commands.Write name more) old session new session' (Ok (replies.Written k))) (sym count)
+          (acts_done (commands.Write name more) old new session session' wrote.own.later wrote.own.reads empty
+          (links_of_one old new session session' path (Some writer) (Some writer') call) (write_stands wrote.own (λ is. (failed is, fine))) (replies.Written (length more))
+          (write_comes old new session session' name path more writer writer' call c.before c.sound c.called c.named stands.1 c.settings c.known wrote.carries limited))
+
+      module _ (failed : session'.failed ≡ true) (has : files.has_failed writer' ≡ true) where
+        -- the session stands behind a write that fails
+        fails_stands : files.OnlyOwnLink old (files.link_of writer) new (files.link_of writer') → Stands new session'
+        fails_stands own = write_stands own (λ is. absurd (false≢true (sym is ∙ failed)))
+
+        -- a write that fails
+        failing_acts : (error : HdfsError) → files.Fails old writer error new → Acts (commands.Write name more) old session new session' (Err error)
+        failing_acts error fails =
+            let own = failed_own has (files.link_of writer) fails.own in
+            sending_fails (commands.Write name more) tt old new session session' path writer c.here c.before c.called
+            (λ state o. (
+              replies.Written (length more),
+              written_state state path o.file.content more,
+              write_is_done (world_at session old) state name path o.file.content c.called c.named o.opened o.file.named more,
+            ))
+            own.later own.reads (links_of_one old new session session' path (Some writer) (Some writer') (call_of (Some writer') c own)) (fails_stands own)
+            (others_open old new session session' path (Some writer) (Some writer') (call_of (Some writer') c own) (stands.0.idle has))
+            empty c.sound error (fails_as_close path old new error fails.tells) fails.touches fails.cause
+
+        -- a write that is refused
+        refused_acts : (files.AreLimited (files.sizes_of writer) → ⊥) → files.link_of writer ≡ None → new ≡ old → Acts (commands.Write name more) old session new session' (Err (errors.InvalidArgument args.Options))
+        refused_acts out idle same =
+            let stayed : files.OnlyOwnLink old None new None = subst (λ (x : Shown). files.OnlyOwnLink old None x None) (sym same) (own_link_refl old None) in
+            let own = failed_own has (files.link_of writer) (subst (λ (x : Option ℕ). files.OnlyOwnLink old x new None) (sym idle) stayed) in
+            write_refused old new session session' name path more writer c.here c.called out same own.later own.reads (λ d. ap (λ (s : Shown). s.counts.nodes d) same)
+            (links_of_one old new session session' path (Some writer) (Some writer') (call_of (Some writer') c own)) (fails_stands own)
+            (others_open old new session session' path (Some writer) (Some writer') (call_of (Some writer') c own) (stands.0.idle has)) c.sound
+
+        -- a write that isn't done
+        pub write_fails : (error : HdfsError) → (files.AreLimited (files.sizes_of writer) → files.Fails old writer error new)
+            → ((files.AreLimited (files.sizes_of writer) → ⊥) → (error ≡ errors.InvalidArgument args.Options) × (files.link_of writer ≡ None) × (new ≡ old))
+            → Acts (commands.Write name more) old session new session' (Err error)
+        write_fails error fails refused =
+            ⊎_elim
+            (λ limited. failing_acts error (fails limited))
+            (λ out. (let r = refused out in
+            subst (λ (e : HdfsError). Acts (commands.Write name more) old session new session' (Err e)) (sym r.0) (refused_acts out r.1 r.2)))
+            (limited_cases (files.sizes_of writer))
+
+  module _ (c : Called old session name path writer None session') where
+    -- the session stands behind a close
+    close_stands : files.OnlyOwnLink old (files.link_of writer) new None → (session'.failed ≡ false → session.failed ≡ false) → Stands new session'
+    close_stands own failed =
+        stands_after old new session session' path (Some writer) None (call_of None c own) c.before (stands_beside old new) c.settings
+        (λ w is. absurd (cc)) (λ is. (failed is, λ w at. absurd (cc)))
+
+    -- a close that is done
+    pub close_acts : (session'.failed ≡ false → session.failed ≡ false) → files.Closed old writer new → Acts (commands.Close name) old session new session' (Ok replies.Closed)
+    close_acts failed closed =
+        let call = call_of None c closed.own in
+        acts_done (commands.Close name) old new session session' closed.own.later closed.own.reads (λ none. absurd none)
+        (links_of_one old new session session' path (Some writer) None call) (close_stands closed.own failed) replies.Closed
+        (close_comes old new session session' name path writer call c.before c.sound c.called c.named c.settings c.known closed.closes)
+
+    -- a close that fails
+    pub close_fails : session'.failed ≡ true → (error : HdfsError) → files.FailsToClose old writer error new → Acts (commands.Close name) old session new session' (Err error)
+    close_fails failed error fails =
+        let own = fails.own in
+        sending_fails (commands.Close name) tt old new session session' path writer c.here c.before c.called
+        (λ state o. (replies.Closed, closed_state state path o.file.content, close_is_done (world_at session old) state name path o.file.content c.called c.named o.opened o.file.named))
+        own.later own.reads (links_of_one old new session session' path (Some writer) None (call_of None c own))
+        (close_stands own (λ is. absurd (false≢true (sym is ∙ failed))))
+        (others_open old new session session' path (Some writer) None (call_of None c own) refl)
+        (λ none. absurd none) c.sound error (subst (λ (x : List ℕ). TellsClose x old new error) (c.before.each path writer c.here).1 fails.tells) fails.touches fails.cause
+
+-- a write that isn't done says neither of the path rule nor of what is open
+pub write_not_owed : (old new : Shown) (writer : FileWriter) (error : HdfsError) → (files.AreLimited (files.sizes_of writer) → files.Fails old writer error new)
+    → ((files.AreLimited (files.sizes_of writer) → ⊥) → error ≡ errors.InvalidArgument args.Options) → IsNotOwed error
+write_not_owed old new writer error fails refused =
+    ⊎_elim
+    (λ limited. not_owed (files.path_of writer) old new error (fails_as_close (files.path_of writer) old new error (fails limited).tells))
+    (λ out. subst IsNotOwed (sym (refused out)) tt)
+    (limited_cases (files.sizes_of writer))
+
+-- nor does a close
+pub close_not_owed : (old new : Shown) (writer : FileWriter) (error : HdfsError) → files.FailsToClose old writer error new → IsNotOwed error
+close_not_owed old new writer error fails = not_owed (files.path_of writer) old new error fails.tells

@@ -1,0 +1,99 @@
+-- What the error of a writer of a file is for the command that has it.
+use Rattle.std.proofs.Common.{◌≡◌, inr, ℕ, false, List, refl, sym, subst}
+use Rattle.hdfs_model.specs.declared.commands.Command.{Command}
+use Rattle.hdfs_model.specs.declared.errors.HdfsError.{HdfsError}
+use Rattle.hdfs_model.specs.declared.errors.HdfsError.TheVariants as errors
+use Rattle.hdfs_model.specs.declared.errors.IoFault.TheVariants as io_faults
+use Rattle.hdfs_model.specs.declared.errors.TransferFault.TheVariants as transfer
+use Rattle.hdfs_model.specs.Causes.{PipelineFailed, IsDone, Sends, Tells, IsEarly, Cause}
+use Rattle.hdfs_model.specs.Files.{State}
+use Rattle.hdfs_model.specs.Sessions.{IsNotOwed, is_before_asking}
+use Rattle.hdfs_model.specs.Shown.{Shown}
+use Rattle.hdfs_model.specs.Steps.{World, step, target_of}
+use Rattle.hdfs_files.specs.Failing.{TellsWrite, TellsClose, CauseOfWrite}
+
+-- a write fails only as a close may
+pub fails_as_close : (path : List ℕ) (old new : Shown) (error : HdfsError) → TellsWrite old new error → TellsClose path old new error
+fails_as_close path old new (errors.OperationFailed name) h = absurd h
+fails_as_close path old new errors.NoMemory h = h
+fails_as_close path old new errors.Failed h = h
+fails_as_close path old new (errors.IOError fault) h = h
+fails_as_close path old new (errors.DataTransferError fault) h = h
+fails_as_close path old new (errors.InvalidPath text) h = h
+fails_as_close path old new (errors.InvalidArgument fault) h = h
+fails_as_close path old new (errors.AlreadyExists message) h = h
+fails_as_close path old new (errors.FileNotFound name) h = h
+fails_as_close path old new (errors.RPCError class message) h = h
+
+module _ (path : List ℕ) (old new : Shown) where
+  -- such an error comes once something was asked
+  pub is_after_asking : (error : HdfsError) → TellsClose path old new error → is_before_asking error ≡ false
+  is_after_asking errors.NoMemory h = refl
+  is_after_asking (errors.IOError fault) h = refl
+  is_after_asking (errors.DataTransferError fault) h = refl
+  is_after_asking (errors.AlreadyExists message) h = refl
+  is_after_asking (errors.RPCError class message) h = refl
+  is_after_asking (errors.OperationFailed name) h = refl
+  is_after_asking errors.Failed h = absurd h
+  is_after_asking (errors.InvalidPath text) h = absurd h
+  is_after_asking (errors.InvalidArgument fault) h = absurd h
+  is_after_asking (errors.FileNotFound name) h = absurd h
+
+  -- and says neither of the path rule nor of what is open
+  pub not_owed : (error : HdfsError) → TellsClose path old new error → IsNotOwed error
+  not_owed errors.NoMemory h = tt
+  not_owed errors.Failed h = tt
+  not_owed (errors.IOError fault) h = tt
+  not_owed (errors.DataTransferError fault) h = tt
+  not_owed (errors.AlreadyExists message) h = tt
+  not_owed (errors.RPCError class message) h = tt
+  not_owed (errors.OperationFailed name) h = tt
+  not_owed (errors.FileNotFound name) h = tt
+  not_owed (errors.InvalidPath text) h = absurd h
+  not_owed (errors.InvalidArgument fault) h = absurd h
+
+  module _ (command : Command) (sends : Sends command) where
+    -- what it tells it tells of a command that sends bytes
+    pub tells_sending : (error : HdfsError) → TellsClose path old new error → Tells command old new error
+    tells_sending errors.NoMemory h = tt
+    tells_sending (errors.IOError io_faults.Link) h = (sends, h)
+    tells_sending (errors.DataTransferError transfer.Setup) h = (sends, h)
+    tells_sending (errors.DataTransferError transfer.AllNodes) h = (sends, h)
+    tells_sending (errors.DataTransferError (transfer.BadAck seqno)) h = (sends, h)
+    tells_sending (errors.AlreadyExists message) h = h
+    tells_sending (errors.RPCError class message) h = h
+    tells_sending (errors.OperationFailed name) h = (sends, h.1)
+    tells_sending errors.Failed h = absurd h
+    tells_sending (errors.DataTransferError (transfer.Read byte)) h = absurd h
+    tells_sending (errors.InvalidPath text) h = absurd h
+    tells_sending (errors.InvalidArgument fault) h = absurd h
+    tells_sending (errors.FileNotFound name) h = absurd h
+
+    -- of such a command it is no refusal
+    pub not_early : (error : HdfsError) → TellsClose path old new error → IsEarly command error → ⊥
+    not_early errors.NoMemory h early = early
+    not_early errors.Failed h early = h
+    not_early (errors.IOError fault) h early = early
+    not_early (errors.DataTransferError fault) h early = early
+    not_early (errors.AlreadyExists message) h early = early sends
+    not_early (errors.RPCError class message) h early = early sends
+    not_early (errors.OperationFailed name) h early = early
+    not_early (errors.InvalidPath text) h early = h
+    not_early (errors.InvalidArgument fault) h early = h
+    not_early (errors.FileNotFound name) h early = h
+
+    -- and it has its cause, where the step is done
+    pub cause_sending : (world : World) (state : State) → target_of world command ≡ path → IsDone (step world state command) → (error : HdfsError) → TellsClose path old new error → CauseOfWrite path old new error → Cause world state command old new error
+    cause_sending world state called done errors.NoMemory h cause = tt
+    cause_sending world state called done (errors.IOError io_faults.Link) h cause = (done, h)
+    cause_sending world state called done (errors.DataTransferError transfer.Setup) h cause = (done, h)
+    cause_sending world state called done (errors.DataTransferError transfer.AllNodes) h cause = (done, subst (PipelineFailed old.counts new) (sym called) cause)
+    cause_sending world state called done (errors.DataTransferError (transfer.BadAck seqno)) h cause = (done, h)
+    cause_sending world state called done (errors.AlreadyExists message) h cause = inr cause
+    cause_sending world state called done (errors.RPCError class message) h cause = inr cause
+    cause_sending world state called done (errors.OperationFailed name) h cause = (done, cause)
+    cause_sending world state called done errors.Failed h cause = absurd h
+    cause_sending world state called done (errors.DataTransferError (transfer.Read byte)) h cause = absurd h
+    cause_sending world state called done (errors.InvalidPath text) h cause = absurd h
+    cause_sending world state called done (errors.InvalidArgument fault) h cause = absurd h
+    cause_sending world state called done (errors.FileNotFound name) h cause = absurd h

@@ -1,0 +1,48 @@
+-- A close of a session.
+use Rattle.std.proofs.Common.{true, None, refl, sym}
+use Rattle.std.proofs.lemmas.Map.Text.{btree_map_updates_text}
+use Rattle.hdfs_client.proofs.WriteEnds.{close_acts, close_fails, close_not_owed}
+use Rattle.hdfs_client.proofs.session.Session.close.Goals as goal
+
+pub close-requires-clause-stands : goal.close-requires-clause-stands
+close-requires-clause-stands g c = (c.requires.stands.each c.args.path.now c.in-Some.writer (sym c.in-Some.ensures.value)).0
+
+pub returns-in-Ok-clause-acts : goal.returns-in-Ok-clause-acts
+returns-in-Ok-clause-acts g c = λ name is.
+    let session = c.args.self.now in
+    let path = c.args.path.now in
+    close_acts (g.C.Cluster.shown c.args.cluster.now) (g.C.Cluster.shown c.close.new.cluster) session (record session { writers = c.remove.new.self }) name path c.in-Some.writer
+    (record {
+      here = sym c.in-Some.ensures.value;
+      writers = btree_map_updates_text path session.writers c.remove.new.self None c.remove.ensures.updates;
+      before = c.requires.stands;
+      sound = g.met.C.Cluster.sound c.args.cluster.now;
+      called = is;
+      named = c.requires.path;
+      settings = refl;
+      known = refl;
+    })
+    (λ fine. fine) c.in-Ok.ensures.closed
+
+pub returns-in-Err-clause-acts : goal.returns-in-Err-clause-acts
+returns-in-Err-clause-acts g c = λ name is.
+    let session = c.args.self.now in
+    let path = c.args.path.now in
+    let here = sym c.in-Some.ensures.value in
+    close_fails (g.C.Cluster.shown c.args.cluster.now) (g.C.Cluster.shown c.close.new.cluster) session (record session { writers = c.remove.new.self; failed = true }) name path c.in-Some.writer
+    (record {
+      here = here;
+      writers = btree_map_updates_text path session.writers c.remove.new.self None c.remove.ensures.updates;
+      before = c.requires.stands;
+      sound = g.met.C.Cluster.sound c.args.cluster.now;
+      called = is;
+      named = c.requires.path;
+      settings = refl;
+      known = refl;
+    })
+    refl c.in-Err.error (c.in-Err.ensures.err (c.requires.stands.fine c.requires.fine path c.in-Some.writer here))
+
+pub returns-in-Err-clause-owed : goal.returns-in-Err-clause-owed
+returns-in-Err-clause-owed g c =
+    close_not_owed (g.C.Cluster.shown c.args.cluster.now) (g.C.Cluster.shown c.close.new.cluster) c.in-Some.writer c.in-Err.error
+    (c.in-Err.ensures.err (c.requires.stands.fine c.requires.fine c.args.path.now c.in-Some.writer (sym c.in-Some.ensures.value)))

@@ -1,0 +1,131 @@
+-- The goals of Session::create.
+use Rattle.std.proofs.Common.{◌≡◌, ℕ, Bool, cond, Some, Ok, Err, refl, sym, ◌∙◌, ap, subst, unwrap_or}
+use Rattle.std.proofs.lemmas.Map.Text.{btree_map_updates_text}
+use Rattle.std.proofs.lemmas.Result.{err_from_is_err_and}
+use Rattle.std.specs.String.{string_bytes}
+use Rattle.hdfs_model.specs.declared.asks.Answer.TheVariants as answers
+use Rattle.hdfs_model.specs.declared.commands.Command.TheVariants as commands
+use Rattle.hdfs_model.specs.Limits.{are_settings}
+use Rattle.hdfs_files.specs.Writers.{AreSizes}
+use Rattle.hdfs_namenode.proofs.Answered.{served_answer, served_error}
+use Rattle.hdfs_client.specs.Preparing.{sizes_by}
+use Rattle.hdfs_client.proofs.Failing.{create_opens, lacks_acts, options_acts, refused_acts, starved_acts, unkept_acts}
+use Rattle.hdfs_client.proofs.Moved.{kept_by, put_by}
+use Rattle.hdfs_client.proofs.Opening.{creating, creating_as, was_made}
+use Rattle.hdfs_client.proofs.Prepared.{looks_from-Served}
+use Rattle.hdfs_client.proofs.Sizing.{are_sizes_by}
+use Rattle.hdfs_client.proofs.Starting.{created_acts, created_over}
+use Rattle.hdfs_client.proofs.session.Session.create.Goals.{then-options, else-options}
+use Rattle.hdfs_client.proofs.session.Session.create.Goals as goal
+
+pub returns-then-not-are_limited-clause-acts : goal.returns-then-not-are_limited-clause-acts
+returns-then-not-are_limited-clause-acts g c = λ name called.
+    options_acts (g.C.Cluster.shown c.args.cluster.now) c.args.self.now name c.args.options.now c.requires.stands (sym c.are_limited.ensures ∙ c.if-not-are_limited.true)
+
+pub returns-in_err-defaults-clause-acts : goal.returns-in_err-defaults-clause-acts
+returns-in_err-defaults-clause-acts g c =
+    let p = err_from_is_err_and c.from_residual.result c.from_residual.ensures.1 in
+    rw (p.1, p.2) (λ name called. lacks_acts (commands.Create name c.args.options.now) (create_opens name c.args.options.now) (g.C.Cluster.shown c.args.cluster.now) (g.C.Cluster.shown c.defaults.new.cluster) c.args.self.now c.defaults.new.self
+    c.requires.stands (g.met.C.Cluster.active_below c.args.cluster.now) c.in_err-defaults.ensures.prepares c.in_err-defaults.field-0.0 c.in_err-defaults.ensures.err)
+
+pub returns-in_err-key-clause-acts : goal.returns-in_err-key-clause-acts
+returns-in_err-key-clause-acts g c =
+    let p = err_from_is_err_and c.from_residual-in_err-key.result c.from_residual-in_err-key.ensures.1 in
+    rw (p.1, p.2) (λ name called. starved_acts (commands.Create name c.args.options.now) (create_opens name c.args.options.now) (g.C.Cluster.shown c.args.cluster.now) (g.C.Cluster.shown c.defaults.new.cluster) c.args.self.now c.defaults.new.self
+    c.requires.stands (g.met.C.Cluster.active_below c.args.cluster.now) c.in_ok-defaults.ensures.prepares)
+
+pub returns-in_err-status-clause-acts : goal.returns-in_err-status-clause-acts
+returns-in_err-status-clause-acts g c =
+    let p = err_from_is_err_and c.from_residual-in_err-status.result c.from_residual-in_err-status.ensures.1 in
+    let s = g.C.Cluster.shown c.args.cluster.now in
+    let m = g.C.Cluster.shown c.defaults.new.cluster in
+    let options = c.args.options.now in
+    let d = c.in_ok-defaults.defaults in
+    let r = unwrap_or options.replication d.replication in
+    let k = unwrap_or options.block_size d.block_size in
+    let client = c.defaults.new.self.namenode.client in
+    let e = c.in_err-status.field-0.0 in
+    let flag : c.if-options.create ≡ cond options.overwrite 3 1 = elim c.if-options.branch [
+      | then-options w ↦ w.create-is ∙ sym (ap (λ (b : Bool). cond b 3 1) w.if-options.true)
+      | else-options w ↦ w.create-is ∙ sym (ap (λ (b : Bool). cond b 3 1) w.if-options.false)
+    ] in
+    let asked = creating_as g.C.Cluster.serves c.as_str-2.result.now c.args.path client options c.if-options.create c.unwrap_or-replication.result r c.unwrap_or-block_size.result k (Err e) c.defaults.new.cluster c.create.new.cluster
+    c.as_str-2.ensures flag c.unwrap_or-replication.ensures c.unwrap_or-block_size.ensures c.in_err-status.ensures.asked in
+    rw (p.1, p.2) (λ name called. refused_acts g.C.Cluster.shown c.defaults.new.cluster c.create.new.cluster (commands.Create name options) (create_opens name options) s c.args.self.now c.defaults.new.self c.requires.stands
+    (g.met.C.Cluster.active_below c.args.cluster.now) c.in_ok-defaults.ensures.prepares (creating c.args.path client options r k) c.args.path (g.met.C.Cluster.active_below c.defaults.new.cluster) called
+    (created_over s m c.args.self.now c.defaults.new.self c.args.path d c.in_ok-defaults.ensures.prepares c.in_ok-defaults.ensures.ok c.requires.path c.requires.placed (g.met.C.Cluster.sound c.defaults.new.cluster) name client options r k called)
+    (λ q own. own) e
+    (served_error g.C.Cluster.shown g.C.Cluster.serves g.met.C.Cluster.serves_rows (creating c.args.path client options r k) c.defaults.new.cluster c.create.new.cluster e asked))
+
+pub returns-in_err-insert-clause-acts : goal.returns-in_err-insert-clause-acts
+returns-in_err-insert-clause-acts g c =
+    let p = err_from_is_err_and c.from_residual-in_err-insert.result c.from_residual-in_err-insert.ensures.1 in
+    let s = g.C.Cluster.shown c.args.cluster.now in
+    let m = g.C.Cluster.shown c.defaults.new.cluster in
+    let t = g.C.Cluster.shown c.create.new.cluster in
+    let options = c.args.options.now in
+    let d = c.in_ok-defaults.defaults in
+    let r = unwrap_or options.replication d.replication in
+    let k = unwrap_or options.block_size d.block_size in
+    let client = c.defaults.new.self.namenode.client in
+    let status = c.in_ok-status.status in
+    let flag : c.if-options.create ≡ cond options.overwrite 3 1 = elim c.if-options.branch [
+      | then-options w ↦ w.create-is ∙ sym (ap (λ (b : Bool). cond b 3 1) w.if-options.true)
+      | else-options w ↦ w.create-is ∙ sym (ap (λ (b : Bool). cond b 3 1) w.if-options.false)
+    ] in
+    let asked = creating_as g.C.Cluster.serves c.as_str-2.result.now c.args.path client options c.if-options.create c.unwrap_or-replication.result r c.unwrap_or-block_size.result k (Ok (answers.Create status)) c.defaults.new.cluster c.create.new.cluster
+    c.as_str-2.ensures flag c.unwrap_or-replication.ensures c.unwrap_or-block_size.ensures c.in_ok-status.ensures.asked in
+    let served = served_answer g.C.Cluster.shown g.C.Cluster.serves g.met.C.Cluster.serves_rows (creating c.args.path client options r k) c.defaults.new.cluster c.create.new.cluster (answers.Create status) asked in
+    rw (p.1, p.2) (λ name called. unkept_acts (commands.Create name options) (create_opens name options) s m t c.args.self.now c.defaults.new.self (record c.defaults.new.self { writers = c.insert.new.self }) c.requires.stands
+    (g.met.C.Cluster.active_below c.args.cluster.now) c.in_ok-defaults.ensures.prepares (kept_by c.defaults.new.self.writers c.insert.new.self c.in_err-insert.ensures.err) refl
+    (creating c.args.path client options r k) c.args.path (g.met.C.Cluster.active_below c.defaults.new.cluster) called
+    (created_over s m c.args.self.now c.defaults.new.self c.args.path d c.in_ok-defaults.ensures.prepares c.in_ok-defaults.ensures.ok c.requires.path c.requires.placed (g.met.C.Cluster.sound c.defaults.new.cluster) name client options r k called)
+    (looks_from-Served m t (creating c.args.path client options r k) (Ok (answers.Create status)) served.0)
+    (λ q told. (let one = was_made c.args.path client options r k q m t status told served.0 in (one.0, one.1, one.3))))
+
+pub new-writer-requires : goal.new-writer-requires
+new-writer-requires g c =
+    let options = c.args.options.now in
+    let d = c.in_ok-defaults.defaults in
+    let session = c.defaults.new.self in
+    let r = unwrap_or options.replication d.replication in
+    let k = unwrap_or options.block_size d.block_size in
+    let same : c.sizes-sizes.result ≡ sizes_by session d r k =
+    c.sizes-sizes.ensures ∙ ap (λ (x : ℕ). sizes_by session d x c.unwrap_or-block_size.result) c.unwrap_or-replication.ensures ∙ ap (λ (x : ℕ). sizes_by session d r x) c.unwrap_or-block_size.ensures in
+    subst AreSizes (sym same)
+    (are_sizes_by session d (ap are_settings c.in_ok-defaults.ensures.prepares.settings ∙ c.requires.stands.limited) c.in_ok-defaults.ensures.ok.limited options (sym c.are_limited.ensures ∙ c.if-not-are_limited.false))
+
+pub returns-clause-acts : goal.returns-clause-acts
+returns-clause-acts g c = λ name called.
+    let s = g.C.Cluster.shown c.args.cluster.now in
+    let m = g.C.Cluster.shown c.defaults.new.cluster in
+    let t = g.C.Cluster.shown c.create.new.cluster in
+    let options = c.args.options.now in
+    let d = c.in_ok-defaults.defaults in
+    let session = c.defaults.new.self in
+    let r = unwrap_or options.replication d.replication in
+    let k = unwrap_or options.block_size d.block_size in
+    let client = session.namenode.client in
+    let status = c.in_ok-status.status in
+    let writer = c.new-writer.result in
+    let prepares = c.in_ok-defaults.ensures.prepares in
+    let flag : c.if-options.create ≡ cond options.overwrite 3 1 = elim c.if-options.branch [
+      | then-options w ↦ w.create-is ∙ sym (ap (λ (b : Bool). cond b 3 1) w.if-options.true)
+      | else-options w ↦ w.create-is ∙ sym (ap (λ (b : Bool). cond b 3 1) w.if-options.false)
+    ] in
+    let asked = creating_as g.C.Cluster.serves c.as_str-2.result.now c.args.path client options c.if-options.create c.unwrap_or-replication.result r c.unwrap_or-block_size.result k (Ok (answers.Create status)) c.defaults.new.cluster c.create.new.cluster
+    c.as_str-2.ensures flag c.unwrap_or-replication.ensures c.unwrap_or-block_size.ensures c.in_ok-status.ensures.asked in
+    let served = served_answer g.C.Cluster.shown g.C.Cluster.serves g.met.C.Cluster.serves_rows (creating c.args.path client options r k) c.defaults.new.cluster c.create.new.cluster (answers.Create status) asked in
+    let sizes : c.sizes-sizes.result ≡ sizes_by session d r k =
+    c.sizes-sizes.ensures ∙ ap (λ (x : ℕ). sizes_by session d x c.unwrap_or-block_size.result) c.unwrap_or-replication.ensures ∙ ap (λ (x : ℕ). sizes_by session d r x) c.unwrap_or-block_size.ensures in
+    created_acts s m c.args.self.now session c.args.path d prepares c.in_ok-defaults.ensures.ok c.requires.path c.requires.placed (g.met.C.Cluster.sound c.defaults.new.cluster)
+    t (record session { writers = c.insert.new.self }) writer
+    (record {
+      settings = prepares.settings;
+      fine = c.requires.fine;
+      free = c.requires.placed;
+      put = put_by session.writers c.insert.new.self c.args.self.now.writers (string_bytes c.in_ok-key.key) c.args.path writer prepares.writers (c.in_ok-key.ensures.ok ∙ c.as_str.ensures)
+          (btree_map_updates_text (string_bytes c.in_ok-key.key) session.writers c.insert.new.self (Some writer) c.in_ok-insert.ensures.updates);
+    })
+    c.requires.stands (c.new-writer.ensures.stands t) c.new-writer.ensures.path.0 c.new-writer.ensures.idle.1 c.new-writer.ensures.idle.0 c.in_ok-defaults.ensures.ok.known name client options status called
+    (sym c.are_limited.ensures ∙ c.if-not-are_limited.false) c.new-writer.ensures.tail (c.new-writer.ensures.path.1 ∙ sizes) served.0

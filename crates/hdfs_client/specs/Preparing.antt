@@ -1,0 +1,56 @@
+-- The cluster's defaults, which a session asks for once.
+use Rattle.std.specs.Prelude.{◌≡◌, ◌⊎◌, ℕ, true, false, Option, Some, IfSome, Err}
+use Rattle.hdfs_model.specs.declared.asks.Ask.TheVariants as asks
+use Rattle.hdfs_model.specs.declared.asks.AskFault.{AskFault}
+use Rattle.hdfs_model.specs.declared.errors.ArgFault.TheVariants as args
+use Rattle.hdfs_model.specs.declared.errors.HdfsError.{HdfsError}
+use Rattle.hdfs_model.specs.declared.errors.HdfsError.TheVariants as errors
+use Rattle.hdfs_model.specs.declared.messages.ServerDefaults.{ServerDefaults}
+use Rattle.hdfs_model.specs.Limits.{are_defaults}
+use Rattle.hdfs_model.specs.Picture.{Picture, SameButActive, Told}
+use Rattle.hdfs_model.specs.Sessions.{defaults_of}
+use Rattle.hdfs_model.specs.Shown.{Shown, Served}
+use Rattle.hdfs_namenode.specs.Asked.{error_of}
+use Rattle.hdfs_files.specs.declared.sizes.WriteSizes.{WriteSizes}
+use Rattle.hdfs_client.specs.Looking.{OnlyLooks}
+use Rattle.hdfs_client.specs.Session.{defaults_known, settings_of}
+use Rattle.hdfs_client.specs.declared.session.Session.{Session}
+
+-- Asking for them leaves the links and the datanodes, and of a told picture all but which namenode is active; of the session it leaves
+-- all but what that knows of them.
+pub record Prepares (old : Shown) (session : Session) (new : Shown) (session' : Session) : Type 0 where
+  pub looks : OnlyLooks old new
+  pub picture : Told SameButActive old.picture new.picture
+  pub settings : session'.settings ≡ session.settings
+  pub writers : session'.writers ≡ session.writers
+  pub failed : session'.failed ≡ session.failed
+
+-- what the session knows of them is the cluster's
+abbrev pub KnowsDefaults : Shown → Option ServerDefaults → Type 0
+KnowsDefaults shown known = IfSome known (λ defaults. defaults ≡ defaults_of shown.picture)
+
+-- they are those of the picture, where the session knew no others before
+abbrev pub AreTold : Shown → Session → ServerDefaults → Type 0
+AreTold old session defaults = (p : Picture) → old.picture ≡ Some p → KnowsDefaults old (defaults_known session) → defaults ≡ p.defaults
+
+-- the defaults that were answered: the session knows them, and they are in their limits
+pub record HasDefaults (old : Shown) (session session' : Session) (defaults : ServerDefaults) : Type 0 where
+  pub limited : are_defaults defaults ≡ true
+  pub known : defaults_known session' ≡ Some defaults
+  pub told : AreTold old session defaults
+
+-- why there are none: the ask has failed, or they are out of their limits
+abbrev pub LacksDefaults : Shown → Session → HdfsError → Shown → Type 0
+LacksDefaults old session error new =
+    ((fault : AskFault) × (error ≡ error_of fault) × Served old 0 asks.GetServerDefaults (Err fault) new)
+    ⊎ ((error ≡ errors.InvalidArgument args.Defaults) × (defaults : ServerDefaults) × (are_defaults defaults ≡ false) × AreTold old session defaults)
+
+-- with what a file is written that has this replication and block size
+abbrev pub sizes_by : Session → ServerDefaults → ℕ → ℕ → WriteSizes
+sizes_by session defaults replication block_size = record {
+  replication = replication;
+  block_size = block_size;
+  chunk = defaults.bytes_per_checksum;
+  packet_size = defaults.write_packet_size;
+  window = (settings_of session).window;
+}

@@ -1,0 +1,182 @@
+//! The commands of a session that write.
+ghost use Rattle.std.specs.Prelude.{◌≡◌, ◌<◌, ℕ, List, IfOk, IfErr, OnOk, true, false};
+ghost use Rattle.hdfs_model.specs.declared.commands.Command.TheVariants as Command;
+ghost use Rattle.hdfs_model.specs.Limits.{are_defaults};
+ghost use Rattle.hdfs_model.specs.Paths.{is_path, absolute};
+ghost use Rattle.hdfs_model.specs.Sessions.{IsNotOwed};
+
+use crate::session::Session;
+use hdfs_files::{FileWriter, WriteSizes};
+use hdfs_model::{Appended, ArgFault, Cluster, HdfsError, Reply, ServerDefaults, WriteOptions};
+use hdfs_wire::Text;
+
+/// The flag of a new file (upstream's `CREATE`).
+const CREATE: u32 = 1;
+
+/// The flag of a new file that may take the place of an older one (upstream's `CREATE` and `OVERWRITE`).
+const OVERWRITE: u32 = 3;
+
+/// The flag of a file that is gone on with (upstream's `APPEND`).
+const APPEND: u32 = 4;
+
+impl Session {
+    ghost use Rattle.hdfs_client.specs.Acting.{Acts};
+    ghost use Rattle.hdfs_client.specs.Preparing.{HasDefaults, LacksDefaults, Prepares, sizes_by};
+    ghost use Rattle.hdfs_client.specs.Session.{settings_of, has_failed, opened_of, after, Stands};
+
+    /// The cluster's defaults, which are asked for once.
+    fn defaults<C: Cluster>(&mut self, cluster: &mut C) -> Result<ServerDefaults, HdfsError>
+        requires namenode { 0 < (C.shown cluster.old).namenodes }
+        ensures prepares { Prepares (C.shown cluster.old) self.old (C.shown cluster.new) self.new }
+        ensures ok { IfOk result (HasDefaults (C.shown cluster.old) self.old self.new) }
+        ensures err { IfErr result (λ error. LacksDefaults (C.shown cluster.old) self.old error (C.shown cluster.new)) }
+    {
+        let defaults = self.namenode.get_cached_server_defaults(cluster)?;
+        if !defaults.are_limited() {
+            return Err(HdfsError::InvalidArgument(ArgFault::Defaults));
+        }
+        Ok(defaults)
+    }
+
+    /// With what a file is written that has this replication and block size.
+    fn sizes(&self, defaults: &ServerDefaults, replication: u32, block_size: u64) -> WriteSizes
+        ensures { result ≡ sizes_by self.now defaults.now replication block_size }
+    {
+        WriteSizes {
+            replication,
+            block_size,
+            chunk: defaults.bytes_per_checksum,
+            packet_size: defaults.write_packet_size,
+            window: self.settings.window,
+        }
+    }
+
+    /// Creates a file, and keeps its writer.
+    pub(crate) fn create<C: Cluster>(
+        &mut self,
+        cluster: &mut C,
+        path: Text,
+        options: &WriteOptions,
+    ) -> Result<Reply, HdfsError>
+        requires namenode { 0 < (C.shown cluster.old).namenodes }
+        requires stands { Stands (C.shown cluster.old) self.old }
+        requires fine { has_failed self.old ≡ false }
+        requires path { is_path path ≡ true }
+        requires placed { opened_of self.old path ≡ false }
+        ensures acts { (name : List ℕ) → absolute (settings_of self.old).home name ≡ path
+            → Acts (Command.Create name options.now) (C.shown cluster.old) self.old (C.shown cluster.new) (after self.new result) result }
+        ensures owed { IfErr result IsNotOwed }
+        ensures keeps { (settings_of self.new ≡ settings_of self.old) × (has_failed self.new ≡ false) }
+    {
+        if !options.are_limited() {
+            return Err(HdfsError::InvalidArgument(ArgFault::Options));
+        }
+        let defaults = self.defaults(cluster)?;
+        let replication = options.replication.unwrap_or(defaults.replication);
+        let block_size = options.block_size.unwrap_or(defaults.block_size);
+        let key = String::from_str(self.alloc, path.as_str())?;
+        let status = self.namenode.create(
+            cluster,
+            path.as_str(),
+            options.permission,
+            if options.overwrite { OVERWRITE } else { CREATE },
+            options.create_parent,
+            replication,
+            block_size,
+        )?;
+        let file_id = match status {
+            Some(status) => status.file_id,
+            None => None,
+        };
+        let sizes = self.sizes(&defaults, replication, block_size);
+        let writer = FileWriter::new(self.alloc, path, file_id, sizes);
+        self.writers.insert(key, writer)?;
+        Ok(Reply::Created)
+    }
+
+    /// Opens a file that is gone on with, and keeps its writer. `name` is its path as the command names it.
+    pub(crate) fn append<C: Cluster>(
+        &mut self,
+        cluster: &mut C,
+        name: &Text,
+        path: Text,
+    ) -> Result<Reply, HdfsError>
+        requires namenode { 0 < (C.shown cluster.old).namenodes }
+        requires stands { Stands (C.shown cluster.old) self.old }
+        requires fine { has_failed self.old ≡ false }
+        requires path { is_path path ≡ true }
+        requires placed { opened_of self.old path ≡ false }
+        ensures acts { absolute (settings_of self.old).home name.now ≡ path
+            → Acts (Command.Append name.now) (C.shown cluster.old) self.old (C.shown cluster.new) (after self.new result) result }
+        ensures owed { IfErr result IsNotOwed }
+        ensures keeps { (settings_of self.new ≡ settings_of self.old) × (has_failed self.new ≡ false) }
+    {
+        let defaults = self.defaults(cluster)?;
+        let key = String::from_str(self.alloc, path.as_str())?;
+        let Appended { block, stat } = self.namenode.append(cluster, path.as_str(), APPEND)?;
+        let Some(stat) = stat else {
+            return Err(HdfsError::FileNotFound(name.copy(self.alloc)?));
+        };
+        let sizes = self.sizes(
+            &defaults,
+            stat.block_replication.unwrap_or(0),
+            stat.blocksize.unwrap_or(0),
+        );
+        let writer = FileWriter::appended(self.alloc, path, stat.file_id, sizes, block);
+        self.writers.insert(key, writer)?;
+        Ok(Reply::Appended)
+    }
+
+    /// Puts bytes behind those of an open file.
+    pub(crate) fn write<C: Cluster>(
+        &mut self,
+        cluster: &mut C,
+        path: &str,
+        bytes: &[u8],
+    ) -> Result<Reply, HdfsError>
+        requires namenode { 0 < (C.shown cluster.old).namenodes }
+        requires stands { Stands (C.shown cluster.old) self.old }
+        requires fine { has_failed self.old ≡ false }
+        requires path { is_path path.now ≡ true }
+        requires placed { opened_of self.old path.now ≡ true }
+        ensures acts { (name : List ℕ) → absolute (settings_of self.old).home name ≡ path.now
+            → Acts (Command.Write name bytes.now) (C.shown cluster.old) self.old (C.shown cluster.new) (after self.new result) result }
+        ensures owed { IfErr result IsNotOwed }
+        ensures keeps { (settings_of self.new ≡ settings_of self.old) × (has_failed self.new ≡ false) }
+    {
+        let Some(writer) = self.writers.get_mut(path) else {
+            unreachable!();
+        };
+        match writer.write(cluster, &self.namenode, bytes) {
+            Ok(count) => Ok(Reply::Written {
+                bytes: count as u64,
+            }),
+            Err(error) => Err(error),
+        }
+    }
+
+    /// Closes an open file, and lets its writer go.
+    pub(crate) fn close<C: Cluster>(
+        &mut self,
+        cluster: &mut C,
+        path: &str,
+    ) -> Result<Reply, HdfsError>
+        requires namenode { 0 < (C.shown cluster.old).namenodes }
+        requires stands { Stands (C.shown cluster.old) self.old }
+        requires fine { has_failed self.old ≡ false }
+        requires path { is_path path.now ≡ true }
+        requires placed { opened_of self.old path.now ≡ true }
+        ensures acts { (name : List ℕ) → absolute (settings_of self.old).home name ≡ path.now
+            → Acts (Command.Close name) (C.shown cluster.old) self.old (C.shown cluster.new) (after self.new result) result }
+        ensures owed { IfErr result IsNotOwed }
+        ensures keeps { (settings_of self.new ≡ settings_of self.old) × (has_failed self.new ≡ false) }
+    {
+        let Some(writer) = self.writers.remove(path) else {
+            unreachable!();
+        };
+        match writer.close(cluster, &self.namenode) {
+            Ok(()) => Ok(Reply::Closed),
+            Err(error) => Err(error),
+        }
+    }
+}
