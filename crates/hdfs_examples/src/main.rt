@@ -10,8 +10,9 @@ use std::alloc::Global;
 use std::fs;
 
 /// The names of the examples.
-const NAMES: [&str; 8] = [
-    "first", "reads", "broken", "missing", "order", "upper", "relative", "twice",
+const NAMES: [&str; 12] = [
+    "first", "reads", "broken", "missing", "order", "upper", "relative", "twice", "written",
+    "unread", "appended", "taken",
 ];
 
 // The bytes of an example's file of this kind.

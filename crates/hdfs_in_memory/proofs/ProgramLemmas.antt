@@ -11,7 +11,10 @@ use Rattle.hdfs_model.specs.Folds.{Folded, Ends, Stops, fold}
 use Rattle.hdfs_model.specs.Loading.{with_lines}
 use Rattle.hdfs_model.specs.Paths.{root}
 use Rattle.hdfs_model.specs.Shown.{Shown}
-use Rattle.hdfs_model.specs.Sessions.{Fits}
+use Rattle.hdfs_model.specs.Sessions.{Fits, AreLimited, defaults_of}
+use Rattle.hdfs_model.specs.declared.messages.ServerDefaults.{ServerDefaults}
+use Rattle.hdfs_model.specs.Headline.{Stopped}
+use Rattle.hdfs_model.specs.Steps.{World}
 use Rattle.hdfs_cluster.specs.declared.mem_settings.MemSettings.{MemSettings}
 use Rattle.hdfs_cluster.specs.declared.mem_cluster.MemCluster.{MemCluster}
 use Rattle.hdfs_cluster.specs.Lines.{line_of}
@@ -19,14 +22,15 @@ use Rattle.hdfs_cluster.specs.Memory.{fault_count}
 use Rattle.hdfs_cluster.specs.MemShown.{shown_of}
 use Rattle.hdfs_cluster.specs.Nodes.{node_at}
 use Rattle.hdfs_cluster.proofs.Failing.{faults-le}
+use Rattle.hdfs_cluster.specs.Settings.{script_defaults}
 use Rattle.hdfs_cluster.specs.Starting.{Starts}
-use Rattle.hdfs_script.specs.Scripts.{Script, is_fault, script, script_world}
+use Rattle.hdfs_script.specs.Scripts.{Script, is_fault, script, script_settings, script_world}
 use Rattle.hdfs_script.specs.Texts.{fault_text}
 use Rattle.hdfs_streams.specs.Streams.{SourceShown, SinkShown, Wrote}
 use Rattle.hdfs_top.specs.declared.note.Note.{Note}
 use Rattle.hdfs_top.specs.declared.note.Note.TheVariants as notes
 use Rattle.hdfs_top.specs.Top.{IsClosed, IsKnown, IsSession, Loaded, NoneFailed, NotesFault, RanProgram, StatusOf, outside}
-use Rattle.hdfs_in_memory.specs.Program.{Streams, IsUnfailed, IsNew, IsFaultless, FailsAsPlanned, RanStore, PrintsRefusal, PrintsReplies, PrintsFault, NotesPrinted, FaultlessDecides}
+use Rattle.hdfs_in_memory.specs.Program.{Streams, memory_world, IsUnfailed, IsNew, IsFaultless, FailsAsPlanned, RanStore, PrintsRefusal, PrintsReplies, PrintsFault, NotesPrinted, FaultlessDecides}
 
 -- below the root alone no file is being written
 not_written : (test : Bool) (content : Content) → (if test then Some Dir else None) ≡ Some (Writing content) → ⊥
@@ -45,13 +49,21 @@ pub planned_faults : (m : MemCluster) → FailsAsPlanned (shown_of m)
 planned_faults m = record { calls = λ i. refl; links = refl; nodes = λ d. faults-le (map line_of m.loaded.items) d (node_at m.nodes d) (m.planned d) }
 
 -- a cluster that was made for a script
-pub new_from-Starts : (settings : MemSettings) (store : Shown) → Starts settings store → Fits store empty_state → settings.namenodes ≡ 1 → IsNew store
-new_from-Starts settings store starts fits one = record {
+pub new_from-Starts : (settings : MemSettings) (store : Shown) → Starts settings store → Fits store empty_state → settings.namenodes ≡ 1 → settings.defaults ≡ script_defaults → IsNew store
+new_from-Starts settings store starts fits one defaults = record {
   one = starts.namenodes ∙ one;
+  defaults = ap defaults_of starts.told ∙ starts.defaults ∙ defaults;
   fits = fits;
   no_line = starts.no_line;
   unfailed = record { calls = starts.calls; links = starts.links; nodes = starts.nodes };
 }
+
+-- its world is that of a script
+world_new : (store : Shown) → IsNew store → script_world store ≡ memory_world
+world_new store new = ap with_defaults new.defaults
+  where
+    with_defaults : ServerDefaults → World
+    with_defaults d = record { home = script_settings.home; defaults = d }
 
 -- the program ran over it
 pub ran_store : (words : List (List ℕ)) (a : Streams) (status : ℕ) (b : Streams) (old new : Shown) (fresh fresh' : Bool) → IsNew old → fresh ≡ true → FailsAsPlanned new → RanProgram words (outside a.source a.sink old fresh) status (outside b.source b.sink new fresh') → RanStore words a status b
@@ -79,9 +91,14 @@ replies_new words a status b bytes run is_zero told =
       is = finishes.loaded.is;
       replies = finishes.replies;
       last = finishes.last;
-      folds = finishes.folds;
+      folds = ap (λ (w : World). fold w (with_lines empty_state finishes.parsed.lines) finishes.parsed.commands) (sym (world_new run.old run.is_new)) ∙ finishes.folds;
       wrote = subst (λ (t : List ℕ). Wrote a.sink t b.sink) finishes.is_text done.2;
     }
+
+-- a session over it stopped in the world of a script
+stopped_new : (old new : Shown) → IsNew old → (parsed : Script) (fault : Fault) → Stopped (script_world old) (with_lines empty_state parsed.lines) parsed.commands old new fault
+    → Stopped memory_world (with_lines empty_state parsed.lines) parsed.commands old new fault
+stopped_new old new is_new parsed fault = subst (λ (w : World). Stopped w (with_lines empty_state parsed.lines) parsed.commands old new fault) (world_new old is_new)
 
 -- the session stopped
 pub fault_new : (words : List (List ℕ)) (a : Streams) (status : ℕ) (b : Streams) (bytes : List ℕ) → RanStore words a status b → status ≡ 2 → a.source.left ≡ Some bytes → PrintsFault bytes a.sink b.sink
@@ -95,7 +112,7 @@ fault_new words a status b bytes run two told =
       old = run.old;
       new = run.new;
       is_new = run.is_new;
-      stopped = halts.stopped;
+      stopped = stopped_new run.old run.new run.is_new halts.parsed halts.fault halts.stopped;
       wrote = subst (λ (t : List ℕ). Wrote a.sink t b.sink) halts.is_text stopped.2;
     }
 
@@ -112,7 +129,7 @@ notes_known source source' sink sink' old new fresh' bytes note is_new told note
         old = old;
         new = new;
         is_new = is_new;
-        stopped = halted.stopped;
+        stopped = stopped_new old new is_new halted.parsed halted.fault halted.stopped;
         wrote = subst (λ (f : Fault). Wrote sink (fault_text f) sink') (sym halts.1) noted.wrote;
       };
       is = subst (λ (f : Fault). note ≡ notes.Stopped f.at f.error) (sym halts.1) noted.is;
@@ -152,7 +169,7 @@ unfailed_new old new parsed is_new planned lines faultless =
 
 -- where the lines were loaded, the script decides
 decides_loaded : (words : List (List ℕ)) (a : Streams) (status : ℕ) (b : Streams) (bytes : List ℕ) (run : RanStore words a status b) → IsSession words → a.source.left ≡ Some bytes → (known : Script) → Loaded (outside a.source a.sink run.old true) bytes empty_state known (outside b.source b.sink run.new run.fresh) → FaultlessDecides bytes a status b
-decides_loaded words a status b bytes run is told known loaded parsed found faultless no_read no_write =
+decides_loaded words a status b bytes run is told known loaded parsed found faultless limited no_read no_write =
     let here = loaded.is in
     let same : known ≡ parsed = cc (here, found) in
     let lines : run.new.loaded ≡ run.old.loaded ++ parsed.lines = loaded.lines ∙ ap (λ s. run.old.loaded ++ s.lines) same in
@@ -161,7 +178,10 @@ decides_loaded words a status b bytes run is told known loaded parsed found faul
       writes = no_write;
       calls = unfailed_since run.old.namenodes run.old.counts run.new.counts run.is_new.unfailed (unfailed_new run.old run.new parsed run.is_new run.planned lines faultless);
     } in
-    run.ran.complete is bytes empty_state parsed (known_new a.source a.sink run.old bytes told run.is_new) found none
+    let world = world_new run.old run.is_new in
+    let within = subst (λ (w : World). AreLimited w (with_lines empty_state parsed.lines) parsed.commands) (sym world) limited in
+    let decided = run.ran.complete is bytes empty_state parsed (known_new a.source a.sink run.old bytes told run.is_new) found within none in
+    subst (λ (w : World). StatusOf (fold w (with_lines empty_state parsed.lines) parsed.commands) status) world decided
 
 six : (n : ℕ) → n ≤ 5 → (n ≡ 0) ⊎ (n ≡ 1) ⊎ (n ≡ 2) ⊎ (n ≡ 3) ⊎ (n ≡ 4) ⊎ (n ≡ 5)
 six zero h = inl refl
@@ -174,16 +194,16 @@ six (suc (suc (suc (suc (suc (suc n)))))) h = absurd (omega (arith, h))
 
 -- a script without a fault line ends as the fold says
 pub decides_new : (words : List (List ℕ)) (a : Streams) (status : ℕ) (b : Streams) (bytes : List ℕ) → RanStore words a status b → IsSession words → a.source.left ≡ Some bytes → FaultlessDecides bytes a status b
-decides_new words a status b bytes run is told parsed found faultless no_read no_write =
+decides_new words a status b bytes run is told parsed found faultless limited no_read no_write =
     let known = known_new a.source a.sink run.old bytes told run.is_new in
     ⊎_elim
-    (λ is_zero. decides_loaded words a status b bytes run is told (run.ran.done is_zero bytes empty_state known).1.parsed (run.ran.done is_zero bytes empty_state known).1.loaded parsed found faultless no_read no_write)
+    (λ is_zero. decides_loaded words a status b bytes run is told (run.ran.done is_zero bytes empty_state known).1.parsed (run.ran.done is_zero bytes empty_state known).1.loaded parsed found faultless limited no_read no_write)
     (⊎_elim
     (λ one. let no = (run.ran.no_script one is bytes empty_state known).1 in absurd (cc (no, found)))
     (⊎_elim
-    (λ two. decides_loaded words a status b bytes run is told (run.ran.stopped two bytes empty_state known).1.parsed (run.ran.stopped two bytes empty_state known).1.loaded parsed found faultless no_read no_write)
+    (λ two. decides_loaded words a status b bytes run is told (run.ran.stopped two bytes empty_state known).1.parsed (run.ran.stopped two bytes empty_state known).1.loaded parsed found faultless limited no_read no_write)
     (⊎_elim
-    (λ three. any_memory (fold script_world (with_lines empty_state parsed.lines) parsed.commands) status three)
+    (λ three. any_memory (fold memory_world (with_lines empty_state parsed.lines) parsed.commands) status three)
     (⊎_elim
     (λ four. absurd (no_read (run.ran.source four).rose))
     (λ five. absurd (no_write (run.ran.sink five)))))))
@@ -191,4 +211,4 @@ decides_new words a status b bytes run is told parsed found faultless no_read no
 
 -- there was no memory for a store
 pub starved_decides : (a : Streams) (status : ℕ) (b : Streams) (bytes : List ℕ) → status ≡ 3 → FaultlessDecides bytes a status b
-starved_decides a status b bytes three parsed found faultless no_read no_write = any_memory (fold script_world (with_lines empty_state parsed.lines) parsed.commands) status three
+starved_decides a status b bytes three parsed found faultless limited no_read no_write = any_memory (fold memory_world (with_lines empty_state parsed.lines) parsed.commands) status three

@@ -9,10 +9,12 @@ use Rattle.hdfs_model.specs.Files.{State, empty_state}
 use Rattle.hdfs_model.specs.Folds.{Ends, fold}
 use Rattle.hdfs_model.specs.Headline.{Stopped}
 use Rattle.hdfs_model.specs.Loading.{with_lines}
-use Rattle.hdfs_model.specs.Sessions.{Fits}
+use Rattle.hdfs_model.specs.Sessions.{Fits, AreLimited, defaults_of}
 use Rattle.hdfs_model.specs.Shown.{Shown}
+use Rattle.hdfs_model.specs.Steps.{World}
 use Rattle.hdfs_cluster.specs.Memory.{fault_count}
-use Rattle.hdfs_script.specs.Scripts.{Script, is_fault, script, script_world}
+use Rattle.hdfs_cluster.specs.Settings.{script_defaults}
+use Rattle.hdfs_script.specs.Scripts.{Script, is_fault, script, script_settings}
 use Rattle.hdfs_script.specs.Texts.{replies_text, fault_text, refusal_text}
 use Rattle.hdfs_streams.specs.Streams.{SourceShown, SinkShown, Wrote}
 use Rattle.hdfs_top.specs.declared.note.Note.{Note}
@@ -30,9 +32,14 @@ pub record IsUnfailed (counts : FaultCounts) : Type 0 where
   pub links : counts.links ≡ 0
   pub nodes : (d : List ℕ) → counts.nodes d ≡ 0
 
--- A store as it is made for a script: it has one namenode, holds the root alone, and has never failed.
+-- the world of a script over a new cluster in memory
+abbrev pub memory_world : World
+memory_world = record { home = script_settings.home; defaults = script_defaults }
+
+-- A store as it is made for a script: it has one namenode and a script's defaults, holds the root alone, and has never failed.
 pub record IsNew (store : Shown) : Type 0 where
   pub one : store.namenodes ≡ 1
+  pub defaults : defaults_of store.picture ≡ script_defaults
   pub fits : Fits store empty_state
   pub no_line : store.loaded ≡ []
   pub unfailed : IsUnfailed store.counts
@@ -78,7 +85,7 @@ pub record PrintsReplies (bytes : List ℕ) (before after : SinkShown) : Type 0 
   pub is : script true empty_state bytes ≡ Ok parsed
   pub replies : List Reply
   pub last : State
-  pub folds : fold script_world (with_lines empty_state parsed.lines) parsed.commands ≡ Ends replies last
+  pub folds : fold memory_world (with_lines empty_state parsed.lines) parsed.commands ≡ Ends replies last
   pub wrote : Wrote before (replies_text replies) after
 
 -- the replies up to a fault other than want of memory, which has its cause over a store that was new, and its line
@@ -90,7 +97,7 @@ pub record PrintsFault (bytes : List ℕ) (before after : SinkShown) : Type 0 wh
   pub old : Shown
   pub new : Shown
   pub is_new : IsNew old
-  pub stopped : Stopped script_world (with_lines empty_state parsed.lines) parsed.commands old new fault
+  pub stopped : Stopped memory_world (with_lines empty_state parsed.lines) parsed.commands old new fault
   pub wrote : Wrote before (fault_text fault) after
 
 -- a note tells of the fault at which the script stopped, and whose text was printed
@@ -98,8 +105,9 @@ pub record NotesPrinted (bytes : List ℕ) (before : SinkShown) (note : Note) (a
   pub printed : PrintsFault bytes before after
   pub is : note ≡ notes.Stopped printed.fault.at printed.fault.error
 
--- a script without a fault line ends as the fold says, where no read and no write failed
+-- a script without a fault line, whose numbers are in their limits, ends as the fold says, where no read and no write failed
 abbrev pub FaultlessDecides : List ℕ → Streams → ℕ → Streams → Type 0
 FaultlessDecides bytes before status after = (parsed : Script) → script true empty_state bytes ≡ Ok parsed → IsFaultless parsed
+    → AreLimited memory_world (with_lines empty_state parsed.lines) parsed.commands
     → (Rose before.source.failures after.source.failures → ⊥) → (Rose before.sink.failures after.sink.failures → ⊥)
-    → StatusOf (fold script_world (with_lines empty_state parsed.lines) parsed.commands) status
+    → StatusOf (fold memory_world (with_lines empty_state parsed.lines) parsed.commands) status

@@ -13,6 +13,11 @@ A script has one line for each file or fault to load, and then one for each comm
 
   file PATH PERMISSION REPLICATION BLOCK_SIZE HEX   a file, its permission in octal digits and its bytes
   fault read NODE NTH broken                        datanode NODE breaks the connection at its NTH packet
+  do create PATH PERMISSION REPLICATION BLOCK_SIZE OVERWRITE PARENTS
+                                                    creates a file and opens it; - for the cluster's numbers
+  do append PATH                                    opens a file to be gone on with
+  do write PATH HEX                                 puts bytes behind those of an open file
+  do close PATH                                     closes an open file
   do read PATH OFFSET LENGTH                        reads a part of a file
   # ...                                             a comment; an empty line is one too
 
@@ -28,10 +33,15 @@ Status  Meaning
 
 Example: the script
 
-  file /a 644 1 8 0001020304050607
+  do create /a 644 1 8 false true
+  do write /a 0001020304050607
+  do close /a
   do read /a 2 4
 
 prints
 
+  ok created
+  ok written 8
+  ok closed
   ok bytes 02030405
 ";

@@ -7,9 +7,10 @@ use Rattle.hdfs_model.specs.Counts.{FaultCounts, SameCounts}
 use Rattle.hdfs_model.specs.declared.store.Line.TheVariants as lines
 use Rattle.hdfs_model.specs.Files.{State, Content, Node, File, Writing}
 use Rattle.hdfs_model.specs.Stores.{Agrees}
-use Rattle.hdfs_model.specs.Loading.{Loads, SameShown, takes, with_line, with_lines}
+use Rattle.hdfs_model.specs.Loading.{Loads, LoadsLine, SameShown, takes, with_line, with_lines}
 use Rattle.hdfs_model.specs.Shown.{Shown}
-use Rattle.hdfs_model.specs.Sessions.{Fits}
+use Rattle.hdfs_model.specs.Sessions.{Fits, defaults_of}
+use Rattle.hdfs_model.specs.Picture.{Picture, Told}
 use Rattle.hdfs_model.proofs.Frames.{same_counts_trans}
 use Rattle.hdfs_model.proofs.Loads.{fits_line}
 use Rattle.hdfs_script.specs.declared.entry.NumberedLine.{NumberedLine}
@@ -52,17 +53,26 @@ untaken-append state (first ∷ done) rest taken = by_taken (takes state.files f
     by_taken true there taken = there taken
     by_taken false there taken = absurd (cc)
 
+-- a line leaves the defaults
+defaults_line : (a b : Option Picture) (line : Line) → Told (LoadsLine line) a b → defaults_of b ≡ defaults_of a
+defaults_line None None line told = refl
+defaults_line (Some p) (Some q) (lines.File path attributes bytes) told = told.defaults
+defaults_line (Some p) (Some q) (lines.Fault fault) told = told.rest.files.defaults
+defaults_line None (Some q) line told = absurd told
+defaults_line (Some p) None line told = absurd told
+
 same_counts_refl : (a : FaultCounts) → SameCounts a a
 same_counts_refl a = record { calls = λ i. refl; links = refl; nodes = λ d. refl }
 
 pub loads_none : (a : Shown) → LoadsAll a [] a
-loads_none a = record { namenodes = refl; counts = same_counts_refl a.counts; loaded = sym (append-nil a.loaded); taken = λ state fits. refl; fits = λ state fits. fits }
+loads_none a = record { namenodes = refl; counts = same_counts_refl a.counts; defaults = refl; loaded = sym (append-nil a.loaded); taken = λ state fits. refl; fits = λ state fits. fits }
 
 -- one line more
 pub loads_more : (a b c : Shown) (done : List NumberedLine) (numbered : NumberedLine) → LoadsAll a done b → Loads b numbered.line c → ((state : State) → Agrees b.picture state.files → takes state.files numbered.line ≡ true) → LoadsAll a (done ++ numbered ∷ []) c
 loads_more a b c done numbered p loads takes_it = record {
   namenodes = loads.rest.namenodes ∙ p.namenodes;
   counts = same_counts_trans a.counts b.counts c.counts p.counts loads.rest.counts;
+  defaults = defaults_line b.picture c.picture numbered.line loads.picture ∙ p.defaults;
   loaded = loads.lines ∙ ap (λ t. t ++ numbered.line ∷ []) p.loaded ∙ append_assoc a.loaded (plain_lines done) (numbered.line ∷ []) ∙ ap (λ t. a.loaded ++ t) (sym (plain-push done numbered));
   taken = λ state fits. untaken-append state done (numbered ∷ []) (p.taken state fits) ∙ rw (takes_it (with_lines state (plain_lines done)) (p.fits state fits).agrees) refl;
   fits = λ state fits.

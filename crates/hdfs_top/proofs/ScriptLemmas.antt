@@ -1,30 +1,25 @@
 -- What a script is over a store, and what a run of it has done.
-use Rattle.std.proofs.Common.{inl, inr, ⊎_elim, ◌⊎◌, ◌≡◌, ℕ, ◌+◌, ◌<◌, nat_le, Bool, false, List, [], ◌++◌, length, get_or, take, Ok, Err, refl, sym, ◌∙◌, ap, subst, arith}
+use Rattle.std.proofs.Common.{inl, inr, ⊎_elim, ◌⊎◌, ◌≡◌, ℕ, ◌+◌, ◌<◌, nat_le, Bool, false, List, [], ◌++◌, length, take, Ok, Err, refl, sym, ◌∙◌, ap, subst, arith}
 use Rattle.std.proofs.lemmas.List.{take_all, length-take-le, take-take}
 use Rattle.std.proofs.lemmas.Bool.{cases_lt}
 use Rattle.std.proofs.lemmas.Bool.Decides.{nat_tests}
 use Rattle.hdfs_model.specs.declared.commands.Command.{Command}
-use Rattle.hdfs_model.specs.declared.commands.Command.TheVariants as commands
 use Rattle.hdfs_model.specs.declared.errors.Fault.{Fault}
-use Rattle.hdfs_model.specs.declared.errors.HdfsError.{HdfsError}
-use Rattle.hdfs_model.specs.declared.errors.HdfsError.TheVariants as errors
-use Rattle.hdfs_model.specs.declared.errors.TransferFault.TheVariants as transfer
-use Rattle.hdfs_model.specs.declared.errors.ArgFault.TheVariants as args
 use Rattle.hdfs_model.specs.declared.store.Line.{Line}
-use Rattle.hdfs_model.specs.Causes.{Cause}
 use Rattle.hdfs_model.specs.Counts.{FaultCounts, NeverFall, NoneRose, SameCounts}
 use Rattle.hdfs_model.specs.Files.{State}
 use Rattle.hdfs_model.specs.Folds.{fold}
 use Rattle.hdfs_model.specs.Headline.{Stopped}
 use Rattle.hdfs_model.specs.Loading.{SameShown, with_lines}
 use Rattle.hdfs_model.specs.Picture.{SamePicture}
-use Rattle.hdfs_model.specs.Sessions.{Fits}
+use Rattle.hdfs_model.specs.Sessions.{Fits, AreLimited, defaults_of}
+use Rattle.hdfs_model.specs.declared.messages.ServerDefaults.{ServerDefaults}
 use Rattle.hdfs_model.specs.Shown.{Shown, Later}
 use Rattle.hdfs_model.specs.Steps.{World}
 use Rattle.hdfs_model.proofs.Frames.{told_refl, same_picture_refl, never_fall_trans, never_fall_from-SameCounts}
 use Rattle.hdfs_script.specs.declared.entry.Parsed.{Parsed}
 use Rattle.hdfs_script.specs.Parsing.{Parses}
-use Rattle.hdfs_script.specs.Scripts.{Script, script, ends_bad, entries_in, first_bad, line_entries, script_limit, script_world, unless_bad}
+use Rattle.hdfs_script.specs.Scripts.{Script, script, ends_bad, entries_in, first_bad, line_entries, script_limit, script_settings, script_world, unless_bad}
 use Rattle.hdfs_script.proofs.HalfLemmas.{refused_from, script_from, script_read}
 use Rattle.hdfs_script.specs.Texts.{replies_text, fault_text, refusal_text}
 use Rattle.hdfs_streams.specs.Streams.{SourceShown, SinkShown, TookAtMost, Wrote}
@@ -32,6 +27,7 @@ use Rattle.hdfs_streams.proofs.PrintLemmas.{wrote_none}
 use Rattle.hdfs_top.specs.declared.note.Note.{Note}
 use Rattle.hdfs_top.specs.Top.{IsSession, Outside, outside, IsKnown, Loaded, Finishes, Halts, NotesFault, RefusedScript, StatusOf, ScriptDecides}
 use Rattle.hdfs_top.specs.Inside.{RanSession, Gave, IsKnownStore, LoadsScript, RefusesScript, PrintsWhole, Concludes, ToEnd, ToFault, NotesStop, RanCommands}
+use Rattle.hdfs_client.proofs.Since.{cause_since}
 use Rattle.hdfs_top.proofs.LoadLemmas.{closed_lines}
 use Rattle.hdfs_top.proofs.SessionLemmas.{whole_at_2}
 use Rattle.hdfs_top.proofs.StatusLemmas.{Kept, ran_done, ran_refused, ran_stopped, ran_no_memory, ran_sink_failed}
@@ -99,50 +95,13 @@ starved_script source left sink store store' fresh fresh' given status gave coun
     (kept_session words (outside source sink store fresh) (outside left sink store' fresh') status is counts gave.taken)
     gave.fine (record { is = three; wrote = wrote_none sink; fine = refl })
 
--- a cause since the counts before, which are the same
-cause_since : (w : World) (state : State) (command : Command) (old mid new : Shown) (e : HdfsError) → SameCounts old.counts mid.counts → Cause w state command mid new e → Cause w state command old new e
-cause_since w state command old mid new errors.NoMemory same cause = cause
-cause_since w state command old mid new errors.Failed same cause = absurd cause
-cause_since w state (commands.Read text offset len) old mid new (errors.DataTransferError (transfer.Read byte)) same cause =
-    let file = cause.1 in
-    let lost = file.lost in (
-      cause.0,
-      record {
-        picture = file.picture;
-        told = file.told;
-        file = file.file;
-        named = file.named;
-        lost = record {
-          id = lost.id;
-          at = lost.at;
-          lies = lost.lies;
-          entry = lost.entry;
-          is = lost.is;
-          behind = lost.behind;
-          before = lost.before;
-          inside = lost.inside;
-          all_failed = λ k within whole. rw (← same.nodes (get_or lost.entry.nodes k [])) (lost.all_failed k within whole);
-        };
-      },
-    )
-cause_since w state command old mid new (errors.InvalidArgument (args.Range offset len length)) same cause = cause
-cause_since w state command old mid new (errors.IOError fault) same cause = absurd cause
-cause_since w state command old mid new (errors.DataTransferError transfer.Setup) same cause = absurd cause
-cause_since w state command old mid new (errors.DataTransferError transfer.AllNodes) same cause = absurd cause
-cause_since w state command old mid new (errors.DataTransferError (transfer.BadAck seqno)) same cause = absurd cause
-cause_since w state command old mid new (errors.AlreadyExists message) same cause = absurd cause
-cause_since w state command old mid new (errors.OperationFailed name) same cause = absurd cause
-cause_since w state command old mid new (errors.FileNotFound name) same cause = cause
-cause_since w state command old mid new (errors.RPCError class message) same cause =
-    ⊎_elim (λ stands. inl stands) (λ rose. inr (rose.0, rose.1, rw (← same.calls rose.0) rose.2)) cause
-
 stopped_since : (w : World) (state : State) (commands : List Command) (old mid new : Shown) (fault : Fault) → SameCounts old.counts mid.counts → Stopped w state commands mid new fault → Stopped w state commands old new fault
 stopped_since w state commands old mid new fault same stopped = record {
   last = stopped.last;
   done = stopped.done;
   cause = λ some.
       let at = stopped.cause some in
-      (at.0, at.1, cause_since w stopped.last at.0 old mid new fault.error same at.2, at.3);
+      (at.0, at.1, cause_since old mid new (never_fall_from-SameCounts old.counts mid.counts same) w stopped.last at.0 fault.error at.2, at.3);
   start = stopped.start;
 }
 
@@ -157,6 +116,7 @@ none_rose_since n m old mid new is same none = record {
 pub record LoadsPlain (old : Shown) (lines : List Line) (new : Shown) : Type 0 where
   pub namenodes : new.namenodes ≡ old.namenodes
   pub counts : SameCounts old.counts new.counts
+  pub defaults : defaults_of new.picture ≡ defaults_of old.picture
   pub loaded : new.loaded ≡ old.loaded ++ lines
   pub fits : (state : State) → Fits old state → Fits new (with_lines state lines)
 
@@ -166,6 +126,13 @@ pub record LoadedRun (a : Outside) (given : List ℕ) (s : Script) (mid : Shown)
   pub is : (state : State) → Fits a.store state → script a.fresh state given ≡ Ok s
   pub loads : LoadsPlain a.store s.lines mid
   pub later : Later mid b.store
+
+-- the lines leave the world
+world_stays : (old : Shown) (lines : List Line) (mid : Shown) → LoadsPlain old lines mid → script_world mid ≡ script_world old
+world_stays old lines mid loads = ap (λ (d : ServerDefaults). with_defaults d) loads.defaults
+  where
+    with_defaults : ServerDefaults → World
+    with_defaults d = record { home = script_settings.home; defaults = d }
 
 after_lines : (a b : Outside) (given : List ℕ) (s : Script) (mid : Shown) → LoadedRun a given s mid b → (bytes : List ℕ) (state : State) → IsKnown a bytes state → IsKnownStore mid (with_lines state s.lines)
 after_lines a b given s mid run bytes state known =
@@ -180,7 +147,15 @@ loaded_from a b given s mid run bytes state known = record {
 finishes_from : (a b : Outside) (given : List ℕ) (s : Script) (mid : Shown) (status : ℕ) → LoadedRun a given s mid b → (end : ToEnd s.commands mid b.store a.sink status b.sink) → (bytes : List ℕ) (state : State) → IsKnown a bytes state → Finishes a bytes state (replies_text end.replies) b
 finishes_from a b given s mid status run end bytes state known =
     let t = end.told (with_lines state s.lines) (after_lines a b given s mid run bytes state known) in
-    record { parsed = s; loaded = loaded_from a b given s mid run bytes state known; replies = end.replies; last = t.0; folds = t.1; fits = t.2; is_text = refl }
+    record {
+      parsed = s;
+      loaded = loaded_from a b given s mid run bytes state known;
+      replies = end.replies;
+      last = t.0;
+      folds = ap (λ (w : World). fold w (with_lines state s.lines) s.commands) (sym (world_stays a.store s.lines mid run.loads)) ∙ t.1;
+      fits = t.2;
+      is_text = refl;
+    }
 
 halts_from : (a b : Outside) (given : List ℕ) (s : Script) (mid : Shown) (status : ℕ) → LoadedRun a given s mid b → (stop : ToFault s.commands mid b.store a.sink status b.sink) → (bytes : List ℕ) (state : State) → IsKnown a bytes state → Halts a bytes state (fault_text stop.fault) b
 halts_from a b given s mid status run stop bytes state known = record {
@@ -188,17 +163,25 @@ halts_from a b given s mid status run stop bytes state known = record {
   loaded = loaded_from a b given s mid run bytes state known;
   fault = stop.fault;
   other = stop.other;
-  stopped = stopped_since script_world (with_lines state s.lines) s.commands a.store mid b.store stop.fault run.loads.counts (stop.told (with_lines state s.lines) (after_lines a b given s mid run bytes state known));
+  stopped = stopped_since (script_world a.store) (with_lines state s.lines) s.commands a.store mid b.store stop.fault run.loads.counts
+      (subst (λ (w : World). Stopped w (with_lines state s.lines) s.commands mid b.store stop.fault) (world_stays a.store s.lines mid run.loads)
+      (stop.told (with_lines state s.lines) (after_lines a b given s mid run bytes state known)));
   is_text = refl;
 }
 
 decides_from : (a b : Outside) (given : List ℕ) (s : Script) (mid : Shown) (status : ℕ) → LoadedRun a given s mid b → ToFault s.commands mid b.store a.sink status b.sink → status ≡ 2 → ScriptDecides a status b
-decides_from a b given s mid status run stop two bytes state found known is none =
+decides_from a b given s mid status run stop two bytes state found known is limited none =
     let here = (loaded_from a b given s mid run bytes state known).is in
     let same : s ≡ found = cc (here, is) in
-    let fault : StatusOf (fold script_world (with_lines state s.lines) s.commands) 2 = stop.complete (with_lines state s.lines) (after_lines a b given s mid run bytes state known) (none_rose_since a.store.namenodes mid.namenodes a.store.counts mid.counts b.store.counts run.loads.namenodes run.loads.counts none.calls) in
-    let this : StatusOf (fold script_world (with_lines state s.lines) s.commands) status = subst (λ (n : ℕ). StatusOf (fold script_world (with_lines state s.lines) s.commands) n) (sym two) fault in
-    subst (λ (x : Script). StatusOf (fold script_world (with_lines state x.lines) x.commands) status) same this
+    let start = with_lines state s.lines in
+    let stays = world_stays a.store s.lines mid run.loads in
+    let within : AreLimited (script_world mid) start s.commands =
+    subst (λ (w : World). AreLimited w start s.commands) (sym stays) (subst (λ (x : Script). AreLimited (script_world a.store) (with_lines state x.lines) x.commands) (sym same) limited) in
+    let none_since = none_rose_since a.store.namenodes mid.namenodes a.store.counts mid.counts b.store.counts run.loads.namenodes run.loads.counts none.calls in
+    let fault : StatusOf (fold (script_world mid) start s.commands) 2 = stop.complete start (after_lines a b given s mid run bytes state known) within none_since in
+    let there : StatusOf (fold (script_world a.store) start s.commands) 2 = subst (λ (w : World). StatusOf (fold w start s.commands) 2) stays fault in
+    let this : StatusOf (fold (script_world a.store) start s.commands) status = subst (λ (n : ℕ). StatusOf (fold (script_world a.store) start s.commands) n) (sym two) there in
+    subst (λ (x : Script). StatusOf (fold (script_world a.store) (with_lines state x.lines) x.commands) status) same this
 
 kept_loaded : (words : List (List ℕ)) (a b : Outside) (given : List ℕ) (s : Script) (mid : Shown) (status : ℕ) → IsSession words → LoadedRun a given s mid b → Kept words a status b
 kept_loaded words a b given s mid status is run =
@@ -230,7 +213,7 @@ loaded_run : (a b : Outside) (given : List ℕ) (read : Parsed) (mid : Shown) �
 loaded_run a b given read mid gave parses loads later = record {
   gave = gave;
   is = λ state fits. script_from a.fresh state given read parses (loads.none state fits);
-  loads = record { namenodes = loads.loads.namenodes; counts = loads.loads.counts; loaded = loads.loads.loaded; fits = loads.loads.fits };
+  loads = record { namenodes = loads.loads.namenodes; counts = loads.loads.counts; defaults = loads.loads.defaults; loaded = loads.loads.loaded; fits = loads.loads.fits };
   later = later;
 }
 

@@ -1,5 +1,5 @@
 -- What a session over a known store has done, and how it is printed.
-use Rattle.std.proofs.Common.{arith, inl, inr, ◌≡◌, ◌≢◌, ℕ, MatchResult, Vec, List, get_or, Ok, Err, Result, refl, sym, ◌∙◌, ap, subst}
+use Rattle.std.proofs.Common.{arith, true, inl, inr, ◌≡◌, ◌≢◌, ℕ, MatchResult, Vec, List, get_or, Ok, Err, Result, refl, sym, ◌∙◌, ap, subst}
 use Rattle.std.specs.declared.alloc.Global.{Global}
 use Rattle.hdfs_model.specs.declared.commands.Command.{Command}
 use Rattle.hdfs_model.specs.declared.commands.Command.TheVariants as commands
@@ -10,10 +10,11 @@ use Rattle.hdfs_model.specs.declared.errors.HdfsError.TheVariants as errors
 use Rattle.hdfs_model.specs.Files.{State}
 use Rattle.hdfs_model.specs.Folds.{Folded, Ends, Stops, fold}
 use Rattle.hdfs_model.specs.Headline.{Ready, Ran, Stopped}
-use Rattle.hdfs_model.specs.Sessions.{Avoids, Complete, none_open, world_of}
+use Rattle.hdfs_model.specs.Limits.{are_settings}
+use Rattle.hdfs_model.specs.Sessions.{AreLimited, Avoids, Complete, none_open, world_of}
 use Rattle.hdfs_model.specs.Shown.{Shown, Later}
 use Rattle.hdfs_model.specs.Steps.{World, target_of}
-use Rattle.hdfs_script.specs.Scripts.{script_world}
+use Rattle.hdfs_script.specs.Scripts.{script_settings, script_world}
 use Rattle.hdfs_script.specs.Texts.{replies_text, fault_text}
 use Rattle.hdfs_streams.specs.declared.streams.IoFailed.{IoFailed}
 use Rattle.hdfs_streams.specs.Streams.{SinkShown, Prints, Wrote}
@@ -27,17 +28,22 @@ pub concludes_from-Prints : {T : Type 0} (good : ℕ) (a c : SinkShown) (text : 
 concludes_from-Prints good a c text (Ok x) status p is = inl (record { is = is; wrote = p.ok; fine = p.fine })
 concludes_from-Prints good a c text (Err e) status p is = inr (record { is = is; rose = p.failed; part = p.part })
 
-abbrev from_home : List ℕ → World
-from_home home = record { home = home }
-
 -- the settings of a script make its world
-pub world_is : (settings : Settings) (s : Shown) → settings.home ≡ script_world.home → world_of settings s ≡ script_world
-world_is settings s is = ap from_home is
+pub world_is : (settings : Settings) (s : Shown) → settings ≡ script_settings → world_of settings s ≡ script_world s
+world_is settings s is = ap (λ (x : Settings). world_of x s) is
+
+-- and are in their limits
+pub limited_settings : (settings : Settings) → settings ≡ script_settings → are_settings settings ≡ true
+limited_settings settings is = ap are_settings is
 
 -- where all files are closed no command names one that is being written
 avoids_closed : (w : World) (state : State) (command : Command) → IsClosed state → Avoids w state command
 avoids_closed w state (commands.Read path offset len) closed =
     λ strange. closed.written (target_of w (commands.Read path offset len)) strange.0 strange.1
+avoids_closed w state (commands.Create path options) closed = tt
+avoids_closed w state (commands.Append path) closed = tt
+avoids_closed w state (commands.Write path bytes) closed = tt
+avoids_closed w state (commands.Close path) closed = tt
 
 ready : (w : World) (old : Shown) (state : State) (commands : List Command) → IsKnownStore old state → Ready w (record { opened = none_open; shown = old }) state commands
 ready w old state commands known = record {
@@ -51,13 +57,13 @@ abbrev RanReady : World → List Command → Shown → Shown → Result (Vec Rep
 RanReady w commands old new result = (state : State) → Ready w (record { opened = none_open; shown = old }) state commands → Ran w state commands old new result
 
 -- a session came to its end
-pub ran_to_end : (w : World) (commands : List Command) (old new : Shown) (before after : SinkShown) (status : ℕ) (replies : Vec Reply Global) → w ≡ script_world → Later old new → RanReady w commands old new (Ok replies) → Concludes 0 before (replies_text replies.items) status after → RanCommands commands old new before status after
+pub ran_to_end : (w : World) (commands : List Command) (old new : Shown) (before after : SinkShown) (status : ℕ) (replies : Vec Reply Global) → w ≡ script_world old → Later old new → RanReady w commands old new (Ok replies) → Concludes 0 before (replies_text replies.items) status after → RanCommands commands old new before status after
 ran_to_end w commands old new before after status replies is later ran printed =
     let end : ToEnd commands old new before status after = record {
       replies = replies.items;
       told = λ state known.
           let t = (ran state (ready w old state commands known)).ok in
-          (t.0, ap (λ v. fold v state commands) (sym is) ∙ t.1, t.2);
+          (t.0, ap (λ v. fold v state commands) (sym is) ∙ t.1, t.3);
       printed = printed;
     } in
     record { later = later; ending = inr (inl end) }
@@ -68,22 +74,24 @@ refused_from-Complete T (Ends replies last) fault complete other = absurd (other
 refused_from-Complete T (Stops replies last why) fault complete other = inl refl
 
 -- a session stopped at a fault
-to_fault : (w : World) (commands : List Command) (old new : Shown) (before after : SinkShown) (status : ℕ) (fault : Fault) → w ≡ script_world → RanReady w commands old new (Err fault) → fault.error ≢ errors.NoMemory → Concludes 2 before (fault_text fault) status after → ToFault commands old new before status after
+to_fault : (w : World) (commands : List Command) (old new : Shown) (before after : SinkShown) (status : ℕ) (fault : Fault) → w ≡ script_world old → RanReady w commands old new (Err fault) → fault.error ≢ errors.NoMemory → Concludes 2 before (fault_text fault) status after → ToFault commands old new before status after
 to_fault w commands old new before after status fault is ran other printed = record {
   fault = fault;
   other = other;
   told = λ state known. subst (λ (v : World). Stopped v state commands old new fault) is (ran state (ready w old state commands known)).err;
-  complete = λ state known none.
-      refused_from-Complete (Vec Reply Global) (fold script_world state commands) fault (subst (λ (v : World). Complete {T = Vec Reply Global} (fold v state commands) (Err fault)) is ((ran state (ready w old state commands known)).complete none)) other;
+  complete = λ state known limited none.
+      (let within = subst (λ (v : World). AreLimited v state commands) (sym is) limited in
+      refused_from-Complete (Vec Reply Global) (fold (script_world old) state commands) fault
+      (subst (λ (v : World). Complete {T = Vec Reply Global} (fold v state commands) (Err fault)) is ((ran state (ready w old state commands known)).complete within none)) other);
   printed = printed;
 }
 
-pub ran_to_fault : (w : World) (commands : List Command) (old new : Shown) (before after : SinkShown) (status : ℕ) (fault : Fault) → w ≡ script_world → Later old new → RanReady w commands old new (Err fault) → fault.error ≢ errors.NoMemory → Concludes 2 before (fault_text fault) status after → RanCommands commands old new before status after
+pub ran_to_fault : (w : World) (commands : List Command) (old new : Shown) (before after : SinkShown) (status : ℕ) (fault : Fault) → w ≡ script_world old → Later old new → RanReady w commands old new (Err fault) → fault.error ≢ errors.NoMemory → Concludes 2 before (fault_text fault) status after → RanCommands commands old new before status after
 ran_to_fault w commands old new before after status fault is later ran other printed =
     record { later = later; ending = inr (inr (to_fault w commands old new before after status fault is ran other printed)) }
 
 -- and that was noted
-pub notes_stop : (w : World) (commands : List Command) (old new : Shown) (before after : SinkShown) (status : ℕ) (fault : Fault) (note : Note) → w ≡ script_world → RanReady w commands old new (Err fault) → fault.error ≢ errors.NoMemory → Concludes 2 before (fault_text fault) status after → note ≡ notes.Stopped fault.at fault.error → NotesStop commands old new before status note after
+pub notes_stop : (w : World) (commands : List Command) (old new : Shown) (before after : SinkShown) (status : ℕ) (fault : Fault) (note : Note) → w ≡ script_world old → RanReady w commands old new (Err fault) → fault.error ≢ errors.NoMemory → Concludes 2 before (fault_text fault) status after → note ≡ notes.Stopped fault.at fault.error → NotesStop commands old new before status note after
 unfolding to_fault
 notes_stop w commands old new before after status fault note is ran other printed noted =
     record { stop = to_fault w commands old new before after status fault is ran other printed; is = noted }

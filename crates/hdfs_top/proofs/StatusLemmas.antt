@@ -16,13 +16,13 @@ pub record Kept (words : List (List ℕ)) (a : Outside) (status : ℕ) (b : Outs
   pub read : TookAtMost (script_limit + 1) a.source b.source
   pub other : (IsSession words → ⊥) → RefusedWords a status b
 
-done_from-Finishes : (a b : Outside) (bytes : List ℕ) (state : State) (parsed : Script) (text : List ℕ) (status : ℕ) → status ≡ 0 → Finishes a bytes state text b → script a.fresh state bytes ≡ Ok parsed → StatusOf (fold script_world (with_lines state parsed.lines) parsed.commands) status
+done_from-Finishes : (a b : Outside) (bytes : List ℕ) (state : State) (parsed : Script) (text : List ℕ) (status : ℕ) → status ≡ 0 → Finishes a bytes state text b → script a.fresh state bytes ≡ Ok parsed → StatusOf (fold (script_world a.store) (with_lines state parsed.lines) parsed.commands) status
 done_from-Finishes a b bytes state parsed text status zero f found =
     let found_there = f.loaded.is in
     let same : f.parsed ≡ parsed = cc (found_there, found) in
     let folds = f.folds in
-    let here : StatusOf (fold script_world (with_lines state f.parsed.lines) f.parsed.commands) status = subst (λ (t : Folded). StatusOf t status) (sym folds) (inl zero) in
-    subst (λ (s : Script). StatusOf (fold script_world (with_lines state s.lines) s.commands) status) same here
+    let here : StatusOf (fold (script_world a.store) (with_lines state f.parsed.lines) f.parsed.commands) status = subst (λ (t : Folded). StatusOf t status) (sym folds) (inl zero) in
+    subst (λ (s : Script). StatusOf (fold (script_world a.store) (with_lines state s.lines) s.commands) status) same here
 
 any_memory : (r : Folded) (status : ℕ) → status ≡ 3 → StatusOf r status
 any_memory (Ends replies last) status three = inr three
@@ -45,7 +45,7 @@ ran_done words a b text status kept same whole finishes = record {
   sink = λ five. absurd (omega arith);
   prefix = λ five. absurd (omega arith);
   write_fine = λ _. whole.fine;
-  complete = λ is bytes state parsed known found none. done_from-Finishes a b bytes state parsed text status whole.is (finishes bytes state known) found;
+  complete = λ is bytes state parsed known found limited none. done_from-Finishes a b bytes state parsed text status whole.is (finishes bytes state known) found;
 }
 
 -- words or script are refused
@@ -65,7 +65,7 @@ ran_refused words a b line status kept same whole refused = record {
   sink = λ five. absurd (omega arith);
   prefix = λ five. absurd (omega arith);
   write_fine = λ _. whole.fine;
-  complete = λ is bytes state parsed known found none. let no = (refused is bytes state known).1 in absurd (cc (no, found));
+  complete = λ is bytes state parsed known found limited none. let no = (refused is bytes state known).1 in absurd (cc (no, found));
 }
 
 -- a command failed
@@ -105,7 +105,7 @@ ran_no_memory words a b status kept same whole = record {
   sink = λ five. absurd (omega arith);
   prefix = λ five. absurd (omega arith);
   write_fine = λ _. whole.fine;
-  complete = λ is bytes state parsed known found none. any_memory (fold script_world (with_lines state parsed.lines) parsed.commands) status whole.is;
+  complete = λ is bytes state parsed known found limited none. any_memory (fold (script_world a.store) (with_lines state parsed.lines) parsed.commands) status whole.is;
 }
 
 -- the source failed
@@ -125,7 +125,7 @@ ran_source_failed words a b status kept is failed same = record {
   sink = λ five. absurd (omega arith);
   prefix = λ five. absurd (omega arith);
   write_fine = λ _. same;
-  complete = λ _ bytes state parsed known found none. absurd (none.reads failed.rose);
+  complete = λ _ bytes state parsed known found limited none. absurd (none.reads failed.rose);
 }
 
 -- the sink failed
@@ -145,5 +145,5 @@ ran_sink_failed words a b text status kept same part is_text = record {
   sink = λ five. part.rose;
   prefix = λ five is bytes state known. (text, is_text is bytes state known, part.part);
   write_fine = λ not. let five = part.is in absurd (not five);
-  complete = λ is bytes state parsed known found none. let rose = part.rose in absurd (none.writes rose);
+  complete = λ is bytes state parsed known found limited none. let rose = part.rose in absurd (none.writes rose);
 }

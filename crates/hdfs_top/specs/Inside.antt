@@ -9,7 +9,7 @@ use Rattle.hdfs_model.specs.Files.{State}
 use Rattle.hdfs_model.specs.Folds.{Ends, fold}
 use Rattle.hdfs_model.specs.Headline.{Stopped}
 use Rattle.hdfs_model.specs.Loading.{SameShown, with_lines}
-use Rattle.hdfs_model.specs.Sessions.{Fits}
+use Rattle.hdfs_model.specs.Sessions.{Fits, AreLimited, defaults_of}
 use Rattle.hdfs_model.specs.Shown.{Shown, Later}
 use Rattle.hdfs_script.specs.declared.entry.NumberedLine.{NumberedLine}
 use Rattle.hdfs_script.specs.Parsing.{first_untaken, or_else, plain_lines}
@@ -40,6 +40,7 @@ pub record IsKnownStore (store : Shown) (state : State) : Type 0 where
 pub record LoadsAll (old : Shown) (lines : List NumberedLine) (new : Shown) : Type 0 where
   pub namenodes : new.namenodes ≡ old.namenodes
   pub counts : SameCounts old.counts new.counts
+  pub defaults : defaults_of new.picture ≡ defaults_of old.picture
   pub loaded : new.loaded ≡ old.loaded ++ plain_lines lines
   pub taken : (state : State) → Fits old state → first_untaken true state lines ≡ None
   pub fits : (state : State) → Fits old state → Fits new (with_lines state (plain_lines lines))
@@ -74,16 +75,16 @@ Concludes good before text status after = PrintsWhole good before text status af
 pub record ToEnd (commands : List Command) (old new : Shown) (before : SinkShown) (status : ℕ) (after : SinkShown) : Type 0 where
   pub replies : List Reply
   pub told : (state : State) → IsKnownStore old state
-      → (last : State) × (fold script_world state commands ≡ Ends replies last) × Fits new last
+      → (last : State) × (fold (script_world old) state commands ≡ Ends replies last) × Fits new last
   pub printed : Concludes 0 before (replies_text replies) status after
 
 -- commands stopped at a fault other than want of memory
 pub record ToFault (commands : List Command) (old new : Shown) (before : SinkShown) (status : ℕ) (after : SinkShown) : Type 0 where
   pub fault : Fault
   pub other : fault.error ≢ errors.NoMemory
-  pub told : (state : State) → IsKnownStore old state → Stopped script_world state commands old new fault
-  pub complete : (state : State) → IsKnownStore old state → NoneRose old.namenodes old.counts new.counts
-      → StatusOf (fold script_world state commands) 2
+  pub told : (state : State) → IsKnownStore old state → Stopped (script_world old) state commands old new fault
+  pub complete : (state : State) → IsKnownStore old state → AreLimited (script_world old) state commands
+      → NoneRose old.namenodes old.counts new.counts → StatusOf (fold (script_world old) state commands) 2
   pub printed : Concludes 2 before (fault_text fault) status after
 
 -- a note tells of the fault at which commands stopped, and whose text was printed

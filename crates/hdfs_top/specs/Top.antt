@@ -8,7 +8,7 @@ use Rattle.hdfs_model.specs.Files.{State, Content, Writing}
 use Rattle.hdfs_model.specs.Folds.{Folded, Ends, Stops, fold}
 use Rattle.hdfs_model.specs.Headline.{Stopped}
 use Rattle.hdfs_model.specs.Loading.{SameShown, with_lines}
-use Rattle.hdfs_model.specs.Sessions.{Fits, SameOpened, none_open}
+use Rattle.hdfs_model.specs.Sessions.{Fits, SameOpened, AreLimited, none_open}
 use Rattle.hdfs_model.specs.Shown.{Shown}
 use Rattle.hdfs_script.specs.Scripts.{Script, script, script_limit, script_world}
 use Rattle.hdfs_script.specs.Texts.{replies_text, fault_text, refusal_text}
@@ -55,7 +55,7 @@ pub record Finishes (before : Outside) (bytes : List ℕ) (state : State) (text 
   pub loaded : Loaded before bytes state parsed after
   pub replies : List Reply
   pub last : State
-  pub folds : fold script_world (with_lines state parsed.lines) parsed.commands ≡ Ends replies last
+  pub folds : fold (script_world before.store) (with_lines state parsed.lines) parsed.commands ≡ Ends replies last
   pub fits : Fits after.store last
   pub is_text : text ≡ replies_text replies
 
@@ -66,7 +66,7 @@ pub record Halts (before : Outside) (bytes : List ℕ) (state : State) (text : L
   pub loaded : Loaded before bytes state parsed after
   pub fault : Fault
   pub other : fault.error ≢ errors.NoMemory
-  pub stopped : Stopped script_world (with_lines state parsed.lines) parsed.commands before.store after.store fault
+  pub stopped : Stopped (script_world before.store) (with_lines state parsed.lines) parsed.commands before.store after.store fault
   pub is_text : text ≡ fault_text fault
 
 -- the bytes are no script over the store: the text tells the number of their first bad line
@@ -138,11 +138,12 @@ abbrev pub StatusOf : Folded → ℕ → Type 0
 StatusOf (Ends replies last) status = (status ≡ 0) ⊎ (status ≡ 3)
 StatusOf (Stops replies last why) status = (status ≡ 2) ⊎ (status ≡ 3)
 
--- where nothing failed, the script decides
+-- where nothing failed, and the numbers are in their limits, the script decides
 abbrev pub ScriptDecides : Outside → ℕ → Outside → Type 0
 ScriptDecides before status after = (bytes : List ℕ) (state : State) (parsed : Script) → IsKnown before bytes state
-    → script before.fresh state bytes ≡ Ok parsed → NoneFailed before after
-    → StatusOf (fold script_world (with_lines state parsed.lines) parsed.commands) status
+    → script before.fresh state bytes ≡ Ok parsed
+    → AreLimited (script_world before.store) (with_lines state parsed.lines) parsed.commands → NoneFailed before after
+    → StatusOf (fold (script_world before.store) (with_lines state parsed.lines) parsed.commands) status
 
 -- What a run of the program over some words has done, by its status. All but `done`, `no_script`, `stopped`, `prefix` and
 -- `complete` holds over any source, sink and store.

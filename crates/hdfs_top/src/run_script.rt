@@ -1,10 +1,7 @@
 //! Running a script over a store.
-ghost use Rattle.std.specs.Prelude.{◌≡◌, ◌≢◌, ◌⊎◌, ◌<◌, ℕ, true, List, [], Ok, IfOk};
-ghost use Rattle.std.specs.List.{list_all};
-ghost use Rattle.hdfs_model.specs.Sessions.{has_path};
+ghost use Rattle.std.specs.Prelude.{◌≡◌, ◌≢◌, ◌⊎◌, ◌<◌, ℕ, List, []};
 ghost use Rattle.hdfs_model.specs.declared.errors.HdfsError.TheVariants as errors;
 ghost use Rattle.hdfs_script.specs.Parsing.{Parses};
-ghost use Rattle.hdfs_script.specs.Scripts.{script_world};
 ghost use Rattle.hdfs_script.specs.Texts.{fault_text};
 ghost use Rattle.hdfs_streams.specs.Streams.{SourceShown};
 ghost use Rattle.hdfs_top.specs.Top.{outside, NotesFault};
@@ -14,10 +11,10 @@ use crate::load_lines::{LoadFault, load_script};
 use crate::note::{Note, note_of_commands, note_of_fault, note_of_script};
 use crate::status::{refuse, tell_fault, tell_replies};
 use hdfs_client::run_session;
-use hdfs_model::{Command, Fault, HdfsError, Settings, Store};
-use hdfs_script::{Parsed, SCRIPT_HOME, complaint_at, parse};
+use hdfs_model::{Command, Fault, HdfsError, Store};
+use hdfs_script::{Parsed, complaint_at, parse, script_settings};
 use hdfs_streams::Sink;
-use hdfs_wire::{NoMemory, Text};
+use hdfs_wire::NoMemory;
 use std::alloc::Global;
 
 // Prints what a session answered that stopped, but nothing for want of memory.
@@ -31,15 +28,6 @@ fn tell_stop<K: Sink>(sink: &mut K, fault: &Fault) -> u8
     }
 }
 
-// The settings of a script's session.
-fn script_settings(alloc: Global) -> Result<Settings, NoMemory>
-    ensures { IfOk result (λ settings. settings.home ≡ script_world.home) }
-{
-    Ok(Settings {
-        home: Text::from_str(alloc, SCRIPT_HOME)?,
-    })
-}
-
 // Runs commands over a store, and prints what they answer.
 fn run_commands<K: Sink, C: Store>(
     alloc: Global,
@@ -49,7 +37,6 @@ fn run_commands<K: Sink, C: Store>(
     note: &mut Note,
 ) -> u8
     requires namenode { 0 < (C.shown store.old).namenodes }
-    requires paths { list_all has_path commands.now ≡ true }
     ensures ran { RanCommands commands.now (C.shown store.old) (C.shown store.new) (K.shown sink.old) result (K.shown sink.new) }
     ensures noted { result ≡ 2
         → NotesStop commands.now (C.shown store.old) (C.shown store.new) (K.shown sink.old) result note.new (K.shown sink.new) }
@@ -78,7 +65,6 @@ fn run_parsed<K: Sink, C: Store>(
     note: &mut Note,
 ) -> u8
     requires namenode { 0 < (C.shown store.old).namenodes }
-    requires paths { list_all has_path read.commands ≡ true }
     ensures ran { (bytes : List ℕ) (source left : SourceShown) → Parses bytes read → Gave source bytes left
         → RanSession (outside source (K.shown sink.old) (C.shown store.old) (C.is_fresh store.old)) result
         (outside left (K.shown sink.new) (C.shown store.new) (C.is_fresh store.new)) }

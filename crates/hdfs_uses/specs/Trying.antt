@@ -1,6 +1,7 @@
--- A command that is tried again.
+-- A read that is tried again.
 use Rattle.std.specs.Prelude.{◌≡◌, [], ◌∷◌, Result, IfOk, IfErr}
 use Rattle.hdfs_model.specs.declared.commands.Command.{Command}
+use Rattle.hdfs_model.specs.declared.commands.Command.TheVariants as commands
 use Rattle.hdfs_model.specs.declared.commands.Reply.{Reply}
 use Rattle.hdfs_model.specs.declared.errors.HdfsError.{HdfsError}
 use Rattle.hdfs_model.specs.Files.{State}
@@ -8,6 +9,11 @@ use Rattle.hdfs_model.specs.Headline.{WhereReady}
 use Rattle.hdfs_model.specs.Sessions.{Fits, none_open}
 use Rattle.hdfs_model.specs.Shown.{Shown}
 use Rattle.hdfs_model.specs.Steps.{World, Done, step}
+
+-- the command reads
+abbrev pub IsRead : Command → Type 0
+IsRead (commands.Read path offset len) = Unit {0}
+IsRead command = ⊥
 
 -- a reply is that of the step, whose state the cluster agrees with; after an error the cluster agrees with the old one
 pub record Answered (world : World) (command : Command) (new : Shown) (result : Result Reply HdfsError) (state : State) : Type 0 where

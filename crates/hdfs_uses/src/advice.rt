@@ -1,5 +1,5 @@
 //! What an error means for the one who asked.
-use hdfs_model::{ArgFault, HdfsError};
+use hdfs_model::HdfsError;
 
 /// What to do after an error.
 #[derive(Clone, Copy, Debug, PartialEq, Eq)]
@@ -20,14 +20,15 @@ const MISSING: [&str; 2] = [
     "org.apache.hadoop.fs.ParentNotDirectoryException",
 ];
 
-/// What to do after an error of a read.
+/// What to do after an error of a read. Of a write that has failed look first what stands at its path.
 pub(crate) fn advice_on(error: &HdfsError) -> Advice {
     match error {
         HdfsError::NoMemory => Advice::FreeMemory,
         HdfsError::Failed => Advice::MakeANewSession,
         HdfsError::IOError(_) => Advice::AskAgain,
         HdfsError::DataTransferError(_) => Advice::AskAgain,
-        HdfsError::InvalidArgument(ArgFault::Range { .. }) => Advice::ChangeTheRequest,
+        HdfsError::InvalidPath(_) => Advice::ChangeTheRequest,
+        HdfsError::InvalidArgument(_) => Advice::ChangeTheRequest,
         HdfsError::AlreadyExists(_) => Advice::ChangeTheRequest,
         HdfsError::OperationFailed(_) => Advice::AskAgain,
         HdfsError::FileNotFound(_) => Advice::ChangeTheRequest,

@@ -21,6 +21,7 @@ fn main(rt: HostRuntime) -> Result<(), Failed> {
     let command = read(alloc, "/report", 2, 4)?;
     match apply_patiently(alloc, &mut cluster, &settings(alloc)?, &command, 2) {
         Ok(Reply::Bytes { bytes }) => println!(rt; "{:?}", bytes.as_slice())?,
+        Ok(_) => println!(rt; "another reply")?,
         Err(error) => println!(rt; "{:?}", advice_on(&error))?,
     }
     Ok(())

@@ -1,31 +1,30 @@
 //! Values of the library, made from plain ones.
-ghost use Rattle.std.specs.Prelude.{◌≡◌, ◌<◌, true, IfOk};
+ghost use Rattle.std.specs.Prelude.{◌<◌, IfOk};
 ghost use Rattle.hdfs_cluster.specs.MemShown.{shown_of};
-ghost use Rattle.hdfs_model.specs.Sessions.{has_path};
+ghost use Rattle.hdfs_uses.specs.Trying.{IsRead};
 
 use crate::failed::Failed;
 use hdfs_cluster::{MemCluster, MemSettings};
-use hdfs_model::{Attributes, Command, FaultLine, Line, ReadKind, Settings, Store, is_path};
+use hdfs_model::{Attributes, Command, FaultLine, Line, ReadKind, Settings, Store};
 use hdfs_wire::{Blob, Text};
 use std::alloc::Global;
 
 /// What the file of these examples holds.
 pub(crate) const BYTES: [u8; 8] = [10, 11, 12, 13, 14, 15, 16, 17];
 
-/// What a session is run with.
+/// What a session is run with: a home, a client's name, and how many packets may wait for their acknowledgement.
 pub(crate) fn settings(alloc: Global) -> Result<Settings, Failed> {
     Ok(Settings {
         home: Text::from_str(alloc, "/user/user")?,
+        client: [0; 16],
+        window: 80,
     })
 }
 
-/// A read of `len` bytes from `offset` of the file at an absolute path.
+/// A read of `len` bytes from `offset` of the file at a path.
 pub(crate) fn read(alloc: Global, path: &str, offset: u64, len: u64) -> Result<Command, Failed>
-    ensures { IfOk result (λ command. has_path command ≡ true) }
+    ensures { IfOk result IsRead }
 {
-    if !is_path(path) {
-        return Err(Failed::Refused);
-    }
     Ok(Command::Read {
         path: Text::from_str(alloc, path)?,
         offset,

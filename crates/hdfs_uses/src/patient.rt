@@ -1,14 +1,14 @@
-//! A command that is tried again.
-ghost use Rattle.std.specs.Prelude.{◌≡◌, ◌<◌, true};
-ghost use Rattle.hdfs_model.specs.Sessions.{world_of, has_path};
-ghost use Rattle.hdfs_uses.specs.Trying.{AnsweredWhereReady};
+//! A read that is tried again.
+ghost use Rattle.std.specs.Prelude.{◌≡◌, ◌<◌};
+ghost use Rattle.hdfs_model.specs.Sessions.{world_of};
+ghost use Rattle.hdfs_uses.specs.Trying.{AnsweredWhereReady, IsRead};
 
 use crate::advice::{Advice, advice_on};
 use hdfs_client::Session;
 use hdfs_model::{Cluster, Command, HdfsError, Reply, Settings};
 use std::alloc::Global;
 
-/// Runs one command, in a session of its own, and again while it may be answered later, `tries` times at most and once at
+/// Runs one read, in a session of its own, and again while it may be answered later, `tries` times at most and once at
 /// least. However many tries it took, a reply is that of the step over the cluster's files, and an error leaves the files as
 /// they were.
 pub(crate) fn apply_patiently<C: Cluster>(
@@ -19,7 +19,7 @@ pub(crate) fn apply_patiently<C: Cluster>(
     tries: u32,
 ) -> Result<Reply, HdfsError>
     requires namenode { 0 < (C.shown cluster.old).namenodes }
-    requires path { has_path command.now ≡ true }
+    requires reads { IsRead command.now }
     ensures { let old = C.shown cluster.old in
         AnsweredWhereReady (world_of settings.now old) old command.now (C.shown cluster.new) result }
 {

@@ -7,10 +7,11 @@ use hdfs_wire::Text;
 use std::test::Fail;
 
 /// Paths, offsets and lengths of reads that are refused.
-const REFUSED: [(&str, u64, u64); 5] = [
+const REFUSED: [(&str, u64, u64); 6] = [
     ("/none", 0, 1),
     ("/", 0, 1),
     ("/report/below", 0, 1),
+    ("/report/", 0, 1),
     ("/report", 7, 2),
     ("/report", 0, u64::MAX),
 ];
@@ -40,6 +41,7 @@ fn a_datanode_that_breaks_is_asked_again(rt: HostRuntime) -> Result<(), Fail> {
                 assert!(rt; broken < 3);
                 assert_eq!(rt; Some(bytes.as_slice()), BYTES.get(2..6));
             }
+            Ok(_) => assert!(rt; false),
             Err(error) => {
                 assert_eq!(rt; broken, 3);
                 assert_eq!(rt; advice_on(&error), Advice::AskAgain);

@@ -1,11 +1,7 @@
 use Rattle.std.proofs.Common.{refl, arith}
 use Rattle.hdfs_model.proofs.Frames.{never_fall_refl}
-use Rattle.hdfs_script.proofs.PathLemmas.{paths_from_Parses}
 use Rattle.hdfs_top.proofs.ScriptLemmas.{starved_script}
 use Rattle.hdfs_top.proofs.run_script.run_script.Goals as goal
-
-pub run_parsed-requires-clause-paths : goal.run_parsed-requires-clause-paths
-run_parsed-requires-clause-paths g c = paths_from_Parses c.args.bytes.now c.in-Ok.read c.in-Ok.ensures
 
 -- the script was read
 pub returns-in-Ok : goal.returns-in-Ok
