@@ -1,27 +1,15 @@
 // Sessions over a cluster in memory, by their values.
-ghost use Rattle.std.specs.Prelude.{◌≡◌, ◌<◌, true, IfOk};
-ghost use Rattle.hdfs_model.specs.Sessions.{has_path};
+ghost use Rattle.std.specs.Prelude.{◌<◌};
 
-use crate::support::held;
+use crate::support::{held, settings};
 use hdfs_client::{Session, run_session};
-use hdfs_model::{ArgFault, Cluster, Command, Fault, HdfsError, Reply, Settings, is_path};
+use hdfs_model::{ArgFault, Cluster, Command, Fault, HdfsError, Reply};
 use hdfs_wire::Text;
 use std::alloc::Global;
 use std::test::Fail;
 
-fn settings(alloc: Global) -> Result<Settings, Fail> {
-    Ok(Settings {
-        home: Text::from_str(alloc, "/user/user")?,
-    })
-}
-
-/// A read of an absolute path.
-fn read(alloc: Global, path: &str, offset: u64, len: u64) -> Result<Command, Fail>
-    ensures { IfOk result (λ command. has_path command ≡ true) }
-{
-    if !is_path(path) {
-        return Err("not a path".into());
-    }
+/// A read.
+fn read(alloc: Global, path: &str, offset: u64, len: u64) -> Result<Command, Fail> {
     Ok(Command::Read {
         path: Text::from_str(alloc, path)?,
         offset,

@@ -1,11 +1,10 @@
 //! What a session makes of datanodes that fail, call by call.
-ghost use Rattle.std.specs.Prelude.{◌≡◌, true, IfOk};
-ghost use Rattle.hdfs_model.specs.Sessions.{has_path};
 
 use crate::fake_cluster::Step::{Breaks, Gives, LacksMemory, Opens, Refuses};
 use crate::fake_cluster::{FakeCluster, Look, Step};
+use crate::support::settings;
 use hdfs_client::run_session;
-use hdfs_model::{Command, Fault, HdfsError, Reply, Settings, TransferFault, is_path};
+use hdfs_model::{Command, Fault, HdfsError, Reply, TransferFault};
 use hdfs_wire::Text;
 use std::alloc::Global;
 use std::test::Fail;
@@ -166,12 +165,7 @@ fn ending_of(answer: Result<Vec<Reply>, Fault>) -> Result<Ends, Fail> {
 }
 
 /// A read of five bytes from the third on.
-fn command(alloc: Global) -> Result<Command, Fail>
-    ensures { IfOk result (λ command. has_path command ≡ true) }
-{
-    if !is_path("/a") {
-        return Err("not a path".into());
-    }
+fn command(alloc: Global) -> Result<Command, Fail> {
     Ok(Command::Read {
         path: Text::from_str(alloc, "/a")?,
         offset: 2,
@@ -182,11 +176,8 @@ fn command(alloc: Global) -> Result<Command, Fail>
 /// How the read ends, how many steps were not asked for, and how many links are left open.
 fn run(alloc: Global, look: Look, steps: &[Step]) -> Result<(Ends, usize, usize), Fail> {
     let mut cluster = FakeCluster::new(alloc, look, steps)?;
-    let settings = Settings {
-        home: Text::from_str(alloc, "/user/user")?,
-    };
     let commands = [command(alloc)?];
-    let result = run_session(alloc, &mut cluster, &settings, &commands);
+    let result = run_session(alloc, &mut cluster, &settings(alloc)?, &commands);
     Ok((ending_of(result)?, cluster.left(), cluster.reads.len()))
 }
 

@@ -1,20 +1,34 @@
 //! Files are written block by block in memory, and read back.
 ghost use Rattle.std.specs.Prelude.{◌≡◌, ◌<◌, ◌^◌, IfOk};
 ghost use Rattle.hdfs_cluster.specs.MemShown.{shown_of};
-ghost use Rattle.hdfs_files.specs.Writers.{Stands};
+ghost use Rattle.hdfs_files.specs.Writers.{AreSizes, Stands};
 ghost use Rattle.hdfs_model.specs.Shown.{Shown};
 
 use crate::asking::run_one;
 use crate::support::cluster;
 use hdfs_cluster::MemCluster;
 use hdfs_files::{FileWriter, WriteSizes};
-use hdfs_model::{Cluster, HdfsError, Reply};
+use hdfs_model::{Appended, Cluster, HdfsError, Reply};
 use hdfs_namenode::NamenodeProtocol;
 use hdfs_wire::Text;
 use std::alloc::Global;
 use std::test::Fail;
 
-/// Creates `/f`, and gives its writer: chunks of four bytes, packets of one chunk, at most two of which wait.
+/// Blocks of so many bytes, chunks of four, packets of one chunk, at most two of which wait.
+fn sizes(block_size: u64) -> WriteSizes
+    requires { (0 < block_size) × (block_size < 2 ^ 63) }
+    ensures { AreSizes result }
+{
+    WriteSizes {
+        replication: 1,
+        block_size,
+        chunk: 4,
+        packet_size: 41,
+        window: 2,
+    }
+}
+
+/// Creates `/f`, and gives its writer.
 fn create(
     alloc: Global,
     cluster: &mut MemCluster,
@@ -28,14 +42,8 @@ fn create(
     let Ok(Some(status)) = namenode.create(cluster, "/f", 0o644, 1, true, 1, block_size) else {
         return Err("not created".into());
     };
-    let sizes = WriteSizes {
-        block_size,
-        chunk: 4,
-        packet_size: 41,
-        window: 2,
-    };
     let path = Text::from_str(alloc, "/f")?;
-    Ok(FileWriter::new(alloc, path, status.file_id, sizes))
+    Ok(FileWriter::new(alloc, path, status.file_id, sizes(block_size)))
 }
 
 /// Writes all of the bytes.
@@ -57,10 +65,70 @@ fn write(
     }
 }
 
-/// What is read of a file that was written by two calls, its first byte on.
+/// Opens `/f` to be gone on with, and gives its writer.
+fn append(
+    alloc: Global,
+    cluster: &mut MemCluster,
+    namenode: &NamenodeProtocol,
+    block_size: u64,
+) -> Result<FileWriter, Fail>
+    requires size { (0 < block_size) × (block_size < 2 ^ 63) }
+    ensures { IfOk result (λ writer. (shown : Shown) → Stands shown writer) }
+{
+    if cluster.namenodes() == 0 {
+        return Err("no namenode".into());
+    }
+    let Ok(Appended { block, .. }) = namenode.append(cluster, "/f", 4) else {
+        return Err("not opened".into());
+    };
+    let path = Text::from_str(alloc, "/f")?;
+    Ok(FileWriter::appended(alloc, path, None, sizes(block_size), block))
+}
+
+/// Closes the file.
+fn close(
+    writer: FileWriter,
+    cluster: &mut MemCluster,
+    namenode: &NamenodeProtocol,
+) -> Result<(), Fail>
+    requires { Stands (shown_of cluster.old) writer }
+{
+    if cluster.namenodes() == 0 {
+        return Err("no namenode".into());
+    }
+    match writer.close(cluster, namenode) {
+        Ok(()) => Ok(()),
+        Err(_) => Err("not closed".into()),
+    }
+}
+
+/// The writer to go on with: the same, or that of a file which is closed and opened again, where `reopens` says so.
+fn gone_on(
+    alloc: Global,
+    writer: FileWriter,
+    cluster: &mut MemCluster,
+    namenode: &NamenodeProtocol,
+    block_size: u64,
+    reopens: bool,
+) -> Result<FileWriter, Fail>
+    requires writer { Stands (shown_of cluster.old) writer }
+    requires size { (0 < block_size) × (block_size < 2 ^ 63) }
+    ensures { IfOk result (λ writer. Stands (shown_of cluster.new) writer) }
+{
+    if !reopens {
+        return Ok(writer);
+    }
+    close(writer, cluster, namenode)?;
+    let writer = append(alloc, cluster, namenode, block_size)?;
+    Ok(writer)
+}
+
+/// What is read of a file that was written by two calls, from its first byte on. Between them it is closed, and opened again,
+/// where `reopens` says so.
 fn written_and_read(
     alloc: Global,
     block_size: u64,
+    reopens: bool,
     first: &[u8],
     second: &[u8],
 ) -> Result<Vec<u8>, Fail>
@@ -70,13 +138,9 @@ fn written_and_read(
     let namenode = NamenodeProtocol::new(alloc, [0; 16])?;
     let mut writer = create(alloc, &mut cluster, &namenode, block_size)?;
     write(&mut writer, &mut cluster, &namenode, first)?;
+    let mut writer = gone_on(alloc, writer, &mut cluster, &namenode, block_size, reopens)?;
     write(&mut writer, &mut cluster, &namenode, second)?;
-    if cluster.namenodes() == 0 {
-        return Err("no namenode".into());
-    }
-    if writer.close(&mut cluster, &namenode).is_err() {
-        return Err("not closed".into());
-    }
+    close(writer, &mut cluster, &namenode)?;
     if cluster.namenodes() == 0 {
         return Err("no namenode".into());
     }
@@ -101,8 +165,16 @@ fn a_file_of_many_blocks_is_read_back(rt: HostRuntime) -> Result<(), Fail> {
             if block_size == 0 || block_size > 64 || cut > end || end > 20 {
                 return Err("a bad row".into());
             }
-            let found = written_and_read(alloc, block_size, &bytes[..cut], &bytes[cut..end])?;
-            assert_eq!(rt; found.as_slice(), &bytes[..end]);
+            for reopens in [false, true] {
+                let found = written_and_read(
+                    alloc,
+                    block_size,
+                    reopens,
+                    &bytes[..cut],
+                    &bytes[cut..end],
+                )?;
+                assert_eq!(rt; found.as_slice(), &bytes[..end]);
+            }
         }
     }
     Ok(())

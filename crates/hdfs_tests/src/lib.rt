@@ -18,3 +18,5 @@ mod support;
 mod texts;
 #[cfg(test)]
 mod wire;
+#[cfg(test)]
+mod writing_rows;

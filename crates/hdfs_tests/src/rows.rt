@@ -142,7 +142,7 @@ fn a_broken_packet_fails_the_read_that_met_it(rt: HostRuntime) -> Result<(), Fai
 }
 
 /// Scripts that are refused, and their first bad line.
-const BAD: [(&str, u64); 72] = [
+const BAD: [(&str, u64); 80] = [
     ("file  /a 644 1 8 00", 1),
     (" file /a 644 1 8 00", 1),
     ("file /a 644 1 8 00 ", 1),
@@ -187,10 +187,18 @@ const BAD: [(&str, u64); 72] = [
     ("do read /a 0 1 2", 1),
     ("do read /a -1 0", 1),
     ("do read /a 0 18446744073709551616", 1),
-    ("do read a 0 0", 1),
-    ("do read /a/../b 0 0", 1),
-    ("do write /a 00", 1),
     ("do  read /a 0 0", 1),
+    ("do create /a 644 2 8 false true", 1),
+    ("do create /a 648 1 8 false true", 1),
+    ("do create /a 644 1 8 no true", 1),
+    ("do create /a 644 1 8 false", 1),
+    ("do append", 1),
+    ("do append /a /b", 1),
+    ("do write /a 0", 1),
+    ("do write /a", 1),
+    ("do close", 1),
+    ("do close /a /b", 1),
+    ("do remove /a", 1),
     ("fault read 4294967296 1 broken", 1),
     ("fault read 0 0 broken", 1),
     ("fault read 0 18446744073709551616 broken", 1),

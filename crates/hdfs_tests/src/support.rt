@@ -3,9 +3,9 @@ ghost use Rattle.std.specs.Prelude.{◌≡◌, ◌<◌, IfOk};
 ghost use Rattle.hdfs_cluster.specs.MemShown.{shown_of};
 
 use hdfs_cluster::{MemCluster, MemSettings};
-use hdfs_model::{Attributes, Line, Reply, Store};
-use hdfs_plain::{PlainFiles, PlainFold, PlainRefusal};
-use hdfs_script::{SCRIPT_HOME, parse};
+use hdfs_model::{Attributes, Line, Reply, Settings, Store};
+use hdfs_plain::{PlainFiles, PlainFold, PlainRefusal, PlainWorld};
+use hdfs_script::{SCRIPT_HOME, parse, script_settings};
 use hdfs_streams::{MemSink, MemSource};
 use hdfs_top::{Note, top};
 use hdfs_wire::{Blob, List, Text};
@@ -24,6 +24,11 @@ pub(crate) fn cluster(alloc: Global) -> Result<MemCluster, Fail>
     ensures { IfOk result (λ m. (shown_of m).namenodes ≡ 1) }
 {
     Ok(MemCluster::new(alloc, MemSettings::of_scripts())?)
+}
+
+/// What a session is run with.
+pub(crate) fn settings(alloc: Global) -> Result<Settings, Fail> {
+    Ok(script_settings(alloc)?)
 }
 
 /// A cluster that holds one file of four bytes.
@@ -112,6 +117,14 @@ pub(crate) fn refused(alloc: Global, line: u64) -> Result<Ending, Fail> {
     })
 }
 
+/// What a script's commands take beside the files: the home of a script, and the defaults of its cluster.
+pub(crate) fn world(alloc: Global) -> Result<PlainWorld, Fail> {
+    Ok(PlainWorld {
+        home: Text::from_str(alloc, SCRIPT_HOME)?,
+        defaults: MemSettings::of_scripts().defaults,
+    })
+}
+
 /// What the plain program answers to a script without faults.
 pub(crate) fn plain_answer(alloc: Global, script: &[u8]) -> Result<Ending, Fail> {
     let read = parse(alloc, script)?;
@@ -124,7 +137,7 @@ pub(crate) fn plain_answer(alloc: Global, script: &[u8]) -> Result<Ending, Fail>
     if let Some(line) = read.bad {
         return refused(alloc, line);
     }
-    let fold = hdfs_plain::run(alloc, SCRIPT_HOME, &files, read.commands.as_slice())?;
+    let fold = hdfs_plain::run(&world(alloc)?, &mut files, read.commands.as_slice())?;
     print(alloc, &fold)
 }
 
@@ -137,17 +150,29 @@ fn load(files: &mut PlainFiles, line: Line) -> Result<bool, Fail> {
     Ok(true)
 }
 
+/// The line of a reply.
+fn reply_line(alloc: Global, reply: &Reply) -> Result<String, Fail> {
+    match reply {
+        Reply::Created => Ok(String::from_str(alloc, "ok created\n")?),
+        Reply::Appended => Ok(String::from_str(alloc, "ok appended\n")?),
+        Reply::Written { bytes } => Ok(format!(in alloc; "ok written {bytes}\n")?),
+        Reply::Closed => Ok(String::from_str(alloc, "ok closed\n")?),
+        Reply::Bytes { bytes } => {
+            let digits = match bytes.as_slice() {
+                [] => String::from_str(alloc, "-")?,
+                bytes => hex::encode(alloc, bytes)?,
+            };
+            Ok(format!(in alloc; "ok bytes {digits}\n")?)
+        }
+    }
+}
+
 /// What a fold is printed as.
 fn print(alloc: Global, fold: &PlainFold) -> Result<Ending, Fail> {
     let mut text = String::new(alloc);
     let mut number = 1u64;
     for reply in fold.replies.as_slice() {
-        let Reply::Bytes { bytes } = reply;
-        let digits = match bytes.as_slice() {
-            [] => String::from_str(alloc, "-")?,
-            bytes => hex::encode(alloc, bytes)?,
-        };
-        text.push_str(format!(in alloc; "ok bytes {digits}\n")?.as_str())?;
+        text.push_str(reply_line(alloc, reply)?.as_str())?;
         number = number.saturating_add(1);
     }
     let Some(why) = fold.refused else {
@@ -162,7 +187,8 @@ fn print(alloc: Global, fold: &PlainFold) -> Result<Ending, Fail> {
 fn error_name(why: PlainRefusal) -> &'static str {
     match why {
         PlainRefusal::BadPath => "InvalidPath",
-        PlainRefusal::BadRange => "InvalidArgument",
+        PlainRefusal::BadRange | PlainRefusal::WrongState => "InvalidArgument",
+        PlainRefusal::Exists => "AlreadyExists",
         PlainRefusal::NotDirectory | PlainRefusal::Missing | PlainRefusal::NotFile => "RPCError",
     }
 }

@@ -111,11 +111,11 @@ const NOTES: [(&str, &str); 23] = [
     ),
     (
         "do  read /a 0 1\n",
-        "line 1: not `do read PATH OFFSET LENGTH`, with one space between words",
+        "line 1: begins with none of `do create`, `do append`, `do write`, `do close` and `do read`",
     ),
     (
-        "do read a 0 1\n",
-        "line 1: PATH isn't absolute, or has a component that is empty, `.` or `..`",
+        "do read /a  0 1\n",
+        "line 1: not `do read PATH OFFSET LENGTH`, with one space between words",
     ),
     (
         "file a 644 1 8 00\n",
