@@ -133,7 +133,8 @@ HasLength state path n = (content : Content) × (content_of (state.files path) �
 -- an option of the command is out of its limits, or an attribute of the file that it writes
 abbrev pub OptionsOut : State → List ℕ → Command → Type 0
 OptionsOut state path (commands.Create text options) = are_options options ≡ false
-OptionsOut state path (commands.Write text bytes) = (content : Content) × (state.files path ≡ Some (Writing content)) × (are_attributes content.attributes ≡ false)
+OptionsOut state path (commands.Write text bytes) =
+    (content : Content) × (state.files path ≡ Some (Writing content)) × (are_attributes content.attributes ≡ false)
 OptionsOut state path command = ⊥
 
 -- What holds of an error of a command over any cluster, told or not, from what is shown before the command, or before an
@@ -169,20 +170,28 @@ IsEarly command error = ⊥
 -- ended. Want of memory has none.
 abbrev pub Cause : World → State → Command → Shown → Shown → HdfsError → Type 0
 Cause world state command old new errors.NoMemory = Unit {0}
-Cause world state command old new (errors.IOError io_faults.Link) = IsDone (step world state command) × Rose old.counts.links new.counts.links
-Cause world state command old new (errors.DataTransferError (transfer.Read byte)) = IsDone (step world state command) × CommandLost old.counts new (target_of world command) command byte
-Cause world state command old new (errors.DataTransferError transfer.Setup) = IsDone (step world state command) × Rose old.counts.links new.counts.links
-Cause world state command old new (errors.DataTransferError transfer.AllNodes) = IsDone (step world state command) × PipelineFailed old.counts new (target_of world command)
-Cause world state command old new (errors.DataTransferError (transfer.BadAck seqno)) = IsDone (step world state command) × Rose old.counts.links new.counts.links
+Cause world state command old new (errors.IOError io_faults.Link) =
+    IsDone (step world state command) × Rose old.counts.links new.counts.links
+Cause world state command old new (errors.DataTransferError (transfer.Read byte)) =
+    IsDone (step world state command) × CommandLost old.counts new (target_of world command) command byte
+Cause world state command old new (errors.DataTransferError transfer.Setup) =
+    IsDone (step world state command) × Rose old.counts.links new.counts.links
+Cause world state command old new (errors.DataTransferError transfer.AllNodes) =
+    IsDone (step world state command) × PipelineFailed old.counts new (target_of world command)
+Cause world state command old new (errors.DataTransferError (transfer.BadAck seqno)) =
+    IsDone (step world state command) × Rose old.counts.links new.counts.links
 Cause world state command old new (errors.InvalidPath text) = step world state command ≡ Refused BadPath
 Cause world state command old new (errors.InvalidArgument args.State) = step world state command ≡ Refused WrongState
 Cause world state command old new (errors.InvalidArgument args.Options) = OptionsOut state (target_of world command) command
 Cause world state command old new (errors.InvalidArgument args.Defaults) = UsesDefaults command × (are_defaults world.defaults ≡ false)
-Cause world state command old new (errors.InvalidArgument (args.Range offset len length)) = (step world state command ≡ Refused BadRange) × HasLength state (target_of world command) length
+Cause world state command old new (errors.InvalidArgument (args.Range offset len length)) =
+    (step world state command ≡ Refused BadRange) × HasLength state (target_of world command) length
 Cause world state command old new (errors.AlreadyExists message) = (step world state command ≡ Refused Exists) ⊎ CallsRose old.counts new
-Cause world state command old new (errors.OperationFailed name) = IsDone (step world state command) × CallsRose old.counts new
+Cause world state command old new (errors.OperationFailed name) =
+    IsDone (step world state command) × CallsRose old.counts new × (name ≡ target_of world command)
 Cause world state command old new (errors.FileNotFound name) = IsLacking (step world state command)
-Cause world state command old new (errors.RPCError class message) = StandsForLacking (step world state command) class ⊎ CallsRose old.counts new
+Cause world state command old new (errors.RPCError class message) =
+    StandsForLacking (step world state command) class ⊎ CallsRose old.counts new
 Cause world state command old new error = ⊥
 
 -- the errors that stand for a refusal

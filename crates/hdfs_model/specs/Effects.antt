@@ -93,7 +93,8 @@ pub record Reopens (old : Picture) (id : ℕ) (block : LocatedBlock) (entry entr
 abbrev pub Opens : List ℕ → FileEntry → Option LocatedBlock → Picture → Picture → Type 0
 Opens src file None old new = (file.blocks ≡ []) × Changes old new (with_entry old.names src (record file { is_open = true })) old.table
 Opens src file (Some block) old new =
-    (front : List ℕ) × (id : ℕ) × (entry : BlockEntry) × (entry' : BlockEntry) × (file.blocks ≡ front ++ id ∷ []) × Reopens old id block entry entry'
+    (front : List ℕ) × (id : ℕ) × (entry : BlockEntry) × (entry' : BlockEntry) × (file.blocks ≡ front ++ id ∷ [])
+    × Reopens old id block entry entry'
     × Changes old new (with_entry old.names src (record file { is_open = true })) (with_block old.table id entry')
 
 -- the file's last block is empty, and the named block is the one before it: a block was asked for before
@@ -134,7 +135,8 @@ pub record AddsNew (src : List ℕ) (file : FileEntry) (previous : Option Block)
   pub first : (last : ℕ) → IsRetried old.table file.blocks previous last → ⊥
   pub fresh : IsNewBlock old file id entry
   pub answered : IsEntry block id entry
-  pub changes : Changes old new (with_entry old.names src (record file { blocks = file.blocks ++ id ∷ [] })) (with_block (with_length old.table previous) id entry)
+  pub changes : Changes old new (with_entry old.names src (record file { blocks = file.blocks ++ id ∷ [] }))
+      (with_block (with_length old.table previous) id entry)
 
 -- a block more of a file
 abbrev pub AddsBlock : List ℕ → FileEntry → Option Block → LocatedBlock → Picture → Picture → Type 0
@@ -142,7 +144,8 @@ AddsBlock src file previous block old new = GivesAgain src file previous block o
 
 -- an open file is closed, and the length of its last block is set; a closed one stays as it is
 abbrev pub ClosesIf : Bool → List ℕ → FileEntry → Option Block → Picture → Picture → Type 0
-ClosesIf true src file last old new = Changes old new (with_entry old.names src (record file { is_open = false })) (with_length old.table last)
+ClosesIf true src file last old new =
+    Changes old new (with_entry old.names src (record file { is_open = false })) (with_length old.table last)
 ClosesIf false src file last old new = Changes old new old.names old.table
 
 -- a file with this last block is closed

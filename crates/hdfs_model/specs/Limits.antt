@@ -7,10 +7,11 @@ use Rattle.hdfs_model.specs.declared.commands.Settings.{Settings}
 use Rattle.hdfs_model.specs.declared.commands.WriteOptions.{WriteOptions}
 use Rattle.hdfs_model.specs.declared.messages.ServerDefaults.{ServerDefaults}
 
--- permission bits up to 7777 in octal, one replica, a block size from 1 to 2^63 - 1, and no more bytes than one block has
+-- permission bits up to 7777 in octal, one replica, a block size from 1 to 2^63 - 1, and fewer than 2^63 bytes
 abbrev pub in_limits : Attributes → ℕ → Bool
 in_limits attributes count =
-    nat_le attributes.permission 4095 && (attributes.replication == 1) && nat_le 1 attributes.block_size && nat_lt attributes.block_size (2 ^ 63) && nat_le count attributes.block_size
+    nat_le attributes.permission 4095 && (attributes.replication == 1) && nat_le 1 attributes.block_size
+    && nat_lt attributes.block_size (2 ^ 63) && nat_lt count (2 ^ 63)
 
 -- a replication is from 1 to 65,535
 abbrev pub is_replication : ℕ → Bool
@@ -22,7 +23,8 @@ is_block_size n = nat_le 1 n && nat_lt n (2 ^ 63)
 
 -- a chunk has from 1 to 2^30 bytes, and a packet room for one with its header, or size 0
 abbrev pub are_sizes : ℕ → ℕ → Bool
-are_sizes chunk packet = nat_le 1 chunk && nat_le chunk (2 ^ 30) && ((packet == 0) || (nat_le (chunk + 37) packet && nat_lt packet (2 ^ 31)))
+are_sizes chunk packet =
+    nat_le 1 chunk && nat_le chunk (2 ^ 30) && ((packet == 0) || (nat_le (chunk + 37) packet && nat_lt packet (2 ^ 31)))
 
 -- permission bits are up to 7777 in octal
 abbrev pub is_permission : ℕ → Bool
@@ -39,7 +41,8 @@ are_defaults d = is_replication d.replication && is_block_size d.block_size && a
 
 -- what is given of the options is in its limits
 abbrev pub are_options : WriteOptions → Bool
-are_options options = is_permission options.permission && if_given is_replication options.replication && if_given is_block_size options.block_size
+are_options options =
+    is_permission options.permission && if_given is_replication options.replication && if_given is_block_size options.block_size
 
 -- the attributes of a file that is written are in their limits
 abbrev pub are_attributes : Attributes → Bool

@@ -76,7 +76,8 @@ pub record LocatesBlock (entry : BlockEntry) (at id : ℕ) (block : LocatedBlock
 abbrev pub LocatesBlocks : (ℕ → Option BlockEntry) → ℕ → ℕ → List ℕ → List LocatedBlock → Type 0
 LocatesBlocks table at end [] [] = end ≡ at
 LocatesBlocks table at end (id ∷ ids) (block ∷ blocks) =
-    ((entry : BlockEntry) × (table id ≡ Some entry) × LocatesBlock entry at id block) × LocatesBlocks table (at + block.b.num_bytes) end ids blocks
+    ((entry : BlockEntry) × (table id ≡ Some entry) × LocatesBlock entry at id block)
+    × LocatesBlocks table (at + block.b.num_bytes) end ids blocks
 LocatesBlocks table at end [] (block ∷ blocks) = ⊥
 LocatesBlocks table at end (id ∷ ids) [] = ⊥
 
@@ -132,17 +133,20 @@ IsShaped ask answer = ⊥
 -- changes nothing. False is no answer of the row to `complete`.
 abbrev pub Row : Picture → Ask → Answer → Picture → Type 0
 Row old (asks.GetBlockLocations src offset length) (answers.GetBlockLocations None) new = IsNoFile old src × SameButActive old new
-Row old (asks.GetBlockLocations src offset length) (answers.GetBlockLocations (Some found)) new = Locates old src found × SameButActive old new
+Row old (asks.GetBlockLocations src offset length) (answers.GetBlockLocations (Some found)) new =
+    Locates old src found × SameButActive old new
 Row old asks.GetServerDefaults (answers.GetServerDefaults defaults) new = (defaults ≡ old.defaults) × SameButActive old new
 Row old (asks.Create src masked client flag parents replication block_size) (answers.Create status) new =
     (create_refusal (kinds old) src (overwrites flag) parents ≡ None)
     × HasStatus (new_file masked replication block_size) status
     × Creates src (new_file masked replication block_size) old new
 Row old (asks.Append src client flag) (answers.Append appended) new =
-    (append_refusal (kinds old) src ≡ None) × ((file : FileEntry) × IsFileAt old src file × HasStatus file appended.stat × Opens src file appended.block old new)
+    (append_refusal (kinds old) src ≡ None)
+    × ((file : FileEntry) × IsFileAt old src file × HasStatus file appended.stat × Opens src file appended.block old new)
 Row old (asks.AddBlock src client previous excludes file_id) (answers.AddBlock block) new =
     (file : FileEntry) × IsFileAt old src file × AddsBlock src file previous block old new
-Row old (asks.Complete src client last file_id) (answers.Complete true) new = (file : FileEntry) × IsFileAt old src file × Completes src file last old new
+Row old (asks.Complete src client last file_id) (answers.Complete true) new =
+    (file : FileEntry) × IsFileAt old src file × Completes src file last old new
 Row old ask answer new = ⊥
 
 -- the class of the exception that stands for what is in the way at a path
@@ -181,7 +185,8 @@ IsOwn p (asks.GetBlockLocations src offset length) = kinds p src ≡ Some OpenFi
 IsOwn p asks.GetServerDefaults = ⊥
 IsOwn p (asks.Create src masked client flag parents replication block_size) = ⊥
 IsOwn p (asks.Append src client flag) = ⊥
-IsOwn p (asks.AddBlock src client previous excludes file_id) = (file : FileEntry) → IsFileAt p src file → file.is_open ≡ true → HasBlock file.blocks previous → ⊥
+IsOwn p (asks.AddBlock src client previous excludes file_id) =
+    (file : FileEntry) → IsFileAt p src file → file.is_open ≡ true → HasBlock file.blocks previous → ⊥
 IsOwn p (asks.Complete src client last file_id) = (file : FileEntry) → IsFileAt p src file → IsLast file.blocks last → ⊥
 
 -- the path that an ask names; one that asks for the defaults names none

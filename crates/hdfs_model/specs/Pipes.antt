@@ -79,7 +79,9 @@ FirstFailed old link new = (write : OpenWrite) → old.writes link ≡ Some writ
 
 -- the link is open, and was set up so
 abbrev pub IsStillOpen : Shown → ℕ → Shown → Type 0
-IsStillOpen old link new = (write : OpenWrite) → old.writes link ≡ Some write → (write' : OpenWrite) × (new.writes link ≡ Some write') × (write'.setup ≡ write.setup)
+IsStillOpen old link new =
+    (write : OpenWrite) → old.writes link ≡ Some write → (write' : OpenWrite) × (new.writes link ≡ Some write')
+    × (write'.setup ≡ write.setup)
 
 -- No packet was sent, or the connection broke, and some of the datanodes may have it. Where the last packet ended and which
 -- ones wait is free then. A connection breaks only where the count of the first datanode rose.
@@ -107,7 +109,8 @@ pub record Acknowledged (old : Shown) (link : ℕ) (ack : Ack) (new : Shown) : T
   pub now : (write : OpenWrite) → old.writes link ≡ Some write → (write' : OpenWrite) × (new.writes link ≡ Some write')
       × (write'.setup ≡ write.setup) × (write'.end ≡ write.end) × Waits ack.seqno write.waiting write'.waiting
   pub formed : (write : OpenWrite) → old.writes link ≡ Some write → IsWellFormed write ack ⊎ Rose old.counts.links new.counts.links
-  pub statuses : (write : OpenWrite) → old.writes link ≡ Some write → (i : ℕ) → i < length write.setup.locs → i < length ack.replies → slice_index_or ack.replies i 0 ≢ 0
+  pub statuses : (write : OpenWrite) → old.writes link ≡ Some write → (i : ℕ) → i < length write.setup.locs → i < length ack.replies
+      → slice_index_or ack.replies i 0 ≢ 0
       → Rose (old.counts.nodes (slice_index_or (nodes_of write) i [])) (new.counts.nodes (slice_index_or (nodes_of write) i []))
   pub came : Told (Responds link (Came ack)) old.picture new.picture
 
@@ -133,4 +136,6 @@ pub record IsPlaceOf (write : OpenWrite) (place : WritePlace) : Type 0 where
 
 -- the picture shows each open write link
 abbrev pub ShowsWrites : Shown → Picture → Type 0
-ShowsWrites shown p = (link : ℕ) (write : OpenWrite) → shown.writes link ≡ Some write → (place : WritePlace) × (p.writes link ≡ Some place) × IsPlaceOf write place
+ShowsWrites shown p =
+    (link : ℕ) (write : OpenWrite) → shown.writes link ≡ Some write → (place : WritePlace) × (p.writes link ≡ Some place)
+    × IsPlaceOf write place

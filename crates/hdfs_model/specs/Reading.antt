@@ -17,7 +17,13 @@ pub record Begins (ask : ReadAsk) (link : ℕ) (old new : Picture) : Type 0 wher
   pub rest : ReadsAt link old new
   pub place : ℕ
   pub behind : place ≤ ask.offset
-  pub at : new.reads link ≡ Some (record { block = ask.block.block_id; offset = ask.offset; len = ask.len; base = old.held ask.node.datanode_uuid ask.block.block_id; place = place })
+  pub at : new.reads link ≡ Some (record {
+    block = ask.block.block_id;
+    offset = ask.offset;
+    len = ask.len;
+    base = old.held ask.node.datanode_uuid ask.block.block_id;
+    place = place;
+  })
 
 -- A packet is the next slice of the base. It is empty only where the range is covered or the base ends, and once the range
 -- is covered it is.
@@ -35,7 +41,8 @@ moved_on read count = record { block = read.block; offset = read.offset; len = r
 -- one.
 pub record Gives (link : ℕ) (instead : Type 0) (packet : ReadPacket) (old new : Picture) : Type 0 where
   pub rest : ReadsAt link old new
-  pub slice : (read : ReadPlace) → old.reads link ≡ Some read → (IsSlice read packet × (new.reads link ≡ Some (moved_on read (length packet.payload)))) ⊎ instead
+  pub slice : (read : ReadPlace) → old.reads link ≡ Some read
+      → (IsSlice read packet × (new.reads link ≡ Some (moved_on read (length packet.payload)))) ⊎ instead
 
 -- a read was ended
 pub record Closes (link : ℕ) (old new : Picture) : Type 0 where

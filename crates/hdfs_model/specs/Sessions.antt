@@ -67,7 +67,8 @@ pub record IsLimited (world : World) (state : State) (command : Command) : Type 
 abbrev pub AreLimited : World → State → List Command → Type 0
 AreLimited world state [] = Unit {0}
 AreLimited world state (command ∷ commands) =
-    IsLimited world state command × ((reply : Reply) (next : State) → step world state command ≡ Done reply next → AreLimited world next commands)
+    IsLimited world state command × ((reply : Reply) (next : State) → step world state command ≡ Done reply next
+    → AreLimited world next commands)
 
 -- a write and a close want the path open, all others want it not
 abbrev pub is_misplaced : Command → Bool → Bool
@@ -91,7 +92,8 @@ OwedBy true false path error = IsNotOwed error
 -- Want of memory may come instead.
 abbrev pub Owed : World → (List ℕ → Bool) → Command → HdfsError → Type 0
 Owed world opened command error =
-    (error ≡ errors.NoMemory) ⊎ OwedBy (is_path (target_of world command)) (is_misplaced command (opened (target_of world command))) (path_of command) error
+    (error ≡ errors.NoMemory)
+    ⊎ OwedBy (is_path (target_of world command)) (is_misplaced command (opened (target_of world command))) (path_of command) error
 
 -- The paths that a command touches: its own where it writes, and where it creates those above it at which nothing stood. One
 -- that only reads touches none.
@@ -106,9 +108,16 @@ is_before_asking (errors.InvalidPath text) = true
 is_before_asking (errors.InvalidArgument fault) = true
 is_before_asking error = false
 
--- whether nothing is said of a path once a command over a state has failed with an error
+-- whether a step does what the command asks
+abbrev pub does : Outcome → Bool
+does (Refused why) = false
+does (Done reply next) = true
+
+-- Whether nothing is said of a path once a command over a state has failed with an error: the step would change something there, and was
+-- asked for.
 abbrev pub spared : World → State → Command → HdfsError → List ℕ → Bool
-spared world state command error path = not (is_before_asking error) && touched state (target_of world command) command path
+spared world state command error path =
+    not (is_before_asking error) && does (step world state command) && touched state (target_of world command) command path
 
 -- Where nothing failed, a command that is not refused is done, and one that is refused answers the error of that kind. Want
 -- of memory may always come.
@@ -120,4 +129,5 @@ Answers (Refused why) error = (error ≡ errors.NoMemory) ⊎ IsKind why error
 abbrev pub Complete : {T : Type 0} → Folded → Result T Fault → Type 0
 Complete (Ends replies last) result = IfErr result (λ fault. fault.error ≡ errors.NoMemory)
 Complete (Stops replies last why) result =
-    MatchResult result (λ done. ⊥) (λ fault. ((fault.error ≡ errors.NoMemory) × (fault.at ≤ length replies + 1)) ⊎ ((fault.at ≡ length replies + 1) × IsKind why fault.error))
+    MatchResult result (λ done. ⊥) (λ fault. ((fault.error ≡ errors.NoMemory) × (fault.at ≤ length replies + 1))
+    ⊎ ((fault.at ≡ length replies + 1) × IsKind why fault.error))

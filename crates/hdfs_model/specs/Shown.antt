@@ -10,11 +10,17 @@ use Rattle.hdfs_model.specs.declared.asks.LinkFault.TheVariants as faults
 use Rattle.hdfs_model.specs.declared.picture.LastAnswer.{LastAnswer}
 use Rattle.hdfs_model.specs.declared.picture.OpenRead.{OpenRead}
 use Rattle.hdfs_model.specs.declared.picture.OpenWrite.{OpenWrite}
+use Rattle.hdfs_model.specs.declared.mem_settings.MemSettings.{MemSettings}
 use Rattle.hdfs_model.specs.declared.store.Line.{Line}
 use Rattle.hdfs_model.specs.Counts.{FaultCounts, NeverFall, Rose}
 use Rattle.hdfs_model.specs.Picture.{Picture, SameFiles, SamePicture, Told}
 use Rattle.hdfs_model.specs.Namenode.{last_of, ServesTold}
 use Rattle.hdfs_model.specs.Reading.{ReadsAt, Begins, Gives, Closes}
+
+-- what was loaded into a cluster: the settings that it was made with, where it is a store, and its lines, in order
+pub record Loaded : Type 0 where
+  pub settings : Option MemSettings
+  pub lines : List Line
 
 -- the picture where it is told, the counts, and what else is seen from outside
 pub record Shown : Type 0 where
@@ -30,8 +36,8 @@ pub record Shown : Type 0 where
   pub reads : ℕ → Option OpenRead
   -- its open write links
   pub writes : ℕ → Option OpenWrite
-  -- the lines that were loaded into it, in order
-  pub loaded : List Line
+  -- what was loaded into it
+  pub loaded : Loaded
 
 -- what every call keeps
 pub record Later (old new : Shown) : Type 0 where
@@ -93,7 +99,12 @@ pub record IsUnused (link : ℕ) (shown : Shown) : Type 0 where
 pub record Opened (old : Shown) (ask : ReadAsk) (link : ℕ) (new : Shown) : Type 0 where
   pub reading : Reading link old new
   pub fresh : IsUnused link old
-  pub opened : new.reads link ≡ Some (record { node = ask.node; block = ask.block; token = ask.token; before = old.counts.nodes ask.node.datanode_uuid })
+  pub opened : new.reads link ≡ Some (record {
+    node = ask.node;
+    block = ask.block;
+    token = ask.token;
+    before = old.counts.nodes ask.node.datanode_uuid;
+  })
   pub begins : Told (Begins ask link) old.picture new.picture
 
 -- No read was opened. Beside want of memory this comes only where the datanode's count rose.
@@ -120,7 +131,8 @@ pub record NotGiven (old : Shown) (link : ℕ) (fault : LinkFault) (new : Shown)
   pub writes : (other : ℕ) → new.writes other ≡ old.writes other
   pub picture : Told SamePicture old.picture new.picture
   pub not_refused : fault ≢ faults.Refused
-  pub cause : fault ≡ faults.Broken → IfSome (old.reads link) (λ read. Rose (old.counts.nodes read.node.datanode_uuid) (new.counts.nodes read.node.datanode_uuid))
+  pub cause : fault ≡ faults.Broken
+      → IfSome (old.reads link) (λ read. Rose (old.counts.nodes read.node.datanode_uuid) (new.counts.nodes read.node.datanode_uuid))
 
 -- a read was ended
 pub record Ended (old : Shown) (link : ℕ) (new : Shown) : Type 0 where

@@ -105,7 +105,8 @@ abbrev pub close_node : State → List ℕ → Option Node → Outcome
 close_node state path None = Refused WrongState
 close_node state path (Some Dir) = Refused WrongState
 close_node state path (Some (File content)) = Refused WrongState
-close_node state path (Some (Writing content)) = Done replies.Closed (record (with_node state path (File content)) { opened = without path state.opened })
+close_node state path (Some (Writing content)) =
+    Done replies.Closed (record (with_node state path (File content)) { opened = without path state.opened })
 
 -- A command at its path. A write and a close are refused where the session hasn't the path open, all others where it has.
 abbrev pub step_at : World → State → List ℕ → Command → Outcome
@@ -135,4 +136,5 @@ target_of world command = absolute world.home (path_of command)
 
 -- one command: the first refusal that holds, else what it does
 abbrev pub step : World → State → Command → Outcome
-step world state command = if is_path (target_of world command) then step_at world state (target_of world command) command else Refused BadPath
+step world state command =
+    if is_path (target_of world command) then step_at world state (target_of world command) command else Refused BadPath

@@ -15,7 +15,7 @@ impl Attributes {
     ghost use Rattle.hdfs_model.specs.Limits.{in_limits};
 
     /// Whether a stored file may have these attributes and so many bytes: permission bits up to 7777 in octal, one
-    /// replica, a block size from 1 to 2^63 - 1, and no more bytes than one block has.
+    /// replica, a block size from 1 to 2^63 - 1, and fewer than 2^63 bytes.
     pub fn in_limits(&self, count: u64) -> bool
         ensures { result ≡ in_limits self.now count }
     {
@@ -23,6 +23,6 @@ impl Attributes {
             && self.replication == 1
             && 1 <= self.block_size
             && self.block_size <= MAX_BLOCK_SIZE
-            && count <= self.block_size
+            && count <= MAX_BLOCK_SIZE
     }
 }

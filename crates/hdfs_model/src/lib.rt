@@ -7,6 +7,7 @@ mod cluster;
 mod commands;
 mod errors;
 mod limits;
+mod mem_settings;
 mod messages;
 mod picture;
 mod store;
@@ -17,10 +18,11 @@ pub use cluster::Cluster;
 pub use commands::{Command, Reply, Settings, WriteOptions};
 pub use errors::{ArgFault, Fault, HdfsError, IoFault, TransferFault};
 pub use hdfs_names::{absolute_path, is_path, nearest_ancestor, parent_of};
-pub use limits::{is_block_size, is_permission, is_replication};
+pub use limits::{MAX_CHUNK, MAX_PACKET, is_block_size, is_permission, is_replication};
+pub use mem_settings::{MAX_NODES, MemSettings};
 pub use messages::{
     Appended, Block, DatanodeId, DatanodeInfo, FileStatusMsg, LocatedBlock, LocatedBlocks, ReadAsk,
     ServerDefaults, Setup, Stage, Token,
 };
 pub use picture::{BlockEntry, Entry, FileEntry, LastAnswer, OpenRead, OpenWrite, ReadPlace};
-pub use store::{AddFault, FaultLine, Line, ReadKind, Store};
+pub use store::{AddFault, FaultLine, Line, LinkKind, ReadKind, Store};

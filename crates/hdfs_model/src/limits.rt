@@ -14,7 +14,10 @@ const MAX_REPLICATION: u32 = 65_535;
 pub(crate) const MAX_BLOCK_SIZE: u64 = i64::MAX as u64;
 
 /// The greatest chunk in bytes.
-const MAX_CHUNK: u32 = 1 << 30;
+pub const MAX_CHUNK: u32 = 1 << 30;
+
+/// The greatest packet in bytes.
+pub const MAX_PACKET: u32 = i32::MAX as u32;
 
 /// The bytes of a packet's head and of one checksum.
 const HEAD_AND_SUM: u32 = 37;
@@ -46,7 +49,7 @@ fn are_sizes(chunk: u32, packet: u32) -> bool
 {
     1 <= chunk
         && chunk <= MAX_CHUNK
-        && (packet == 0 || (chunk + HEAD_AND_SUM <= packet && packet <= i32::MAX as u32))
+        && (packet == 0 || (chunk + HEAD_AND_SUM <= packet && packet <= MAX_PACKET))
 }
 
 impl ServerDefaults {

@@ -1,6 +1,6 @@
 //! A cluster that files and faults can be loaded into.
 ghost use Rattle.std.specs.Prelude.{◌≡◌, ◌↔◌, Bool, IsTrue, [], Some, OnOk, OnErr, IsErrOf, MatchResult, true, false};
-ghost use Rattle.hdfs_model.specs.Loading.{Loads, LoadsNothing, SameShown, takes};
+ghost use Rattle.hdfs_model.specs.Loading.{AreValid, Loads, LoadsNothing, Prepares, SameShown, takes};
 ghost use Rattle.hdfs_model.specs.Files.{State, only_root};
 ghost use Rattle.hdfs_model.specs.Picture.{Picture};
 ghost use Rattle.hdfs_model.specs.Shown.{Shown};
@@ -8,8 +8,20 @@ ghost use Rattle.hdfs_model.specs.Stores.{Agrees};
 
 use crate::attributes::Attributes;
 use crate::cluster::Cluster;
-use hdfs_wire::{Blob, Text};
+use crate::mem_settings::MemSettings;
+use hdfs_wire::{Blob, NoMemory, Text};
 use thiserror::Error;
+
+/// How the set-up of a pipeline fails.
+#[derive(Clone, Copy, Debug, PartialEq, Eq)]
+pub enum LinkKind {
+    /// The connection breaks.
+    Broken,
+    /// The first datanode refuses the pipeline.
+    Refused,
+    /// The pipeline is set up, and its first acknowledgement is that of no packet.
+    BadAck,
+}
 
 /// How a datanode fails a read.
 #[derive(Clone, Copy, Debug, PartialEq, Eq)]
@@ -18,16 +30,27 @@ pub enum ReadKind {
     Broken,
 }
 
-/// A fault that a store is to have.
+/// A fault that a store is to have: an object fails its `nth` call, from 1 on, counted from the making of the cluster. Datanodes
+/// are numbered from 0. Of two faults of one call the first one that was loaded acts.
 #[derive(Clone, Copy, Debug, PartialEq, Eq)]
 pub enum FaultLine {
-    /// Datanode number `node`, from 0 on, fails its `nth` packet, from 1 on, counted from the making of the cluster.
+    /// The `nth` set-up of a pipeline fails.
+    Link { nth: u64, kind: LinkKind },
+    /// Datanode `node` has failed in the `nth` acknowledgement that tells of it.
+    AckOf { node: u32, nth: u64 },
+    /// The connection breaks in place of the `nth` packet that is sent down a pipeline whose first datanode is `node`.
+    SendTo { node: u32, nth: u64 },
+    /// Datanode `node` fails in its `nth` packet.
     ReadOf { node: u32, nth: u64, kind: ReadKind },
 }
 
 /// A line that a store takes.
 #[derive(Debug, Drop)]
 pub enum Line {
+    /// A directory.
+    Dir {
+        path: Text,
+    },
     /// A closed file.
     File {
         path: Text,
@@ -55,6 +78,15 @@ pub trait Store: Cluster {
     fn fresh(&self) -> bool
         ensures { result ≡ is_fresh self.now };
 
+    /// Gives a fresh store other settings: how many namenodes and datanodes it has, and the cluster's defaults. For want of memory
+    /// it is what it was.
+    fn prepare(&mut self, settings: MemSettings) -> Result<(), NoMemory>
+        requires fresh { is_fresh self.old ≡ true }
+        requires valid { AreValid settings }
+        ensures ok { OnOk result (Prepares (Self.shown self.old) settings (Self.shown self.new)) }
+        ensures err { OnErr result (SameShown (Self.shown self.old) (Self.shown self.new)) }
+        ensures fresh { is_fresh self.new ≡ true };
+
     /// Loads a line. Where it isn't taken, the files are what they were.
     fn load(&mut self, line: Line) -> Result<(), AddFault>
         ensures ok { OnOk result (Loads (Self.shown self.old) line (Self.shown self.new)) }
@@ -66,5 +98,5 @@ pub trait Store: Cluster {
 
     /// A fresh store that tells its picture has the root alone and no line, and no other store has.
     ghost fresh_is: { (s : Self) (p : Picture) → (Self.shown s).picture ≡ Some p
-        → IsTrue (is_fresh s) ↔ (((Self.shown s).loaded ≡ []) × Agrees (Some p) only_root) };
+        → IsTrue (is_fresh s) ↔ (((Self.shown s).loaded.lines ≡ []) × Agrees (Some p) only_root) };
 }
