@@ -12,7 +12,7 @@ use Rattle.hdfs_model.specs.Files.{Files, Node, Dir, File, Writing, Content, Sta
 use Rattle.hdfs_model.specs.Paths.{ancestors}
 use Rattle.hdfs_model.specs.Refusals.{create_refusal, append_refusal, open_refusal}
 use Rattle.hdfs_model.specs.Steps.{Done, is_opened, with_writing, with_node, without, content_of, read_content, read_file, open_node, append_file, create_file}
-use Rattle.hdfs_model.specs.Loading.{with_file}
+use Rattle.hdfs_model.specs.Loading.{with_new}
 use Rattle.hdfs_plain.specs.declared.files.PlainFiles.{PlainFiles}
 use Rattle.hdfs_plain.specs.declared.files.PlainNode.{PlainNode}
 use Rattle.hdfs_plain.specs.declared.files.PlainNode.TheVariants as nodes
@@ -23,15 +23,15 @@ use Rattle.hdfs_plain.proofs.Parents.{bytes_eq_flip}
 pub files_same : (plain : PlainFiles) (state : State) → Holds plain state → state.files ≡ files_of plain
 files_same plain state holds = fun_ext holds.files
 
--- a file is put at a path
-pub holds_with_file : (old new : PlainFiles) (state : State) (path : List ℕ) (node : PlainNode) (content : Content) → Holds old state → node_of node ≡ File content
-    → ((q : List ℕ) → look_up new q ≡ cond (bytes_eq path q) (Some node) (look_up old q)) → ((q : List ℕ) → has_open new q ≡ has_open old q) → Holds new (with_file state path content)
-holds_with_file old new state path node content holds is updates same = record {
+-- something new is put at a path
+pub holds_with_new : (old new : PlainFiles) (state : State) (path : List ℕ) (node : PlainNode) (is_node : Node) → Holds old state → node_of node ≡ is_node
+    → ((q : List ℕ) → look_up new q ≡ cond (bytes_eq path q) (Some node) (look_up old q)) → ((q : List ℕ) → has_open new q ≡ has_open old q) → Holds new (with_new state path is_node)
+holds_with_new old new state path node is_node holds is updates same = record {
   files = λ q. at_test (bytes_eq path q) q ∙ ap (option_map node_of) (sym (updates q));
   opened = λ q. holds.opened q ∙ sym (same q);
 }
   where
-    at_test : (b : Bool) (q : List ℕ) → cond b (Some (File content)) (state.files q) ≡ option_map node_of (cond b (Some node) (look_up old q))
+    at_test : (b : Bool) (q : List ℕ) → cond b (Some is_node) (state.files q) ≡ option_map node_of (cond b (Some node) (look_up old q))
     at_test true q = ap Some (sym is)
     at_test false q = holds.files q
 

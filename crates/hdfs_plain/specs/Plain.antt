@@ -1,5 +1,5 @@
 -- What the plain program's files stand for.
-use Rattle.std.specs.Prelude.{◌≡◌, ℕ, Bool, ◌&&◌, List, Option, Some, is_none, option_map, unwrap_or, if◌then◌else◌}
+use Rattle.std.specs.Prelude.{◌≡◌, ℕ, Bool, List, Option, Some, option_map, unwrap_or, if◌then◌else◌}
 use Rattle.std.specs.List.{list_any}
 use Rattle.std.specs.Str.{bytes_eq}
 use Rattle.std.specs.BTreeMap.{get_by_text}
@@ -9,8 +9,7 @@ use Rattle.hdfs_plain.specs.declared.files.PlainFiles.{PlainFiles}
 use Rattle.hdfs_plain.specs.declared.files.PlainNode.{PlainNode}
 use Rattle.hdfs_plain.specs.declared.files.PlainNode.TheVariants as nodes
 use Rattle.hdfs_model.specs.Files.{Files, Node, Dir, File, Writing, Content, State}
-use Rattle.hdfs_model.specs.Loading.{is_directory}
-use Rattle.hdfs_model.specs.Paths.{is_path, parent_of, ancestors}
+use Rattle.hdfs_model.specs.Paths.{ancestors}
 use Rattle.hdfs_model.specs.Steps.{is_opened}
 
 -- the bytes and the attributes of a plain file
@@ -34,10 +33,6 @@ has_open plain = contains_text plain.opened
 -- the files that plain ones stand for
 abbrev pub files_of : PlainFiles → Files
 files_of plain path = option_map node_of (look_up plain path)
-
--- a file may be put at the path: it is well formed, nothing stands there, and its parent is a directory
-abbrev pub is_free : Files → List ℕ → Bool
-is_free files path = is_path path && is_none (files path) && is_directory (files (parent_of path))
 
 -- the files are those of the state, and the session has the same paths open
 pub record Holds (plain : PlainFiles) (state : State) : Type 0 where

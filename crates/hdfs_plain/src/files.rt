@@ -3,12 +3,12 @@ ghost use Rattle.std.specs.Prelude.{◌≡◌, ◌++◌, ℕ, List as Items, Som
 ghost use Rattle.std.specs.List.{list_any};
 ghost use Rattle.std.specs.BTreeMap.{get_by_text};
 ghost use Rattle.hdfs_model.specs.Files as spec;
-ghost use Rattle.hdfs_model.specs.Loading.{takes, is_directory, with_line};
+ghost use Rattle.hdfs_model.specs.Loading.{takes, is_directory, is_free, with_line};
 ghost use Rattle.hdfs_model.specs.Paths.{ancestors, parent_of};
 ghost use Rattle.hdfs_model.specs.Steps.{read_content};
 ghost use Rattle.hdfs_plain.specs.declared.files.PlainFiles.{PlainFiles};
 ghost use Rattle.hdfs_plain.specs.Answers.{Comes};
-ghost use Rattle.hdfs_plain.specs.Plain.{Holds, content_in, files_of, has_open, is_free};
+ghost use Rattle.hdfs_plain.specs.Plain.{Holds, content_in, files_of, has_open};
 
 use crate::outcome::{PlainOutcome, PlainRefusal};
 use hdfs_model::{Attributes, Line, Reply, is_path, nearest_ancestor, parent_of};
@@ -135,6 +135,7 @@ impl PlainFiles {
         ensures { result ≡ takes (files_of self.now) line.now }
     {
         match line {
+            Line::Dir { path } => self.is_free(path.as_str()),
             Line::File {
                 path,
                 attributes,
@@ -176,6 +177,10 @@ impl PlainFiles {
         ensures { IfOk result (λ done. (state : spec.State) → Holds self.old state → Holds self.new (with_line state line)) }
     {
         match line {
+            Line::Dir { path } => {
+                self.nodes.insert(path.into_string(), PlainNode::Dir)?;
+                Ok(())
+            }
             Line::File {
                 path,
                 attributes,

@@ -4,8 +4,6 @@
 mod files;
 mod outcome;
 mod running;
-#[cfg(test)]
-mod tests;
 mod writing;
 
 pub use files::{PlainFile, PlainFiles, PlainNode};
