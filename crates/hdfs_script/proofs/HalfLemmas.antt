@@ -1,42 +1,82 @@
 -- Which line is bad, from its two halves: what a parser has read, and what a store takes of it.
-use Rattle.std.proofs.Common.{◌≡◌, ℕ, ◌+◌, Bool, true, false, ◌&&◌, ◌||◌, List, [], ◌∷◌, Option, Some, None, Ok, Err, if◌then◌else◌, refl, sym, ◌∙◌, ap}
+use Rattle.std.proofs.Common.{◌≡◌, ℕ, ◌+◌, ◌<◌, nat_le, Bool, true, false, ◌&&◌, ◌||◌, List, [], ◌∷◌, Option, Some, None, Ok, Err, if◌then◌else◌, refl, sym, ◌∙◌, ap, arith, lit<}
+use Rattle.std.proofs.lemmas.Bool.Decides.{nat_tests}
 use Rattle.hdfs_model.specs.declared.store.Line.{Line}
 use Rattle.hdfs_model.specs.declared.store.Line.TheVariants as lines
 use Rattle.hdfs_model.specs.Files.{State}
 use Rattle.hdfs_model.specs.Loading.{takes, with_line}
 use Rattle.hdfs_script.specs.declared.entry.Entry.{Entry}
-use Rattle.hdfs_script.specs.declared.entry.Entry.TheVariants.{Blank, Loads, Runs, Bad}
+use Rattle.hdfs_script.specs.declared.entry.Entry.TheVariants.{Blank, Sets, Loads, Runs, Bad}
 use Rattle.hdfs_script.specs.declared.entry.NumberedLine.{NumberedLine}
 use Rattle.hdfs_script.specs.declared.entry.Parsed.{Parsed}
-use Rattle.hdfs_script.specs.Parsing.{Parses, good_front, first_out, first_file, first_untaken, numbered_from, or_else, plain_lines}
-use Rattle.hdfs_script.specs.Scripts.{Script, script, entries_in, lines_of, commands_of, first_bad, is_fault, is_taken, may_stand, part_of, unless_bad, with_entry}
+use Rattle.hdfs_script.specs.Parsing.{Parses, good_front, first_out, first_file, first_set, first_untaken, numbered_from, or_else, plain_lines, untaken_set}
+use Rattle.hdfs_script.specs.Scripts.{Script, script, entries_in, lines_of, commands_of, first_bad, is_fault, is_taken, may_stand, no_settings, part_of, settings_from, unless_bad, with_entry}
+
+-- the first bad line of a half that was read: one that isn't taken, or else the first that is bad by its text or place
+abbrev bad_half : Bool → State → ℕ → List Entry → Option ℕ → Option ℕ
+bad_half fresh state number front out = or_else (untaken_set fresh (first_set number front)) (or_else (first_untaken fresh state (numbered_from number front)) out)
+
+-- where nothing is set
+untaken_none : (fresh : Bool) → untaken_set fresh None ≡ None
+untaken_none true = refl
+untaken_none false = refl
+
+-- an entry that sets nothing, where it stands in order and where not
+no_set_if : (stands : Bool) (number : ℕ) (entry : Entry) (front : List Entry) → first_set number (entry ∷ front) ≡ None → first_set number (if stands then entry ∷ front else []) ≡ None
+no_set_if true number entry front there = there
+no_set_if false number entry front there = refl
+
+-- a line that is loaded has a part of its own
+part_of_line : (line : Line) → 0 < (if is_fault line then 2 else 1)
+part_of_line line = by_fault (is_fault line)
+  where
+    by_fault : (fault : Bool) → 0 < (if fault then 2 else 1)
+    by_fault true = lit< tt
+    by_fault false = lit< tt
+
+-- behind a line that is loaded nothing is set
+no_sets : (now number : ℕ) (entries : List Entry) → 0 < now → first_set number (good_front now entries) ≡ None
+no_sets now number [] behind = refl
+no_sets now number (Sets setting ∷ rest) behind =
+    let no : nat_le now 0 ≡ false = grind (arith, nat_tests) in
+    rw no refl
+no_sets now number (Blank ∷ rest) behind = no_set_if (nat_le now now) number Blank _ (no_sets now (number + 1) rest behind)
+no_sets now number (Loads line ∷ rest) behind =
+    no_set_if (nat_le now (part_of now (Loads line))) number (Loads line) _ (no_sets (part_of now (Loads line)) (number + 1) rest (part_of_line line))
+no_sets now number (Runs command ∷ rest) behind = no_set_if (nat_le now 3) number (Runs command) _ (no_sets 3 (number + 1) rest (lit< tt))
+no_sets now number (Bad ∷ rest) behind = refl
 
 -- an entry that stands in order, by whether it's taken
 standing : (fresh : Bool) (state : State) (now number : ℕ) (entry : Entry) (rest : List Entry)
-    → first_bad fresh (with_entry state entry) (part_of now entry) (number + 1) rest ≡ or_else (first_untaken fresh (with_entry state entry) (numbered_from (number + 1) (good_front (part_of now entry) rest))) (first_out (part_of now entry) (number + 1) rest)
+    → first_bad fresh (with_entry state entry) (part_of now entry) (number + 1) rest ≡ bad_half fresh (with_entry state entry) (number + 1) (good_front (part_of now entry) rest) (first_out (part_of now entry) (number + 1) rest)
     → (if is_taken fresh state entry then first_bad fresh (with_entry state entry) (part_of now entry) (number + 1) rest else Some number)
-    ≡ or_else (first_untaken fresh state (numbered_from number (entry ∷ good_front (part_of now entry) rest))) (first_out (part_of now entry) (number + 1) rest)
+    ≡ bad_half fresh state number (entry ∷ good_front (part_of now entry) rest) (first_out (part_of now entry) (number + 1) rest)
 standing fresh state now number Blank rest there = there
 standing fresh state now number (Runs command) rest there = there
 standing fresh state now number Bad rest there = there
-standing fresh state now number (Loads line) rest there = loading ((fresh || is_fault line) && takes state.files line) _ _ _ there
+standing true state now number (Sets setting) rest there = there
+standing false state now number (Sets setting) rest there = refl
+standing fresh state now number (Loads line) rest there =
+    loading ((fresh || is_fault line) && takes state.files line) _ _ _ _
+    (ap (untaken_set fresh) (no_sets (part_of now (Loads line)) (number + 1) rest (part_of_line line)) ∙ untaken_none fresh) there
   where
-    loading : (taken : Bool) (a b c : Option ℕ) → a ≡ or_else b c → (if taken then a else Some number) ≡ or_else (if taken then b else Some number) c
-    loading true a b c there = there
-    loading false a b c there = refl
+    loading : (taken : Bool) (sets a b c : Option ℕ) → sets ≡ None → a ≡ or_else sets (or_else b c) → (if taken then a else Some number) ≡ or_else sets (or_else (if taken then b else Some number) c)
+    loading true sets a b c none there = there
+    loading false sets a b c none there = rw none refl
 
--- the first bad line is one that isn't taken in front of those that are bad by their text or place, or else the first of these
-pub halves : (fresh : Bool) (state : State) (now number : ℕ) (entries : List Entry) → first_bad fresh state now number entries ≡ or_else (first_untaken fresh state (numbered_from number (good_front now entries))) (first_out now number entries)
-halves fresh state now number [] = refl
+-- The first bad line is one that sets something or is loaded and isn't taken, in front of those that are bad by their text or
+-- place, or else the first of these.
+pub halves : (fresh : Bool) (state : State) (now number : ℕ) (entries : List Entry) → first_bad fresh state now number entries ≡ bad_half fresh state number (good_front now entries) (first_out now number entries)
+halves fresh state now number [] = rw (untaken_none fresh) refl
 halves fresh state now number (entry ∷ rest) =
     placing (may_stand now entry) (standing fresh state now number entry rest (halves fresh (with_entry state entry) (part_of now entry) (number + 1) rest))
   where
     placing : (stands : Bool) → (if is_taken fresh state entry then first_bad fresh (with_entry state entry) (part_of now entry) (number + 1) rest else Some number)
-        ≡ or_else (first_untaken fresh state (numbered_from number (entry ∷ good_front (part_of now entry) rest))) (first_out (part_of now entry) (number + 1) rest)
+        ≡ bad_half fresh state number (entry ∷ good_front (part_of now entry) rest) (first_out (part_of now entry) (number + 1) rest)
         → (if stands && is_taken fresh state entry then first_bad fresh (with_entry state entry) (part_of now entry) (number + 1) rest else Some number)
-        ≡ or_else (first_untaken fresh state (numbered_from number (if stands then entry ∷ good_front (part_of now entry) rest else []))) (if stands then first_out (part_of now entry) (number + 1) rest else Some number)
+        ≡ bad_half fresh state number (if stands then entry ∷ good_front (part_of now entry) rest else []) (if stands then first_out (part_of now entry) (number + 1) rest else Some number)
     placing true there = there
-    placing false there = refl
+    placing false there = rw (untaken_none fresh) refl
 
 -- where no line is bad by its text or place all was read
 good_if : (stands : Bool) (number : ℕ) (entry : Entry) (out : Option ℕ) (front rest : List Entry) → (out ≡ None → front ≡ rest) → (if stands then out else Some number) ≡ None → (if stands then entry ∷ front else []) ≡ entry ∷ rest
@@ -51,6 +91,7 @@ all_good now number (entry ∷ rest) none =
 plain_numbered : (number : ℕ) (entries : List Entry) → plain_lines (numbered_from number entries) ≡ lines_of entries
 plain_numbered number [] = refl
 plain_numbered number (Blank ∷ rest) = plain_numbered (number + 1) rest
+plain_numbered number (Sets setting ∷ rest) = plain_numbered (number + 1) rest
 plain_numbered number (Loads line ∷ rest) = ap (λ t. line ∷ t) (plain_numbered (number + 1) rest)
 plain_numbered number (Runs command ∷ rest) = plain_numbered (number + 1) rest
 plain_numbered number (Bad ∷ rest) = plain_numbered (number + 1) rest
@@ -61,22 +102,24 @@ second_none (Some number) second none = absurd (cc)
 
 -- the script that was read
 abbrev pub script_read : Parsed → Script
-script_read read = record { lines = plain_lines read.lines; commands = read.commands }
+script_read read = record { settings = read.settings; lines = plain_lines read.lines; commands = read.commands }
 
-first_bad_read : (fresh : Bool) (state : State) (bytes : List ℕ) (read : Parsed) → Parses bytes read → first_bad fresh state 0 1 (entries_in bytes) ≡ or_else (first_untaken fresh state read.lines) read.bad
+first_bad_read : (fresh : Bool) (state : State) (bytes : List ℕ) (read : Parsed) → Parses bytes read → first_bad fresh state 0 1 (entries_in bytes) ≡ or_else (untaken_set fresh read.sets) (or_else (first_untaken fresh state read.lines) read.bad)
 first_bad_read fresh state bytes read parses =
-    halves fresh state 0 1 (entries_in bytes) ∙ rw (← parses.lines, ← parses.bad) refl
+    halves fresh state 0 1 (entries_in bytes) ∙ rw (← parses.sets, ← parses.lines, ← parses.bad) refl
 
 -- no line is bad
-pub script_from : (fresh : Bool) (state : State) (bytes : List ℕ) (read : Parsed) → Parses bytes read → or_else (first_untaken fresh state read.lines) read.bad ≡ None → script fresh state bytes ≡ Ok (script_read read)
+pub script_from : (fresh : Bool) (state : State) (bytes : List ℕ) (read : Parsed) → Parses bytes read → or_else (untaken_set fresh read.sets) (or_else (first_untaken fresh state read.lines) read.bad) ≡ None → script fresh state bytes ≡ Ok (script_read read)
 script_from fresh state bytes read parses none =
-    let whole : good_front 0 (entries_in bytes) ≡ entries_in bytes = all_good 0 1 (entries_in bytes) (sym parses.bad ∙ second_none (first_untaken fresh state read.lines) read.bad none) in
+    let good : read.bad ≡ None = second_none (first_untaken fresh state read.lines) read.bad (second_none (untaken_set fresh read.sets) _ none) in
+    let whole : good_front 0 (entries_in bytes) ≡ entries_in bytes = all_good 0 1 (entries_in bytes) (sym parses.bad ∙ good) in
+    let settings : read.settings ≡ settings_from no_settings (entries_in bytes) = parses.settings ∙ ap (settings_from no_settings) whole in
     let lines : plain_lines read.lines ≡ lines_of (entries_in bytes) = ap plain_lines parses.lines ∙ plain_numbered 1 (good_front 0 (entries_in bytes)) ∙ ap lines_of whole in
     let commands : read.commands ≡ commands_of (entries_in bytes) = parses.commands ∙ ap commands_of whole in
-    ap (λ bad. unless_bad bad (entries_in bytes)) (first_bad_read fresh state bytes read parses ∙ none) ∙ rw (← lines, ← commands) refl
+    ap (λ bad. unless_bad bad (entries_in bytes)) (first_bad_read fresh state bytes read parses ∙ none) ∙ rw (← settings, ← lines, ← commands) refl
 
 -- the first bad line is this one
-pub refused_from : (fresh : Bool) (state : State) (bytes : List ℕ) (read : Parsed) (number : ℕ) → Parses bytes read → or_else (first_untaken fresh state read.lines) read.bad ≡ Some number → script fresh state bytes ≡ Err number
+pub refused_from : (fresh : Bool) (state : State) (bytes : List ℕ) (read : Parsed) (number : ℕ) → Parses bytes read → or_else (untaken_set fresh read.sets) (or_else (first_untaken fresh state read.lines) read.bad) ≡ Some number → script fresh state bytes ≡ Err number
 refused_from fresh state bytes read number parses is =
     ap (λ bad. unless_bad bad (entries_in bytes)) (first_bad_read fresh state bytes read parses ∙ is)
 
@@ -87,6 +130,7 @@ untaken_held state (numbered ∷ rest) = by_line numbered.line (untaken_held sta
   where
     by_line : (line : Line) → first_untaken false state rest ≡ first_file rest → (if (false || is_fault line) && takes state.files line then first_untaken false (with_line state line) rest else Some numbered.number) ≡ (if is_fault line then first_file rest else Some numbered.number)
     by_line (lines.Fault fault) there = there
+    by_line (lines.Dir path) there = refl
     by_line (lines.File path attributes bytes) there = refl
 
 -- faults are taken by every store
@@ -96,4 +140,5 @@ faults_taken state (numbered ∷ rest) none = by_line numbered.line (faults_take
   where
     by_line : (line : Line) → (first_file rest ≡ None → first_untaken true state rest ≡ None) → (if is_fault line then first_file rest else Some numbered.number) ≡ None → (if (true || is_fault line) && takes state.files line then first_untaken true (with_line state line) rest else Some numbered.number) ≡ None
     by_line (lines.Fault fault) there none = there none
+    by_line (lines.Dir path) there none = absurd (cc)
     by_line (lines.File path attributes bytes) there none = absurd (cc)

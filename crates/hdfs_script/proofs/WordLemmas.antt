@@ -7,7 +7,7 @@ use Rattle.std.proofs.lemmas.Str.Ascii.{IsAscii-nil, IsAscii-cons}
 use Rattle.std.proofs.lemmas.Bool.Decides.{nat_tests}
 use Rattle.hdfs_script.specs.declared.entry.Entry.{Entry}
 use Rattle.hdfs_script.specs.declared.entry.Entry.TheVariants.{Bad}
-use Rattle.hdfs_script.specs.Entries.{words_entry, ascii_entry, entry_of}
+use Rattle.hdfs_script.specs.Entries.{is_alphanumeric, words_entry, ascii_entry, entry_of}
 use Rattle.hdfs_script.specs.Words.{is_word}
 
 -- printable bytes are ASCII
@@ -15,24 +15,37 @@ pub IsAscii-from_printable : (text : List ℕ) → list_all (λ c. nat_le 33 c &
 IsAscii-from_printable [] h = IsAscii-nil
 IsAscii-from_printable (c ∷ rest) h = IsAscii-cons c rest (grind (arith, nat_tests)) (IsAscii-from_printable rest (grind (arith, nat_tests)))
 
+-- so are letters and digits
+printable_from_user : (text : List ℕ) → list_all is_alphanumeric text ≡ true → list_all (λ c. nat_le 33 c && nat_le c 126) text ≡ true
+printable_from_user [] h = refl
+printable_from_user (c ∷ rest) h =
+    let there : list_all (λ c. nat_le 33 c && nat_le c 126) rest ≡ true = printable_from_user rest (grind (arith, nat_tests)) in
+    grind (arith, nat_tests)
+
 pub printable_from_word : (text : List ℕ) → is_word text ≡ true → list_all (λ c. nat_le 33 c && nat_le c 126) text ≡ true
 printable_from_word text h = grind (arith, nat_tests)
 
 pub IsUtf8-from_word : (text : List ℕ) → is_word text ≡ true → IsUtf8 text
 IsUtf8-from_word text h = IsUtf8-from_ascii text (IsAscii-from_printable text (printable_from_word text h))
 
+-- letters and digits are a word
+pub word_from_user : (text : List ℕ) → (nat_le 1 (length text) && list_all is_alphanumeric text) ≡ true → is_word text ≡ true
+word_from_user text h =
+    let printable = printable_from_user text (grind (arith, nat_tests)) in
+    grind (arith, nat_tests)
+
 -- a line of as many words as no line has
-pub words_entry_other : {X : Type 0} (now : X → List ℕ) (words : List X) → length words ≢ 3 → length words ≢ 4 → length words ≢ 5 → length words ≢ 6 → length words ≢ 8 → Bad ≡ words_entry (map now words)
-words_entry_other now [] three four five six eight = refl
-words_entry_other now (a ∷ []) three four five six eight = refl
-words_entry_other now (a ∷ b ∷ []) three four five six eight = refl
-words_entry_other now (a ∷ b ∷ c ∷ []) three four five six eight = absurd (three refl)
-words_entry_other now (a ∷ b ∷ c ∷ d ∷ []) three four five six eight = absurd (four refl)
-words_entry_other now (a ∷ b ∷ c ∷ d ∷ e ∷ []) three four five six eight = absurd (five refl)
-words_entry_other now (a ∷ b ∷ c ∷ d ∷ e ∷ f ∷ []) three four five six eight = absurd (six refl)
-words_entry_other now (a ∷ b ∷ c ∷ d ∷ e ∷ f ∷ g ∷ []) three four five six eight = refl
-words_entry_other now (a ∷ b ∷ c ∷ d ∷ e ∷ f ∷ g ∷ h ∷ []) three four five six eight = absurd (eight refl)
-words_entry_other now (a ∷ b ∷ c ∷ d ∷ e ∷ f ∷ g ∷ h ∷ i ∷ rest) three four five six eight = refl
+pub words_entry_other : {X : Type 0} (now : X → List ℕ) (words : List X) → length words ≢ 2 → length words ≢ 3 → length words ≢ 4 → length words ≢ 5 → length words ≢ 6 → length words ≢ 8 → Bad ≡ words_entry (map now words)
+words_entry_other now [] two three four five six eight = refl
+words_entry_other now (a ∷ []) two three four five six eight = refl
+words_entry_other now (a ∷ b ∷ []) two three four five six eight = absurd (two refl)
+words_entry_other now (a ∷ b ∷ c ∷ []) two three four five six eight = absurd (three refl)
+words_entry_other now (a ∷ b ∷ c ∷ d ∷ []) two three four five six eight = absurd (four refl)
+words_entry_other now (a ∷ b ∷ c ∷ d ∷ e ∷ []) two three four five six eight = absurd (five refl)
+words_entry_other now (a ∷ b ∷ c ∷ d ∷ e ∷ f ∷ []) two three four five six eight = absurd (six refl)
+words_entry_other now (a ∷ b ∷ c ∷ d ∷ e ∷ f ∷ g ∷ []) two three four five six eight = refl
+words_entry_other now (a ∷ b ∷ c ∷ d ∷ e ∷ f ∷ g ∷ h ∷ []) two three four five six eight = absurd (eight refl)
+words_entry_other now (a ∷ b ∷ c ∷ d ∷ e ∷ f ∷ g ∷ h ∷ i ∷ rest) two three four five six eight = refl
 
 -- nine words tell as much as all
 pub words_entry-take : (words : List (List ℕ)) → words_entry (take 9 words) ≡ words_entry words

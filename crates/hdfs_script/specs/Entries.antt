@@ -1,13 +1,18 @@
 -- What each line of a script says.
-use Rattle.std.specs.Prelude.{ℕ, ◌^◌, nat_le, nat_lt, ◌&&◌, ◌==◌, List, [], ◌∷◌, Option, Some, None, if◌then◌else◌, codes}
+use Rattle.std.specs.Prelude.{ℕ, ◌^◌, ◌+◌, nat_le, nat_lt, Bool, ◌&&◌, ◌||◌, ◌==◌, List, [], ◌∷◌, length, Option, Some, None, if◌then◌else◌, codes}
 use Rattle.std.specs.List.{list_all, slice_split}
 use Rattle.std.specs.Str.{bytes_eq}
 use Rattle.hdfs_model.specs.declared.attributes.Attributes.{Attributes}
 use Rattle.hdfs_model.specs.declared.store.Line.TheVariants as lines
+use Rattle.hdfs_model.specs.declared.store.FaultLine.{FaultLine}
 use Rattle.hdfs_model.specs.declared.store.FaultLine.TheVariants as faults
+use Rattle.hdfs_model.specs.declared.store.LinkKind.{LinkKind}
+use Rattle.hdfs_model.specs.declared.store.LinkKind.TheVariants as link_kinds
 use Rattle.hdfs_model.specs.declared.store.ReadKind.TheVariants as read_kinds
 use Rattle.hdfs_script.specs.declared.entry.Entry.{Entry}
-use Rattle.hdfs_script.specs.declared.entry.Entry.TheVariants.{Blank, Loads, Bad}
+use Rattle.hdfs_script.specs.declared.entry.Entry.TheVariants.{Blank, Sets, Loads, Bad}
+use Rattle.hdfs_script.specs.declared.entry.Setting.{Setting}
+use Rattle.hdfs_script.specs.declared.entry.Setting.TheVariants as settings
 use Rattle.hdfs_script.specs.Commands.{append_entry, close_entry, create_entry, options_of, read_entry, write_entry}
 use Rattle.hdfs_script.specs.Numbers.{number, hex_bytes}
 use Rattle.hdfs_script.specs.Words.{is_word}
@@ -27,36 +32,108 @@ abbrev pub file_entry : List ℕ → Option Attributes → Option (List ℕ) →
 file_entry path (Some attributes) (Some bytes) = if is_word path then Loads (lines.File path attributes bytes) else Bad
 file_entry _ _ _ = Bad
 
--- `fault read D N broken`
-abbrev pub fault_entry : Option ℕ → Option ℕ → Entry
-fault_entry (Some node) (Some nth) = if nat_le 1 nth then Loads (lines.Fault (faults.ReadOf node nth read_kinds.Broken)) else Bad
-fault_entry _ _ = Bad
+-- `dir PATH`
+abbrev pub dir_entry : List ℕ → Entry
+dir_entry path = if is_word path then Loads (lines.Dir path) else Bad
 
--- three words: `do append PATH` or `do close PATH`
+-- a letter or a digit
+abbrev pub is_alphanumeric : ℕ → Bool
+is_alphanumeric c = (nat_le 48 c && nat_le c 57) || (nat_le 65 c && nat_le c 90) || (nat_le 97 c && nat_le c 122)
+
+-- `set user NAME`: one or more letters and digits
+abbrev pub user_entry : List ℕ → Entry
+user_entry name = if nat_le 1 (length name) && list_all is_alphanumeric name then Sets (settings.User name) else Bad
+
+-- a setting that is a number from 1 on
+abbrev pub from_one : (ℕ → Setting) → Option ℕ → Entry
+from_one setting None = Bad
+from_one setting (Some n) = if nat_le 1 n then Sets (setting n) else Bad
+
+-- a setting that is a number from 0 on
+abbrev pub from_zero : (ℕ → Setting) → Option ℕ → Entry
+from_zero setting None = Bad
+from_zero setting (Some n) = Sets (setting n)
+
+-- `set KEY VALUE`: from 1 to 64 datanodes, blocks of 1 byte to 2^63 - 1, chunks of 1 byte to 2^30, packets of fewer than 2^31
+abbrev pub set_entry : List ℕ → List ℕ → Entry
+set_entry key value =
+    if bytes_eq key (codes "user") then user_entry value
+    else if bytes_eq key (codes "nodes") then from_one settings.Nodes (number 10 65 value)
+    else if bytes_eq key (codes "block") then from_one settings.Block (number 10 (2 ^ 63) value)
+    else if bytes_eq key (codes "chunk") then from_one settings.Chunk (number 10 (2 ^ 30 + 1) value)
+    else if bytes_eq key (codes "packet") then from_zero settings.Packet (number 10 (2 ^ 31) value)
+    else Bad
+
+-- how the set-up of a pipeline fails
+abbrev pub link_kind : List ℕ → Option LinkKind
+link_kind text =
+    if bytes_eq text (codes "broken") then Some link_kinds.Broken
+    else if bytes_eq text (codes "refused") then Some link_kinds.Refused
+    else if bytes_eq text (codes "badack") then Some link_kinds.BadAck
+    else None
+
+-- `fault link N KIND`
+abbrev pub link_entry : Option ℕ → Option LinkKind → Entry
+link_entry (Some nth) (Some kind) = if nat_le 1 nth then Loads (lines.Fault (faults.Link nth kind)) else Bad
+link_entry _ _ = Bad
+
+-- a fault of datanode D in its Nth call of some kind
+abbrev pub node_entry : (ℕ → ℕ → FaultLine) → Option ℕ → Option ℕ → Entry
+node_entry fault (Some node) (Some nth) = if nat_le 1 nth then Loads (lines.Fault (fault node nth)) else Bad
+node_entry fault _ _ = Bad
+
+-- the same of what two words write
+abbrev pub node_fault : (ℕ → ℕ → FaultLine) → List ℕ → List ℕ → Entry
+node_fault fault node nth = node_entry fault (number 10 (2 ^ 32) node) (number 10 (2 ^ 64) nth)
+
+-- the packet of a datanode that breaks
+abbrev pub broken_read : ℕ → ℕ → FaultLine
+broken_read node nth = faults.ReadOf node nth read_kinds.Broken
+
+-- two words: `dir PATH`
+abbrev pub two_words : List ℕ → List ℕ → Entry
+two_words a b = if bytes_eq a (codes "dir") then dir_entry b else Bad
+
+-- three words: `set KEY VALUE`, `do append PATH` or `do close PATH`
 abbrev pub three_words : List ℕ → List ℕ → List ℕ → Entry
 three_words a b c =
-    if bytes_eq a (codes "do") && bytes_eq b (codes "append") then append_entry c
+    if bytes_eq a (codes "set") then set_entry b c
+    else if bytes_eq a (codes "do") && bytes_eq b (codes "append") then append_entry c
     else if bytes_eq a (codes "do") && bytes_eq b (codes "close") then close_entry c
+    else Bad
+
+-- `fault link N KIND`, `fault ack D N` or `fault send D N`
+abbrev pub fault_entry : List ℕ → List ℕ → List ℕ → Entry
+fault_entry call a b =
+    if bytes_eq call (codes "link") then link_entry (number 10 (2 ^ 64) a) (link_kind b)
+    else if bytes_eq call (codes "ack") then node_fault faults.AckOf a b
+    else if bytes_eq call (codes "send") then node_fault faults.SendTo a b
+    else Bad
+
+-- four words: a fault of a pipeline, or `do write PATH HEX`
+abbrev pub four_words : List ℕ → List ℕ → List ℕ → List ℕ → Entry
+four_words a b c d =
+    if bytes_eq a (codes "fault") then fault_entry b c d
+    else if bytes_eq a (codes "do") && bytes_eq b (codes "write") then write_entry c (hex_bytes d)
     else Bad
 
 -- five words: `fault read D N broken` or `do read PATH OFFSET LEN`
 abbrev pub five_words : List ℕ → List ℕ → List ℕ → List ℕ → List ℕ → Entry
 five_words a b c d e =
-    if bytes_eq a (codes "fault") && bytes_eq b (codes "read") && bytes_eq e (codes "broken")
-    then fault_entry (number 10 (2 ^ 32) c) (number 10 (2 ^ 64) d)
+    if bytes_eq a (codes "fault") && bytes_eq b (codes "read") && bytes_eq e (codes "broken") then node_fault broken_read c d
     else if bytes_eq a (codes "do") && bytes_eq b (codes "read") then read_entry c (number 10 (2 ^ 64) d) (number 10 (2 ^ 64) e)
     else Bad
 
--- The entry that the words of a line are. Four words are a write, six a file, and eight a new file.
+-- The entry that the words of a line are. Six words are a file, and eight a new file.
 abbrev pub words_entry : List (List ℕ) → Entry
 words_entry (a ∷ b ∷ c ∷ d ∷ e ∷ f ∷ g ∷ h ∷ []) =
     if bytes_eq a (codes "do") && bytes_eq b (codes "create") then create_entry c (options_of d e f g h) else Bad
 words_entry (a ∷ b ∷ c ∷ d ∷ e ∷ f ∷ []) =
     if bytes_eq a (codes "file") then file_entry b (attributes_of c d e) (hex_bytes f) else Bad
 words_entry (a ∷ b ∷ c ∷ d ∷ e ∷ []) = five_words a b c d e
-words_entry (a ∷ b ∷ c ∷ d ∷ []) =
-    if bytes_eq a (codes "do") && bytes_eq b (codes "write") then write_entry c (hex_bytes d) else Bad
+words_entry (a ∷ b ∷ c ∷ d ∷ []) = four_words a b c d
 words_entry (a ∷ b ∷ c ∷ []) = three_words a b c
+words_entry (a ∷ b ∷ []) = two_words a b
 words_entry words = Bad
 
 -- an empty line, a comment, or words with one space between them

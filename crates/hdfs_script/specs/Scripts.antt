@@ -1,22 +1,27 @@
--- What a whole script says: lines to load, and commands to run. Lines with files stand before those with faults, and these
--- before the commands. Or else which of its lines is the first bad one, counted from 1.
-use Rattle.std.specs.Prelude.{ℕ, ◌+◌, nat_le, Bool, true, false, ◌&&◌, ◌||◌, ◌==◌, List, [], ◌∷◌, length, take, map, replicate, codes, Option, Some, None, Result, Ok, Err, if◌then◌else◌}
+-- What a whole script says: settings, lines to load, and commands to run. Settings stand before lines with directories and files,
+-- these before lines with faults, and these before the commands. Or else which of its lines is the first bad one, counted from 1.
+use Rattle.std.specs.Prelude.{ℕ, ◌+◌, nat_le, Bool, true, false, ◌&&◌, ◌||◌, ◌==◌, List, [], ◌∷◌, ◌++◌, length, take, map, replicate, codes, Option, Some, None, Result, Ok, Err, if◌then◌else◌}
 use Rattle.std.specs.List.{slice_split}
 use Rattle.hdfs_model.specs.declared.store.Line.{Line}
 use Rattle.hdfs_model.specs.declared.store.Line.TheVariants as lines
 use Rattle.hdfs_model.specs.declared.commands.Command.{Command}
 use Rattle.hdfs_model.specs.declared.commands.Settings.{Settings}
+use Rattle.hdfs_model.specs.declared.messages.ServerDefaults.{ServerDefaults}
 use Rattle.hdfs_model.specs.Files.{State}
-use Rattle.hdfs_model.specs.Loading.{takes, with_line}
-use Rattle.hdfs_model.specs.Sessions.{world_of}
+use Rattle.hdfs_model.specs.Loading.{script_defaults, takes, with_line}
+use Rattle.hdfs_model.specs.Sessions.{defaults_of}
 use Rattle.hdfs_model.specs.Shown.{Shown}
 use Rattle.hdfs_model.specs.Steps.{World}
 use Rattle.hdfs_script.specs.declared.entry.Entry.{Entry}
-use Rattle.hdfs_script.specs.declared.entry.Entry.TheVariants.{Loads, Runs, Bad}
+use Rattle.hdfs_script.specs.declared.entry.Entry.TheVariants.{Sets, Loads, Runs, Bad}
+use Rattle.hdfs_script.specs.declared.entry.ScriptSettings.{ScriptSettings}
+use Rattle.hdfs_script.specs.declared.entry.Setting.{Setting}
+use Rattle.hdfs_script.specs.declared.entry.Setting.TheVariants as settings
 use Rattle.hdfs_script.specs.Entries.{entry_of}
 
--- the lines that a script loads, and the commands that it runs, in order
+-- the settings of a script, the lines that it loads, and the commands that it runs, in order
 pub record Script : Type 0 where
+  pub settings : ScriptSettings
   pub lines : List Line
   pub commands : List Command
 
@@ -39,6 +44,24 @@ abbrev pub entries_in : List ℕ → List Entry
 entries_in bytes =
     if nat_le (length bytes) script_limit then line_entries bytes else ends_bad (line_entries (take script_limit bytes))
 
+-- the settings of a script that sets nothing: those of the cluster are the defaults of HDFS
+abbrev pub no_settings : ScriptSettings
+no_settings = record { user = codes "user"; cluster = record { namenodes = 1; active = 0; nodes = 3; defaults = script_defaults } }
+
+-- settings with one of them given anew
+abbrev pub with_setting : ScriptSettings → Setting → ScriptSettings
+with_setting given (settings.User name) = record given { user = name }
+with_setting given (settings.Nodes n) = record given { cluster = record given.cluster { nodes = n } }
+with_setting given (settings.Block n) = record given { cluster = record given.cluster { defaults = record given.cluster.defaults { block_size = n } } }
+with_setting given (settings.Chunk n) = record given { cluster = record given.cluster { defaults = record given.cluster.defaults { bytes_per_checksum = n } } }
+with_setting given (settings.Packet n) = record given { cluster = record given.cluster { defaults = record given.cluster.defaults { write_packet_size = n } } }
+
+-- the settings behind entries: of two that set the same, the later one counts
+abbrev pub settings_from : ScriptSettings → List Entry → ScriptSettings
+settings_from given [] = given
+settings_from given (Sets setting ∷ entries) = settings_from (with_setting given setting) entries
+settings_from given (_ ∷ entries) = settings_from given entries
+
 -- the lines that are loaded
 abbrev pub lines_of : List Entry → List Line
 lines_of [] = []
@@ -56,10 +79,11 @@ abbrev pub is_fault : Line → Bool
 is_fault (lines.Fault fault) = true
 is_fault _ = false
 
--- the part of the script at an entry: files, then faults, then commands; a blank line may stand in any
+-- the part of the script at an entry: settings, then files, then faults, then commands; a blank line may stand in any
 abbrev pub part_of : ℕ → Entry → ℕ
-part_of now (Loads line) = if is_fault line then 1 else 0
-part_of now (Runs command) = 2
+part_of now (Sets setting) = 0
+part_of now (Loads line) = if is_fault line then 2 else 1
+part_of now (Runs command) = 3
 part_of now _ = now
 
 -- An entry may stand behind this part where its line is known and its part isn't an earlier one.
@@ -67,8 +91,9 @@ abbrev pub may_stand : ℕ → Entry → Bool
 may_stand now Bad = false
 may_stand now entry = nat_le now (part_of now entry)
 
--- The store takes what an entry loads over the files so far. One that isn't fresh takes faults alone.
+-- The store takes what an entry sets or loads over the files so far. One that isn't fresh takes faults alone.
 abbrev pub is_taken : Bool → State → Entry → Bool
+is_taken fresh state (Sets setting) = fresh
 is_taken fresh state (Loads line) = (fresh || is_fault line) && takes state.files line
 is_taken fresh state _ = true
 
@@ -85,19 +110,28 @@ first_bad fresh state now number (entry ∷ entries) =
     then first_bad fresh (with_entry state entry) (part_of now entry) (number + 1) entries
     else Some number
 
+-- what entries say
+abbrev pub script_of : List Entry → Script
+script_of entries = record { settings = settings_from no_settings entries; lines = lines_of entries; commands = commands_of entries }
+
 -- what entries say, unless a line is bad
 abbrev pub unless_bad : Option ℕ → List Entry → Result Script ℕ
-unless_bad None entries = Ok (record { lines = lines_of entries; commands = commands_of entries })
+unless_bad None entries = Ok (script_of entries)
 unless_bad (Some line) entries = Err line
 
 -- the script that bytes are over a store with these files, or the number of the first bad line, from 1 on
 abbrev pub script : Bool → State → List ℕ → Result Script ℕ
 script fresh state bytes = unless_bad (first_bad fresh state 0 1 (entries_in bytes)) (entries_in bytes)
 
--- the settings of a script's session
-abbrev pub script_settings : Settings
-script_settings = record { home = codes "/user/user"; client = replicate 16 0; window = 100 }
+-- the settings of a script's session, whose home is that of its user
+abbrev pub session_settings : ScriptSettings → Settings
+session_settings given = record { home = codes "/user/" ++ given.user; client = replicate 16 0; window = 100 }
 
--- the world of a script's session over a cluster that shows this
-abbrev pub script_world : Shown → World
-script_world shown = world_of script_settings shown
+-- The defaults over which a script's session runs: its own, or those of a store that isn't fresh.
+abbrev pub defaults_in : Bool → Shown → ScriptSettings → ServerDefaults
+defaults_in true store given = given.cluster.defaults
+defaults_in false store given = defaults_of store.picture
+
+-- the world of a script's session over a store that is fresh or isn't
+abbrev pub script_world : Bool → Shown → ScriptSettings → World
+script_world fresh store given = record { home = (session_settings given).home; defaults = defaults_in fresh store given }

@@ -1,13 +1,36 @@
 //! Why a script that is refused goes wrong at its first bad line. It is read once more for this.
 use crate::command::{flag, given_block_size, given_replication};
 use crate::entry::Entry;
+use crate::fault::link_kind;
 use crate::line::entry;
 use crate::numbers::number;
 use crate::parsing::{SCRIPT_LIMIT, may_stand, part_of_entry};
 use crate::words::{U32_MOST, U64_MOST, is_ascii, is_text, is_word, words};
 use crate::wrong::{Complaint, Wrong};
-use hdfs_model::{Line, is_path};
+use hdfs_model::{Attributes, Line, is_block_size, is_path, is_permission};
+use hdfs_wire::Text;
 use std::alloc::Global;
+
+// Why the words of a line are no setting, which begins with `set`.
+fn wrong_setting(words: &[&[u8]]) -> Wrong {
+    if words.len() != 3 {
+        return Wrong::SetWords;
+    }
+    let key = words[1];
+    if is_text(key, "user") {
+        Wrong::User
+    } else if is_text(key, "nodes") {
+        Wrong::Nodes
+    } else if is_text(key, "block") {
+        Wrong::BlockSize
+    } else if is_text(key, "chunk") {
+        Wrong::Chunk
+    } else if is_text(key, "packet") {
+        Wrong::Packet
+    } else {
+        Wrong::SetWords
+    }
+}
 
 // Why the words of a line are no file, which begins with `file`.
 fn wrong_file(words: &[&[u8]]) -> Wrong {
@@ -29,15 +52,58 @@ fn wrong_file(words: &[&[u8]]) -> Wrong {
     Wrong::Hex
 }
 
-// Why the words of a line are no fault, which begins with `fault`.
-fn wrong_fault(words: &[&[u8]]) -> Wrong {
-    if words.len() != 5 || !is_text(words[1], "read") || !is_text(words[4], "broken") {
-        return Wrong::FaultWords;
-    }
-    if number(10, U32_MOST, words[2]).is_none() {
+// Why these words name no call of a datanode.
+fn wrong_node(node: &[u8]) -> Wrong {
+    if number(10, U32_MOST, node).is_none() {
         return Wrong::Node;
     }
     Wrong::Nth
+}
+
+// Why the words of a line plan no fault of a pipeline's set-up, which begins with `fault link`.
+fn wrong_link(words: &[&[u8]]) -> Wrong {
+    if words.len() != 4 {
+        return Wrong::LinkWords;
+    }
+    if link_kind(words[3]).is_none() {
+        return Wrong::LinkKind;
+    }
+    Wrong::Nth
+}
+
+// Why the words of a line plan no fault of a datanode behind these words.
+fn wrong_sent(words: &[&[u8]], wrong: Wrong) -> Wrong {
+    if words.len() != 4 {
+        return wrong;
+    }
+    wrong_node(words[2])
+}
+
+// Why the words of a line plan no broken packet, which begins with `fault read`.
+fn wrong_broken(words: &[&[u8]]) -> Wrong {
+    if words.len() != 5 || !is_text(words[4], "broken") {
+        return Wrong::BrokenWords;
+    }
+    wrong_node(words[2])
+}
+
+// Why the words of a line are no fault, which begins with `fault`.
+fn wrong_fault(words: &[&[u8]]) -> Wrong {
+    if words.len() < 2 {
+        return Wrong::FaultWords;
+    }
+    let call = words[1];
+    if is_text(call, "link") {
+        wrong_link(words)
+    } else if is_text(call, "ack") {
+        wrong_sent(words, Wrong::AckWords)
+    } else if is_text(call, "send") {
+        wrong_sent(words, Wrong::SendWords)
+    } else if is_text(call, "read") {
+        wrong_broken(words)
+    } else {
+        Wrong::FaultWords
+    }
 }
 
 // Why the words of a line are no new file, which begins with `do create`.
@@ -61,6 +127,14 @@ fn wrong_create(words: &[&[u8]]) -> Wrong {
         return Wrong::Overwrite;
     }
     Wrong::Parent
+}
+
+// Why the words of a line are no directory, which begins with `dir`.
+fn wrong_dir(words: &[&[u8]]) -> Wrong {
+    if words.len() != 2 {
+        return Wrong::DirWords;
+    }
+    Wrong::Unprintable
 }
 
 // Why the words of a line don't name a path behind a call of these words.
@@ -123,7 +197,11 @@ fn wrong_words(words: &[&[u8]]) -> Wrong {
         return Wrong::Kind;
     }
     let kind = words[0];
-    if is_text(kind, "file") {
+    if is_text(kind, "set") {
+        wrong_setting(words)
+    } else if is_text(kind, "dir") {
+        wrong_dir(words)
+    } else if is_text(kind, "file") {
         wrong_file(words)
     } else if is_text(kind, "fault") {
         wrong_fault(words)
@@ -145,35 +223,42 @@ fn wrong_line(alloc: Global, line: &[u8]) -> Wrong {
     }
 }
 
-// Why a store hasn't taken a line, which is fresh or isn't.
-fn untaken(fresh: bool, line: &Line) -> Wrong {
-    let Line::File {
-        path,
-        attributes,
-        bytes,
-    } = line
-    else {
-        return Wrong::FaultWords;
-    };
-    if !fresh {
-        return Wrong::HeldStore;
+// Why a fresh store hasn't taken a path.
+fn untaken_path(path: &Text) -> Wrong {
+    if is_path(path.as_str()) {
+        Wrong::Place
+    } else {
+        Wrong::Path
     }
+}
+
+// Why a fresh store hasn't taken a file.
+fn untaken_file(path: &Text, attributes: &Attributes) -> Wrong {
     if !is_path(path.as_str()) {
         return Wrong::Path;
     }
-    if attributes.permission > 0o7777 {
+    if !is_permission(attributes.permission) {
         return Wrong::Permission;
     }
     if attributes.replication != 1 {
         return Wrong::Replication;
     }
-    let count = bytes.as_slice().len() as u64;
-    if attributes.in_limits(count) {
-        Wrong::Place
-    } else if attributes.in_limits(0) {
-        Wrong::TooManyBytes
-    } else {
-        Wrong::BlockSize
+    if !is_block_size(attributes.block_size) {
+        return Wrong::BlockSize;
+    }
+    Wrong::Place
+}
+
+// Why a fresh store hasn't taken a line. It takes each fault.
+fn untaken(line: &Line) -> Wrong {
+    match line {
+        Line::Dir { path } => untaken_path(path),
+        Line::File {
+            path,
+            attributes,
+            bytes: _,
+        } => untaken_file(path, attributes),
+        Line::Fault(_) => Wrong::FaultWords,
     }
 }
 
@@ -184,8 +269,10 @@ fn wrong_at(alloc: Global, fresh: bool, part: u8, line: &[u8], entry: &Entry) ->
     }
     match entry {
         Entry::Bad => wrong_line(alloc, line),
-        Entry::Loads(line) if may_stand(part, entry) => untaken(fresh, line),
-        _ => Wrong::Order,
+        _ if !may_stand(part, entry) => Wrong::Order,
+        Entry::Loads(line) if fresh => untaken(line),
+        Entry::Sets(_) | Entry::Loads(_) => Wrong::HeldStore,
+        Entry::Blank | Entry::Runs(_) => Wrong::Order,
     }
 }
 

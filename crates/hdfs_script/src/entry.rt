@@ -1,12 +1,36 @@
 //! What a script says.
-use hdfs_model::{Command, Line};
-use hdfs_wire::List;
+use hdfs_model::{Command, Line, MemSettings};
+use hdfs_wire::{List, Text};
+
+/// What a script sets. A later line may set it anew.
+#[derive(Drop)]
+pub enum Setting {
+    /// The user, in whose home directory relative paths stand.
+    User(Text),
+    /// How many datanodes there are.
+    Nodes(u32),
+    /// The block size of files that are created with the cluster's, in bytes.
+    Block(u64),
+    /// How many bytes have one checksum.
+    Chunk(u32),
+    /// How many bytes a packet has at most.
+    Packet(u32),
+}
+
+/// The settings of a script: the user of its session, and the cluster over which it runs.
+#[derive(Drop)]
+pub struct ScriptSettings {
+    pub user: Text,
+    pub cluster: MemSettings,
+}
 
 /// What one line of a script says.
 #[derive(Drop)]
 pub enum Entry {
     /// Nothing: it is empty, or a comment.
     Blank,
+    /// A setting.
+    Sets(Setting),
     /// A line to load into the store.
     Loads(Line),
     /// A command to run.
@@ -25,8 +49,11 @@ pub struct NumberedLine {
 /// What a script says up to its first line that is bad by its text or its place.
 #[derive(Drop)]
 pub struct Parsed {
+    pub settings: ScriptSettings,
+    /// The number of the first line that sets something, if there is one.
+    pub sets: Option<u64>,
     pub lines: List<NumberedLine>,
     pub commands: List<Command>,
-    /// The number of that line, if there is one.
+    /// The number of that bad line, if there is one.
     pub bad: Option<u64>,
 }

@@ -1,71 +1,18 @@
 //! One line of a script.
-ghost use Rattle.std.specs.Prelude.{◌≡◌, ◌==◌, ◌&&◌, ◌^◌, nat_le, nat_lt, ℕ, Bool, true, false, List, [], ◌∷◌, length, map, Option, Some, None, IfOk, codes, if◌then◌else◌};
+ghost use Rattle.std.specs.Prelude.{◌≡◌, ◌&&◌, [], ◌∷◌, map, IfOk, codes, if◌then◌else◌};
 ghost use Rattle.std.specs.Str.{bytes_eq};
 ghost use Rattle.hdfs_script.specs.Commands.{create_entry as create_entry_of};
 ghost use Rattle.hdfs_script.specs.Entries as spec;
-ghost use Rattle.hdfs_script.specs.Numbers.{number as number_of, hex_bytes as hex_bytes_of};
 
 use crate::command::{append_entry, close_entry, create_entry, options, read_entry, write_entry};
 use crate::entry::Entry;
-use crate::numbers::{hex_bytes, number};
-use crate::words::{U32_MOST, U64_MOST, is_ascii, is_text, word, words};
-use hdfs_model::{Attributes, FaultLine, Line, ReadKind, WriteOptions};
-use hdfs_wire::{NoMemory, Text};
+use crate::fault::{broken_entry, fault_entry};
+use crate::file::{attributes, dir_entry, file_entry};
+use crate::setting::set_entry;
+use crate::words::{is_ascii, is_text, words};
+use hdfs_model::WriteOptions;
+use hdfs_wire::NoMemory;
 use std::alloc::Global;
-
-// `PERM REPL BLOCK`
-fn attributes(permission: &[u8], replication: &[u8], block_size: &[u8]) -> Option<Attributes>
-    ensures { result ≡ spec.attributes_of permission.now replication.now block_size.now }
-{
-    let permission = number(8, U32_MOST, permission)?;
-    let replication = number(10, U32_MOST, replication)?;
-    let block_size = number(10, U64_MOST, block_size)?;
-    Some(Attributes {
-        permission: permission as u32,
-        replication: replication as u32,
-        block_size,
-    })
-}
-
-// `file PATH PERM REPL BLOCK HEX`
-fn file_entry(
-    alloc: Global,
-    path: &[u8],
-    attributes: Option<Attributes>,
-    bytes: &[u8],
-) -> Result<Entry, NoMemory>
-    ensures { IfOk result (λ entry. entry ≡ spec.file_entry path.now attributes (hex_bytes_of bytes.now)) }
-{
-    let (Some(attributes), Some(path)) = (attributes, word(path)) else {
-        return Ok(Entry::Bad);
-    };
-    let Some(bytes) = hex_bytes(alloc, bytes)? else {
-        return Ok(Entry::Bad);
-    };
-    let path = Text::from_str(alloc, path)?;
-    Ok(Entry::Loads(Line::File {
-        path,
-        attributes,
-        bytes,
-    }))
-}
-
-// `fault read D N broken`
-fn fault_entry(node: &[u8], nth: &[u8]) -> Entry
-    ensures { result ≡ spec.fault_entry (number_of 10 (2 ^ 32) node.now) (number_of 10 (2 ^ 64) nth.now) }
-{
-    let (Some(node), Some(nth)) = (number(10, U32_MOST, node), number(10, U64_MOST, nth)) else {
-        return Entry::Bad;
-    };
-    if nth == 0 {
-        return Entry::Bad;
-    }
-    Entry::Loads(Line::Fault(FaultLine::ReadOf {
-        node: node as u32,
-        nth,
-        kind: ReadKind::Broken,
-    }))
-}
 
 // A line of eight words, of which the last five are options.
 fn eight_words(
@@ -119,7 +66,7 @@ fn five_words(
         return Ok(Entry::Bad);
     }
     if is_text(kind, "fault") && is_text(c, "broken") {
-        return Ok(fault_entry(a, b));
+        return Ok(broken_entry(a, b));
     }
     if is_text(kind, "do") {
         return Ok(read_entry(alloc, a, b, c)?);
@@ -132,31 +79,47 @@ fn four_words(
     alloc: Global,
     kind: &[u8],
     call: &[u8],
-    path: &[u8],
-    bytes: &[u8],
+    a: &[u8],
+    b: &[u8],
 ) -> Result<Entry, NoMemory>
-    ensures { IfOk result (λ entry. entry ≡ spec.words_entry (kind.now ∷ call.now ∷ path.now ∷ bytes.now ∷ [])) }
+    ensures { IfOk result (λ entry. entry ≡ spec.words_entry (kind.now ∷ call.now ∷ a.now ∷ b.now ∷ [])) }
 {
+    if is_text(kind, "fault") {
+        return Ok(fault_entry(call, a, b));
+    }
     if !is_text(kind, "do") || !is_text(call, "write") {
         return Ok(Entry::Bad);
     }
-    Ok(write_entry(alloc, path, bytes)?)
+    Ok(write_entry(alloc, a, b)?)
 }
 
 // A line of three words.
-fn three_words(alloc: Global, kind: &[u8], call: &[u8], path: &[u8]) -> Result<Entry, NoMemory>
-    ensures { IfOk result (λ entry. entry ≡ spec.words_entry (kind.now ∷ call.now ∷ path.now ∷ [])) }
+fn three_words(alloc: Global, kind: &[u8], call: &[u8], a: &[u8]) -> Result<Entry, NoMemory>
+    ensures { IfOk result (λ entry. entry ≡ spec.words_entry (kind.now ∷ call.now ∷ a.now ∷ [])) }
 {
+    if is_text(kind, "set") {
+        return Ok(set_entry(alloc, call, a)?);
+    }
     if !is_text(kind, "do") {
         return Ok(Entry::Bad);
     }
     if is_text(call, "append") {
-        return Ok(append_entry(alloc, path)?);
+        return Ok(append_entry(alloc, a)?);
     }
     if is_text(call, "close") {
-        return Ok(close_entry(alloc, path)?);
+        return Ok(close_entry(alloc, a)?);
     }
     Ok(Entry::Bad)
+}
+
+// A line of two words.
+fn two_words(alloc: Global, kind: &[u8], path: &[u8]) -> Result<Entry, NoMemory>
+    ensures { IfOk result (λ entry. entry ≡ spec.words_entry (kind.now ∷ path.now ∷ [])) }
+{
+    if !is_text(kind, "dir") {
+        return Ok(Entry::Bad);
+    }
+    Ok(dir_entry(alloc, path)?)
 }
 
 // What the words of a line say.
@@ -174,6 +137,7 @@ fn words_entry(alloc: Global, words: &[&[u8]]) -> Result<Entry, NoMemory>
         5 => Ok(five_words(alloc, words[0], words[1], words[2], words[3], words[4])?),
         4 => Ok(four_words(alloc, words[0], words[1], words[2], words[3])?),
         3 => Ok(three_words(alloc, words[0], words[1], words[2])?),
+        2 => Ok(two_words(alloc, words[0], words[1])?),
         _ => Ok(Entry::Bad),
     }
 }

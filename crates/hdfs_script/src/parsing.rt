@@ -1,13 +1,14 @@
 //! A whole script.
-ghost use Rattle.std.specs.Prelude.{◌≡◌, ◌&&◌, ◌==◌, ◌≤◌, nat_le, ℕ, Bool, true, false, List, [], ◌∷◌, ◌++◌, length, Option, Some, None, IfOk, OnOk, if◌then◌else◌};
+ghost use Rattle.std.specs.Prelude.{◌≡◌, ◌==◌, ◌≤◌, [], ◌∷◌, length, IfOk, OnOk, if◌then◌else◌};
 ghost use Rattle.std.specs.List.{slice_split};
 ghost use Rattle.hdfs_script.specs.Entries.{entry_of};
-ghost use Rattle.hdfs_script.specs.Parsing.{Parses, bad_from, good_front, first_out, numbered_from};
+ghost use Rattle.hdfs_script.specs.Parsing.{Gains, Parses, bad_from, good_front, first_out};
 ghost use Rattle.hdfs_script.specs.Scripts as spec;
-ghost use Rattle.hdfs_script.specs.Scripts.{part_of, commands_of, entries_in, line_entries, script_limit};
+ghost use Rattle.hdfs_script.specs.Scripts.{part_of, entries_in, line_entries, script_limit};
 
-use crate::entry::{Entry, NumberedLine, Parsed};
+use crate::entry::{Entry, NumberedLine, Parsed, Setting};
 use crate::line::entry;
+use crate::settings::{no_settings, set};
 use hdfs_model::Line;
 use hdfs_wire::{List, NoMemory};
 use std::alloc::Global;
@@ -27,9 +28,10 @@ pub(crate) fn part_of_entry(now: u8, entry: &Entry) -> u8
     ensures { result ≡ part_of now entry.now }
 {
     match entry {
-        Entry::Loads(line) if is_fault(line) => 1,
-        Entry::Loads(_) => 0,
-        Entry::Runs(_) => 2,
+        Entry::Sets(_) => 0,
+        Entry::Loads(line) if is_fault(line) => 2,
+        Entry::Loads(_) => 1,
+        Entry::Runs(_) => 3,
         Entry::Blank | Entry::Bad => now,
     }
 }
@@ -51,12 +53,20 @@ fn entry_within(alloc: Global, line: &[u8], passes: bool) -> Result<Entry, NoMem
     Ok(entry(alloc, line)?)
 }
 
+// Puts a setting behind what was read, from the line of this number.
+fn put_setting(read: &mut Parsed, number: u64, setting: Setting)
+    ensures { Gains read.old number (Entry.Sets setting ∷ []) read.new }
+{
+    set(&mut read.settings, setting);
+    read.sets = read.sets.or(Some(number));
+}
+
 // Puts an entry of this number behind what was read.
 fn put(read: &mut Parsed, number: u64, entry: Entry) -> Result<(), NoMemory>
-    ensures lines { OnOk result (read.new.lines ≡ read.old.lines ++ numbered_from number (entry ∷ [])) }
-    ensures commands { OnOk result (read.new.commands ≡ read.old.commands ++ commands_of (entry ∷ [])) }
+    ensures { OnOk result (Gains read.old number (entry ∷ []) read.new) }
 {
     match entry {
+        Entry::Sets(setting) => put_setting(read, number, setting),
         Entry::Loads(line) => read.lines.push(NumberedLine { number, line })?,
         Entry::Runs(command) => read.commands.push(command)?,
         Entry::Blank | Entry::Bad => {}
@@ -73,10 +83,7 @@ fn read_lines(
 ) -> Result<Option<u64>, NoMemory>
     requires { length bytes.now ≤ script_limit }
     ensures bad { IfOk result (λ bad. bad ≡ first_out 0 1 (bad_from limit 1 (line_entries bytes.now))) }
-    ensures lines { OnOk result (read.new.lines ≡ read.old.lines
-        ++ numbered_from 1 (good_front 0 (bad_from limit 1 (line_entries bytes.now)))) }
-    ensures commands { OnOk result (read.new.commands ≡ read.old.commands
-        ++ commands_of (good_front 0 (bad_from limit 1 (line_entries bytes.now)))) }
+    ensures gains { OnOk result (Gains read.old 1 (good_front 0 (bad_from limit 1 (line_entries bytes.now))) read.new) }
 {
     let mut part = 0;
     let mut number = 1;
@@ -102,8 +109,7 @@ fn count_lines(bytes: &[u8]) -> u64
 // Puts the lines of a script up to the first bad one behind what was read, and answers its number.
 fn read_script(alloc: Global, bytes: &[u8], read: &mut Parsed) -> Result<Option<u64>, NoMemory>
     ensures bad { IfOk result (λ bad. bad ≡ first_out 0 1 (entries_in bytes.now)) }
-    ensures lines { OnOk result (read.new.lines ≡ read.old.lines ++ numbered_from 1 (good_front 0 (entries_in bytes.now))) }
-    ensures commands { OnOk result (read.new.commands ≡ read.old.commands ++ commands_of (good_front 0 (entries_in bytes.now))) }
+    ensures gains { OnOk result (Gains read.old 1 (good_front 0 (entries_in bytes.now)) read.new) }
 {
     if bytes.len() <= SCRIPT_LIMIT {
         return Ok(read_lines(alloc, bytes, 0, read)?);
@@ -119,6 +125,8 @@ pub fn parse(alloc: Global, bytes: &[u8]) -> Result<Parsed, NoMemory>
     ensures { IfOk result (λ read. Parses bytes.now read) }
 {
     let mut read = Parsed {
+        settings: no_settings(alloc)?,
+        sets: None,
         lines: List::new(alloc),
         commands: List::new(alloc),
         bad: None,

@@ -1,23 +1,52 @@
-//! The settings of a script's session.
+//! The settings of a script, and those of its session.
 ghost use Rattle.std.specs.Prelude.{◌≡◌, IfOk};
 ghost use Rattle.hdfs_script.specs.Scripts as spec;
 
-use hdfs_model::Settings;
+use crate::entry::{ScriptSettings, Setting};
+use hdfs_model::{MemSettings, Settings};
 use hdfs_wire::{NoMemory, Text};
 use std::alloc::Global;
 
-/// The home of a script's session.
-pub const SCRIPT_HOME: &str = "/user/user";
+// The user of a script that sets none.
+const USER: &str = "user";
+
+// What a home directory's path is, in front of its user's name.
+const HOMES: &str = "/user/";
 
 // How many packets of a block wait for their acknowledgement.
 const WINDOW: u32 = 100;
 
-/// The settings of a script's session.
-pub fn script_settings(alloc: Global) -> Result<Settings, NoMemory>
-    ensures { IfOk result (λ settings. settings ≡ spec.script_settings) }
+/// The settings of a script that sets nothing.
+pub(crate) fn no_settings(alloc: Global) -> Result<ScriptSettings, NoMemory>
+    ensures { IfOk result (λ settings. settings ≡ spec.no_settings) }
 {
+    Ok(ScriptSettings {
+        user: Text::from_str(alloc, USER)?,
+        cluster: MemSettings::of_scripts(),
+    })
+}
+
+/// Gives one of the settings anew.
+pub(crate) fn set(settings: &mut ScriptSettings, setting: Setting)
+    ensures { settings.new ≡ spec.with_setting settings.old setting }
+{
+    match setting {
+        Setting::User(user) => settings.user = user,
+        Setting::Nodes(nodes) => settings.cluster.nodes = nodes,
+        Setting::Block(size) => settings.cluster.defaults.block_size = size,
+        Setting::Chunk(size) => settings.cluster.defaults.bytes_per_checksum = size,
+        Setting::Packet(size) => settings.cluster.defaults.write_packet_size = size,
+    }
+}
+
+/// The settings of a script's session.
+pub fn session_settings(alloc: Global, given: &ScriptSettings) -> Result<Settings, NoMemory>
+    ensures { IfOk result (λ settings. settings ≡ spec.session_settings given.now) }
+{
+    let mut home = String::from_str(alloc, HOMES)?;
+    home.push_str(given.user.as_str())?;
     Ok(Settings {
-        home: Text::from_str(alloc, SCRIPT_HOME)?,
+        home: Text::from_string(home),
         client: [0; 16],
         window: WINDOW,
     })

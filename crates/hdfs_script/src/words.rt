@@ -9,6 +9,9 @@ use std::alloc::{AllocError, Global};
 /// The greatest number of 32 bits.
 pub(crate) const U32_MOST: u64 = 4294967295;
 
+/// The greatest block size in bytes.
+pub(crate) const BLOCK_SIZE_MOST: u64 = 9223372036854775807;
+
 /// The greatest number of 64 bits.
 pub(crate) const U64_MOST: u64 = 18446744073709551615;
 

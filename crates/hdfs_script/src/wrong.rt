@@ -8,12 +8,24 @@ pub enum Wrong {
     NotAscii,
     #[error("ends with a carriage return, where a newline alone ends a line")]
     CarriageReturn,
-    #[error("begins with none of `file`, `fault`, `do` and `#`")]
+    #[error("begins with none of `set`, `dir`, `file`, `fault`, `do` and `#`")]
     Kind,
+    #[error("not `set` and `user NAME`, `nodes NODES`, `block BLOCK_SIZE`, `chunk CHUNK` or `packet PACKET`, with one space between words")]
+    SetWords,
+    #[error("not `dir PATH`, with one space between words")]
+    DirWords,
     #[error("not `file PATH PERMISSION REPLICATION BLOCK_SIZE HEX`, with one space between words")]
     FileWords,
-    #[error("not `fault read NODE NTH broken`, with one space between words")]
+    #[error("begins with none of `fault link`, `fault ack`, `fault send` and `fault read`")]
     FaultWords,
+    #[error("not `fault link NTH KIND`, with one space between words")]
+    LinkWords,
+    #[error("not `fault ack NODE NTH`, with one space between words")]
+    AckWords,
+    #[error("not `fault send NODE NTH`, with one space between words")]
+    SendWords,
+    #[error("not `fault read NODE NTH broken`, with one space between words")]
+    BrokenWords,
     #[error("begins with none of `do create`, `do append`, `do write`, `do close` and `do read`")]
     CommandWords,
     #[error("not `do create PATH PERMISSION REPLICATION BLOCK_SIZE OVERWRITE PARENT`, with one space between words")]
@@ -26,15 +38,23 @@ pub enum Wrong {
     CloseWords,
     #[error("not `do read PATH OFFSET LENGTH`, with one space between words")]
     ReadWords,
+    #[error("NAME isn't one or more letters and digits")]
+    User,
+    #[error("NODES isn't a number from 1 to 64")]
+    Nodes,
+    #[error("CHUNK isn't a number of bytes from 1 to 1073741824")]
+    Chunk,
+    #[error("PACKET isn't a number of bytes from 0 to 2147483647")]
+    Packet,
     #[error("PATH isn't absolute, or has a component that is empty, `.` or `..`")]
     Path,
     #[error("PATH is empty, or has a byte that isn't printable")]
     Unprintable,
     #[error("PERMISSION isn't a number from 0 to 7777 in octal digits")]
     Permission,
-    #[error("REPLICATION isn't 1")]
+    #[error("REPLICATION of a file isn't 1")]
     Replication,
-    #[error("BLOCK_SIZE isn't a number from 1 to 9223372036854775807")]
+    #[error("BLOCK_SIZE isn't a number of bytes from 1 to 9223372036854775807")]
     BlockSize,
     #[error("PERMISSION isn't a number from 0 to 37777777777 in octal digits")]
     PermissionDigits,
@@ -48,21 +68,21 @@ pub enum Wrong {
     Parent,
     #[error("HEX isn't `-` or pairs of lower-case hexadecimal digits")]
     Hex,
-    #[error("HEX has more bytes than BLOCK_SIZE")]
-    TooManyBytes,
     #[error("NODE isn't a number from 0 to 4294967295")]
     Node,
     #[error("NTH isn't a number from 1 to 18446744073709551615")]
     Nth,
+    #[error("KIND isn't `broken`, `refused` or `badack`")]
+    LinkKind,
     #[error("OFFSET isn't a number from 0 to 18446744073709551615")]
     Offset,
     #[error("LENGTH isn't a number from 0 to 18446744073709551615")]
     Length,
-    #[error("out of order, since files come first, then faults, then commands")]
+    #[error("out of order, since settings come first, then directories and files, then faults, then commands")]
     Order,
     #[error("the script has more than 16777216 bytes")]
     TooLong,
-    #[error("the store isn't fresh, so it takes no line with a file")]
+    #[error("the store isn't fresh, so it takes no line with a setting, a directory or a file")]
     HeldStore,
     #[error("something stands at PATH already, or its parent is no directory")]
     Place,

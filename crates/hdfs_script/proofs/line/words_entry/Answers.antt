@@ -10,7 +10,7 @@ use Rattle.hdfs_script.proofs.line.words_entry.Goals as goal
 -- no line has so many words
 pub returns-in_default : goal.returns-in_default
 returns-in_default c =
-    words_entry_other (λ word. word.now) c.args.words.now (λ three. omega arith) (λ four. omega arith) (λ five. omega arith) (λ six. omega arith) (λ eight. omega arith)
+    words_entry_other (λ word. word.now) c.args.words.now (λ two. omega arith) (λ three. omega arith) (λ four. omega arith) (λ five. omega arith) (λ six. omega arith) (λ eight. omega arith)
 
 pub returns-in_ok-eight_words-in-8 : goal.returns-in_ok-eight_words-in-8
 returns-in_ok-eight_words-in-8 c =

@@ -1,11 +1,12 @@
-use Rattle.std.proofs.Common.{◌==◌, length, map, sym, arith, rules, tests}
+use Rattle.std.proofs.Common.{◌==◌, length, map, sym, ap, arith, rules, tests}
 use Rattle.std.proofs.lemmas.List.{length_push, at_drop_all}
 use Rattle.std.specs.List.{slice_split}
 use Rattle.std.proofs.lemmas.Iterator.Splits.{YieldsList-from_slice_split}
 use Rattle.std.proofs.lemmas.Iterator.Consumers.{YieldsList-at, YieldsList-turn, YieldsList-end}
 use Rattle.hdfs_script.specs.Entries.{entry_of}
-use Rattle.hdfs_script.specs.Parsing.{bad_from}
-use Rattle.hdfs_script.proofs.ParseLemmas.{entries-drop, lines_more, commands_more, out_more, lines_bad, commands_bad, out_bad, lines_all, commands_all, out_all}
+use Rattle.hdfs_script.specs.Parsing.{bad_from, good_front}
+use Rattle.hdfs_script.proofs.GainLemmas.{gains_more, gains_end}
+use Rattle.hdfs_script.proofs.ParseLemmas.{entries-drop, front_more, front_none, out_more, out_bad, out_all}
 use Rattle.hdfs_script.proofs.parsing.read_lines.Goals as goal
 
 -- the next line is bad
@@ -18,8 +19,7 @@ returns-then-not-may_stand c =
     let bad = sym c.if-not-may_stand.ensures in
     record {
       bad = out_bad c.loop-line.part c.loop-line.number c.in_ok-entry.entry _ _ _ next bad c.loop-line.invariant.out;
-      lines = lines_bad c.loop-line.part c.loop-line.number c.loop-line.read.lines _ c.in_ok-entry.entry _ _ next bad c.loop-line.invariant.lines;
-      commands = commands_bad c.loop-line.part c.loop-line.read.commands _ c.in_ok-entry.entry _ _ next bad c.loop-line.invariant.commands;
+      gains = c.loop-line.invariant.gains c.loop-line.read (gains_end c.loop-line.number _ c.loop-line.read (front_none c.loop-line.part c.in_ok-entry.entry _ _ next bad));
     }
 
 -- the next line was put behind those before it
@@ -33,8 +33,7 @@ loop-line-preserved c =
     let part = c.part_of_entry-part.ensures in
     rw length_push (record {
       count = omega (arith, c.loop-line.invariant.count);
-      lines = lines_more c.loop-line.part _ c.loop-line.number c.loop-line.read.lines c.put.new.read.lines _ c.in_ok-entry.entry _ _ next stands part c.in_ok-put.ensures.lines c.loop-line.invariant.lines;
-      commands = commands_more c.loop-line.part _ c.loop-line.read.commands c.put.new.read.commands _ c.in_ok-entry.entry _ _ next stands part c.in_ok-put.ensures.commands c.loop-line.invariant.commands;
+      gains = λ last more. c.loop-line.invariant.gains last (gains_more c.loop-line.number c.in_ok-entry.entry _ _ c.loop-line.read c.put.new.read last (front_more c.loop-line.part _ c.in_ok-entry.entry _ _ next stands part) c.in_ok-put.ensures more);
       out = out_more c.loop-line.part _ c.loop-line.number c.in_ok-entry.entry _ _ _ next stands part c.loop-line.invariant.out;
     })
 
@@ -47,6 +46,5 @@ returns c =
     let none = at_drop_all (λ ps. bad_from c.args.limit c.loop-line.number (map entry_of ps)) pieces (length c.loop-line.yielded) (omega (arith, end.1)) in
     record {
       bad = out_all c.loop-line.part c.loop-line.number _ _ none c.loop-line.invariant.out;
-      lines = lines_all c.loop-line.part c.loop-line.number c.loop-line.read.lines _ _ none c.loop-line.invariant.lines;
-      commands = commands_all c.loop-line.part c.loop-line.read.commands _ _ none c.loop-line.invariant.commands;
+      gains = c.loop-line.invariant.gains c.loop-line.read (gains_end c.loop-line.number _ c.loop-line.read (ap (good_front c.loop-line.part) none));
     }

@@ -1,7 +1,7 @@
-use Rattle.std.proofs.Common.{◌++◌, ap, ◌∙◌, refl, arith}
+use Rattle.std.proofs.Common.{ap, ◌∙◌, refl, arith}
 use Rattle.std.proofs.lemmas.List.{length-take-le}
-use Rattle.hdfs_script.specs.Parsing.{good_front, first_out, numbered_from}
-use Rattle.hdfs_script.specs.Scripts.{commands_of}
+use Rattle.hdfs_script.specs.Parsing.{first_out}
+use Rattle.hdfs_script.proofs.GainLemmas.{gains_same}
 use Rattle.hdfs_script.proofs.ParseLemmas.{entries_short, entries_long}
 use Rattle.hdfs_script.proofs.parsing.read_script.Goals as goal
 
@@ -11,8 +11,7 @@ returns-then-bytes-le-SCRIPT_LIMIT c =
     let entries = entries_short c.args.bytes.now (omega arith) in
     record {
       bad = c.in_ok-read_lines.ensures.bad ∙ ap (first_out 0 1) entries;
-      lines = c.in_ok-read_lines.ensures.lines ∙ ap (λ es. c.args.read.now.lines ++ numbered_from 1 (good_front 0 es)) entries;
-      commands = c.in_ok-read_lines.ensures.commands ∙ ap (λ es. c.args.read.now.commands ++ commands_of (good_front 0 es)) entries;
+      gains = gains_same 1 _ _ c.args.read.now c.read_lines.new.read entries c.in_ok-read_lines.ensures.gains;
     }
 
 pub slice_bounds-front-end : goal.slice_bounds-front-end
@@ -27,6 +26,5 @@ returns c =
     let entries = entries_long _ c.args.bytes.now _ (omega arith) refl c.count_lines-limit.ensures in
     record {
       bad = c.in_ok-read_lines-2.ensures.bad ∙ ap (first_out 0 1) entries;
-      lines = c.in_ok-read_lines-2.ensures.lines ∙ ap (λ es. c.args.read.now.lines ++ numbered_from 1 (good_front 0 es)) entries;
-      commands = c.in_ok-read_lines-2.ensures.commands ∙ ap (λ es. c.args.read.now.commands ++ commands_of (good_front 0 es)) entries;
+      gains = gains_same 1 _ _ c.args.read.now c.read_lines-2.new.read entries c.in_ok-read_lines-2.ensures.gains;
     }

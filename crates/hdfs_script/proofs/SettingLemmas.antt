@@ -1,0 +1,259 @@
+-- The settings of a script are in their limits, since each line's are.
+use Rattle.std.proofs.Common.{◌≡◌, ℕ, ◌+◌, ◌^◌, ◌<◌, ◌≤◌, Bool, true, false, ◌&&◌, ◌==◌, nat_le, nat_lt, List, [], ◌∷◌, length, take, map, Option, Some, None, IfSome, if◌then◌else◌, codes, refl, sym, subst, arith, lit≤, lit<}
+use Rattle.std.specs.List.{list_all, slice_split}
+use Rattle.std.specs.Str.{bytes_eq}
+use Rattle.std.proofs.lemmas.Bool.Decides.{nat_tests}
+use Rattle.hdfs_model.specs.declared.attributes.Attributes.{Attributes}
+use Rattle.hdfs_model.specs.declared.commands.WriteOptions.{WriteOptions}
+use Rattle.hdfs_model.specs.declared.store.FaultLine.{FaultLine}
+use Rattle.hdfs_model.specs.declared.store.FaultLine.TheVariants as faults
+use Rattle.hdfs_model.specs.declared.store.LinkKind.{LinkKind}
+use Rattle.hdfs_model.specs.Limits.{is_block_size}
+use Rattle.hdfs_model.specs.Loading.{AreValid}
+use Rattle.hdfs_script.specs.declared.entry.Entry.{Entry}
+use Rattle.hdfs_script.specs.declared.entry.Entry.TheVariants.{Blank, Sets, Loads, Runs, Bad}
+use Rattle.hdfs_script.specs.declared.entry.ScriptSettings.{ScriptSettings}
+use Rattle.hdfs_script.specs.declared.entry.Setting.{Setting}
+use Rattle.hdfs_script.specs.declared.entry.Setting.TheVariants as settings
+use Rattle.hdfs_script.specs.Commands.{create_entry, options_of, read_entry, write_entry}
+use Rattle.hdfs_script.specs.Entries.{ascii_entry, attributes_of, broken_read, entry_of, fault_entry, file_entry, from_one, from_zero, link_entry, link_kind, node_entry, node_fault, set_entry, three_words, words_entry}
+use Rattle.hdfs_script.specs.Numbers.{hex_bytes, is_number, number, value_from}
+use Rattle.hdfs_script.specs.Parsing.{good_front}
+use Rattle.hdfs_script.specs.Scripts.{ends_bad, entries_in, line_entries, may_stand, no_settings, part_of, script_limit, settings_from, with_setting}
+use Rattle.hdfs_script.specs.Words.{is_word}
+
+-- a setting is in its limits
+abbrev IsAllowed : Setting → Type 0
+IsAllowed (settings.User name) = Unit {0}
+IsAllowed (settings.Nodes n) = (0 < n) × (n ≤ 64)
+IsAllowed (settings.Block n) = is_block_size n ≡ true
+IsAllowed (settings.Chunk n) = (0 < n) × (n ≤ 2 ^ 30)
+IsAllowed (settings.Packet n) = n < 2 ^ 31
+
+-- what an entry sets is in its limits
+abbrev SetsAllowed : Entry → Type 0
+SetsAllowed (Sets setting) = IsAllowed setting
+SetsAllowed _ = Unit {0}
+
+-- so is what each of them sets
+abbrev AllAllowed : List Entry → Type 0
+AllAllowed [] = Unit {0}
+AllAllowed (entry ∷ rest) = SetsAllowed entry × AllAllowed rest
+
+-- a choice of two entries
+allowed_if : (b : Bool) (x y : Entry) → SetsAllowed x → SetsAllowed y → SetsAllowed (if b then x else y)
+allowed_if true x y one two = one
+allowed_if false x y one two = two
+
+-- a number is below its limit
+number_below : (base limit : ℕ) (text : List ℕ) → IfSome (number base limit text) (λ n. n < limit)
+number_below base limit text = by_tests (is_number base text) (nat_lt (value_from base 0 text) limit) refl
+  where
+    by_tests : (digits fits : Bool) → nat_lt (value_from base 0 text) limit ≡ fits → IfSome (if digits && fits then Some (value_from base 0 text) else None) (λ n. n < limit)
+    by_tests true true is = grind (arith, nat_tests)
+    by_tests true false is = tt
+    by_tests false fits is = tt
+
+-- a number with a limit, from 1 on and from 0 on
+allowed_from_one : (setting : ℕ → Setting) (limit : ℕ) → ((n : ℕ) → 0 < n → n < limit → IsAllowed (setting n)) → (found : Option ℕ) → IfSome found (λ n. n < limit) → SetsAllowed (from_one setting found)
+allowed_from_one setting limit allowed None below = tt
+allowed_from_one setting limit allowed (Some n) below = by_test (nat_le 1 n) refl
+  where
+    by_test : (some : Bool) → nat_le 1 n ≡ some → SetsAllowed (if some then Sets (setting n) else Bad)
+    by_test true is = allowed n (grind (arith, nat_tests)) below
+    by_test false is = tt
+
+allowed_from_zero : (setting : ℕ → Setting) (limit : ℕ) → ((n : ℕ) → n < limit → IsAllowed (setting n)) → (found : Option ℕ) → IfSome found (λ n. n < limit) → SetsAllowed (from_zero setting found)
+allowed_from_zero setting limit allowed None below = tt
+allowed_from_zero setting limit allowed (Some n) below = allowed n below
+
+-- the limits of a block size
+block_size_allowed : (n : ℕ) → 0 < n → n < 2 ^ 63 → is_block_size n ≡ true
+block_size_allowed n some below = grind (arith, nat_tests)
+
+-- a line that sets something
+allowed_set : (key value : List ℕ) → SetsAllowed (set_entry key value)
+allowed_set key value =
+    allowed_if (bytes_eq key (codes "user")) _ _ (allowed_if (nat_le 1 (length value) && list_all _ value) _ _ tt tt)
+    (allowed_if (bytes_eq key (codes "nodes")) _ _
+    (allowed_from_one settings.Nodes 65 (λ n some below. (some, omega (arith, below))) (number 10 65 value) (number_below 10 65 value))
+    (allowed_if (bytes_eq key (codes "block")) _ _
+    (allowed_from_one settings.Block (2 ^ 63) block_size_allowed (number 10 (2 ^ 63) value) (number_below 10 (2 ^ 63) value))
+    (allowed_if (bytes_eq key (codes "chunk")) _ _
+    (allowed_from_one settings.Chunk (2 ^ 30 + 1) (λ n some below. (some, omega (arith, below))) (number 10 (2 ^ 30 + 1) value) (number_below 10 (2 ^ 30 + 1) value))
+    (allowed_if (bytes_eq key (codes "packet")) _ _
+    (allowed_from_zero settings.Packet (2 ^ 31) (λ n below. below) (number 10 (2 ^ 31) value) (number_below 10 (2 ^ 31) value)) tt))))
+
+-- The other lines set nothing: a fault,
+allowed_link : (nth : Option ℕ) (kind : Option LinkKind) → SetsAllowed (link_entry nth kind)
+allowed_link None kind = tt
+allowed_link (Some nth) None = tt
+allowed_link (Some nth) (Some kind) = allowed_if (nat_le 1 nth) _ _ tt tt
+
+allowed_node : (fault : ℕ → ℕ → FaultLine) (node nth : Option ℕ) → SetsAllowed (node_entry fault node nth)
+allowed_node fault None nth = tt
+allowed_node fault (Some node) None = tt
+allowed_node fault (Some node) (Some nth) = allowed_if (nat_le 1 nth) _ _ tt tt
+
+allowed_call : (fault : ℕ → ℕ → FaultLine) (node nth : List ℕ) → SetsAllowed (node_fault fault node nth)
+allowed_call fault node nth = allowed_node fault (number 10 (2 ^ 32) node) (number 10 (2 ^ 64) nth)
+
+-- a file,
+allowed_file : (path : List ℕ) (attributes : Option Attributes) (bytes : Option (List ℕ)) → SetsAllowed (file_entry path attributes bytes)
+allowed_file path None bytes = tt
+allowed_file path (Some attributes) None = tt
+allowed_file path (Some attributes) (Some bytes) = allowed_if (is_word path) _ _ tt tt
+
+-- a command.
+allowed_create : (path : List ℕ) (options : Option WriteOptions) → SetsAllowed (create_entry path options)
+allowed_create path None = tt
+allowed_create path (Some options) = allowed_if (is_word path) _ _ tt tt
+
+allowed_write : (path : List ℕ) (bytes : Option (List ℕ)) → SetsAllowed (write_entry path bytes)
+allowed_write path None = tt
+allowed_write path (Some bytes) = allowed_if (is_word path) _ _ tt tt
+
+allowed_read : (path : List ℕ) (offset len : Option ℕ) → SetsAllowed (read_entry path offset len)
+allowed_read path None len = tt
+allowed_read path (Some offset) None = tt
+allowed_read path (Some offset) (Some len) = allowed_if (is_word path) _ _ tt tt
+
+-- lines of three words and more
+allowed_fault : (call a b : List ℕ) → SetsAllowed (fault_entry call a b)
+allowed_fault call a b =
+    allowed_if (bytes_eq call (codes "link")) _ _ (allowed_link (number 10 (2 ^ 64) a) (link_kind b))
+    (allowed_if (bytes_eq call (codes "ack")) _ _ (allowed_call faults.AckOf a b)
+    (allowed_if (bytes_eq call (codes "send")) _ _ (allowed_call faults.SendTo a b) tt))
+
+allowed_three : (a b c : List ℕ) → SetsAllowed (three_words a b c)
+allowed_three a b c =
+    allowed_if (bytes_eq a (codes "set")) _ _ (allowed_set b c)
+    (allowed_if (bytes_eq a (codes "do") && bytes_eq b (codes "append")) _ _ (allowed_if (is_word c) _ _ tt tt)
+    (allowed_if (bytes_eq a (codes "do") && bytes_eq b (codes "close")) _ _ (allowed_if (is_word c) _ _ tt tt) tt))
+
+allowed_words : (words : List (List ℕ)) → SetsAllowed (words_entry words)
+allowed_words [] = tt
+allowed_words (a ∷ []) = tt
+allowed_words (a ∷ b ∷ []) = allowed_if (bytes_eq a (codes "dir")) _ _ (allowed_if (is_word b) _ _ tt tt) tt
+allowed_words (a ∷ b ∷ c ∷ []) = allowed_three a b c
+allowed_words (a ∷ b ∷ c ∷ d ∷ []) =
+    allowed_if (bytes_eq a (codes "fault")) _ _ (allowed_fault b c d)
+    (allowed_if (bytes_eq a (codes "do") && bytes_eq b (codes "write")) _ _ (allowed_write c (hex_bytes d)) tt)
+allowed_words (a ∷ b ∷ c ∷ d ∷ e ∷ []) =
+    allowed_if (bytes_eq a (codes "fault") && bytes_eq b (codes "read") && bytes_eq e (codes "broken")) _ _ (allowed_call broken_read c d)
+    (allowed_if (bytes_eq a (codes "do") && bytes_eq b (codes "read")) _ _ (allowed_read c (number 10 (2 ^ 64) d) (number 10 (2 ^ 64) e)) tt)
+allowed_words (a ∷ b ∷ c ∷ d ∷ e ∷ f ∷ []) = allowed_if (bytes_eq a (codes "file")) _ _ (allowed_file b (attributes_of c d e) (hex_bytes f)) tt
+allowed_words (a ∷ b ∷ c ∷ d ∷ e ∷ f ∷ g ∷ []) = tt
+allowed_words (a ∷ b ∷ c ∷ d ∷ e ∷ f ∷ g ∷ h ∷ []) =
+    allowed_if (bytes_eq a (codes "do") && bytes_eq b (codes "create")) _ _ (allowed_create c (options_of d e f g h)) tt
+allowed_words (a ∷ b ∷ c ∷ d ∷ e ∷ f ∷ g ∷ h ∷ i ∷ rest) = tt
+
+allowed_ascii : (line : List ℕ) → SetsAllowed (ascii_entry line)
+allowed_ascii [] = tt
+allowed_ascii (c ∷ rest) = allowed_if (c == 35) Blank _ tt (allowed_words (slice_split (λ b. b == 32) (c ∷ rest)))
+
+-- what a line sets is in its limits
+allowed_entry : (line : List ℕ) → SetsAllowed (entry_of line)
+allowed_entry line = allowed_if (list_all (λ b. nat_lt b 128) line) (ascii_entry line) Bad (allowed_ascii line) tt
+
+-- and so in all entries of a script, also up to the first bad line
+allowed_lines : (pieces : List (List ℕ)) → AllAllowed (map entry_of pieces)
+allowed_lines [] = tt
+allowed_lines (line ∷ rest) = (allowed_entry line, allowed_lines rest)
+
+allowed_ends : (entries : List Entry) → AllAllowed entries → AllAllowed (ends_bad entries)
+allowed_ends [] all = tt
+allowed_ends (entry ∷ []) all = (tt, tt)
+allowed_ends (entry ∷ next ∷ rest) all = (all.0, allowed_ends (next ∷ rest) all.1)
+
+allowed_script : (bytes : List ℕ) → AllAllowed (entries_in bytes)
+allowed_script bytes = by_length (nat_le (length bytes) script_limit)
+  where
+    by_length : (short : Bool) → AllAllowed (if short then line_entries bytes else ends_bad (line_entries (take script_limit bytes)))
+    by_length true = allowed_lines (slice_split (λ b. b == 10) bytes)
+    by_length false = allowed_ends (line_entries (take script_limit bytes)) (allowed_lines (slice_split (λ b. b == 10) (take script_limit bytes)))
+
+allowed_front : (now : ℕ) (entries : List Entry) → AllAllowed entries → AllAllowed (good_front now entries)
+allowed_front now [] all = tt
+allowed_front now (entry ∷ rest) all = by_place (may_stand now entry) (allowed_front (part_of now entry) rest all.1)
+  where
+    by_place : (stands : Bool) → AllAllowed (good_front (part_of now entry) rest) → AllAllowed (if stands then entry ∷ good_front (part_of now entry) rest else [])
+    by_place true front = (all.0, front)
+    by_place false front = tt
+
+-- valid settings stay so with one of them given anew
+valid_with : (given : ScriptSettings) (setting : Setting) → IsAllowed setting → AreValid given.cluster → AreValid (with_setting given setting).cluster
+valid_with given (settings.User name) allowed valid = valid
+valid_with given (settings.Nodes n) allowed valid = record {
+  active = valid.active;
+  namenodes = valid.namenodes;
+  some = allowed.0;
+  nodes = allowed.1;
+  replication = valid.replication;
+  block_size = valid.block_size;
+  chunk = valid.chunk;
+  bound = valid.bound;
+  packet = valid.packet;
+}
+valid_with given (settings.Block n) allowed valid = record {
+  active = valid.active;
+  namenodes = valid.namenodes;
+  some = valid.some;
+  nodes = valid.nodes;
+  replication = valid.replication;
+  block_size = allowed;
+  chunk = valid.chunk;
+  bound = valid.bound;
+  packet = valid.packet;
+}
+valid_with given (settings.Chunk n) allowed valid = record {
+  active = valid.active;
+  namenodes = valid.namenodes;
+  some = valid.some;
+  nodes = valid.nodes;
+  replication = valid.replication;
+  block_size = valid.block_size;
+  chunk = allowed.0;
+  bound = allowed.1;
+  packet = valid.packet;
+}
+valid_with given (settings.Packet n) allowed valid = record {
+  active = valid.active;
+  namenodes = valid.namenodes;
+  some = valid.some;
+  nodes = valid.nodes;
+  replication = valid.replication;
+  block_size = valid.block_size;
+  chunk = valid.chunk;
+  bound = valid.bound;
+  packet = allowed;
+}
+
+-- and so with all that entries set
+valid_from : (given : ScriptSettings) (entries : List Entry) → AllAllowed entries → AreValid given.cluster → AreValid (settings_from given entries).cluster
+valid_from given [] all valid = valid
+valid_from given (Sets setting ∷ rest) all valid = valid_from (with_setting given setting) rest all.1 (valid_with given setting all.0 valid)
+valid_from given (Blank ∷ rest) all valid = valid_from given rest all.1 valid
+valid_from given (Loads line ∷ rest) all valid = valid_from given rest all.1 valid
+valid_from given (Runs command ∷ rest) all valid = valid_from given rest all.1 valid
+valid_from given (Bad ∷ rest) all valid = valid_from given rest all.1 valid
+
+-- the settings of a script that sets nothing
+valid_none : AreValid no_settings.cluster
+valid_none = record {
+  active = lit< tt;
+  namenodes = lit≤ tt;
+  some = lit< tt;
+  nodes = lit≤ tt;
+  replication = refl;
+  block_size = refl;
+  chunk = lit< tt;
+  bound = lit≤ tt;
+  packet = lit< tt;
+}
+
+-- A store can be made with the settings that a script gives.
+pub valid_settings : (bytes : List ℕ) (given : ScriptSettings) → given ≡ settings_from no_settings (good_front 0 (entries_in bytes)) → AreValid given.cluster
+valid_settings bytes given is =
+    subst (λ (s : ScriptSettings). AreValid s.cluster) (sym is)
+    (valid_from no_settings (good_front 0 (entries_in bytes)) (allowed_front 0 (entries_in bytes) (allowed_script bytes)) valid_none)

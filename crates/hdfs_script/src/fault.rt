@@ -1,0 +1,109 @@
+//! The lines of a script that plan a fault.
+ghost use Rattle.std.specs.Prelude.{◌≡◌, ◌^◌, ℕ, MatchOption};
+ghost use Rattle.hdfs_model.specs.declared.store.FaultLine.{FaultLine as Fault};
+ghost use Rattle.hdfs_script.specs.Entries as spec;
+ghost use Rattle.hdfs_script.specs.Numbers.{number as number_of};
+
+use crate::entry::Entry;
+use crate::numbers::number;
+use crate::words::{U32_MOST, U64_MOST, is_text};
+use hdfs_model::{FaultLine, Line, LinkKind, ReadKind};
+
+/// How the set-up of a pipeline fails.
+pub(crate) fn link_kind(text: &[u8]) -> Option<LinkKind>
+    ensures { result ≡ spec.link_kind text.now }
+{
+    if is_text(text, "broken") {
+        return Some(LinkKind::Broken);
+    }
+    if is_text(text, "refused") {
+        return Some(LinkKind::Refused);
+    }
+    if is_text(text, "badack") {
+        return Some(LinkKind::BadAck);
+    }
+    None
+}
+
+// `fault link N KIND`
+fn link_entry(nth: &[u8], kind: &[u8]) -> Entry
+    ensures { result ≡ spec.link_entry (number_of 10 (2 ^ 64) nth.now) (spec.link_kind kind.now) }
+{
+    let (Some(nth), Some(kind)) = (number(10, U64_MOST, nth), link_kind(kind)) else {
+        return Entry::Bad;
+    };
+    if nth == 0 {
+        return Entry::Bad;
+    }
+    Entry::Loads(Line::Fault(FaultLine::Link { nth, kind }))
+}
+
+// A call of a datanode.
+struct NodeCall {
+    node: u32,
+    nth: u64,
+}
+
+// The call of a datanode that two words write.
+fn node_call(node: &[u8], nth: &[u8]) -> Option<NodeCall>
+    ensures { (fault : ℕ → ℕ → Fault) → MatchOption result (spec.node_fault fault node.now nth.now ≡ Entry.Bad)
+        (λ call. spec.node_fault fault node.now nth.now ≡ Entry.Loads (Line.Fault (fault call.node call.nth))) }
+{
+    let (Some(node), Some(nth)) = (number(10, U32_MOST, node), number(10, U64_MOST, nth)) else {
+        return None;
+    };
+    if nth == 0 {
+        return None;
+    }
+    Some(NodeCall {
+        node: node as u32,
+        nth,
+    })
+}
+
+// `fault ack D N`
+fn ack_entry(node: &[u8], nth: &[u8]) -> Entry
+    ensures { result ≡ spec.node_fault (λ node nth. FaultLine.AckOf node nth) node.now nth.now }
+{
+    let Some(NodeCall { node, nth }) = node_call(node, nth) else {
+        return Entry::Bad;
+    };
+    Entry::Loads(Line::Fault(FaultLine::AckOf { node, nth }))
+}
+
+// `fault send D N`
+fn send_entry(node: &[u8], nth: &[u8]) -> Entry
+    ensures { result ≡ spec.node_fault (λ node nth. FaultLine.SendTo node nth) node.now nth.now }
+{
+    let Some(NodeCall { node, nth }) = node_call(node, nth) else {
+        return Entry::Bad;
+    };
+    Entry::Loads(Line::Fault(FaultLine::SendTo { node, nth }))
+}
+
+/// `fault read D N broken`
+pub(crate) fn broken_entry(node: &[u8], nth: &[u8]) -> Entry
+    ensures { result ≡ spec.node_fault spec.broken_read node.now nth.now }
+{
+    let Some(NodeCall { node, nth }) = node_call(node, nth) else {
+        return Entry::Bad;
+    };
+    let kind = ReadKind::Broken;
+    Entry::Loads(Line::Fault(FaultLine::ReadOf { node, nth, kind }))
+}
+
+/// `fault link N KIND`, `fault ack D N` or `fault send D N`
+pub(crate) fn fault_entry(call: &[u8], a: &[u8], b: &[u8]) -> Entry
+    ensures { result ≡ spec.fault_entry call.now a.now b.now }
+{
+    if is_text(call, "link") {
+        return link_entry(a, b);
+    }
+    if is_text(call, "ack") {
+        return ack_entry(a, b);
+    }
+    if is_text(call, "send") {
+        return send_entry(a, b);
+    }
+    Entry::Bad
+}
