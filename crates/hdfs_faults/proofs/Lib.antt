@@ -1,0 +1,6 @@
+pub mod Bounds
+pub mod Failing
+pub mod Following
+pub mod Linking
+pub mod Planning
+pub mod Updating

@@ -1,0 +1,117 @@
+//! Which calls of a cluster fail.
+ghost use Rattle.std.specs.Prelude.{◌≡◌, ◌≢◌, ◌<◌, ℕ, List, true, false, IfOk, OnOk, OnErr};
+ghost use Rattle.hdfs_faults.specs.Series.{acks_of, reads_of, sends_to, uuid_of};
+
+use crate::links::Links;
+use crate::node_plan::NodeCall;
+use crate::nodes::Nodes;
+use hdfs_model::{FaultLine, LinkKind};
+use hdfs_wire::NoMemory;
+use std::alloc::Global;
+
+/// The calls of a cluster that were counted, which of them are planned to fail, and how often each object has failed.
+#[derive(Drop)]
+pub struct FaultPlan {
+    pub(crate) nodes: Nodes,
+    pub(crate) links: Links,
+}
+
+impl FaultPlan {
+    ghost use Rattle.hdfs_faults.specs.Plans.{has_node, link_faults_of, node_faults_of, AddsNodes, Counts, Forgets, IsNew, PlansFault, SamePlan, SetsUp, TakesAck};
+
+    /// So many datanodes. Nothing was counted, and nothing is planned.
+    pub fn new(alloc: Global, nodes: u32) -> Result<FaultPlan, NoMemory>
+        ensures new { IfOk result IsNew }
+        ensures there { IfOk result (λ plan. (k : ℕ) → k < nodes → has_node plan (uuid_of k) ≡ true) }
+        ensures others { IfOk result (λ plan. (d : List ℕ) → ((k : ℕ) → k < nodes → d ≢ uuid_of k) → has_node plan d ≡ false) }
+    {
+        let mut plan = FaultPlan {
+            nodes: Nodes::new(alloc),
+            links: Links::new(alloc),
+        };
+        plan.add_nodes(alloc, nodes)?;
+        Ok(plan)
+    }
+
+    /// Sees to it that the datanodes with the numbers below `nodes` are there. No count and no plan changes.
+    pub fn add_nodes(&mut self, alloc: Global, nodes: u32) -> Result<(), NoMemory>
+        ensures there { OnOk result ((k : ℕ) → k < nodes → has_node self.new (uuid_of k) ≡ true) }
+        ensures others { (d : List ℕ) → ((k : ℕ) → k < nodes → d ≢ uuid_of k) → has_node self.new d ≡ has_node self.old d }
+        ensures rest { AddsNodes self.old self.new }
+    {
+        self.nodes.add(alloc, nodes)
+    }
+
+    /// Plans a fault. One of a datanode that isn't there, or of a call that was counted already, never comes.
+    pub fn plan(&mut self, alloc: Global, fault: &FaultLine) -> Result<(), NoMemory>
+        ensures ok { OnOk result (PlansFault self.old fault.now self.new) }
+        ensures err { OnErr result (SamePlan self.old self.new) }
+    {
+        match fault {
+            FaultLine::Link { nth, kind } => self.links.plan(*nth, *kind),
+            FaultLine::AckOf { node, nth } => self.nodes.plan(alloc, NodeCall::Ack, *node, *nth),
+            FaultLine::SendTo { node, nth } => self.nodes.plan(alloc, NodeCall::Send, *node, *nth),
+            FaultLine::ReadOf { node, nth, .. } => {
+                self.nodes.plan(alloc, NodeCall::Read, *node, *nth)
+            }
+        }
+    }
+
+    /// Counts the set-up of a pipeline that gets this link if it succeeds, and says how it fails. The links' count rises at
+    /// once, but for a bad acknowledgement.
+    pub fn set_up(&mut self, link: u64) -> Result<Option<LinkKind>, NoMemory>
+        ensures ok { IfOk result (λ kind. SetsUp self.old link kind self.new) }
+        ensures err { OnErr result (SamePlan self.old self.new) }
+    {
+        self.links.set_up(link)
+    }
+
+    /// Whether the next acknowledgement of a link is bad. Then the links' count rises, and the one after it is good.
+    pub fn bad_ack(&mut self, link: u64) -> bool
+        ensures { TakesAck self.old link result self.new }
+    {
+        self.links.bad_ack(link)
+    }
+
+    /// Forgets a link.
+    pub fn end(&mut self, link: u64)
+        ensures { Forgets self.old link self.new }
+    {
+        self.links.end(link);
+    }
+
+    /// Counts a packet that is sent down a pipeline whose first datanode is `first`, and says whether the connection breaks.
+    pub fn send(&mut self, first: &str) -> bool
+        ensures { Counts self.old (sends_to first.now) result self.new }
+    {
+        self.nodes.count(NodeCall::Send, first)
+    }
+
+    /// Counts an acknowledgement that tells of a datanode, and says whether it has failed.
+    pub fn ack(&mut self, node: &str) -> bool
+        ensures { Counts self.old (acks_of node.now) result self.new }
+    {
+        self.nodes.count(NodeCall::Ack, node)
+    }
+
+    /// Counts a packet that a datanode gives, and says whether it fails.
+    pub fn packet(&mut self, node: &str) -> bool
+        ensures { Counts self.old (reads_of node.now) result self.new }
+    {
+        self.nodes.count(NodeCall::Read, node)
+    }
+
+    /// How often a datanode has failed. One that isn't there never has.
+    pub fn node_faults(&self, uuid: &str) -> u64
+        ensures { result ≡ node_faults_of self.now uuid.now }
+    {
+        self.nodes.failed(uuid)
+    }
+
+    /// How often links have failed.
+    pub fn link_faults(&self) -> u64
+        ensures { result ≡ link_faults_of self.now }
+    {
+        self.links.failed
+    }
+}
