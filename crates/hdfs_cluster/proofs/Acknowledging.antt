@@ -1,22 +1,27 @@
 -- What an acknowledgement and the end of a pipeline do to what a cluster shows: nothing that is held changes.
-use Rattle.std.proofs.Common.{◌≡◌, inl, inr, ℕ, ℤ, ◌+◌, ◌<◌, ◌≤◌, Bool, List, [], ◌∷◌, ◌++◌, length, map, take, drop, get_or, Option, Some, None, is_some, unwrap_or, zero, suc, refl, sym, ◌∙◌, ap, subst, arith, add-one, take-append-drop}
-use Rattle.std.proofs.lemmas.List.{length-replicate, get_or-replicate, length-take-le, map-append, take_more}
+use Rattle.std.proofs.Common.{◌≡◌, ◌≢◌, ◌⊎◌, inl, inr, ℕ, ℤ, ◌+◌, ◌<◌, ◌≤◌, Bool, true, false, List, [], ◌∷◌, ◌++◌, length, map, take, drop, get_or, Option, Some, None, is_some, unwrap_or, zero, suc, refl, sym, ◌∙◌, ap, subst, arith, add-one, take-append-drop}
+use Rattle.std.proofs.Math.Seq.{get_or-append_seam}
+use Rattle.std.proofs.lemmas.List.{length-take-le, map-append}
 use Rattle.std.specs.Option.{IsSome}
 use Rattle.slab.specs.Slab as slab
 use Rattle.slab.specs.Slab.{Slab, Updates}
 use Rattle.hdfs_wire.specs.declared.ack.Ack.{Ack}
 use Rattle.hdfs_wire.specs.Outgoing.{Outgoing}
 use Rattle.hdfs_model.specs.declared.messages.Setup.{Setup}
-use Rattle.hdfs_model.specs.declared.messages.ServerDefaults.{ServerDefaults}
+use Rattle.hdfs_model.specs.declared.mem_settings.MemSettings.{MemSettings}
 use Rattle.hdfs_model.specs.declared.picture.LastAnswer.{LastAnswer}
 use Rattle.hdfs_model.specs.declared.picture.OpenWrite.{OpenWrite}
 use Rattle.hdfs_model.specs.declared.store.Line.{Line}
 use Rattle.hdfs_model.specs.Picture.{Picture}
-use Rattle.hdfs_model.specs.Pipes.{WritesLink, Waits, Acknowledged, WriteEnded}
-use Rattle.hdfs_model.specs.Sending.{WritePlace, Came, Acknowledges, IsDue, MovesOn, StaysHeld, seqno_of}
+use Rattle.hdfs_model.specs.Counts.{NeverFall, Rose}
+use Rattle.hdfs_model.specs.Pipes.{WritesLink, Waits, Acknowledged, IsWellFormed, WriteEnded, nodes_of}
+use Rattle.hdfs_model.specs.declared.messages.DatanodeInfo.{DatanodeInfo}
+use Rattle.hdfs_faults.specs.declared.fault_plan.FaultPlan.{FaultPlan}
+use Rattle.hdfs_faults.specs.Calls.{one_if}
+use Rattle.hdfs_faults.specs.Plans.{link_faults_of, node_faults_of}
+use Rattle.hdfs_model.specs.Sending.{WritePlace, Came, Acknowledges, IsDue, MovesOn, StaysHeld, seqno_of, uuids}
 use Rattle.hdfs_model.specs.Shown.{Shown}
 use Rattle.hdfs_model.specs.Writing.{WritesAt, Responds}
-use Rattle.hdfs_model.proofs.Frames.{never_fall_refl}
 use Rattle.hdfs_cluster.specs.declared.namespace.Namespace.{Namespace}
 use Rattle.hdfs_cluster.specs.declared.datanodes.Datanodes.{Datanodes}
 use Rattle.hdfs_cluster.specs.declared.mem_link.MemLink.{MemLink}
@@ -24,9 +29,11 @@ use Rattle.hdfs_cluster.specs.declared.mem_link.MemLink.TheVariants as links
 use Rattle.hdfs_cluster.specs.declared.write_link.MemWrite.{MemWrite}
 use Rattle.hdfs_cluster.specs.Links.{read_told, read_place, write_told, write_place, OnWrite, OnWrites, IsDueOn, AckedOn}
 use Rattle.hdfs_cluster.specs.MemShown.{picture_at, counts_of}
-use Rattle.hdfs_cluster.specs.Writes.{told_at, told_of, place_at, place_of, disturbed_at, ack_of}
+use Rattle.hdfs_cluster.specs.Telling.{failures}
+use Rattle.hdfs_cluster.specs.Writes.{told_at, told_of, place_at, place_of, disturbed_at}
 use Rattle.hdfs_cluster.proofs.Places.{slot_stays, no_read, no_read_place}
 use Rattle.hdfs_cluster.proofs.Stills.{shown_at}
+use Rattle.hdfs_cluster.proofs.Telling.{failed_status}
 
 -- where packets wait, not all that were sent are acknowledged
 some_wait : (n : ℕ) (sent : List Outgoing) → 0 < length (map seqno_of (drop n sent)) → n < length sent
@@ -34,6 +41,15 @@ some_wait zero [] some = absurd (omega arith)
 some_wait zero (packet ∷ sent) some = omega arith
 some_wait (suc n) [] some = absurd (omega arith)
 some_wait (suc n) (packet ∷ sent) some = omega (arith, some_wait n sent some)
+
+drop_at : (n : ℕ) (xs : List Outgoing) (d : Outgoing) → n < length xs → drop n xs ≡ get_or xs n d ∷ drop (suc n) xs
+drop_at n [] d within = absurd (omega arith)
+drop_at zero (x ∷ xs) d within = refl
+drop_at (suc n) (x ∷ xs) d within = drop_at n xs d (omega arith)
+
+-- the packet that is due, and those behind it
+pub rest_due : (sent : List Outgoing) (n : ℕ) (d : Outgoing) → n < length sent → drop n sent ≡ get_or sent n d ∷ drop (n + 1) sent
+rest_due sent n d due = drop_at n sent d due ∙ ap (λ (k : ℕ). get_or sent n d ∷ drop k sent) (sym (add-one n))
 
 -- a packet that waits was sent and isn't acknowledged
 pub awaited : (v : MemWrite) (write : OpenWrite) (o : Option OpenWrite) → o ≡ Some (told_of v) → o ≡ Some write → 0 < length write.waiting → v.acknowledged < length v.sent.items
@@ -45,18 +61,18 @@ pub awaited_on : (o : MemLink) (write : OpenWrite) → write_told (Some o) ≡ S
 awaited_on (links.Write v) write is some = awaited v write (write_told (Some (links.Write v))) refl is some
 awaited_on (links.Read v) write is some = absurd (cc)
 
-module _ (space : Namespace) (active : ℕ) (defaults : ServerDefaults) (last : LastAnswer) (namenodes : ℕ) (loaded : List Line) (nodes : Datanodes) (s s' : Slab MemLink) (link : ℕ) (slot : Option MemLink) (there : IsSome (write_told (slab.get s link))) (updates : Updates s s' link slot) (told_none : read_told slot ≡ None) (place_none : read_place slot ≡ None) where
+module _ (space : Namespace) (settings : MemSettings) (last : LastAnswer) (loaded : List Line) (faults faults' : FaultPlan) (fall : NeverFall (counts_of faults) (counts_of faults')) (nodes : Datanodes) (s s' : Slab MemLink) (link : ℕ) (slot : Option MemLink) (there : IsSome (write_told (slab.get s link))) (updates : Updates s s' link slot) (told_none : read_told slot ≡ None) (place_none : read_place slot ≡ None) where
   abbrev old : Shown
-  old = shown_at space active defaults last namenodes loaded nodes s
+  old = shown_at space settings last loaded faults nodes s
 
   abbrev new : Shown
-  new = shown_at space active defaults last namenodes loaded nodes s'
+  new = shown_at space settings last loaded faults' nodes s'
 
   abbrev p : Picture
-  p = picture_at space nodes active defaults s
+  p = picture_at space nodes settings s
 
   abbrev q : Picture
-  q = picture_at space nodes active defaults s'
+  q = picture_at space nodes settings s'
 
   quiet_writes : WritesAt link p q
   quiet_writes = record {
@@ -69,7 +85,7 @@ module _ (space : Namespace) (active : ℕ) (defaults : ServerDefaults) (last : 
   quiet_link : WritesLink link old new
   quiet_link = record {
     only = record {
-      later = record { counts = never_fall_refl (counts_of nodes); namenodes = refl; loaded = refl };
+      later = record { counts = fall; namenodes = refl; loaded = refl };
       last = refl;
       calls = λ i. refl;
       reads = slot_stays (λ l. read_told) s s' link (slab.get s link) slot refl updates (told_none ∙ sym (no_read (slab.get s link) there));
@@ -98,79 +114,57 @@ module _ (space : Namespace) (active : ℕ) (defaults : ServerDefaults) (last : 
           subst (λ (y : WritePlace). (write' : WritePlace) × MovesOn y write' × (write'.sent ≡ y.sent) × StaysHeld p.held y q.held write') same
           (place_of nodes link v, stays (place_of nodes link v) (λ i lt. (omega arith, omega arith)), refl, λ i lt calm holds. holds)
 
-  module _ (v w : MemWrite) (d : Outgoing) (was : slab.get s link ≡ Some (links.Write v)) (is_slot : slot ≡ Some (links.Write w)) (same_setup : w.setup ≡ v.setup) (same_base : w.base ≡ v.base) (same_sent : w.sent ≡ v.sent) (one_more : w.acknowledged ≡ v.acknowledged + 1) (due : v.acknowledged < length v.sent.items) where
+  module _ (v w : MemWrite) (ack : Ack) (d : Outgoing) (was : slab.get s link ≡ Some (links.Write v)) (is_slot : slot ≡ Some (links.Write w)) (same_setup : w.setup ≡ v.setup) (same_base : w.base ≡ v.base) (same_sent : w.sent ≡ v.sent)
+      (one_came : w.responses.items ≡ v.responses.items ++ ack ∷ []) (due : v.acknowledged < length v.sent.items) (replies : length ack.replies ≡ length v.setup.locs)
+      (failed : (i : ℕ) → i < length v.setup.locs → i < length ack.replies → get_or ack.replies i 0 ≢ 0 → Rose (node_faults_of faults (get_or (uuids v.setup.locs) i [])) (node_faults_of faults' (get_or (uuids v.setup.locs) i []))) where
     abbrev sent : List Outgoing
     sent = v.sent.items
 
     abbrev packet : Outgoing
     packet = get_or sent v.acknowledged d
 
-    abbrev ack : Ack
-    ack = ack_of v.setup packet
-
-    abbrev disturbed : ℕ → Bool
-    disturbed i = disturbed_at nodes link v.setup i
-
     abbrev before : WritePlace
     before = place_of nodes link v
 
-    abbrev after : WritePlace
-    after = place_at (λ i. disturbed_at nodes link v.setup i) v.setup v.base.items v.sent.items (v.acknowledged + 1)
+    abbrev after : ℕ → WritePlace
+    after n = place_at (λ i. disturbed_at nodes link v.setup i) v.setup v.base.items v.sent.items (v.responses.items ++ ack ∷ []) n
 
-    is_after : place_of nodes link w ≡ after
-    is_after =
-        ap (λ (x : Setup). place_at (λ i. disturbed_at nodes link x i) x w.base.items w.sent.items w.acknowledged) same_setup
-        ∙ ap (λ b. place_at (λ i. disturbed_at nodes link v.setup i) v.setup b.items w.sent.items w.acknowledged) same_base
-        ∙ ap (λ x. place_at (λ i. disturbed_at nodes link v.setup i) v.setup v.base.items x.items w.acknowledged) same_sent
-        ∙ ap (place_at (λ i. disturbed_at nodes link v.setup i) v.setup v.base.items v.sent.items) one_more
+    is_after : (n : ℕ) → w.acknowledged ≡ n → place_of nodes link w ≡ after n
+    is_after n is =
+        ap (λ (x : Setup). place_at (λ i. disturbed_at nodes link x i) x w.base.items w.sent.items w.responses.items w.acknowledged) same_setup
+        ∙ ap (λ b. place_at (λ i. disturbed_at nodes link v.setup i) v.setup b.items w.sent.items w.responses.items w.acknowledged) same_base
+        ∙ ap (λ x. place_at (λ i. disturbed_at nodes link v.setup i) v.setup v.base.items x.items w.responses.items w.acknowledged) same_sent
+        ∙ ap (λ (x : List Ack). place_at (λ i. disturbed_at nodes link v.setup i) v.setup v.base.items v.sent.items x w.acknowledged) one_came
+        ∙ ap (place_at (λ i. disturbed_at nodes link v.setup i) v.setup v.base.items v.sent.items (v.responses.items ++ ack ∷ [])) is
 
-    is_told_after : told_of w ≡ told_at v.setup v.sent.items (v.acknowledged + 1)
-    is_told_after =
+    is_told_after : (n : ℕ) → w.acknowledged ≡ n → told_of w ≡ told_at v.setup v.sent.items n
+    is_told_after n is =
         ap (λ (x : Setup). told_at x w.sent.items w.acknowledged) same_setup
         ∙ ap (λ x. told_at v.setup x.items w.acknowledged) same_sent
-        ∙ ap (told_at v.setup v.sent.items) one_more
+        ∙ ap (told_at v.setup v.sent.items) is
 
     rest_is : drop v.acknowledged sent ≡ packet ∷ drop (v.acknowledged + 1) sent
-    rest_is = drop_at v.acknowledged sent due ∙ ap (λ (n : ℕ). packet ∷ drop n sent) (sym (add-one v.acknowledged))
-      where
-        drop_at : (n : ℕ) (xs : List Outgoing) → n < length xs → drop n xs ≡ get_or xs n d ∷ drop (suc n) xs
-        drop_at n [] within = absurd (omega arith)
-        drop_at zero (x ∷ xs) within = refl
-        drop_at (suc n) (x ∷ xs) within = drop_at n xs (omega arith)
+    rest_is = rest_due sent v.acknowledged d due
 
     waiting_is : map seqno_of (drop v.acknowledged sent) ≡ seqno_of packet ∷ map seqno_of (drop (v.acknowledged + 1) sent)
     waiting_is = ap (map seqno_of) rest_is
 
-    is_due : IsDue before (seqno_of packet)
-    is_due = (
-      take v.acknowledged sent,
-      packet,
-      drop (v.acknowledged + 1) sent,
-      sym (take-append-drop v.acknowledged sent) ∙ ap (λ (xs : List Outgoing). take v.acknowledged sent ++ xs) rest_is,
-      length-take-le v.acknowledged sent (omega arith),
-      refl,
-    )
-
-    responses_are : after.responses ≡ before.responses ++ Came ack ∷ []
-    responses_are =
-        let came = λ (x : Outgoing). Came (ack_of v.setup x) in
-        ap (map came) (take_more sent v.acknowledged d due) ∙ map-append came (take v.acknowledged sent) (packet ∷ [])
-
     from_before : (write : WritePlace) → p.writes link ≡ Some write → before ≡ write
     from_before write is = ap (λ (o : Option WritePlace). unwrap_or o before) (sym (ap (write_place nodes link) was) ∙ is)
 
-    came : Responds link (Came ack) p q
-    came = (
+    -- a response came, whatever it acknowledges
+    came : (n : ℕ) → w.acknowledged ≡ n → Acknowledges before (Came ack) (after n) → Responds link (Came ack) p q
+    came n is says = (
       quiet_writes,
-      λ write is.
+      λ write there.
           subst (λ (y : WritePlace). (write' : WritePlace) × (q.writes link ≡ Some write') × MovesOn y write' × (write'.sent ≡ y.sent) × (write'.responses ≡ y.responses ++ Came ack ∷ []) × Acknowledges y (Came ack) write' × StaysHeld p.held y q.held write')
-          (from_before write is) (
-            after,
-            ap (write_place nodes link) (updates.changed ∙ is_slot) ∙ ap Some is_after,
+          (from_before write there) (
+            after n,
+            ap (write_place nodes link) (updates.changed ∙ is_slot) ∙ ap Some (is_after n is),
             record { block = refl; nodes = refl; base = λ i lt. refl; received = λ i lt. (omega arith, omega arith); disturbed = λ i lt. refl },
             refl,
-            responses_are,
-            inl (is_due, refl, λ i lt replied zero_status. due),
+            map-append Came v.responses.items (ack ∷ []),
+            says,
             λ i lt calm holds. holds,
           ),
     )
@@ -178,40 +172,114 @@ module _ (space : Namespace) (active : ℕ) (defaults : ServerDefaults) (last : 
     told_before : (write : OpenWrite) → old.writes link ≡ Some write → told_of v ≡ write
     told_before write is = ap (λ (o : Option OpenWrite). unwrap_or o (told_of v)) (sym (ap write_told was) ∙ is)
 
-    now_told : new.writes link ≡ Some (told_at v.setup v.sent.items (v.acknowledged + 1))
-    now_told = ap write_told (updates.changed ∙ is_slot) ∙ ap Some is_told_after
+    now_told : (n : ℕ) → w.acknowledged ≡ n → new.writes link ≡ Some (told_at v.setup v.sent.items n)
+    now_told n is = ap write_told (updates.changed ∙ is_slot) ∙ ap Some (is_told_after n is)
 
     -- an acknowledgement came
-    pub acknowledged : Acknowledged old link ack new
-    acknowledged = record {
+    acknowledged_at : (n : ℕ) (is : w.acknowledged ≡ n) → Acknowledges before (Came ack) (after n) → Waits ack.seqno (map seqno_of (drop v.acknowledged sent)) (map seqno_of (drop n sent))
+        → IsWellFormed (told_of v) ack ⊎ Rose (link_faults_of faults) (link_faults_of faults') → Acknowledged old link ack new
+    acknowledged_at n is says waits formed = record {
       writes = quiet_link;
-      now = λ write is. subst (λ (y : OpenWrite). (write' : OpenWrite) × (new.writes link ≡ Some write') × (write'.setup ≡ y.setup) × (write'.end ≡ y.end) × Waits ack.seqno y.waiting write'.waiting) (told_before write is) (
-        told_at v.setup v.sent.items (v.acknowledged + 1),
-        now_told,
-        refl,
-        refl,
-        subst (λ (xs : List ℤ). Waits (seqno_of packet) xs (map seqno_of (drop (v.acknowledged + 1) sent))) (sym waiting_is) (inl (refl, refl)),
-      );
-      formed = λ write is. inl (subst (λ (y : OpenWrite). (rest : List ℤ) × (y.waiting ≡ ack.seqno ∷ rest) × (length ack.replies ≡ length y.setup.locs)) (told_before write is)
-          (map seqno_of (drop (v.acknowledged + 1) sent), waiting_is, length-replicate {A = ℕ} (length v.setup.locs) 0));
-      statuses = λ write is i lt replied status. absurd (status (get_or-replicate (length v.setup.locs) i 0 0 (omega (arith, replied, length-replicate {A = ℕ} (length v.setup.locs) 0))));
-      came = came;
+      now = λ write there. subst (λ (y : OpenWrite). (write' : OpenWrite) × (new.writes link ≡ Some write') × (write'.setup ≡ y.setup) × (write'.end ≡ y.end) × Waits ack.seqno y.waiting write'.waiting) (told_before write there)
+          (told_at v.setup v.sent.items n, now_told n is, refl, refl, waits);
+      formed = λ write there. subst (λ (y : OpenWrite). IsWellFormed y ack ⊎ Rose old.counts.links new.counts.links) (told_before write there) formed;
+      statuses = λ write there.
+          subst (λ (y : OpenWrite). (i : ℕ) → i < length y.setup.locs → i < length ack.replies → get_or ack.replies i 0 ≢ 0 → Rose (old.counts.nodes (get_or (nodes_of y) i [])) (new.counts.nodes (get_or (nodes_of y) i [])))
+          (told_before write there) failed;
+      came = came n is says;
     }
 
+    -- that of the packet that is due
+    well_formed : ack.seqno ≡ seqno_of packet → IsWellFormed (told_of v) ack
+    well_formed seqno = (map seqno_of (drop (v.acknowledged + 1) sent), waiting_is ∙ ap (λ (n : ℤ). n ∷ map seqno_of (drop (v.acknowledged + 1) sent)) (sym seqno), replies)
+
+    pub acknowledged_due : ack.seqno ≡ seqno_of packet → w.acknowledged ≡ v.acknowledged + 1 → Acknowledged old link ack new
+    acknowledged_due seqno is =
+        acknowledged_at (v.acknowledged + 1) is
+        (inl (
+          (
+            take v.acknowledged sent,
+            packet,
+            drop (v.acknowledged + 1) sent,
+            sym (take-append-drop v.acknowledged sent) ∙ ap (λ (xs : List Outgoing). take v.acknowledged sent ++ xs) rest_is,
+            length-take-le v.acknowledged sent (omega arith),
+            sym seqno,
+          ),
+          refl,
+          λ i lt replied zero_status. due,
+        ))
+        (subst (λ (xs : List ℤ). Waits ack.seqno xs (map seqno_of (drop (v.acknowledged + 1) sent))) (sym waiting_is) (inl (seqno, refl)))
+        (inl (well_formed seqno))
+
+    -- a bad one, and the packet that is due still waits
+    not_due : ((x : Outgoing) → ack.seqno ≢ seqno_of (get_or sent v.acknowledged x)) → IsDue before ack.seqno → ⊥
+    not_due apart is =
+        let front = is.0 in
+        let first = is.1 in
+        let at : get_or sent v.acknowledged first ≡ first =
+        ap (λ (xs : List Outgoing). get_or xs v.acknowledged first) is.3 ∙ ap (λ (n : ℕ). get_or (front ++ first ∷ is.2) n first) (sym is.4) ∙ get_or-append_seam front first is.2 first in
+        apart first (sym is.5 ∙ ap seqno_of (sym at))
+
+    pub acknowledged_bad : ((x : Outgoing) → ack.seqno ≢ seqno_of (get_or sent v.acknowledged x)) → w.acknowledged ≡ v.acknowledged → Rose (link_faults_of faults) (link_faults_of faults') → Acknowledged old link ack new
+    acknowledged_bad apart is rose =
+        acknowledged_at v.acknowledged is
+        (inr (not_due apart, refl))
+        (subst (λ (xs : List ℤ). Waits ack.seqno xs (map seqno_of (drop v.acknowledged sent))) (sym waiting_is) (inr (apart d, waiting_is)))
+        (inr rose)
+
 -- one of some packets
-one_of : (packets : List Outgoing) → 0 < length packets → Outgoing
+pub one_of : (packets : List Outgoing) → 0 < length packets → Outgoing
 one_of [] some = absurd (omega arith)
 one_of (packet ∷ packets) some = packet
 
-module _ (space : Namespace) (active : ℕ) (defaults : ServerDefaults) (last : LastAnswer) (namenodes : ℕ) (loaded : List Line) (nodes : Datanodes) (s s' : Slab MemLink) (link : ℕ) (ack : Ack) where
-  -- the same of a slot
-  pub acknowledged_on : (o o' : MemLink) → slab.get s link ≡ Some o → Updates s s' link (Some o') → OnWrites (AckedOn ack) o o' → ((v : MemWrite) → o ≡ links.Write v → v.acknowledged < length v.sent.items)
-      → Acknowledged (shown_at space active defaults last namenodes loaded nodes s) link ack (shown_at space active defaults last namenodes loaded nodes s')
-  acknowledged_on (links.Write v) (links.Write w) was updates h waits =
-      let due : v.acknowledged < length v.sent.items = waits v refl in
+length_uuids : (locs : List DatanodeInfo) → length (uuids locs) ≡ length locs
+length_uuids [] = refl
+length_uuids (node ∷ locs) = ap suc (length_uuids locs)
+
+-- what an acknowledgement counts
+module _ (link : ℕ) (ack : Ack) (faults faults' : FaultPlan) (v w : MemWrite) (h : AckedOn link ack faults faults' v w) where
+  pub acked_links : link_faults_of faults' ≡ link_faults_of faults + one_if h.bad
+  acked_links = h.takes.faults ∙ ap (λ (n : ℕ). n + one_if h.bad) h.links.faults
+
+  pub acked_nodes : (d : List ℕ) → node_faults_of faults' d ≡ node_faults_of faults d + failures d (uuids v.setup.locs) ack.replies
+  acked_nodes d = h.takes.nodes d ∙ h.tells.nodes d
+
+  pub acked_falls : NeverFall (counts_of faults) (counts_of faults')
+  acked_falls = record { calls = λ i. omega arith; links = omega (arith, acked_links); nodes = λ d. omega (arith, acked_nodes d) }
+
+  pub acked_replies : length ack.replies ≡ length v.setup.locs
+  acked_replies = h.tells.len ∙ length_uuids v.setup.locs
+
+  pub acked_failed : (i : ℕ) → i < length v.setup.locs → i < length ack.replies → get_or ack.replies i 0 ≢ 0 → Rose (node_faults_of faults (get_or (uuids v.setup.locs) i [])) (node_faults_of faults' (get_or (uuids v.setup.locs) i []))
+  acked_failed i lt replied status =
+      let d = get_or (uuids v.setup.locs) i [] in
+      let some = failed_status (uuids v.setup.locs) ack.replies i d (omega (arith, lt, length_uuids v.setup.locs)) replied refl in
+      let one : 1 ≤ get_or ack.replies i 0 = at_least (get_or ack.replies i 0) status in
+      omega (arith, acked_nodes d, some, one)
+    where
+      at_least : (n : ℕ) → n ≢ 0 → 1 ≤ n
+      at_least zero apart = absurd (apart refl)
+      at_least (suc n) apart = omega arith
+
+module _ (space : Namespace) (settings : MemSettings) (last : LastAnswer) (loaded : List Line) (faults faults' : FaultPlan) (nodes : Datanodes) (s s' : Slab MemLink) (link : ℕ) (ack : Ack) where
+  by_bad : (v w : MemWrite) → slab.get s link ≡ Some (links.Write v) → Updates s s' link (Some (links.Write w)) → (h : AckedOn link ack faults faults' v w) → v.acknowledged < length v.sent.items
+      → (b : Bool) → h.bad ≡ b → Acknowledged (shown_at space settings last loaded faults nodes s) link ack (shown_at space settings last loaded faults' nodes s')
+  by_bad v w was updates h due false is =
       let d : Outgoing = one_of v.sent.items (omega arith) in
-      subst (λ (x : Ack). Acknowledged (shown_at space active defaults last namenodes loaded nodes s) link x (shown_at space active defaults last namenodes loaded nodes s')) (sym (h.is d))
-      (acknowledged space active defaults last namenodes loaded nodes s s' link (Some (links.Write w)) (ap is_some (ap write_told was)) updates refl refl v w d was refl h.setup h.base h.sent h.acknowledged due)
+      let taken = h.seqno.taken is in
+      acknowledged_due space settings last loaded faults faults' (acked_falls link ack faults faults' v w h) nodes s s' link (Some (links.Write w)) (ap is_some (ap write_told was)) updates refl refl
+      v w ack d was refl h.seqno.setup h.seqno.base h.seqno.sent h.responses due (acked_replies link ack faults faults' v w h) (acked_failed link ack faults faults' v w h) (taken.0 d) taken.1
+  by_bad v w was updates h due true is =
+      let d : Outgoing = one_of v.sent.items (omega arith) in
+      let left = h.seqno.left is in
+      let rose : Rose (link_faults_of faults) (link_faults_of faults') = omega (arith, acked_links link ack faults faults' v w h, ap one_if is) in
+      acknowledged_bad space settings last loaded faults faults' (acked_falls link ack faults faults' v w h) nodes s s' link (Some (links.Write w)) (ap is_some (ap write_told was)) updates refl refl
+      v w ack d was refl h.seqno.setup h.seqno.base h.seqno.sent h.responses due (acked_replies link ack faults faults' v w h) (acked_failed link ack faults faults' v w h) left.0 left.1 rose
+
+  -- an acknowledgement came on a slot
+  pub acknowledged_on : (o o' : MemLink) → slab.get s link ≡ Some o → Updates s s' link (Some o') → OnWrites (AckedOn link ack faults faults') o o' → ((v : MemWrite) → o ≡ links.Write v → v.acknowledged < length v.sent.items)
+      → Acknowledged (shown_at space settings last loaded faults nodes s) link ack (shown_at space settings last loaded faults' nodes s')
+  acknowledged_on (links.Write v) (links.Write w) was updates h waits = by_bad v w was updates h (waits v refl) h.bad refl
   acknowledged_on (links.Write v) (links.Read w) was updates h waits = absurd h
   acknowledged_on (links.Read v) (links.Read w) was updates h waits = absurd h
   acknowledged_on (links.Read v) (links.Write w) was updates h waits = absurd h

@@ -1,18 +1,15 @@
 -- A cluster goes on to hold its files where a block and a file are added.
-use Rattle.std.proofs.Common.{◌≡◌, ◌≢◌, ℕ, ◌<◌, ◌^◌, Bool, true, false, cond, List, [], ◌∷◌, length, take, drop, Option, Some, None, refl, sym, ◌∙◌, ap, subst, arith}
-use Rattle.std.proofs.lemmas.List.{take_all, drop_all}
-use Rattle.std.specs.List.{All, Any}
-use Rattle.std.proofs.lemmas.List.Elements.{All-weaker, All-cons, All-nil}
+use Rattle.std.proofs.Common.{◌≡◌, ◌≢◌, ℕ, Bool, true, false, cond, List, [], ◌∷◌, length, take, drop, Option, Some, None, refl, sym, ◌∙◌, ap, subst}
+use Rattle.std.proofs.lemmas.List.Elements.{All-weaker}
 use Rattle.std.specs.Str.{bytes_eq}
 use Rattle.hdfs_model.specs.declared.picture.Entry.{Entry}
 use Rattle.hdfs_model.specs.declared.picture.Entry.TheVariants as entries
 use Rattle.hdfs_model.specs.declared.picture.BlockEntry.{BlockEntry}
-use Rattle.hdfs_model.specs.Files.{Node, Dir, File, Writing, Content, State}
+use Rattle.hdfs_model.specs.Files.{Node, Dir, File, Writing, State}
 use Rattle.hdfs_model.specs.Picture.{Picture}
-use Rattle.hdfs_cluster.specs.Adding.{AddsBlock, KeepsBlocks, StoresBytes, blocks_picture}
-use Rattle.hdfs_cluster.specs.Memory.{first_node}
-use Rattle.hdfs_cluster.proofs.Sizing.{sized_one, keeps_from-AddsBlock}
-use Rattle.hdfs_model.specs.Loading.{with_file}
+use Rattle.hdfs_cluster.specs.Adding.{AddsBlock, KeepsBlocks, blocks_picture}
+use Rattle.hdfs_cluster.proofs.Sizing.{keeps_from-AddsBlock}
+use Rattle.hdfs_model.specs.Loading.{with_new}
 use Rattle.hdfs_model.specs.Stores.{Agrees, AgreesAt, StoresBlocks, StoresBlock, HoldsPrefix}
 
 -- the blocks of the old picture are in the new one, and each node holds the same of them
@@ -46,10 +43,10 @@ at_path : (p' : Picture) (b : Bool) (entry : Entry) (node : Node) (other : Optio
 at_path p' true entry node other files here there = here
 at_path p' false entry node other files here there = there
 
--- a file at a new path, whose blocks store its bytes
-pub agrees_with_file : (p p' : Picture) (state : State) (path : List ℕ) (content : Content) (entry : Entry) → Agrees (Some p) state.files → Extends p p' → ((q : List ℕ) → p'.names q ≡ cond (bytes_eq path q) (Some entry) (p.names q)) → AgreesAt p' (Some entry) (Some (File content)) → Agrees (Some p') (with_file state path content).files
-agrees_with_file p p' state path content entry was ext names here q =
-    subst (λ (o : Option Entry). AgreesAt p' o ((with_file state path content).files q)) (sym (names q)) (at_path p' (bytes_eq path q) entry (File content) (p.names q) (state.files q) here (agrees_at p p' ext (p.names q) (state.files q) (was q)))
+-- something at a new path
+pub agrees_with_new : (p p' : Picture) (state : State) (path : List ℕ) (node : Node) (entry : Entry) → Agrees (Some p) state.files → Extends p p' → ((q : List ℕ) → p'.names q ≡ cond (bytes_eq path q) (Some entry) (p.names q)) → AgreesAt p' (Some entry) (Some node) → Agrees (Some p') (with_new state path node).files
+agrees_with_new p p' state path node entry was ext names here q =
+    subst (λ (o : Option Entry). AgreesAt p' o ((with_new state path node).files q)) (sym (names q)) (at_path p' (bytes_eq path q) entry node (p.names q) (state.files q) here (agrees_at p p' ext (p.names q) (state.files q) (was q)))
 
 -- where a block is added, the others stay
 pub kept_block : (t t' : ℕ → Option BlockEntry) (held held' : List ℕ → ℕ → List ℕ) (id length : ℕ) → AddsBlock t t' id length → ((d : List ℕ) (q : ℕ) → q ≢ id → held' d q ≡ held d q) → KeepsBlocks t t' held held'
@@ -57,38 +54,6 @@ kept_block t t' held held' id length adds others = record {
   table = keeps_from-AddsBlock t t' id length adds;
   held = λ q entry is d. others d q (λ same. (let none : t q ≡ None = ap t same ∙ adds.absent in absurd (cc (none, is))));
 }
-
-module _ (t t' : ℕ → Option BlockEntry) (held held' : List ℕ → ℕ → List ℕ) (id : ℕ) (bytes : List ℕ) (adds : AddsBlock t t' id (length bytes)) (holds : held' first_node id ≡ bytes) (others : (d : List ℕ) (q : ℕ) → q ≢ id → held' d q ≡ held d q) (short : length bytes < 2 ^ 63) where
-  abbrev p' : Picture
-  p' = blocks_picture t' held'
-
-  stores_added : StoresBlocks p' (id ∷ []) bytes
-  stores_added =
-      let entry = adds.entry in
-      let whole : take entry.length bytes ≡ bytes = take_all entry.length bytes (omega (arith, adds.has_length)) in
-      let all : take (length bytes) (take entry.length bytes) ≡ take entry.length bytes = take_all (length bytes) (take entry.length bytes) (omega (arith, ap length whole)) in
-      let prefix : HoldsPrefix (λ n. p'.held n id) (take entry.length bytes) first_node = subst (λ (l : List ℕ). l ≡ take (length l) (take entry.length bytes)) (sym holds) (sym (all ∙ whole)) in (
-        entry,
-        adds.listed,
-        omega (arith, adds.has_length),
-        record {
-          length = ap length whole ∙ sym adds.has_length;
-          prefixes = subst (All (HoldsPrefix (λ n. p'.held n id) (take entry.length bytes))) (sym adds.on) (All-cons (HoldsPrefix (λ n. p'.held n id) (take entry.length bytes)) first_node [] prefix (All-nil _));
-          whole = subst (Any (λ n. p'.held n id ≡ take entry.length bytes)) (sym adds.on) (0, first_node, omega arith, refl, holds ∙ sym whole);
-        },
-        drop_all entry.length bytes (omega (arith, adds.has_length)),
-      )
-
-  -- a block on the first datanode stores its bytes
-  pub stored_one : StoresBytes t' held' (id ∷ []) bytes
-  stored_one = record {
-    sized = sized_one t' id (length bytes) adds.entry adds.listed adds.has_length short;
-    stores = stores_added;
-  }
-
--- no bytes take no block
-pub stored_none : (t : ℕ → Option BlockEntry) (held : List ℕ → ℕ → List ℕ) (bytes : List ℕ) → bytes ≡ [] → StoresBytes t held [] bytes
-stored_none t held bytes none = record { sized = refl; stores = none }
 
 -- a picture with the same names, in which the blocks are kept, agrees with the same files
 pub agrees_kept : (p p' : Picture) (state : State) → Extends p p' → ((q : List ℕ) → p'.names q ≡ p.names q) → Agrees (Some p) state.files → Agrees (Some p') state.files

@@ -1,21 +1,13 @@
 -- That no block stands at two places, and that each is in the table.
-use Rattle.std.proofs.Common.{◌≡◌, ◌≢◌, ◌⊎◌, inl, inr, ⊎_elim, ℕ, ◌+◌, ◌<◌, ◌^◌, Bool, true, false, cond, ◌&&◌, eqb, ltb, List, [], ◌∷◌, ◌++◌, length, get_or, Option, Some, None, is_some, IsSome, zero, suc, refl, sym, ◌∙◌, ap, subst, arith}
-use Rattle.std.proofs.lemmas.Bool.{false≢true, ltb-true, eqb-true, eq-eqb}
-use Rattle.std.proofs.lemmas.Bool.Decides.{nat_tests}
-use Rattle.std.proofs.lemmas.List.Elements.{All-cons, All-nil}
+use Rattle.std.proofs.Common.{◌≡◌, ℕ, ◌+◌, Bool, true, false, cond, ◌&&◌, eqb, List, [], ◌∷◌, ◌++◌, get_or, Option, Some, None, is_some, IsSome, refl, sym, ◌∙◌, ap, subst, arith}
+use Rattle.std.proofs.lemmas.Bool.{false≢true, eq-eqb}
 use Rattle.std.proofs.lemmas.Slice.Eq.{bytes_eq-Decides}
-use Rattle.std.specs.List.{All}
 use Rattle.std.specs.Str.{bytes_eq}
 use Rattle.hdfs_model.specs.declared.picture.BlockEntry.{BlockEntry}
 use Rattle.hdfs_model.specs.declared.picture.Entry.{Entry}
-use Rattle.hdfs_model.specs.declared.picture.Entry.TheVariants as entries
-use Rattle.hdfs_model.specs.declared.picture.FileEntry.{FileEntry}
 use Rattle.hdfs_model.specs.Effects.{blocks_at}
-use Rattle.hdfs_model.specs.Picture.{Picture}
-use Rattle.hdfs_model.specs.Sound.{IsFileAt, IsBlockAt, IsSound}
-use Rattle.hdfs_model.proofs.Loads.{and_parts}
 use Rattle.hdfs_cluster.specs.Adding.{AreNew}
-use Rattle.hdfs_cluster.specs.Memory.{is_kth, is_kth_at, AreApart, is_sized, is_length, total, plus_length}
+use Rattle.hdfs_cluster.specs.Memory.{is_kth, is_kth_at, AreApart, is_sized, total, plus_length}
 use Rattle.hdfs_cluster.specs.Soundness.{kth_parts, sized_listed, total_first}
 
 pub no_kth : (k id : ℕ) → is_kth [] k id ≡ true → ⊥
@@ -36,15 +28,7 @@ kth_listed table o k id sized is =
 pub kth_absent : (table : ℕ → Option BlockEntry) (o : Option Entry) (k id : ℕ) → is_sized table o ≡ true → table id ≡ None → is_kth (blocks_at o) k id ≡ true → ⊥
 kth_absent table o k id sized absent is = false≢true (sym (ap is_some absent) ∙ kth_listed table o k id sized is)
 
--- a block that isn't in the table is of no file
-pub new_block : (names : List ℕ → Option Entry) (table : ℕ → Option BlockEntry) (id : ℕ) → ((path : List ℕ) → is_sized table (names path) ≡ true) → table id ≡ None → AreNew names (id ∷ [])
-new_block names table id sized absent = record {
-  unused = λ path k n other here there.
-      (let one = kth_one id k other here in
-      kth_absent table (names path) n id (sized path) absent (subst (λ (b : ℕ). is_kth (blocks_at (names path)) n b ≡ true) one.1 there));
-  distinct = λ k n other here there. (kth_one id k other here).0 ∙ sym (kth_one id n other there).0;
-}
-
+-- no blocks are new
 pub no_new_block : (names : List ℕ → Option Entry) → AreNew names []
 no_new_block names = record {
   unused = λ path k n id here there. no_kth k id here;

@@ -2,8 +2,10 @@ pub mod Acknowledging
 pub mod Agreeing
 pub mod Answering
 pub mod Apart
+pub mod Asking
+pub mod Counting
+pub mod Cutting
 pub mod Directories
-pub mod Failing
 pub mod FileChanges
 pub mod Fronts
 pub mod Giving
@@ -23,5 +25,6 @@ pub mod Sizing
 pub mod Stills
 pub mod Tables
 pub mod Taking
+pub mod Telling
 pub mod Writing
 pub mod Written

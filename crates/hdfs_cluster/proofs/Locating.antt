@@ -1,13 +1,12 @@
 -- How the blocks of an answer are made one after another.
-use Rattle.std.proofs.Common.{◌≡◌, ℕ, ◌+◌, ◌<◌, ◌≤◌, ◌^◌, true, List, [], ◌∷◌, ◌++◌, length, drop, get_or, Option, Some, None, refl, sym, ◌∙◌, ap, subst, arith}
-use Rattle.std.proofs.lemmas.Bool.{ltb-true}
+use Rattle.std.proofs.Common.{◌≡◌, ℕ, ◌+◌, ◌<◌, ◌≤◌, ◌^◌, List, [], ◌∷◌, ◌++◌, length, drop, get_or, Option, Some, sym, ◌∙◌, ap, subst, arith}
 use Rattle.std.proofs.lemmas.List.{drop_more}
 use Rattle.hdfs_model.specs.declared.picture.BlockEntry.{BlockEntry}
 use Rattle.hdfs_model.specs.declared.messages.LocatedBlock.{LocatedBlock}
 use Rattle.std.specs.List.{All}
 use Rattle.std.proofs.lemmas.List.Elements.{All-cons, All-nil}
-use Rattle.hdfs_cluster.specs.Memory.{total, is_length}
-use Rattle.hdfs_cluster.specs.Soundness.{total_first, total_known}
+use Rattle.hdfs_cluster.specs.Memory.{total}
+use Rattle.hdfs_cluster.specs.Soundness.{total_first}
 use Rattle.hdfs_model.specs.Namenode.{LocatesBlock, LocatesBlocks, Follow}
 
 pub LocatesBlocks-push : (table : ℕ → Option BlockEntry) (at end id : ℕ) (ids : List ℕ) (blocks : List LocatedBlock) (entry : BlockEntry) (block : LocatedBlock)

@@ -12,20 +12,18 @@ use Rattle.std.specs.Cmp.Lexicographic.{slice_cmp}
 use Rattle.std.specs.BTreeMap.{is_at}
 use Rattle.std.specs.Str.{bytes_eq}
 use Rattle.std.specs.String.{string_bytes}
-use Rattle.hdfs_model.specs.declared.attributes.Attributes.{Attributes}
 use Rattle.hdfs_model.specs.declared.picture.Entry.{Entry}
 use Rattle.hdfs_model.specs.declared.picture.Entry.TheVariants as entries
 use Rattle.hdfs_model.specs.declared.picture.BlockEntry.{BlockEntry}
-use Rattle.hdfs_model.specs.declared.picture.FileEntry.{FileEntry}
 use Rattle.hdfs_model.specs.Files.{Kind, Directory, ClosedFile, OpenFile, IsTree, IsState, Dir, Writing, Content, kind_of, kinds_of, only_root, empty_state}
 use Rattle.hdfs_model.specs.Paths.{root, is_path, ancestors, parent_of}
 use Rattle.hdfs_model.specs.Picture.{entry_kind, kinds_in}
 use Rattle.hdfs_model.proofs.Loads.{and_parts, none_from_test}
 use Rattle.hdfs_model.proofs.Trees.{tree_with}
-use Rattle.hdfs_cluster.specs.Memory.{is_dir, is_placed, is_sized, is_length, total, is_bare, is_bare_at, is_kth, accepts, AreApart, IsBare}
+use Rattle.hdfs_cluster.specs.Memory.{is_dir, is_placed, is_sized, is_bare, is_bare_at, is_kth, is_free_at, AreApart, IsBare}
 use Rattle.hdfs_cluster.specs.Adding.{IsPlace, AreNew, Names}
 use Rattle.hdfs_model.specs.Effects.{blocks_at}
-use Rattle.hdfs_cluster.proofs.Apart.{apart_with, apart_fewer, no_kth}
+use Rattle.hdfs_cluster.proofs.Apart.{apart_with, no_kth}
 
 pub kind_from_dir : (o : Option Entry) → is_dir o ≡ true → option_map entry_kind o ≡ Some Directory
 kind_from_dir None is = absurd (cc)
@@ -89,42 +87,44 @@ pub record Sound (names : List ℕ → Option Entry) (table : ℕ → Option Blo
   pub sized : (path : List ℕ) → is_sized table (names path) ≡ true
   pub apart : AreApart names
 
-module _ (names names' : List ℕ → Option Entry) (table : ℕ → Option BlockEntry) (path : List ℕ) (file : FileEntry) (now : Names names names' path file) where
-  kind_at : (b : Bool) (o : Option Entry) → option_map entry_kind (cond b (Some (entries.File file)) o) ≡ cond b (Some (entry_kind (entries.File file))) (option_map entry_kind o)
+module _ (names names' : List ℕ → Option Entry) (table : ℕ → Option BlockEntry) (path : List ℕ) (entry : Entry) (now : Names names names' path entry) where
+  kind_at : (b : Bool) (o : Option Entry) → option_map entry_kind (cond b (Some entry) o) ≡ cond b (Some (entry_kind entry)) (option_map entry_kind o)
   kind_at true o = refl
   kind_at false o = refl
 
-  sized_at : (b : Bool) (o : Option Entry) → is_length (total table file.blocks) ≡ true → is_sized table o ≡ true → is_sized table (cond b (Some (entries.File file)) o) ≡ true
+  sized_at : (b : Bool) (o : Option Entry) → is_sized table (Some entry) ≡ true → is_sized table o ≡ true → is_sized table (cond b (Some entry) o) ≡ true
   sized_at true o here there = here
   sized_at false o here there = there
 
-  blocks_with : (b : Bool) (o : Option Entry) → blocks_at (cond b (Some (entries.File file)) o) ≡ cond b file.blocks (blocks_at o)
+  blocks_with : (b : Bool) (o : Option Entry) → blocks_at (cond b (Some entry) o) ≡ cond b (blocks_at (Some entry)) (blocks_at o)
   blocks_with true o = refl
   blocks_with false o = refl
 
-  -- a file at a place for one keeps a namespace sound
-  pub sound_with : Sound names table → IsPlace names path → is_length (total table file.blocks) ≡ true → AreNew names file.blocks → Sound names' table
+  -- what stands at a place for it keeps a namespace sound
+  pub sound_with : Sound names table → IsPlace names path → is_sized table (Some entry) ≡ true → AreNew names (blocks_at (Some entry)) → Sound names' table
   sound_with sound place sized new =
-      let tree = tree_with (kinds_in names) (kinds_in names') path (entry_kind (entries.File file)) (tree_from_tests names sound.rooted sound.placed) (ap (option_map entry_kind) place.absent) (kind_from_dir (names (parent_of path)) place.parent) place.named (λ q. ap (option_map entry_kind) (now q) ∙ kind_at (bytes_eq path q) (names q)) in
+      let tree = tree_with (kinds_in names) (kinds_in names') path (entry_kind entry) (tree_from_tests names sound.rooted sound.placed) (ap (option_map entry_kind) place.absent) (kind_from_dir (names (parent_of path)) place.parent) place.named (λ q. ap (option_map entry_kind) (now q) ∙ kind_at (bytes_eq path q) (names q)) in
       record {
         rooted = rooted_from_tree names' tree;
         placed = placed_from_tree names' tree;
         sized = λ q. ap (is_sized table) (now q) ∙ sized_at (bytes_eq path q) (names q) sized (sound.sized q);
-        apart = apart_with names names' path file.blocks (λ q. ap blocks_at (now q) ∙ blocks_with (bytes_eq path q) (names q)) sound.apart (λ q k n id other. new.unused q k n id) new.distinct;
+        apart = apart_with names names' path (blocks_at (Some entry)) (λ q. ap blocks_at (now q) ∙ blocks_with (bytes_eq path q) (names q)) sound.apart (λ q k n id other. new.unused q k n id) new.distinct;
       }
 
-  -- where a file stands that didn't, there is more than the root
+  -- where something stands that didn't, there is more than the root
   pub more_with : is_dir (names root) ≡ true → names path ≡ None → IsBare names' → ⊥
-  more_with rooted absent bare = at_root (names path) (bytes_eq root path) refl absent (sym (ap (is_bare_at (bytes_eq root path)) (now path ∙ ap (λ (b : Bool). cond b (Some (entries.File file)) (names path)) ((bytes_eq-Decides path path).1 refl))) ∙ bare path)
+  more_with rooted absent bare =
+      by_test (bytes_eq root path) (bytes_eq-Decides root path).0
+      (sym (ap (is_bare_at (bytes_eq root path)) (now path ∙ ap (λ (b : Bool). cond b (Some entry) (names path)) ((bytes_eq-Decides path path).1 refl))) ∙ bare path)
     where
-      at_root : (o : Option Entry) (b : Bool) → bytes_eq root path ≡ b → o ≡ None → is_bare_at (bytes_eq root path) (Some (entries.File file)) ≡ true → ⊥
-      at_root o true is none here = false≢true (sym (ap (λ (x : Bool). is_bare_at x (Some (entries.File file))) is) ∙ here)
-      at_root o false is none here = false≢true (sym (ap (λ (x : Bool). is_bare_at x (Some (entries.File file))) is) ∙ here)
+      by_test : (b : Bool) → (b ≡ true → root ≡ path) → is_bare_at b (Some entry) ≡ true → ⊥
+      by_test true same here = false≢true (sym (ap is_dir (ap names (same refl) ∙ absent)) ∙ rooted)
+      by_test false same here = false≢true here
 
-pub place_from_test : (names : List ℕ → Option Entry) (path : List ℕ) (attributes : Attributes) (count : ℕ) → accepts names path attributes count ≡ true → IsPlace names path
-place_from_test names path attributes count is =
-    let all = and_parts (is_path path && is_none (names path) && is_dir (names (parent_of path))) _ is in
-    let front = and_parts (is_path path && is_none (names path)) (is_dir (names (parent_of path))) all.0 in
+-- a free path is a place
+pub place_from_test : (names : List ℕ → Option Entry) (path : List ℕ) → is_free_at names path ≡ true → IsPlace names path
+place_from_test names path is =
+    let front = and_parts (is_path path && is_none (names path)) (is_dir (names (parent_of path))) is in
     let first = and_parts (is_path path) (is_none (names path)) front.0 in
     record { named = first.0; absent = none_from_test (names path) first.1; parent = front.1 }
 

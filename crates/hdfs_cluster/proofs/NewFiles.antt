@@ -1,8 +1,8 @@
 -- What a file that is created keeps of a namespace.
-use Rattle.std.proofs.Common.{◌≡◌, ℕ, zero, suc, ◌<◌, ◌+◌, Bool, true, false, cond, ◌&&◌, ◌||◌, eqb, List, [], ◌∷◌, ◌++◌, length, get_or, Option, Some, None, IsSome, is_some, is_none, unwrap_or, refl, sym, ◌∙◌, ap, subst, arith}
+use Rattle.std.proofs.Common.{◌≡◌, ℕ, suc, Bool, true, false, cond, ◌||◌, eqb, List, [], ◌∷◌, Option, Some, None, IsSome, is_some, is_none, unwrap_or, refl, sym, ◌∙◌, ap, subst, arith}
 use Rattle.std.proofs.Math.Path.{fun_ext}
 use Rattle.std.proofs.lemmas.Bool.{false≢true, eqb-true}
-use Rattle.std.proofs.lemmas.List.Elements.{All-contains, All-weaker}
+use Rattle.std.proofs.lemmas.List.Elements.{All-weaker}
 use Rattle.std.proofs.lemmas.Slice.Eq.{bytes_eq-Decides}
 use Rattle.std.specs.List.{All, list_any}
 use Rattle.std.specs.Option.{option_map}
@@ -18,11 +18,11 @@ use Rattle.hdfs_model.specs.Picture.{entry_kind, kinds_in}
 use Rattle.hdfs_model.specs.Refusals.{with_parents}
 use Rattle.hdfs_model.proofs.Loads.{and_parts}
 use Rattle.hdfs_cluster.specs.Adding.{with_directories}
-use Rattle.hdfs_cluster.specs.Memory.{is_dir, is_kth, is_kth_at, AreApart, IsBare, is_bare_at, is_sized, is_length, total, plus_length}
+use Rattle.hdfs_cluster.specs.Memory.{is_dir, is_kth, is_kth_at, IsBare, is_bare_at, is_sized, is_length, total, plus_length}
 use Rattle.hdfs_cluster.specs.Soundness.{kth_test, kth_parts}
 use Rattle.hdfs_cluster.proofs.Apart.{no_kth, apart_fewer}
 use Rattle.hdfs_cluster.proofs.Directories.{tree_with_parents, some_known, none_known}
-use Rattle.hdfs_cluster.proofs.Naming.{Sound, tree_from_tests, placed_from_tree, rooted_from_tree, kind_from_dir}
+use Rattle.hdfs_cluster.proofs.Naming.{Sound, tree_from_tests, placed_from_tree, rooted_from_tree}
 
 -- a block of a list is one of its rest at a place more
 pub kth_later : (first : ℕ) (ids : List ℕ) (k id : ℕ) → is_kth ids k id ≡ true → is_kth (first ∷ ids) (suc k) id ≡ true

@@ -4,13 +4,12 @@ use Rattle.std.specs.Str.{bytes_eq}
 use Rattle.std.specs.Map.{update}
 use Rattle.std.proofs.lemmas.Slice.Eq.{bytes_eq-Decides}
 use Rattle.hdfs_cluster.specs.declared.datanode.Datanode.{Datanode}
-use Rattle.hdfs_cluster.specs.Nodes.{faults_of, replica_in, breaks_in, packets_of, is_here, SameFaults, PlansOnly, CountsOnly}
+use Rattle.hdfs_cluster.specs.Nodes.{replica_in, is_here, Joins}
 use Rattle.hdfs_cluster.specs.declared.replica.Replica.{Replica}
 use Rattle.hdfs_cluster.specs.Blocks.{ChangesBlock}
 use Rattle.hdfs_cluster.specs.Replicas.{SameReplica}
 use Rattle.std.specs.Ordering.{nat_cmp}
 use Rattle.std.specs.BTreeMap.{get}
-use Rattle.std.specs.BTreeSet.{contains}
 use Rattle.std.proofs.lemmas.Bool.{cases_eq}
 use Rattle.std.proofs.lemmas.Bool.Decides.{nat_tests}
 
@@ -57,6 +56,16 @@ module _ {X : Type 0} (look after : List ℕ → Option X) (key : List ℕ) (w :
     update_related was here q =
         subst (λ (o : Option X). R (look q) o) (sym (updates q)) (at_key (bytes_eq key q) q (bytes_eq-Decides key q).0 was here)
 
+  module _ (R : Option X → Option X → Type 0) (same : (o : Option X) → R o o) where
+    fresh_at : (b : Bool) (q : List ℕ) → (b ≡ true → key ≡ q) → look key ≡ None → R None (Some w) → R (look q) (cond b (Some w) (look q))
+    fresh_at true q is none here = subst (λ (o : Option X). R o (Some w)) (sym none ∙ ap look (is refl)) here
+    fresh_at false q is none here = same (look q)
+
+    -- the same where nothing was at the key
+    pub update_fresh : look key ≡ None → R None (Some w) → (q : List ℕ) → R (look q) (after q)
+    update_fresh none here q =
+        subst (λ (o : Option X). R (look q) o) (sym (updates q)) (fresh_at (bytes_eq key q) q (bytes_eq-Decides key q).0 none here)
+
   module _ (P : List ℕ → Option X → Type 0) where
     new_at : (b : Bool) (q : List ℕ) → (b ≡ true → key ≡ q) → P key (Some w) → P q (look q) → P q (cond b (Some w) (look q))
     new_at true q is here there = subst (λ (k : List ℕ). P k (Some w)) (is refl) here
@@ -66,33 +75,27 @@ module _ {X : Type 0} (look after : List ℕ → Option X) (key : List ℕ) (w :
     pub update_all : P key (Some w) → ((q : List ℕ) → P q (look q)) → (q : List ℕ) → P q (after q)
     update_all here there q = subst (P q) (sym (updates q)) (new_at (bytes_eq key q) q (bytes_eq-Decides key q).0 here (there q))
 
--- a datanode that fails at nothing and holds nothing
-pub record IsNew (o : Option Datanode) : Type 0 where
-  pub replicas : (block : ℕ) → replica_in o block ≡ None
-  pub faults : faults_of o ≡ 0
-  pub packets : packets_of o ≡ 0
-  pub breaks : (packet : ℕ) → breaks_in o packet ≡ false
+-- a datanode that holds nothing
+abbrev pub IsNew : Option Datanode → Type 0
+IsNew o = (block : ℕ) → replica_in o block ≡ None
 
-pub new_none : IsNew None
-new_none = record { replicas = λ block. refl; faults = refl; packets = refl; breaks = λ packet. refl }
+pub joins_refl : (o : Option Datanode) → Joins o o
+joins_refl o = record { there = λ is. is; replicas = λ block. refl }
 
-pub same_faults_refl : (o : Option Datanode) → SameFaults o o
-same_faults_refl o = record { there = refl; faults = refl; packets = refl; breaks = λ packet. refl }
+pub joins_trans : (a b c : Option Datanode) → Joins a b → Joins b c → Joins a c
+joins_trans a b c f g = record { there = λ is. g.there (f.there is); replicas = λ block. g.replicas block ∙ f.replicas block }
 
-pub plans_only_refl : (o : Option Datanode) → PlansOnly o o
-plans_only_refl o = record { there = refl; replicas = λ block. refl; faults = refl; packets = refl }
-
-pub counts_only_refl : (o : Option Datanode) → CountsOnly o o
-counts_only_refl o = record { there = refl; replicas = λ block. refl; packets = omega arith; breaks = λ packet. refl }
+-- a datanode that is new has joined
+pub joins_new : (w : Datanode) → IsNew (Some w) → Joins None (Some w)
+joins_new w new = record { there = λ is. refl; replicas = new }
 
 pub same_replica_refl : (o : Option Replica) → SameReplica o o
 same_replica_refl o = record { bytes = refl; links = λ link. refl }
 
 -- one datanode alone has changed, and of its replicas one alone
 module _ (look after : List ℕ → Option Datanode) (key : List ℕ) (v w : Datanode) (updates : (q : List ℕ) → after q ≡ update bytes_eq look key (Some w) q) (was : look key ≡ Some v) (block : ℕ) (change : ChangesBlock block v w) where
-  pub change_faults : (d : List ℕ) → SameFaults (look d) (after d)
-  change_faults = update_related look after key w updates SameFaults same_faults_refl v was
-      (record { there = refl; faults = change.faults; packets = change.packets; breaks = λ packet. ap (λ s. contains nat_cmp s packet) change.broken })
+  pub change_there : (d : List ℕ) → is_some (after d) ≡ is_some (look d)
+  change_there = update_related look after key w updates (λ o n. is_some n ≡ is_some o) (λ o. refl) v was refl
 
   module _ (P : List ℕ → ℕ → Option Replica → Option Replica → Type 0) (here : P key block (get nat_cmp v.blocks block) (get nat_cmp w.blocks block)) (apart : (d : List ℕ) (b : ℕ) → (d ≡ key → b ≡ block → ⊥) → (o : Option Replica) → P d b o o) where
     at_node : (b : ℕ) → P key b (get nat_cmp v.blocks b) (get nat_cmp w.blocks b)

@@ -1,18 +1,17 @@
 -- What the active namenode answers to the opening of a file.
-use Rattle.std.proofs.Common.{◌≡◌, ◌<◌, inl, inr, ℕ, true, List, [], ◌∷◌, ◌++◌, length, Option, Some, None, Ok, Err, IfSome, refl, sym, ◌∙◌, ap, subst, arith}
+use Rattle.std.proofs.Common.{◌≡◌, inl, inr, ℕ, List, [], ◌∷◌, ◌++◌, length, Option, Some, None, Ok, Err, IfSome, refl, sym, ◌∙◌, ap, subst}
 use Rattle.std.proofs.lemmas.List.Elements.{All-contains_itself}
 use Rattle.std.specs.BTreeMap.{get_by_text}
 use Rattle.std.specs.List.{All, Contains}
 use Rattle.slab.specs.Slab as slab
 use Rattle.slab.specs.Slab.{Slab}
-use Rattle.hdfs_model.specs.declared.asks.Ask.{Ask}
 use Rattle.hdfs_model.specs.declared.asks.Ask.TheVariants as asks
 use Rattle.hdfs_model.specs.declared.asks.Answer.TheVariants as answers
 use Rattle.hdfs_model.specs.declared.asks.AskFault.{AskFault}
 use Rattle.hdfs_model.specs.declared.asks.AskFault.TheVariants as faults
 use Rattle.hdfs_model.specs.declared.messages.Appended.{Appended}
 use Rattle.hdfs_model.specs.declared.messages.LocatedBlock.{LocatedBlock}
-use Rattle.hdfs_model.specs.declared.messages.ServerDefaults.{ServerDefaults}
+use Rattle.hdfs_model.specs.declared.mem_settings.MemSettings.{MemSettings}
 use Rattle.hdfs_model.specs.declared.picture.BlockEntry.{BlockEntry}
 use Rattle.hdfs_model.specs.declared.picture.Entry.{Entry}
 use Rattle.hdfs_model.specs.declared.picture.Entry.TheVariants as entries
@@ -35,12 +34,12 @@ use Rattle.hdfs_cluster.proofs.Places.{place_same}
 abbrev new_entry : ℕ → ℕ → List (List ℕ) → BlockEntry
 new_entry n stamp ns = record { length = n; stamp = stamp; nodes = ns }
 
-module _ (space space' : Namespace) (nodes nodes' : Datanodes) (active : ℕ) (defaults : ServerDefaults) (links : Slab MemLink) (held : SameHeld nodes nodes') where
+module _ (space space' : Namespace) (nodes nodes' : Datanodes) (settings : MemSettings) (links : Slab MemLink) (held : SameHeld nodes nodes') where
   abbrev p : Picture
-  p = picture_at space nodes active defaults links
+  p = picture_at space nodes settings links
 
   abbrev q : Picture
-  q = picture_at space' nodes' active defaults links
+  q = picture_at space' nodes' settings links
 
   changes_space : (named : List ℕ → Option Entry) (listed : ℕ → Option BlockEntry) → ((path : List ℕ) → get_by_text space'.names path ≡ named path) → ((id : ℕ) → table_of space'.table.entries id ≡ listed id) → Changes p q named listed
   changes_space named listed names table = record {
@@ -86,7 +85,7 @@ module _ (space space' : Namespace) (nodes nodes' : Datanodes) (active : ℕ) (d
         changes_space _ _ (r.opened file is) r.listed,
       )
 
-  module _ (i : ℕ) (here : i ≡ active) (text src : List ℕ) (is : text ≡ src) (client : List ℕ) (flag : ℕ) where
+  module _ (i : ℕ) (here : i ≡ settings.active) (text src : List ℕ) (is : text ≡ src) (client : List ℕ) (flag : ℕ) where
     pub answers_appended : (appended : Appended) → append_refusal (kinds_in (get_by_text space.names)) text ≡ None
         → (file : FileEntry) × (get_by_text space.names text ≡ Some (entries.File file)) × HasStatus file appended.stat
         × OpensAgain (get_by_text space.names) (table_of space.table.entries) (held_in nodes) text file (get_by_text space'.names) (table_of space'.table.entries) appended.block

@@ -1,15 +1,14 @@
 -- One packet more, and which datanodes a set-up names.
-use Rattle.std.proofs.Common.{◌≡◌, ℕ, ◌<◌, ◌≤◌, Bool, true, false, ◌||◌, List, [], ◌∷◌, ◌++◌, length, map, take, drop, get_or, Option, Some, zero, suc, refl, sym, ◌∙◌, ap, arith}
-use Rattle.std.proofs.lemmas.List.{map-append, take-append-le, drop-append-le}
+use Rattle.std.proofs.Common.{◌≡◌, ℕ, ◌<◌, ◌≤◌, Bool, true, false, ◌||◌, List, [], ◌∷◌, ◌++◌, length, map, drop, get_or, Option, Some, zero, suc, refl, sym, ◌∙◌, ap, arith}
+use Rattle.std.proofs.lemmas.List.{map-append, drop-append-le}
 use Rattle.std.proofs.lemmas.Slice.Eq.{bytes_eq-Decides}
 use Rattle.std.specs.List.{list_any, Contains}
 use Rattle.std.specs.Str.{bytes_eq}
 use Rattle.hdfs_wire.specs.Outgoing.{Outgoing}
 use Rattle.hdfs_model.specs.declared.messages.DatanodeInfo.{DatanodeInfo}
-use Rattle.hdfs_model.specs.declared.messages.Setup.{Setup}
-use Rattle.hdfs_model.specs.Sending.{Came, uuids, end_of, seqno_of, put_packet, put_packets}
+use Rattle.hdfs_model.specs.Sending.{uuids, end_of, seqno_of, put_packet, put_packets}
 use Rattle.hdfs_cluster.specs.Nodes.{is_named}
-use Rattle.hdfs_cluster.specs.Writes.{last_end, ack_of}
+use Rattle.hdfs_cluster.specs.Writes.{last_end}
 
 pub last_end-push : (end : Option ℕ) (sent : List Outgoing) (packet : Outgoing) → last_end end (sent ++ packet ∷ []) ≡ Some (end_of packet)
 last_end-push end [] packet = refl
@@ -22,10 +21,6 @@ put_packets-push bytes (first ∷ sent) packet = put_packets-push (put_packet by
 -- one more waits
 pub waiting-push : (sent : List Outgoing) (n : ℕ) (packet : Outgoing) → n ≤ length sent → map seqno_of (drop n (sent ++ packet ∷ [])) ≡ map seqno_of (drop n sent) ++ seqno_of packet ∷ []
 waiting-push sent n packet within = ap (map seqno_of) (drop-append-le n sent (packet ∷ []) within) ∙ map-append seqno_of (drop n sent) (packet ∷ [])
-
--- and none more has come back
-pub responses-push : (setup : Setup) (sent : List Outgoing) (n : ℕ) (packet : Outgoing) → n ≤ length sent → map (λ p. Came (ack_of setup p)) (take n (sent ++ packet ∷ [])) ≡ map (λ p. Came (ack_of setup p)) (take n sent)
-responses-push setup sent n packet within = ap (map (λ p. Came (ack_of setup p))) (take-append-le n sent (packet ∷ []) within)
 
 true_or : (b : Bool) → (b || true) ≡ true
 true_or true = refl

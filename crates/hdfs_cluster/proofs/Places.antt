@@ -5,6 +5,7 @@ use Rattle.std.proofs.lemmas.Bool.{cases_eq}
 use Rattle.std.proofs.lemmas.List.{get_or-set_same, get_or-set_other}
 use Rattle.std.specs.Option.{IsSome}
 use Rattle.slab.specs.Slab as slab
+use Rattle.hdfs_wire.specs.declared.ack.Ack.{Ack}
 use Rattle.slab.specs.Slab.{Slab, Updates, with_value}
 use Rattle.hdfs_model.specs.Sending.{uuids}
 use Rattle.hdfs_cluster.specs.declared.datanodes.Datanodes.{Datanodes}
@@ -41,7 +42,7 @@ slot_stays {X} {Y} f s s' link v w was updates same l =
 -- a write link is shown alike where it is disturbed at the same datanodes
 pub place_same_for : (nodes nodes' : Datanodes) (l : ℕ) (write : MemWrite) → ((d : List ℕ) → undisturbed_in nodes' d write.setup.block.block_id l ≡ undisturbed_in nodes d write.setup.block.block_id l) → place_of nodes' l write ≡ place_of nodes l write
 place_same_for nodes nodes' l write same =
-    ap (λ (f : ℕ → Bool). place_at f write.setup write.base.items write.sent.items write.acknowledged) (fun_ext (λ i. ap not (same (get_or (uuids write.setup.locs) i []))))
+    ap (λ (f : ℕ → Bool). place_at f write.setup write.base.items write.sent.items write.responses.items write.acknowledged) (fun_ext (λ i. ap not (same (get_or (uuids write.setup.locs) i []))))
 
 pub place_same_at : (nodes nodes' : Datanodes) (l : ℕ) → ((d : List ℕ) (b : ℕ) → undisturbed_in nodes' d b l ≡ undisturbed_in nodes d b l) → (slot : Option MemLink) → write_place nodes' l slot ≡ write_place nodes l slot
 place_same_at nodes nodes' l same None = refl
@@ -77,7 +78,7 @@ no_read_place (Some (links.Write write)) is = refl
 no_read_place (Some (links.Read read)) is = absurd (cc)
 
 -- nothing of a write link changed that is shown
-module _ (v w : MemWrite) (setup : w.setup ≡ v.setup) (base : w.base ≡ v.base) (sent : w.sent.items ≡ v.sent.items) (acknowledged : w.acknowledged ≡ v.acknowledged) where
+module _ (v w : MemWrite) (setup : w.setup ≡ v.setup) (base : w.base ≡ v.base) (sent : w.sent.items ≡ v.sent.items) (responses : w.responses.items ≡ v.responses.items) (acknowledged : w.acknowledged ≡ v.acknowledged) where
   pub told_kept : told_of w ≡ told_of v
   told_kept =
       ap (λ (x : Setup). told_at x w.sent.items w.acknowledged) setup
@@ -86,7 +87,8 @@ module _ (v w : MemWrite) (setup : w.setup ≡ v.setup) (base : w.base ≡ v.bas
 
   pub place_kept : (nodes : Datanodes) (link : ℕ) → place_of nodes link w ≡ place_of nodes link v
   place_kept nodes link =
-      ap (λ (x : Setup). place_at (λ i. disturbed_at nodes link x i) x w.base.items w.sent.items w.acknowledged) setup
-      ∙ ap (λ b. place_at (λ i. disturbed_at nodes link v.setup i) v.setup b.items w.sent.items w.acknowledged) base
-      ∙ ap (λ (x : List Outgoing). place_at (λ i. disturbed_at nodes link v.setup i) v.setup v.base.items x w.acknowledged) sent
-      ∙ ap (place_at (λ i. disturbed_at nodes link v.setup i) v.setup v.base.items v.sent.items) acknowledged
+      ap (λ (x : Setup). place_at (λ i. disturbed_at nodes link x i) x w.base.items w.sent.items w.responses.items w.acknowledged) setup
+      ∙ ap (λ b. place_at (λ i. disturbed_at nodes link v.setup i) v.setup b.items w.sent.items w.responses.items w.acknowledged) base
+      ∙ ap (λ (x : List Outgoing). place_at (λ i. disturbed_at nodes link v.setup i) v.setup v.base.items x w.responses.items w.acknowledged) sent
+      ∙ ap (λ (x : List Ack). place_at (λ i. disturbed_at nodes link v.setup i) v.setup v.base.items v.sent.items x w.acknowledged) responses
+      ∙ ap (place_at (λ i. disturbed_at nodes link v.setup i) v.setup v.base.items v.sent.items v.responses.items) acknowledged

@@ -1,6 +1,5 @@
 -- That all blocks of a file are in the table, where a block is added.
-use Rattle.std.proofs.Common.{◌≡◌, ◌≢◌, ℕ, ◌+◌, ◌<◌, ◌^◌, true, List, [], ◌∷◌, Option, Some, None, refl, ◌∙◌, ap, arith}
-use Rattle.std.proofs.lemmas.Bool.Decides.{nat_tests}
+use Rattle.std.proofs.Common.{◌≡◌, ◌≢◌, ℕ, true, List, [], ◌∷◌, Option, Some, None, refl, ◌∙◌, ap}
 use Rattle.hdfs_model.specs.declared.picture.BlockEntry.{BlockEntry}
 use Rattle.hdfs_model.specs.declared.picture.Entry.{Entry}
 use Rattle.hdfs_model.specs.declared.picture.Entry.TheVariants as entries
@@ -25,11 +24,6 @@ module _ (t t' : ℕ → Option BlockEntry) (kept : Keeps t t') where
   sized_kept None is = refl
   sized_kept (Some entries.Dir) is = refl
   sized_kept (Some (entries.File file)) is = length_kept (total t file.blocks) (total t' file.blocks) (total_kept file.blocks) is
-
-pub sized_one : (t : ℕ → Option BlockEntry) (id n : ℕ) (entry : BlockEntry) → t id ≡ Some entry → entry.length ≡ n → n < 2 ^ 63 → is_length (total t (id ∷ [])) ≡ true
-sized_one t id n entry is same below =
-    let short : is_length (Some (entry.length + 0)) ≡ true = grind (arith, nat_tests) in
-    ap (λ (o : Option BlockEntry). is_length (plus_length o (Some 0))) is ∙ short
 
 -- a block at an id that had none leaves those that were there
 pub keeps_others : (t t' : ℕ → Option BlockEntry) (new : ℕ) → t new ≡ None → ((other : ℕ) → other ≢ new → t' other ≡ t other) → Keeps t t'

@@ -1,38 +1,44 @@
 -- What a cluster shows where nothing is seen to change.
-use Rattle.std.proofs.Common.{◌≡◌, inl, ℕ, List, Option, Some, refl, ◌∙◌, ap, arith}
+use Rattle.std.proofs.Common.{◌≡◌, inl, ℕ, List, [], get_or, Option, Some, unwrap_or, refl, sym, ◌∙◌, ap, subst, arith}
 use Rattle.slab.specs.Slab as slab
 use Rattle.slab.specs.Slab.{Slab, Updates}
 use Rattle.hdfs_wire.specs.Outgoing.{Outgoing}
 use Rattle.hdfs_model.specs.declared.asks.LinkFault.{LinkFault}
 use Rattle.hdfs_model.specs.declared.asks.LinkFault.TheVariants as link_faults
 use Rattle.hdfs_model.specs.declared.messages.ReadAsk.{ReadAsk}
-use Rattle.hdfs_model.specs.declared.messages.ServerDefaults.{ServerDefaults}
+use Rattle.hdfs_model.specs.declared.mem_settings.MemSettings.{MemSettings}
 use Rattle.hdfs_model.specs.declared.picture.LastAnswer.{LastAnswer}
 use Rattle.hdfs_model.specs.declared.store.Line.{Line}
 use Rattle.hdfs_model.specs.Picture.{Picture, SameFiles, SamePicture}
-use Rattle.hdfs_model.specs.Pipes.{OnlyWrites, WritesLink, NotSent, NotAcknowledged}
+use Rattle.hdfs_model.specs.Counts.{NeverFall, Rose}
+use Rattle.hdfs_model.specs.Pipes.{OnlyWrites, WritesLink, NotSent, NotAcknowledged, nodes_of}
+use Rattle.hdfs_model.specs.Sending.{WritePlace, MovesOn, StaysHeld, uuids}
+use Rattle.hdfs_model.specs.Writing.{MayBeBehind, Sends, WritesAt}
+use Rattle.hdfs_model.specs.declared.picture.OpenWrite.{OpenWrite}
+use Rattle.hdfs_faults.specs.declared.fault_plan.FaultPlan.{FaultPlan}
+use Rattle.hdfs_faults.specs.Plans.{node_faults_of}
 use Rattle.hdfs_model.specs.Shown.{Shown, Later, NotOpened}
 use Rattle.hdfs_cluster.specs.declared.namespace.Namespace.{Namespace}
 use Rattle.hdfs_cluster.specs.declared.datanodes.Datanodes.{Datanodes}
-use Rattle.hdfs_cluster.specs.declared.mem_cluster.MemCluster.{MemCluster}
 use Rattle.hdfs_cluster.specs.declared.mem_link.MemLink.{MemLink}
 use Rattle.hdfs_cluster.specs.declared.mem_link.MemLink.TheVariants as links
 use Rattle.hdfs_cluster.specs.declared.write_link.MemWrite.{MemWrite}
-use Rattle.hdfs_cluster.specs.Links.{read_told, read_place, write_told, write_place, OnWrites, UnsentOn, UnackedOn}
-use Rattle.hdfs_cluster.specs.MemShown.{picture_at, counts_of, CountsNothing}
-use Rattle.hdfs_cluster.specs.Nodes.{SameHeld, SameNodes}
+use Rattle.hdfs_cluster.specs.Links.{read_told, read_place, write_told, write_place, OnWrites, UnsentOn, UnackedOn, first_uuid}
+use Rattle.hdfs_cluster.specs.MemShown.{picture_at, loaded_at, counts_of}
+use Rattle.hdfs_cluster.specs.Writes.{place_of, told_of}
+use Rattle.hdfs_cluster.specs.Nodes.{SameHeld}
 use Rattle.hdfs_cluster.proofs.Places.{slot_stays, place_same, told_kept, place_kept}
 
 -- what a cluster with these parts shows
-abbrev pub shown_at : Namespace → ℕ → ServerDefaults → LastAnswer → ℕ → List Line → Datanodes → Slab MemLink → Shown
-shown_at space active defaults last namenodes loaded nodes s = record {
-  picture = Some (picture_at space nodes active defaults s);
-  counts = counts_of nodes;
+abbrev pub shown_at : Namespace → MemSettings → LastAnswer → List Line → FaultPlan → Datanodes → Slab MemLink → Shown
+shown_at space settings last loaded faults nodes s = record {
+  picture = Some (picture_at space nodes settings s);
+  counts = counts_of faults;
   last = last;
-  namenodes = namenodes;
+  namenodes = settings.namenodes;
   reads = λ link. read_told (slab.get s link);
   writes = λ link. write_told (slab.get s link);
-  loaded = loaded;
+  loaded = loaded_at settings loaded;
 }
 
 -- each link is shown alike
@@ -52,50 +58,43 @@ links_from_slots s s' same = record {
 
 -- a write link is written back of which nothing changed that is shown
 pub links_from_write : (s s' : Slab MemLink) (link : ℕ) (v w : MemWrite) → slab.get s link ≡ Some (links.Write v) → Updates s s' link (Some (links.Write w))
-    → w.setup ≡ v.setup → w.base ≡ v.base → w.sent.items ≡ v.sent.items → w.acknowledged ≡ v.acknowledged → SameLinksShown s s'
-links_from_write s s' link v w was updates setup base sent acknowledged = record {
+    → w.setup ≡ v.setup → w.base ≡ v.base → w.sent.items ≡ v.sent.items → w.responses.items ≡ v.responses.items → w.acknowledged ≡ v.acknowledged → SameLinksShown s s'
+links_from_write s s' link v w was updates setup base sent responses acknowledged = record {
   reads = slot_stays (λ l. read_told) s s' link (Some (links.Write v)) (Some (links.Write w)) was updates refl;
   read_places = slot_stays (λ l. read_place) s s' link (Some (links.Write v)) (Some (links.Write w)) was updates refl;
-  writes = slot_stays (λ l. write_told) s s' link (Some (links.Write v)) (Some (links.Write w)) was updates (ap Some (told_kept v w setup base sent acknowledged));
-  write_places = λ nodes. slot_stays (write_place nodes) s s' link (Some (links.Write v)) (Some (links.Write w)) was updates (ap Some (place_kept v w setup base sent acknowledged nodes link));
+  writes = slot_stays (λ l. write_told) s s' link (Some (links.Write v)) (Some (links.Write w)) was updates (ap Some (told_kept v w setup base sent responses acknowledged));
+  write_places = λ nodes. slot_stays (write_place nodes) s s' link (Some (links.Write v)) (Some (links.Write w)) was updates (ap Some (place_kept v w setup base sent responses acknowledged nodes link));
 }
 
 -- a slot is written back after a packet that wasn't sent
 pub links_unsent : (nodes nodes' : Datanodes) (s s' : Slab MemLink) (link : ℕ) (o o' : MemLink) → slab.get s link ≡ Some o → Updates s s' link (Some o') → OnWrites (UnsentOn nodes nodes') o o' → SameLinksShown s s' × SameHeld nodes nodes'
-links_unsent nodes nodes' s s' link (links.Write v) (links.Write w) was updates h = (links_from_write s s' link v w was updates h.same.setup h.same.base h.sent h.same.acknowledged, h.held)
+links_unsent nodes nodes' s s' link (links.Write v) (links.Write w) was updates h = (links_from_write s s' link v w was updates h.same.setup h.same.base h.sent h.same.responses h.same.acknowledged, h.held)
 links_unsent nodes nodes' s s' link (links.Write v) (links.Read w) was updates h = absurd h
 links_unsent nodes nodes' s s' link (links.Read v) (links.Read w) was updates h = absurd h
 links_unsent nodes nodes' s s' link (links.Read v) (links.Write w) was updates h = absurd h
 
 -- and after an acknowledgement that didn't come
 pub links_unacked : (s s' : Slab MemLink) (link : ℕ) (o o' : MemLink) → slab.get s link ≡ Some o → Updates s s' link (Some o') → OnWrites UnackedOn o o' → SameLinksShown s s'
-links_unacked s s' link (links.Write v) (links.Write w) was updates h = links_from_write s s' link v w was updates h.setup h.base (ap (λ x. x.items) h.sent) h.acknowledged
+links_unacked s s' link (links.Write v) (links.Write w) was updates h = links_from_write s s' link v w was updates h.setup h.base (ap (λ x. x.items) h.sent) h.responses h.acknowledged
 links_unacked s s' link (links.Write v) (links.Read w) was updates h = absurd h
 links_unacked s s' link (links.Read v) (links.Read w) was updates h = absurd h
 links_unacked s s' link (links.Read v) (links.Write w) was updates h = absurd h
 
-pub counts_nothing : (m m' : MemCluster) → SameNodes m.nodes m'.nodes → CountsNothing m m'
-counts_nothing m m' rest = record {
-  counts = record { calls = λ i. refl; links = refl; nodes = λ d. (rest.faults d).faults };
-  packets = λ d. (rest.faults d).packets;
-  there = λ d is. (rest.faults d).there ∙ is;
-}
-
-module _ (space : Namespace) (active : ℕ) (defaults : ServerDefaults) (last : LastAnswer) (namenodes : ℕ) (loaded : List Line) (nodes nodes' : Datanodes) (rest : SameNodes nodes nodes') (s s' : Slab MemLink) where
+module _ (space : Namespace) (settings : MemSettings) (last : LastAnswer) (loaded : List Line) (faults faults' : FaultPlan) (fall : NeverFall (counts_of faults) (counts_of faults')) (nodes nodes' : Datanodes) (s s' : Slab MemLink) where
   abbrev old : Shown
-  old = shown_at space active defaults last namenodes loaded nodes s
+  old = shown_at space settings last loaded faults nodes s
 
   abbrev new : Shown
-  new = shown_at space active defaults last namenodes loaded nodes' s'
+  new = shown_at space settings last loaded faults' nodes' s'
 
   abbrev p : Picture
-  p = picture_at space nodes active defaults s
+  p = picture_at space nodes settings s
 
   abbrev q : Picture
-  q = picture_at space nodes' active defaults s'
+  q = picture_at space nodes' settings s'
 
   pub still_later : Later old new
-  still_later = record { counts = record { calls = λ i. omega arith; links = omega arith; nodes = λ d. omega (arith, (rest.faults d).faults) }; namenodes = refl; loaded = refl }
+  still_later = record { counts = fall; namenodes = refl; loaded = refl }
 
   module _ (held : SameHeld nodes nodes') where
     pub still_files : SameFiles p q
@@ -113,6 +112,45 @@ module _ (space : Namespace) (active : ℕ) (defaults : ServerDefaults) (last : 
 
       still_link : (link : ℕ) → WritesLink link old new
       still_link link = record { only = only; others = λ l apart. same.writes l; picture = inl still_picture }
+
+      still_writes : (link : ℕ) → WritesAt link p q
+      still_writes link = record {
+        records = record { names = λ path. refl; table = λ id. refl; active = refl; defaults = refl; reads = same.read_places };
+        held = λ write is node id apart. (held node id).bytes;
+        none = λ other apart is. still_picture.rest.writes other ∙ is;
+        others = λ write is other place apart now. inl (still_picture.rest.writes other ∙ now, λ i within. (held (get_or place.nodes i []) place.block).bytes);
+      }
+
+      -- the link goes on, and no packet was sent
+      still_sends : (link : ℕ) (packet : Outgoing) (v : MemWrite) → slab.get s link ≡ Some (links.Write v) → Sends link (MayBeBehind packet) p q
+      still_sends link packet v was = (
+        still_writes link,
+        λ write is.
+            subst (λ (y : WritePlace). (write' : WritePlace) × (q.writes link ≡ Some write') × MovesOn y write' × MayBeBehind packet y.sent write'.sent × (write'.responses ≡ y.responses) × (write'.acknowledged ≡ y.acknowledged) × StaysHeld p.held y q.held write')
+            (ap (λ (o : Option WritePlace). unwrap_or o (place_of nodes link v)) (sym (ap (write_place nodes link) was) ∙ is)) (
+              place_of nodes link v,
+              still_picture.rest.writes link ∙ ap (write_place nodes link) was,
+              record { block = refl; nodes = refl; base = λ i lt. refl; received = λ i lt. (omega arith, omega arith); disturbed = λ i lt. refl },
+              inl refl,
+              refl,
+              refl,
+              λ i lt calm holds. (held (get_or (uuids v.setup.locs) i []) v.setup.block.block_id).bytes ∙ holds,
+            ),
+      )
+
+      -- the connection broke in place of a packet
+      pub broke_off_sent : (link : ℕ) (packet : Outgoing) (v : MemWrite) → slab.get s link ≡ Some (links.Write v)
+          → Rose (node_faults_of faults (first_uuid v)) (node_faults_of faults' (first_uuid v)) → NotSent old link packet link_faults.Broken new
+      broke_off_sent link packet v was rose = record {
+        writes = still_link link;
+        still_open = λ write told. (write, same.writes link ∙ told, refl);
+        sent = λ broken. still_sends link packet v was;
+        memory = λ memory. inl still_picture;
+        not_refused = λ refused. (cc);
+        cause = λ broken write told.
+            subst (λ (y : OpenWrite). Rose (old.counts.nodes (get_or (nodes_of y) 0 [])) (new.counts.nodes (get_or (nodes_of y) 0 [])))
+            (ap (λ (o : Option OpenWrite). unwrap_or o (told_of v)) (sym (ap write_told was) ∙ told)) rose;
+      }
 
       module _ (fault : LinkFault) (is : fault ≡ link_faults.NoMemory) where
         pub not_opened : (ask : ReadAsk) → NotOpened old ask fault new

@@ -6,31 +6,38 @@ use Rattle.std.proofs.lemmas.List.{take_all}
 use Rattle.std.specs.List.{Contains}
 use Rattle.slab.specs.Slab as slab
 use Rattle.slab.specs.Slab.{Slab, Updates}
+use Rattle.hdfs_wire.specs.declared.ack.Ack.{Ack}
 use Rattle.hdfs_wire.specs.Outgoing.{Outgoing}
 use Rattle.hdfs_model.specs.declared.asks.LinkFault.{LinkFault}
 use Rattle.hdfs_model.specs.declared.asks.LinkFault.TheVariants as link_faults
 use Rattle.hdfs_model.specs.declared.messages.Setup.{Setup}
-use Rattle.hdfs_model.specs.declared.messages.ServerDefaults.{ServerDefaults}
+use Rattle.hdfs_model.specs.declared.mem_settings.MemSettings.{MemSettings}
 use Rattle.hdfs_model.specs.declared.picture.LastAnswer.{LastAnswer}
 use Rattle.hdfs_model.specs.declared.picture.OpenWrite.{OpenWrite}
 use Rattle.hdfs_model.specs.declared.store.Line.{Line}
+use Rattle.hdfs_model.specs.Counts.{NeverFall, Rose}
 use Rattle.hdfs_model.specs.Picture.{Picture}
-use Rattle.hdfs_model.specs.Pipes.{WriteOpened, WriteNotOpened, Sent}
+use Rattle.hdfs_model.specs.Pipes.{WriteOpened, WriteNotOpened, Sent, NotSent}
 use Rattle.hdfs_model.specs.Sending.{WritePlace, IsDisturbed, MovesOn, StaysHeld, uuids, end_of, seqno_of, put_packet, put_packets}
 use Rattle.hdfs_model.specs.Shown.{Shown, Later}
 use Rattle.hdfs_model.specs.Writing.{IsLeftAlone, WritesAt, Sends, Starts, IsFresh, IsBehind}
+use Rattle.hdfs_faults.specs.declared.fault_plan.FaultPlan.{FaultPlan}
+use Rattle.hdfs_faults.specs.declared.node_plan.NodeCall.TheVariants as calls
+use Rattle.hdfs_faults.specs.Plans.{link_faults_of}
+use Rattle.hdfs_faults.specs.Series.{sends_to}
 use Rattle.hdfs_cluster.specs.declared.namespace.Namespace.{Namespace}
 use Rattle.hdfs_cluster.specs.declared.datanodes.Datanodes.{Datanodes}
 use Rattle.hdfs_cluster.specs.declared.mem_link.MemLink.{MemLink}
 use Rattle.hdfs_cluster.specs.declared.mem_link.MemLink.TheVariants as links
 use Rattle.hdfs_cluster.specs.declared.write_link.MemWrite.{MemWrite}
-use Rattle.hdfs_cluster.specs.Links.{read_told, read_place, write_told, write_place, OnWrites, SentOn}
-use Rattle.hdfs_cluster.specs.MemShown.{picture_at}
-use Rattle.hdfs_cluster.specs.Nodes.{held_in, undisturbed_in, is_named, is_on, SameNodes}
+use Rattle.hdfs_cluster.specs.Links.{read_told, read_place, write_told, write_place, OnWrites, SendsOn, UnsentOn, first_uuid}
+use Rattle.hdfs_cluster.specs.MemShown.{picture_at, counts_of}
+use Rattle.hdfs_cluster.specs.Nodes.{held_in, undisturbed_in, is_named, is_on}
 use Rattle.hdfs_cluster.specs.Writes.{told_at, told_of, place_at, place_of, disturbed_at, SameWrite, PutsPacket}
-use Rattle.hdfs_cluster.proofs.Packets.{last_end-push, put_packets-push, waiting-push, responses-push, named_at, named_any, contains_named, answered}
+use Rattle.hdfs_cluster.proofs.Packets.{last_end-push, put_packets-push, waiting-push, named_at, named_any, contains_named, answered}
 use Rattle.hdfs_cluster.proofs.Places.{slot_stays, place_same_for, place_same_at}
-use Rattle.hdfs_cluster.proofs.Stills.{shown_at, still_later}
+use Rattle.hdfs_cluster.proofs.Counting.{falls_counts, rose_counts}
+use Rattle.hdfs_cluster.proofs.Stills.{shown_at, still_later, broke_off_sent, links_from_write}
 
 -- the test on a block
 same_block : (a b : ℕ) → a ≡ b → eqb a b ≡ true
@@ -71,12 +78,13 @@ other_link false true u' link other apart is = ap not is
 other_link false false u' link other apart is = ap not is
 
 -- No pipeline was set up. What its datanodes note of the link is not seen, since it is vacant.
-pub not_opened_write : (space : Namespace) (active : ℕ) (defaults : ServerDefaults) (last : LastAnswer) (namenodes : ℕ) (loaded : List Line) (nodes nodes' : Datanodes) (s s' : Slab MemLink) (link : ℕ) (setup : Setup) (fault : LinkFault)
-    → SameNodes nodes nodes' → slab.get s link ≡ None → ((l : ℕ) → slab.get s' l ≡ slab.get s l)
+pub not_opened_write : (space : Namespace) (settings : MemSettings) (last : LastAnswer) (loaded : List Line) (faults faults' : FaultPlan) (nodes nodes' : Datanodes) (s s' : Slab MemLink) (link : ℕ) (setup : Setup) (fault : LinkFault)
+    → NeverFall (counts_of faults) (counts_of faults') → slab.get s link ≡ None → ((l : ℕ) → slab.get s' l ≡ slab.get s l)
     → ((d : List ℕ) (b other : ℕ) → (link ≡ other → ⊥) → undisturbed_in nodes' d b other ≡ undisturbed_in nodes d b other) → ((d : List ℕ) (b : ℕ) → held_in nodes' d b ≡ held_in nodes d b)
-    → fault ≡ link_faults.NoMemory → WriteNotOpened (shown_at space active defaults last namenodes loaded nodes s) setup fault (shown_at space active defaults last namenodes loaded nodes' s')
-not_opened_write space active defaults last namenodes loaded nodes nodes' s s' link setup fault rest vacant slots others bytes is = record {
-  only = record { later = still_later space active defaults last namenodes loaded nodes nodes' rest s s'; last = refl; calls = λ i. refl; reads = λ l. ap read_told (slots l); places = λ l is. ap read_place (slots l) };
+    → (fault ≢ link_faults.NoMemory → Rose (link_faults_of faults) (link_faults_of faults'))
+    → WriteNotOpened (shown_at space settings last loaded faults nodes s) setup fault (shown_at space settings last loaded faults' nodes' s')
+not_opened_write space settings last loaded faults faults' nodes nodes' s s' link setup fault fall vacant slots others bytes rose = record {
+  only = record { later = still_later space settings last loaded faults faults' fall nodes nodes' s s'; last = refl; calls = λ i. refl; reads = λ l. ap read_told (slots l); places = λ l is. ap read_place (slots l) };
   writes = λ l. ap write_told (slots l);
   picture = record {
     rest = record {
@@ -89,35 +97,36 @@ not_opened_write space active defaults last namenodes loaded nodes nodes' s s' l
     };
     active = refl;
   };
-  cause = λ apart. absurd (apart is);
+  cause = rose;
 }
 
-module _ (space : Namespace) (active : ℕ) (defaults : ServerDefaults) (last : LastAnswer) (namenodes : ℕ) (loaded : List Line) (nodes nodes' : Datanodes) (rest : SameNodes nodes nodes') (s s' : Slab MemLink) (link : ℕ) (w : MemWrite) (updates : Updates s s' link (Some (links.Write w))) where
+module _ (space : Namespace) (settings : MemSettings) (last : LastAnswer) (loaded : List Line) (faults faults' : FaultPlan) (fall : NeverFall (counts_of faults) (counts_of faults')) (nodes nodes' : Datanodes) (s s' : Slab MemLink) (link : ℕ) (w : MemWrite) (updates : Updates s s' link (Some (links.Write w))) where
   abbrev old : Shown
-  old = shown_at space active defaults last namenodes loaded nodes s
+  old = shown_at space settings last loaded faults nodes s
 
   abbrev new : Shown
-  new = shown_at space active defaults last namenodes loaded nodes' s'
+  new = shown_at space settings last loaded faults' nodes' s'
 
   abbrev p : Picture
-  p = picture_at space nodes active defaults s
+  p = picture_at space nodes settings s
 
   abbrev q : Picture
-  q = picture_at space nodes' active defaults s'
+  q = picture_at space nodes' settings s'
 
   later : Later old new
-  later = still_later space active defaults last namenodes loaded nodes nodes' rest s s'
+  later = still_later space settings last loaded faults faults' fall nodes nodes' s s'
 
-  module _ (setup : Setup) (vacant : slab.get s link ≡ None) (is_setup : w.setup ≡ setup) (none_sent : w.sent.items ≡ []) (none : w.acknowledged ≡ 0)
+  module _ (setup : Setup) (vacant : slab.get s link ≡ None) (is_setup : w.setup ≡ setup) (none_sent : w.sent.items ≡ []) (none_came : w.responses.items ≡ []) (none : w.acknowledged ≡ 0)
       (base : w.base.items ≡ map (λ node. held_in nodes node.id.datanode_uuid setup.block.block_id) setup.locs)
       (entered : (d : List ℕ) → is_named setup.locs d ≡ true → undisturbed_in nodes' d setup.block.block_id link ≡ true)
       (others : (d : List ℕ) (b other : ℕ) → (link ≡ other → ⊥) → undisturbed_in nodes' d b other ≡ undisturbed_in nodes d b other)
       (bytes : (d : List ℕ) (b : ℕ) → held_in nodes' d b ≡ held_in nodes d b) where
-    is_place : place_of nodes' link w ≡ place_at (λ i. disturbed_at nodes' link setup i) setup w.base.items [] 0
+    is_place : place_of nodes' link w ≡ place_at (λ i. disturbed_at nodes' link setup i) setup w.base.items [] [] 0
     is_place =
-        ap (λ (x : Setup). place_at (λ i. disturbed_at nodes' link x i) x w.base.items w.sent.items w.acknowledged) is_setup
-        ∙ ap (λ (x : List Outgoing). place_at (λ i. disturbed_at nodes' link setup i) setup w.base.items x w.acknowledged) none_sent
-        ∙ ap (place_at (λ i. disturbed_at nodes' link setup i) setup w.base.items []) none
+        ap (λ (x : Setup). place_at (λ i. disturbed_at nodes' link x i) x w.base.items w.sent.items w.responses.items w.acknowledged) is_setup
+        ∙ ap (λ (x : List Outgoing). place_at (λ i. disturbed_at nodes' link setup i) setup w.base.items x w.responses.items w.acknowledged) none_sent
+        ∙ ap (λ (x : List Ack). place_at (λ i. disturbed_at nodes' link setup i) setup w.base.items [] x w.acknowledged) none_came
+        ∙ ap (place_at (λ i. disturbed_at nodes' link setup i) setup w.base.items [] []) none
 
     is_told : told_of w ≡ told_at setup [] 0
     is_told =
@@ -125,7 +134,7 @@ module _ (space : Namespace) (active : ℕ) (defaults : ServerDefaults) (last : 
         ∙ ap (λ (x : List Outgoing). told_at setup x w.acknowledged) none_sent
         ∙ ap (told_at setup []) none
 
-    fresh : IsFresh setup p (place_at (λ i. disturbed_at nodes' link setup i) setup w.base.items [] 0)
+    fresh : IsFresh setup p (place_at (λ i. disturbed_at nodes' link setup i) setup w.base.items [] [] 0)
     fresh = record {
       block = refl;
       nodes = refl;
@@ -144,7 +153,7 @@ module _ (space : Namespace) (active : ℕ) (defaults : ServerDefaults) (last : 
       reads = slot_stays (λ l. read_place) s s' link None (Some (links.Write w)) vacant updates refl;
       unused = ap (write_place nodes link) vacant;
       others = λ l apart. place_same_at nodes nodes' l (λ d b. others d b l (λ same. apart (sym same))) (slab.get s' l) ∙ ap (write_place nodes l) (updates.others l apart);
-      place = place_at (λ i. disturbed_at nodes' link setup i) setup w.base.items [] 0;
+      place = place_at (λ i. disturbed_at nodes' link setup i) setup w.base.items [] [] 0;
       at = ap (write_place nodes' link) updates.changed ∙ ap Some is_place;
       fresh = fresh;
     }
@@ -173,14 +182,15 @@ module _ (space : Namespace) (active : ℕ) (defaults : ServerDefaults) (last : 
     before = place_of nodes link v
 
     abbrev after : WritePlace
-    after = place_at (λ i. disturbed_at nodes' link v.setup i) v.setup v.base.items more v.acknowledged
+    after = place_at (λ i. disturbed_at nodes' link v.setup i) v.setup v.base.items more v.responses.items v.acknowledged
 
     is_after : place_of nodes' link w ≡ after
     is_after =
-        ap (λ (x : Setup). place_at (λ i. disturbed_at nodes' link x i) x w.base.items w.sent.items w.acknowledged) same.setup
-        ∙ ap (λ b. place_at (λ i. disturbed_at nodes' link v.setup i) v.setup b.items w.sent.items w.acknowledged) same.base
-        ∙ ap (λ (x : List Outgoing). place_at (λ i. disturbed_at nodes' link v.setup i) v.setup v.base.items x w.acknowledged) sent
-        ∙ ap (place_at (λ i. disturbed_at nodes' link v.setup i) v.setup v.base.items more) same.acknowledged
+        ap (λ (x : Setup). place_at (λ i. disturbed_at nodes' link x i) x w.base.items w.sent.items w.responses.items w.acknowledged) same.setup
+        ∙ ap (λ b. place_at (λ i. disturbed_at nodes' link v.setup i) v.setup b.items w.sent.items w.responses.items w.acknowledged) same.base
+        ∙ ap (λ (x : List Outgoing). place_at (λ i. disturbed_at nodes' link v.setup i) v.setup v.base.items x w.responses.items w.acknowledged) sent
+        ∙ ap (λ (x : List Ack). place_at (λ i. disturbed_at nodes' link v.setup i) v.setup v.base.items more x w.acknowledged) same.responses
+        ∙ ap (place_at (λ i. disturbed_at nodes' link v.setup i) v.setup v.base.items more v.responses.items) same.acknowledged
 
     is_told_after : told_of w ≡ told_at v.setup more v.acknowledged
     is_told_after =
@@ -289,7 +299,7 @@ module _ (space : Namespace) (active : ℕ) (defaults : ServerDefaults) (last : 
       λ write is.
           subst (λ (y : WritePlace). (write' : WritePlace) × (q.writes link ≡ Some write') × MovesOn y write' × IsBehind packet y.sent write'.sent × (write'.responses ≡ y.responses) × (write'.acknowledged ≡ y.acknowledged) × StaysHeld p.held y q.held write')
           (from_before write is)
-          (after, ap (write_place nodes' link) updates.changed ∙ ap Some is_after, moves_on, refl, responses-push v.setup v.sent.items v.acknowledged packet v.within, refl, stays_held),
+          (after, ap (write_place nodes' link) updates.changed ∙ ap Some is_after, moves_on, refl, refl, refl, stays_held),
     )
 
     told_before : (write : OpenWrite) → old.writes link ≡ Some write → told_of v ≡ write
@@ -320,10 +330,29 @@ module _ (space : Namespace) (active : ℕ) (defaults : ServerDefaults) (last : 
     }
 
 -- the same of a slot
-pub sent_on : (space : Namespace) (active : ℕ) (defaults : ServerDefaults) (last : LastAnswer) (namenodes : ℕ) (loaded : List Line) (nodes nodes' : Datanodes) (rest : SameNodes nodes nodes') (s s' : Slab MemLink) (link : ℕ) (packet : Outgoing) (o o' : MemLink)
-    → slab.get s link ≡ Some o → Updates s s' link (Some o') → OnWrites (SentOn link packet nodes nodes') o o'
-    → Sent (shown_at space active defaults last namenodes loaded nodes s) link packet (shown_at space active defaults last namenodes loaded nodes' s')
-sent_on space active defaults last namenodes loaded nodes nodes' rest s s' link packet (links.Write v) (links.Write w) was updates h = sent_packet space active defaults last namenodes loaded nodes nodes' rest s s' link w updates v packet was h.same h.sent h.puts
-sent_on space active defaults last namenodes loaded nodes nodes' rest s s' link packet (links.Write v) (links.Read w) was updates h = absurd h
-sent_on space active defaults last namenodes loaded nodes nodes' rest s s' link packet (links.Read v) (links.Read w) was updates h = absurd h
-sent_on space active defaults last namenodes loaded nodes nodes' rest s s' link packet (links.Read v) (links.Write w) was updates h = absurd h
+pub sent_on : (space : Namespace) (settings : MemSettings) (last : LastAnswer) (loaded : List Line) (faults faults' : FaultPlan) (nodes nodes' : Datanodes) (s s' : Slab MemLink) (link : ℕ) (packet : Outgoing) (o o' : MemLink)
+    → slab.get s link ≡ Some o → Updates s s' link (Some o') → OnWrites (SendsOn link packet false nodes nodes' faults faults') o o'
+    → Sent (shown_at space settings last loaded faults nodes s) link packet (shown_at space settings last loaded faults' nodes' s')
+sent_on space settings last loaded faults faults' nodes nodes' s s' link packet (links.Write v) (links.Write w) was updates h =
+    sent_packet space settings last loaded faults faults' (falls_counts faults faults' (sends_to (first_uuid v)) false h.1) nodes nodes' s s' link w updates v packet was h.0.same h.0.sent h.0.puts
+sent_on space settings last loaded faults faults' nodes nodes' s s' link packet (links.Write v) (links.Read w) was updates h = absurd h
+sent_on space settings last loaded faults faults' nodes nodes' s s' link packet (links.Read v) (links.Read w) was updates h = absurd h
+sent_on space settings last loaded faults faults' nodes nodes' s s' link packet (links.Read v) (links.Write w) was updates h = absurd h
+
+-- the connection broke in place of a packet of a slot
+pub broke_on : (space : Namespace) (settings : MemSettings) (last : LastAnswer) (loaded : List Line) (faults faults' : FaultPlan) (nodes nodes' : Datanodes) (s s' : Slab MemLink) (link : ℕ) (packet : Outgoing) (o o' : MemLink)
+    → slab.get s link ≡ Some o → Updates s s' link (Some o') → OnWrites (SendsOn link packet true nodes nodes' faults faults') o o'
+    → NotSent (shown_at space settings last loaded faults nodes s) link packet link_faults.Broken (shown_at space settings last loaded faults' nodes' s')
+broke_on space settings last loaded faults faults' nodes nodes' s s' link packet (links.Write v) (links.Write w) was updates h =
+    broke_off_sent space settings last loaded faults faults' (falls_counts faults faults' (sends_to (first_uuid v)) true h.1) nodes nodes' s s' h.0.held
+    (links_from_write s s' link v w was updates h.0.same.setup h.0.same.base h.0.sent h.0.same.responses h.0.same.acknowledged) link packet v was (rose_counts faults faults' calls.Send (first_uuid v) h.1)
+broke_on space settings last loaded faults faults' nodes nodes' s s' link packet (links.Write v) (links.Read w) was updates h = absurd h
+broke_on space settings last loaded faults faults' nodes nodes' s s' link packet (links.Read v) (links.Read w) was updates h = absurd h
+broke_on space settings last loaded faults faults' nodes nodes' s s' link packet (links.Read v) (links.Write w) was updates h = absurd h
+
+-- then no packet was sent
+pub broke_unsent : (link : ℕ) (packet : Outgoing) (nodes nodes' : Datanodes) (faults faults' : FaultPlan) (o o' : MemLink) → OnWrites (SendsOn link packet true nodes nodes' faults faults') o o' → OnWrites (UnsentOn nodes nodes') o o'
+broke_unsent link packet nodes nodes' faults faults' (links.Write v) (links.Write w) h = h.0
+broke_unsent link packet nodes nodes' faults faults' (links.Write v) (links.Read w) h = absurd h
+broke_unsent link packet nodes nodes' faults faults' (links.Read v) (links.Read w) h = absurd h
+broke_unsent link packet nodes nodes' faults faults' (links.Read v) (links.Write w) h = absurd h

@@ -2,7 +2,6 @@
 use Rattle.std.proofs.Common.{◌≡◌, ◌⊎◌, ⊎_elim, inl, inr, ℕ, ◌<◌, ◌≤◌, Bool, true, false, cond, List, [], ◌∷◌, length, Option, Some, None, Ok, Err, refl, sym, ap, subst, arith}
 use Rattle.std.specs.BTreeMap.{get_by_text}
 use Rattle.slab.specs.Slab.{Slab}
-use Rattle.hdfs_model.specs.declared.asks.Ask.{Ask}
 use Rattle.hdfs_model.specs.declared.asks.Ask.TheVariants as asks
 use Rattle.hdfs_model.specs.declared.asks.Answer.TheVariants as answers
 use Rattle.hdfs_model.specs.declared.asks.AskFault.{AskFault}
@@ -12,7 +11,7 @@ use Rattle.hdfs_model.specs.declared.picture.FileEntry.{FileEntry}
 use Rattle.hdfs_model.specs.declared.messages.DatanodeInfo.{DatanodeInfo}
 use Rattle.hdfs_model.specs.declared.messages.LocatedBlock.{LocatedBlock}
 use Rattle.hdfs_model.specs.declared.messages.FileStatusMsg.{FileStatusMsg}
-use Rattle.hdfs_model.specs.declared.messages.ServerDefaults.{ServerDefaults}
+use Rattle.hdfs_model.specs.declared.mem_settings.MemSettings.{MemSettings}
 use Rattle.hdfs_model.specs.declared.picture.BlockEntry.{BlockEntry}
 use Rattle.hdfs_model.specs.declared.picture.Entry.{Entry}
 use Rattle.hdfs_model.specs.declared.picture.Entry.TheVariants as entries
@@ -40,12 +39,12 @@ distinct_one : (node : List ℕ) → IsDistinct bytes_eq (node ∷ [])
 unfolding IsDistinct
 distinct_one node = (tt, tt)
 
-module _ (space space' : Namespace) (nodes : Datanodes) (active : ℕ) (defaults : ServerDefaults) (links : Slab MemLink) where
+module _ (space space' : Namespace) (nodes : Datanodes) (settings : MemSettings) (links : Slab MemLink) where
   abbrev p : Picture
-  p = picture_at space nodes active defaults links
+  p = picture_at space nodes settings links
 
   abbrev q : Picture
-  q = picture_at space' nodes active defaults links
+  q = picture_at space' nodes settings links
 
   pub same_space : SameSpace space space' → SamePicture p q
   same_space same = record { rest = record { files = record { names = same.0; table = λ id. ap (λ t. table_of t.entries id) same.1; held = λ node id. refl; defaults = refl }; reads = λ link. refl; writes = λ link. refl }; active = refl }
@@ -78,7 +77,7 @@ module _ (space space' : Namespace) (nodes : Datanodes) (active : ℕ) (defaults
     changes = changes_space _ _ (h.adds.behind file is) h.adds.listed;
   }
 
-  module _ (i : ℕ) (here : i ≡ active) (text src : List ℕ) (is : text ≡ src) where
+  module _ (i : ℕ) (here : i ≡ settings.active) (text src : List ℕ) (is : text ≡ src) where
     pub answers_created : (masked : ℕ) (client : List ℕ) (flag : ℕ) (parents : Bool) (replication block_size : ℕ) (status : FileStatusMsg)
         → HasStatus (new_file masked replication block_size) (Some status) → create_refusal (kinds_in (get_by_text space.names)) text (overwrites flag) parents ≡ None
         → ((path : List ℕ) → get_by_text space'.names path ≡ with_parents (get_by_text space.names) entries.Dir text (entries.File (new_file masked replication block_size)) path)

@@ -11,7 +11,6 @@ use Rattle.hdfs_model.specs.declared.messages.LocatedBlock.{LocatedBlock}
 use Rattle.hdfs_model.specs.Effects.{HasBlock, IsEntry, IsLast, IsRetried, with_block, with_entry, with_length}
 use Rattle.hdfs_model.specs.Paths.{is_path, ancestors, parent_of}
 use Rattle.hdfs_model.specs.Picture.{Picture}
-use Rattle.hdfs_model.specs.Stores.{StoresBlocks}
 use Rattle.hdfs_cluster.specs.Memory.{first_node, total, is_length, is_dir, is_kth, is_kth_at}
 
 -- a file can stand at the path: it is new, and its parent is a directory
@@ -38,9 +37,9 @@ pub record AreNew (names : List ℕ → Option Entry) (ids : List ℕ) : Type 0 
 abbrev pub Keeps : (ℕ → Option BlockEntry) → (ℕ → Option BlockEntry) → Type 0
 Keeps old new = (id : ℕ) (entry : BlockEntry) → old id ≡ Some entry → new id ≡ Some entry
 
--- a file stands at the path, and everything else stays
-abbrev pub Names : (List ℕ → Option Entry) → (List ℕ → Option Entry) → List ℕ → FileEntry → Type 0
-Names old new path file = (q : List ℕ) → new q ≡ (if bytes_eq path q then Some (entries.File file) else old q)
+-- a directory or a file stands at the path, and everything else stays
+abbrev pub Names : (List ℕ → Option Entry) → (List ℕ → Option Entry) → List ℕ → Entry → Type 0
+Names old new path entry = (q : List ℕ) → new q ≡ (if bytes_eq path q then Some entry else old q)
 
 -- a picture of blocks and bytes alone
 abbrev pub blocks_picture : (ℕ → Option BlockEntry) → (List ℕ → ℕ → List ℕ) → Picture
@@ -58,11 +57,6 @@ blocks_picture table held = record {
 pub record KeepsBlocks (old new : ℕ → Option BlockEntry) (was now : List ℕ → ℕ → List ℕ) : Type 0 where
   pub table : Keeps old new
   pub held : (id : ℕ) (entry : BlockEntry) → old id ≡ Some entry → (node : List ℕ) → now node id ≡ was node id
-
--- blocks with these ids, of fewer than 2^63 bytes, store these bytes
-pub record StoresBytes (new : ℕ → Option BlockEntry) (held' : List ℕ → ℕ → List ℕ) (ids bytes : List ℕ) : Type 0 where
-  pub sized : is_length (total new ids) ≡ true
-  pub stores : StoresBlocks (blocks_picture new held') ids bytes
 
 -- a map with a directory at each path above this one at which nothing stood
 abbrev pub with_directories : {X : Type 0} → (List ℕ → Option X) → X → List ℕ → List ℕ → Option X

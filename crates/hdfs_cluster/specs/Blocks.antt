@@ -4,9 +4,6 @@ use Rattle.std.specs.Ordering.{nat_cmp}
 use Rattle.std.specs.BTreeMap.{get}
 use Rattle.hdfs_cluster.specs.declared.datanode.Datanode.{Datanode}
 
--- the replicas of other blocks stay, and what is counted
+-- the replicas of other blocks stay
 pub record ChangesBlock (block : ℕ) (old new : Datanode) : Type 0 where
   pub others : (other : ℕ) → other ≢ block → get nat_cmp new.blocks other ≡ get nat_cmp old.blocks other
-  pub faults : new.faults ≡ old.faults
-  pub packets : new.packets ≡ old.packets
-  pub broken : new.broken ≡ old.broken

@@ -1,5 +1,5 @@
 -- The laws that the cluster in memory keeps as a cluster and as a store.
-use Rattle.std.proofs.Common.{◌≡◌, ◌↔◌, ℕ, ◌<◌, Bool, true, false, cond, not, ◌&&◌, IsTrue, List, [], ◌∷◌, map, Option, Some, None, unwrap_or, refl, sym, ◌∙◌, subst, ap}
+use Rattle.std.proofs.Common.{◌≡◌, ◌↔◌, ℕ, ◌<◌, Bool, true, false, cond, not, ◌&&◌, IsTrue, List, [], ◌∷◌, map, Option, Some, None, unwrap_or, refl, ◌∙◌, subst, ap}
 use Rattle.std.proofs.lemmas.Bool.{false≢true}
 use Rattle.std.specs.Str.{bytes_eq}
 use Rattle.hdfs_model.specs.declared.picture.Entry.{Entry}
@@ -9,7 +9,6 @@ use Rattle.hdfs_model.specs.Paths.{root}
 use Rattle.hdfs_model.specs.Picture.{Picture}
 use Rattle.hdfs_model.specs.Stores.{Agrees, AgreesAt}
 use Rattle.hdfs_cluster.specs.declared.mem_cluster.MemCluster.{MemCluster}
-use Rattle.hdfs_cluster.specs.Lines.{line_of}
 use Rattle.slab.specs.Slab as slab
 use Rattle.hdfs_model.specs.declared.picture.OpenWrite.{OpenWrite}
 use Rattle.hdfs_model.specs.declared.store.Line.{Line}
@@ -32,7 +31,7 @@ pub told_picture : (m : MemCluster) (p : Picture) → (shown_of m).picture ≡ S
 told_picture m p told = ap (λ (o : Option Picture). unwrap_or o p) told
 
 pub active_law : (m : MemCluster) (p : Picture) → (shown_of m).picture ≡ Some p → p.active < (shown_of m).namenodes
-active_law m p told = subst (λ (q : Picture). q.active < m.config.namenodes) (told_picture m p told) m.config.active_below
+active_law m p told = subst (λ (q : Picture). q.active < m.config.settings.namenodes) (told_picture m p told) m.config.active_below
 
 shown_write : (nodes : Datanodes) (link : ℕ) (slot : Option MemLink) (write : OpenWrite) → write_told slot ≡ Some write
     → (place : WritePlace) × (write_place nodes link slot ≡ Some place) × IsPlaceOf write place
@@ -81,11 +80,11 @@ not_false true is = absurd (false≢true is)
 not_false false is = refl
 
 -- a cluster is fresh exactly where no line was loaded and it has the root alone
-pub fresh_law : (m : MemCluster) (p : Picture) → (shown_of m).picture ≡ Some p → IsTrue (is_fresh_of m) ↔ (((shown_of m).loaded ≡ []) × Agrees (Some p) only_root)
+pub fresh_law : (m : MemCluster) (p : Picture) → (shown_of m).picture ≡ Some p → IsTrue (is_fresh_of m) ↔ (((shown_of m).loaded.lines ≡ []) × Agrees (Some p) only_root)
 fresh_law m p told =
-    subst (λ (q : Picture). IsTrue (is_fresh_of m) ↔ (((shown_of m).loaded ≡ []) × Agrees (Some q) only_root)) (told_picture m p told) (
-      λ fresh. (let both = and_parts (is_nil (shown_of m).loaded) (not m.space.grown) fresh in
-          (nil_from_test (shown_of m).loaded both.0, agrees_bare (picture_of m) (m.space.bare (not_false m.space.grown both.1)))),
+    subst (λ (q : Picture). IsTrue (is_fresh_of m) ↔ (((shown_of m).loaded.lines ≡ []) × Agrees (Some q) only_root)) (told_picture m p told) (
+      λ fresh. (let both = and_parts (is_nil (shown_of m).loaded.lines) (not m.space.grown) fresh in
+          (nil_from_test (shown_of m).loaded.lines both.0, agrees_bare (picture_of m) (m.space.bare (not_false m.space.grown both.1)))),
       λ both. ap (λ (lines : List Line). is_nil lines && not m.space.grown) both.0
           ∙ not_true m.space.grown (λ grown. m.space.more grown (λ path. bare_from_agrees (picture_of m) (bytes_eq root path) (get_by_text m.space.names path) (both.1 path))),
     )

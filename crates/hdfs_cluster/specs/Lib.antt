@@ -1,6 +1,9 @@
 pub mod Adding
 pub mod Answering
 pub mod Blocks
+pub mod Counting
+pub mod Cutting
+pub mod Failures
 pub mod Laws
 pub mod Lines
 pub mod Links
@@ -9,7 +12,7 @@ pub mod Memory
 pub mod Nodes
 pub mod Pieces
 pub mod Replicas
-pub mod Settings
 pub mod Soundness
 pub mod Starting
+pub mod Telling
 pub mod Writes

@@ -6,5 +6,6 @@ use Rattle.hdfs_cluster.specs.declared.loaded.Kept.TheVariants as keeps
 
 -- the line that was loaded
 abbrev pub line_of : Kept → Line
+line_of (keeps.Dir path) = lines.Dir path
 line_of (keeps.File path attributes bytes) = lines.File path attributes bytes
 line_of (keeps.Fault fault) = lines.Fault fault

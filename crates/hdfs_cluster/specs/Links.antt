@@ -1,19 +1,23 @@
 -- What the links of a cluster in memory show.
-use Rattle.std.specs.Prelude.{◌≡◌, ℕ, ◌+◌, ◌<◌, ◌≤◌, ◌^◌, [], ◌∷◌, ◌++◌, length, slice_index_or, Option, Some, None}
+use Rattle.std.specs.Prelude.{◌≡◌, ◌≢◌, ℕ, ℤ, ◌+◌, ◌<◌, ◌≤◌, ◌^◌, Bool, true, false, List, [], ◌∷◌, ◌++◌, length, slice_index_or, Option, Some, None}
 use Rattle.hdfs_wire.specs.declared.ack.Ack.{Ack}
 use Rattle.hdfs_wire.specs.Outgoing.{Outgoing}
 use Rattle.hdfs_model.specs.declared.picture.OpenRead.{OpenRead}
 use Rattle.hdfs_model.specs.declared.picture.OpenWrite.{OpenWrite}
 use Rattle.hdfs_model.specs.declared.picture.ReadPlace.{ReadPlace}
 use Rattle.hdfs_model.specs.Reading.{moved_on}
-use Rattle.hdfs_model.specs.Sending.{WritePlace}
+use Rattle.hdfs_model.specs.Sending.{WritePlace, seqno_of, uuids}
+use Rattle.hdfs_faults.specs.declared.fault_plan.FaultPlan.{FaultPlan}
+use Rattle.hdfs_faults.specs.Plans.{fails_at, Counts, SameLinks, TakesAck}
+use Rattle.hdfs_faults.specs.Series.{sends_to}
 use Rattle.hdfs_cluster.specs.declared.datanodes.Datanodes.{Datanodes}
 use Rattle.hdfs_cluster.specs.declared.mem_link.MemLink.{MemLink}
 use Rattle.hdfs_cluster.specs.declared.mem_link.MemLink.TheVariants as links
 use Rattle.hdfs_cluster.specs.declared.read_link.MemRead.{MemRead}
 use Rattle.hdfs_cluster.specs.declared.write_link.MemWrite.{MemWrite}
 use Rattle.hdfs_cluster.specs.Nodes.{SameHeld}
-use Rattle.hdfs_cluster.specs.Writes.{told_of, place_of, ack_of, SameWrite, PutsPacket}
+use Rattle.hdfs_cluster.specs.Telling.{GoesOn, TellsAll}
+use Rattle.hdfs_cluster.specs.Writes.{told_of, place_of, SameWrite, PutsPacket}
 
 -- what is told of a read link
 abbrev pub read_told : Option MemLink → Option OpenRead
@@ -85,21 +89,48 @@ pub record UnsentOn (nodes nodes' : Datanodes) (old new : MemWrite) : Type 0 whe
   pub sent : new.sent.items ≡ old.sent.items
   pub held : SameHeld nodes nodes'
 
+-- the first datanode of a link
+abbrev pub first_uuid : MemWrite → List ℕ
+first_uuid write = slice_index_or (uuids write.setup.locs) 0 []
+
+-- a packet was sent and counted; or the connection broke, and nothing is seen to change of what is held
+abbrev pub SendsOn : ℕ → Outgoing → Bool → Datanodes → Datanodes → FaultPlan → FaultPlan → MemWrite → MemWrite → Type 0
+SendsOn link packet false nodes nodes' faults faults' old new =
+    SentOn link packet nodes nodes' old new × Counts faults (sends_to (first_uuid old)) false faults'
+SendsOn link packet true nodes nodes' faults faults' old new =
+    UnsentOn nodes nodes' old new × Counts faults (sends_to (first_uuid old)) true faults'
+
 -- a packet waits for its acknowledgement
 abbrev pub IsDueOn : MemWrite → Type 0
 IsDueOn write = write.acknowledged < length write.sent.items
 
--- its oldest one is acknowledged
-pub record AckedOn (ack : Ack) (old new : MemWrite) : Type 0 where
+-- the seqno of the packet that is due
+abbrev pub due_of : MemWrite → Outgoing → ℤ
+due_of write d = seqno_of (slice_index_or write.sent.items write.acknowledged d)
+
+-- An acknowledgement with this seqno is that of the packet that is due, which is acknowledged; or a bad one, and nothing is.
+pub record TakesSeqno (bad : Bool) (seqno : ℤ) (old new : MemWrite) : Type 0 where
   pub setup : new.setup ≡ old.setup
   pub base : new.base ≡ old.base
   pub sent : new.sent ≡ old.sent
-  pub acknowledged : new.acknowledged ≡ old.acknowledged + 1
-  pub is : (d : Outgoing) → ack ≡ ack_of old.setup (slice_index_or old.sent.items old.acknowledged d)
+  pub taken : bad ≡ false → ((d : Outgoing) → seqno ≡ due_of old d) × (new.acknowledged ≡ old.acknowledged + 1)
+  pub left : bad ≡ true → ((d : Outgoing) → seqno ≢ due_of old d) × (new.acknowledged ≡ old.acknowledged)
 
--- none is
+-- an acknowledgement came: all datanodes were told of it, and it may be bad
+pub record AckedOn (link : ℕ) (ack : Ack) (faults faults' : FaultPlan) (old new : MemWrite) : Type 0 where
+  pub told : FaultPlan
+  pub tells : TellsAll (fails_at faults) faults (uuids old.setup.locs) ack.replies told
+  pub goes_on : GoesOn faults told
+  pub links : SameLinks faults told
+  pub bad : Bool
+  pub takes : TakesAck told link bad faults'
+  pub seqno : TakesSeqno bad ack.seqno old new
+  pub responses : new.responses.items ≡ old.responses.items ++ ack ∷ []
+
+-- none did
 pub record UnackedOn (old new : MemWrite) : Type 0 where
   pub setup : new.setup ≡ old.setup
   pub base : new.base ≡ old.base
   pub sent : new.sent ≡ old.sent
+  pub responses : new.responses.items ≡ old.responses.items
   pub acknowledged : new.acknowledged ≡ old.acknowledged

@@ -1,19 +1,14 @@
 -- How the parts of the cluster in memory are seen.
-use Rattle.std.specs.Prelude.{◌≡◌, ℕ, ◌+◌, ◌^◌, zero, suc, nat_lt, ◌==◌, Bool, true, false, ◌&&◌, ◌||◌, List, [], ◌∷◌, ◌++◌, length, slice_index, Option, Some, None, is_none, count_by, codes, String, string_bytes, if◌then◌else◌}
-use Rattle.std.specs.List.{list_all, list_any}
+use Rattle.std.specs.Prelude.{◌≡◌, ℕ, ◌+◌, ◌^◌, nat_lt, ◌==◌, Bool, true, false, ◌&&◌, ◌||◌, List, [], ◌∷◌, length, slice_index, Option, Some, None, is_none, codes, String, string_bytes}
+use Rattle.std.specs.List.{list_all}
 use Rattle.std.specs.Map.{lookup}
 use Rattle.std.specs.Ordering.{nat_cmp}
 use Rattle.std.specs.Str.{bytes_eq}
 use Rattle.std.specs.BTreeMap.{is_at}
-use Rattle.std.specs.Fmt.{decimal}
 use Rattle.hdfs_model.specs.declared.attributes.Attributes.{Attributes}
 use Rattle.hdfs_model.specs.declared.picture.Entry.{Entry}
 use Rattle.hdfs_model.specs.declared.picture.Entry.TheVariants as entries
 use Rattle.hdfs_model.specs.declared.picture.BlockEntry.{BlockEntry}
-use Rattle.hdfs_model.specs.declared.store.Line.{Line}
-use Rattle.hdfs_model.specs.declared.store.Line.TheVariants as lines
-use Rattle.hdfs_model.specs.declared.store.FaultLine.{FaultLine}
-use Rattle.hdfs_model.specs.declared.store.FaultLine.TheVariants as fault_lines
 use Rattle.hdfs_model.specs.Paths.{root, is_path, ancestors, parent_of}
 use Rattle.hdfs_model.specs.Effects.{blocks_at}
 use Rattle.hdfs_model.specs.Limits.{in_limits}
@@ -66,10 +61,13 @@ is_dir (Some (entries.File file)) = false
 abbrev pub is_placed : (List ℕ → Option Entry) → List ℕ → Bool
 is_placed names path = is_none (names path) || (is_path path && list_all (λ ancestor. is_dir (names ancestor)) (ancestors path))
 
--- whether a file is taken: at a new path below a directory, within the limits
+-- nothing stands at the path, whose parent is a directory
+abbrev pub is_free_at : (List ℕ → Option Entry) → List ℕ → Bool
+is_free_at names path = is_path path && is_none (names path) && is_dir (names (parent_of path))
+
+-- whether a file is taken: at a free path, within the limits
 abbrev pub accepts : (List ℕ → Option Entry) → List ℕ → Attributes → ℕ → Bool
-accepts names path attributes count =
-    is_path path && is_none (names path) && is_dir (names (parent_of path)) && in_limits attributes count
+accepts names path attributes count = is_free_at names path && in_limits attributes count
 
 -- the root is all that is named
 abbrev pub is_bare : {A : Type 0} → List (String A × Entry) → Bool
@@ -91,41 +89,6 @@ abbrev pub is_nil : {X : Type 0} → List X → Bool
 is_nil [] = true
 is_nil (x ∷ xs) = false
 
--- the uuid of a datanode by its number
-abbrev pub uuid_of : ℕ → List ℕ
-uuid_of number = codes "dn" ++ decimal number
-
 -- the uuid of the datanode that holds the blocks
 abbrev pub first_node : List ℕ
 first_node = codes "dn0"
-
--- of the first so many packets, how many break
-abbrev pub failed : (ℕ → Bool) → ℕ → ℕ
-failed breaks zero = 0
-failed breaks (suc n) = failed breaks n + (if breaks (suc n) then 1 else 0)
-
--- the number of the datanode that a fault is of
-abbrev pub node_of : FaultLine → ℕ
-node_of (fault_lines.ReadOf node nth kind) = node
-
--- the number of the packet that it breaks
-abbrev pub nth_of : FaultLine → ℕ
-nth_of (fault_lines.ReadOf node nth kind) = nth
-
--- the line is one with a fault of this datanode
-abbrev pub is_fault_of : List ℕ → Line → Bool
-is_fault_of uuid (lines.File path attributes bytes) = false
-is_fault_of uuid (lines.Fault fault) = bytes_eq (uuid_of (node_of fault)) uuid
-
--- the line breaks this packet of this datanode
-abbrev pub breaks_at : List ℕ → ℕ → Line → Bool
-breaks_at uuid packet (lines.File path attributes bytes) = false
-breaks_at uuid packet (lines.Fault fault) = bytes_eq (uuid_of (node_of fault)) uuid && (nth_of fault == packet)
-
--- one of the lines breaks this packet of this datanode
-abbrev pub breaks : List Line → List ℕ → ℕ → Bool
-breaks loaded uuid packet = list_any (breaks_at uuid packet) loaded
-
--- how many of the lines are faults of this datanode
-abbrev pub fault_count : List Line → List ℕ → ℕ
-fault_count loaded uuid = count_by (is_fault_of uuid) loaded

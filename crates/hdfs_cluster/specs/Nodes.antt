@@ -1,8 +1,7 @@
 -- What the datanodes of a cluster in memory show.
-use Rattle.std.specs.Prelude.{◌≡◌, ℕ, ◌+◌, ◌-◌, ◌^◌, ◌<◌, ◌≤◌, min, Bool, false, List, Option, Some, None, IsSome, is_some, ◌&&◌, ◌==◌, if◌then◌else◌}
+use Rattle.std.specs.Prelude.{◌≡◌, ℕ, Bool, true, List, Option, Some, None, is_some, ◌&&◌, ◌==◌}
 use Rattle.std.specs.Ordering.{nat_cmp}
 use Rattle.std.specs.BTreeMap.{get, get_by_text}
-use Rattle.std.specs.BTreeSet.{contains}
 use Rattle.std.specs.List.{list_any}
 use Rattle.std.specs.Str.{bytes_eq}
 use Rattle.hdfs_model.specs.declared.messages.DatanodeInfo.{DatanodeInfo}
@@ -11,25 +10,10 @@ use Rattle.hdfs_cluster.specs.declared.datanodes.Datanodes.{Datanodes}
 use Rattle.hdfs_cluster.specs.declared.replica.Replica.{Replica}
 use Rattle.hdfs_cluster.specs.Replicas.{held_by, whole_by, undisturbed_by, SameReplica}
 
--- how often a datanode has failed; one that isn't there never has
-abbrev pub faults_of : Option Datanode → ℕ
-faults_of None = 0
-faults_of (Some node) = node.faults
-
 -- its replica of a block
 abbrev pub replica_in : Option Datanode → ℕ → Option Replica
 replica_in None block = None
 replica_in (Some node) block = get nat_cmp node.blocks block
-
--- whether this packet of it breaks
-abbrev pub breaks_in : Option Datanode → ℕ → Bool
-breaks_in None packet = false
-breaks_in (Some node) packet = contains nat_cmp node.broken packet
-
--- how many packets were asked of it
-abbrev pub packets_of : Option Datanode → ℕ
-packets_of None = 0
-packets_of (Some node) = node.packets
 
 -- the datanode with this uuid
 abbrev pub node_at : Datanodes → List ℕ → Option Datanode
@@ -71,35 +55,12 @@ SameReplicas old new = (block : ℕ) → replica_in new block ≡ replica_in old
 abbrev pub SameHeld : Datanodes → Datanodes → Type 0
 SameHeld old new = (d : List ℕ) (block : ℕ) → SameReplica (replica_at old d block) (replica_at new d block)
 
--- it is there, has failed as often, was asked for as many packets, and the same packets of it break
-pub record SameFaults (old new : Option Datanode) : Type 0 where
-  pub there : is_some new ≡ is_some old
-  pub faults : faults_of new ≡ faults_of old
-  pub packets : packets_of new ≡ packets_of old
-  pub breaks : (packet : ℕ) → breaks_in new packet ≡ breaks_in old packet
-
--- no datanode has failed or was asked for a packet, and those that are there stay
+-- the same datanodes are there
 pub record SameNodes (old new : Datanodes) : Type 0 where
-  pub faults : (d : List ℕ) → SameFaults (node_at old d) (node_at new d)
+  pub there : (d : List ℕ) → is_some (node_at new d) ≡ is_some (node_at old d)
   pub count : new.count ≡ old.count
 
--- a fault was planned: it is there, holds the same, has failed as often, and was asked for as many packets
-pub record PlansOnly (old new : Option Datanode) : Type 0 where
-  pub there : is_some new ≡ is_some old
+-- a datanode may have come where there was none: it holds nothing
+pub record Joins (old new : Option Datanode) : Type 0 where
+  pub there : is_some old ≡ true → is_some new ≡ true
   pub replicas : SameReplicas old new
-  pub faults : faults_of new ≡ faults_of old
-  pub packets : packets_of new ≡ packets_of old
-
--- packets were asked for: it is there, holds the same, was asked for no fewer packets, and the same packets of it break
-pub record CountsOnly (old new : Option Datanode) : Type 0 where
-  pub there : is_some new ≡ is_some old
-  pub replicas : SameReplicas old new
-  pub packets : packets_of old ≤ packets_of new
-  pub breaks : (packet : ℕ) → breaks_in new packet ≡ breaks_in old packet
-
--- The next packet was asked for: it is counted where the datanode is there, breaks exactly where that was planned, and the
--- datanode has then failed once more. Packets from number 2^64 on are not counted, and don't break.
-pub record Asked (old : Option Datanode) (broke : Bool) (new : Option Datanode) : Type 0 where
-  pub packets : IsSome old → packets_of new ≡ min (packets_of old + 1) (2 ^ 64 - 1)
-  pub breaks : packets_of old + 1 < 2 ^ 64 → broke ≡ breaks_in old (packets_of old + 1)
-  pub faults : faults_of new ≡ faults_of old + (if broke then 1 else 0)

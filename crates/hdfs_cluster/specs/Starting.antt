@@ -3,7 +3,7 @@ use Rattle.std.specs.Prelude.{◌≡◌, ℕ, List, [], Some, None}
 use Rattle.hdfs_model.specs.declared.picture.LastAnswer.TheVariants as last_answers
 use Rattle.hdfs_model.specs.Picture.{Picture}
 use Rattle.hdfs_model.specs.Shown.{Shown}
-use Rattle.hdfs_cluster.specs.declared.mem_settings.MemSettings.{MemSettings}
+use Rattle.hdfs_model.specs.declared.mem_settings.MemSettings.{MemSettings}
 
 -- it has the namenodes and the defaults of its settings, and nothing was asked of it, read or loaded, or has failed
 pub record Starts (settings : MemSettings) (shown : Shown) : Type 0 where
@@ -19,7 +19,7 @@ pub record Starts (settings : MemSettings) (shown : Shown) : Type 0 where
   pub last : shown.last ≡ last_answers.Fine
   pub no_read : (link : ℕ) → shown.reads link ≡ None
   pub no_write : (link : ℕ) → shown.writes link ≡ None
-  pub no_line : shown.loaded ≡ []
+  pub no_line : shown.loaded ≡ record { settings = Some settings; lines = [] }
   pub calls : (i : ℕ) → shown.counts.calls i ≡ 0
   pub links : shown.counts.links ≡ 0
   pub nodes : (d : List ℕ) → shown.counts.nodes d ≡ 0

@@ -1,5 +1,5 @@
 -- What a write link of a cluster in memory shows.
-use Rattle.std.specs.Prelude.{◌≡◌, ℕ, ◌==◌, ◌&&◌, Bool, not, List, [], ◌∷◌, length, map, take, drop, replicate, slice_index_or, Option, Some, None, if◌then◌else◌}
+use Rattle.std.specs.Prelude.{◌≡◌, ℕ, ◌==◌, ◌&&◌, Bool, not, List, [], ◌∷◌, length, map, drop, slice_index_or, Option, Some, None, if◌then◌else◌}
 use Rattle.hdfs_wire.specs.declared.ack.Ack.{Ack}
 use Rattle.hdfs_wire.specs.Outgoing.{Outgoing}
 use Rattle.hdfs_model.specs.declared.messages.Setup.{Setup}
@@ -14,10 +14,6 @@ abbrev pub last_end : Option ℕ → List Outgoing → Option ℕ
 last_end end [] = end
 last_end end (packet ∷ packets) = last_end (Some (end_of packet)) packets
 
--- the acknowledgement of a packet by the datanodes of a set-up: status 0 of each
-abbrev pub ack_of : Setup → Outgoing → Ack
-ack_of setup packet = record { seqno = seqno_of packet; replies = replicate (length setup.locs) 0 }
-
 -- what is told of a link with this set-up, these sent packets and so many of them acknowledged
 abbrev pub told_at : Setup → List Outgoing → ℕ → OpenWrite
 told_at setup sent acknowledged = record { setup = setup; end = last_end None sent; waiting = map seqno_of (drop acknowledged sent) }
@@ -27,13 +23,13 @@ abbrev pub told_of : MemWrite → OpenWrite
 told_of write = told_at write.setup write.sent.items write.acknowledged
 
 -- what the picture shows of it: each datanode takes each packet at once
-abbrev pub place_at : (ℕ → Bool) → Setup → List (List ℕ) → List Outgoing → ℕ → WritePlace
-place_at disturbed setup base sent acknowledged = record {
+abbrev pub place_at : (ℕ → Bool) → Setup → List (List ℕ) → List Outgoing → List Ack → ℕ → WritePlace
+place_at disturbed setup base sent responses acknowledged = record {
   block = setup.block.block_id;
   nodes = uuids setup.locs;
   base = λ i. slice_index_or base i [];
   sent = sent;
-  responses = map (λ packet. Came (ack_of setup packet)) (take acknowledged sent);
+  responses = map Came responses;
   acknowledged = acknowledged;
   received = λ i. length sent;
   disturbed = disturbed;
@@ -45,12 +41,14 @@ disturbed_at nodes link setup i = not (undisturbed_in nodes (slice_index_or (uui
 
 -- what the picture shows of a link
 abbrev pub place_of : Datanodes → ℕ → MemWrite → WritePlace
-place_of nodes link write = place_at (λ i. disturbed_at nodes link write.setup i) write.setup write.base.items write.sent.items write.acknowledged
+place_of nodes link write =
+    place_at (λ i. disturbed_at nodes link write.setup i) write.setup write.base.items write.sent.items write.responses.items write.acknowledged
 
 -- the same link, but for its packets
 pub record SameWrite (old new : MemWrite) : Type 0 where
   pub setup : new.setup ≡ old.setup
   pub base : new.base ≡ old.base
+  pub responses : new.responses.items ≡ old.responses.items
   pub acknowledged : new.acknowledged ≡ old.acknowledged
 
 -- a packet of the link was put over what its datanodes hold of its block, and disturbed all other links there

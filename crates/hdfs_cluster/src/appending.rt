@@ -38,7 +38,7 @@ fn is_whole(
     if uuids.len() != 1 {
         return Ok(false);
     }
-    let (bytes, _faults) = nodes.read(alloc, uuids[0].as_str(), id)?;
+    let bytes = nodes.read(alloc, uuids[0].as_str(), id)?;
     Ok(bytes.as_slice().len() as u64 == entry.length)
 }
 

@@ -1,7 +1,9 @@
 //! The calls of the cluster in memory.
-ghost use Rattle.std.specs.Prelude.{◌≡◌, false, IfOk, IfErr, IfSome, IsSome, OnOk};
+ghost use Rattle.std.specs.Prelude.{◌≡◌, false, IfOk, IfErr, IfSome, IsSome, OnOk, OnErr};
+ghost use Rattle.hdfs_model.specs.Picture.{SamePicture};
 ghost use Rattle.hdfs_model.specs.Pipes.{IsSetup, WriteOpened, WriteNotOpened, FollowsOn, Sent, NotSent, IsAwaited, Acknowledged, NotAcknowledged, WriteEnded};
 ghost use Rattle.hdfs_model.specs.Shown.{Opened, NotOpened, Given, NotGiven, Ended};
+ghost use Rattle.hdfs_cluster.specs.Failures.{planned_failure};
 
 use crate::mem_cluster::MemCluster;
 use crate::mem_link::MemLink;
@@ -10,12 +12,25 @@ use crate::read_link::{MemRead, next_packet, opened};
 use crate::responding::respond;
 use crate::write_link::MemWrite;
 use hdfs_model::{
-    Answer, Ask, AskFault, Cluster, LastAnswer, LinkFault, OpenRead, ReadAsk, ReadPlace, Setup,
+    Answer, Ask, AskFault, Cluster, LastAnswer, LinkFault, LinkKind, ReadAsk, ReadPlace, Setup,
 };
 use hdfs_wire::{Ack, NoMemory, ReadPacket, WritePacket};
 
+/// How a set-up fails that is planned so. One with a bad acknowledgement to come doesn't.
+fn failure(kind: Option<LinkKind>) -> Option<LinkFault>
+    ensures { result ≡ planned_failure kind }
+{
+    match kind {
+        Some(LinkKind::Broken) => Some(LinkFault::Broken),
+        Some(LinkKind::Refused) => Some(LinkFault::Refused),
+        Some(LinkKind::BadAck) => None,
+        None => None,
+    }
+}
+
 impl Cluster for MemCluster {
-    ghost use Rattle.hdfs_cluster.specs.MemShown.{shown_of, MemServes, CountsNothing, AsksPacket};
+    ghost use Rattle.hdfs_cluster.specs.Counting.{MemServes, CountsNothing, AsksPacket, AsksSend, AsksSetUp, AsksAck};
+    ghost use Rattle.hdfs_cluster.specs.MemShown.{shown_of, picture_of};
     ghost use Rattle.hdfs_cluster.specs.Laws.{active_law, sound_law, writes_law};
 
     ghost shown = { shown_of };
@@ -27,7 +42,7 @@ impl Cluster for MemCluster {
     ghost serves_rows = { λ old new i ask result serves. serves.served };
 
     fn namenodes(&self) -> u32 {
-        self.config.namenodes
+        self.config.settings.namenodes
     }
 
     fn ask(&mut self, i: u32, ask: &Ask) -> Result<Answer, AskFault> {
@@ -57,8 +72,8 @@ impl Cluster for MemCluster {
         ensures counted { CountsNothing self.old self.new }
     {
         let uuid = ask.node.datanode_uuid.as_str();
-        let (base, before) = self.nodes.read(self.alloc, uuid, ask.block.block_id)?;
-        let told = opened(self.alloc, ask, before)?;
+        let base = self.nodes.read(self.alloc, uuid, ask.block.block_id)?;
+        let told = opened(self.alloc, ask, self.faults.node_faults(uuid))?;
         let chunk_start = ask.offset - ask.offset % self.config.chunk;
         let place = chunk_start.min(base.as_slice().len() as u64);
         let link = self.links.insert(MemLink::Read(MemRead {
@@ -80,16 +95,13 @@ impl Cluster for MemCluster {
         ensures err { IfErr result (λ fault. NotGiven (shown_of self.old) link fault (shown_of self.new)) }
 
         // A fault line acts at exactly its packet.
-        ensures asks { IfSome ((shown_of self.old).reads link) (λ read. AsksPacket self.old self.new read.node.datanode_uuid result) }
+        ensures asks { IfSome ((shown_of self.old).reads link) (λ read. AsksPacket self.old read.node.datanode_uuid result self.new) }
     {
         let Some(MemLink::Read(read)) = self.links.get(link as usize) else {
             unreachable!();
         };
         let packet = next_packet(&read.place, self.config.limit)?;
-        if self
-            .nodes
-            .count_packet(read.told.node.datanode_uuid.as_str())
-        {
+        if self.faults.packet(read.told.node.datanode_uuid.as_str()) {
             return Err(LinkFault::Broken);
         }
         let Some(open) = self.links.get_mut(link as usize) else {
@@ -114,7 +126,9 @@ impl Cluster for MemCluster {
         requires { IsSetup setup }
         ensures ok { IfOk result (λ link. WriteOpened (shown_of self.old) setup link (shown_of self.new)) }
         ensures err { IfErr result (λ fault. WriteNotOpened (shown_of self.old) setup fault (shown_of self.new)) }
-        ensures counted { CountsNothing self.old self.new }
+
+        // A fault line acts at exactly its set-up.
+        ensures asks { AsksSetUp self.old result self.new }
     {
         let key = self.links.vacant_key();
         let locs = setup.locs.as_slice();
@@ -122,20 +136,30 @@ impl Cluster for MemCluster {
             .nodes
             .enter_all(self.alloc, locs, setup.block.block_id, key as u64)?;
         let write = MemWrite::new(self.alloc, setup, base);
-        let link = self.links.insert(MemLink::Write(write))?;
-        Ok(link as u64)
+        self.links.reserve(1)?;
+        self.faults.end(key as u64);
+        let kind = self.faults.set_up(key as u64)?;
+        if let Some(fault) = failure(kind) {
+            return Err(fault);
+        }
+        Ok(self.links.insert_reserved(MemLink::Write(write)) as u64)
     }
 
     fn send(&mut self, link: u64, packet: &WritePacket) -> Result<(), LinkFault>
         requires { FollowsOn (shown_of self.old) link packet.now }
         ensures ok { OnOk result (Sent (shown_of self.old) link packet.now (shown_of self.new)) }
         ensures err { IfErr result (λ fault. NotSent (shown_of self.old) link packet.now fault (shown_of self.new)) }
-        ensures counted { CountsNothing self.old self.new }
+
+        // A fault line acts at exactly its packet.
+        ensures asks { IfSome ((shown_of self.old).writes link) (λ write. AsksSend self.old write result self.new) }
+        ensures unsent { OnErr result (SamePicture (picture_of self.old) (picture_of self.new)) }
     {
         let Some(open) = self.links.get_mut(link as usize) else {
             unreachable!();
         };
-        open.send(self.alloc, &mut self.nodes, link, packet)?;
+        if open.send(self.alloc, &mut self.nodes, &mut self.faults, link, packet)? {
+            return Err(LinkFault::Broken);
+        }
         Ok(())
     }
 
@@ -143,12 +167,15 @@ impl Cluster for MemCluster {
         requires { IsAwaited (shown_of self.old) link }
         ensures ok { IfOk result (λ ack. Acknowledged (shown_of self.old) link ack (shown_of self.new)) }
         ensures err { IfErr result (λ fault. NotAcknowledged (shown_of self.old) link fault (shown_of self.new)) }
-        ensures counted { CountsNothing self.old self.new }
+
+        // A fault line acts at exactly its acknowledgement.
+        ensures asks { IfOk result (λ ack. IfSome ((shown_of self.old).writes link) (λ write. AsksAck self.old link write ack self.new)) }
+        ensures counted { OnErr result (CountsNothing self.old self.new) }
     {
         let Some(open) = self.links.get_mut(link as usize) else {
             unreachable!();
         };
-        Ok(open.ack(self.alloc)?)
+        Ok(open.ack(self.alloc, &mut self.faults, link)?)
     }
 
     fn end_write(&mut self, link: u64)
@@ -157,6 +184,7 @@ impl Cluster for MemCluster {
         ensures ended { WriteEnded (shown_of self.old) link (shown_of self.new) }
         ensures counted { CountsNothing self.old self.new }
     {
+        self.faults.end(link);
         let _gone = self.links.try_remove(link as usize);
     }
 

@@ -1,9 +1,11 @@
 //! How often the objects of a cluster in memory have failed.
 ghost use Rattle.std.specs.Prelude.{◌≡◌, ◌<◌, ◌≤◌, ℕ, List as Items, length, slice_index, IfOk};
-ghost use Rattle.hdfs_cluster.specs.Memory.{fault_count, uuid_of};
+ghost use Rattle.hdfs_faults.specs.Plans.{node_faults_of};
+ghost use Rattle.hdfs_faults.specs.Series.{link_fault_count, node_fault_count, uuid_of};
 
-use crate::datanodes::Datanodes;
+use crate::datanodes::uuid;
 use crate::mem_cluster::MemCluster;
+use hdfs_faults::FaultPlan;
 use hdfs_wire::{List, NoMemory};
 use std::alloc::Global;
 
@@ -24,34 +26,32 @@ fn zeros(alloc: Global, count: u32) -> Result<List<u64>, NoMemory>
     Ok(List::from_vec(vec![in alloc; 0; count as usize]?))
 }
 
-impl Datanodes {
-    ghost use Rattle.hdfs_cluster.specs.Nodes.{node_at, faults_of};
-
-    /// How often each of the first so many datanodes has failed.
-    fn all_faults(&self, alloc: Global, count: u32) -> Result<List<u64>, NoMemory>
-        ensures len { IfOk result (λ all. length all ≡ count) }
-        ensures each { IfOk result (λ all. (k : ℕ) → k < count → slice_index all k ≡ faults_of (node_at self.now (uuid_of k))) }
-    {
-        let mut all = List::new(alloc);
-        for number in 0..count {
-            all.push(self.faults(alloc, number)?)?;
-        }
-        Ok(all)
+/// How often each of the first so many datanodes has failed.
+fn all_faults(alloc: Global, faults: &FaultPlan, count: u32) -> Result<List<u64>, NoMemory>
+    ensures len { IfOk result (λ all. length all ≡ count) }
+    ensures each { IfOk result (λ all. (k : ℕ) → k < count → slice_index all k ≡ node_faults_of faults.now (uuid_of k)) }
+{
+    let mut all = List::new(alloc);
+    for number in 0..count {
+        all.push(faults.node_faults(uuid(alloc, number)?.as_str()))?;
     }
+    Ok(all)
 }
 
 impl MemCluster {
     ghost use Rattle.hdfs_cluster.specs.MemShown.{shown_of, Sees};
 
-    /// How often each object has failed. No datanode has failed more often than faults were loaded for it.
+    /// How often each object has failed. Neither a datanode nor the links have failed more often than faults were loaded for
+    /// them.
     pub fn seen(&self) -> Result<Counts, NoMemory>
         ensures sees { IfOk result (Sees self.now) }
-        ensures planned { (d : Items ℕ) → (shown_of self.now).counts.nodes d ≤ fault_count (shown_of self.now).loaded d }
+        ensures planned { (d : Items ℕ) → (shown_of self.now).counts.nodes d ≤ node_fault_count (shown_of self.now).loaded.lines d }
+        ensures planned_links { (shown_of self.now).counts.links ≤ link_fault_count (shown_of self.now).loaded.lines }
     {
         Ok(Counts {
-            calls: zeros(self.alloc, self.config.namenodes)?,
-            links: 0,
-            nodes: self.nodes.all_faults(self.alloc, self.nodes.count)?,
+            calls: zeros(self.alloc, self.config.settings.namenodes)?,
+            links: self.faults.link_faults(),
+            nodes: all_faults(self.alloc, &self.faults, self.nodes.count)?,
         })
     }
 }

@@ -2,7 +2,8 @@
 ghost use Rattle.std.specs.Prelude.{◌≡◌, ◌≢◌, ◌⊎◌, ◌<◌, ◌==◌, ◌&&◌, ℕ, [], true, false, List, map, IsSome, is_some, string_bytes, OnOk, OnErr, IfOk, if◌then◌else◌};
 ghost use Rattle.std.specs.BTreeMap.{get_by_text};
 ghost use Rattle.hdfs_model.specs.Sending.{put};
-ghost use Rattle.hdfs_cluster.specs.Memory.{first_node, uuid_of};
+ghost use Rattle.hdfs_faults.specs.Series.{uuid_of};
+ghost use Rattle.hdfs_cluster.specs.Memory.{first_node};
 ghost use Rattle.hdfs_cluster.specs.Replicas.{held_by, undisturbed_by};
 
 use crate::datanode::Datanode;
@@ -24,29 +25,52 @@ pub struct Datanodes {
 
 const FIRST_NODE: &str = "dn0";
 
-fn uuid(alloc: Global, number: u32) -> Result<String, NoMemory>
+/// The uuid of a datanode by its number.
+pub(crate) fn uuid(alloc: Global, number: u32) -> Result<String, NoMemory>
     ensures { IfOk result (λ text. string_bytes text ≡ uuid_of number) }
 {
     Ok(format!(in alloc; "dn{number}")?)
 }
 
 impl Datanodes {
-    ghost use Rattle.hdfs_cluster.specs.Nodes.{faults_of, breaks_in, packets_of, node_at, replica_at, held_in, whole_in, undisturbed_in, is_named, is_on, is_here, SameHeld, SameFaults, SameNodes, PlansOnly, CountsOnly, Asked};
+    ghost use Rattle.hdfs_cluster.specs.Nodes.{node_at, replica_at, held_in, whole_in, undisturbed_in, is_named, is_on, is_here, SameHeld, SameNodes, Joins};
 
-    /// So many datanodes that hold nothing and never fail.
+    /// So many datanodes that hold nothing.
     pub(crate) fn new(alloc: Global, count: u32) -> Result<Datanodes, NoMemory>
         requires { 0 < count }
         ensures count { IfOk result (λ nodes. nodes.count ≡ count) }
         ensures held { IfOk result (λ nodes. (d : List ℕ) (block : ℕ) → held_in nodes d block ≡ []) }
-        ensures faults { IfOk result (λ nodes. (d : List ℕ) → faults_of (node_at nodes d) ≡ 0) }
-        ensures packets { IfOk result (λ nodes. (d : List ℕ) → packets_of (node_at nodes d) ≡ 0) }
-        ensures breaks { IfOk result (λ nodes. (d : List ℕ) (packet : ℕ) → breaks_in (node_at nodes d) packet ≡ false) }
     {
         let mut by_uuid = BTreeMap::new(alloc);
         for number in 0..count {
             by_uuid.insert(uuid(alloc, number)?, Datanode::new(alloc))?;
         }
         Ok(Datanodes { by_uuid, count })
+    }
+
+    /// Sees to it that there is a datanode of this number, if only one that holds nothing.
+    fn join(&mut self, alloc: Global, number: u32) -> Result<(), NoMemory>
+        ensures there { OnOk result (is_some (node_at self.new (uuid_of number)) ≡ true) }
+        ensures joins { (d : List ℕ) → Joins (node_at self.old d) (node_at self.new d) }
+        ensures count { self.new.count ≡ self.old.count }
+    {
+        let uuid = uuid(alloc, number)?;
+        if !self.by_uuid.contains_key(uuid.as_str()) {
+            self.by_uuid.insert(uuid, Datanode::new(alloc))?;
+        }
+        Ok(())
+    }
+
+    /// Sees to it that there are so many datanodes. Those that are there stay.
+    pub(crate) fn grow(&mut self, alloc: Global, count: u32) -> Result<(), NoMemory>
+        ensures count { OnOk result (self.new.count ≡ count) }
+        ensures joins { (d : List ℕ) → Joins (node_at self.old d) (node_at self.new d) }
+    {
+        for number in 0..count {
+            self.join(alloc, number)?;
+        }
+        self.count = count;
+        Ok(())
     }
 
     /// Gives the first datanode the bytes of a block.
@@ -131,66 +155,15 @@ impl Datanodes {
         }
     }
 
-    /// Notes that a packet of a datanode breaks. A packet that was given already cannot, nor can one of a datanode that
-    /// isn't there.
-    pub(crate) fn plan(&mut self, alloc: Global, number: u32, nth: u64) -> Result<(), NoMemory>
-        ensures planned { OnOk result (IsSome (node_at self.old (uuid_of number))
-            → packets_of (node_at self.old (uuid_of number)) < nth
-            → breaks_in (node_at self.new (uuid_of number)) nth ≡ true) }
-        ensures others { (d : List ℕ) (packet : ℕ) → breaks_in (node_at self.new d) packet ≡ true
-            → (breaks_in (node_at self.old d) packet ≡ true) ⊎ ((d ≡ uuid_of number) × (packet ≡ nth)) }
-        ensures failed { OnErr result ((d : List ℕ) (packet : ℕ)
-            → breaks_in (node_at self.new d) packet ≡ breaks_in (node_at self.old d) packet) }
-        ensures kept { (d : List ℕ) (packet : ℕ) → breaks_in (node_at self.old d) packet ≡ true
-            → breaks_in (node_at self.new d) packet ≡ true }
-        ensures rest { (d : List ℕ) → PlansOnly (node_at self.old d) (node_at self.new d) }
-        ensures count { self.new.count ≡ self.old.count }
-    {
-        let uuid = uuid(alloc, number)?;
-        let Some(node) = self.by_uuid.get_mut(uuid.as_str()) else {
-            return Ok(());
-        };
-        node.plan(nth)
-    }
-
-    /// Counts a packet of a datanode, and says whether it breaks.
-    pub(crate) fn count_packet(&mut self, uuid: &str) -> bool
-        ensures asked { Asked (node_at self.old uuid.now) result (node_at self.new uuid.now) }
-        ensures others { (d : List ℕ) → d ≢ uuid.now → node_at self.new d ≡ node_at self.old d }
-        ensures rest { (d : List ℕ) → CountsOnly (node_at self.old d) (node_at self.new d) }
-        ensures count { self.new.count ≡ self.old.count }
-    {
-        match self.by_uuid.get_mut(uuid) {
-            Some(node) => node.count_packet(),
-            None => false,
-        }
-    }
-
-    /// The bytes that a datanode holds of a block, and how often it has failed.
-    pub(crate) fn read(
-        &mut self,
-        alloc: Global,
-        uuid: &str,
-        block: u64,
-    ) -> Result<(Bytes, u64), NoMemory>
-        ensures bytes { IfOk result (λ r. r.0 ≡ held_in self.old uuid.now block) }
-        ensures faults { IfOk result (λ r. r.1 ≡ faults_of (node_at self.old uuid.now)) }
+    /// The bytes that a datanode holds of a block.
+    pub(crate) fn read(&mut self, alloc: Global, uuid: &str, block: u64) -> Result<Bytes, NoMemory>
+        ensures bytes { IfOk result (λ bytes. bytes ≡ held_in self.old uuid.now block) }
         ensures same { SameHeld self.old self.new }
         ensures rest { SameNodes self.old self.new }
     {
         match self.by_uuid.get_mut(uuid) {
-            Some(node) => Ok((node.read(alloc, block)?, node.faults)),
-            None => Ok((Bytes::new(), 0)),
-        }
-    }
-
-    /// How often a datanode has failed, by its number.
-    pub(crate) fn faults(&self, alloc: Global, number: u32) -> Result<u64, NoMemory>
-        ensures { IfOk result (λ faults. faults ≡ faults_of (node_at self.now (uuid_of number))) }
-    {
-        match self.by_uuid.get(uuid(alloc, number)?.as_str()) {
-            Some(node) => Ok(node.faults),
-            None => Ok(0),
+            Some(node) => node.read(alloc, block),
+            None => Ok(Bytes::new()),
         }
     }
 }

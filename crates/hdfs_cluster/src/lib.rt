@@ -7,36 +7,30 @@ mod as_cluster;
 mod as_store;
 mod blocks;
 mod closing;
+mod config;
 mod counts;
 mod creating;
 mod datanode;
 mod datanodes;
 mod loaded;
+mod loading;
 mod mem_cluster;
 mod mem_link;
-mod mem_settings;
 mod namenode;
 mod namespace;
 mod pipeline;
-#[cfg(test)]
-mod pipeline_tests;
 mod read_link;
 mod replica;
 mod responding;
 mod storing;
-#[cfg(test)]
-mod tests;
 mod write_link;
-#[cfg(test)]
-mod writing_tests;
 
 pub use counts::Counts;
 pub use hdfs_model::{
     AddFault, Answer, Appended, ArgFault, Ask, AskFault, Attributes, Block, BlockEntry, Cluster,
     Command, DatanodeId, DatanodeInfo, Entry, Fault, FaultLine, FileEntry, FileStatusMsg,
-    HdfsError, LastAnswer, Line, LinkFault, LocatedBlock, LocatedBlocks, OpenRead, OpenWrite,
-    ReadAsk, ReadKind, ReadPlace, Reply, ServerDefaults, Settings, Setup, Stage, Store, Token,
-    TransferFault, is_path, nearest_ancestor, parent_of,
+    HdfsError, LastAnswer, Line, LinkFault, LinkKind, LocatedBlock, LocatedBlocks, MemSettings,
+    OpenRead, OpenWrite, ReadAsk, ReadKind, ReadPlace, Reply, ServerDefaults, Settings, Setup,
+    Stage, Store, Token, TransferFault, is_path, nearest_ancestor, parent_of,
 };
 pub use mem_cluster::MemCluster;
-pub use mem_settings::MemSettings;

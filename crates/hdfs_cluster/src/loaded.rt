@@ -6,6 +6,9 @@ use hdfs_wire::Text;
 /// A line that was loaded. The bytes of a file are shared with the datanode that holds them.
 #[derive(Drop)]
 pub enum Kept {
+    Dir {
+        path: Text,
+    },
     File {
         path: Text,
         attributes: Attributes,

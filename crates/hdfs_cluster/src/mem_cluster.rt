@@ -1,23 +1,24 @@
 //! A cluster in memory, and how it is made.
-ghost use Rattle.std.specs.Prelude.{◌≡◌, ◌<◌, ℕ, List, true, is_some, map, IfOk};
+ghost use Rattle.std.specs.Prelude.{◌≡◌, true, map, IfOk};
 ghost use Rattle.hdfs_model.specs.Files.{empty_state};
+ghost use Rattle.hdfs_model.specs.Loading.{AreValid};
 ghost use Rattle.hdfs_model.specs.Sessions.{Fits};
+ghost use Rattle.hdfs_faults.specs.Following.{Follows};
 ghost use Rattle.hdfs_cluster.specs.Lines.{line_of};
-ghost use Rattle.hdfs_cluster.specs.Memory.{breaks};
-ghost use Rattle.hdfs_cluster.specs.Settings.{AreValid};
-ghost use Rattle.hdfs_cluster.specs.Nodes.{node_at, breaks_in, packets_of};
 
+use crate::config::Config;
 use crate::datanodes::Datanodes;
 use crate::loaded::Kept;
 use crate::mem_link::MemLink;
-use crate::mem_settings::{Config, MemSettings};
 use crate::namespace::Namespace;
-use hdfs_model::LastAnswer;
+use hdfs_faults::FaultPlan;
+use hdfs_model::{LastAnswer, MemSettings};
 use hdfs_wire::NoMemory;
 use slab::Slab;
 use std::alloc::Global;
 
-/// A cluster in memory: files, the datanodes that hold their blocks, and the faults that were loaded for these.
+/// A cluster in memory: files, the datanodes that hold their blocks, the open links, and which calls fail by the lines that
+/// were loaded.
 #[derive(Drop)]
 pub struct MemCluster {
     pub(crate) alloc: Global,
@@ -26,15 +27,14 @@ pub struct MemCluster {
     pub(crate) space: Namespace,
     pub(crate) nodes: Datanodes,
     pub(crate) links: Slab<MemLink>,
+    pub(crate) faults: FaultPlan,
     pub(crate) loaded: Vec<Kept>,
-    ghost planned: { (d : List ℕ) (packet : ℕ) → breaks_in (node_at nodes d) packet ≡ true
-        → breaks (map line_of loaded.items) d packet ≡ true },
-    ghost acts: { (d : List ℕ) (packet : ℕ) → is_some (node_at nodes d) ≡ true → packets_of (node_at nodes d) < packet
-        → breaks (map line_of loaded.items) d packet ≡ true → breaks_in (node_at nodes d) packet ≡ true },
+    ghost follows: { Follows faults (map line_of loaded.items) },
 }
 
 impl MemCluster {
-    ghost use Rattle.hdfs_cluster.specs.MemShown.{shown_of, nodes_of, is_fresh_of, AskedNothing};
+    ghost use Rattle.hdfs_cluster.specs.Counting.{AskedNothing};
+    ghost use Rattle.hdfs_cluster.specs.MemShown.{shown_of, nodes_of, is_fresh_of};
     ghost use Rattle.hdfs_cluster.specs.Starting.{Starts};
 
     /// A cluster with the root directory alone, that has never failed.
@@ -48,11 +48,12 @@ impl MemCluster {
     {
         Ok(MemCluster {
             alloc,
-            config: Config::new(&settings),
+            config: Config::new(settings),
             last: LastAnswer::Fine,
             space: Namespace::new(alloc)?,
             nodes: Datanodes::new(alloc, settings.nodes)?,
             links: Slab::new(alloc),
+            faults: FaultPlan::new(alloc, settings.nodes)?,
             loaded: Vec::new(alloc),
         })
     }

@@ -1,9 +1,10 @@
 //! The links of a cluster in memory.
-ghost use Rattle.std.specs.Prelude.{◌≡◌, ◌+◌, ◌<◌, ◌≤◌, ◌^◌, length, IfOk, OnOk, OnErr};
+ghost use Rattle.std.specs.Prelude.{◌≡◌, ◌+◌, ◌<◌, ◌≤◌, ◌^◌, length, IfOk, OnErr};
 
 use crate::datanodes::Datanodes;
 use crate::read_link::MemRead;
 use crate::write_link::MemWrite;
+use hdfs_faults::FaultPlan;
 use hdfs_wire::{Ack, NoMemory, WritePacket};
 use std::alloc::Global;
 
@@ -15,7 +16,7 @@ pub enum MemLink {
 }
 
 impl MemLink {
-    ghost use Rattle.hdfs_cluster.specs.Links.{OnRead, OnReads, OnWrite, OnWrites, CanMoveOn, MovedOn, IsDueOn, SentOn, UnsentOn, AckedOn, UnackedOn};
+    ghost use Rattle.hdfs_cluster.specs.Links.{OnRead, OnReads, OnWrite, OnWrites, CanMoveOn, MovedOn, IsDueOn, SendsOn, UnsentOn, AckedOn, UnackedOn};
     ghost use Rattle.hdfs_cluster.specs.Nodes.{SameNodes};
 
     /// Moves the place of a read on by so many bytes.
@@ -29,33 +30,40 @@ impl MemLink {
         }
     }
 
-    /// Sends a packet on a pipeline.
+    /// Sends a packet on a pipeline, and says whether the connection breaks.
     pub(crate) fn send(
         &mut self,
         alloc: Global,
         nodes: &mut Datanodes,
+        faults: &mut FaultPlan,
         link: u64,
         packet: &WritePacket,
-    ) -> Result<(), NoMemory>
+    ) -> Result<bool, NoMemory>
         requires { OnWrite (λ write. Unit {0}) self.old }
-        ensures ok { OnOk result (OnWrites (SentOn link packet.now nodes.old nodes.new) self.old self.new) }
-        ensures err { OnErr result (OnWrites (UnsentOn nodes.old nodes.new) self.old self.new) }
+        ensures ok { IfOk result (λ broke. OnWrites (SendsOn link packet.now broke nodes.old nodes.new faults.old faults.new)
+            self.old self.new) }
+        ensures err { OnErr result (OnWrites (UnsentOn nodes.old nodes.new) self.old self.new × (faults.new ≡ faults.old)) }
         ensures rest { SameNodes nodes.old nodes.new }
     {
         match self {
-            MemLink::Write(write) => write.send(alloc, nodes, link, packet),
+            MemLink::Write(write) => write.send(alloc, nodes, faults, link, packet),
             MemLink::Read(_) => unreachable!(),
         }
     }
 
     /// The next acknowledgement of a pipeline.
-    pub(crate) fn ack(&mut self, alloc: Global) -> Result<Ack, NoMemory>
+    pub(crate) fn ack(
+        &mut self,
+        alloc: Global,
+        faults: &mut FaultPlan,
+        link: u64,
+    ) -> Result<Ack, NoMemory>
         requires { OnWrite IsDueOn self.old }
-        ensures ok { IfOk result (λ ack. OnWrites (AckedOn ack) self.old self.new) }
-        ensures err { OnErr result (OnWrites UnackedOn self.old self.new) }
+        ensures ok { IfOk result (λ ack. OnWrites (AckedOn link ack faults.old faults.new) self.old self.new) }
+        ensures err { OnErr result (OnWrites UnackedOn self.old self.new × (faults.new ≡ faults.old)) }
     {
         match self {
-            MemLink::Write(write) => write.ack(alloc),
+            MemLink::Write(write) => write.ack(alloc, faults, link),
             MemLink::Read(_) => unreachable!(),
         }
     }

@@ -1,11 +1,12 @@
 //! The names and the blocks of a cluster in memory.
 ghost use Rattle.std.specs.Prelude.{◌≡◌, ◌≤◌, ◌+◌, ◌^◌, ◌<◌, ℕ, List, [], ◌∷◌, true, false, Some, None, is_none, string_bytes, OnOk, OnErr, IfOk};
 ghost use Rattle.std.specs.BTreeMap.{get_by_text};
+ghost use Rattle.hdfs_model.specs.Effects.{blocks_at};
 ghost use Rattle.hdfs_model.specs.Paths.{root};
-ghost use Rattle.hdfs_cluster.specs.Memory.{table_of, total, is_length, is_sized, is_dir, is_placed, accepts, first_node, AreApart, IsBare};
+ghost use Rattle.hdfs_cluster.specs.Memory.{table_of, is_sized, is_dir, is_placed, is_free_at, accepts, first_node, AreApart, IsBare};
 ghost use Rattle.hdfs_cluster.specs.Adding.{IsPlace, AddsBlock, AreNew, Keeps, Names};
 
-use hdfs_model::{Attributes, BlockEntry, Entry, FileEntry, is_path, parent_of};
+use hdfs_model::{Attributes, BlockEntry, Entry, is_path, parent_of};
 use hdfs_wire::{List, NoMemory, Text};
 use std::alloc::Global;
 use std::collections::BTreeMap;
@@ -73,14 +74,18 @@ impl Namespace {
         }
     }
 
-    /// Whether a file can be loaded: at a new path whose parent is a directory, and within the limits.
+    /// Whether nothing stands at a path, and its parent is a directory.
+    pub(crate) fn is_free(&self, path: &str) -> bool
+        ensures { result ≡ is_free_at (get_by_text self.now.names) path.now }
+    {
+        is_path(path) && !self.names.contains_key(path) && self.is_directory(parent_of(path))
+    }
+
+    /// Whether a file can be loaded: at a free path, and within the limits.
     pub(crate) fn accepts(&self, path: &str, attributes: &Attributes, count: u64) -> bool
         ensures { result ≡ accepts (get_by_text self.now.names) path.now attributes.now count }
     {
-        is_path(path)
-            && !self.names.contains_key(path)
-            && self.is_directory(parent_of(path))
-            && attributes.in_limits(count)
+        self.is_free(path) && attributes.in_limits(count)
     }
 
     /// Lists a new block on the first datanode, and answers its id.
@@ -109,17 +114,17 @@ impl Namespace {
         Ok(id)
     }
 
-    /// Puts a file at a new path.
-    pub(crate) fn add_file(&mut self, path: String, file: FileEntry) -> Result<(), NoMemory>
+    /// Puts a directory or a file at a free path.
+    pub(crate) fn add(&mut self, path: String, entry: Entry) -> Result<(), NoMemory>
         requires place { IsPlace (get_by_text self.old.names) (string_bytes path) }
-        requires sized { is_length (total (table_of self.old.table.entries) file.blocks) ≡ true }
-        requires new { AreNew (get_by_text self.old.names) file.blocks }
-        ensures ok { OnOk result (Names (get_by_text self.old.names) (get_by_text self.new.names) (string_bytes path) file) }
+        requires sized { is_sized (table_of self.old.table.entries) (Some entry) ≡ true }
+        requires new { AreNew (get_by_text self.old.names) (blocks_at (Some entry)) }
+        ensures ok { OnOk result (Names (get_by_text self.old.names) (get_by_text self.new.names) (string_bytes path) entry) }
         ensures err { OnErr result ((self.new.names.entries ≡ self.old.names.entries) × (self.new.grown ≡ self.old.grown)) }
         ensures grown { OnOk result (self.new.grown ≡ true) }
         ensures table { self.new.table ≡ self.old.table }
     {
-        self.names.insert(path, Entry::File(file))?;
+        self.names.insert(path, entry)?;
         self.grown = true;
         Ok(())
     }

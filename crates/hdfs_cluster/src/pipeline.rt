@@ -35,7 +35,7 @@ impl Datanodes {
     }
 
     /// Takes memory for a piece of a block at each of these datanodes, of which nothing is seen before it is taken.
-    fn offer_all(
+    pub(crate) fn offer_all(
         &mut self,
         alloc: Global,
         locs: &[DatanodeInfo],
@@ -59,7 +59,7 @@ impl Datanodes {
     }
 
     /// Takes the piece of a block that a link has offered, at each of these datanodes.
-    fn take_all(&mut self, locs: &[DatanodeInfo], block: u64, link: u64)
+    pub(crate) fn take_all(&mut self, locs: &[DatanodeInfo], block: u64, link: u64)
         ensures bytes { (d : List ℕ) (b : ℕ) → held_in self.new d b
             ≡ (if is_on locs.now block d b then whole_in self.old d b else held_in self.old d b) }
         ensures links { (d : List ℕ) (b other : ℕ) → undisturbed_in self.new d b other
@@ -69,28 +69,5 @@ impl Datanodes {
         for node in locs {
             self.take(node.id.datanode_uuid.as_str(), block, link);
         }
-    }
-
-    /// Puts bytes of a link over those that its datanodes hold of its block. It disturbs all other links there.
-    pub(crate) fn put_all(
-        &mut self,
-        alloc: Global,
-        locs: &[DatanodeInfo],
-        block: u64,
-        at: u64,
-        bytes: &Bytes,
-        link: u64,
-    ) -> Result<(), NoMemory>
-        ensures bytes { OnOk result ((d : List ℕ) (b : ℕ) → held_in self.new d b
-            ≡ (if is_on locs.now block d b then put (held_in self.old d b) at bytes.now else held_in self.old d b)) }
-        ensures links { OnOk result ((d : List ℕ) (b other : ℕ) → undisturbed_in self.new d b other
-            ≡ (if is_on locs.now block d b then undisturbed_in self.old d b other && link == other
-            else undisturbed_in self.old d b other)) }
-        ensures err { OnErr result (SameHeld self.old self.new) }
-        ensures rest { SameNodes self.old self.new }
-    {
-        self.offer_all(alloc, locs, block, at, bytes)?;
-        self.take_all(locs, block, link);
-        Ok(())
     }
 }

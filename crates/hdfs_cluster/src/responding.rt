@@ -7,8 +7,8 @@ ghost use Rattle.hdfs_cluster.specs.Answering.{Answers};
 ghost use Rattle.hdfs_cluster.specs.MemShown.{picture_at};
 ghost use Rattle.hdfs_cluster.specs.Nodes.{SameNodes};
 
+use crate::config::Config;
 use crate::datanodes::Datanodes;
-use crate::mem_settings::Config;
 use crate::namenode::{STANDBY, exception};
 use crate::namespace::Namespace;
 use hdfs_model::{Answer, Ask, AskFault, Attributes};
@@ -26,12 +26,12 @@ pub(crate) fn respond(
     i: u32,
     ask: &Ask,
 ) -> Result<Answer, AskFault>
-    ensures answers { (links : Slab MemLink) → Answers (picture_at space.old nodes.old config.now.active config.now.defaults links) i ask.now result
-        (picture_at space.new nodes.new config.now.active config.now.defaults links) }
+    ensures answers { (links : Slab MemLink) → Answers (picture_at space.old nodes.old config.now.settings links) i ask.now result
+        (picture_at space.new nodes.new config.now.settings links) }
     ensures shape { IfOk result (IsShaped ask.now) }
     ensures rest { SameNodes nodes.old nodes.new }
 {
-    if i != config.active {
+    if i != config.settings.active {
         return Err(exception(alloc, STANDBY)?);
     }
     match ask {
@@ -39,7 +39,7 @@ pub(crate) fn respond(
             let found = space.locations(alloc, src.as_str())?;
             Ok(Answer::GetBlockLocations(Some(found)))
         }
-        Ask::GetServerDefaults => Ok(Answer::GetServerDefaults(config.defaults)),
+        Ask::GetServerDefaults => Ok(Answer::GetServerDefaults(config.settings.defaults)),
         Ask::Create {
             src,
             masked,

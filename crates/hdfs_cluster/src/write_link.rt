@@ -1,21 +1,25 @@
 //! The packets of a pipeline in memory.
-ghost use Rattle.std.specs.Prelude.{◌≡◌, ◌+◌, ◌<◌, ◌≤◌, ◌++◌, ℕ, [], ◌∷◌, length, slice_index_or, IfOk, OnOk, OnErr};
-ghost use Rattle.hdfs_wire.specs.Outgoing.{Outgoing};
-ghost use Rattle.hdfs_model.specs.Sending.{offset_of};
+ghost use Rattle.std.specs.Prelude.{◌≡◌, ◌≢◌, ◌<◌, ◌≤◌, ℕ, ℤ, [], length, slice_index_or, vec_capacity, vec_len, IfOk, OnErr};
+ghost use Rattle.hdfs_faults.specs.Calls.{one_if};
+ghost use Rattle.hdfs_faults.specs.Plans.{fails_at, SameLinks, SamePlans};
+ghost use Rattle.hdfs_model.specs.Sending.{offset_of, uuids};
+ghost use Rattle.hdfs_cluster.specs.Telling.{GoesOn, TellsAll};
 
 use crate::datanodes::Datanodes;
 use bytes::Bytes;
-use hdfs_model::Setup;
+use hdfs_faults::FaultPlan;
+use hdfs_model::{DatanodeInfo, Setup};
 use hdfs_wire::{Ack, List, NoMemory, PacketHeader, WritePacket};
 use std::alloc::Global;
 
-/// A write link that is open: the set-up that it was opened with, what each of its datanodes held of the block then, and the
-/// packets that were sent, of which so many are acknowledged.
+/// A write link that is open: the set-up that it was opened with, what each of its datanodes held of the block then, the packets
+/// that were sent, the acknowledgements that came, and how many packets are acknowledged.
 #[derive(Drop)]
 pub struct MemWrite {
     pub(crate) setup: Setup,
     pub(crate) base: Vec<Bytes>,
     pub(crate) sent: Vec<WritePacket>,
+    pub(crate) responses: Vec<Ack>,
     pub(crate) acknowledged: usize,
     ghost within: { acknowledged ≤ length sent.items },
 }
@@ -30,38 +34,91 @@ fn offset_of(header: &PacketHeader) -> u64
     header.offset_in_block as u64
 }
 
+/// The uuid of the first datanode.
+fn first(locs: &[DatanodeInfo]) -> &str
+    ensures { result.now ≡ slice_index_or (uuids locs.now) 0 [] }
+{
+    match locs.first() {
+        Some(node) => node.id.datanode_uuid.as_str(),
+        None => "",
+    }
+}
+
+/// A seqno of no packet, where this one is that of the packet that is due.
+fn other_seqno(due: i64) -> i64
+    ensures { result ≢ due }
+{
+    if due == -2 { -3 } else { -2 }
+}
+
+/// The status of a datanode in an acknowledgement.
+fn status(failed: bool) -> u32
+    ensures { result ≡ one_if failed }
+{
+    if failed { 1 } else { 0 }
+}
+
+/// The datanodes of a pipeline are told of an acknowledgement one after another, and their statuses are noted.
+fn tell_all(faults: &mut FaultPlan, locs: &[DatanodeInfo], statuses: &mut Vec<u32>)
+    requires empty { statuses.old.items ≡ [] }
+    requires none { vec_len statuses.old ≡ 0 }
+    requires room { length locs.now ≤ vec_capacity statuses.old }
+    ensures tells { TellsAll (fails_at faults.old) faults.old (uuids locs.now) statuses.new.items faults.new }
+    ensures goes_on { GoesOn faults.old faults.new }
+    ensures plans { SamePlans faults.old faults.new }
+    ensures links { SameLinks faults.old faults.new }
+{
+    for node in locs {
+        let failed = faults.ack(node.id.datanode_uuid.as_str());
+        statuses.push_reserved(status(failed));
+    }
+}
+
+/// Copies statuses to where there is room for them.
+fn copy_all(statuses: &[u32], kept: &mut Vec<u32>)
+    requires empty { kept.old.items ≡ [] }
+    requires none { vec_len kept.old ≡ 0 }
+    requires room { length statuses.now ≤ vec_capacity kept.old }
+    ensures { kept.new.items ≡ statuses.now }
+{
+    for status in statuses {
+        kept.push_reserved(*status);
+    }
+}
+
 impl MemWrite {
-    ghost use Rattle.hdfs_cluster.specs.Nodes.{SameHeld, SameNodes};
-    ghost use Rattle.hdfs_cluster.specs.Writes.{ack_of, SameWrite, PutsPacket};
+    ghost use Rattle.hdfs_cluster.specs.Links.{SendsOn, UnsentOn, AckedOn, UnackedOn, TakesSeqno};
+    ghost use Rattle.hdfs_cluster.specs.Nodes.{SameNodes};
 
     /// A link that was just opened.
     pub(crate) fn new(alloc: Global, setup: Setup, base: Vec<Bytes>) -> MemWrite
         ensures setup { result.setup ≡ setup }
         ensures base { result.base.items ≡ base.items }
         ensures sent { result.sent.items ≡ [] }
+        ensures responses { result.responses.items ≡ [] }
         ensures acknowledged { result.acknowledged ≡ 0 }
     {
         MemWrite {
             setup,
             base,
             sent: Vec::new(alloc),
+            responses: Vec::new(alloc),
             acknowledged: 0,
         }
     }
 
-    /// Sends a packet to all its datanodes. For want of memory nothing is seen to change.
+    /// Sends a packet to all its datanodes, and says whether the connection breaks: then none of them has it. For want of memory
+    /// nothing is seen to change.
     pub(crate) fn send(
         &mut self,
         alloc: Global,
         nodes: &mut Datanodes,
+        faults: &mut FaultPlan,
         link: u64,
         packet: &WritePacket,
-    ) -> Result<(), NoMemory>
-        ensures sent { OnOk result (self.new.sent.items ≡ self.old.sent.items ++ packet.now ∷ []) }
-        ensures unsent { OnErr result (self.new.sent.items ≡ self.old.sent.items) }
-        ensures same { SameWrite self.old self.new }
-        ensures puts { OnOk result (PutsPacket self.old.setup link packet.now nodes.old nodes.new) }
-        ensures err { OnErr result (SameHeld nodes.old nodes.new) }
+    ) -> Result<bool, NoMemory>
+        ensures ok { IfOk result (λ broke. SendsOn link packet.now broke nodes.old nodes.new faults.old faults.new self.old self.new) }
+        ensures err { OnErr result (UnsentOn nodes.old nodes.new self.old self.new × (faults.new ≡ faults.old)) }
         ensures rest { SameNodes nodes.old nodes.new }
     {
         let bytes = Bytes::copy_from_slice(alloc, packet.payload())?;
@@ -69,25 +126,54 @@ impl MemWrite {
         self.sent.reserve(1)?;
         let at = offset_of(packet.header());
         let locs = self.setup.locs.as_slice();
-        nodes.put_all(alloc, locs, self.setup.block.block_id, at, &bytes, link)?;
+        nodes.offer_all(alloc, locs, self.setup.block.block_id, at, &bytes)?;
+        if faults.send(first(locs)) {
+            return Ok(true);
+        }
+        nodes.take_all(locs, self.setup.block.block_id, link);
         self.sent.push_reserved(copy);
-        Ok(())
+        Ok(false)
     }
 
-    /// The acknowledgement of the oldest packet that waits for it: each datanode has it.
-    pub(crate) fn ack(&mut self, alloc: Global) -> Result<Ack, NoMemory>
+    /// The next acknowledgement, which tells of all its datanodes. Where it is bad, it is that of no packet that is due.
+    pub(crate) fn ack(
+        &mut self,
+        alloc: Global,
+        faults: &mut FaultPlan,
+        link: u64,
+    ) -> Result<Ack, NoMemory>
         requires { self.old.acknowledged < length self.old.sent.items }
-        ensures ack { IfOk result (λ ack. (d : Outgoing)
-            → ack ≡ ack_of self.old.setup (slice_index_or self.old.sent.items self.old.acknowledged d)) }
-        ensures acknowledged { OnOk result (self.new.acknowledged ≡ self.old.acknowledged + 1) }
-        ensures err { OnErr result (self.new.acknowledged ≡ self.old.acknowledged) }
-        ensures same { (self.new.setup ≡ self.old.setup) × (self.new.base ≡ self.old.base) × (self.new.sent ≡ self.old.sent) }
+        ensures ok { IfOk result (λ ack. AckedOn link ack faults.old faults.new self.old self.new) }
+        ensures err { OnErr result (UnackedOn self.old self.new × (faults.new ≡ faults.old)) }
     {
-        let count = self.setup.locs.as_slice().len();
-        let replies = List::from_vec(vec![in alloc; 0; count]?);
-        let packet = &self.sent[self.acknowledged];
-        let seqno = packet.header().seqno;
+        let locs = self.setup.locs.as_slice();
+        let mut statuses = Vec::with_capacity(alloc, locs.len())?;
+        let mut kept = Vec::with_capacity(alloc, locs.len())?;
+        self.responses.reserve(1)?;
+        tell_all(faults, locs, &mut statuses);
+        copy_all(&statuses, &mut kept);
+        let seqno = self.acknowledge(faults.bad_ack(link));
+        self.responses.push_reserved(Ack {
+            seqno,
+            replies: List::from_vec(kept),
+        });
+        Ok(Ack {
+            seqno,
+            replies: List::from_vec(statuses),
+        })
+    }
+
+    /// Acknowledges the packet that is due, and answers its seqno; or another seqno, and the packet still waits.
+    fn acknowledge(&mut self, bad: bool) -> i64
+        requires { self.old.acknowledged < length self.old.sent.items }
+        ensures seqno { TakesSeqno bad result self.old self.new }
+        ensures responses { self.new.responses ≡ self.old.responses }
+    {
+        let due = self.sent[self.acknowledged].header().seqno;
+        if bad {
+            return other_seqno(due);
+        }
         self.acknowledged += 1;
-        Ok(Ack { seqno, replies })
+        due
     }
 }

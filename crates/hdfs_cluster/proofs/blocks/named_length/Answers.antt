@@ -1,5 +1,5 @@
 -- The named block has its length.
-use Rattle.std.proofs.Common.{◌≡◌, ℕ, Bool, true, cond, eqb, Option, Some, refl, sym, ◌∙◌, ap}
+use Rattle.std.proofs.Common.{◌≡◌, ℕ, Bool, cond, Option, Some, refl, sym, ◌∙◌, ap}
 use Rattle.std.proofs.lemmas.Bool.{eq-eqb}
 use Rattle.std.specs.Option.{option_map}
 use Rattle.hdfs_model.specs.declared.messages.Block.{Block}

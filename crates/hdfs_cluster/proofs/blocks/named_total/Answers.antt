@@ -1,5 +1,5 @@
 -- One block more is added to the sum.
-use Rattle.std.proofs.Common.{◌≡◌, ℕ, ◌+◌, List, [], ◌∷◌, ◌++◌, Option, Some, None, take, get_or, refl, sym, ◌∙◌, ap, arith}
+use Rattle.std.proofs.Common.{◌≡◌, ◌+◌, Some, take, get_or, ◌∙◌, ap, arith}
 use Rattle.std.proofs.lemmas.List.{take_more}
 use Rattle.hdfs_model.specs.Effects.{with_length}
 use Rattle.hdfs_cluster.specs.Memory.{table_of, total}

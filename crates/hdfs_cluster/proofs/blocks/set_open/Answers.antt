@@ -1,5 +1,5 @@
 -- The file is written back, and everything else stays.
-use Rattle.std.proofs.Common.{◌≡◌, List, ℕ, Some, cond, rules, sym, ◌∙◌, ap}
+use Rattle.std.proofs.Common.{◌≡◌, Some, cond, rules, ◌∙◌, ap}
 use Rattle.std.proofs.lemmas.Map.Text.{btree_map_updates_text}
 use Rattle.std.specs.BTreeMap.{get_by_text}
 use Rattle.std.specs.Str.{bytes_eq}

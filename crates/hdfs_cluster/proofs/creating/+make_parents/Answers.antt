@@ -1,5 +1,5 @@
 -- Directories are made from the path upwards, and taken away again where one can't be made.
-use Rattle.std.proofs.Common.{◌≡◌, ℕ, List, Some, None, cond, sym, ◌∙◌, ap, subst}
+use Rattle.std.proofs.Common.{◌≡◌, ℕ, List, Some, None, cond, sym, ◌∙◌, ap}
 use Rattle.std.proofs.lemmas.Map.Text.{btree_map_updates_text}
 use Rattle.std.proofs.lemmas.Result.{on_ok_weaker}
 use Rattle.std.specs.BTreeMap.{get_by_text}

@@ -1,5 +1,5 @@
 -- One block after another is taken out.
-use Rattle.std.proofs.Common.{◌≡◌, ℕ, List, cond, None, take, get_or, sym, ◌∙◌, ap}
+use Rattle.std.proofs.Common.{ℕ, List, cond, None, take, get_or, sym, ◌∙◌, ap}
 use Rattle.std.proofs.lemmas.List.{take_more}
 use Rattle.std.specs.BTreeMap.{is_at}
 use Rattle.std.specs.Ordering.{nat_cmp}

@@ -1,5 +1,5 @@
 -- The active namenode answers each ask by its row.
-use Rattle.std.proofs.Common.{◌≡◌, ℕ, true, List, Some, None, Ok, Err, sym, ◌∙◌, ap, subst}
+use Rattle.std.proofs.Common.{ℕ, true, List, Some, Ok, Err, sym, ◌∙◌, ap, subst}
 use Rattle.std.proofs.lemmas.Result.{err_from_is_err_and}
 use Rattle.std.specs.BTreeMap.{get_by_text}
 use Rattle.hdfs_model.specs.declared.asks.Ask.{Ask}
@@ -17,7 +17,7 @@ use Rattle.hdfs_cluster.proofs.responding.respond.Goals as goal
 
 pub returns-in_err-found-in-GetBlockLocations-clause-answers : goal.returns-in_err-found-in-GetBlockLocations-clause-answers
 returns-in_err-found-in-GetBlockLocations-clause-answers c = λ links.
-    let at = picture_at c.args.space.now c.args.nodes.now c.args.config.now.active c.args.config.now.defaults links in
+    let at = picture_at c.args.space.now c.args.nodes.now c.args.config.now.settings links in
     let e = c.in-GetBlockLocations in
     let r = err_from_is_err_and c.from_residual-in_err-found-in-GetBlockLocations.result c.from_residual-in_err-found-in-GetBlockLocations.ensures.1 in
     let fault = c.in_err-found-in-GetBlockLocations.field-0.0 in
@@ -26,7 +26,7 @@ returns-in_err-found-in-GetBlockLocations-clause-answers c = λ links.
 
 pub returns-in_ok-found-in-GetBlockLocations-clause-answers : goal.returns-in_ok-found-in-GetBlockLocations-clause-answers
 returns-in_ok-found-in-GetBlockLocations-clause-answers c = λ links.
-    let at = picture_at c.args.space.now c.args.nodes.now c.args.config.now.active c.args.config.now.defaults links in
+    let at = picture_at c.args.space.now c.args.nodes.now c.args.config.now.settings links in
     let e = c.in-GetBlockLocations in
     let found = c.in_ok-found-in-GetBlockLocations.found in
     let h = c.in_ok-found-in-GetBlockLocations.ensures in
@@ -48,9 +48,9 @@ returns-in_err-status-in-Create-clause-answers c = λ links.
     let r = err_from_is_err_and c.from_residual-in_err-status-in-Create.result c.from_residual-in_err-status-in-Create.ensures.1 in
     let fault = c.in_err-status-in-Create.field-0.0 in
     let h = c.in_err-status-in-Create.ensures in
-    let q = picture_at c.create.new.self c.args.nodes.now config.active config.defaults links in
-    rw (r.1, r.2) (subst (λ (ask : Ask). Answers (picture_at c.args.space.now c.args.nodes.now config.active config.defaults links) c.args.i ask (Err fault) q) (sym e.is)
-    (answers_not_created c.args.space.now c.create.new.self c.args.nodes.now config.active config.defaults links c.args.i c.if-i-config.false c.as_str-in-Create.result.now e.src c.as_str-in-Create.ensures e.masked e.client_name e.create_flag e.create_parent e.replication e.block_size fault h.excused h.err))
+    let q = picture_at c.create.new.self c.args.nodes.now config.settings links in
+    rw (r.1, r.2) (subst (λ (ask : Ask). Answers (picture_at c.args.space.now c.args.nodes.now config.settings links) c.args.i ask (Err fault) q) (sym e.is)
+    (answers_not_created c.args.space.now c.create.new.self c.args.nodes.now config.settings links c.args.i c.if-i-config.false c.as_str-in-Create.result.now e.src c.as_str-in-Create.ensures e.masked e.client_name e.create_flag e.create_parent e.replication e.block_size fault h.excused h.err))
 
 pub returns-in_ok-status-in-Create-clause-answers : goal.returns-in_ok-status-in-Create-clause-answers
 returns-in_ok-status-in-Create-clause-answers c = λ links.
@@ -58,9 +58,9 @@ returns-in_ok-status-in-Create-clause-answers c = λ links.
     let e = c.in-Create in
     let h = c.in_ok-status-in-Create.ensures in
     let status = c.in_ok-status-in-Create.status in
-    let q = picture_at c.create.new.self c.args.nodes.now config.active config.defaults links in
-    subst (λ (ask : Ask). Answers (picture_at c.args.space.now c.args.nodes.now config.active config.defaults links) c.args.i ask (Ok (answers.Create (Some status))) q) (sym e.is)
-    (answers_created c.args.space.now c.create.new.self c.args.nodes.now config.active config.defaults links c.args.i c.if-i-config.false c.as_str-in-Create.result.now e.src c.as_str-in-Create.ensures e.masked e.client_name e.create_flag e.create_parent e.replication e.block_size status h.status h.allowed h.names h.table)
+    let q = picture_at c.create.new.self c.args.nodes.now config.settings links in
+    subst (λ (ask : Ask). Answers (picture_at c.args.space.now c.args.nodes.now config.settings links) c.args.i ask (Ok (answers.Create (Some status))) q) (sym e.is)
+    (answers_created c.args.space.now c.create.new.self c.args.nodes.now config.settings links c.args.i c.if-i-config.false c.as_str-in-Create.result.now e.src c.as_str-in-Create.ensures e.masked e.client_name e.create_flag e.create_parent e.replication e.block_size status h.status h.allowed h.names h.table)
 
 pub returns-in_err-complete-in-Complete-clause-answers : goal.returns-in_err-complete-in-Complete-clause-answers
 returns-in_err-complete-in-Complete-clause-answers c = λ links.
@@ -69,17 +69,17 @@ returns-in_err-complete-in-Complete-clause-answers c = λ links.
     let r = err_from_is_err_and c.from_residual-in_err-complete-in-Complete.result c.from_residual-in_err-complete-in-Complete.ensures.1 in
     let fault = c.in_err-complete-in-Complete.field-0.0 in
     let h = c.in_err-complete-in-Complete.ensures in
-    let q = picture_at c.complete.new.self c.args.nodes.now config.active config.defaults links in
-    rw (r.1, r.2) (subst (λ (ask : Ask). Answers (picture_at c.args.space.now c.args.nodes.now config.active config.defaults links) c.args.i ask (Err fault) q) (sym e.is)
-    (answers_not_completed c.args.space.now c.complete.new.self c.args.nodes.now config.active config.defaults links c.args.i c.if-i-config.false c.as_str-in-Complete.result.now e.src c.as_str-in-Complete.ensures e.client_name e.last e.file_id fault h.stray h.err))
+    let q = picture_at c.complete.new.self c.args.nodes.now config.settings links in
+    rw (r.1, r.2) (subst (λ (ask : Ask). Answers (picture_at c.args.space.now c.args.nodes.now config.settings links) c.args.i ask (Err fault) q) (sym e.is)
+    (answers_not_completed c.args.space.now c.complete.new.self c.args.nodes.now config.settings links c.args.i c.if-i-config.false c.as_str-in-Complete.result.now e.src c.as_str-in-Complete.ensures e.client_name e.last e.file_id fault h.stray h.err))
 
 pub returns-in_ok-complete-in-Complete-clause-answers : goal.returns-in_ok-complete-in-Complete-clause-answers
 returns-in_ok-complete-in-Complete-clause-answers c = λ links.
     let config = c.args.config.now in
     let e = c.in-Complete in
-    let q = picture_at c.complete.new.self c.args.nodes.now config.active config.defaults links in
-    subst (λ (ask : Ask). Answers (picture_at c.args.space.now c.args.nodes.now config.active config.defaults links) c.args.i ask (Ok (answers.Complete true)) q) (sym e.is)
-    (answers_completed c.args.space.now c.complete.new.self c.args.nodes.now config.active config.defaults links c.args.i c.if-i-config.false c.as_str-in-Complete.result.now e.src c.as_str-in-Complete.ensures e.client_name e.last e.file_id c.in_ok-complete-in-Complete.ensures.done)
+    let q = picture_at c.complete.new.self c.args.nodes.now config.settings links in
+    subst (λ (ask : Ask). Answers (picture_at c.args.space.now c.args.nodes.now config.settings links) c.args.i ask (Ok (answers.Complete true)) q) (sym e.is)
+    (answers_completed c.args.space.now c.complete.new.self c.args.nodes.now config.settings links c.args.i c.if-i-config.false c.as_str-in-Complete.result.now e.src c.as_str-in-Complete.ensures e.client_name e.last e.file_id c.in_ok-complete-in-Complete.ensures.done)
 
 pub returns-in_err-block-in-AddBlock-clause-answers : goal.returns-in_err-block-in-AddBlock-clause-answers
 returns-in_err-block-in-AddBlock-clause-answers c = λ links.
@@ -88,18 +88,18 @@ returns-in_err-block-in-AddBlock-clause-answers c = λ links.
     let r = err_from_is_err_and c.from_residual-in_err-block-in-AddBlock.result c.from_residual-in_err-block-in-AddBlock.ensures.1 in
     let fault = c.in_err-block-in-AddBlock.field-0.0 in
     let h = c.in_err-block-in-AddBlock.ensures in
-    let q = picture_at c.extend.new.self c.args.nodes.now config.active config.defaults links in
-    rw (r.1, r.2) (subst (λ (ask : Ask). Answers (picture_at c.args.space.now c.args.nodes.now config.active config.defaults links) c.args.i ask (Err fault) q) (sym e.is)
-    (answers_not_added c.args.space.now c.extend.new.self c.args.nodes.now config.active config.defaults links c.args.i c.if-i-config.false c.as_str-in-AddBlock.result.now e.src c.as_str-in-AddBlock.ensures e.client_name e.previous e.excludes e.file_id fault h.stray h.err))
+    let q = picture_at c.extend.new.self c.args.nodes.now config.settings links in
+    rw (r.1, r.2) (subst (λ (ask : Ask). Answers (picture_at c.args.space.now c.args.nodes.now config.settings links) c.args.i ask (Err fault) q) (sym e.is)
+    (answers_not_added c.args.space.now c.extend.new.self c.args.nodes.now config.settings links c.args.i c.if-i-config.false c.as_str-in-AddBlock.result.now e.src c.as_str-in-AddBlock.ensures e.client_name e.previous e.excludes e.file_id fault h.stray h.err))
 
 pub returns-in_ok-block-in-AddBlock-clause-answers : goal.returns-in_ok-block-in-AddBlock-clause-answers
 returns-in_ok-block-in-AddBlock-clause-answers c = λ links.
     let config = c.args.config.now in
     let e = c.in-AddBlock in
     let block = c.in_ok-block-in-AddBlock.block in
-    let q = picture_at c.extend.new.self c.args.nodes.now config.active config.defaults links in
-    subst (λ (ask : Ask). Answers (picture_at c.args.space.now c.args.nodes.now config.active config.defaults links) c.args.i ask (Ok (answers.AddBlock block)) q) (sym e.is)
-    (answers_added c.args.space.now c.extend.new.self c.args.nodes.now config.active config.defaults links c.args.i c.if-i-config.false c.as_str-in-AddBlock.result.now e.src c.as_str-in-AddBlock.ensures e.client_name e.previous e.excludes e.file_id block c.in_ok-block-in-AddBlock.ensures.added)
+    let q = picture_at c.extend.new.self c.args.nodes.now config.settings links in
+    subst (λ (ask : Ask). Answers (picture_at c.args.space.now c.args.nodes.now config.settings links) c.args.i ask (Ok (answers.AddBlock block)) q) (sym e.is)
+    (answers_added c.args.space.now c.extend.new.self c.args.nodes.now config.settings links c.args.i c.if-i-config.false c.as_str-in-AddBlock.result.now e.src c.as_str-in-AddBlock.ensures e.client_name e.previous e.excludes e.file_id block c.in_ok-block-in-AddBlock.ensures.added)
 
 pub returns-in_err-appended-in-Append-clause-answers : goal.returns-in_err-appended-in-Append-clause-answers
 returns-in_err-appended-in-Append-clause-answers c = λ links.
@@ -108,9 +108,9 @@ returns-in_err-appended-in-Append-clause-answers c = λ links.
     let r = err_from_is_err_and c.from_residual-in_err-appended-in-Append.result c.from_residual-in_err-appended-in-Append.ensures.1 in
     let fault = c.in_err-appended-in-Append.field-0.0 in
     let h = c.in_err-appended-in-Append.ensures in
-    let q = picture_at c.append.new.self c.append.new.nodes config.active config.defaults links in
-    rw (r.1, r.2) (subst (λ (ask : Ask). Answers (picture_at c.args.space.now c.args.nodes.now config.active config.defaults links) c.args.i ask (Err fault) q) (sym e.is)
-    (answers_not_appended c.args.space.now c.append.new.self c.args.nodes.now c.append.new.nodes config.active config.defaults links c.append.ensures.same c.args.i c.if-i-config.false c.as_str-in-Append.result.now e.src c.as_str-in-Append.ensures e.client_name e.flag fault h.excused h.err))
+    let q = picture_at c.append.new.self c.append.new.nodes config.settings links in
+    rw (r.1, r.2) (subst (λ (ask : Ask). Answers (picture_at c.args.space.now c.args.nodes.now config.settings links) c.args.i ask (Err fault) q) (sym e.is)
+    (answers_not_appended c.args.space.now c.append.new.self c.args.nodes.now c.append.new.nodes config.settings links c.append.ensures.same c.args.i c.if-i-config.false c.as_str-in-Append.result.now e.src c.as_str-in-Append.ensures e.client_name e.flag fault h.excused h.err))
 
 pub returns-in_ok-appended-in-Append-clause-answers : goal.returns-in_ok-appended-in-Append-clause-answers
 returns-in_ok-appended-in-Append-clause-answers c = λ links.
@@ -118,6 +118,6 @@ returns-in_ok-appended-in-Append-clause-answers c = λ links.
     let e = c.in-Append in
     let h = c.in_ok-appended-in-Append.ensures in
     let appended = c.in_ok-appended-in-Append.appended in
-    let q = picture_at c.append.new.self c.append.new.nodes config.active config.defaults links in
-    subst (λ (ask : Ask). Answers (picture_at c.args.space.now c.args.nodes.now config.active config.defaults links) c.args.i ask (Ok (answers.Append appended)) q) (sym e.is)
-    (answers_appended c.args.space.now c.append.new.self c.args.nodes.now c.append.new.nodes config.active config.defaults links c.append.ensures.same c.args.i c.if-i-config.false c.as_str-in-Append.result.now e.src c.as_str-in-Append.ensures e.client_name e.flag appended h.allowed h.opened h.shape)
+    let q = picture_at c.append.new.self c.append.new.nodes config.settings links in
+    subst (λ (ask : Ask). Answers (picture_at c.args.space.now c.args.nodes.now config.settings links) c.args.i ask (Ok (answers.Append appended)) q) (sym e.is)
+    (answers_appended c.args.space.now c.append.new.self c.args.nodes.now c.append.new.nodes config.settings links c.append.ensures.same c.args.i c.if-i-config.false c.as_str-in-Append.result.now e.src c.as_str-in-Append.ensures e.client_name e.flag appended h.allowed h.opened h.shape)

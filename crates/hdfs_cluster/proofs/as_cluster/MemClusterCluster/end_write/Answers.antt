@@ -1,15 +1,24 @@
 -- A write link is gone.
 use Rattle.std.proofs.Common.{None, map, refl}
 use Rattle.hdfs_cluster.specs.Lines.{line_of}
+use Rattle.hdfs_faults.proofs.Following.{end_follows}
 use Rattle.hdfs_cluster.proofs.Acknowledging.{ended_write}
+use Rattle.hdfs_cluster.proofs.Asking.{counts_end}
+use Rattle.hdfs_cluster.proofs.Counting.{falls_end}
 use Rattle.hdfs_cluster.proofs.as_cluster.MemClusterCluster.end_write.Goals as goal
+
+pub invariant_of-self : goal.invariant_of-self
+invariant_of-self c = record { follows = end_follows c.args.self.now.faults c.end.new.self (map line_of c.args.self.now.loaded.items) c.args.link c.end.ensures c.args.self.now.follows }
 
 pub returns-clause-ends : goal.returns-clause-ends
 returns-clause-ends c =
     let m = c.args.self.now in
-    ended_write m.space m.config.active m.config.defaults m.last m.config.namenodes (map line_of m.loaded.items) m.nodes m.links c.try_remove-gone.new.self c.args.link None c.requires c.try_remove-gone.ensures.updates refl refl refl refl
+    ended_write m.space m.config.settings m.last (map line_of m.loaded.items) m.faults c.end.new.self (falls_end m.faults c.end.new.self c.args.link c.end.ensures) m.nodes m.links c.try_remove-gone.new.self c.args.link None c.requires c.try_remove-gone.ensures.updates refl refl refl refl
 
 pub returns-clause-ended : goal.returns-clause-ended
 returns-clause-ended c =
     let m = c.args.self.now in
-    ended_write m.space m.config.active m.config.defaults m.last m.config.namenodes (map line_of m.loaded.items) m.nodes m.links c.try_remove-gone.new.self c.args.link None c.requires c.try_remove-gone.ensures.updates refl refl refl refl
+    ended_write m.space m.config.settings m.last (map line_of m.loaded.items) m.faults c.end.new.self (falls_end m.faults c.end.new.self c.args.link c.end.ensures) m.nodes m.links c.try_remove-gone.new.self c.args.link None c.requires c.try_remove-gone.ensures.updates refl refl refl refl
+
+pub returns-clause-counted : goal.returns-clause-counted
+returns-clause-counted c = counts_end c.args.self.now _ c.args.link c.end.ensures c.try_remove-gone.ensures.updates refl

@@ -9,8 +9,9 @@ use Rattle.std.specs.Cmp.Lexicographic.{slice_cmp}
 use Rattle.std.specs.BTreeMap.{is_at, get_by_text}
 use Rattle.std.specs.String.{string_bytes}
 use Rattle.hdfs_cluster.specs.Replicas.{held_by}
-use Rattle.hdfs_cluster.specs.Memory.{first_node, uuid_of}
-use Rattle.hdfs_cluster.proofs.Nodes.{IsNew, new_none, update_all, update_some, update_here}
+use Rattle.hdfs_faults.specs.Series.{uuid_of}
+use Rattle.hdfs_cluster.specs.Memory.{first_node}
+use Rattle.hdfs_cluster.proofs.Nodes.{IsNew, update_all, update_some, update_here}
 use Rattle.hdfs_cluster.proofs.datanodes.Datanodes.new.Goals as goal
 
 zero_or_more : (n : ℕ) → (n ≡ 0) ⊎ (0 < n)
@@ -22,7 +23,7 @@ first_uuid number is = ap uuid_of is ∙ ap (λ (ds : List ℕ). 100 ∷ 110 ∷
 
 pub loop-number-init : goal.loop-number-init
 loop-number-init c = record {
-  are_new = λ d. subst IsNew (sym (ap (lookup (is_at (λ k. slice_cmp nat_cmp d (string_bytes k)))) c.new-by_uuid.ensures.empty)) new_none;
+  are_new = λ d. subst IsNew (sym (ap (lookup (is_at (λ k. slice_cmp nat_cmp d (string_bytes k)))) c.new-by_uuid.ensures.empty)) (λ block. refl);
   first = λ below. absurd (omega arith);
   numbered = λ k below. absurd (omega (arith, below));
 }
@@ -35,7 +36,7 @@ loop-number-preserved c =
     let key = string_bytes c.in_ok-uuid.field-0 in
     let updates = btree_map_updates_text key c.loop-number.by_uuid c.insert.new.self (Some w) c.in_ok-insert.ensures.updates in
     record {
-      are_new = update_all look after key w updates (λ d o. IsNew o) (record { replicas = c.new.ensures.blocks; faults = c.new.ensures.faults; packets = c.new.ensures.packets; breaks = c.new.ensures.broken }) c.loop-number.invariant.are_new;
+      are_new = update_all look after key w updates (λ d o. IsNew o) c.new.ensures c.loop-number.invariant.are_new;
       first = λ below. ⊎_elim
           (λ none. update_here look after key w updates first_node (c.in_ok-uuid.ensures ∙ first_uuid c.loop-number.number none))
           (λ more. update_some look after key w updates first_node (c.loop-number.invariant.first more))
@@ -50,13 +51,4 @@ pub invariant_of-result : goal.invariant_of-result
 invariant_of-result c = record { first = c.loop-number.invariant.first (omega arith); numbered = λ k below. c.loop-number.invariant.numbered k (omega (arith, below)) }
 
 pub returns-clause-held : goal.returns-clause-held
-returns-clause-held c = λ d. λ block. ap held_by ((c.loop-number.invariant.are_new d).replicas block)
-
-pub returns-clause-faults : goal.returns-clause-faults
-returns-clause-faults c = λ d. (c.loop-number.invariant.are_new d).faults
-
-pub returns-clause-breaks : goal.returns-clause-breaks
-returns-clause-breaks c = λ d. (c.loop-number.invariant.are_new d).breaks
-
-pub returns-clause-packets : goal.returns-clause-packets
-returns-clause-packets c = λ d. (c.loop-number.invariant.are_new d).packets
+returns-clause-held c = λ d. λ block. ap held_by (c.loop-number.invariant.are_new d block)

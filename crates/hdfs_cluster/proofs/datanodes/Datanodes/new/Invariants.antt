@@ -1,6 +1,7 @@
 use Rattle.std.proofs.Common.{◌≡◌, ℕ, ◌<◌, true, List, is_some}
 use Rattle.std.specs.BTreeMap.{get_by_text}
-use Rattle.hdfs_cluster.specs.Memory.{first_node, uuid_of}
+use Rattle.hdfs_faults.specs.Series.{uuid_of}
+use Rattle.hdfs_cluster.specs.Memory.{first_node}
 use Rattle.hdfs_cluster.proofs.Nodes.{IsNew}
 use Rattle.hdfs_cluster.proofs.datanodes.Datanodes.new.Given as goal
 

@@ -2,9 +2,10 @@
 use Rattle.std.proofs.Common.{Some, refl, sym, rules}
 use Rattle.std.proofs.lemmas.Map.Text.{btree_map_updates_text}
 use Rattle.std.specs.BTreeMap.{get_by_text}
-use Rattle.hdfs_cluster.specs.Memory.{first_node, uuid_of}
+use Rattle.hdfs_faults.specs.Series.{uuid_of}
+use Rattle.hdfs_cluster.specs.Memory.{first_node}
 use Rattle.hdfs_cluster.specs.Replicas.{SameReplica}
-use Rattle.hdfs_cluster.proofs.Nodes.{update_some, update_other, same_replica_refl, change_faults, change_related}
+use Rattle.hdfs_cluster.proofs.Nodes.{update_some, update_other, same_replica_refl, change_there, change_related}
 use Rattle.hdfs_cluster.proofs.datanodes.Datanodes.offer.Goals as goal
 
 pub invariant_of-self : goal.invariant_of-self
@@ -40,4 +41,4 @@ returns-in-Some-clause-rest c =
     let look = get_by_text c.args.self.now.by_uuid in
     let after = get_by_text (c.get_mut.follows.lender w) in
     let updates = btree_map_updates_text c.args.uuid.now c.args.self.now.by_uuid (c.get_mut.follows.lender w) (Some w) ((c.get_mut.follows.holds w).3 (search rules)) in
-    record { faults = change_faults look after c.args.uuid.now c.in-Some.node.now w updates (sym c.in-Some.ensures.value) c.args.block c.offer.ensures.rest; count = refl }
+    record { there = change_there look after c.args.uuid.now c.in-Some.node.now w updates (sym c.in-Some.ensures.value) c.args.block c.offer.ensures.rest; count = refl }

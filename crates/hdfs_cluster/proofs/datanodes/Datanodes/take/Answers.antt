@@ -2,10 +2,11 @@
 use Rattle.std.proofs.Common.{◌≡◌, ℕ, Bool, Some, refl, sym, ap, rules, ◌&&◌, eqb, cond}
 use Rattle.std.proofs.lemmas.Map.Text.{btree_map_updates_text}
 use Rattle.std.specs.BTreeMap.{get_by_text}
-use Rattle.hdfs_cluster.specs.Memory.{first_node, uuid_of}
+use Rattle.hdfs_faults.specs.Series.{uuid_of}
+use Rattle.hdfs_cluster.specs.Memory.{first_node}
 use Rattle.hdfs_cluster.specs.Nodes.{is_here}
 use Rattle.hdfs_cluster.specs.Replicas.{held_by, whole_by, undisturbed_by}
-use Rattle.hdfs_cluster.proofs.Nodes.{update_some, here_true, here_false, change_faults, change_each, change_related}
+use Rattle.hdfs_cluster.proofs.Nodes.{update_some, here_true, here_false, change_there, change_each, change_related}
 use Rattle.hdfs_cluster.proofs.datanodes.Datanodes.take.Goals as goal
 
 pub invariant_of-self : goal.invariant_of-self
@@ -55,4 +56,4 @@ returns-in-Some-clause-rest c =
     let look = get_by_text c.args.self.now.by_uuid in
     let after = get_by_text (c.get_mut.follows.lender w) in
     let updates = btree_map_updates_text c.args.uuid.now c.args.self.now.by_uuid (c.get_mut.follows.lender w) (Some w) ((c.get_mut.follows.holds w).3 (search rules)) in
-    record { faults = change_faults look after c.args.uuid.now c.in-Some.node.now w updates (sym c.in-Some.ensures.value) c.args.block c.take.ensures.rest; count = refl }
+    record { there = change_there look after c.args.uuid.now c.in-Some.node.now w updates (sym c.in-Some.ensures.value) c.args.block c.take.ensures.rest; count = refl }

@@ -1,24 +1,30 @@
 -- The file is stored with its line, or the blocks that were taken for it belong to no file.
 use Rattle.std.proofs.Common.{◌≡◌, ℕ, List, [], ◌∷◌, ◌++◌, map, Some, refl, ◌∙◌, ap, subst, rules}
+use Rattle.std.specs.BTreeMap.{get_by_text}
 use Rattle.std.specs.String.{string_bytes}
 use Rattle.std.proofs.lemmas.List.{map-append}
+use Rattle.hdfs_model.specs.declared.picture.Entry.TheVariants as entries
+use Rattle.hdfs_model.specs.declared.picture.FileEntry.{FileEntry}
 use Rattle.hdfs_model.specs.declared.store.Line.TheVariants as lines
 use Rattle.hdfs_model.specs.Loading.{with_file}
 use Rattle.hdfs_model.specs.Stores.{Agrees}
+use Rattle.hdfs_cluster.specs.Cutting.{IsCut}
+use Rattle.hdfs_cluster.specs.Memory.{table_of}
 use Rattle.hdfs_cluster.specs.MemShown.{picture_at}
+use Rattle.hdfs_cluster.specs.Nodes.{held_in}
 use Rattle.hdfs_cluster.specs.declared.loaded.Kept.{Kept}
 use Rattle.hdfs_cluster.specs.declared.loaded.Kept.TheVariants as keeps
 use Rattle.hdfs_cluster.specs.Lines.{line_of}
-use Rattle.hdfs_cluster.proofs.NothingLoaded.{on_err, loads_at, nothing_loaded}
+use Rattle.hdfs_faults.proofs.Following.{other_follows}
+use Rattle.hdfs_cluster.proofs.NothingLoaded.{follows_push, on_err, loads_at, nothing_loaded}
 use Rattle.hdfs_cluster.proofs.mem_cluster.MemCluster.take_file.Goals as goal
 
 pub returns-in_err-store_file-clause-err : goal.returns-in_err-store_file-clause-err
 returns-in_err-store_file-clause-err c =
     let m = c.args.self.now in
     on_err c.from_residual-in_err-store_file.result
-    (nothing_loaded m.space c.store_file.new.space m.config.active m.config.defaults m.last m.config.namenodes m.loaded.items c.reserve.new.self.items m.nodes c.store_file.new.nodes m.links c.reserve.ensures.items c.in_err-store_file.ensures.err
+    (nothing_loaded m.space c.store_file.new.space m.config.settings m.last m.loaded.items c.reserve.new.self.items m.faults m.nodes c.store_file.new.nodes m.links c.reserve.ensures.items c.in_err-store_file.ensures.err
     c.store_file.ensures.kept
-    (λ d. (c.store_file.ensures.faults d).faults)
     c.store_file.ensures.links)
 
 pub returns-clause-loads : goal.returns-clause-loads
@@ -30,12 +36,30 @@ returns-clause-loads c =
     let held : c.in_ok-bytes.held ≡ c.args.bytes = c.in_ok-bytes.ensures.1 in
     let told : c.in_ok-bytes.bytes ≡ c.args.bytes = c.in_ok-bytes.ensures.0 in
     record {
-      rest = record { counts = record { calls = λ i. refl; links = refl; nodes = λ d. (c.store_file.ensures.faults d).faults }; last = refl; namenodes = refl; reads = λ link. refl; writes = λ link. refl };
+      rest = record { counts = record { calls = λ i. refl; links = refl; nodes = λ d. refl }; last = refl; namenodes = refl; reads = λ link. refl; writes = λ link. refl };
+      settings = refl;
       lines = ap (map line_of) items ∙ map-append line_of m.loaded.items (kept ∷ []) ∙ ap (λ (bytes : List ℕ). map line_of m.loaded.items ++ lines.File c.args.path c.args.attributes bytes ∷ []) told;
-      picture = loads_at m.space c.store_file.new.space m.nodes c.store_file.new.nodes m.config.active m.config.defaults m.links c.store_file.ensures.kept c.store_file.ensures.links;
+      picture = loads_at m.space c.store_file.new.space m.nodes c.store_file.new.nodes m.config.settings m.links c.store_file.ensures.kept c.store_file.ensures.links;
       files = λ state was.
-          (let p' = picture_at c.store_file.new.space c.store_file.new.nodes m.config.active m.config.defaults m.links in
-          let here = c.in_ok-store_file.ensures.files m.config.active m.config.defaults m.links state was in
+          (let p' = picture_at c.store_file.new.space c.store_file.new.nodes m.config.settings m.links in
+          let here = c.in_ok-store_file.ensures.files m.config.settings m.links state was in
           subst (λ (path : List ℕ). Agrees (Some p') (with_file state path (record { bytes = c.args.bytes; attributes = c.args.attributes })).files) name
           (subst (λ (bytes : List ℕ). Agrees (Some p') (with_file state (string_bytes c.in_ok-name.name) (record { bytes = bytes; attributes = c.args.attributes })).files) held here));
     }
+
+pub returns-clause-cut : goal.returns-clause-cut
+returns-clause-cut c =
+    let name : string_bytes c.in_ok-name.name ≡ c.args.path = search rules in
+    let names = get_by_text c.store_file.new.space.names in
+    let table = table_of c.store_file.new.space.table.entries in
+    let held = held_in c.store_file.new.nodes in
+    let size = c.args.attributes.block_size in
+    subst (λ (path : List ℕ). (file : FileEntry) × (names path ≡ Some (entries.File file)) × IsCut table held size file.blocks c.args.bytes) name
+    (subst (λ (bytes : List ℕ). (file : FileEntry) × (names (string_bytes c.in_ok-name.name) ≡ Some (entries.File file)) × IsCut table held size file.blocks bytes) c.in_ok-bytes.ensures.1 c.in_ok-store_file.ensures.cut)
+
+pub invariant_of-self-2 : goal.invariant_of-self-2
+invariant_of-self-2 c =
+    let m = c.args.self.now in
+    let kept = keeps.File c.args.path c.args.attributes c.in_ok-bytes.bytes in
+    let items : c.push_reserved.new.self.items ≡ m.loaded.items ++ kept ∷ [] = c.push_reserved.ensures.items ∙ ap (λ (xs : List Kept). xs ++ kept ∷ []) c.reserve.ensures.items in
+    record { follows = follows_push m.faults m.loaded.items c.push_reserved.new.self.items kept items (other_follows m.faults (map line_of m.loaded.items) (line_of kept) refl m.follows) }

@@ -1,9 +1,9 @@
 -- The other files' blocks keep their length.
-use Rattle.std.proofs.Common.{◌≡◌, ℕ, List, Some, false, is_none, sym, ◌∙◌, ap, subst}
+use Rattle.std.proofs.Common.{false, is_none, ◌∙◌, ap}
 use Rattle.std.specs.BTreeMap.{get_by_text}
 use Rattle.hdfs_model.specs.Effects.{with_length}
 use Rattle.hdfs_cluster.specs.Adding.{with_open}
-use Rattle.hdfs_cluster.specs.Memory.{table_of, is_length, total, IsBare}
+use Rattle.hdfs_cluster.specs.Memory.{table_of, is_length, IsBare}
 use Rattle.hdfs_cluster.proofs.Naming.{Sound}
 use Rattle.hdfs_cluster.proofs.NewFiles.{names_same, more_from, total_same}
 use Rattle.hdfs_cluster.proofs.FileChanges.{sound_changed, more_changed, apart_own, apart_other, length_other, length_none}

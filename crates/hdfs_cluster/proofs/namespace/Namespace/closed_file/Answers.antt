@@ -1,10 +1,9 @@
 -- The first refusal that holds.
-use Rattle.std.proofs.Common.{◌≡◌, Bool, true, false, cond, ℕ, List, Option, Some, None, refl, sym, ◌∙◌, ap}
+use Rattle.std.proofs.Common.{◌≡◌, Bool, cond, Some, None, refl, sym, ◌∙◌, ap}
 use Rattle.std.specs.BTreeMap.{get_by_text}
 use Rattle.std.specs.Option.{option_map}
-use Rattle.hdfs_model.specs.declared.picture.Entry.{Entry}
 use Rattle.hdfs_model.specs.declared.picture.Entry.TheVariants as entries
-use Rattle.hdfs_model.specs.Files.{Kind, OpenFile, ClosedFile, NoFile, NotDirectory, Missing, NotFile, no_file_at}
+use Rattle.hdfs_model.specs.Files.{OpenFile, ClosedFile, NotDirectory, Missing, NotFile, no_file_at}
 use Rattle.hdfs_model.specs.Namenode.{class_in_the_way}
 use Rattle.hdfs_model.specs.Picture.{entry_kind, kinds_in}
 use Rattle.hdfs_model.specs.Refusals.{Exists, Lacks, open_refusal}

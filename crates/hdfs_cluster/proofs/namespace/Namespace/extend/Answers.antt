@@ -1,5 +1,5 @@
 -- The block is the last one again, or a new one.
-use Rattle.std.proofs.Common.{◌≡◌, inl, inr, ℕ, List, sym, ap, subst, arith}
+use Rattle.std.proofs.Common.{inl, inr, ℕ, List, sym, ap, subst, arith}
 use Rattle.std.specs.BTreeMap.{get_by_text}
 use Rattle.hdfs_model.specs.Effects.{IsRetried}
 use Rattle.hdfs_cluster.specs.Memory.{table_of}

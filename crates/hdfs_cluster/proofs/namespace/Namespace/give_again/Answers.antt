@@ -1,8 +1,8 @@
 -- The other files' blocks keep their length.
-use Rattle.std.proofs.Common.{◌≡◌, ℕ, List, Bool, true, false, Option, Some, cond, is_none, refl, sym, ◌∙◌, ap}
+use Rattle.std.proofs.Common.{is_none, sym, ◌∙◌, ap}
 use Rattle.std.specs.BTreeMap.{get_by_text}
 use Rattle.hdfs_model.specs.Effects.{with_length}
-use Rattle.hdfs_cluster.specs.Memory.{table_of, is_length, total}
+use Rattle.hdfs_cluster.specs.Memory.{table_of, is_length}
 use Rattle.hdfs_cluster.proofs.Naming.{Sound}
 use Rattle.hdfs_cluster.proofs.NewFiles.{names_same, total_same}
 use Rattle.hdfs_cluster.proofs.FileChanges.{sound_changed, apart_own, apart_other, length_other, length_none, same_file}

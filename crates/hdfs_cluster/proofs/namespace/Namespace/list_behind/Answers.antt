@@ -1,10 +1,9 @@
 -- The new block is behind the others, or taken out again.
-use Rattle.std.proofs.Common.{◌≡◌, ◌<◌, ℕ, Bool, true, List, Option, Some, None, cond, eqb, is_none, sym, ◌∙◌, ap, subst, arith}
+use Rattle.std.proofs.Common.{◌≡◌, ℕ, Bool, true, List, Option, Some, None, cond, is_none, sym, ◌∙◌, ap, subst, arith}
 use Rattle.std.proofs.Math.Path.{fun_ext}
 use Rattle.std.specs.BTreeMap.{get_by_text}
 use Rattle.hdfs_model.proofs.Loads.{none_from_test}
 use Rattle.hdfs_model.specs.declared.picture.BlockEntry.{BlockEntry}
-use Rattle.hdfs_model.specs.Effects.{with_block, with_length}
 use Rattle.hdfs_model.specs.Paths.{root}
 use Rattle.hdfs_cluster.specs.Adding.{with_more}
 use Rattle.hdfs_cluster.specs.Memory.{table_of, is_dir, is_placed, is_sized, AreApart, IsBare}

@@ -1,5 +1,5 @@
 -- The blocks stay.
-use Rattle.std.proofs.Common.{◌≡◌, ℕ, List, Some, true, refl, sym, ◌∙◌, ap}
+use Rattle.std.proofs.Common.{true, refl, sym, ◌∙◌, ap}
 use Rattle.std.specs.BTreeMap.{get_by_text}
 use Rattle.hdfs_cluster.specs.Adding.{with_open}
 use Rattle.hdfs_cluster.specs.Memory.{table_of, is_sized, IsBare}

@@ -1,8 +1,7 @@
 -- A file without blocks at its place keeps the tree, and the blocks of the others.
-use Rattle.std.proofs.Common.{◌≡◌, ℕ, List, true, Option, sym, ◌∙◌, ap, subst}
+use Rattle.std.proofs.Common.{◌≡◌, ℕ, List, true, sym, ◌∙◌, ap}
 use Rattle.std.proofs.lemmas.Bool.{false≢true}
 use Rattle.std.specs.BTreeMap.{get_by_text}
-use Rattle.hdfs_model.specs.declared.picture.Entry.{Entry}
 use Rattle.hdfs_model.specs.Effects.{blocks_at, table_without}
 use Rattle.hdfs_model.specs.Paths.{root}
 use Rattle.hdfs_cluster.specs.Memory.{table_of, is_dir, is_placed, is_sized, AreApart, IsBare}

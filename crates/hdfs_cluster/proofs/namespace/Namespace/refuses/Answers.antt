@@ -1,7 +1,7 @@
 -- The first refusal that holds.
 use Rattle.std.proofs.Common.{◌≡◌, Bool, true, false, cond, Some, None, refl, sym, ◌∙◌, ap}
 use Rattle.hdfs_model.specs.Files.{NotDirectory, Missing}
-use Rattle.hdfs_model.specs.Refusals.{Refusal, Exists, Lacks}
+use Rattle.hdfs_model.specs.Refusals.{Exists, Lacks}
 use Rattle.hdfs_cluster.proofs.namespace.Namespace.refuses.Goals as goal
 
 below : (a b c : Bool) → a ≡ false → b ≡ true → cond a (Some Exists) (cond b (Some (Lacks NotDirectory)) (cond c (Some (Lacks Missing)) None)) ≡ Some (Lacks NotDirectory)

@@ -1,5 +1,5 @@
 -- The block keeps its length, and the other files theirs.
-use Rattle.std.proofs.Common.{◌≡◌, ◌<◌, ℕ, List, Some, true, refl, sym, ◌∙◌, ap, arith}
+use Rattle.std.proofs.Common.{◌≡◌, ℕ, Some, true, refl, sym, ◌∙◌, ap, arith}
 use Rattle.std.specs.BTreeMap.{get_by_text}
 use Rattle.hdfs_cluster.specs.Adding.{with_open}
 use Rattle.hdfs_cluster.specs.Memory.{table_of, is_kth, is_length, is_sized, IsBare}

@@ -1,0 +1,109 @@
+-- Which calls of a cluster in memory are counted, and which of them fail.
+use Rattle.std.specs.Prelude.{◌≡◌, ◌≢◌, ℕ, ℤ, ◌+◌, ◌^◌, ◌<◌, ◌==◌, ◌&&◌, not, Bool, true, false, List, [], ◌∷◌, slice_index_or, Option, IsSome, is_some, Result, IfOk}
+use Rattle.hdfs_wire.specs.declared.ack.Ack.{Ack}
+use Rattle.hdfs_wire.specs.declared.read_packet.ReadPacket.{ReadPacket}
+use Rattle.hdfs_model.specs.declared.asks.Ask.{Ask}
+use Rattle.hdfs_model.specs.declared.asks.Answer.{Answer}
+use Rattle.hdfs_model.specs.declared.asks.AskFault.{AskFault}
+use Rattle.hdfs_model.specs.declared.asks.LinkFault.{LinkFault}
+use Rattle.hdfs_model.specs.declared.picture.OpenWrite.{OpenWrite}
+use Rattle.hdfs_model.specs.declared.store.LinkKind.{LinkKind}
+use Rattle.hdfs_model.specs.Counts.{SameCounts}
+use Rattle.hdfs_model.specs.Pipes.{IsWellFormed, nodes_of as write_nodes}
+use Rattle.hdfs_model.specs.Shown.{Served}
+use Rattle.hdfs_faults.specs.Calls.{is_bad_ack, one_if}
+use Rattle.hdfs_faults.specs.Plans.{calls_of, has_series, is_bad}
+use Rattle.hdfs_faults.specs.Series.{Series, SetUps, kind_of, plans, reads_of, sends_to, uuid_of}
+use Rattle.hdfs_cluster.specs.declared.mem_cluster.MemCluster.{MemCluster}
+use Rattle.hdfs_cluster.specs.Answering.{Answers}
+use Rattle.hdfs_cluster.specs.Failures.{failure_of, is_broken, is_counted, planned_failure}
+use Rattle.hdfs_cluster.specs.Telling.{TellsAll}
+use Rattle.hdfs_cluster.specs.MemShown.{HasNode, HasNodesOf, nodes_of, picture_of, shown_of}
+
+-- how many calls of a series were counted
+abbrev pub calls_at : MemCluster → Series → ℕ
+calls_at m series = calls_of m.faults series
+
+-- the object whose calls they are is there, and its next call can be counted
+pub record CanCount (m : MemCluster) (series : Series) : Type 0 where
+  pub there : has_series m.faults series ≡ true
+  pub room : calls_at m series + 1 < 2 ^ 64
+
+-- one of the loaded lines plans that the next call of a series fails
+abbrev pub next_planned : MemCluster → Series → Bool
+next_planned m series = plans (shown_of m).loaded.lines series (calls_at m series + 1)
+
+-- whether the next acknowledgement of a link is bad
+abbrev pub is_bad_at : MemCluster → ℕ → Bool
+is_bad_at m link = is_bad m.faults link
+
+-- its datanodes are there by their numbers, and no call was counted
+pub record AskedNothing (m : MemCluster) : Type 0 where
+  pub there : (k : ℕ) → k < nodes_of m → HasNode m (uuid_of k)
+  pub calls : (s : Series) → calls_at m s ≡ 0
+
+-- No count rose, no call was counted, and its datanodes are still there. What is open afterwards has the same bad acknowledgements
+-- to come.
+pub record CountsNothing (old new : MemCluster) : Type 0 where
+  pub counts : SameCounts (shown_of old).counts (shown_of new).counts
+  pub calls : (s : Series) → calls_at new s ≡ calls_at old s
+  pub bad : (link : ℕ) → IsSome ((shown_of new).writes link) → is_bad_at new link ≡ is_bad_at old link
+  pub there : HasNodesOf old new
+
+-- What an ask does, exactly: it is served, nothing is counted, and the answer is that of the picture.
+pub record MemServes (old : MemCluster) (i : ℕ) (ask : Ask) (result : Result Answer AskFault) (new : MemCluster) : Type 0 where
+  pub served : Served (shown_of old) i ask result (shown_of new)
+  pub counted : CountsNothing old new
+  pub answers : Answers (picture_of old) i ask result (picture_of new)
+
+-- One call of a series was counted, where there was memory for it. No other call was, and the datanodes are still there.
+pub record CountsCall (old : MemCluster) (series : Series) (counted : Bool) (new : MemCluster) : Type 0 where
+  pub own : CanCount old series → calls_at new series ≡ calls_at old series + one_if counted
+  pub others : (s : Series) → s ≢ series → calls_at new s ≡ calls_at old s
+  pub there : HasNodesOf old new
+
+-- A call of a datanode was made. It has the next number of its series, and fails exactly where a line plans that number; then
+-- the datanode's count rises by one. No other count rises.
+pub record CallsNode (old : MemCluster) (node : List ℕ) (series : Series) (counted fails : Bool) (new : MemCluster) : Type 0 where
+  pub call : CountsCall old series counted new
+  pub exact : CanCount old series → counted ≡ true → fails ≡ next_planned old series
+  pub own : (shown_of new).counts.nodes node ≡ (shown_of old).counts.nodes node + one_if fails
+  pub others : (d : List ℕ) → d ≢ node → (shown_of new).counts.nodes d ≡ (shown_of old).counts.nodes d
+  pub links : (shown_of new).counts.links ≡ (shown_of old).counts.links
+  pub bad : (link : ℕ) → is_bad_at new link ≡ is_bad_at old link
+
+-- a packet was asked of a datanode
+abbrev pub AsksPacket : MemCluster → List ℕ → Result ReadPacket LinkFault → MemCluster → Type 0
+AsksPacket old node result new = CallsNode old node (reads_of node) (is_counted result) (is_broken result) new
+
+-- the first datanode of a link
+abbrev pub first_of : OpenWrite → List ℕ
+first_of write = slice_index_or (write_nodes write) 0 []
+
+-- a packet was sent down a pipeline
+abbrev pub AsksSend : MemCluster → OpenWrite → Result (Unit {0}) LinkFault → MemCluster → Type 0
+AsksSend old write result new = CallsNode old (first_of write) (sends_to (first_of write)) (is_counted result) (is_broken result) new
+
+-- how the loaded lines make the next set-up fail
+abbrev pub next_kind_of : MemCluster → Option LinkKind
+next_kind_of m = kind_of (shown_of m).loaded.lines (calls_at m SetUps + 1)
+
+-- The set-up of a pipeline was asked for. It has the next number, and fails exactly as a line plans that number to: the links'
+-- count rises by one, or the first acknowledgement of the link is bad.
+pub record AsksSetUp (old : MemCluster) (result : Result ℕ LinkFault) (new : MemCluster) : Type 0 where
+  pub call : CountsCall old SetUps (is_counted result) new
+  pub exact : CanCount old SetUps → is_counted result ≡ true → failure_of result ≡ planned_failure (next_kind_of old)
+  pub bad : IfOk result (λ link. CanCount old SetUps → is_bad_at new link ≡ is_bad_ack (next_kind_of old))
+  pub others : (link : ℕ) → IsSome ((shown_of old).writes link) → is_bad_at new link ≡ is_bad_at old link
+  pub links : (shown_of new).counts.links ≡ (shown_of old).counts.links + one_if (is_counted result && is_some (failure_of result))
+  pub nodes : (d : List ℕ) → (shown_of new).counts.nodes d ≡ (shown_of old).counts.nodes d
+
+-- An acknowledgement came. It tells of each datanode of the link. Where it is planned to be bad, it is that of no packet that
+-- is due, and the links' count rises by one; the next one of the link is good.
+pub record AsksAck (old : MemCluster) (link : ℕ) (write : OpenWrite) (ack : Ack) (new : MemCluster) : Type 0 where
+  pub tells : TellsAll (plans (shown_of old).loaded.lines) old.faults (write_nodes write) ack.replies new.faults
+  pub good : is_bad_at old link ≡ false → IsWellFormed write ack
+  pub bad : is_bad_at old link ≡ true → (due : ℤ) (rest : List ℤ) → write.waiting ≡ due ∷ rest → ack.seqno ≢ due
+  pub left : (l : ℕ) → is_bad_at new l ≡ (is_bad_at old l && not (link == l))
+  pub links : (shown_of new).counts.links ≡ (shown_of old).counts.links + one_if (is_bad_at old link)
+  pub there : HasNodesOf old new

@@ -1,0 +1,31 @@
+//! What a cluster in memory keeps of its settings.
+ghost use Rattle.std.specs.Prelude.{◌≡◌, ◌<◌, ◌^◌};
+ghost use Rattle.hdfs_model.specs.Loading.{AreValid};
+
+use crate::read_link::packet_limit;
+use hdfs_model::MemSettings;
+
+/// The settings of a cluster, how many bytes a chunk has, and how many a packet gives at most.
+#[derive(Clone, Copy)]
+pub struct Config {
+    pub(crate) settings: MemSettings,
+    pub(crate) chunk: u64,
+    pub(crate) limit: u64,
+    ghost active_below: { settings.active < settings.namenodes },
+    ghost some_chunk: { 0 < chunk },
+    ghost some_limit: { 0 < limit },
+    ghost bound: { limit < 2 ^ 31 },
+}
+
+impl Config {
+    pub(crate) fn new(settings: MemSettings) -> Config
+        requires { AreValid settings }
+        ensures { result.settings ≡ settings }
+    {
+        Config {
+            settings,
+            chunk: settings.defaults.bytes_per_checksum as u64,
+            limit: packet_limit(&settings.defaults),
+        }
+    }
+}
