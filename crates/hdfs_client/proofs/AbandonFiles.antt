@@ -92,7 +92,9 @@ module _ (session : Session) (ordered : IsOrdered string_cmp session.writers) (s
     last = refl;
     reads = same_reads_refl start;
     leaves = λ state opened. leaves_refl start state;
-    carries = λ state opened p told i key writer after is. opened.each p told (string_bytes key) writer (found session ordered i key writer is);
+    carries = λ state opened p told i key writer after is.
+        (let here = found session ordered i key writer is in
+        ⊎_elim (λ failed. inl ((stands.each (string_bytes key) writer here).0.idle failed)) (λ c. inr c) (opened.each p told (string_bytes key) writer here));
   }
 
   module _ (now next : Shown) (sound : (p : Picture) → now.picture ≡ Some p → IsSound p) (n : ℕ) (key : String Global) (writer : FileWriter) (left : LeftFiles start now session n) (is : IsAt session n key writer)

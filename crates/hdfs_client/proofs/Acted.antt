@@ -9,12 +9,13 @@ use Rattle.hdfs_model.specs.declared.commands.Reply.{Reply}
 use Rattle.hdfs_model.specs.declared.commands.Settings.{Settings}
 use Rattle.hdfs_model.specs.declared.errors.HdfsError.{HdfsError}
 use Rattle.hdfs_model.specs.declared.messages.ServerDefaults.{ServerDefaults}
+use Rattle.hdfs_model.specs.Anywhere.{IsReply}
 use Rattle.hdfs_model.specs.Causes.{Cause, CommandLost, Tells}
 use Rattle.hdfs_model.specs.Files.{State, Writing, Content}
 use Rattle.hdfs_model.specs.Picture.{Picture}
-use Rattle.hdfs_model.specs.Sessions.{Fits, SameOpened, IsLimited, defaults_of, spared, touched, is_before_asking, world_of}
+use Rattle.hdfs_model.specs.Sessions.{Fits, SameOpened, IsLimited, defaults_of, does, spared, touched, is_before_asking, world_of}
 use Rattle.hdfs_model.specs.Shown.{Shown, SamePlaces, SameReadPlaces, SameReads}
-use Rattle.hdfs_model.specs.Steps.{World, Done, is_opened, step, target_of, with_writing}
+use Rattle.hdfs_model.specs.Steps.{World, Outcome, Refusal, Refused, Done, is_opened, step, target_of, with_writing}
 use Rattle.hdfs_model.specs.Stores.{Agrees, AgreesAt, AgreesBut}
 use Rattle.hdfs_model.proofs.Completing.{cause_completes}
 use Rattle.hdfs_model.proofs.Frames.{told_weaker}
@@ -46,7 +47,7 @@ pub failed_acts : (command : Command) (s t : Shown) (session session' : Session)
     → ((state : State) → IsReady s session state command → CarriesOpen t session' state)
     → Acts command s session t (after {T = Reply} session' (Err error)) (Err error)
 failed_acts command s t session session' error stands looks writers settings tells found told others = record {
-  anywhere = record { later = looks.later; reads = reads_same s t looks; tells = tells; refused = λ early. looks.nodes; idle = λ idle. looks.nodes };
+  anywhere = record { later = looks.later; reads = reads_same s t looks; replies = tt; tells = tells; refused = λ early. looks.nodes; idle = λ idle. looks.nodes };
   links = links_moved s t looks.links.writes session (record session' { failed = true }) writers;
   stands = session_moved s t looks.links.writes session (record session' { failed = true }) writers settings (λ failed. absurd (false≢true (sym failed))) stands;
   applied = λ state ready. record {
@@ -60,12 +61,19 @@ failed_acts command s t session session' error stands looks writers settings tel
   spares = λ state ready. record { each = (others state ready).each };
 }
 
--- what isn't touched agrees, whatever came of a command that had asked
+-- what isn't touched agrees, whatever came of a command that had asked, and where the step is refused all of it
 pub spares_but : (world : World) (state : State) (command : Command) (error : HdfsError) (path : List ℕ) (o : Option Picture) (q : Picture) → target_of world command ≡ path → is_before_asking error ≡ false → o ≡ Some q
-    → ((r : List ℕ) → touched state path command r ≡ false → AgreesAt q (q.names r) (state.files r)) → AgreesBut (spared world state command error) o state.files
-spares_but world state command error path o q called asked told agrees =
+    → ((r : List ℕ) → touched state path command r ≡ false → AgreesAt q (q.names r) (state.files r))
+    → ((why : Refusal) → step world state command ≡ Refused why → (r : List ℕ) → AgreesAt q (q.names r) (state.files r))
+    → AgreesBut (spared world state command error) o state.files
+spares_but world state command error path o q called asked told agrees refused =
     subst (λ (x : Option Picture). AgreesBut (spared world state command error) x state.files) (sym told)
-    (λ r free. agrees r (ap (λ (x : List ℕ). touched state x command r) (sym called) ∙ ap (λ (b : Bool). not b && touched state (target_of world command) command r) (sym asked) ∙ free))
+    (λ r free. at_outcome r (step world state command) refl (ap (λ (x : List ℕ). does (step world state command) && touched state x command r) (sym called)
+    ∙ ap (λ (b : Bool). not b && does (step world state command) && touched state (target_of world command) command r) (sym asked) ∙ free))
+  where
+    at_outcome : (r : List ℕ) (outcome : Outcome) → step world state command ≡ outcome → (does outcome && touched state path command r) ≡ false → AgreesAt q (q.names r) (state.files r)
+    at_outcome r (Refused why) is free = refused why is r
+    at_outcome r (Done reply next) is free = agrees r free
 
 -- A file was opened over a state, and the step says so.
 pub record BeginsFile (s t : Shown) (session : Session) (state : State) (command : Command) (path : List ℕ) (reply : Reply) (writer : FileWriter) : Type 0 where
@@ -135,11 +143,11 @@ module _ (command : Command) (s t : Shown) (session session' : Session) (path : 
         (writer_cases t session session' path writer more r other has))
 
   -- A command that has opened a file, of which the session has the writer.
-  pub begun_acts : Stands s session → OnlyLooks s t → files.Stands t writer → files.path_of writer ≡ path → files.has_failed writer ≡ false → files.link_of writer ≡ None
+  pub begun_acts : IsReply command reply → Stands s session → OnlyLooks s t → files.Stands t writer → files.path_of writer ≡ path → files.has_failed writer ≡ false → files.link_of writer ≡ None
       → ((state : State) → IsReady s session state command → (known : ServerDefaults) × (defaults_known session' ≡ Some known) × (known ≡ defaults_of t.picture))
       → Acts command s session t session' (Ok reply)
-  begun_acts stands looks own at fine linkless knows = record {
-    anywhere = record { later = looks.later; reads = reads_same s t looks; tells = tt; refused = tt; idle = λ idle. looks.nodes };
+  begun_acts replies stands looks own at fine linkless knows = record {
+    anywhere = record { later = looks.later; reads = reads_same s t looks; replies = replies; tells = tt; refused = tt; idle = λ idle. looks.nodes };
     links = links_with t session session' path writer more linkless s looks.links.writes;
     stands = session_with t session session' path writer more linkless (session_moved s t looks.links.writes session session (λ r. refl) refl (λ failed. failed) stands) own at fine;
     applied = λ state ready. (let f = told state ready in

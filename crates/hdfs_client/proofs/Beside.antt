@@ -186,12 +186,12 @@ module _ (old new : Shown) (session session' : Session) (path : List ℕ) (was n
           (subst (λ (x : ServerDefaults). IfSome (defaults_known session) (λ d. d ≡ x)) kept carried.defaults));
     }
 
-  -- Where the writer at the path keeps no link behind the call, and nothing but its file changed, the others carry what they carried.
-  pub others_open : link_in now ≡ None → (p q : Picture) → old.picture ≡ Some p → new.picture ≡ Some q → IsSound p → OnlyFile path p q → (state : State) → Carried old session state → CarriesOpen new session' state
-  others_open linkless p q was is sound only state carried = record {
+  -- Where the writer at the path has failed by the call, or is gone, and nothing but its file changed, the others carry what they carried.
+  pub others_open : ((writer : FileWriter) → now ≡ Some writer → files.has_failed writer ≡ true) → (p q : Picture) → old.picture ≡ Some p → new.picture ≡ Some q → IsSound p → OnlyFile path p q → (state : State) → Carried old session state → CarriesOpen new session' state
+  others_open failed p q was is sound only state carried = record {
     each = λ x told other writer at.
         ⊎_elim
-        (λ here. inl (ap link_in (sym at ∙ here.1) ∙ linkless))
+        (λ here. inl (failed writer (sym here.1 ∙ at)))
         (λ apart.
         (let c = carried.each p was other writer (sym apart.1 ∙ at) in
         let same : q ≡ x = cc (is, told) in

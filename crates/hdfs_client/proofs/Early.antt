@@ -32,7 +32,7 @@ pub early_acts : (s : Shown) (session : Session) (command : Command) (error : Hd
     → ((state : State) → IsReady s session state command → Cause (world_at session s) state command s s error × Answers (step (world_at session s) state command) error)
     → Acts command s session s (after session (error_result error)) (Err error)
 early_acts s session command error stands tells cause = record {
-  anywhere = record { later = later_refl s; reads = same_reads_refl s; tells = tells; refused = λ early d. refl; idle = λ idle d. refl };
+  anywhere = record { later = later_refl s; reads = same_reads_refl s; replies = tt; tells = tells; refused = λ early d. refl; idle = λ idle d. refl };
   links = record { others = λ link some foreign. refl; none = λ link was. was; fresh = λ link has. inl has };
   stands = failed_stands s session stands;
   applied = λ state ready. record {

@@ -1,12 +1,15 @@
--- A whole session over any cluster, where it stops.
-use Rattle.std.proofs.Common.{◌≡◌, ◌⊎◌, ℕ, ◌+◌, ◌<◌, List, length, get_or, None, IsSome, Err, refl, ◌∙◌, ap, arith}
+-- A whole session over any cluster, where it ends or stops.
+use Rattle.std.proofs.Common.{◌≡◌, ◌⊎◌, ℕ, ◌+◌, ◌-◌, ◌<◌, List, [], ◌∷◌, ◌++◌, length, take, get_or, None, IsSome, Ok, Err, refl, sym, ◌∙◌, ap, subst, arith}
 use Rattle.std.specs.List.{slice_get}
+use Rattle.std.proofs.lemmas.List.{take_more}
 use Rattle.std.proofs.lemmas.Option.{slice_get_read}
 use Rattle.hdfs_model.specs.declared.commands.Command.{Command}
+use Rattle.hdfs_model.specs.declared.commands.Reply.{Reply}
 use Rattle.hdfs_model.specs.declared.errors.Fault.{Fault}
-use Rattle.hdfs_model.specs.Anywhere.{Runs}
+use Rattle.hdfs_model.specs.Anywhere.{AreReplies, IsReply, Runs}
+use Rattle.hdfs_model.specs.Headline.{IsStart}
 use Rattle.hdfs_model.specs.Shown.{Shown, Later, SameReads}
-use Rattle.hdfs_model.proofs.Frames.{later_trans, same_reads_trans}
+use Rattle.hdfs_model.proofs.Frames.{later_refl, later_trans, same_reads_refl, same_reads_trans}
 use Rattle.hdfs_client.specs.Acting.{Acts}
 use Rattle.hdfs_client.specs.Session.{HasLink}
 use Rattle.hdfs_client.specs.declared.session.Session.{Session}
@@ -14,16 +17,44 @@ use Rattle.hdfs_client.proofs.Onward.{tells_on}
 use Rattle.hdfs_client.proofs.Owning.{OwnLinks, own_end, own_next}
 use Rattle.hdfs_client.proofs.Since.{tells_since}
 
+-- one more command has its reply
+are_replies_push : (commands : List Command) (replies : List Reply) (command : Command) (reply : Reply) → AreReplies commands replies → IsReply command reply → AreReplies (commands ++ command ∷ []) (replies ++ reply ∷ [])
+are_replies_push [] [] command reply all one = (one, tt)
+are_replies_push (first ∷ commands) (given ∷ replies) command reply all one = (all.0, are_replies_push commands replies command reply all.1 one)
+are_replies_push [] (given ∷ replies) command reply all one = absurd all
+are_replies_push (first ∷ commands) [] command reply all one = absurd all
+
+-- the same of the next of a list of commands
+pub replies_next : (commands : List Command) (n : ℕ) (replies : List Reply) (command : Command) (reply : Reply) → n < length commands → command ≡ get_or commands n command
+    → AreReplies (take n commands) replies → IsReply command reply → AreReplies (take (n + 1) commands) (replies ++ reply ∷ [])
+replies_next commands n replies command reply below here all one =
+    let more : take (n + 1) commands ≡ take n commands ++ command ∷ [] = take_more commands n command below ∙ ap (λ (x : Command). take n commands ++ x ∷ []) (sym here) in
+    subst (λ (l : List Command). AreReplies l (replies ++ reply ∷ [])) (sym more) (are_replies_push (take n commands) replies command reply all one)
+
+-- no command was run
+pub runs_start : (commands : List Command) (start : Shown) (fault : Fault) → fault.at ≡ 0 → fault.done ≡ [] → IsStart fault.error → Runs commands start start (Err fault)
+runs_start commands start fault at none is = record {
+  later = later_refl start;
+  reads = same_reads_refl start;
+  writes = λ link. refl;
+  replies = tt;
+  done = subst (λ (rs : List Reply). AreReplies (take (fault.at - 1) commands) rs) (sym none) (subst (λ (n : ℕ). AreReplies (take (n - 1) commands) []) (sym at) tt);
+  start = λ begun. is;
+  tells = λ some. absurd (some at);
+}
+
 -- a command failed, and the session gave up its files
 pub runs_failed : (commands : List Command) (start now new final : Shown) (session session' : Session) (n : ℕ) (command : Command) (fault : Fault) → n < length commands → command ≡ get_or commands n command
     → Later start now → SameReads start now → OwnLinks start now session → Acts command now session new session' (Err fault.error) → Later new final → SameReads new final → final.last ≡ new.last
     → ((link : ℕ) → IsSome (new.writes link) → (HasLink session' link → ⊥) → final.writes link ≡ new.writes link)
-    → ((link : ℕ) → (new.writes link ≡ None) ⊎ HasLink session' link → final.writes link ≡ None) → fault.at ≡ n + 1 → Runs commands start final (Err fault)
-runs_failed commands start now new final session session' n command fault below here later reads own acts later' reads' last others none at = record {
+    → ((link : ℕ) → (new.writes link ≡ None) ⊎ HasLink session' link → final.writes link ≡ None) → fault.at ≡ n + 1 → AreReplies (take n commands) fault.done
+    → Runs commands start final (Err fault)
+runs_failed commands start now new final session session' n command fault below here later reads own acts later' reads' last others none at replied = record {
   later = later_trans start new final (later_trans start now new later acts.anywhere.later) later';
   reads = same_reads_trans start new final (same_reads_trans start now new reads acts.anywhere.reads) reads';
   writes = own_end start new final session' session' (own_next start now new session session' own acts.links) others none;
-  count = tt;
+  replies = tt;
+  done = subst (λ (i : ℕ). AreReplies (take i commands) fault.done) (omega (arith, at)) replied;
   start = λ begun. absurd (omega (arith, at, begun));
   tells = λ some. (
     command,

@@ -158,7 +158,8 @@ module _ (command : Command) (opens : Opens command) (s m : Shown) (session sess
         (let told = is_told m.picture state.files (agrees_still state ready) in
         let h = cause state ready told.0 told.1 in (
           h.0,
-          spares_but (world_at session s) state command error path t.picture h.1.0 (called state) late h.1.1 ((over state ready told.0 told.1).spares h.1.0 h.1.2),
+          spares_but (world_at session s) state command error path t.picture h.1.0 (called state) late h.1.1 ((over state ready told.0 told.1).spares h.1.0 h.1.2)
+              (λ why is. (over state ready told.0 told.1).unchanged why is h.1.0 h.1.2),
         )))
         (λ state ready.
         (let told = is_told m.picture state.files (agrees_still state ready) in

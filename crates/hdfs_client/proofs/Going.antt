@@ -20,10 +20,10 @@ use Rattle.hdfs_client.specs.Acting.{Acts, IsReady, world_at}
 use Rattle.hdfs_client.specs.Session.{Carried, CarriesOpen, LeavesFiles, opened_of, scene_of}
 use Rattle.hdfs_client.specs.declared.session.Session.{Session}
 use Rattle.hdfs_client.proofs.Agreeing.{agrees_but, agrees_from-AgreesBut}
-use Rattle.hdfs_client.proofs.Onward.{cause_on, none_rose_earlier}
+use Rattle.hdfs_client.proofs.Onward.{cause_on, none_rose_earlier, tells_on}
 use Rattle.hdfs_client.proofs.Avoiding.{avoids_next}
 use Rattle.hdfs_client.proofs.Finishing.{are_limited_push, is_limited_at, complete_stopped}
-use Rattle.hdfs_client.proofs.Since.{cause_since, none_rose_later}
+use Rattle.hdfs_client.proofs.Since.{cause_since, none_rose_later, tells_since}
 
 -- So many commands were done as the fold does them, and the session carries the state that they leave.
 pub record GoneOn (w : World) (state : State) (commands : List Command) (n : ℕ) (replies : List Reply) (now : Shown) (session : Session) : Type 0 where
@@ -90,8 +90,8 @@ module _ (w : World) (state : State) (commands : List Command) (n : ℕ) (replie
       left : LeavesFiles new final gone.last
       left = leaves gone.last (acts.spares gone.last is_ready)
 
-      pub stops_there : fault.done ≡ replies → Stopped w state commands start final fault
-      stops_there done =
+      pub stops_there : fault.done ≡ replies → final.last ≡ new.last → Stopped w state commands start final fault
+      stops_there done last =
           let number : fault.at - 1 ≡ n = omega (arith, at) in
           record {
             last = gone.last;
@@ -99,6 +99,7 @@ module _ (w : World) (state : State) (commands : List Command) (n : ℕ) (replie
             cause = λ some. (
               command,
               ap (slice_get commands) number ∙ slice_get_read commands (length commands) n command refl below here,
+              tells_since start now final later.counts command fault.error (tells_on now new final later'' last command fault.error acts.anywhere.tells),
               cause_since start now final later.counts w gone.last command fault.error (cause_on now new final later'' reads gone.last left w command avoids fault.error applied_err.err.0),
               left.agrees (spared w gone.last command fault.error) applied_err.err.1,
             );

@@ -151,6 +151,7 @@ pub applies_looked : (name : List ℕ) (offset len : ℕ) (s s' : Shown) (e : Hd
 applies_looked name offset len s s' e looks tells = record {
   later = looks.later;
   reads = record { links = looks.links.links; places = told_weaker (SamePlaces s) (SameReadPlaces s) s.picture s'.picture (λ p q both. both.0) looks.links.places };
+  replies = tt;
   tells = tells;
   refused = λ early. looks.nodes;
   idle = λ none. looks.nodes;

@@ -47,6 +47,7 @@ module _ (old new : Shown) (same : (link : ℕ) → new.writes link ≡ old.writ
     idle = stands.idle;
     reopened = stands.reopened;
     apart = stands.apart;
+    done = stands.done;
   }
 
   module _ (session session' : Session) (writers_same : (path : List ℕ) → writer_of session' path ≡ writer_of session path) where

@@ -134,7 +134,7 @@ module _ (old u v : Shown) (later : Later u v) where
     cause_on w command avoids (errors.InvalidArgument args.Defaults) h = h
     cause_on w command avoids (errors.InvalidArgument (args.Range offset len length)) h = h
     cause_on w command avoids (errors.AlreadyExists message) h = ⊎_elim (λ is. inl is) (λ rose. inr (calls_on rose)) h
-    cause_on w command avoids (errors.OperationFailed name) h = (h.0, calls_on h.1)
+    cause_on w command avoids (errors.OperationFailed name) h = (h.0, calls_on h.1, h.2)
     cause_on w command avoids (errors.FileNotFound name) h = h
     cause_on w command avoids (errors.RPCError class message) h = ⊎_elim (λ is. inl is) (λ rose. inr (calls_on rose)) h
 

@@ -26,7 +26,7 @@ use Rattle.hdfs_model.specs.Refusals.{Refusal, append_refusal, create_refusal}
 use Rattle.hdfs_model.specs.Sessions.{touched}
 use Rattle.hdfs_model.specs.Shown.{Shown, Served}
 use Rattle.hdfs_model.specs.Sound.{IsSound, IsFileAt}
-use Rattle.hdfs_model.specs.Steps.{World, Refused, append_file, create_file, created, is_opened, step, target_of}
+use Rattle.hdfs_model.specs.Steps.{World, Refused, append_file, create_file, created, is_opened, open_node, step, target_of}
 use Rattle.hdfs_model.specs.Stores.{AgreesAt}
 use Rattle.hdfs_model.proofs.Frames.{told_after}
 use Rattle.hdfs_namenode.specs.Asked.{AskedOnce}
@@ -35,8 +35,9 @@ use Rattle.hdfs_files.specs.Tails.{Tail, FileCarries}
 use Rattle.hdfs_files.proofs.Creating.{created_others}
 use Rattle.hdfs_files.proofs.Others.{carries_others}
 use Rattle.hdfs_client.proofs.Still.{file_stays}
-use Rattle.hdfs_client.proofs.Begun.{create_spares, open_spares, opened_only}
+use Rattle.hdfs_client.proofs.Begun.{closed_at, create_spares, open_spares, opened_only}
 use Rattle.hdfs_client.proofs.Refusing.{append_step, create_step, kinds_same}
+use Rattle.hdfs_client.proofs.WithWriting.{closed_to_append}
 
 -- An ask of a command at its path, over a picture that agrees with the files: its refusals are the command's, it changes nothing that
 -- the command doesn't touch, and what writers of other files carry they carry still.
@@ -45,6 +46,7 @@ pub record Over (p : Picture) (world : World) (state : State) (command : Command
   pub refused : (class : List ℕ) → IsRefusal p ask class → StandsForAny (kinds p path) refusal class
   pub stepped : (why : Refusal) → refusal ≡ Some why → step world state command ≡ Refused why
   pub spares : (q : Picture) → MayBeDone ask p q → (r : List ℕ) → touched state path command r ≡ false → AgreesAt q (q.names r) (state.files r)
+  pub unchanged : (why : Refusal) → step world state command ≡ Refused why → (q : Picture) → MayBeDone ask p q → (r : List ℕ) → AgreesAt q (q.names r) (state.files r)
   pub closed : is_opened state path ≡ false
   pub keeps : (q : Picture) → MayBeDone ask p q → (r : List ℕ) (tail : Tail) (bytes : List ℕ) → r ≢ path → FileCarries p r tail bytes → FileCarries q r tail bytes
 
@@ -108,12 +110,23 @@ module _ (path client : List ℕ) (options : WriteOptions) (replication block_si
           (λ done. create_spares p q sound state agrees path made (record { bytes = []; attributes = made.attributes }) refl done.1 r parts.0 parts.1)
           (may_be_made q may)
 
+      -- a file that is made is one that nothing refuses
+      steps_on : (why : Refusal) → step world state (commands.Create name options) ≡ Refused why → create_refusal (kinds p) path options.overwrite options.create_parent ≡ None → ⊥
+      steps_on why is none =
+          let done = create_step world state path named closed name options called
+          ∙ ap (create_file state path (created world options)) (ap (λ (k : List ℕ → Option Kind). create_refusal k path options.overwrite options.create_parent) (sym (kinds_same p state.files agrees)) ∙ none) in
+          absurd (cc (is, done))
+
       pub create_over : Over p world state (commands.Create name options) path creating
       create_over = record {
         refusal = create_refusal (kinds p) path (overwrites (cond options.overwrite 3 1)) options.create_parent;
         refused = λ class h. h;
         stepped = λ why is. create_step world state path named closed name options called ∙ ap (create_file state path (created world options)) (refusal_same ∙ is);
         spares = spares_made;
+        unchanged = λ why is q may. ⊎_elim
+            (λ same. agrees_files (Some p) (Some q) state.files same.files agrees)
+            (λ done. absurd (steps_on why is done.0))
+            (may_be_made q may);
         closed = closed;
         keeps = λ q may r tail bytes apart c. ⊎_elim
             (λ same. file_stays p q same.files same.writes r tail bytes c)
@@ -161,6 +174,14 @@ module _ (path client : List ℕ) (flag : ℕ) where
       refusal_kept : append_refusal (kinds_of state.files) path ≡ append_refusal (kinds p) path
       refusal_kept = ap (λ (k : List ℕ → Option Kind). append_refusal k path) (sym (kinds_same p state.files agrees))
 
+      -- a file that is opened is one that nothing refuses
+      appends_on : (why : Refusal) → step world state (commands.Append name) ≡ Refused why → append_refusal (kinds p) path ≡ None → (file : FileEntry) → IsFileAt p path file → ⊥
+      appends_on why is none file at =
+          let free : append_refusal (kinds_of state.files) path ≡ None = refusal_kept ∙ none in
+          let there = closed_at p state path file agrees at (closed_to_append (kinds_of state.files) path free) in
+          let done = append_step world state path named closed name called ∙ ap (append_file state path) free ∙ ap (open_node state path) there.filed in
+          absurd (cc (is, done))
+
       pub append_over : Over p world state (commands.Append name) path appending
       append_over = record {
         refusal = append_refusal (kinds p) path;
@@ -169,6 +190,10 @@ module _ (path client : List ℕ) (flag : ℕ) where
         spares = λ q may r free. ⊎_elim
             (λ same. agrees_files (Some p) (Some q) state.files same.files agrees r)
             (λ done. open_spares p q sound state agrees path done.1.file done.0.block done.1.at done.1.opens r (apart_from path r free))
+            (may_be_reopened q may);
+        unchanged = λ why is q may. ⊎_elim
+            (λ same. agrees_files (Some p) (Some q) state.files same.files agrees)
+            (λ done. absurd (appends_on why is done.1.none done.1.file done.1.at))
             (may_be_reopened q may);
         closed = closed;
         keeps = λ q may r tail bytes apart c. ⊎_elim

@@ -3,6 +3,7 @@ use Rattle.std.proofs.Common.{◌≡◌, ℕ, true, List, Some, Ok, Err, is_some
 use Rattle.hdfs_model.specs.declared.commands.Command.{Command}
 use Rattle.hdfs_model.specs.declared.commands.Reply.{Reply}
 use Rattle.hdfs_model.specs.declared.errors.HdfsError.{HdfsError}
+use Rattle.hdfs_model.specs.Anywhere.{IsReply}
 use Rattle.hdfs_model.specs.Causes.{Tells, IsEarly, TouchesNothing, CommandLost, Cause}
 use Rattle.hdfs_model.specs.Files.{State}
 use Rattle.hdfs_model.specs.Picture.{Picture}
@@ -52,9 +53,9 @@ open_at old session state command path writer ready here =
 module _ (command : Command) (old new : Shown) (session session' : Session) (later : Later old new) (reads : SameReads old new)
     (idle : TouchesNothing command → SameNodes old new) (links : OnlyOwnLinks old session new session') (stands : Stands new session') where
   -- a command that is done
-  pub acts_done : (reply : Reply) → ((state : State) → IsReady old session state command → Comes command old session new session' reply state) → Acts command old session new session' (Ok reply)
-  acts_done reply comes = record {
-    anywhere = record { later = later; reads = reads; tells = tt; refused = tt; idle = idle };
+  pub acts_done : (reply : Reply) → IsReply command reply → ((state : State) → IsReady old session state command → Comes command old session new session' reply state) → Acts command old session new session' (Ok reply)
+  acts_done reply replies comes = record {
+    anywhere = record { later = later; reads = reads; replies = replies; tells = tt; refused = tt; idle = idle };
     links = links;
     stands = stands;
     applied = λ state ready.
@@ -75,7 +76,7 @@ module _ (command : Command) (old new : Shown) (session session' : Session) (lat
       → ((state : State) → IsReady old session state command → CarriesOpen new session' state)
       → Acts command old session new session' (Err error)
   acts_failed error tells refused found over others = record {
-    anywhere = record { later = later; reads = reads; tells = tells; refused = refused; idle = idle };
+    anywhere = record { later = later; reads = reads; replies = tt; tells = tells; refused = refused; idle = idle };
     links = links;
     stands = stands;
     applied = λ state ready. record {

@@ -11,10 +11,10 @@ use Rattle.hdfs_model.specs.Counts.{FaultCounts}
 use Rattle.hdfs_model.specs.Files.{State, Writing}
 use Rattle.hdfs_model.specs.Paths.{absolute}
 use Rattle.hdfs_model.specs.Picture.{Picture}
-use Rattle.hdfs_model.specs.Sessions.{spared, touched, is_before_asking}
+use Rattle.hdfs_model.specs.Sessions.{does, spared, touched, is_before_asking}
 use Rattle.hdfs_model.specs.Shown.{Shown, Later, SameReads, SameNodes}
 use Rattle.hdfs_model.specs.Sound.{IsSound}
-use Rattle.hdfs_model.specs.Steps.{step, target_of}
+use Rattle.hdfs_model.specs.Steps.{Outcome, step, target_of}
 use Rattle.hdfs_files.specs.Failing.{TellsClose, CauseOfWrite}
 use Rattle.hdfs_files.specs.OnlyFiles.{OnlyFile}
 use Rattle.hdfs_files.specs.Tails.{FileCarries}
@@ -51,9 +51,10 @@ module _ (command : Command) (sends : Sends command) (old new : Shown) (session 
     (later : Later old new) (reads : SameReads old new) (links : OnlyOwnLinks old session new session') (stands : Stands new session')
     (others : (p q : Picture) → old.picture ≡ Some p → new.picture ≡ Some q → IsSound p → OnlyFile path p q → (state : State) → Carried old session state → CarriesOpen new session' state) where
   -- once something was asked nothing is said of the path alone
-  spared_at : (error : HdfsError) → is_before_asking error ≡ false → (state : State) (q : List ℕ) → spared (world_at session old) state command error q ≡ bytes_eq path q
-  spared_at error asked state q =
-      ap (λ (b : Bool). not b && touched state (target_of (world_at session old) command) command q) asked
+  spared_at : (error : HdfsError) → is_before_asking error ≡ false → (state : State) → IsDone (step (world_at session old) state command) → (q : List ℕ) → spared (world_at session old) state command error q ≡ bytes_eq path q
+  spared_at error asked state is q =
+      ap (λ (b : Bool). not b && does (step (world_at session old) state command) && touched state (target_of (world_at session old) command) command q) asked
+      ∙ ap (λ (o : Outcome). does o && touched state (target_of (world_at session old) command) command q) is.2
       ∙ touched_sending command sends state (target_of (world_at session old) command) q
       ∙ ap (λ (x : List ℕ). bytes_eq x q) called
 
@@ -87,7 +88,7 @@ module _ (command : Command) (sends : Sends command) (old new : Shown) (session 
         cause_sending path old new command sends (world_at session old) state called (done state o) error tells (causes_at error causes o.picture o.file.content.bytes o.told o.one o.file.carries),
         agrees_but_by_path (spared (world_at session old) state command error) new.picture on.0 state.files on.1
             (λ other free. agrees_elsewhere path o.picture on.0 (sound o.picture o.told) on.2 state.files o.agrees other
-            (apart_by_test path other (sym (spared_at error (is_after_asking path old new error tells) state other) ∙ free))),
+            (apart_by_test path other (sym (spared_at error (is_after_asking path old new error tells) state (done state o) other) ∙ free))),
       )))
       (λ state ready.
       (let o = open_at old session state command path writer ready here in

@@ -82,7 +82,7 @@ module _ (old middle new : Shown) (before : NeverFall old.counts middle.counts) 
   cause_since w state command (errors.InvalidArgument args.Defaults) h = h
   cause_since w state command (errors.InvalidArgument (args.Range offset len length)) h = h
   cause_since w state command (errors.AlreadyExists message) h = ⊎_elim (λ is. inl is) (λ rose. inr (calls_since rose)) h
-  cause_since w state command (errors.OperationFailed name) h = (h.0, calls_since h.1)
+  cause_since w state command (errors.OperationFailed name) h = (h.0, calls_since h.1, h.2)
   cause_since w state command (errors.FileNotFound name) h = h
   cause_since w state command (errors.RPCError class message) h = ⊎_elim (λ is. inl is) (λ rose. inr (calls_since rose)) h
 

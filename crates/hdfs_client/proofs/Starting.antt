@@ -160,7 +160,7 @@ module _ (s m : Shown) (session session' : Session) (path : List ℕ) (d : Serve
         -- a file was created
         pub created_acts : Acts create s session t session'' (Ok replies.Created)
         created_acts =
-            begun_acts create s t session session'' path writer replies.Created more created_begins stands
+            begun_acts create s t session session'' path writer replies.Created more created_begins refl stands
             (looks_trans s m t prepares.looks (looks_from-Served m t (creating path client options replication block_size) (Ok (answers.Create status)) served)) own at fine linkless created_knows
 
     module _ (name client : List ℕ) (flag : ℕ) (appended : Appended) (stat : FileStatusMsg) (called : absolute session.settings.home name ≡ path) where
@@ -211,5 +211,5 @@ module _ (s m : Shown) (session session' : Session) (path : List ℕ) (d : Serve
         -- a file was opened to be gone on with
         pub appended_acts : Acts append s session t session'' (Ok replies.Appended)
         appended_acts =
-            begun_acts append s t session session'' path writer replies.Appended more appended_begins stands
+            begun_acts append s t session session'' path writer replies.Appended more appended_begins refl stands
             (looks_trans s m t prepares.looks (looks_from-Served m t (appending path client flag) (Ok (answers.Append appended)) served)) own at fine linkless appended_knows

@@ -25,6 +25,7 @@ writer_stands a b w stays s = record {
   idle = s.idle;
   reopened = s.reopened;
   apart = s.apart;
+  done = s.done;
 }
 
 -- So does a session whose links stayed.

@@ -46,7 +46,7 @@ module _ (old new : Shown) (session session' : Session) (name path more : List �
       (λ (x : List ℕ). (p : Picture) (bytes : List ℕ) → old.picture ≡ Some p → FileCarries p x (tail_of writer) bytes
       → (q : Picture) × (new.picture ≡ Some q) × FileCarries q x (tail_of writer') (bytes ++ more) × OnlyFile x p q × SameFile x p q)
       (stands.each path writer call.here).1
-      carries
+      (λ p bytes told carried. (let on = carries p bytes told carried in (on.0, on.1, on.2, on.3, on.4)))
 
   -- the other paths stay
   elsewhere : (state : State) (content : Content) (other : List ℕ) → other ≢ path → (written_state state path content more).files other ≡ state.files other

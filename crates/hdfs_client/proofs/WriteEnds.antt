@@ -66,7 +66,7 @@ module _ (old new : Shown) (session session' : Session) (name path : List ℕ) (
           let call = call_of (Some writer') c wrote.own in
           subst (λ (k : ℕ). Acts (commands.Write name more) old session new session' (Ok (replies.Written k))) (sym count)
           (acts_done (commands.Write name more) old new session session' wrote.own.later wrote.own.reads empty
-          (links_of_one old new session session' path (Some writer) (Some writer') call) (write_stands wrote.own (λ is. (failed is, fine))) (replies.Written (length more))
+          (links_of_one old new session session' path (Some writer) (Some writer') call) (write_stands wrote.own (λ is. (failed is, fine))) (replies.Written (length more)) refl
           (write_comes old new session session' name path more writer writer' call c.before c.sound c.called c.named stands.1 c.settings c.known wrote.carries limited))
 
       module _ (failed : session'.failed ≡ true) (has : files.has_failed writer' ≡ true) where
@@ -85,7 +85,7 @@ module _ (old new : Shown) (session session' : Session) (name path : List ℕ) (
               write_is_done (world_at session old) state name path o.file.content c.called c.named o.opened o.file.named more,
             ))
             own.later own.reads (links_of_one old new session session' path (Some writer) (Some writer') (call_of (Some writer') c own)) (fails_stands own)
-            (others_open old new session session' path (Some writer) (Some writer') (call_of (Some writer') c own) (stands.0.idle has))
+            (others_open old new session session' path (Some writer) (Some writer') (call_of (Some writer') c own) (λ w is. (let one : writer' ≡ w = cc in subst (λ (x : FileWriter). files.has_failed x ≡ true) one has)))
             empty c.sound error (fails_as_close path old new error fails.tells) fails.touches fails.cause
 
         -- a write that is refused
@@ -95,7 +95,7 @@ module _ (old new : Shown) (session session' : Session) (name path : List ℕ) (
             let own = failed_own has (files.link_of writer) (subst (λ (x : Option ℕ). files.OnlyOwnLink old x new None) (sym idle) stayed) in
             write_refused old new session session' name path more writer c.here c.called out same own.later own.reads (λ d. ap (λ (s : Shown). s.counts.nodes d) same)
             (links_of_one old new session session' path (Some writer) (Some writer') (call_of (Some writer') c own)) (fails_stands own)
-            (others_open old new session session' path (Some writer) (Some writer') (call_of (Some writer') c own) (stands.0.idle has)) c.sound
+            (others_open old new session session' path (Some writer) (Some writer') (call_of (Some writer') c own) (λ w is. (let one : writer' ≡ w = cc in subst (λ (x : FileWriter). files.has_failed x ≡ true) one has))) c.sound
 
         -- a write that isn't done
         pub write_fails : (error : HdfsError) → (files.AreLimited (files.sizes_of writer) → files.Fails old writer error new)
@@ -120,7 +120,7 @@ module _ (old new : Shown) (session session' : Session) (name path : List ℕ) (
     close_acts failed closed =
         let call = call_of None c closed.own in
         acts_done (commands.Close name) old new session session' closed.own.later closed.own.reads (λ none. absurd none)
-        (links_of_one old new session session' path (Some writer) None call) (close_stands closed.own failed) replies.Closed
+        (links_of_one old new session session' path (Some writer) None call) (close_stands closed.own failed) replies.Closed refl
         (close_comes old new session session' name path writer call c.before c.sound c.called c.named c.settings c.known closed.closes)
 
     -- a close that fails
@@ -131,7 +131,7 @@ module _ (old new : Shown) (session session' : Session) (name path : List ℕ) (
         (λ state o. (replies.Closed, closed_state state path o.file.content, close_is_done (world_at session old) state name path o.file.content c.called c.named o.opened o.file.named))
         own.later own.reads (links_of_one old new session session' path (Some writer) None (call_of None c own))
         (close_stands own (λ is. absurd (false≢true (sym is ∙ failed))))
-        (others_open old new session session' path (Some writer) None (call_of None c own) refl)
+        (others_open old new session session' path (Some writer) None (call_of None c own) (λ w is. absurd (cc)))
         (λ none. absurd none) c.sound error (subst (λ (x : List ℕ). TellsClose x old new error) (c.before.each path writer c.here).1 fails.tells) fails.touches fails.cause
 
 -- a write that isn't done says neither of the path rule nor of what is open

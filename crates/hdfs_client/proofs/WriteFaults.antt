@@ -1,5 +1,5 @@
 -- What the error of a writer of a file is for the command that has it.
-use Rattle.std.proofs.Common.{◌≡◌, inr, ℕ, false, List, refl, sym, subst}
+use Rattle.std.proofs.Common.{◌≡◌, inr, ℕ, false, List, refl, sym, ◌∙◌, subst}
 use Rattle.hdfs_model.specs.declared.commands.Command.{Command}
 use Rattle.hdfs_model.specs.declared.errors.HdfsError.{HdfsError}
 use Rattle.hdfs_model.specs.declared.errors.HdfsError.TheVariants as errors
@@ -91,7 +91,7 @@ module _ (path : List ℕ) (old new : Shown) where
     cause_sending world state called done (errors.DataTransferError (transfer.BadAck seqno)) h cause = (done, h)
     cause_sending world state called done (errors.AlreadyExists message) h cause = inr cause
     cause_sending world state called done (errors.RPCError class message) h cause = inr cause
-    cause_sending world state called done (errors.OperationFailed name) h cause = (done, cause)
+    cause_sending world state called done (errors.OperationFailed name) h cause = (done, cause, h.0 ∙ sym called)
     cause_sending world state called done errors.Failed h cause = absurd h
     cause_sending world state called done (errors.DataTransferError (transfer.Read byte)) h cause = absurd h
     cause_sending world state called done (errors.InvalidPath text) h cause = absurd h

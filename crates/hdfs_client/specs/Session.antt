@@ -94,10 +94,10 @@ pub record Carried (shown : Shown) (session : Session) (state : State) : Type 0 
   pub each : (p : Picture) → shown.picture ≡ Some p → (path : List ℕ) (writer : FileWriter) → writer_of session path ≡ Some writer → CarriesFile p state path writer
   pub defaults : IfSome (defaults_known session) (λ known. known ≡ defaults_of shown.picture)
 
--- Each of the session's writers that keeps a link carries the bytes of the file that the state has open at its path.
+-- Each of the session's writers that hasn't failed carries the bytes of the file that the state has open at its path.
 pub record CarriesOpen (shown : Shown) (session : Session) (state : State) : Type 0 where
   pub each : (p : Picture) → shown.picture ≡ Some p → (path : List ℕ) (writer : FileWriter) → writer_of session path ≡ Some writer
-      → (files.link_of writer ≡ None) ⊎ CarriesFile p state path writer
+      → (files.has_failed writer ≡ true) ⊎ CarriesFile p state path writer
 
 -- Over a state: nothing changed but what datanodes hold of the blocks of files that are being written.
 pub record LeavesFiles (old new : Shown) (state : State) : Type 0 where

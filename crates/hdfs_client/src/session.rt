@@ -44,7 +44,8 @@ impl Session {
         requires { 0 < (C.shown cluster.now).namenodes }
         ensures settings { IfOk result (λ session. (settings_of session ≡ settings.now) × (are_settings settings.now ≡ true)) }
         ensures stands { IfOk result (λ session. ((shown : Shown) → Stands shown session) × (has_failed session ≡ false)) }
-        ensures none { IfOk result (λ session. ((path : List ℕ) → writer_of session path ≡ None) × (defaults_known session ≡ None)) }
+        ensures none { IfOk result (λ session. ((path : List ℕ) → writer_of session path ≡ None)
+            × (defaults_known session ≡ None)) }
         ensures err { IfErr result (IsNotBegun settings.now) }
     {
         if !settings.are_limited() {
@@ -128,7 +129,7 @@ impl Session {
     /// | `InvalidArgument(Options)` | where an option of a new file is out of its limits, or an attribute of the file that is written |
     /// | `InvalidArgument(Defaults)` | where the cluster's defaults are out of their limits, and a file is created or appended to |
     /// | `InvalidArgument(Range)` | where the range ends behind the file |
-    /// | `AlreadyExists` | where something stands at the path of a new file, or where a namenode has failed |
+    /// | `AlreadyExists` | where something stands at the path of a new file, or a file that is appended to is being written, or where a namenode has failed |
     /// | `FileNotFound` | where there is no file at the path |
     /// | `RPCError` | for the same reason, or where a namenode has failed |
     /// | `DataTransferError(Read)` | where each datanode has failed that holds a block of the range whole; the offset is in that block |
@@ -145,7 +146,8 @@ impl Session {
         requires stands { Stands (C.shown cluster.old) self.old }
 
         // Over any cluster, and over one that agrees with a state whose open files the session carries.
-        ensures acts { has_failed self.old ≡ false → Acts command.now (C.shown cluster.old) self.old (C.shown cluster.new) self.new result }
+        ensures acts { has_failed self.old ≡ false
+            → Acts command.now (C.shown cluster.old) self.old (C.shown cluster.new) self.new result }
         ensures owed { has_failed self.old ≡ false
             → IfErr result (Owed (world_at self.old (C.shown cluster.old)) (opened_of self.old) command.now) }
 
@@ -169,10 +171,12 @@ impl Session {
         requires stands { Stands (C.shown cluster.old) self }
         ensures others { (link : ℕ) → IsSome ((C.shown cluster.old).writes link) → (HasLink self link → ⊥)
             → (C.shown cluster.new).writes link ≡ (C.shown cluster.old).writes link }
-        ensures none { (link : ℕ) → ((C.shown cluster.old).writes link ≡ None) ⊎ HasLink self link → (C.shown cluster.new).writes link ≡ None }
+        ensures none { (link : ℕ) → ((C.shown cluster.old).writes link ≡ None) ⊎ HasLink self link
+            → (C.shown cluster.new).writes link ≡ None }
         ensures keeps { Later (C.shown cluster.old) (C.shown cluster.new) × SameReads (C.shown cluster.old) (C.shown cluster.new)
             × ((C.shown cluster.new).last ≡ (C.shown cluster.old).last) }
-        ensures files { (state : State) → CarriesOpen (C.shown cluster.old) self state → LeavesFiles (C.shown cluster.old) (C.shown cluster.new) state }
+        ensures files { (state : State) → CarriesOpen (C.shown cluster.old) self state
+            → LeavesFiles (C.shown cluster.old) (C.shown cluster.new) state }
     {
         for (_, writer) in self.writers {
             writer.abandon(cluster);

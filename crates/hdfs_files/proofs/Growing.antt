@@ -1,5 +1,6 @@
 -- A file that gets a block more, and one that is closed.
-use Rattle.std.proofs.Common.{◌≡◌, ⊎_elim, ℕ, true, false, Bool, List, [], Option, Some, None, refl, sym, ◌∙◌, subst}
+use Rattle.std.proofs.Common.{◌≡◌, ⊎_elim, ℕ, ◌+◌, true, false, Bool, List, [], ◌∷◌, ◌++◌, length, Option, Some, None, refl, sym, ◌∙◌, ap, subst, arith}
+use Rattle.std.proofs.lemmas.List.{length-append}
 use Rattle.std.specs.List.{list_any}
 use Rattle.std.specs.Prelude.{Contains, cond, unwrap_or}
 use Rattle.std.specs.Str.{bytes_eq}
@@ -9,7 +10,7 @@ use Rattle.hdfs_model.specs.declared.messages.LocatedBlock.{LocatedBlock}
 use Rattle.hdfs_model.specs.declared.picture.Entry.{Entry}
 use Rattle.hdfs_model.specs.declared.picture.Entry.TheVariants as entries
 use Rattle.hdfs_model.specs.declared.picture.FileEntry.{FileEntry}
-use Rattle.hdfs_model.specs.Effects.{Changes, Creates, AddsBlock, HasBlock, IsLast, ClosesIf, Completes, with_entry, with_length}
+use Rattle.hdfs_model.specs.Effects.{Changes, Creates, AddsBlock, HasBlock, IsLast, ClosesIf, Completes, blocks_at, with_entry, with_length}
 use Rattle.hdfs_model.specs.Files.{File}
 use Rattle.hdfs_model.specs.Picture.{Picture}
 use Rattle.hdfs_model.specs.Sending.{uuids}
@@ -31,6 +32,7 @@ pub record Grown (p : Picture) (path bytes : List ℕ) (found : LocatedBlock) (q
   pub being_written : file.is_open ≡ true
   pub front : StoresFront q file.blocks found.b.block_id bytes []
   pub whole : HoldsWhole q found.b.block_id 0 (uuids found.locs) []
+  pub longer : length (blocks_at (q.names path)) ≡ length (blocks_at (p.names path)) + 1
   pub only : OnlyFile path p q
   pub same : SameFile path p q
 
@@ -39,6 +41,14 @@ pub last_of_carried : (p : Picture) (path : List ℕ) (last : Option Block) (byt
 last_of_carried p path None bytes c sound = (tt, c.carries.0)
 last_of_carried p path (Some block) bytes c sound =
     (adding.has_last p p sound path c.file c.named block.block_id block.num_bytes bytes block refl refl c.carries, adding.ends_in_last p p sound path c.file c.named block.block_id block.num_bytes bytes block refl refl c.carries)
+
+-- the file has one block more
+longer_by : (p q : Picture) (path : List ℕ) (file file' : FileEntry) (id : ℕ) → IsFileAt p path file → IsFileAt q path file'
+    → file'.blocks ≡ file.blocks ++ id ∷ [] → length (blocks_at (q.names path)) ≡ length (blocks_at (p.names path)) + 1
+longer_by p q path file file' id named named' more =
+    let before : length (blocks_at (p.names path)) ≡ length file.blocks = ap (λ (e : Option Entry). length (blocks_at e)) named in
+    let after : length (blocks_at (q.names path)) ≡ length file'.blocks = ap (λ (e : Option Entry). length (blocks_at e)) named' in
+    omega (arith, before, after, ap length more, length-append file.blocks (id ∷ []))
 
 -- a block more
 pub grows : (p q : Picture) → IsSound p → (path : List ℕ) (last : Option Block) (bytes : List ℕ) (c : FileCarries p path (tail_done last) bytes) (found : LocatedBlock) → AddsBlock path c.file last found p q → Grown p path bytes found q
@@ -50,6 +60,8 @@ grows p q sound path None bytes c found adds =
       being_written = c.being_written;
       front = adding.new_front p q sound path c.file c.named None bytes found new stored;
       whole = adding.new_located p q sound path c.file c.named None bytes found new stored;
+      longer = longer_by p q path c.file (adding.grown_file p q sound path c.file c.named None bytes found new stored) new.id c.named
+          (adding.grown_named p q sound path c.file c.named None bytes found new stored) refl;
       only = touching.only_file_added p q path c.file c.named None (λ other away. refl) found new;
       same = touching.same_file_added p q path c.file c.named None (λ other away. refl) found new;
     }
@@ -63,6 +75,8 @@ grows p q sound path (Some block) bytes c found adds =
       being_written = c.being_written;
       front = adding.new_front p q sound path c.file c.named (Some block) bytes found new stored;
       whole = adding.new_located p q sound path c.file c.named (Some block) bytes found new stored;
+      longer = longer_by p q path c.file (adding.grown_file p q sound path c.file c.named (Some block) bytes found new stored) new.id c.named
+          (adding.grown_named p q sound path c.file c.named (Some block) bytes found new stored) refl;
       only = touching.only_file_added p q path c.file c.named (Some block) lengths found new;
       same = touching.same_file_added p q path c.file c.named (Some block) lengths found new;
     }

@@ -36,8 +36,8 @@ wrote_trans a b c w x y one two first then = record {
   keeps = keeps_trans w x y first.keeps then.keeps;
   own = own_link_trans a b c (link_of w) (link_of x) (link_of y) first.own then.own;
   carries = λ p bytes told carried.
-      (let both = carries_trans a b c w x y one two first.keeps.path first.carries then.carries p bytes told carried in
-      (both.0, both.1, subst (FileCarries both.0 w.path (tail_of y)) (append_assoc bytes one two) both.2, both.3, both.4));
+      (let both = carries_trans a b c w x y one two first.keeps.path first.keeps.sizes first.carries then.carries p bytes told carried in
+      (both.0, both.1, subst (FileCarries both.0 w.path (tail_of y)) (append_assoc bytes one two) both.2, both.3, both.4, both.5));
 }
 
 pub tells_since : (a b c : Shown) (e : HdfsError) → Later a b → Later b c → TellsWrite b c e → TellsWrite a c e

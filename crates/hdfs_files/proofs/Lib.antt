@@ -7,6 +7,7 @@ pub mod Touching
 pub mod Asked
 pub mod Blocks
 pub mod Growing
+pub mod Filling
 pub mod Completing
 pub mod Steps
 pub mod Joining

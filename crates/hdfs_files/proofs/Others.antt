@@ -134,4 +134,5 @@ stands_beside a b w stays stands = record {
   idle = stands.idle;
   reopened = stands.reopened;
   apart = stands.apart;
+  done = stands.done;
 }

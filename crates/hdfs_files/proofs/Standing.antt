@@ -1,12 +1,13 @@
 -- How a writer of a file stands behind each step, and what the step has done.
-use Rattle.std.proofs.Common.{◌≡◌, ℕ, ◌<◌, ◌≤◌, min, true, false, List, [], Option, Some, None, IsSome, refl, sym, ◌∙◌, ap, subst, arith}
-use Rattle.std.proofs.lemmas.Bool.{false≢true}
+use Rattle.std.proofs.Common.{◌≡◌, ⊎_elim, ℕ, ◌<◌, ◌≤◌, min, true, false, List, [], Option, Some, None, IsSome, refl, sym, ◌∙◌, ap, subst, arith}
+use Rattle.std.proofs.lemmas.Bool.{cases_lt, false≢true}
 use Rattle.std.specs.Prelude.{Ok, Err, IfSome}
 use Rattle.hdfs_model.specs.declared.asks.Answer.TheVariants as answers
 use Rattle.hdfs_model.specs.declared.asks.Ask.TheVariants as asks
 use Rattle.hdfs_model.specs.declared.asks.AskFault.{AskFault}
 use Rattle.hdfs_model.specs.declared.asks.LinkFault.{LinkFault}
 use Rattle.hdfs_model.specs.declared.errors.HdfsError.TheVariants as errors
+use Rattle.hdfs_model.specs.declared.messages.Block.{Block}
 use Rattle.hdfs_model.specs.declared.messages.LocatedBlock.{LocatedBlock}
 use Rattle.hdfs_model.specs.declared.messages.Setup.{Setup}
 use Rattle.hdfs_model.specs.Namenode.{last_of, IsToWrite}
@@ -23,7 +24,8 @@ use Rattle.hdfs_blocks.specs.declared.pipe.WriteFault.{WriteFault}
 use Rattle.hdfs_files.specs.declared.file_writer.FileWriter.{FileWriter}
 use Rattle.hdfs_files.specs.declared.sizes.WriteSizes.{WriteSizes}
 use Rattle.hdfs_files.specs.Faults.{error_of}
-use Rattle.hdfs_files.specs.Writers.{AreLimited, ArePackets, AreSizes, link_of, link_by, Keeps, Stands, IsBetweenBlocks, BlockStands, OnlyOwnLink, Wrote, Fails}
+use Rattle.hdfs_files.specs.Tails.{IsFull}
+use Rattle.hdfs_files.specs.Writers.{AreLimited, ArePackets, AreSizes, link_of, link_by, tail_by, tail_of, Keeps, Stands, IsBetweenBlocks, HasRoom, BlockStands, OnlyOwnLink, Wrote, Fails}
 use Rattle.hdfs_files.proofs.Asked.{add_rose}
 use Rattle.hdfs_files.proofs.Growing.{last_of_carried}
 use Rattle.hdfs_files.proofs.Moving.{own_link_refl, own_link_at, own_link_ended, own_link_served, own_link_opened, own_link_unopened, only_file_refl}
@@ -38,6 +40,14 @@ starved_fails a w idle = record {
   touches = λ p bytes told c. (p, told, only_file_refl w.path p);
   cause = λ p bytes told size c. tt;
 }
+
+-- a block has no more bytes than it may have
+pub within_size : (shown : Shown) (block : BlockWriter) → StandsItself shown block → IsSome (block_link block) → length_of block ≤ size_of block
+within_size shown block stands some = by_pipe block.pipe refl some
+  where
+    by_pipe : (o : Option Pipe) → block.pipe ≡ o → IsSome (link_in o) → length_of block ≤ size_of block
+    by_pipe None is there = absurd (false≢true there)
+    by_pipe (Some pipe) is there = (stands pipe is).0.within.0
 
 module _ (a b : Shown) (sound : Shows IsSound a) (w : FileWriter) (block : BlockWriter) (going : w.going ≡ Some block) where
   own_from : (x : Option ℕ) → OnlyOwnLink a (block_link block) b x → OnlyOwnLink a (link_of w) b x
@@ -60,14 +70,22 @@ module _ (a b : Shown) (sound : Shows IsSound a) (w : FileWriter) (block : Block
     cause = λ p bytes told size c. block_cause w.path a b fault (gave_up_failed a b sound w block going shows stands.stands some fault gave p bytes told c);
   }
 
+  -- its block is no longer than a block of the file
+  more_within : (block' : BlockWriter) (more : List ℕ) → Stands a w → w.failed ≡ false → BlockWrote a block more b block'
+      → StandsItself b block' → length_of block' ≤ w.sizes.block_size
+  more_within block' more stands fine wrote itself =
+      let within = within_size b block' itself (subst IsSome (sym wrote.link) (stands.is_open fine block going)) in
+      omega (arith, within, wrote.keeps.block_size, (stands.going block going).size)
+
   -- more bytes went into its block
-  pub more_wrote : (w' : FileWriter) (block' : BlockWriter) (more : List ℕ) → Keeps w w' → w'.going ≡ Some block' → BlockWrote a block more b block' → Wrote a w more b w'
-  more_wrote w' block' more keeps going' wrote = record {
+  pub more_wrote : (w' : FileWriter) (block' : BlockWriter) (more : List ℕ) → Stands a w → w.failed ≡ false → Keeps w w'
+      → w'.going ≡ Some block' → BlockWrote a block more b block' → StandsItself b block' → Wrote a w more b w'
+  more_wrote w' block' more stands fine keeps going' wrote itself = record {
     keeps = keeps;
     own = own_from (link_of w')
         (subst (λ (g : Option BlockWriter). OnlyOwnLink a (block_link block) b (link_by g)) (sym going')
         (subst (OnlyOwnLink a (block_link block) b) (sym wrote.link) (own_link_at a b (block_link block) wrote.at)));
-    carries = wrote_carries a b sound w block going w' block' more going' wrote;
+    carries = wrote_carries a b sound w block going w' block' more going' (more_within block' more stands fine wrote itself) wrote;
   }
 
   pub more_stands : (w' : FileWriter) (block' : BlockWriter) (more : List ℕ) → Stands a w → w.failed ≡ false → w'.failed ≡ false → Keeps w w' → w'.going ≡ Some block' → w'.reopened ≡ w.reopened → BlockWrote a block more b block' → StandsItself b block' → Stands b w'
@@ -86,6 +104,7 @@ module _ (a b : Shown) (sound : Shows IsSound a) (w : FileWriter) (block : Block
     idle = λ failed. absurd (false≢true (sym fine' ∙ failed));
     reopened = subst (λ (o : Option LocatedBlock). IfSome o IsToWrite) (sym rest) stands.reopened;
     apart = λ some. (let none : w.going ≡ None = stands.apart (subst IsSome rest some) in absurd (cc (none, going)));
+    done = λ fine'' none. absurd (cc (none, going'));
   }
 
   -- it was let go
@@ -97,11 +116,11 @@ idle_own a x w y none own = subst (λ (g : Option BlockWriter). OnlyOwnLink a (l
 
 -- a writer of a file that asks for a block
 module _ (a m : Shown) (sound : Shows IsSound a) (w : FileWriter) (between : IsBetweenBlocks w) (client : List ℕ) where
-  pub added_wrote : (found : LocatedBlock) → found.b.num_bytes ≡ 0 → Served a 0 (asks.AddBlock w.path client w.last [] w.file_id) (Ok (answers.AddBlock found)) m → Wrote a w [] m (record w { going = None; reopened = Some found })
-  added_wrote found empty served = record {
+  pub added_wrote : (found : LocatedBlock) → found.b.num_bytes ≡ 0 → IsFull w.sizes.block_size (tail_of w) → Served a 0 (asks.AddBlock w.path client w.last [] w.file_id) (Ok (answers.AddBlock found)) m → Wrote a w [] m (record w { going = None; reopened = Some found })
+  added_wrote found empty full served = record {
     keeps = record { path = refl; file_id = refl; sizes = refl };
     own = idle_own a m w None between.none (own_link_served a m 0 (asks.AddBlock w.path client w.last [] w.file_id) (Ok (answers.AddBlock found)) None served);
-    carries = added_carries a m sound w between client found empty served;
+    carries = added_carries a m sound w between client found empty full served;
   }
 
   pub unanswered_fails : (fault : AskFault) → Served a 0 (asks.AddBlock w.path client w.last [] w.file_id) (Err fault) m → 0 < a.namenodes → ((p : Picture) → a.picture ≡ Some p → p.active < a.namenodes) → Fails a w (asked_error fault) m
@@ -160,15 +179,25 @@ begun_stands b m w w' block found setup sizes fine same going done itself new op
   idle = λ failed. absurd (false≢true (sym fine ∙ failed));
   reopened = subst (λ (o : Option LocatedBlock). IfSome o IsToWrite) (sym done) tt;
   apart = λ some. absurd (some_none w'.reopened some done);
+  done = λ fine' none. absurd (cc (none, going));
 }
 
--- a block has no more bytes than it may have
-pub within_size : (shown : Shown) (block : BlockWriter) → StandsItself shown block → IsSome (block_link block) → length_of block ≤ size_of block
-within_size shown block stands some = by_pipe block.pipe refl some
+-- A writer that stands has filled its last block where it has no room in it, and none is to be gone on with that has room.
+pub full_without_room : (shown : Shown) (w : FileWriter) → Stands shown w → w.failed ≡ false → (HasRoom w → ⊥)
+    → IfSome w.reopened (λ located. w.sizes.block_size ≤ located.b.num_bytes) → IsFull w.sizes.block_size (tail_of w)
+full_without_room shown w stands fine never long = by_parts w.going w.reopened w.last refl refl refl
   where
-    by_pipe : (o : Option Pipe) → block.pipe ≡ o → IsSome (link_in o) → length_of block ≤ size_of block
-    by_pipe None is there = absurd (false≢true there)
-    by_pipe (Some pipe) is there = (stands pipe is).0.within.0
+    by_parts : (g : Option BlockWriter) (o : Option LocatedBlock) (l : Option Block) → w.going ≡ g → w.reopened ≡ o → w.last ≡ l
+        → IsFull w.sizes.block_size (tail_by g o l)
+    by_parts (Some block) o l going reopened last =
+        ⊎_elim
+        (λ less. absurd (never (block, going, λ same. absurd (omega (arith, less, same)))))
+        (λ full. omega (arith, full, (stands.going block going).size))
+        (cases_lt (length_of block) (size_of block))
+    by_parts None (Some located) l going reopened last =
+        subst (λ (x : Option LocatedBlock). IfSome x (λ found. w.sizes.block_size ≤ found.b.num_bytes)) reopened long
+    by_parts None None (Some block) going reopened last = absurd (let none : w.last ≡ None = stands.done fine going in cc (none, last))
+    by_parts None None None going reopened last = tt
 
 -- the least of two that are some is some
 pub min_some : (n a b : ℕ) → n ≡ min a b → 0 < a → 0 < b → (0 < n) × (n ≤ a)
@@ -183,4 +212,5 @@ failed_stands shown shown' w w' stands keeps between failed = record {
   idle = λ is. ap link_by between.none;
   reopened = subst (λ (o : Option LocatedBlock). IfSome o IsToWrite) (sym between.done) tt;
   apart = λ some. between.none;
+  done = λ fine none. absurd (false≢true (sym fine ∙ failed));
 }

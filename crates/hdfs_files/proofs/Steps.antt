@@ -1,5 +1,5 @@
 -- What each step of a writer of a file comes to.
-use Rattle.std.proofs.Common.{◌≡◌, ⊎_elim, ℕ, Bool, true, false, List, [], ◌++◌, Option, Some, None, IsSome, refl, sym, ◌∙◌, ap, subst}
+use Rattle.std.proofs.Common.{◌≡◌, ⊎_elim, ℕ, ◌+◌, ◌≤◌, Bool, true, false, List, [], ◌++◌, length, Option, Some, None, IsSome, refl, sym, ◌∙◌, ap, subst}
 use Rattle.std.proofs.lemmas.List.{append-nil}
 use Rattle.std.proofs.lemmas.Bool.{false≢true}
 use Rattle.std.specs.Prelude.{Any, Contains, Ok, Err, cond}
@@ -38,14 +38,16 @@ use Rattle.hdfs_blocks.specs.declared.pipe.Pipe.{Pipe}
 use Rattle.hdfs_blocks.specs.declared.pipe.WriteFault.{WriteFault}
 use Rattle.hdfs_blocks.specs.declared.pipe.WriteFault.TheVariants as faults
 use Rattle.hdfs_files.specs.declared.file_writer.FileWriter.{FileWriter}
+use Rattle.hdfs_files.specs.declared.sizes.WriteSizes.{WriteSizes}
 use Rattle.hdfs_files.specs.Failing.{TellsWrite, CauseOfWrite}
 use Rattle.hdfs_files.specs.Faults.{error_of}
 use Rattle.hdfs_files.specs.OnlyFiles.{OnlyFile, SameFile}
-use Rattle.hdfs_files.specs.Tails.{Reopened, Going, StoresFront, FileCarries}
-use Rattle.hdfs_files.specs.Writers.{tail_done, tail_by, tail_of, IsBetweenBlocks, CarriesMore, TouchesFile, LeavesFile}
+use Rattle.hdfs_files.specs.Tails.{Tail, Reopened, Going, tail_length, IsFull, FillsBlocks, StoresFront, TailCarries, FileCarries}
+use Rattle.hdfs_files.specs.Writers.{blocks_in, tail_done, tail_by, tail_of, IsBetweenBlocks, CarriesMore, TouchesFile, LeavesFile}
 use Rattle.hdfs_files.proofs.Asked.{added, not_added}
 use Rattle.hdfs_files.proofs.Blocks.{touches_own, going_more, going_ended}
 use Rattle.hdfs_files.proofs.Completing.{front_same}
+use Rattle.hdfs_files.proofs.Filling.{tail_going, tail_reopened, tail_between, fills_same, fills_more, fills_trans, fills_grown}
 use Rattle.hdfs_files.proofs.Growing.{grows, last_of_carried}
 use Rattle.hdfs_files.proofs.Moving.{only_file_refl, only_file_trans, same_file_refl, same_file_trans}
 use Rattle.hdfs_files.proofs.Touching.{only_file_active}
@@ -56,7 +58,14 @@ Shows P shown = (p : Picture) → shown.picture ≡ Some p → P p
 
 -- nothing was done
 pub carries_nothing : (a : Shown) (writer : FileWriter) → CarriesMore a writer [] a writer
-carries_nothing a writer p bytes told c = (p, told, subst (FileCarries p writer.path (tail_of writer)) (sym (append-nil bytes)) c, only_file_refl writer.path p, same_file_refl writer.path p)
+carries_nothing a writer p bytes told c = (
+  p,
+  told,
+  subst (FileCarries p writer.path (tail_of writer)) (sym (append-nil bytes)) c,
+  only_file_refl writer.path p,
+  same_file_refl writer.path p,
+  fills_same writer.sizes.block_size (blocks_in p writer) (blocks_in p writer) (tail_of writer) (tail_of writer) refl refl,
+)
 
 -- a block's writer that stands has an open link
 pub open_link : (shown : Shown) (block : BlockWriter) → BlockStands shown block → IsSome (block_link block) → (link : ℕ) × (block_link block ≡ Some link) × ((write : OpenWrite) × (shown.writes link ≡ Some write))
@@ -124,6 +133,9 @@ module _ (a b : Shown) (sound : Shows IsSound a) (writer : FileWriter) (block : 
             (going_ended p (sound p told) writer.path block bytes c' whole.0 (length_of block) whole.3 whole.2))),
         touches.0,
         touches.1,
+        fills_same writer.sizes.block_size (blocks_in p writer) (blocks_in whole.0 writer) (tail_of writer) (tail_of writer')
+            (ap blocks_at (whole.3.records.names writer.path))
+            (ap tail_length (tail_between writer' between ∙ ap tail_done last) ∙ sym (ap tail_length (tail_going writer block going))),
       )
 
   -- it was given up
@@ -168,8 +180,8 @@ module _ (a b : Shown) (sound : Shows IsSound a) (writer : FileWriter) (block : 
       }
 
   -- more bytes went into it
-  pub wrote_carries : (writer' : FileWriter) (block' : BlockWriter) (more : List ℕ) → writer'.going ≡ Some block' → Wrote a block more b block' → CarriesMore a writer more b writer'
-  wrote_carries writer' block' more going' wrote p bytes told c =
+  pub wrote_carries : (writer' : FileWriter) (block' : BlockWriter) (more : List ℕ) → writer'.going ≡ Some block' → length_of block' ≤ writer.sizes.block_size → Wrote a block more b block' → CarriesMore a writer more b writer'
+  wrote_carries writer' block' more going' within wrote p bytes told c =
       let c' = as_going p bytes c in
       let on = wrote.carries p c'.carries.2.0 c'.carries.0 told c'.carries.2.1 in
       let touches = touches_own p (sound p told) writer.path block bytes c' on.0 c'.carries.2.0 on.3 in (
@@ -179,12 +191,26 @@ module _ (a b : Shown) (sound : Shows IsSound a) (writer : FileWriter) (block : 
             (going_more p (sound p told) writer.path block bytes c' on.0 block' more (ap (λ (x : Block). x.block_id) wrote.keeps.block) on.3 on.2),
         touches.0,
         touches.1,
+        fills_more writer.sizes.block_size (blocks_in p writer) (blocks_in on.0 writer) (tail_of writer) (tail_of writer') more
+            (ap blocks_at (on.3.records.names writer.path))
+            (ap tail_length (tail_going writer' block' going') ∙ wrote.length
+            ∙ ap (λ (t : Tail). tail_length t + length more) (sym (tail_going writer block going)))
+            (subst (λ (t : Tail). tail_length t ≤ writer.sizes.block_size) (sym (tail_going writer' block' going')) within),
       )
 
+-- the blocks are filled as they are for another writer of the same file
+fills_as : (p q : Picture) (w x y : FileWriter) (more : List ℕ) → x.path ≡ w.path → x.sizes ≡ w.sizes
+    → FillsBlocks x.sizes.block_size (blocks_in p x) (tail_of x) more (blocks_in q x) (tail_of y)
+    → FillsBlocks w.sizes.block_size (blocks_in p w) (tail_of x) more (blocks_in q w) (tail_of y)
+fills_as p q w x y more same sizes fills =
+    subst (λ (path : List ℕ). FillsBlocks w.sizes.block_size (blocks_at (p.names path)) (tail_of x) more (blocks_at (q.names path)) (tail_of y)) same
+    (subst (λ (s : WriteSizes). FillsBlocks s.block_size (blocks_in p x) (tail_of x) more (blocks_in q x) (tail_of y)) sizes fills)
+
 -- calls after one another
-pub carries_trans : (a b c : Shown) (w x y : FileWriter) (one two : List ℕ) → x.path ≡ w.path → CarriesMore a w one b x → CarriesMore b x two c y → (p : Picture) (bytes : List ℕ) → a.picture ≡ Some p → FileCarries p w.path (tail_of w) bytes
+pub carries_trans : (a b c : Shown) (w x y : FileWriter) (one two : List ℕ) → x.path ≡ w.path → x.sizes ≡ w.sizes → CarriesMore a w one b x → CarriesMore b x two c y → (p : Picture) (bytes : List ℕ) → a.picture ≡ Some p → FileCarries p w.path (tail_of w) bytes
     → (q : Picture) × (c.picture ≡ Some q) × FileCarries q w.path (tail_of y) ((bytes ++ one) ++ two) × OnlyFile w.path p q × SameFile w.path p q
-carries_trans a b c w x y one two same first then p bytes told carried =
+    × FillsBlocks w.sizes.block_size (blocks_in p w) (tail_of w) (one ++ two) (blocks_in q w) (tail_of y)
+carries_trans a b c w x y one two same sizes first then p bytes told carried =
     let f = first p bytes told carried in
     let t = then f.0 (bytes ++ one) f.1 (subst (λ (path : List ℕ). FileCarries f.0 path (tail_of x) (bytes ++ one)) (sym same) f.2) in (
       t.0,
@@ -192,6 +218,8 @@ carries_trans a b c w x y one two same first then p bytes told carried =
       subst (λ (path : List ℕ). FileCarries t.0 path (tail_of y) ((bytes ++ one) ++ two)) same t.2,
       only_file_trans w.path p f.0 t.0 f.3 (subst (λ (path : List ℕ). OnlyFile path f.0 t.0) same t.3),
       same_file_trans w.path p f.0 t.0 f.4 (subst (λ (path : List ℕ). SameFile path f.0 t.0) same t.4),
+      fills_trans w.sizes.block_size (blocks_in p w) (blocks_in f.0 w) (blocks_in t.0 w) (tail_of w) (tail_of x) (tail_of y) one two f.5
+          (fills_as f.0 t.0 w x y two same sizes t.5),
     )
 
 pub touches_behind : (a b c : Shown) (w x : FileWriter) (one : List ℕ) → x.path ≡ w.path → CarriesMore a w one b x → TouchesFile b x c → TouchesFile a w c
@@ -215,10 +243,21 @@ only_file_started path p q link setup starts = record {
   defaults = starts.files.defaults;
 }
 
+-- a new block stands behind full ones
+fills_behind : (p q : Picture) (w : FileWriter) → IsBetweenBlocks w → (bytes : List ℕ) → FileCarries p w.path (tail_done w.last) bytes
+    → (size : ℕ) → IsFull size (tail_of w) → (found : LocatedBlock) → found.b.num_bytes ≡ 0
+    → length (blocks_in q w) ≡ length (blocks_in p w) + 1 → FillsBlocks size (blocks_in p w) (tail_of w) [] (blocks_in q w) (Reopened found)
+fills_behind p q w between bytes c size full found empty longer =
+    let at : c.file.blocks ≡ blocks_in p w = sym (ap blocks_at c.named) in
+    subst (λ (t : Tail). FillsBlocks size (blocks_in p w) t [] (blocks_in q w) (Reopened found)) (sym (tail_between w between))
+    (fills_grown p size (blocks_in p w) (blocks_in q w) w.last bytes (Reopened found)
+    (subst (λ (l : List ℕ). TailCarries p l (tail_done w.last) bytes) at c.carries)
+    (subst (IsFull size) (tail_between w between) full) longer empty)
+
 module _ (a m : Shown) (sound : Shows IsSound a) (writer : FileWriter) (between : IsBetweenBlocks writer) (client : List ℕ) where
   -- a block was answered, which is to be written
-  pub added_carries : (found : LocatedBlock) → found.b.num_bytes ≡ 0 → Served a 0 (asks.AddBlock writer.path client writer.last [] writer.file_id) (Ok (answers.AddBlock found)) m → CarriesMore a writer [] m (record writer { going = None; reopened = Some found })
-  added_carries found empty served p bytes told c =
+  pub added_carries : (found : LocatedBlock) → found.b.num_bytes ≡ 0 → IsFull writer.sizes.block_size (tail_of writer) → Served a 0 (asks.AddBlock writer.path client writer.last [] writer.file_id) (Ok (answers.AddBlock found)) m → CarriesMore a writer [] m (record writer { going = None; reopened = Some found })
+  added_carries found empty full served p bytes told c =
       let c' = as_done writer between p writer.path bytes c in
       let add = added a m 0 writer.path client writer.last [] writer.file_id p c'.file told c'.named c'.being_written (last_of_carried p writer.path writer.last bytes c' (sound p told)).0 found served in
       let g = grows p add.0 (sound p told) writer.path writer.last bytes c' found add.2 in (
@@ -232,6 +271,7 @@ module _ (a m : Shown) (sound : Shows IsSound a) (writer : FileWriter) (between 
         }),
         g.only,
         g.same,
+        fills_behind p add.0 writer between bytes c' writer.sizes.block_size full found empty g.longer,
       )
 
   -- no block was answered
@@ -270,6 +310,10 @@ module _ (m b : Shown) (writer : FileWriter) (found : LocatedBlock) (none : writ
             })),
         only_file_started writer.path p r opens.0 setup starts,
         λ file is. (file.blocks, starts.files.names writer.path ∙ is),
+        fills_same writer.sizes.block_size (blocks_in p writer) (blocks_in r writer) (tail_of writer) (tail_of writer')
+            (ap blocks_at (starts.files.names writer.path))
+            (ap tail_length (tail_going writer' block going') ∙ new.length
+            ∙ sym (ap tail_length (tail_reopened writer found none reopened))),
       )
 
   -- its pipeline was not set up
@@ -299,6 +343,9 @@ settled_carries a writer writer' found none reopened between last p bytes told c
           }))),
       only_file_refl writer.path p,
       same_file_refl writer.path p,
+      fills_same writer.sizes.block_size (blocks_in p writer) (blocks_in p writer) (tail_of writer) (tail_of writer') refl
+          (ap tail_length (tail_between writer' between ∙ ap tail_done last)
+          ∙ sym (ap tail_length (tail_reopened writer found none reopened))),
     )
 
 -- an exception of a namenode, as it is told

@@ -1,5 +1,5 @@
 -- What a writer of a file has to do with the file's bytes.
-use Rattle.std.specs.Prelude.{◌≡◌, ℕ, true, List, [], ◌∷◌, ◌++◌}
+use Rattle.std.specs.Prelude.{◌≡◌, ℕ, ◌+◌, ◌-◌, ◌*◌, ◌≤◌, true, List, [], ◌∷◌, ◌++◌, length as len}
 use Rattle.hdfs_model.specs.declared.picture.FileEntry.{FileEntry}
 use Rattle.hdfs_model.specs.declared.messages.LocatedBlock.{LocatedBlock}
 use Rattle.hdfs_model.specs.Picture.{Picture}
@@ -7,7 +7,7 @@ use Rattle.hdfs_model.specs.Sending.{uuids}
 use Rattle.hdfs_model.specs.Sound.{IsFileAt}
 use Rattle.hdfs_model.specs.Stores.{StoresBlocks}
 use Rattle.hdfs_blocks.specs.Carrying.{HoldsWhole}
-use Rattle.hdfs_blocks.specs.Writers.{block_of, Carries}
+use Rattle.hdfs_blocks.specs.Writers.{block_of, length_of, Carries}
 use Rattle.hdfs_blocks.specs.declared.block_writer.BlockWriter.{BlockWriter}
 
 -- How the last block of a file stands that is being written: the file has none; the last one has this id and length, and is
@@ -18,6 +18,29 @@ pub data Tail : Type 0 where
   Finished : ℕ → ℕ → Tail
   Reopened : LocatedBlock → Tail
   Going : BlockWriter → Tail
+
+-- how many bytes the last block has, as its writer has it
+abbrev pub tail_length : Tail → ℕ
+tail_length Bare = 0
+tail_length (Finished id length) = length
+tail_length (Reopened located) = located.b.num_bytes
+tail_length (Going writer) = length_of writer
+
+-- the last block, where the file has one, has no room for a byte, as blocks of this size go
+abbrev pub IsFull : ℕ → Tail → Type 0
+IsFull size Bare = Unit {0}
+IsFull size tail = size ≤ tail_length tail
+
+-- what a file's blocks take up: those before the last one a whole block each, and the last one its bytes
+abbrev pub taken_up : ℕ → List ℕ → Tail → ℕ
+taken_up size blocks tail = (len blocks - 1) * size + tail_length tail
+
+-- Where the last block wasn't longer than a block of the file is, it isn't now, and the blocks take up just these bytes more: no
+-- block was begun before the one before it was full.
+abbrev pub FillsBlocks : ℕ → List ℕ → Tail → List ℕ → List ℕ → Tail → Type 0
+FillsBlocks size blocks tail more blocks' tail' =
+    tail_length tail ≤ size
+    → (tail_length tail' ≤ size) × (taken_up size blocks' tail' ≡ taken_up size blocks tail + len more)
 
 -- the blocks before the last store the first bytes of the file, and the rest is the last one's
 pub record StoresFront (p : Picture) (blocks : List ℕ) (last : ℕ) (bytes rest : List ℕ) : Type 0 where

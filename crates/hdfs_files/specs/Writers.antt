@@ -4,6 +4,7 @@ use Rattle.hdfs_wire.specs.Outgoing.{ArePacketSizes}
 use Rattle.hdfs_model.specs.declared.messages.Block.{Block}
 use Rattle.hdfs_model.specs.declared.messages.LocatedBlock.{LocatedBlock}
 use Rattle.hdfs_model.specs.declared.errors.HdfsError.{HdfsError}
+use Rattle.hdfs_model.specs.Effects.{blocks_at}
 use Rattle.hdfs_model.specs.Files.{File}
 use Rattle.hdfs_model.specs.Namenode.{IsToWrite}
 use Rattle.hdfs_model.specs.Picture.{Picture}
@@ -14,7 +15,7 @@ use Rattle.hdfs_blocks.specs.Writers as blocks
 use Rattle.hdfs_blocks.specs.declared.block_writer.BlockWriter.{BlockWriter}
 use Rattle.hdfs_files.specs.Failing.{TellsWrite, TellsClose, CauseOfWrite}
 use Rattle.hdfs_files.specs.OnlyFiles.{OnlyFile, SameFile}
-use Rattle.hdfs_files.specs.Tails.{Tail, Bare, Finished, Reopened, Going, FileCarries}
+use Rattle.hdfs_files.specs.Tails.{Tail, Bare, Finished, Reopened, Going, FillsBlocks, FileCarries}
 use Rattle.hdfs_files.specs.declared.file_writer.FileWriter.{FileWriter}
 use Rattle.hdfs_files.specs.declared.sizes.WriteSizes.{WriteSizes}
 
@@ -69,6 +70,10 @@ tail_by (Some writer) reopened last = Going writer
 abbrev pub tail_of : FileWriter → Tail
 tail_of writer = tail_by writer.going writer.reopened writer.last
 
+-- the blocks of its file
+abbrev pub blocks_in : Picture → FileWriter → List ℕ
+blocks_in p writer = blocks_at (p.names writer.path)
+
 -- the link of a block that is being written
 abbrev pub link_by : Option BlockWriter → Option ℕ
 link_by None = None
@@ -84,7 +89,8 @@ pub record BlockStands (shown : Shown) (sizes : WriteSizes) (writer : BlockWrite
   pub stands : blocks.Stands shown writer
   pub size : blocks.size_of writer ≡ sizes.block_size
 
--- What a writer of a file is between calls. Once it has failed it keeps no link.
+-- What a writer of a file is between calls. Once it has failed it keeps no link. Until then a block of it is done only where the one
+-- behind it is being written.
 pub record Stands (shown : Shown) (writer : FileWriter) : Type 0 where
   pub packets : ArePackets writer.sizes
   pub going : (block : BlockWriter) → writer.going ≡ Some block → BlockStands shown writer.sizes block
@@ -92,6 +98,7 @@ pub record Stands (shown : Shown) (writer : FileWriter) : Type 0 where
   pub idle : writer.failed ≡ true → link_of writer ≡ None
   pub reopened : IfSome writer.reopened IsToWrite
   pub apart : IsSome writer.reopened → writer.going ≡ None
+  pub done : writer.failed ≡ false → writer.going ≡ None → writer.last ≡ None
 
 -- a block is being written that has room for a byte
 abbrev pub HasRoom : FileWriter → Type 0
@@ -117,12 +124,14 @@ pub record OnlyOwnLink (old : Shown) (before : Option ℕ) (new : Shown) (after 
   pub none : (link : ℕ) → (old.writes link ≡ None) ⊎ (before ≡ Some link) → after ≢ Some link → new.writes link ≡ None
   pub fresh : (link : ℕ) → after ≡ Some link → (before ≡ Some link) ⊎ (old.writes link ≡ None)
 
--- over a told picture: these bytes more are carried, and nothing changed but the file
+-- Over a told picture: these bytes more are carried, nothing changed but the file, and no block was begun before the one before it
+-- was full.
 abbrev pub CarriesMore : Shown → FileWriter → List ℕ → Shown → FileWriter → Type 0
 CarriesMore old writer more new writer' =
     (p : Picture) (bytes : List ℕ) → old.picture ≡ Some p → FileCarries p writer.path (tail_of writer) bytes
     → (q : Picture) × (new.picture ≡ Some q) × FileCarries q writer.path (tail_of writer') (bytes ++ more)
     × OnlyFile writer.path p q × SameFile writer.path p q
+    × FillsBlocks writer.sizes.block_size (blocks_in p writer) (tail_of writer) more (blocks_in q writer) (tail_of writer')
 
 -- over a told picture: whatever came of it, nothing changed but the file
 abbrev pub TouchesFile : Shown → FileWriter → Shown → Type 0

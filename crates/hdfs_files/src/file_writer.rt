@@ -33,7 +33,7 @@ pub struct FileWriter {
 }
 
 impl FileWriter {
-    ghost use Rattle.hdfs_files.specs.Tails.{Bare};
+    ghost use Rattle.hdfs_files.specs.Tails.{Bare, IsFull};
     ghost use Rattle.hdfs_model.specs.Namenode.{IsToWrite};
     ghost use Rattle.hdfs_files.specs.Writers.{AreLimited, ArePackets, AreSizes, path_of, file_id_of, sizes_of, has_failed, link_of, tail_of, tail_opened, Stands, Keeps, IsBetweenBlocks, HasRoom, OnlyOwnLink, LeavesFile, Wrote, Closed, Fails, FailsToClose};
 
@@ -94,6 +94,8 @@ impl FileWriter {
         ensures fine { self.new.failed ≡ false }
         ensures keeps { Keeps self.old self.new }
         ensures between { OnOk result (IsBetweenBlocks self.new) }
+        ensures full { OnOk result (IsFull self.old.sizes.block_size (tail_of self.old)
+            → IsFull self.old.sizes.block_size (tail_of self.new)) }
         ensures wrote { OnOk result (Wrote (C.shown cluster.old) self.old [] (C.shown cluster.new) self.new) }
         ensures err { IfErr result (λ error. Fails (C.shown cluster.old) self.old error (C.shown cluster.new)) }
     {
@@ -131,8 +133,10 @@ impl FileWriter {
         ensures fine { self.new.failed ≡ false }
         ensures keeps { Keeps self.old self.new }
         ensures stands { OnOk result (Stands (C.shown cluster.new) self.new × HasRoom self.new) }
-        ensures wrote { OnOk result (Wrote (C.shown cluster.old) (record self.old { reopened = Some located }) [] (C.shown cluster.new) self.new) }
-        ensures err { IfErr result (λ error. Fails (C.shown cluster.old) (record self.old { reopened = Some located }) error (C.shown cluster.new)) }
+        ensures wrote { OnOk result (Wrote (C.shown cluster.old) (record self.old { reopened = Some located }) []
+            (C.shown cluster.new) self.new) }
+        ensures err { IfErr result (λ error. Fails (C.shown cluster.old) (record self.old { reopened = Some located }) error
+            (C.shown cluster.new)) }
     {
         let client = match Text::from_str(self.alloc, namenode.client_name()) {
             Ok(client) => client,
@@ -156,7 +160,7 @@ impl FileWriter {
         }
     }
 
-    /// Begins a block behind those that are done.
+    /// Begins a block behind those that are done, the last of which is full.
     fn begin_block<C: Cluster>(
         &mut self,
         cluster: &mut C,
@@ -166,6 +170,7 @@ impl FileWriter {
         requires sizes { AreSizes self.old.sizes }
         requires fine { self.old.failed ≡ false }
         requires between { IsBetweenBlocks self.old }
+        requires full { IsFull self.old.sizes.block_size (tail_of self.old) }
         ensures fine { self.new.failed ≡ false }
         ensures keeps { Keeps self.old self.new }
         ensures stands { OnOk result (Stands (C.shown cluster.new) self.new × HasRoom self.new) }
@@ -193,6 +198,7 @@ impl FileWriter {
         ensures some { IfSome result (λ located. (self.old.reopened ≡ Some located)
             × (located.b.num_bytes < self.old.sizes.block_size) × (self.new ≡ record self.old { reopened = None })) }
         ensures none { result ≡ None → self.new ≡ self.old }
+        ensures full { result ≡ None → IfSome self.old.reopened (λ located. self.old.sizes.block_size ≤ located.b.num_bytes) }
     {
         match self.reopened.take() {
             Some(located) if located.b.num_bytes < self.sizes.block_size => Some(located),
@@ -308,7 +314,8 @@ impl FileWriter {
         ensures options { has_failed self.old ≡ false → (AreLimited (sizes_of self.old) → ⊥)
             → (result ≡ Err (errors.InvalidArgument args.Options)) × (link_of self.old ≡ None) × (cluster.new ≡ cluster.old) }
 
-        // Over a told picture these bytes are carried too, and nothing but the file changes.
+        // Over a told picture these bytes are carried too, nothing but the file changes, and no block is begun before the one before it
+        // is full.
         ensures wrote { OnOk result (Wrote (C.shown cluster.old) self.old bytes.now (C.shown cluster.new) self.new) }
         ensures err { IfErr result (λ error. has_failed self.old ≡ false → AreLimited (sizes_of self.old)
             → Fails (C.shown cluster.old) self.old error (C.shown cluster.new)) }
@@ -411,7 +418,8 @@ impl FileWriter {
 
         // Over a told picture the closed file has the bytes, and nothing but the file changes.
         ensures closed { OnOk result (Closed (C.shown cluster.old) self (C.shown cluster.new)) }
-        ensures err { IfErr result (λ error. has_failed self ≡ false → FailsToClose (C.shown cluster.old) self error (C.shown cluster.new)) }
+        ensures err { IfErr result (λ error. has_failed self ≡ false
+            → FailsToClose (C.shown cluster.old) self error (C.shown cluster.new)) }
     {
         if self.failed {
             return Err(HdfsError::Failed);

@@ -1,18 +1,19 @@
 -- The loop's fold goes on by one command, or stops there.
-use Rattle.std.proofs.Common.{◌≡◌, ℕ, ◌+◌, List, length, Result, Err, Vec, sym, ◌∙◌, ap, subst, arith}
+use Rattle.std.proofs.Common.{◌≡◌, ℕ, ◌+◌, List, length, take, Result, Err, Vec, sym, ◌∙◌, ap, subst, arith}
 use Rattle.std.specs.declared.alloc.Global.{Global}
 use Rattle.std.proofs.lemmas.List.{take_all, length_push}
 use Rattle.hdfs_model.specs.declared.commands.Reply.{Reply}
+use Rattle.hdfs_model.specs.Anywhere.{AreReplies}
 use Rattle.hdfs_model.specs.Steps.{World}
 use Rattle.hdfs_model.specs.Sessions.{world_of}
 use Rattle.hdfs_model.proofs.Frames.{later_trans, same_reads_trans}
 use Rattle.hdfs_model.specs.declared.errors.HdfsError.{HdfsError}
 use Rattle.hdfs_model.specs.Folds.{fold}
 use Rattle.hdfs_client.specs.Acting.{Acts}
-use Rattle.hdfs_client.proofs.Ending.{runs_failed}
+use Rattle.hdfs_client.proofs.Ending.{replies_next, runs_failed}
 use Rattle.hdfs_client.proofs.Finishing.{complete_done}
 use Rattle.hdfs_client.proofs.Going.{GoneOn, goes_on, stops_there, complete_there, ends_there}
-use Rattle.hdfs_client.proofs.Owning.{own_next}
+use Rattle.hdfs_client.proofs.Owning.{own_end, own_next}
 use Rattle.hdfs_client.proofs.run.run_session.Goals as goal
 
 -- a result that is an error
@@ -39,6 +40,8 @@ loop-command-preserved g c =
       fine = now.fails.1;
       settings = now.keeps.0 ∙ before.settings;
       count = ap length c.push_reserved.ensures.items ∙ length_push c.loop-command.replies.items reply ∙ ap (λ (n : ℕ). n + 1) before.count;
+      replied = subst (AreReplies (take (i + 1) c.args.commands.now)) (sym c.push_reserved.ensures.items)
+          (replies_next c.args.commands.now i c.loop-command.replies.items command reply c.loop-command-test.true c.command-item.is before.replied acts.anywhere.replies);
       room = omega (arith, before.room, c.push_reserved.ensures.capacity);
       told = λ state ready.
           subst (λ (rs : List Reply). GoneOn w state c.args.commands.now (i + 1) rs u c.apply.new.self) (sym c.push_reserved.ensures.items)
@@ -59,6 +62,7 @@ returns-in-Err-apply-clause-anywhere g c =
     let kept = c.abandon.ensures.keeps in
     runs_failed c.args.commands.now s t u v c.loop-command.session c.apply.new.self c.loop-command.command-index command f.result c.loop-command-test.true c.command-item.is before.later before.reads before.own acts
     kept.0 kept.1 kept.2 c.abandon.ensures.others c.abandon.ensures.none at
+    (subst (AreReplies (take c.loop-command.command-index c.args.commands.now)) (sym f.ensures.done) before.replied)
 
 pub returns-in-Err-apply-clause-ran : goal.returns-in-Err-apply-clause-ran
 returns-in-Err-apply-clause-ran g c = λ good state ready.
@@ -79,7 +83,7 @@ returns-in-Err-apply-clause-ran g c = λ good state ready.
     let kept = c.abandon.ensures.keeps in
     record {
       ok = tt;
-      err = stops_there w state c.args.commands.now i replies t c.loop-command.session command gone c.loop-command-test.true c.command-item.is one u c.apply.new.self s v before.later acts.anywhere.later kept.0 kept.1 c.abandon.ensures.files f.result acts at f.ensures.done;
+      err = stops_there w state c.args.commands.now i replies t c.loop-command.session command gone c.loop-command-test.true c.command-item.is one u c.apply.new.self s v before.later acts.anywhere.later kept.0 kept.1 c.abandon.ensures.files f.result acts at f.ensures.done kept.2;
       complete = λ limited none. complete_there w state c.args.commands.now i replies t c.loop-command.session command gone c.loop-command-test.true c.command-item.is one u c.apply.new.self s v before.later acts.anywhere.later kept.0 kept.1 c.abandon.ensures.files f.result acts at (Vec Reply Global) limited none;
     }
 
@@ -95,4 +99,22 @@ returns-clause-ran g c = λ good state ready.
       ok = end;
       err = tt;
       complete = λ limited none. complete_done (fold w state c.args.commands.now) c.loop-command.replies c.loop-command.replies.items end.0 end.1;
+    }
+
+pub returns-clause-anywhere : goal.returns-clause-anywhere
+returns-clause-anywhere g c =
+    let s = g.C.Cluster.shown c.args.cluster.now in
+    let t = g.C.Cluster.shown c.loop-command.cluster in
+    let v = g.C.Cluster.shown c.abandon-2.new.cluster in
+    let session = c.loop-command.session in
+    let before = c.loop-command.invariant in
+    let kept = c.abandon-2.ensures.keeps in
+    record {
+      later = later_trans s t v before.later kept.0;
+      reads = same_reads_trans s t v before.reads kept.1;
+      writes = own_end s t v session session before.own c.abandon-2.ensures.others c.abandon-2.ensures.none;
+      replies = subst (λ cs. AreReplies cs c.loop-command.replies.items) (take_all c.loop-command.command-index c.args.commands.now c.loop-command-test.false) before.replied;
+      done = tt;
+      start = tt;
+      tells = tt;
     }

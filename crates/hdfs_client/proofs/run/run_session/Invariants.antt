@@ -1,4 +1,5 @@
-use Rattle.std.proofs.Common.{◌≡◌, ◌≤◌, length, false, vec_capacity}
+use Rattle.std.proofs.Common.{◌≡◌, ◌≤◌, length, take, false, vec_capacity}
+use Rattle.hdfs_model.specs.Anywhere.{AreReplies}
 use Rattle.hdfs_model.specs.Files.{State}
 use Rattle.hdfs_model.specs.Headline.{Ready}
 use Rattle.hdfs_model.specs.Sessions.{none_open, world_of}
@@ -20,6 +21,7 @@ invariant-loop-command g l =
       fine : has_failed l.session ≡ false;
       settings : settings_of l.session ≡ l.fn.settings;
       count : length l.replies.items ≡ l.command-index;
+      replied : AreReplies (take l.command-index l.commands) l.replies.items;
       room : length l.commands ≤ vec_capacity l.replies;
       told : (state : State) → Ready (world_of l.fn.settings start) (record { opened = none_open; shown = start }) state l.commands
           → GoneOn (world_of l.fn.settings start) state l.commands l.command-index l.replies.items now l.session;

@@ -40,7 +40,7 @@ returns-in-Ok-open_block-clause-wrote g c =
     c.as_str.ensures c.as_ref.ensures.value refl c.in-Ok.is c.add_block.ensures.asked in
     let served = served_answer g.C.Cluster.shown g.C.Cluster.serves g.met.C.Cluster.serves_rows (asks.AddBlock w.path client w.last [] w.file_id) c.args.cluster.now c.add_block.new.cluster (answers.AddBlock located) asked in
     wrote_trans s m (g.C.Cluster.shown c.open_block.new.cluster) w (record w { going = None; reopened = Some located }) c.open_block.new.self [] []
-    (added_wrote s m (g.met.C.Cluster.sound c.args.cluster.now) w c.requires.between client located served.1.1 served.0)
+    (added_wrote s m (g.met.C.Cluster.sound c.args.cluster.now) w c.requires.between client located served.1.1 c.requires.full served.0)
     (subst (λ (o : Option BlockWriter). Wrote m (record w { going = o; reopened = Some located }) [] (g.C.Cluster.shown c.open_block.new.cluster) c.open_block.new.self) c.requires.between.none c.in-Ok-open_block.ensures.wrote)
 
 pub returns-in-Err-open_block-clause-err : goal.returns-in-Err-open_block-clause-err
@@ -54,5 +54,5 @@ returns-in-Err-open_block-clause-err g c =
     c.as_str.ensures c.as_ref.ensures.value refl c.in-Ok.is c.add_block.ensures.asked in
     let served = served_answer g.C.Cluster.shown g.C.Cluster.serves g.met.C.Cluster.serves_rows (asks.AddBlock w.path client w.last [] w.file_id) c.args.cluster.now c.add_block.new.cluster (answers.AddBlock located) asked in
     fails_after s m (g.C.Cluster.shown c.open_block.new.cluster) w (record w { going = None; reopened = Some located }) [] c.in-Err-open_block.error
-    (added_wrote s m (g.met.C.Cluster.sound c.args.cluster.now) w c.requires.between client located served.1.1 served.0)
+    (added_wrote s m (g.met.C.Cluster.sound c.args.cluster.now) w c.requires.between client located served.1.1 c.requires.full served.0)
     (subst (λ (o : Option BlockWriter). Fails m (record w { going = o; reopened = Some located }) c.in-Err-open_block.error (g.C.Cluster.shown c.open_block.new.cluster)) c.requires.between.none c.in-Err-open_block.ensures.err)

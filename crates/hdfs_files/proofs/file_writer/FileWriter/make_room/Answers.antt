@@ -1,12 +1,26 @@
 -- The goals of FileWriter::make_room.
-use Rattle.std.proofs.Common.{[], subst}
+use Rattle.std.proofs.Common.{[], sym, ◌∙◌, subst}
+use Rattle.std.proofs.lemmas.Bool.{false≢true}
 use Rattle.hdfs_files.specs.declared.file_writer.FileWriter.{FileWriter}
-use Rattle.hdfs_files.specs.Writers.{Wrote}
+use Rattle.hdfs_files.specs.declared.sizes.WriteSizes.{WriteSizes}
+use Rattle.hdfs_files.specs.Tails.{IsFull}
+use Rattle.hdfs_files.specs.Writers.{HasRoom, tail_of, Wrote}
 use Rattle.hdfs_files.proofs.Joining.{wrote_nothing, wrote_trans, fails_after}
+use Rattle.hdfs_files.proofs.Standing.{full_without_room}
 use Rattle.hdfs_files.proofs.file_writer.FileWriter.make_room.Goals as goal
 
 pub returns-then-has_room-clause-wrote : goal.returns-then-has_room-clause-wrote
 returns-then-has_room-clause-wrote g c = wrote_nothing (g.C.Cluster.shown c.args.cluster.now) c.args.self.now
+
+pub begin_block-requires-clause-full : goal.begin_block-requires-clause-full
+begin_block-requires-clause-full g c =
+    let s = g.C.Cluster.shown c.args.cluster.now in
+    let w = c.args.self.now in
+    let same = c.take_reopened.ensures.none c.in-None.is in
+    let none : HasRoom w → ⊥ = λ room. false≢true (sym c.if-has_room.false ∙ c.has_room.ensures.1 room) in
+    let full = full_without_room s w c.requires.stands c.requires.fine none (c.take_reopened.ensures.full c.in-None.is) in
+    subst (λ (z : WriteSizes). IsFull z.block_size (tail_of c.finish_block.new.self)) (sym c.finish_block.ensures.keeps.sizes)
+    (c.in-Ok-finish_block.ensures.full (subst (λ (x : FileWriter). IsFull x.sizes.block_size (tail_of x)) (sym same) full))
 
 pub returns-in-Ok-begin_block-clause-wrote : goal.returns-in-Ok-begin_block-clause-wrote
 returns-in-Ok-begin_block-clause-wrote g c =

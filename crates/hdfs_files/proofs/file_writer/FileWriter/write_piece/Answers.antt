@@ -35,7 +35,8 @@ returns-in-Ok-write-clause-wrote g c =
     let w' = record c.make_room.new.self { going = Some c.write.new.self } in
     let more = take c.in-Ok-write.taken c.args.bytes.now in
     wrote_trans s m t c.args.self.now c.make_room.new.self w' [] more c.in-Ok.ensures.wrote
-    (more_wrote m t (g.met.C.Cluster.sound c.make_room.new.cluster) c.make_room.new.self c.in-Some.block c.in-Some.is w' c.write.new.self more (record { path = refl; file_id = refl; sizes = refl }) refl c.in-Ok-write.ensures.wrote)
+    (more_wrote m t (g.met.C.Cluster.sound c.make_room.new.cluster) c.make_room.new.self c.in-Some.block c.in-Some.is w' c.write.new.self more c.in-Ok.ensures.stands.0 c.in-Ok.ensures.fine
+    (record { path = refl; file_id = refl; sizes = refl }) refl c.in-Ok-write.ensures.wrote c.in-Ok-write.ensures.stands)
 
 pub returns-in-Err-write-clause-err : goal.returns-in-Err-write-clause-err
 returns-in-Err-write-clause-err g c =
