@@ -10,9 +10,21 @@ use std::alloc::Global;
 use std::fs;
 
 /// The names of the examples.
-const NAMES: [&str; 12] = [
-    "first", "reads", "broken", "missing", "order", "upper", "relative", "twice", "written",
-    "unread", "appended", "taken",
+const NAMES: [&str; 14] = [
+    "first",
+    "reads",
+    "broken",
+    "missing",
+    "order",
+    "upper",
+    "relative",
+    "twice",
+    "written",
+    "unread",
+    "appended",
+    "taken",
+    "settings",
+    "unacknowledged",
 ];
 
 // The bytes of an example's file of this kind.

@@ -11,20 +11,14 @@ use Rattle.hdfs_model.specs.Folds.{Folded, Ends, Stops, fold}
 use Rattle.hdfs_model.specs.Loading.{with_lines}
 use Rattle.hdfs_model.specs.Paths.{root}
 use Rattle.hdfs_model.specs.Shown.{Shown}
-use Rattle.hdfs_model.specs.Sessions.{Fits, AreLimited, defaults_of}
-use Rattle.hdfs_model.specs.declared.messages.ServerDefaults.{ServerDefaults}
-use Rattle.hdfs_model.specs.Headline.{Stopped}
-use Rattle.hdfs_model.specs.Steps.{World}
-use Rattle.hdfs_cluster.specs.declared.mem_settings.MemSettings.{MemSettings}
+use Rattle.hdfs_model.specs.Sessions.{Fits}
+use Rattle.hdfs_model.specs.declared.mem_settings.MemSettings.{MemSettings}
 use Rattle.hdfs_cluster.specs.declared.mem_cluster.MemCluster.{MemCluster}
-use Rattle.hdfs_cluster.specs.Lines.{line_of}
-use Rattle.hdfs_cluster.specs.Memory.{fault_count}
 use Rattle.hdfs_cluster.specs.MemShown.{shown_of}
-use Rattle.hdfs_cluster.specs.Nodes.{node_at}
-use Rattle.hdfs_cluster.proofs.Failing.{faults-le}
-use Rattle.hdfs_cluster.specs.Settings.{script_defaults}
+use Rattle.hdfs_cluster.proofs.Counting.{links_planned, nodes_planned}
 use Rattle.hdfs_cluster.specs.Starting.{Starts}
-use Rattle.hdfs_script.specs.Scripts.{Script, is_fault, script, script_settings, script_world}
+use Rattle.hdfs_faults.specs.Series.{link_fault_count, node_fault_count}
+use Rattle.hdfs_script.specs.Scripts.{Script, is_fault, script}
 use Rattle.hdfs_script.specs.Texts.{fault_text}
 use Rattle.hdfs_streams.specs.Streams.{SourceShown, SinkShown, Wrote}
 use Rattle.hdfs_top.specs.declared.note.Note.{Note}
@@ -42,28 +36,19 @@ closed_empty = record { opened = λ path. refl; written = λ path content is. no
 
 -- a source that tells its bytes, and a new store, are known
 pub known_new : (source : SourceShown) (sink : SinkShown) (old : Shown) (bytes : List ℕ) → source.left ≡ Some bytes → IsNew old → IsKnown (outside source sink old true) bytes empty_state
-known_new source sink old bytes told new = record { told = told; one = new.one; fits = new.fits; closed = closed_empty }
+known_new source sink old bytes told new = record { told = told; one = λ held. absurd (cc (held)); fits = new.fits; closed = closed_empty }
 
 -- a cluster in memory fails only where a fault was loaded for it
 pub planned_faults : (m : MemCluster) → FailsAsPlanned (shown_of m)
-planned_faults m = record { calls = λ i. refl; links = refl; nodes = λ d. faults-le (map line_of m.loaded.items) d (node_at m.nodes d) (m.planned d) }
+planned_faults m = record { calls = λ i. refl; links = links_planned m; nodes = nodes_planned m }
 
 -- a cluster that was made for a script
-pub new_from-Starts : (settings : MemSettings) (store : Shown) → Starts settings store → Fits store empty_state → settings.namenodes ≡ 1 → settings.defaults ≡ script_defaults → IsNew store
-new_from-Starts settings store starts fits one defaults = record {
-  one = starts.namenodes ∙ one;
-  defaults = ap defaults_of starts.told ∙ starts.defaults ∙ defaults;
+pub new_from-Starts : (settings : MemSettings) (store : Shown) → Starts settings store → Fits store empty_state → IsNew store
+new_from-Starts settings store starts fits = record {
   fits = fits;
-  no_line = starts.no_line;
+  no_line = ap (λ l. l.lines) starts.no_line;
   unfailed = record { calls = starts.calls; links = starts.links; nodes = starts.nodes };
 }
-
--- its world is that of a script
-world_new : (store : Shown) → IsNew store → script_world store ≡ memory_world
-world_new store new = ap with_defaults new.defaults
-  where
-    with_defaults : ServerDefaults → World
-    with_defaults d = record { home = script_settings.home; defaults = d }
 
 -- the program ran over it
 pub ran_store : (words : List (List ℕ)) (a : Streams) (status : ℕ) (b : Streams) (old new : Shown) (fresh fresh' : Bool) → IsNew old → fresh ≡ true → FailsAsPlanned new → RanProgram words (outside a.source a.sink old fresh) status (outside b.source b.sink new fresh') → RanStore words a status b
@@ -91,14 +76,13 @@ replies_new words a status b bytes run is_zero told =
       is = finishes.loaded.is;
       replies = finishes.replies;
       last = finishes.last;
-      folds = ap (λ (w : World). fold w (with_lines empty_state finishes.parsed.lines) finishes.parsed.commands) (sym (world_new run.old run.is_new)) ∙ finishes.folds;
+      folds = finishes.folds;
       wrote = subst (λ (t : List ℕ). Wrote a.sink t b.sink) finishes.is_text done.2;
     }
 
--- a session over it stopped in the world of a script
-stopped_new : (old new : Shown) → IsNew old → (parsed : Script) (fault : Fault) → Stopped (script_world old) (with_lines empty_state parsed.lines) parsed.commands old new fault
-    → Stopped memory_world (with_lines empty_state parsed.lines) parsed.commands old new fault
-stopped_new old new is_new parsed fault = subst (λ (w : World). Stopped w (with_lines empty_state parsed.lines) parsed.commands old new fault) (world_new old is_new)
+-- a new store has loaded what was loaded into it
+lines_new : (old new : Shown) (parsed : Script) → IsNew old → new.loaded.lines ≡ old.loaded.lines ++ parsed.lines → new.loaded.lines ≡ parsed.lines
+lines_new old new parsed is_new lines = lines ∙ ap (λ ls. ls ++ parsed.lines) is_new.no_line
 
 -- the session stopped
 pub fault_new : (words : List (List ℕ)) (a : Streams) (status : ℕ) (b : Streams) (bytes : List ℕ) → RanStore words a status b → status ≡ 2 → a.source.left ≡ Some bytes → PrintsFault bytes a.sink b.sink
@@ -112,13 +96,15 @@ fault_new words a status b bytes run two told =
       old = run.old;
       new = run.new;
       is_new = run.is_new;
-      stopped = stopped_new run.old run.new run.is_new halts.parsed halts.fault halts.stopped;
+      lines = lines_new run.old run.new halts.parsed run.is_new halts.loaded.lines;
+      planned = run.planned;
+      stopped = halts.stopped;
       wrote = subst (λ (t : List ℕ). Wrote a.sink t b.sink) halts.is_text stopped.2;
     }
 
 -- and that was noted
-notes_known : (source source' : SourceShown) (sink sink' : SinkShown) (old new : Shown) (fresh' : Bool) (bytes : List ℕ) (note : Note) → IsNew old → source.left ≡ Some bytes → NotesFault (outside source sink old true) note (outside source' sink' new fresh') → NotesPrinted bytes sink note sink'
-notes_known source source' sink sink' old new fresh' bytes note is_new told noted =
+notes_known : (source source' : SourceShown) (sink sink' : SinkShown) (old new : Shown) (fresh' : Bool) (bytes : List ℕ) (note : Note) → IsNew old → FailsAsPlanned new → source.left ≡ Some bytes → NotesFault (outside source sink old true) note (outside source' sink' new fresh') → NotesPrinted bytes sink note sink'
+notes_known source source' sink sink' old new fresh' bytes note is_new planned told noted =
     let halts = noted.halts bytes empty_state (known_new source sink old bytes told is_new) in
     let halted = halts.0 in record {
       printed = record {
@@ -129,22 +115,31 @@ notes_known source source' sink sink' old new fresh' bytes note is_new told note
         old = old;
         new = new;
         is_new = is_new;
-        stopped = stopped_new old new is_new halted.parsed halted.fault halted.stopped;
+        lines = lines_new old new halted.parsed is_new halted.loaded.lines;
+        planned = planned;
+        stopped = halted.stopped;
         wrote = subst (λ (f : Fault). Wrote sink (fault_text f) sink') (sym halts.1) noted.wrote;
       };
       is = subst (λ (f : Fault). note ≡ notes.Stopped f.at f.error) (sym halts.1) noted.is;
     }
 
-pub notes_new : (source source' : SourceShown) (sink sink' : SinkShown) (old new : Shown) (fresh fresh' : Bool) (bytes : List ℕ) (note : Note) → IsNew old → fresh ≡ true → source.left ≡ Some bytes → NotesFault (outside source sink old fresh) note (outside source' sink' new fresh') → NotesPrinted bytes sink note sink'
-notes_new source source' sink sink' old new fresh fresh' bytes note is_new is told noted =
-    notes_known source source' sink sink' old new fresh' bytes note is_new told
+pub notes_new : (source source' : SourceShown) (sink sink' : SinkShown) (old new : Shown) (fresh fresh' : Bool) (bytes : List ℕ) (note : Note) → IsNew old → FailsAsPlanned new → fresh ≡ true → source.left ≡ Some bytes → NotesFault (outside source sink old fresh) note (outside source' sink' new fresh') → NotesPrinted bytes sink note sink'
+notes_new source source' sink sink' old new fresh fresh' bytes note is_new planned is told noted =
+    notes_known source source' sink sink' old new fresh' bytes note is_new planned told
     (subst (λ (f : Bool). NotesFault (outside source sink old f) note (outside source' sink' new fresh')) is noted)
 
 -- where no line plans a fault none is counted
-fault_of_none : (d : List ℕ) (rest : List Line) → list_any is_fault rest ≡ false → fault_count rest d ≡ 0
-fault_of_none d [] none = refl
-fault_of_none d (lines.Fault fault ∷ rest) none = absurd (cc)
-fault_of_none d (lines.File path attributes bytes ∷ rest) none = fault_of_none d rest none
+node_fault_of_none : (d : List ℕ) (rest : List Line) → list_any is_fault rest ≡ false → node_fault_count rest d ≡ 0
+node_fault_of_none d [] none = refl
+node_fault_of_none d (lines.Fault fault ∷ rest) none = absurd (cc)
+node_fault_of_none d (lines.Dir path ∷ rest) none = node_fault_of_none d rest none
+node_fault_of_none d (lines.File path attributes bytes ∷ rest) none = node_fault_of_none d rest none
+
+link_fault_of_none : (rest : List Line) → list_any is_fault rest ≡ false → link_fault_count rest ≡ 0
+link_fault_of_none [] none = refl
+link_fault_of_none (lines.Fault fault ∷ rest) none = absurd (cc)
+link_fault_of_none (lines.Dir path ∷ rest) none = link_fault_of_none rest none
+link_fault_of_none (lines.File path attributes bytes ∷ rest) none = link_fault_of_none rest none
 
 unfailed_since : (n : ℕ) (old new : FaultCounts) → IsUnfailed old → IsUnfailed new → NoneRose n old new
 unfailed_since n old new before after = record {
@@ -158,13 +153,13 @@ any_memory (Ends replies last) status three = inr three
 any_memory (Stops replies last why) status three = inr three
 
 -- the lines that were loaded plan no fault, so none is counted
-unfailed_new : (old new : Shown) (parsed : Script) → IsNew old → FailsAsPlanned new → new.loaded ≡ old.loaded ++ parsed.lines → IsFaultless parsed → IsUnfailed new.counts
+unfailed_new : (old new : Shown) (parsed : Script) → IsNew old → FailsAsPlanned new → new.loaded.lines ≡ old.loaded.lines ++ parsed.lines → IsFaultless parsed → IsUnfailed new.counts
 unfailed_new old new parsed is_new planned lines faultless =
-    let loaded : new.loaded ≡ parsed.lines = lines ∙ ap (λ ls. ls ++ parsed.lines) is_new.no_line in
+    let loaded = lines_new old new parsed is_new lines in
     record {
       calls = planned.calls;
-      links = planned.links;
-      nodes = λ d. omega (arith, planned.nodes d, ap (λ ls. fault_count ls d) loaded, fault_of_none d parsed.lines faultless);
+      links = omega (arith, planned.links, ap link_fault_count loaded, link_fault_of_none parsed.lines faultless);
+      nodes = λ d. omega (arith, planned.nodes d, ap (λ ls. node_fault_count ls d) loaded, node_fault_of_none d parsed.lines faultless);
     }
 
 -- where the lines were loaded, the script decides
@@ -172,16 +167,13 @@ decides_loaded : (words : List (List ℕ)) (a : Streams) (status : ℕ) (b : Str
 decides_loaded words a status b bytes run is told known loaded parsed found faultless limited no_read no_write =
     let here = loaded.is in
     let same : known ≡ parsed = cc (here, found) in
-    let lines : run.new.loaded ≡ run.old.loaded ++ parsed.lines = loaded.lines ∙ ap (λ s. run.old.loaded ++ s.lines) same in
+    let lines : run.new.loaded.lines ≡ run.old.loaded.lines ++ parsed.lines = loaded.lines ∙ ap (λ s. run.old.loaded.lines ++ s.lines) same in
     let none : NoneFailed (outside a.source a.sink run.old true) (outside b.source b.sink run.new run.fresh) = record {
       reads = no_read;
       writes = no_write;
       calls = unfailed_since run.old.namenodes run.old.counts run.new.counts run.is_new.unfailed (unfailed_new run.old run.new parsed run.is_new run.planned lines faultless);
     } in
-    let world = world_new run.old run.is_new in
-    let within = subst (λ (w : World). AreLimited w (with_lines empty_state parsed.lines) parsed.commands) (sym world) limited in
-    let decided = run.ran.complete is bytes empty_state parsed (known_new a.source a.sink run.old bytes told run.is_new) found within none in
-    subst (λ (w : World). StatusOf (fold w (with_lines empty_state parsed.lines) parsed.commands) status) world decided
+    run.ran.complete is bytes empty_state parsed (known_new a.source a.sink run.old bytes told run.is_new) found limited none
 
 six : (n : ℕ) → n ≤ 5 → (n ≡ 0) ⊎ (n ≡ 1) ⊎ (n ≡ 2) ⊎ (n ≡ 3) ⊎ (n ≡ 4) ⊎ (n ≡ 5)
 six zero h = inl refl
@@ -203,7 +195,7 @@ decides_new words a status b bytes run is told parsed found faultless limited no
     (⊎_elim
     (λ two. decides_loaded words a status b bytes run is told (run.ran.stopped two bytes empty_state known).1.parsed (run.ran.stopped two bytes empty_state known).1.loaded parsed found faultless limited no_read no_write)
     (⊎_elim
-    (λ three. any_memory (fold memory_world (with_lines empty_state parsed.lines) parsed.commands) status three)
+    (λ three. any_memory (fold (memory_world parsed) (with_lines empty_state parsed.lines) parsed.commands) status three)
     (⊎_elim
     (λ four. absurd (no_read (run.ran.source four).rose))
     (λ five. absurd (no_write (run.ran.sink five)))))))
@@ -211,4 +203,4 @@ decides_new words a status b bytes run is told parsed found faultless limited no
 
 -- there was no memory for a store
 pub starved_decides : (a : Streams) (status : ℕ) (b : Streams) (bytes : List ℕ) → status ≡ 3 → FaultlessDecides bytes a status b
-starved_decides a status b bytes three parsed found faultless limited no_read no_write = any_memory (fold memory_world (with_lines empty_state parsed.lines) parsed.commands) status three
+starved_decides a status b bytes three parsed found faultless limited no_read no_write = any_memory (fold (memory_world parsed) (with_lines empty_state parsed.lines) parsed.commands) status three

@@ -9,12 +9,11 @@ use Rattle.hdfs_model.specs.Files.{State, empty_state}
 use Rattle.hdfs_model.specs.Folds.{Ends, fold}
 use Rattle.hdfs_model.specs.Headline.{Stopped}
 use Rattle.hdfs_model.specs.Loading.{with_lines}
-use Rattle.hdfs_model.specs.Sessions.{Fits, AreLimited, defaults_of}
+use Rattle.hdfs_model.specs.Sessions.{Fits, AreLimited}
 use Rattle.hdfs_model.specs.Shown.{Shown}
 use Rattle.hdfs_model.specs.Steps.{World}
-use Rattle.hdfs_cluster.specs.Memory.{fault_count}
-use Rattle.hdfs_cluster.specs.Settings.{script_defaults}
-use Rattle.hdfs_script.specs.Scripts.{Script, is_fault, script, script_settings}
+use Rattle.hdfs_faults.specs.Series.{link_fault_count, node_fault_count}
+use Rattle.hdfs_script.specs.Scripts.{Script, is_fault, script, session_settings}
 use Rattle.hdfs_script.specs.Texts.{replies_text, fault_text, refusal_text}
 use Rattle.hdfs_streams.specs.Streams.{SourceShown, SinkShown, Wrote}
 use Rattle.hdfs_top.specs.declared.note.Note.{Note}
@@ -32,23 +31,21 @@ pub record IsUnfailed (counts : FaultCounts) : Type 0 where
   pub links : counts.links ≡ 0
   pub nodes : (d : List ℕ) → counts.nodes d ≡ 0
 
--- the world of a script over a new cluster in memory
-abbrev pub memory_world : World
-memory_world = record { home = script_settings.home; defaults = script_defaults }
+-- the world of a script over a new cluster in memory: its user's home, and the defaults that it sets
+abbrev pub memory_world : Script → World
+memory_world parsed = record { home = (session_settings parsed.settings).home; defaults = parsed.settings.cluster.defaults }
 
--- A store as it is made for a script: it has one namenode and a script's defaults, holds the root alone, and has never failed.
+-- A store as it is made for a script: it holds the root alone, and has never failed.
 pub record IsNew (store : Shown) : Type 0 where
-  pub one : store.namenodes ≡ 1
-  pub defaults : defaults_of store.picture ≡ script_defaults
   pub fits : Fits store empty_state
-  pub no_line : store.loaded ≡ []
+  pub no_line : store.loaded.lines ≡ []
   pub unfailed : IsUnfailed store.counts
 
 -- no count has risen but as often as fault lines were loaded for it
 pub record FailsAsPlanned (store : Shown) : Type 0 where
   pub calls : (i : ℕ) → store.counts.calls i ≡ 0
-  pub links : store.counts.links ≡ 0
-  pub nodes : (d : List ℕ) → store.counts.nodes d ≤ fault_count store.loaded d
+  pub links : store.counts.links ≤ link_fault_count store.loaded.lines
+  pub nodes : (d : List ℕ) → store.counts.nodes d ≤ node_fault_count store.loaded.lines d
 
 -- no line of the script plans a fault
 abbrev pub IsFaultless : Script → Type 0
@@ -85,10 +82,11 @@ pub record PrintsReplies (bytes : List ℕ) (before after : SinkShown) : Type 0 
   pub is : script true empty_state bytes ≡ Ok parsed
   pub replies : List Reply
   pub last : State
-  pub folds : fold memory_world (with_lines empty_state parsed.lines) parsed.commands ≡ Ends replies last
+  pub folds : fold (memory_world parsed) (with_lines empty_state parsed.lines) parsed.commands ≡ Ends replies last
   pub wrote : Wrote before (replies_text replies) after
 
--- the replies up to a fault other than want of memory, which has its cause over a store that was new, and its line
+-- The replies up to a fault other than want of memory, which has its cause over a store that was new, and its line. The store has loaded
+-- the script's lines, and fails as they plan.
 pub record PrintsFault (bytes : List ℕ) (before after : SinkShown) : Type 0 where
   pub parsed : Script
   pub is : script true empty_state bytes ≡ Ok parsed
@@ -97,7 +95,9 @@ pub record PrintsFault (bytes : List ℕ) (before after : SinkShown) : Type 0 wh
   pub old : Shown
   pub new : Shown
   pub is_new : IsNew old
-  pub stopped : Stopped memory_world (with_lines empty_state parsed.lines) parsed.commands old new fault
+  pub lines : new.loaded.lines ≡ parsed.lines
+  pub planned : FailsAsPlanned new
+  pub stopped : Stopped (memory_world parsed) (with_lines empty_state parsed.lines) parsed.commands old new fault
   pub wrote : Wrote before (fault_text fault) after
 
 -- a note tells of the fault at which the script stopped, and whose text was printed
@@ -108,6 +108,6 @@ pub record NotesPrinted (bytes : List ℕ) (before : SinkShown) (note : Note) (a
 -- a script without a fault line, whose numbers are in their limits, ends as the fold says, where no read and no write failed
 abbrev pub FaultlessDecides : List ℕ → Streams → ℕ → Streams → Type 0
 FaultlessDecides bytes before status after = (parsed : Script) → script true empty_state bytes ≡ Ok parsed → IsFaultless parsed
-    → AreLimited memory_world (with_lines empty_state parsed.lines) parsed.commands
+    → AreLimited (memory_world parsed) (with_lines empty_state parsed.lines) parsed.commands
     → (Rose before.source.failures after.source.failures → ⊥) → (Rose before.sink.failures after.sink.failures → ⊥)
-    → StatusOf (fold memory_world (with_lines empty_state parsed.lines) parsed.commands) status
+    → StatusOf (fold (memory_world parsed) (with_lines empty_state parsed.lines) parsed.commands) status

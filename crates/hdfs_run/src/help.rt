@@ -3,15 +3,24 @@
 pub(crate) const VERSION: &str = "hdfs_run 0.1.0\n";
 
 pub(crate) const HELP: &str = "\
-Runs a script of file commands over an HDFS cluster in memory, with one namenode and three datanodes.
+Runs a script of file commands over an HDFS cluster in memory, with one namenode and, if it says nothing else, three datanodes.
 It reads the script from standard input and writes a line for each reply to standard output. What goes wrong is said in a
 line on standard error: which line of the script and why, or which command and the error.
 
 Usage: hdfs_run session | --help | --version
 
-A script has one line for each file or fault to load, and then one for each command to run:
+A script has lines for settings, then for directories and files to load, then for faults, and then one for each command to run:
 
+  set user NAME                                     the user in whose home relative paths stand
+  set nodes NODES                                   how many datanodes there are
+  set block BLOCK_SIZE                              the cluster's block size
+  set chunk CHUNK                                   how many bytes have one checksum
+  set packet PACKET                                 how many bytes a packet has at most
+  dir PATH                                          a directory
   file PATH PERMISSION REPLICATION BLOCK_SIZE HEX   a file, its permission in octal digits and its bytes
+  fault link NTH KIND                               the NTH pipeline fails: KIND is broken, refused or badack
+  fault ack NODE NTH                                datanode NODE has failed in the NTH acknowledgement that tells of it
+  fault send NODE NTH                               the NTH packet to a pipeline that begins at NODE breaks its connection
   fault read NODE NTH broken                        datanode NODE breaks the connection at its NTH packet
   do create PATH PERMISSION REPLICATION BLOCK_SIZE OVERWRITE PARENTS
                                                     creates a file and opens it; - for the cluster's numbers

@@ -1,4 +1,5 @@
 pub mod LoadLemmas
+pub mod ReadyLemmas
 pub mod ScriptLemmas
 pub mod SessionLemmas
 pub mod StatusLemmas

@@ -1,34 +1,39 @@
 -- What a script is over a store, and what a run of it has done.
-use Rattle.std.proofs.Common.{inl, inr, ⊎_elim, ◌⊎◌, ◌≡◌, ℕ, ◌+◌, ◌<◌, nat_le, Bool, false, List, [], ◌++◌, length, take, Ok, Err, refl, sym, ◌∙◌, ap, subst, arith}
+use Rattle.std.proofs.Common.{inl, inr, ⊎_elim, ◌⊎◌, ◌≡◌, ℕ, ◌+◌, ◌<◌, ◌≤◌, nat_le, Bool, true, false, Some, List, [], ◌∷◌, ◌++◌, length, take, Ok, Err, refl, sym, ◌∙◌, ap, subst, arith}
 use Rattle.std.proofs.lemmas.List.{take_all, length-take-le, take-take}
 use Rattle.std.proofs.lemmas.Bool.{cases_lt}
 use Rattle.std.proofs.lemmas.Bool.Decides.{nat_tests}
 use Rattle.hdfs_model.specs.declared.commands.Command.{Command}
 use Rattle.hdfs_model.specs.declared.errors.Fault.{Fault}
-use Rattle.hdfs_model.specs.declared.store.Line.{Line}
 use Rattle.hdfs_model.specs.Counts.{FaultCounts, NeverFall, NoneRose, SameCounts}
 use Rattle.hdfs_model.specs.Files.{State}
 use Rattle.hdfs_model.specs.Folds.{fold}
 use Rattle.hdfs_model.specs.Headline.{Stopped}
-use Rattle.hdfs_model.specs.Loading.{SameShown, with_lines}
+use Rattle.hdfs_model.specs.Loading.{AreValid, SameShown, with_lines}
 use Rattle.hdfs_model.specs.Picture.{SamePicture}
-use Rattle.hdfs_model.specs.Sessions.{Fits, AreLimited, defaults_of}
+use Rattle.hdfs_model.specs.Sessions.{Fits, AreLimited}
 use Rattle.hdfs_model.specs.declared.messages.ServerDefaults.{ServerDefaults}
 use Rattle.hdfs_model.specs.Shown.{Shown, Later}
 use Rattle.hdfs_model.specs.Steps.{World}
-use Rattle.hdfs_model.proofs.Frames.{told_refl, same_picture_refl, never_fall_trans, never_fall_from-SameCounts}
+use Rattle.hdfs_model.proofs.Frames.{told_refl, same_picture_refl, never_fall_trans, never_fall_from-SameCounts, same_counts_trans}
 use Rattle.hdfs_script.specs.declared.entry.Parsed.{Parsed}
-use Rattle.hdfs_script.specs.Parsing.{Parses}
-use Rattle.hdfs_script.specs.Scripts.{Script, script, ends_bad, entries_in, first_bad, line_entries, script_limit, script_settings, script_world, unless_bad}
+use Rattle.hdfs_script.specs.declared.entry.Entry.{Entry}
+use Rattle.hdfs_script.specs.declared.entry.Entry.TheVariants.{Blank, Sets, Loads, Runs, Bad}
+use Rattle.hdfs_script.specs.declared.entry.ScriptSettings.{ScriptSettings}
+use Rattle.hdfs_script.specs.declared.entry.Setting.{Setting}
+use Rattle.hdfs_script.specs.declared.entry.Setting.TheVariants as settings
+use Rattle.hdfs_script.specs.Parsing.{Parses, good_front, plain_lines}
+use Rattle.hdfs_script.specs.Scripts.{Script, script, ends_bad, entries_in, first_bad, line_entries, no_settings, script_limit, session_settings, settings_from, unless_bad, with_setting}
 use Rattle.hdfs_script.proofs.HalfLemmas.{refused_from, script_from, script_read}
 use Rattle.hdfs_script.specs.Texts.{replies_text, fault_text, refusal_text}
 use Rattle.hdfs_streams.specs.Streams.{SourceShown, SinkShown, TookAtMost, Wrote}
 use Rattle.hdfs_streams.proofs.PrintLemmas.{wrote_none}
 use Rattle.hdfs_top.specs.declared.note.Note.{Note}
-use Rattle.hdfs_top.specs.Top.{IsSession, Outside, outside, IsKnown, Loaded, Finishes, Halts, NotesFault, RefusedScript, StatusOf, ScriptDecides}
-use Rattle.hdfs_top.specs.Inside.{RanSession, Gave, IsKnownStore, LoadsScript, RefusesScript, PrintsWhole, Concludes, ToEnd, ToFault, NotesStop, RanCommands}
-use Rattle.hdfs_client.proofs.Since.{cause_since}
+use Rattle.hdfs_top.specs.Top.{IsSession, Outside, outside, IsKnown, Loaded, Finishes, Halts, NotesFault, RefusedScript, StatusOf, ScriptDecides, world_over}
+use Rattle.hdfs_top.specs.Inside.{RanSession, Gave, IsKnownStore, LoadsScript, RefusesScript, PrintsWhole, Concludes, ToEnd, ToFault, NotesStop, RanCommands, world_ready}
+use Rattle.hdfs_client.proofs.Since.{cause_since, tells_since}
 use Rattle.hdfs_top.proofs.LoadLemmas.{closed_lines}
+use Rattle.hdfs_top.proofs.ReadyLemmas.{readies_counts, readies_defaults, readies_fits, readies_lines, readies_one, readies_settings, readies_some}
 use Rattle.hdfs_top.proofs.SessionLemmas.{whole_at_2}
 use Rattle.hdfs_top.proofs.StatusLemmas.{Kept, ran_done, ran_refused, ran_stopped, ran_no_memory, ran_sink_failed}
 
@@ -63,14 +68,11 @@ given_is : (a : Outside) (given all : List ℕ) (left : SourceShown) (state : St
 given_is a given all left state gave known =
     ap (λ entries. unless_bad (first_bad a.fresh state 0 1 entries) entries) (entries-take all ∙ ap entries_in (sym (gave.front all known.told)))
 
-known_store : (a : Outside) (bytes : List ℕ) (state : State) → IsKnown a bytes state → IsKnownStore a.store state
-known_store a bytes state known = record { one = known.one; fits = known.fits; closed = known.closed }
-
 -- the bytes are refused at this line, and a store that isn't fresh is as it was
 abbrev RefusedAt : Outside → ℕ → Outside → Type 0
 RefusedAt a line b = (bytes : List ℕ) (state : State) → IsKnown a bytes state → (script a.fresh state bytes ≡ Err line) × (a.fresh ≡ false → SameShown a.store b.store)
 
-refused_at : (a b : Outside) (given : List ℕ) (read : Parsed) (line : ℕ) → Gave a.source given b.source → Parses given read → RefusesScript a.fresh a.store read.lines read.bad line b.store → RefusedAt a line b
+refused_at : (a b : Outside) (given : List ℕ) (read : Parsed) (line : ℕ) → Gave a.source given b.source → Parses given read → RefusesScript a.fresh a.store read line b.store → RefusedAt a line b
 refused_at a b given read line gave parses refuses bytes state known =
     (given_is a given bytes b.source state gave known ∙ refused_from a.fresh state given read line parses (refuses.first state known.fits), refuses.same state known.fits)
 
@@ -80,7 +82,7 @@ refused_wrote a b line refused wrote bytes state known =
     (line, here.0, wrote, here.1)
 
 -- the refusal of a script is printed
-pub refused_script : (a b : Outside) (given : List ℕ) (read : Parsed) (line status : ℕ) → Gave a.source given b.source → Parses given read → RefusesScript a.fresh a.store read.lines read.bad line b.store → NeverFall a.store.counts b.store.counts → Concludes 1 a.sink (refusal_text line) status b.sink → RanSession a status b
+pub refused_script : (a b : Outside) (given : List ℕ) (read : Parsed) (line status : ℕ) → Gave a.source given b.source → Parses given read → RefusesScript a.fresh a.store read line b.store → NeverFall a.store.counts b.store.counts → Concludes 1 a.sink (refusal_text line) status b.sink → RanSession a status b
 refused_script a b given read line status gave parses refuses counts (inl whole) words is =
     ran_refused words a b line status (kept_session words a b status is counts gave.taken) gave.fine whole
     (λ _. refused_wrote a b line (refused_at a b given read line gave parses refuses) whole.wrote)
@@ -101,50 +103,43 @@ stopped_since w state commands old mid new fault same stopped = record {
   done = stopped.done;
   cause = λ some.
       let at = stopped.cause some in
-      (at.0, at.1, cause_since old mid new (never_fall_from-SameCounts old.counts mid.counts same) w stopped.last at.0 fault.error at.2, at.3);
+      let fall = never_fall_from-SameCounts old.counts mid.counts same in
+      (at.0, at.1, tells_since old mid new fall at.0 fault.error at.2, cause_since old mid new fall w stopped.last at.0 fault.error at.3, at.4);
   start = stopped.start;
 }
 
-none_rose_since : (n m : ℕ) (old mid new : FaultCounts) → m ≡ n → SameCounts old mid → NoneRose n old new → NoneRose m mid new
-none_rose_since n m old mid new is same none = record {
-  calls = λ i below rose. none.calls i (omega (arith, below, is)) (rw (← same.calls i) rose);
+none_rose_since : (n m : ℕ) (old mid new : FaultCounts) → m ≤ n → SameCounts old mid → NoneRose n old new → NoneRose m mid new
+none_rose_since n m old mid new le same none = record {
+  calls = λ i below rose. none.calls i (omega (arith, below, le)) (rw (← same.calls i) rose);
   links = λ rose. none.links (rw (← same.links) rose);
   nodes = λ d rose. none.nodes d (rw (← same.nodes d) rose);
 }
 
--- plain lines were loaded, in order
-pub record LoadsPlain (old : Shown) (lines : List Line) (new : Shown) : Type 0 where
-  pub namenodes : new.namenodes ≡ old.namenodes
-  pub counts : SameCounts old.counts new.counts
-  pub defaults : defaults_of new.picture ≡ defaults_of old.picture
-  pub loaded : new.loaded ≡ old.loaded ++ lines
-  pub fits : (state : State) → Fits old state → Fits new (with_lines state lines)
-
--- the lines of a script were loaded, and its commands were run over the store that they made
+-- A script was loaded, and its commands were run over the store that it made.
 pub record LoadedRun (a : Outside) (given : List ℕ) (s : Script) (mid : Shown) (b : Outside) : Type 0 where
   pub gave : Gave a.source given b.source
   pub is : (state : State) → Fits a.store state → script a.fresh state given ≡ Ok s
-  pub loads : LoadsPlain a.store s.lines mid
+  pub some : 0 < a.store.namenodes
+  pub namenodes : (a.fresh ≡ false → a.store.namenodes ≡ 1) → mid.namenodes ≡ 1
+  pub counts : SameCounts a.store.counts mid.counts
+  pub world : (state : State) → Fits a.store state → world_ready s.settings mid ≡ world_over a s
+  pub settings : a.fresh ≡ true → mid.loaded.settings ≡ Some s.settings.cluster
+  pub lines : mid.loaded.lines ≡ a.store.loaded.lines ++ s.lines
+  pub fits : (state : State) → Fits a.store state → Fits mid (with_lines state s.lines)
   pub later : Later mid b.store
-
--- the lines leave the world
-world_stays : (old : Shown) (lines : List Line) (mid : Shown) → LoadsPlain old lines mid → script_world mid ≡ script_world old
-world_stays old lines mid loads = ap (λ (d : ServerDefaults). with_defaults d) loads.defaults
-  where
-    with_defaults : ServerDefaults → World
-    with_defaults d = record { home = script_settings.home; defaults = d }
 
 after_lines : (a b : Outside) (given : List ℕ) (s : Script) (mid : Shown) → LoadedRun a given s mid b → (bytes : List ℕ) (state : State) → IsKnown a bytes state → IsKnownStore mid (with_lines state s.lines)
 after_lines a b given s mid run bytes state known =
-    record { one = run.loads.namenodes ∙ known.one; fits = run.loads.fits state known.fits; closed = closed_lines state s.lines known.closed }
+    record { one = run.namenodes known.one; fits = run.fits state known.fits; closed = closed_lines state s.lines known.closed }
 
 loaded_from : (a b : Outside) (given : List ℕ) (s : Script) (mid : Shown) → LoadedRun a given s mid b → (bytes : List ℕ) (state : State) → IsKnown a bytes state → Loaded a bytes state s b
 loaded_from a b given s mid run bytes state known = record {
   is = given_is a given bytes b.source state run.gave known ∙ run.is state known.fits;
-  lines = run.later.loaded ∙ run.loads.loaded;
+  settings = λ fresh. ap (λ l. l.settings) run.later.loaded ∙ run.settings fresh;
+  lines = ap (λ l. l.lines) run.later.loaded ∙ run.lines;
 }
 
-finishes_from : (a b : Outside) (given : List ℕ) (s : Script) (mid : Shown) (status : ℕ) → LoadedRun a given s mid b → (end : ToEnd s.commands mid b.store a.sink status b.sink) → (bytes : List ℕ) (state : State) → IsKnown a bytes state → Finishes a bytes state (replies_text end.replies) b
+finishes_from : (a b : Outside) (given : List ℕ) (s : Script) (mid : Shown) (status : ℕ) → LoadedRun a given s mid b → (end : ToEnd s.settings s.commands mid b.store a.sink status b.sink) → (bytes : List ℕ) (state : State) → IsKnown a bytes state → Finishes a bytes state (replies_text end.replies) b
 finishes_from a b given s mid status run end bytes state known =
     let t = end.told (with_lines state s.lines) (after_lines a b given s mid run bytes state known) in
     record {
@@ -152,43 +147,43 @@ finishes_from a b given s mid status run end bytes state known =
       loaded = loaded_from a b given s mid run bytes state known;
       replies = end.replies;
       last = t.0;
-      folds = ap (λ (w : World). fold w (with_lines state s.lines) s.commands) (sym (world_stays a.store s.lines mid run.loads)) ∙ t.1;
+      folds = ap (λ (w : World). fold w (with_lines state s.lines) s.commands) (sym (run.world state known.fits)) ∙ t.1;
       fits = t.2;
       is_text = refl;
     }
 
-halts_from : (a b : Outside) (given : List ℕ) (s : Script) (mid : Shown) (status : ℕ) → LoadedRun a given s mid b → (stop : ToFault s.commands mid b.store a.sink status b.sink) → (bytes : List ℕ) (state : State) → IsKnown a bytes state → Halts a bytes state (fault_text stop.fault) b
+halts_from : (a b : Outside) (given : List ℕ) (s : Script) (mid : Shown) (status : ℕ) → LoadedRun a given s mid b → (stop : ToFault s.settings s.commands mid b.store a.sink status b.sink) → (bytes : List ℕ) (state : State) → IsKnown a bytes state → Halts a bytes state (fault_text stop.fault) b
 halts_from a b given s mid status run stop bytes state known = record {
   parsed = s;
   loaded = loaded_from a b given s mid run bytes state known;
   fault = stop.fault;
   other = stop.other;
-  stopped = stopped_since (script_world a.store) (with_lines state s.lines) s.commands a.store mid b.store stop.fault run.loads.counts
-      (subst (λ (w : World). Stopped w (with_lines state s.lines) s.commands mid b.store stop.fault) (world_stays a.store s.lines mid run.loads)
+  stopped = stopped_since (world_over a s) (with_lines state s.lines) s.commands a.store mid b.store stop.fault run.counts
+      (subst (λ (w : World). Stopped w (with_lines state s.lines) s.commands mid b.store stop.fault) (run.world state known.fits)
       (stop.told (with_lines state s.lines) (after_lines a b given s mid run bytes state known)));
   is_text = refl;
 }
 
-decides_from : (a b : Outside) (given : List ℕ) (s : Script) (mid : Shown) (status : ℕ) → LoadedRun a given s mid b → ToFault s.commands mid b.store a.sink status b.sink → status ≡ 2 → ScriptDecides a status b
+decides_from : (a b : Outside) (given : List ℕ) (s : Script) (mid : Shown) (status : ℕ) → LoadedRun a given s mid b → ToFault s.settings s.commands mid b.store a.sink status b.sink → status ≡ 2 → ScriptDecides a status b
 decides_from a b given s mid status run stop two bytes state found known is limited none =
     let here = (loaded_from a b given s mid run bytes state known).is in
     let same : s ≡ found = cc (here, is) in
     let start = with_lines state s.lines in
-    let stays = world_stays a.store s.lines mid run.loads in
-    let within : AreLimited (script_world mid) start s.commands =
-    subst (λ (w : World). AreLimited w start s.commands) (sym stays) (subst (λ (x : Script). AreLimited (script_world a.store) (with_lines state x.lines) x.commands) (sym same) limited) in
-    let none_since = none_rose_since a.store.namenodes mid.namenodes a.store.counts mid.counts b.store.counts run.loads.namenodes run.loads.counts none.calls in
-    let fault : StatusOf (fold (script_world mid) start s.commands) 2 = stop.complete start (after_lines a b given s mid run bytes state known) within none_since in
-    let there : StatusOf (fold (script_world a.store) start s.commands) 2 = subst (λ (w : World). StatusOf (fold w start s.commands) 2) stays fault in
-    let this : StatusOf (fold (script_world a.store) start s.commands) status = subst (λ (n : ℕ). StatusOf (fold (script_world a.store) start s.commands) n) (sym two) there in
-    subst (λ (x : Script). StatusOf (fold (script_world a.store) (with_lines state x.lines) x.commands) status) same this
+    let stays = run.world state known.fits in
+    let within : AreLimited (world_ready s.settings mid) start s.commands =
+    subst (λ (w : World). AreLimited w start s.commands) (sym stays) (subst (λ (x : Script). AreLimited (world_over a x) (with_lines state x.lines) x.commands) (sym same) limited) in
+    let none_since = none_rose_since a.store.namenodes mid.namenodes a.store.counts mid.counts b.store.counts (omega (arith, run.namenodes known.one, run.some)) run.counts none.calls in
+    let fault : StatusOf (fold (world_ready s.settings mid) start s.commands) 2 = stop.complete start (after_lines a b given s mid run bytes state known) within none_since in
+    let there : StatusOf (fold (world_over a s) start s.commands) 2 = subst (λ (w : World). StatusOf (fold w start s.commands) 2) stays fault in
+    let this : StatusOf (fold (world_over a s) start s.commands) status = subst (λ (n : ℕ). StatusOf (fold (world_over a s) start s.commands) n) (sym two) there in
+    subst (λ (x : Script). StatusOf (fold (world_over a x) (with_lines state x.lines) x.commands) status) same this
 
 kept_loaded : (words : List (List ℕ)) (a b : Outside) (given : List ℕ) (s : Script) (mid : Shown) (status : ℕ) → IsSession words → LoadedRun a given s mid b → Kept words a status b
 kept_loaded words a b given s mid status is run =
-    kept_session words a b status is (never_fall_trans a.store.counts mid.counts b.store.counts (never_fall_from-SameCounts a.store.counts mid.counts run.loads.counts) run.later.counts) run.gave.taken
+    kept_session words a b status is (never_fall_trans a.store.counts mid.counts b.store.counts (never_fall_from-SameCounts a.store.counts mid.counts run.counts) run.later.counts) run.gave.taken
 
 -- the session came to its end
-ran_end : (a b : Outside) (given : List ℕ) (s : Script) (mid : Shown) (status : ℕ) → LoadedRun a given s mid b → (end : ToEnd s.commands mid b.store a.sink status b.sink) → Concludes 0 a.sink (replies_text end.replies) status b.sink → RanSession a status b
+ran_end : (a b : Outside) (given : List ℕ) (s : Script) (mid : Shown) (status : ℕ) → LoadedRun a given s mid b → (end : ToEnd s.settings s.commands mid b.store a.sink status b.sink) → Concludes 0 a.sink (replies_text end.replies) status b.sink → RanSession a status b
 ran_end a b given s mid status run end (inl whole) words is =
     ran_done words a b (replies_text end.replies) status (kept_loaded words a b given s mid status is run) run.gave.fine whole (finishes_from a b given s mid status run end)
 ran_end a b given s mid status run end (inr part) words is =
@@ -196,37 +191,73 @@ ran_end a b given s mid status run end (inr part) words is =
     (λ _ bytes state known. inr (inl (finishes_from a b given s mid status run end bytes state known)))
 
 -- the session stopped
-ran_fault : (a b : Outside) (given : List ℕ) (s : Script) (mid : Shown) (status : ℕ) → LoadedRun a given s mid b → (stop : ToFault s.commands mid b.store a.sink status b.sink) → Concludes 2 a.sink (fault_text stop.fault) status b.sink → RanSession a status b
+ran_fault : (a b : Outside) (given : List ℕ) (s : Script) (mid : Shown) (status : ℕ) → LoadedRun a given s mid b → (stop : ToFault s.settings s.commands mid b.store a.sink status b.sink) → Concludes 2 a.sink (fault_text stop.fault) status b.sink → RanSession a status b
 ran_fault a b given s mid status run stop (inl whole) words is =
     ran_stopped words a b (fault_text stop.fault) status (kept_loaded words a b given s mid status is run) run.gave.fine whole (halts_from a b given s mid status run stop) (decides_from a b given s mid status run stop whole.is)
 ran_fault a b given s mid status run stop (inr part) words is =
     ran_sink_failed words a b (fault_text stop.fault) status (kept_loaded words a b given s mid status is run) run.gave.fine part
     (λ _ bytes state known. inr (inr (halts_from a b given s mid status run stop bytes state known)))
 
-ran_ending : (a b : Outside) (given : List ℕ) (s : Script) (mid : Shown) (status : ℕ) → LoadedRun a given s mid b → PrintsWhole 3 a.sink [] status b.sink ⊎ ToEnd s.commands mid b.store a.sink status b.sink ⊎ ToFault s.commands mid b.store a.sink status b.sink → RanSession a status b
+ran_ending : (a b : Outside) (given : List ℕ) (s : Script) (mid : Shown) (status : ℕ) → LoadedRun a given s mid b → PrintsWhole 3 a.sink [] status b.sink ⊎ ToEnd s.settings s.commands mid b.store a.sink status b.sink ⊎ ToFault s.settings s.commands mid b.store a.sink status b.sink → RanSession a status b
 ran_ending a b given s mid status run (inl whole) words is =
     ran_no_memory words a b status (kept_loaded words a b given s mid status is run) run.gave.fine whole
 ran_ending a b given s mid status run (inr (inl end)) words is = ran_end a b given s mid status run end end.printed words is
 ran_ending a b given s mid status run (inr (inr stop)) words is = ran_fault a b given s mid status run stop stop.printed words is
 
-loaded_run : (a b : Outside) (given : List ℕ) (read : Parsed) (mid : Shown) → Gave a.source given b.source → Parses given read → LoadsScript a.fresh a.store read.lines read.bad mid → Later mid b.store → LoadedRun a given (script_read read) mid b
-loaded_run a b given read mid gave parses loads later = record {
-  gave = gave;
-  is = λ state fits. script_from a.fresh state given read parses (loads.none state fits);
-  loads = record { namenodes = loads.loads.namenodes; counts = loads.loads.counts; defaults = loads.loads.defaults; loaded = loads.loads.loaded; fits = loads.loads.fits };
-  later = later;
-}
+-- no setting changes how many namenodes there are
+one_setting : (given : ScriptSettings) (setting : Setting) → (with_setting given setting).cluster.namenodes ≡ given.cluster.namenodes
+one_setting given (settings.User name) = refl
+one_setting given (settings.Nodes n) = refl
+one_setting given (settings.Block n) = refl
+one_setting given (settings.Chunk n) = refl
+one_setting given (settings.Packet n) = refl
+
+one_namenode : (given : ScriptSettings) (entries : List Entry) → (settings_from given entries).cluster.namenodes ≡ given.cluster.namenodes
+one_namenode given [] = refl
+one_namenode given (Sets setting ∷ entries) = one_namenode (with_setting given setting) entries ∙ one_setting given setting
+one_namenode given (Blank ∷ entries) = one_namenode given entries
+one_namenode given (Loads line ∷ entries) = one_namenode given entries
+one_namenode given (Runs command ∷ entries) = one_namenode given entries
+one_namenode given (Bad ∷ entries) = one_namenode given entries
+
+abbrev with_defaults : ScriptSettings → ServerDefaults → World
+with_defaults given defaults = record { home = (session_settings given).home; defaults = defaults }
+
+loaded_run : (a b : Outside) (given : List ℕ) (read : Parsed) (mid : Shown) → 0 < a.store.namenodes → Gave a.source given b.source → Parses given read → LoadsScript a.fresh a.store read mid → Later mid b.store → LoadedRun a given (script_read read) mid b
+loaded_run a b given read mid some gave parses loads later =
+    let cluster = read.settings.cluster in
+    let one : cluster.namenodes ≡ 1 = ap (λ (g : ScriptSettings). g.cluster.namenodes) parses.settings ∙ one_namenode no_settings (good_front 0 (entries_in given)) in
+    record {
+      gave = gave;
+      is = λ state fits. script_from a.fresh state given read parses (loads.none state fits);
+      some = some;
+      namenodes = λ held. loads.loads.namenodes ∙ readies_one a.fresh a.store cluster loads.ready loads.readies one held;
+      counts = same_counts_trans a.store.counts loads.ready.counts mid.counts (readies_counts a.fresh a.store cluster loads.ready loads.readies) loads.loads.counts;
+      world = λ state fits. ap (with_defaults read.settings) (loads.loads.defaults ∙ readies_defaults a.fresh a.store read.settings loads.ready loads.readies state fits);
+      settings = λ fresh. loads.loads.settings ∙ readies_settings a.fresh a.store cluster loads.ready loads.readies fresh;
+      lines = loads.loads.loaded ∙ ap (λ l. l ++ plain_lines read.lines) (readies_lines a.fresh a.store cluster loads.ready loads.readies);
+      fits = λ state fits. loads.loads.fits state (readies_fits a.fresh a.store cluster loads.ready loads.readies state fits);
+      later = later;
+    }
+
+-- there is a namenode still
+pub some_namenode : (fresh : Bool) (old : Shown) (read : Parsed) (new : Shown) → LoadsScript fresh old read new → AreValid read.settings.cluster → 0 < old.namenodes → 0 < new.namenodes
+some_namenode fresh old read new loads valid some =
+    let ready = readies_some fresh old read.settings.cluster loads.ready loads.readies valid some in
+    omega (arith, loads.loads.namenodes, ready)
 
 -- the lines were loaded, and the commands run
-pub ran_loaded : (a b : Outside) (given : List ℕ) (read : Parsed) (mid : Shown) (status : ℕ) → Gave a.source given b.source → Parses given read → LoadsScript a.fresh a.store read.lines read.bad mid → RanCommands read.commands mid b.store a.sink status b.sink → RanSession a status b
-ran_loaded a b given read mid status gave parses loads ran =
-    ran_ending a b given (script_read read) mid status (loaded_run a b given read mid gave parses loads ran.later) ran.ending
+pub ran_loaded : (a b : Outside) (given : List ℕ) (read : Parsed) (mid : Shown) (status : ℕ) → 0 < a.store.namenodes → Gave a.source given b.source → Parses given read → LoadsScript a.fresh a.store read mid
+    → RanCommands read.settings read.commands mid b.store a.sink status b.sink → RanSession a status b
+ran_loaded a b given read mid status some gave parses loads ran =
+    ran_ending a b given (script_read read) mid status (loaded_run a b given read mid some gave parses loads ran.later) ran.ending
 
 -- and where they stopped, that was noted
-pub notes_loaded : (a b : Outside) (given : List ℕ) (read : Parsed) (mid : Shown) (status : ℕ) (note : Note) → Gave a.source given b.source → Parses given read → LoadsScript a.fresh a.store read.lines read.bad mid → Later mid b.store → status ≡ 2 → NotesStop read.commands mid b.store a.sink status note b.sink → NotesFault a note b
+pub notes_loaded : (a b : Outside) (given : List ℕ) (read : Parsed) (mid : Shown) (status : ℕ) (note : Note) → 0 < a.store.namenodes → Gave a.source given b.source → Parses given read → LoadsScript a.fresh a.store read mid
+    → Later mid b.store → status ≡ 2 → NotesStop read.settings read.commands mid b.store a.sink status note b.sink → NotesFault a note b
 unfolding halts_from
-notes_loaded a b given read mid status note gave parses loads later two noted =
-    let run : LoadedRun a given (script_read read) mid b = loaded_run a b given read mid gave parses loads later in record {
+notes_loaded a b given read mid status note some gave parses loads later two noted =
+    let run : LoadedRun a given (script_read read) mid b = loaded_run a b given read mid some gave parses loads later in record {
       fault = noted.stop.fault;
       is = noted.is;
       wrote = whole_at_2 status a.sink b.sink (fault_text noted.stop.fault) noted.stop.printed two;

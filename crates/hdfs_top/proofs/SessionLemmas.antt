@@ -14,14 +14,15 @@ use Rattle.hdfs_model.specs.Limits.{are_settings}
 use Rattle.hdfs_model.specs.Sessions.{AreLimited, Avoids, Complete, none_open, world_of}
 use Rattle.hdfs_model.specs.Shown.{Shown, Later}
 use Rattle.hdfs_model.specs.Steps.{World, target_of}
-use Rattle.hdfs_script.specs.Scripts.{script_settings, script_world}
+use Rattle.hdfs_script.specs.declared.entry.ScriptSettings.{ScriptSettings}
+use Rattle.hdfs_script.specs.Scripts.{session_settings}
 use Rattle.hdfs_script.specs.Texts.{replies_text, fault_text}
 use Rattle.hdfs_streams.specs.declared.streams.IoFailed.{IoFailed}
 use Rattle.hdfs_streams.specs.Streams.{SinkShown, Prints, Wrote}
 use Rattle.hdfs_top.specs.Top.{IsClosed, StatusOf}
 use Rattle.hdfs_top.specs.declared.note.Note.{Note}
 use Rattle.hdfs_top.specs.declared.note.Note.TheVariants as notes
-use Rattle.hdfs_top.specs.Inside.{IsKnownStore, Concludes, ToEnd, ToFault, NotesStop, RanCommands}
+use Rattle.hdfs_top.specs.Inside.{IsKnownStore, Concludes, ToEnd, ToFault, NotesStop, RanCommands, world_ready}
 
 -- the status of a print
 pub concludes_from-Prints : {T : Type 0} (good : ℕ) (a c : SinkShown) (text : List ℕ) (r : Result T IoFailed) (status : ℕ) → Prints a text r c → MatchResult r (λ x. status ≡ good) (λ e. status ≡ 5) → Concludes good a text status c
@@ -29,12 +30,12 @@ concludes_from-Prints good a c text (Ok x) status p is = inl (record { is = is; 
 concludes_from-Prints good a c text (Err e) status p is = inr (record { is = is; rose = p.failed; part = p.part })
 
 -- the settings of a script make its world
-pub world_is : (settings : Settings) (s : Shown) → settings ≡ script_settings → world_of settings s ≡ script_world s
-world_is settings s is = ap (λ (x : Settings). world_of x s) is
+pub world_is : (settings : Settings) (given : ScriptSettings) (s : Shown) → settings ≡ session_settings given → world_of settings s ≡ world_ready given s
+world_is settings given s is = ap (λ (x : Settings). world_of x s) is
 
 -- and are in their limits
-pub limited_settings : (settings : Settings) → settings ≡ script_settings → are_settings settings ≡ true
-limited_settings settings is = ap are_settings is
+pub limited_settings : (settings : Settings) (given : ScriptSettings) → settings ≡ session_settings given → are_settings settings ≡ true
+limited_settings settings given is = ap are_settings is
 
 -- where all files are closed no command names one that is being written
 avoids_closed : (w : World) (state : State) (command : Command) → IsClosed state → Avoids w state command
@@ -57,9 +58,9 @@ abbrev RanReady : World → List Command → Shown → Shown → Result (Vec Rep
 RanReady w commands old new result = (state : State) → Ready w (record { opened = none_open; shown = old }) state commands → Ran w state commands old new result
 
 -- a session came to its end
-pub ran_to_end : (w : World) (commands : List Command) (old new : Shown) (before after : SinkShown) (status : ℕ) (replies : Vec Reply Global) → w ≡ script_world old → Later old new → RanReady w commands old new (Ok replies) → Concludes 0 before (replies_text replies.items) status after → RanCommands commands old new before status after
-ran_to_end w commands old new before after status replies is later ran printed =
-    let end : ToEnd commands old new before status after = record {
+pub ran_to_end : (w : World) (given : ScriptSettings) (commands : List Command) (old new : Shown) (before after : SinkShown) (status : ℕ) (replies : Vec Reply Global) → w ≡ world_ready given old → Later old new → RanReady w commands old new (Ok replies) → Concludes 0 before (replies_text replies.items) status after → RanCommands given commands old new before status after
+ran_to_end w given commands old new before after status replies is later ran printed =
+    let end : ToEnd given commands old new before status after = record {
       replies = replies.items;
       told = λ state known.
           let t = (ran state (ready w old state commands known)).ok in
@@ -74,27 +75,27 @@ refused_from-Complete T (Ends replies last) fault complete other = absurd (other
 refused_from-Complete T (Stops replies last why) fault complete other = inl refl
 
 -- a session stopped at a fault
-to_fault : (w : World) (commands : List Command) (old new : Shown) (before after : SinkShown) (status : ℕ) (fault : Fault) → w ≡ script_world old → RanReady w commands old new (Err fault) → fault.error ≢ errors.NoMemory → Concludes 2 before (fault_text fault) status after → ToFault commands old new before status after
-to_fault w commands old new before after status fault is ran other printed = record {
+to_fault : (w : World) (given : ScriptSettings) (commands : List Command) (old new : Shown) (before after : SinkShown) (status : ℕ) (fault : Fault) → w ≡ world_ready given old → RanReady w commands old new (Err fault) → fault.error ≢ errors.NoMemory → Concludes 2 before (fault_text fault) status after → ToFault given commands old new before status after
+to_fault w given commands old new before after status fault is ran other printed = record {
   fault = fault;
   other = other;
   told = λ state known. subst (λ (v : World). Stopped v state commands old new fault) is (ran state (ready w old state commands known)).err;
   complete = λ state known limited none.
       (let within = subst (λ (v : World). AreLimited v state commands) (sym is) limited in
-      refused_from-Complete (Vec Reply Global) (fold (script_world old) state commands) fault
+      refused_from-Complete (Vec Reply Global) (fold (world_ready given old) state commands) fault
       (subst (λ (v : World). Complete {T = Vec Reply Global} (fold v state commands) (Err fault)) is ((ran state (ready w old state commands known)).complete within none)) other);
   printed = printed;
 }
 
-pub ran_to_fault : (w : World) (commands : List Command) (old new : Shown) (before after : SinkShown) (status : ℕ) (fault : Fault) → w ≡ script_world old → Later old new → RanReady w commands old new (Err fault) → fault.error ≢ errors.NoMemory → Concludes 2 before (fault_text fault) status after → RanCommands commands old new before status after
-ran_to_fault w commands old new before after status fault is later ran other printed =
-    record { later = later; ending = inr (inr (to_fault w commands old new before after status fault is ran other printed)) }
+pub ran_to_fault : (w : World) (given : ScriptSettings) (commands : List Command) (old new : Shown) (before after : SinkShown) (status : ℕ) (fault : Fault) → w ≡ world_ready given old → Later old new → RanReady w commands old new (Err fault) → fault.error ≢ errors.NoMemory → Concludes 2 before (fault_text fault) status after → RanCommands given commands old new before status after
+ran_to_fault w given commands old new before after status fault is later ran other printed =
+    record { later = later; ending = inr (inr (to_fault w given commands old new before after status fault is ran other printed)) }
 
 -- and that was noted
-pub notes_stop : (w : World) (commands : List Command) (old new : Shown) (before after : SinkShown) (status : ℕ) (fault : Fault) (note : Note) → w ≡ script_world old → RanReady w commands old new (Err fault) → fault.error ≢ errors.NoMemory → Concludes 2 before (fault_text fault) status after → note ≡ notes.Stopped fault.at fault.error → NotesStop commands old new before status note after
+pub notes_stop : (w : World) (given : ScriptSettings) (commands : List Command) (old new : Shown) (before after : SinkShown) (status : ℕ) (fault : Fault) (note : Note) → w ≡ world_ready given old → RanReady w commands old new (Err fault) → fault.error ≢ errors.NoMemory → Concludes 2 before (fault_text fault) status after → note ≡ notes.Stopped fault.at fault.error → NotesStop given commands old new before status note after
 unfolding to_fault
-notes_stop w commands old new before after status fault note is ran other printed noted =
-    record { stop = to_fault w commands old new before after status fault is ran other printed; is = noted }
+notes_stop w given commands old new before after status fault note is ran other printed noted =
+    record { stop = to_fault w given commands old new before after status fault is ran other printed; is = noted }
 
 -- a print for another status doesn't end with status 2
 pub not_status_2 : (good status : ℕ) (a c : SinkShown) (text : List ℕ) → Concludes good a text status c → (good ≡ 2 → ⊥) → status ≡ 2 → ⊥

@@ -4,10 +4,10 @@ use Rattle.hdfs_model.specs.Counts.{NeverFall}
 use Rattle.hdfs_model.specs.Files.{State}
 use Rattle.hdfs_model.specs.Folds.{Folded, Ends, Stops, fold}
 use Rattle.hdfs_model.specs.Loading.{with_lines}
-use Rattle.hdfs_script.specs.Scripts.{Script, script, script_limit, script_world}
+use Rattle.hdfs_script.specs.Scripts.{Script, script, script_limit}
 use Rattle.hdfs_script.specs.Texts.{refusal_text}
 use Rattle.hdfs_streams.specs.Streams.{TookAtMost}
-use Rattle.hdfs_top.specs.Top.{IsSession, Outside, IsKnown, Finishes, Halts, IsText, RefusedScript, RefusedWords, FailedSource, StatusOf, ScriptDecides, RanProgram}
+use Rattle.hdfs_top.specs.Top.{IsSession, Outside, IsKnown, Finishes, Halts, IsText, RefusedScript, RefusedWords, FailedSource, StatusOf, ScriptDecides, RanProgram, world_over}
 use Rattle.hdfs_top.specs.Inside.{PrintsWhole, PrintsPart}
 
 -- what holds of a run whatever its status
@@ -16,13 +16,13 @@ pub record Kept (words : List (List ℕ)) (a : Outside) (status : ℕ) (b : Outs
   pub read : TookAtMost (script_limit + 1) a.source b.source
   pub other : (IsSession words → ⊥) → RefusedWords a status b
 
-done_from-Finishes : (a b : Outside) (bytes : List ℕ) (state : State) (parsed : Script) (text : List ℕ) (status : ℕ) → status ≡ 0 → Finishes a bytes state text b → script a.fresh state bytes ≡ Ok parsed → StatusOf (fold (script_world a.store) (with_lines state parsed.lines) parsed.commands) status
+done_from-Finishes : (a b : Outside) (bytes : List ℕ) (state : State) (parsed : Script) (text : List ℕ) (status : ℕ) → status ≡ 0 → Finishes a bytes state text b → script a.fresh state bytes ≡ Ok parsed → StatusOf (fold (world_over a parsed) (with_lines state parsed.lines) parsed.commands) status
 done_from-Finishes a b bytes state parsed text status zero f found =
     let found_there = f.loaded.is in
     let same : f.parsed ≡ parsed = cc (found_there, found) in
     let folds = f.folds in
-    let here : StatusOf (fold (script_world a.store) (with_lines state f.parsed.lines) f.parsed.commands) status = subst (λ (t : Folded). StatusOf t status) (sym folds) (inl zero) in
-    subst (λ (s : Script). StatusOf (fold (script_world a.store) (with_lines state s.lines) s.commands) status) same here
+    let here : StatusOf (fold (world_over a f.parsed) (with_lines state f.parsed.lines) f.parsed.commands) status = subst (λ (t : Folded). StatusOf t status) (sym folds) (inl zero) in
+    subst (λ (s : Script). StatusOf (fold (world_over a s) (with_lines state s.lines) s.commands) status) same here
 
 any_memory : (r : Folded) (status : ℕ) → status ≡ 3 → StatusOf r status
 any_memory (Ends replies last) status three = inr three
@@ -105,7 +105,7 @@ ran_no_memory words a b status kept same whole = record {
   sink = λ five. absurd (omega arith);
   prefix = λ five. absurd (omega arith);
   write_fine = λ _. whole.fine;
-  complete = λ is bytes state parsed known found limited none. any_memory (fold (script_world a.store) (with_lines state parsed.lines) parsed.commands) status whole.is;
+  complete = λ is bytes state parsed known found limited none. any_memory (fold (world_over a parsed) (with_lines state parsed.lines) parsed.commands) status whole.is;
 }
 
 -- the source failed

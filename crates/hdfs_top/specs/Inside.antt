@@ -8,12 +8,16 @@ use Rattle.hdfs_model.specs.Counts.{NoneRose, Rose, SameCounts}
 use Rattle.hdfs_model.specs.Files.{State}
 use Rattle.hdfs_model.specs.Folds.{Ends, fold}
 use Rattle.hdfs_model.specs.Headline.{Stopped}
-use Rattle.hdfs_model.specs.Loading.{SameShown, with_lines}
-use Rattle.hdfs_model.specs.Sessions.{Fits, AreLimited, defaults_of}
+use Rattle.hdfs_model.specs.declared.mem_settings.MemSettings.{MemSettings}
+use Rattle.hdfs_model.specs.Loading.{Prepares, SameShown, with_lines}
+use Rattle.hdfs_model.specs.Sessions.{Fits, AreLimited, defaults_of, world_of}
 use Rattle.hdfs_model.specs.Shown.{Shown, Later}
+use Rattle.hdfs_model.specs.Steps.{World}
 use Rattle.hdfs_script.specs.declared.entry.NumberedLine.{NumberedLine}
-use Rattle.hdfs_script.specs.Parsing.{first_untaken, or_else, plain_lines}
-use Rattle.hdfs_script.specs.Scripts.{script_limit, script_world}
+use Rattle.hdfs_script.specs.declared.entry.Parsed.{Parsed}
+use Rattle.hdfs_script.specs.declared.entry.ScriptSettings.{ScriptSettings}
+use Rattle.hdfs_script.specs.Parsing.{untaken_set, first_untaken, or_else, plain_lines}
+use Rattle.hdfs_script.specs.Scripts.{script_limit, session_settings}
 use Rattle.hdfs_script.specs.Texts.{replies_text, fault_text}
 use Rattle.hdfs_streams.specs.Streams.{SourceShown, SinkShown, TookAtMost, IsFront, Wrote, WrotePart}
 use Rattle.hdfs_top.specs.declared.note.Note.{Note}
@@ -41,18 +45,30 @@ pub record LoadsAll (old : Shown) (lines : List NumberedLine) (new : Shown) : Ty
   pub namenodes : new.namenodes ≡ old.namenodes
   pub counts : SameCounts old.counts new.counts
   pub defaults : defaults_of new.picture ≡ defaults_of old.picture
-  pub loaded : new.loaded ≡ old.loaded ++ plain_lines lines
+  pub settings : new.loaded.settings ≡ old.loaded.settings
+  pub loaded : new.loaded.lines ≡ old.loaded.lines ++ plain_lines lines
   pub taken : (state : State) → Fits old state → first_untaken true state lines ≡ None
   pub fits : (state : State) → Fits old state → Fits new (with_lines state (plain_lines lines))
 
--- the lines that were read of a script were loaded, and none of its lines is bad
-pub record LoadsScript (fresh : Bool) (old : Shown) (lines : List NumberedLine) (bad : Option ℕ) (new : Shown) : Type 0 where
-  pub loads : LoadsAll old lines new
-  pub none : (state : State) → Fits old state → or_else (first_untaken fresh state lines) bad ≡ None
+-- a fresh store has a script's settings, and any other is as it was
+abbrev pub Readies : Bool → Shown → MemSettings → Shown → Type 0
+Readies true old settings new = Prepares old settings new
+Readies false old settings new = new ≡ old
+
+-- the number of the first line that a store refuses that is fresh or isn't, of those that were read of a script
+abbrev pub first_refused : Bool → State → Parsed → Option ℕ
+first_refused fresh state read = or_else (untaken_set fresh read.sets) (or_else (first_untaken fresh state read.lines) read.bad)
+
+-- a script that was read was loaded, and none of its lines is bad
+pub record LoadsScript (fresh : Bool) (old : Shown) (read : Parsed) (new : Shown) : Type 0 where
+  pub ready : Shown
+  pub readies : Readies fresh old read.settings.cluster ready
+  pub loads : LoadsAll ready read.lines new
+  pub none : (state : State) → Fits old state → first_refused fresh state read ≡ None
 
 -- the first bad line of a script that was read has this number, and a store that isn't fresh is as it was
-pub record RefusesScript (fresh : Bool) (old : Shown) (lines : List NumberedLine) (bad : Option ℕ) (number : ℕ) (new : Shown) : Type 0 where
-  pub first : (state : State) → Fits old state → or_else (first_untaken fresh state lines) bad ≡ Some number
+pub record RefusesScript (fresh : Bool) (old : Shown) (read : Parsed) (number : ℕ) (new : Shown) : Type 0 where
+  pub first : (state : State) → Fits old state → first_refused fresh state read ≡ Some number
   pub same : (state : State) → Fits old state → fresh ≡ false → SameShown old new
 
 -- a text was printed, and no write failed
@@ -71,29 +87,33 @@ pub record PrintsPart (before : SinkShown) (text : List ℕ) (status : ℕ) (aft
 abbrev pub Concludes : ℕ → SinkShown → List ℕ → ℕ → SinkShown → Type 0
 Concludes good before text status after = PrintsWhole good before text status after ⊎ PrintsPart before text status after
 
+-- the world of commands over a store that has their script's settings
+abbrev pub world_ready : ScriptSettings → Shown → World
+world_ready given store = world_of (session_settings given) store
+
 -- commands came to their end
-pub record ToEnd (commands : List Command) (old new : Shown) (before : SinkShown) (status : ℕ) (after : SinkShown) : Type 0 where
+pub record ToEnd (given : ScriptSettings) (commands : List Command) (old new : Shown) (before : SinkShown) (status : ℕ) (after : SinkShown) : Type 0 where
   pub replies : List Reply
   pub told : (state : State) → IsKnownStore old state
-      → (last : State) × (fold (script_world old) state commands ≡ Ends replies last) × Fits new last
+      → (last : State) × (fold (world_ready given old) state commands ≡ Ends replies last) × Fits new last
   pub printed : Concludes 0 before (replies_text replies) status after
 
 -- commands stopped at a fault other than want of memory
-pub record ToFault (commands : List Command) (old new : Shown) (before : SinkShown) (status : ℕ) (after : SinkShown) : Type 0 where
+pub record ToFault (given : ScriptSettings) (commands : List Command) (old new : Shown) (before : SinkShown) (status : ℕ) (after : SinkShown) : Type 0 where
   pub fault : Fault
   pub other : fault.error ≢ errors.NoMemory
-  pub told : (state : State) → IsKnownStore old state → Stopped (script_world old) state commands old new fault
-  pub complete : (state : State) → IsKnownStore old state → AreLimited (script_world old) state commands
-      → NoneRose old.namenodes old.counts new.counts → StatusOf (fold (script_world old) state commands) 2
+  pub told : (state : State) → IsKnownStore old state → Stopped (world_ready given old) state commands old new fault
+  pub complete : (state : State) → IsKnownStore old state → AreLimited (world_ready given old) state commands
+      → NoneRose old.namenodes old.counts new.counts → StatusOf (fold (world_ready given old) state commands) 2
   pub printed : Concludes 2 before (fault_text fault) status after
 
 -- a note tells of the fault at which commands stopped, and whose text was printed
-pub record NotesStop (commands : List Command) (old new : Shown) (before : SinkShown) (status : ℕ) (note : Note) (after : SinkShown) : Type 0 where
-  pub stop : ToFault commands old new before status after
+pub record NotesStop (given : ScriptSettings) (commands : List Command) (old new : Shown) (before : SinkShown) (status : ℕ) (note : Note) (after : SinkShown) : Type 0 where
+  pub stop : ToFault given commands old new before status after
   pub is : note ≡ notes.Stopped stop.fault.at stop.fault.error
 
 -- commands were run, and what they answered was printed; for want of memory nothing was
-pub record RanCommands (commands : List Command) (old new : Shown) (before : SinkShown) (status : ℕ) (after : SinkShown) : Type 0 where
+pub record RanCommands (given : ScriptSettings) (commands : List Command) (old new : Shown) (before : SinkShown) (status : ℕ) (after : SinkShown) : Type 0 where
   pub later : Later old new
   pub ending : PrintsWhole 3 before [] status after
-      ⊎ ToEnd commands old new before status after ⊎ ToFault commands old new before status after
+      ⊎ ToEnd given commands old new before status after ⊎ ToFault given commands old new before status after

@@ -1,5 +1,5 @@
 -- What the program does, from the bytes of a script to the bytes of its replies: the main theorem, for bytes in and bytes out.
-use Rattle.std.specs.Prelude.{◌≡◌, ◌≢◌, ◌⊎◌, ◌≤◌, ◌+◌, ℕ, Bool, false, List, [], ◌∷◌, ◌++◌, Some, Ok, Err, codes}
+use Rattle.std.specs.Prelude.{◌≡◌, ◌≢◌, ◌⊎◌, ◌≤◌, ◌+◌, ℕ, Bool, true, false, List, [], ◌∷◌, ◌++◌, Some, Ok, Err, codes}
 use Rattle.hdfs_model.specs.declared.commands.Reply.{Reply}
 use Rattle.hdfs_model.specs.declared.errors.Fault.{Fault}
 use Rattle.hdfs_model.specs.declared.errors.HdfsError.TheVariants as errors
@@ -10,6 +10,7 @@ use Rattle.hdfs_model.specs.Headline.{Stopped}
 use Rattle.hdfs_model.specs.Loading.{SameShown, with_lines}
 use Rattle.hdfs_model.specs.Sessions.{Fits, SameOpened, AreLimited, none_open}
 use Rattle.hdfs_model.specs.Shown.{Shown}
+use Rattle.hdfs_model.specs.Steps.{World}
 use Rattle.hdfs_script.specs.Scripts.{Script, script, script_limit, script_world}
 use Rattle.hdfs_script.specs.Texts.{replies_text, fault_text, refusal_text}
 use Rattle.hdfs_streams.specs.Streams.{SourceShown, SinkShown, TookAtMost, Wrote, WrotePart}
@@ -36,18 +37,23 @@ pub record IsClosed (state : State) : Type 0 where
   pub opened : SameOpened none_open state
   pub written : (path : List ℕ) (content : Content) → state.files path ≡ Some (Writing content) → ⊥
 
--- The source tells these bytes. The store has one namenode, tells its picture, and agrees with this state, whose files are
--- all closed.
+-- The source tells these bytes. The store tells its picture, and agrees with this state, whose files are all closed. One that isn't
+-- fresh has one namenode. (A fresh one has as many as the script says.)
 pub record IsKnown (before : Outside) (bytes : List ℕ) (state : State) : Type 0 where
   pub told : before.source.left ≡ Some bytes
-  pub one : before.store.namenodes ≡ 1
+  pub one : before.fresh ≡ false → before.store.namenodes ≡ 1
   pub fits : Fits before.store state
   pub closed : IsClosed state
 
--- the bytes are a script over the store, and its lines were loaded, in order
+-- the bytes are a script over the store, its lines were loaded, in order, and a fresh store has its settings
 pub record Loaded (before : Outside) (bytes : List ℕ) (state : State) (parsed : Script) (after : Outside) : Type 0 where
   pub is : script before.fresh state bytes ≡ Ok parsed
-  pub lines : after.store.loaded ≡ before.store.loaded ++ parsed.lines
+  pub settings : before.fresh ≡ true → after.store.loaded.settings ≡ Some parsed.settings.cluster
+  pub lines : after.store.loaded.lines ≡ before.store.loaded.lines ++ parsed.lines
+
+-- the world of a script over what was there before it
+abbrev pub world_over : Outside → Script → World
+world_over before parsed = script_world before.fresh before.store parsed.settings
 
 -- The session came to its end: the text is that of the fold's replies, and the store agrees with the fold's last state.
 pub record Finishes (before : Outside) (bytes : List ℕ) (state : State) (text : List ℕ) (after : Outside) : Type 0 where
@@ -55,7 +61,7 @@ pub record Finishes (before : Outside) (bytes : List ℕ) (state : State) (text 
   pub loaded : Loaded before bytes state parsed after
   pub replies : List Reply
   pub last : State
-  pub folds : fold (script_world before.store) (with_lines state parsed.lines) parsed.commands ≡ Ends replies last
+  pub folds : fold (world_over before parsed) (with_lines state parsed.lines) parsed.commands ≡ Ends replies last
   pub fits : Fits after.store last
   pub is_text : text ≡ replies_text replies
 
@@ -66,7 +72,7 @@ pub record Halts (before : Outside) (bytes : List ℕ) (state : State) (text : L
   pub loaded : Loaded before bytes state parsed after
   pub fault : Fault
   pub other : fault.error ≢ errors.NoMemory
-  pub stopped : Stopped (script_world before.store) (with_lines state parsed.lines) parsed.commands before.store after.store fault
+  pub stopped : Stopped (world_over before parsed) (with_lines state parsed.lines) parsed.commands before.store after.store fault
   pub is_text : text ≡ fault_text fault
 
 -- the bytes are no script over the store: the text tells the number of their first bad line
@@ -142,8 +148,8 @@ StatusOf (Stops replies last why) status = (status ≡ 2) ⊎ (status ≡ 3)
 abbrev pub ScriptDecides : Outside → ℕ → Outside → Type 0
 ScriptDecides before status after = (bytes : List ℕ) (state : State) (parsed : Script) → IsKnown before bytes state
     → script before.fresh state bytes ≡ Ok parsed
-    → AreLimited (script_world before.store) (with_lines state parsed.lines) parsed.commands → NoneFailed before after
-    → StatusOf (fold (script_world before.store) (with_lines state parsed.lines) parsed.commands) status
+    → AreLimited (world_over before parsed) (with_lines state parsed.lines) parsed.commands → NoneFailed before after
+    → StatusOf (fold (world_over before parsed) (with_lines state parsed.lines) parsed.commands) status
 
 -- What a run of the program over some words has done, by its status. All but `done`, `no_script`, `stopped`, `prefix` and
 -- `complete` holds over any source, sink and store.

@@ -1,17 +1,17 @@
 //! Loading a script's lines.
-ghost use Rattle.std.specs.Prelude.{◌≡◌, ◌||◌, ℕ, None, Err, false, true, OnOk};
+ghost use Rattle.std.specs.Prelude.{◌≡◌, ◌||◌, ℕ, None, Err, false, true, IfOk, OnOk};
 ghost use Rattle.hdfs_model.specs.Counts.{SameCounts};
 ghost use Rattle.hdfs_model.specs.Files.{State};
-ghost use Rattle.hdfs_model.specs.Loading.{takes, SameShown, Loads};
+ghost use Rattle.hdfs_model.specs.Loading.{takes, AreValid, SameShown, Loads};
 ghost use Rattle.hdfs_model.specs.Stores.{Agrees};
 ghost use Rattle.hdfs_model.specs.Sessions.{Fits};
 ghost use Rattle.hdfs_script.specs.Parsing.{first_untaken, or_else};
 ghost use Rattle.hdfs_script.specs.Parsing as spec;
-ghost use Rattle.hdfs_top.specs.Inside.{LoadsAll, LoadsScript, RefusesScript};
+ghost use Rattle.hdfs_top.specs.Inside.{LoadsAll, LoadsScript, Readies, RefusesScript};
 
-use hdfs_model::{AddFault, Store};
-use hdfs_script::{NumberedLine, is_fault};
-use hdfs_wire::List;
+use hdfs_model::{AddFault, Command, MemSettings, Store};
+use hdfs_script::{NumberedLine, Parsed, is_fault};
+use hdfs_wire::{List, NoMemory};
 
 /// Why a script's lines aren't loaded.
 #[derive(Clone, Copy)]
@@ -63,38 +63,49 @@ fn load_lines<C: Store>(store: &mut C, lines: List<NumberedLine>) -> Result<(), 
     Ok(())
 }
 
-// Where a store refuses a script before a line is loaded: one that isn't fresh takes no file, and nothing of a bad script.
-fn refused_unloaded(fresh: bool, lines: &[NumberedLine], bad: Option<u64>) -> Option<u64>
+// Where a store that isn't fresh refuses a script before a line is loaded: it takes no setting, no file, and nothing of a bad script.
+fn refused_unloaded(fresh: bool, read: &Parsed) -> Option<u64>
     ensures fresh { fresh ≡ true → result ≡ None }
-    ensures held { fresh ≡ false → result ≡ or_else (spec.first_file lines.now) bad }
+    ensures held { fresh ≡ false → result ≡ or_else read.now.sets (or_else (spec.first_file read.now.lines) read.now.bad) }
 {
     if fresh {
         return None;
     }
-    match first_file(lines) {
-        Some(number) => Some(number),
-        None => bad,
-    }
+    read.sets.or(first_file(read.lines.as_slice())).or(read.bad)
 }
 
-/// Loads the lines that were read of a script, in order, where none of its lines is bad. This one is bad by its text or its
-/// place, if there is one.
-pub(crate) fn load_script<C: Store>(
-    store: &mut C,
-    lines: List<NumberedLine>,
-    bad: Option<u64>,
-) -> Result<(), LoadFault>
-    ensures loaded { OnOk result (LoadsScript (C.is_fresh store.old) (C.shown store.old) lines bad (C.shown store.new)) }
+// Gives a fresh store a script's settings.
+fn ready<C: Store>(store: &mut C, fresh: bool, settings: MemSettings) -> Result<(), NoMemory>
+    requires fresh { fresh ≡ C.is_fresh store.old }
+    requires valid { AreValid settings }
+    ensures readies { OnOk result (Readies fresh (C.shown store.old) settings (C.shown store.new)) }
+    ensures counts { SameCounts (C.shown store.old).counts (C.shown store.new).counts }
+{
+    if !fresh {
+        return Ok(());
+    }
+    store.prepare(settings)
+}
+
+/// Loads what was read of a script: its settings and its lines, in order, where none of its lines is bad.
+pub(crate) fn load_script<C: Store>(store: &mut C, read: Parsed) -> Result<List<Command>, LoadFault>
+    requires { AreValid read.settings.cluster }
+    ensures loaded { IfOk result (λ commands. (commands ≡ read.commands)
+        × LoadsScript (C.is_fresh store.old) (C.shown store.old) read (C.shown store.new)) }
     ensures counts { SameCounts (C.shown store.old).counts (C.shown store.new).counts }
     ensures refused { (number : ℕ) → result ≡ Err (LoadFault.Refused number)
-        → RefusesScript (C.is_fresh store.old) (C.shown store.old) lines bad number (C.shown store.new) }
+        → RefusesScript (C.is_fresh store.old) (C.shown store.old) read number (C.shown store.new) }
 {
-    if let Some(number) = refused_unloaded(store.fresh(), lines.as_slice(), bad) {
+    let fresh = store.fresh();
+    if let Some(number) = refused_unloaded(fresh, &read) {
         return Err(LoadFault::Refused(number));
     }
-    load_lines(store, lines)?;
-    match bad {
-        None => Ok(()),
+    let Ok(()) = ready(store, fresh, read.settings.cluster) else {
+        return Err(LoadFault::NoMemory);
+    };
+    load_lines(store, read.lines)?;
+    match read.bad {
+        None => Ok(read.commands),
         Some(number) => Err(LoadFault::Refused(number)),
     }
 }

@@ -1,7 +1,10 @@
 //! Running a script over a store.
 ghost use Rattle.std.specs.Prelude.{◌≡◌, ◌≢◌, ◌⊎◌, ◌<◌, ℕ, List, []};
 ghost use Rattle.hdfs_model.specs.declared.errors.HdfsError.TheVariants as errors;
+ghost use Rattle.hdfs_model.specs.Loading.{AreValid};
+ghost use Rattle.hdfs_script.specs.declared.entry.ScriptSettings.{ScriptSettings};
 ghost use Rattle.hdfs_script.specs.Parsing.{Parses};
+ghost use Rattle.hdfs_script.specs.Scripts.{session_settings};
 ghost use Rattle.hdfs_script.specs.Texts.{fault_text};
 ghost use Rattle.hdfs_streams.specs.Streams.{SourceShown};
 ghost use Rattle.hdfs_top.specs.Top.{outside, NotesFault};
@@ -11,8 +14,8 @@ use crate::load_lines::{LoadFault, load_script};
 use crate::note::{Note, note_of_commands, note_of_fault, note_of_script};
 use crate::status::{refuse, tell_fault, tell_replies};
 use hdfs_client::run_session;
-use hdfs_model::{Command, Fault, HdfsError, Store};
-use hdfs_script::{Parsed, complaint_at, parse, script_settings};
+use hdfs_model::{Command, Fault, HdfsError, Settings, Store};
+use hdfs_script::{Parsed, complaint_at, parse, session_settings};
 use hdfs_streams::Sink;
 use hdfs_wire::NoMemory;
 use std::alloc::Global;
@@ -28,24 +31,23 @@ fn tell_stop<K: Sink>(sink: &mut K, fault: &Fault) -> u8
     }
 }
 
-// Runs commands over a store, and prints what they answer.
+// Runs commands over a store that has their script's settings, and prints what they answer.
 fn run_commands<K: Sink, C: Store>(
     alloc: Global,
+    settings: &Settings,
     commands: &[Command],
     sink: &mut K,
     store: &mut C,
     note: &mut Note,
 ) -> u8
     requires namenode { 0 < (C.shown store.old).namenodes }
-    ensures ran { RanCommands commands.now (C.shown store.old) (C.shown store.new) (K.shown sink.old) result (K.shown sink.new) }
-    ensures noted { result ≡ 2
-        → NotesStop commands.now (C.shown store.old) (C.shown store.new) (K.shown sink.old) result note.new (K.shown sink.new) }
+    ensures ran { (given : ScriptSettings) → settings.now ≡ session_settings given
+        → RanCommands given commands.now (C.shown store.old) (C.shown store.new) (K.shown sink.old) result (K.shown sink.new) }
+    ensures noted { result ≡ 2 → (given : ScriptSettings) → settings.now ≡ session_settings given
+        → NotesStop given commands.now (C.shown store.old) (C.shown store.new) (K.shown sink.old) result note.new (K.shown sink.new) }
 {
-    let Ok(settings) = script_settings(alloc) else {
-        return 3;
-    };
     *note = note_of_commands(commands);
-    match run_session(alloc, store, &settings, commands) {
+    match run_session(alloc, store, settings, commands) {
         Ok(replies) => tell_replies(sink, replies.as_slice()),
         Err(fault) => {
             let status = tell_stop(sink, &fault);
@@ -65,6 +67,7 @@ fn run_parsed<K: Sink, C: Store>(
     note: &mut Note,
 ) -> u8
     requires namenode { 0 < (C.shown store.old).namenodes }
+    requires valid { AreValid read.settings.cluster }
     ensures ran { (bytes : List ℕ) (source left : SourceShown) → Parses bytes read → Gave source bytes left
         → RanSession (outside source (K.shown sink.old) (C.shown store.old) (C.is_fresh store.old)) result
         (outside left (K.shown sink.new) (C.shown store.new) (C.is_fresh store.new)) }
@@ -72,14 +75,12 @@ fn run_parsed<K: Sink, C: Store>(
         → NotesFault (outside source (K.shown sink.old) (C.shown store.old) (C.is_fresh store.old)) note.new
         (outside left (K.shown sink.new) (C.shown store.new) (C.is_fresh store.new)) }
 {
-    let Parsed {
-        lines,
-        commands,
-        bad,
-    } = read;
+    let Ok(settings) = session_settings(alloc, &read.settings) else {
+        return 3;
+    };
     let fresh = store.fresh();
-    match load_script(store, lines, bad) {
-        Ok(()) => run_commands(alloc, commands.as_slice(), sink, store, note),
+    match load_script(store, read) {
+        Ok(commands) => run_commands(alloc, &settings, commands.as_slice(), sink, store, note),
         Err(LoadFault::Refused(line)) => {
             *note = note_of_script(complaint_at(alloc, text, fresh, line));
             refuse(sink, line)

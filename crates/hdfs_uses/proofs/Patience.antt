@@ -11,7 +11,7 @@ use Rattle.hdfs_model.specs.declared.messages.ServerDefaults.{ServerDefaults}
 use Rattle.hdfs_model.specs.Files.{State, kinds_of, no_file}
 use Rattle.hdfs_model.specs.Headline.{Ready, Scene}
 use Rattle.hdfs_model.specs.Paths.{is_path, absolute}
-use Rattle.hdfs_model.specs.Sessions.{Avoids, Fits, IsStrange, defaults_of, is_before_asking, none_open, spared, world_of}
+use Rattle.hdfs_model.specs.Sessions.{Avoids, Fits, IsStrange, defaults_of, does, is_before_asking, none_open, spared, world_of}
 use Rattle.hdfs_model.specs.Shown.{Shown, Later}
 use Rattle.hdfs_model.specs.Steps.{World, Outcome, Refused, BadPath, WrongState, is_opened, read_file, step}
 use Rattle.hdfs_client.specs.Acting.{Acts, IsReady, world_at}
@@ -50,7 +50,7 @@ both_false false = refl
 
 -- a read spares no path
 none_spared : (w : World) (state : State) (command : Command) → IsRead command → (error : HdfsError) (path : List ℕ) → spared w state command error path ≡ false
-none_spared w state (commands.Read text offset len) reads error path = both_false (not (is_before_asking error))
+none_spared w state (commands.Read text offset len) reads error path = both_false (not (is_before_asking error) && does (step w state (commands.Read text offset len)))
 none_spared w state (commands.Create text options) reads error path = absurd reads
 none_spared w state (commands.Append text) reads error path = absurd reads
 none_spared w state (commands.Write text bytes) reads error path = absurd reads

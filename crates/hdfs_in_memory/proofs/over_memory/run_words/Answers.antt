@@ -9,14 +9,14 @@ pub returns : goal.returns
 returns g c =
     let words : List (List ℕ) = map string_bytes c.args.words.now in
     let planned = planned_faults c.top.new.store in
-    let is_new = new_from-Starts _ _ c.in-Ok.ensures.starts c.in-Ok.ensures.fits c.of_scripts.ensures.namenodes c.of_scripts.ensures.defaults in
+    let is_new = new_from-Starts _ _ c.in-Ok.ensures.starts c.in-Ok.ensures.fits in
     let run = ran_store words (record { source = g.S.Source.shown c.args.source.now; sink = g.K.Sink.shown c.args.sink.now }) c.top.result (record { source = g.S.Source.shown c.top.new.source; sink = g.K.Sink.shown c.top.new.sink }) _ _ _ _ is_new c.in-Ok.ensures.fresh planned c.top.ensures.ran in
     record {
       statuses = run.ran.statuses;
       ran = inr run;
       refused = λ one is bytes told. refused_new _ _ _ _ bytes run one is told;
       done = λ none bytes told. replies_new _ _ _ _ bytes run none told;
-      noted = λ two bytes told. notes_new _ _ _ _ _ _ _ _ bytes _ is_new c.in-Ok.ensures.fresh told (c.top.ensures.noted two);
+      noted = λ two bytes told. notes_new _ _ _ _ _ _ _ _ bytes _ is_new planned c.in-Ok.ensures.fresh told (c.top.ensures.noted two);
       stopped = λ two bytes told. fault_new _ _ _ _ bytes run two told;
       complete = λ is bytes told. decides_new _ _ _ _ bytes run is told;
     }

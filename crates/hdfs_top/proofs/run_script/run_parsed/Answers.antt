@@ -1,17 +1,19 @@
 use Rattle.std.proofs.Common.{arith, Err, refl, ap, ◌∙◌}
-use Rattle.hdfs_model.proofs.Frames.{never_fall_from-SameCounts}
+use Rattle.hdfs_model.proofs.Frames.{never_fall_from-SameCounts, never_fall_refl}
 use Rattle.hdfs_top.proofs.SessionLemmas.{not_status_2}
 use Rattle.hdfs_top.proofs.ScriptLemmas.{starved_script, refused_script, ran_loaded, notes_loaded}
 use Rattle.hdfs_top.proofs.run_script.run_parsed.Goals as goal
 
 -- the lines were loaded
-pub returns-in-Ok : goal.returns-in-Ok
-returns-in-Ok g c =
-    let ran = rw c.as_slice.ensures at c.run_commands.ensures.ran in
-    let noted = rw c.as_slice.ensures at c.run_commands.ensures.noted in
+pub returns-in-Ok-load_script : goal.returns-in-Ok-load_script
+returns-in-Ok-load_script g c =
+    let given = c.args.read.settings in
+    let loads = c.in-Ok-load_script.ensures.loaded.1 in
+    let ran = rw (c.as_slice.ensures, c.in-Ok-load_script.ensures.loaded.0) at c.run_commands.ensures.ran given c.in-Ok.ensures in
     record {
-      ran = λ bytes source left parses gave. ran_loaded _ _ bytes c.args.read _ _ gave parses c.in-Ok.ensures.loaded ran;
-      noted = λ two bytes source left parses gave. notes_loaded _ _ bytes c.args.read _ _ _ gave parses c.in-Ok.ensures.loaded ran.later two (noted two);
+      ran = λ bytes source left parses gave. ran_loaded _ _ bytes c.args.read _ _ c.requires.namenode gave parses loads ran;
+      noted = λ two bytes source left parses gave. notes_loaded _ _ bytes c.args.read _ _ _ c.requires.namenode gave parses loads ran.later two
+          (rw (c.as_slice.ensures, c.in-Ok-load_script.ensures.loaded.0) at c.run_commands.ensures.noted two given c.in-Ok.ensures);
     }
 
 -- a line is bad
@@ -30,3 +32,7 @@ returns g c = record {
   ran = λ bytes source left parses gave. starved_script _ _ _ _ _ _ _ bytes _ gave (never_fall_from-SameCounts _ _ c.load_script.ensures.counts) refl;
   noted = λ two. absurd (omega (arith, two));
 }
+
+-- there was no memory for the settings
+pub returns-in_default-clause-ran : goal.returns-in_default-clause-ran
+returns-in_default-clause-ran g c = λ bytes source left parses gave. starved_script _ _ _ _ _ _ _ bytes _ gave (never_fall_refl _) refl
