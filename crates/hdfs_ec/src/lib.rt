@@ -13,8 +13,3 @@ pub use fault::{EcFault, EcRefusal, ShardFault};
 pub use hdfs_field::{Field, GF256, Matrix, Ring, Wrap32, are_even, products_are_unique};
 pub use policy::{EcPolicy, EcSchemaMsg, resolve_ec_policy};
 pub use schema::{CELL_LIMIT, EcSchema, shares_make_up_the_group};
-
-#[cfg(test)]
-mod coder_tests;
-#[cfg(test)]
-mod layout_tests;

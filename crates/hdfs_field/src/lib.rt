@@ -15,6 +15,3 @@ pub use matrix::Matrix;
 pub use ring::{Field, Ring};
 pub use slices::are_even;
 pub use wrap32::Wrap32;
-
-#[cfg(test)]
-mod tests;

@@ -12,6 +12,3 @@ mod work;
 
 pub use expand::{expand_glob, get_path_components, unescape_component};
 pub use glob::GlobPattern;
-
-#[cfg(test)]
-mod tests;

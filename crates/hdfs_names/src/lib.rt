@@ -20,6 +20,3 @@ pub use mounts::{MountLink, MountTable, NamenodeAddress, Resolved, build_home_di
 pub use paths::{absolute_path, is_path, nearest_ancestor, parent_of};
 pub use replacement::{Policy, ReplaceDatanodeOnFailure};
 pub use settings::Configuration;
-
-#[cfg(test)]
-mod tests;

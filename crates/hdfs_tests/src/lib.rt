@@ -2,21 +2,16 @@
 #![tactic(auto)]
 
 #[cfg(test)]
-mod asking;
-mod fake_cluster;
-#[cfg(test)]
-mod falling_over;
-#[cfg(test)]
-mod file_writing;
+mod fault_rows;
 #[cfg(test)]
 mod rows;
 #[cfg(test)]
 mod runs;
 #[cfg(test)]
+mod single_faults;
+#[cfg(test)]
 mod support;
 #[cfg(test)]
 mod texts;
-#[cfg(test)]
-mod wire;
 #[cfg(test)]
 mod writing_rows;

@@ -1,6 +1,7 @@
 //! Words, sources and sinks that fail, and clusters that hold files before the program runs.
 
-use crate::support::{cluster, expected, failing_source, held, run, sink, source};
+use crate::support::{expected, failing_source, run, sink, source};
+use hdfs_client_tests::{cluster, held};
 use hdfs_model::Store;
 use hdfs_streams::MemSink;
 use hdfs_wire::List;
@@ -65,9 +66,12 @@ fn a_sink_that_fails_has_a_prefix_of_the_text(rt: HostRuntime) -> Result<(), Fai
 }
 
 /// Scripts over a cluster that holds `/a`, the status, and what is written.
-const HELD: [(&str, u8, &str); 8] = [
+const HELD: [(&str, u8, &str); 11] = [
     ("do read /a 1 2\n", 0, "ok bytes 0102\n"),
     ("file /b 644 1 8 00\n", 1, "bad 1\n"),
+    ("set nodes 3\n", 1, "bad 1\n"),
+    ("dir /d\n", 1, "bad 1\n"),
+    ("\nset user alice\nset nodes 0\n", 1, "bad 2\n"),
     ("# more\nfile /b 644 1 8 00\nset\n", 1, "bad 2\n"),
     ("fault read 0 1 broken\nfile /b 644 1 8 00\n", 1, "bad 2\n"),
     ("fault read 0 1 broken\n\nset\n", 1, "bad 3\n"),

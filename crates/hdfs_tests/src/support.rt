@@ -1,14 +1,15 @@
 //! What the tests share: the program over memory, and the plain program's answer to the same script.
-ghost use Rattle.std.specs.Prelude.{◌≡◌, ◌<◌, IfOk};
+ghost use Rattle.std.specs.Prelude.{◌<◌};
 ghost use Rattle.hdfs_cluster.specs.MemShown.{shown_of};
 
-use hdfs_cluster::{MemCluster, MemSettings};
-use hdfs_model::{Attributes, Line, Reply, Settings, Store};
+use hdfs_client_tests::cluster;
+use hdfs_cluster::MemCluster;
+use hdfs_model::{Line, Reply};
 use hdfs_plain::{PlainFiles, PlainFold, PlainRefusal, PlainWorld};
-use hdfs_script::{SCRIPT_HOME, parse, script_settings};
+use hdfs_script::{ScriptSettings, parse, session_settings};
 use hdfs_streams::{MemSink, MemSource};
 use hdfs_top::{Note, top};
-use hdfs_wire::{Blob, List, Text};
+use hdfs_wire::{Blob, List};
 use std::alloc::Global;
 use std::test::Fail;
 
@@ -17,35 +18,6 @@ use std::test::Fail;
 pub(crate) struct Ending {
     pub(crate) status: u8,
     pub(crate) text: String,
-}
-
-/// The cluster of a script.
-pub(crate) fn cluster(alloc: Global) -> Result<MemCluster, Fail>
-    ensures { IfOk result (λ m. (shown_of m).namenodes ≡ 1) }
-{
-    Ok(MemCluster::new(alloc, MemSettings::of_scripts())?)
-}
-
-/// What a session is run with.
-pub(crate) fn settings(alloc: Global) -> Result<Settings, Fail> {
-    Ok(script_settings(alloc)?)
-}
-
-/// A cluster that holds one file of four bytes.
-pub(crate) fn held(alloc: Global) -> Result<MemCluster, Fail>
-    ensures { IfOk result (λ m. 0 < (shown_of m).namenodes) }
-{
-    let mut store = cluster(alloc)?;
-    store.load(Line::File {
-        path: Text::from_str(alloc, "/a")?,
-        attributes: Attributes {
-            permission: 0o644,
-            replication: 1,
-            block_size: 8,
-        },
-        bytes: Blob::from_vec(vec![in alloc; 0, 1, 2, 3]?),
-    })?;
-    Ok(store)
 }
 
 /// A source that gives a script.
@@ -117,17 +89,18 @@ pub(crate) fn refused(alloc: Global, line: u64) -> Result<Ending, Fail> {
     })
 }
 
-/// What a script's commands take beside the files: the home of a script, and the defaults of its cluster.
-pub(crate) fn world(alloc: Global) -> Result<PlainWorld, Fail> {
+/// What a script's commands take beside the files: the home of its user, and the defaults of its cluster.
+fn world(alloc: Global, given: &ScriptSettings) -> Result<PlainWorld, Fail> {
     Ok(PlainWorld {
-        home: Text::from_str(alloc, SCRIPT_HOME)?,
-        defaults: MemSettings::of_scripts().defaults,
+        home: session_settings(alloc, given)?.home,
+        defaults: given.cluster.defaults,
     })
 }
 
 /// What the plain program answers to a script without faults.
 pub(crate) fn plain_answer(alloc: Global, script: &[u8]) -> Result<Ending, Fail> {
     let read = parse(alloc, script)?;
+    let world = world(alloc, &read.settings)?;
     let mut files = PlainFiles::new(alloc)?;
     for numbered in read.lines.into_vec() {
         if !load(&mut files, numbered.line)? {
@@ -137,7 +110,7 @@ pub(crate) fn plain_answer(alloc: Global, script: &[u8]) -> Result<Ending, Fail>
     if let Some(line) = read.bad {
         return refused(alloc, line);
     }
-    let fold = hdfs_plain::run(&world(alloc)?, &mut files, read.commands.as_slice())?;
+    let fold = hdfs_plain::run(&world, &mut files, read.commands.as_slice())?;
     print(alloc, &fold)
 }
 

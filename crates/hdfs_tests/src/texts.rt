@@ -2,7 +2,8 @@
 ghost use Rattle.std.specs.Prelude.{◌<◌};
 ghost use Rattle.hdfs_cluster.specs.MemShown.{shown_of};
 
-use crate::support::{cluster, held, sink, source, words};
+use crate::support::{sink, source, words};
+use hdfs_client_tests::{cluster, held};
 use hdfs_cluster::MemCluster;
 use hdfs_model::{
     AddFault, ArgFault, AskFault, Fault, HdfsError, IoFault, LinkFault, TransferFault,
@@ -90,11 +91,35 @@ fn errors_of_the_outside(rt: HostRuntime) -> Result<(), Fail> {
 }
 
 /// Scripts, and what is noted beside their status.
-const NOTES: [(&str, &str); 23] = [
+const NOTES: [(&str, &str); 28] = [
     ("", "the script has no command"),
     (
+        "put\n",
+        "line 1: begins with none of `set`, `dir`, `file`, `fault`, `do` and `#`",
+    ),
+    (
         "set\n",
-        "line 1: begins with none of `file`, `fault`, `do` and `#`",
+        "line 1: not `set` and `user NAME`, `nodes NODES`, `block BLOCK_SIZE`, `chunk CHUNK` or `packet PACKET`, with one space between words",
+    ),
+    (
+        "set user a-b\n",
+        "line 1: NAME isn't one or more letters and digits",
+    ),
+    (
+        "set nodes 65\n",
+        "line 1: NODES isn't a number from 1 to 64",
+    ),
+    (
+        "dir\n",
+        "line 1: not `dir PATH`, with one space between words",
+    ),
+    (
+        "fault net 1\n",
+        "line 1: begins with none of `fault link`, `fault ack`, `fault send` and `fault read`",
+    ),
+    (
+        "fault link 1 slow\n",
+        "line 1: KIND isn't `broken`, `refused` or `badack`",
     ),
     (
         "file /a 644 1 8 00\r\n",
@@ -133,18 +158,17 @@ const NOTES: [(&str, &str); 23] = [
         "file /a 10000 1 8 00\n",
         "line 1: PERMISSION isn't a number from 0 to 7777 in octal digits",
     ),
-    ("file /a 644 2 8 00\n", "line 1: REPLICATION isn't 1"),
+    (
+        "file /a 644 2 8 00\n",
+        "line 1: REPLICATION of a file isn't 1",
+    ),
     (
         "file /a 644 1 0 -\n",
-        "line 1: BLOCK_SIZE isn't a number from 1 to 9223372036854775807",
+        "line 1: BLOCK_SIZE isn't a number of bytes from 1 to 9223372036854775807",
     ),
     (
         "file /a 644 1 8 AB\n",
         "line 1: HEX isn't `-` or pairs of lower-case hexadecimal digits",
-    ),
-    (
-        "file /a 644 1 1 0001\n",
-        "line 1: HEX has more bytes than BLOCK_SIZE",
     ),
     (
         "fault read x 1 broken\n",
@@ -160,7 +184,7 @@ const NOTES: [(&str, &str); 23] = [
     ),
     (
         "do read /a 0 0\n#\nfile /a 644 1 8 00\n",
-        "line 3: out of order, since files come first, then faults, then commands",
+        "line 3: out of order, since settings come first, then directories and files, then faults, then commands",
     ),
     (
         "file /a 644 1 8 00\n#\nfile /a 644 1 8 00\n",
@@ -171,8 +195,8 @@ const NOTES: [(&str, &str); 23] = [
         "line 2: something stands at PATH already, or its parent is no directory",
     ),
     (
-        "file /a 644 1 8 00\nset\nfile /a 644 1 8 00\n",
-        "line 2: begins with none of `file`, `fault`, `do` and `#`",
+        "file /a 644 1 8 00\nput\nfile /a 644 1 8 00\n",
+        "line 2: begins with none of `set`, `dir`, `file`, `fault`, `do` and `#`",
     ),
 ];
 
@@ -202,11 +226,11 @@ fn notes_on_scripts(rt: HostRuntime) -> Result<(), Fail> {
 const HELD_NOTES: [(&str, &str); 2] = [
     (
         "# more\nfile /b 644 1 8 00\nset\n",
-        "line 2: the store isn't fresh, so it takes no line with a file",
+        "line 2: the store isn't fresh, so it takes no line with a setting, a directory or a file",
     ),
     (
         "fault read 0 1 broken\nfile /b 644 1 8 00\n",
-        "line 2: out of order, since files come first, then faults, then commands",
+        "line 2: out of order, since settings come first, then directories and files, then faults, then commands",
     ),
 ];
 

@@ -176,7 +176,12 @@ fn each_script_that_writes_is_answered_as_by_the_plain_program(
 }
 
 /// Scripts whose numbers are out of their limits, or with a fault of a datanode, what is written, and the status.
-const OUT: [(&str, &str, u8); 4] = [
+const OUT: [(&str, &str, u8); 5] = [
+    (
+        "set packet 20\ndo create /a 644 1 8 false true\n",
+        "fault 1 InvalidArgument\n",
+        2,
+    ),
     (
         "do create /a 644 1 0 false true\n",
         "fault 1 InvalidArgument\n",
@@ -231,10 +236,10 @@ const CALLS: [(&str, &str); 10] = [
 ];
 
 /// Two paths.
-const PATHS: [&str; 2] = ["/a", "/b"];
+pub(crate) const PATHS: [&str; 2] = ["/a", "/b"];
 
 /// A call on a path, by its number: the calls in order on the first path, and then on the second.
-fn push_call(script: &mut String, number: usize) -> Result<(), Fail> {
+pub(crate) fn push_call(script: &mut String, number: usize) -> Result<(), Fail> {
     let (before, behind) = CALLS[number % 10];
     script.push_str(before)?;
     script.push_str(PATHS[number / 10 % 2])?;
@@ -253,10 +258,12 @@ fn script_of(alloc: Global, number: usize, kinds: usize, count: usize) -> Result
     Ok(script)
 }
 
-/// How many scripts there are of two calls on two paths, and of three calls on one path.
+/// How many scripts there are of two calls on two paths, of three calls on one path, and of four calls on two paths.
 const OF_TWO: usize = 400;
 
 const OF_THREE: usize = 1000;
+
+const OF_FOUR: usize = 160_000;
 
 #[test]
 fn all_scripts_of_two_calls_on_two_paths_are_answered_as_by_the_plain_program(
@@ -278,6 +285,20 @@ fn all_scripts_of_three_calls_on_one_path_are_answered_as_by_the_plain_program(
     let alloc = rt.alloc();
     for number in 0..OF_THREE {
         let script = script_of(alloc, number, 10, 3)?;
+        let plain = plain_answer(alloc, script.as_bytes())?;
+        assert_eq!(rt; answer(alloc, script.as_bytes())?, plain, "{script}");
+    }
+    Ok(())
+}
+
+// (2,623 scripts)
+#[test]
+fn each_61st_script_of_four_calls_on_two_paths_is_answered_as_by_the_plain_program(
+    rt: HostRuntime,
+) -> Result<(), Fail> {
+    let alloc = rt.alloc();
+    for number in (0..OF_FOUR).step_by(61) {
+        let script = script_of(alloc, number, 20, 4)?;
         let plain = plain_answer(alloc, script.as_bytes())?;
         assert_eq!(rt; answer(alloc, script.as_bytes())?, plain, "{script}");
     }

@@ -29,6 +29,3 @@ pub use values::{Blob, List, NoMemory, Text};
 pub use varint::{put_varint, take_varint, varints_are_read_again};
 pub use wire_fault::WireFault;
 pub use write_packet::{WritePacket, no_packet_begins_another, written_sums_hold};
-
-#[cfg(test)]
-mod wire_tests;

@@ -1,5 +1,5 @@
 use Rattle.std.proofs.Common.{refl, arith}
-use Rattle.hdfs_ec.proofs.coder_tests.chosen_rows.Goals as goal
+use Rattle.hdfs_coding_tests.proofs.coder.chosen_rows.Goals as goal
 
 pub select_rows-requires : goal.select_rows-requires
 select_rows-requires c =

@@ -1,5 +1,5 @@
-use super::*;
 use bytes::Bytes;
+use hdfs_wire::*;
 use std::alloc::Global;
 use std::test::*;
 

@@ -1,8 +1,8 @@
 ghost use Rattle.std.specs.Prelude.{◌≡◌, ◌+◌, ◌<◌, [], true, length, slice_index_or};
 ghost use Rattle.hdfs_ec.specs.Coding.{IsCode};
 
-use super::*;
 use bytes::Bytes;
+use hdfs_ec::*;
 use hdfs_wire::{List, NoMemory, Text};
 use std::alloc::Global;
 use std::process::Abort;

@@ -5,7 +5,7 @@ ghost use Rattle.hdfs_files.specs.Writers.{AreSizes, Stands};
 ghost use Rattle.hdfs_model.specs.Shown.{Shown};
 
 use crate::asking::run_one;
-use crate::support::cluster;
+use crate::making::cluster;
 use hdfs_cluster::MemCluster;
 use hdfs_files::{FileWriter, WriteSizes};
 use hdfs_model::{Appended, Cluster, HdfsError, Reply};

@@ -1,6 +1,6 @@
 ghost use Rattle.std.specs.Prelude.{◌≡◌, ◌≤◌, length, IfOk};
 
-use super::*;
+use hdfs_field::*;
 use hdfs_wire::NoMemory;
 use std::alloc::{AllocError, Global};
 use std::test::Fail;

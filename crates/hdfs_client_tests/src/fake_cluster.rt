@@ -1,6 +1,6 @@
 //! A cluster that gives what it is told to give, call by call. It tells no picture.
 ghost use Rattle.std.specs.Prelude.{◌≡◌, ◌<◌, ◌^◌, ℕ, pos, length, IfOk};
-ghost use Rattle.hdfs_tests.specs.Blocks.{IsPair};
+ghost use Rattle.hdfs_client_tests.specs.Blocks.{IsPair};
 
 use bytes::Bytes;
 use hdfs_model::{
@@ -42,7 +42,7 @@ pub(crate) struct FakeCluster {
 }
 
 impl FakeCluster {
-    ghost use Rattle.hdfs_tests.specs.Fakes.{shown_of};
+    ghost use Rattle.hdfs_client_tests.specs.Fakes.{shown_of};
 
     /// A cluster that gives these steps in order, and then fails.
     pub(crate) fn new(alloc: Global, look: Look, steps: &[Step]) -> Result<FakeCluster, NoMemory>
@@ -170,7 +170,7 @@ fn packet(alloc: Global, offset: i64, bytes: &'static [u8]) -> Result<ReadPacket
 impl Cluster for FakeCluster {
     ghost use Rattle.hdfs_model.specs.Pipes.{WriteEnded};
     ghost use Rattle.hdfs_model.specs.Shown.{Served};
-    ghost use Rattle.hdfs_tests.specs.Fakes.{shown_of, no_picture, no_writes, nothing_shown};
+    ghost use Rattle.hdfs_client_tests.specs.Fakes.{shown_of, no_picture, no_writes, nothing_shown};
 
     ghost shown = { shown_of };
 

@@ -6,7 +6,7 @@ use Rattle.slab.specs.Slab as slab
 use Rattle.hdfs_model.specs.Pipes.{ShowsWrites}
 use Rattle.hdfs_model.specs.Shown.{Shown}
 use Rattle.hdfs_model.specs.Sound.{IsSound}
-use Rattle.hdfs_tests.specs.declared.fake_cluster.FakeCluster.{FakeCluster}
+use Rattle.hdfs_client_tests.specs.declared.fake_cluster.FakeCluster.{FakeCluster}
 
 -- no picture, one namenode, and one count for all datanodes
 abbrev pub shown_of : FakeCluster → Shown
@@ -17,7 +17,7 @@ shown_of fake = record {
   namenodes = 1;
   reads = λ link. slab.get fake.reads link;
   writes = λ link. slab.get fake.writes link;
-  loaded = [];
+  loaded = record { settings = None; lines = [] };
 }
 
 -- no picture is told

@@ -1,6 +1,6 @@
 ghost use Rattle.std.specs.Prelude.{◌≡◌, length, IfOk};
 
-use super::*;
+use hdfs_ec::*;
 use hdfs_wire::{NoMemory, Text};
 use std::alloc::{AllocError, Global};
 use std::test::*;

@@ -1,6 +1,6 @@
 ghost use Rattle.std.specs.Prelude.{◌≡◌, ◌∷◌, [], IfOk, Ok};
 
-use super::*;
+use hdfs_names::*;
 use hdfs_wire::{List, Text};
 use rand::SeedableRng;
 use rand::rngs::SmallRng;

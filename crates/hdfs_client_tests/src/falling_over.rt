@@ -2,7 +2,7 @@
 
 use crate::fake_cluster::Step::{Breaks, Gives, LacksMemory, Opens, Refuses};
 use crate::fake_cluster::{FakeCluster, Look, Step};
-use crate::support::settings;
+use crate::making::settings;
 use hdfs_client::run_session;
 use hdfs_model::{Command, Fault, HdfsError, Reply, TransferFault};
 use hdfs_wire::Text;

@@ -1,7 +1,7 @@
 // Sessions over a cluster in memory, by their values.
 ghost use Rattle.std.specs.Prelude.{◌<◌};
 
-use crate::support::{held, settings};
+use crate::making::{held, settings};
 use hdfs_client::{Session, run_session};
 use hdfs_model::{ArgFault, Cluster, Command, Fault, HdfsError, Reply};
 use hdfs_wire::Text;

@@ -1,0 +1,108 @@
+use hdfs_model::{Command, Reply, ServerDefaults, WriteOptions};
+use hdfs_plain::*;
+use hdfs_wire::{Blob, NoMemory, Text};
+use std::alloc::Global;
+use std::test::Fail;
+
+fn world(alloc: Global) -> Result<PlainWorld, NoMemory> {
+    Ok(PlainWorld {
+        home: Text::from_str(alloc, "/user/user")?,
+        defaults: ServerDefaults {
+            block_size: 8,
+            bytes_per_checksum: 4,
+            write_packet_size: 64,
+            replication: 1,
+            encrypt_data_transfer: false,
+        },
+    })
+}
+
+/// A command of this kind. A write brings the bytes 1 and 2, and a read asks for two bytes from the second on.
+fn command(alloc: Global, kind: &str, path: &str) -> Result<Command, NoMemory> {
+    let path = Text::from_str(alloc, path)?;
+    match kind {
+        "create" => Ok(Command::Create {
+            path,
+            options: WriteOptions::default(),
+        }),
+        "append" => Ok(Command::Append { path }),
+        "write" => Ok(Command::Write {
+            path,
+            bytes: Blob::from_vec(Vec::from_slice(alloc, &[1, 2])?),
+        }),
+        "close" => Ok(Command::Close { path }),
+        _ => Ok(Command::Read {
+            path,
+            offset: 1,
+            len: 2,
+        }),
+    }
+}
+
+/// What commands answer over the root alone.
+fn answer(alloc: Global, rows: &[(&str, &str)]) -> Result<PlainFold, NoMemory> {
+    let mut commands = Vec::new(alloc);
+    for (kind, path) in rows {
+        commands.push(command(alloc, kind, path)?)?;
+    }
+    let mut files = PlainFiles::new(alloc)?;
+    run(&world(alloc)?, &mut files, commands.as_slice())
+}
+
+#[test]
+fn a_file_is_written_and_read(rt: HostRuntime) -> Result<(), Fail> {
+    let rows = [
+        ("create", "a/b"),
+        ("write", "a/b"),
+        ("close", "a/b"),
+        ("append", "/user/user/a/b"),
+        ("write", "a/b"),
+        ("close", "a/b"),
+        ("read", "a/b"),
+    ];
+    let fold = answer(rt.alloc(), &rows)?;
+    assert_eq!(rt; fold.refused, None);
+    assert_eq!(rt; fold.replies.as_slice().len(), 7);
+    match fold.replies.as_slice().last() {
+        Some(Reply::Bytes { bytes }) => {
+            assert_eq!(rt; bytes.as_slice(), [2, 1].as_slice());
+            Ok(())
+        }
+        _ => Err("no bytes were read".into()),
+    }
+}
+
+#[test]
+fn commands_out_of_place_are_refused(rt: HostRuntime) -> Result<(), Fail> {
+    let rows: [(&[(&str, &str)], PlainRefusal); 9] = [
+        (&[("create", "../a")], PlainRefusal::BadPath),
+        (&[("write", "/a")], PlainRefusal::WrongState),
+        (
+            &[("create", "/a"), ("read", "/a")],
+            PlainRefusal::WrongState,
+        ),
+        (
+            &[("create", "/a"), ("close", "/a"), ("create", "/a")],
+            PlainRefusal::Exists,
+        ),
+        (
+            &[("create", "/a"), ("create", "/a/b")],
+            PlainRefusal::NotDirectory,
+        ),
+        (&[("append", "/a")], PlainRefusal::Missing),
+        (&[("create", "a"), ("read", "/user")], PlainRefusal::NotFile),
+        (
+            &[("create", "a"), ("create", "/user")],
+            PlainRefusal::Exists,
+        ),
+        (
+            &[("create", "/a"), ("close", "/a"), ("read", "/a")],
+            PlainRefusal::BadRange,
+        ),
+    ];
+    for (commands, why) in rows {
+        let fold = answer(rt.alloc(), commands)?;
+        assert_eq!(rt; fold.refused, Some(why));
+    }
+    Ok(())
+}
