@@ -6,6 +6,8 @@ usage: bench/run.py PROGRAM
 
 One large file: a script with one file of 8 MB (and one of 4 MB) in hexadecimal digits, and one read of all of it.
 Many files: a script with 10,000 files (and one with 1,000) of 16 bytes, and one read of each.
+The same files written: one write of 8 MB (and one of 4 MB), read back; a file of 10,000 blocks (and one of 1,000) of 512 bytes;
+10,000 files (and 1,000) that are created, written with 16 bytes and closed.
 Each run is made five times, and the fastest counts; memory is the largest resident set of the five.
 """
 import os
@@ -27,6 +29,30 @@ def many_files(count):
     reads = [f"do read /f{i} 0 16\n" for i in range(count)]
     replies = [f"ok bytes {i:032x}\n" for i in range(count)]
     return "".join(lines + reads), "".join(replies)
+
+
+def written(path, block, digits, reads=False):
+    """A file of these bytes, written at once and closed; and read back where that is asked for."""
+    size = len(digits) // 2
+    lines = f"do create {path} 644 1 {block} false true\ndo write {path} {digits}\ndo close {path}\n"
+    replies = f"ok created\nok written {size}\nok closed\n"
+    if reads:
+        lines += f"do read {path} 0 {size}\n"
+        replies += f"ok bytes {digits}\n"
+    return lines, replies
+
+
+def one_written(size):
+    return written("/a", "-", bytes(range(256)).hex() * (size // 256), reads=True)
+
+
+def many_blocks(count):
+    return written("/a", 512, bytes(range(256)).hex() * (2 * count))
+
+
+def many_written(count):
+    files = [written(f"/f{i}", "-", f"{i:032x}") for i in range(count)]
+    return "".join(lines for lines, _ in files), "".join(replies for _, replies in files)
 
 
 def once(program, script, out):
@@ -69,6 +95,19 @@ def main():
     print(f"script per second: {script / large / 1e6:.0f} MB")
     print(f"peak memory: {peak / 8_000_000:.1f} times the stored bytes")
     print(f"per file, 10,000 against 1,000: {many / 10 / few:.2f} times")
+
+    large, peak = run(program, *one_written(8_000_000))
+    small, _ = run(program, *one_written(4_000_000))
+    script = len(one_written(8_000_000)[0])
+    print(f"written, 8 MB against 4 MB: {large / small:.2f} times")
+    print(f"written, script per second: {script / large / 1e6:.0f} MB")
+    print(f"written, peak memory: {peak / 8_000_000:.1f} times the written bytes")
+    many, _ = run(program, *many_blocks(10_000))
+    few, _ = run(program, *many_blocks(1_000))
+    print(f"written, per block, 10,000 against 1,000: {many / 10 / few:.2f} times")
+    many, _ = run(program, *many_written(10_000))
+    few, _ = run(program, *many_written(1_000))
+    print(f"written, per file, 10,000 against 1,000: {many / 10 / few:.2f} times")
 
 
 if __name__ == "__main__":
