@@ -1,0 +1,11 @@
+//! Tests of the cluster in memory, and of the plan by which its calls fail: not beside the code, which would be proved once more.
+#![tactic(auto)]
+
+#[cfg(test)]
+mod block_writing;
+#[cfg(test)]
+mod failing_links;
+#[cfg(test)]
+mod loading;
+#[cfg(test)]
+mod planning;
