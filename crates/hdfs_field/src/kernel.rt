@@ -1,7 +1,7 @@
 //! A multiple of a slice of bytes, added to another slice. A byte is the sum of its two halves, so its product with an element is the
 //! sum of two products, which are looked up in two tables of sixteen, in vectors of 64 bytes.
 
-ghost use Rattle.std.specs.Prelude.{List, [], map, slice_index_or, ◌≡◌, ℕ, ◌+◌, ◌%◌, ◌/◌, ◌<◌, ◌≤◌, length, slice_index, bit_xor};
+ghost use Rattle.std.specs.Prelude.{List, [], map, slice_index_or, ◌≡◌, ℕ, ◌+◌, ◌%◌, ◌/◌, ◌<◌, ◌≤◌, length, slice_index};
 ghost use Rattle.hdfs_field.specs.declared.gf256.GF256.{GF256};
 ghost use Rattle.hdfs_field.specs.Elements.{product};
 ghost use Rattle.hdfs_field.specs.Lanes.{HasLanes, AreEntries, AreProducts, AreRowTables};

@@ -1,5 +1,5 @@
 //! The outside: namenodes that are asked, and datanodes that are read and written.
-ghost use Rattle.std.specs.Prelude.{◌≡◌, ◌<◌, ℕ, Bool, true, false, Some, None, Result, IfOk, IfErr, OnOk, IsSome, IsNone, IsTrue};
+ghost use Rattle.std.specs.Prelude.{◌≡◌, ◌<◌, ℕ, true, false, Some, Result, IfOk, IfErr, OnOk, IsSome, IsNone, IsTrue};
 ghost use Rattle.hdfs_model.specs.Namenode.{IsShaped};
 ghost use Rattle.hdfs_model.specs.Picture.{Picture};
 ghost use Rattle.hdfs_model.specs.Pipes.{IsSetup, WriteOpened, WriteNotOpened, FollowsOn, Sent, NotSent, IsAwaited, Acknowledged, NotAcknowledged, WriteEnded, ShowsWrites};

@@ -3,7 +3,6 @@ ghost use Rattle.std.specs.Prelude.{◌≡◌, ◌↔◌, Bool, IsTrue, [], Some
 ghost use Rattle.hdfs_model.specs.Loading.{AreValid, Loads, LoadsNothing, Prepares, SameShown, takes};
 ghost use Rattle.hdfs_model.specs.Files.{State, only_root};
 ghost use Rattle.hdfs_model.specs.Picture.{Picture};
-ghost use Rattle.hdfs_model.specs.Shown.{Shown};
 ghost use Rattle.hdfs_model.specs.Stores.{Agrees};
 
 use crate::attributes::Attributes;

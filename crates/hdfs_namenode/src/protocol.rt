@@ -72,7 +72,8 @@ impl NamenodeProtocol {
         length: u64,
     ) -> Result<Option<LocatedBlocks>, HdfsError>
         requires { 0 < (C.shown cluster.old).namenodes }
-        ensures asked { AskedOnce C.serves (asks.GetBlockLocations src.now offset length) cluster.old (as_answer answers.GetBlockLocations result) cluster.new }
+        ensures asked { AskedOnce C.serves (asks.GetBlockLocations src.now offset length) cluster.old
+            (as_answer answers.GetBlockLocations result) cluster.new }
     {
         let ask = Ask::GetBlockLocations {
             src: Text::from_str(self.alloc, src)?,
@@ -167,7 +168,8 @@ impl NamenodeProtocol {
         flag: u32,
     ) -> Result<Appended, HdfsError>
         requires { 0 < (C.shown cluster.old).namenodes }
-        ensures asked { AskedOnce C.serves (asks.Append src.now (name_of self.now) flag) cluster.old (as_answer answers.Append result) cluster.new }
+        ensures asked { AskedOnce C.serves (asks.Append src.now (name_of self.now) flag) cluster.old
+            (as_answer answers.Append result) cluster.new }
         ensures block { IfOk result (λ appended. IfSome appended.block IsToWrite) }
     {
         let ask = Ask::Append {

@@ -1,7 +1,6 @@
 //! The files as a map, and the paths that are open.
-ghost use Rattle.std.specs.Prelude.{◌≡◌, ◌++◌, ℕ, List as Items, Some, None, true, false, ◌↔◌, IfOk, IsTrue, MatchBool, ◌&&◌, is_none, option_copied, option_map};
+ghost use Rattle.std.specs.Prelude.{◌≡◌, ◌++◌, ℕ, Some, None, true, false, ◌↔◌, IfOk, ◌&&◌, is_none};
 ghost use Rattle.std.specs.List.{list_any};
-ghost use Rattle.std.specs.BTreeMap.{get_by_text};
 ghost use Rattle.hdfs_model.specs.Files as spec;
 ghost use Rattle.hdfs_model.specs.Loading.{takes, is_directory, is_free, with_line};
 ghost use Rattle.hdfs_model.specs.Paths.{ancestors, parent_of};

@@ -1,12 +1,12 @@
 //! Commands one after another.
-ghost use Rattle.std.specs.Prelude.{◌≡◌, ◌++◌, ◌∷◌, [], ℕ, Bool, true, false, not, List as Items, take, Option, Some, None, IfOk, string_bytes, option_map};
+ghost use Rattle.std.specs.Prelude.{◌≡◌, ◌++◌, ◌∷◌, [], ℕ, take, Option, Some, None, IfOk};
 ghost use Rattle.hdfs_model.specs.Files.{State};
 ghost use Rattle.hdfs_model.specs.Folds.{fold};
 ghost use Rattle.hdfs_model.specs.Sessions as sessions;
 ghost use Rattle.hdfs_model.specs.Steps as spec;
 ghost use Rattle.hdfs_model.specs.Steps.{step, step_at};
 ghost use Rattle.hdfs_plain.specs.Plain.{Holds};
-ghost use Rattle.hdfs_plain.specs.Answers.{Comes, refusal_of, folded_of, world_of};
+ghost use Rattle.hdfs_plain.specs.Answers.{Comes, folded_of, world_of};
 
 use crate::files::PlainFiles;
 use crate::outcome::{PlainOutcome, PlainRefusal};

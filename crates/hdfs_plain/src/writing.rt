@@ -1,5 +1,5 @@
 //! Commands over the files, each at its path.
-ghost use Rattle.std.specs.Prelude.{◌≡◌, ◌&&◌, ℕ, List as Items, Option, Some, None, OnOk, IfOk, option_map, not, is_none};
+ghost use Rattle.std.specs.Prelude.{◌≡◌, ◌&&◌, ℕ, Option, Some, None, OnOk, IfOk, option_map};
 ghost use Rattle.hdfs_model.specs.Files.{State, kinds_of, no_file};
 ghost use Rattle.hdfs_model.specs.Refusals as refusals;
 ghost use Rattle.hdfs_model.specs.Steps as spec;
@@ -38,7 +38,8 @@ impl PlainFiles {
 
     // Puts a file that the session writes at a path, and directories above it.
     fn open(&mut self, path: &str, file: PlainFile) -> Result<(), NoMemory>
-        ensures { OnOk result ((state : State) → Holds self.old state → Holds self.new (spec.with_writing state path.now (content_in file))) }
+        ensures { OnOk result ((state : State) → Holds self.old state
+            → Holds self.new (spec.with_writing state path.now (content_in file))) }
     {
         self.make_parents(path)?;
         self.put(path, PlainNode::Writing(file))?;

@@ -1,5 +1,5 @@
 //! The lines of a script that run a command.
-ghost use Rattle.std.specs.Prelude.{◌≡◌, ◌^◌, ◌==◌, ℕ, Bool, true, false, List, [], ◌∷◌, Option, Some, None, IfOk, option_map, if◌then◌else◌};
+ghost use Rattle.std.specs.Prelude.{◌≡◌, ◌^◌, ◌==◌, ℕ, true, false, [], ◌∷◌, Option, Some, None, IfOk, if◌then◌else◌};
 ghost use Rattle.hdfs_script.specs.Commands as spec;
 ghost use Rattle.hdfs_script.specs.Numbers.{number as number_of, hex_bytes as hex_bytes_of};
 

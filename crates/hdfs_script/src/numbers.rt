@@ -1,5 +1,5 @@
 //! Numbers and bytes as a script writes them.
-ghost use Rattle.std.specs.Prelude.{◌≡◌, ◌+◌, ◌<◌, ◌≤◌, ◌^◌, ℕ, Bool, true, false, List, length, Option, IfOk, IfSome, MatchOption, if◌then◌else◌, nat_lt, Some, None};
+ghost use Rattle.std.specs.Prelude.{◌≡◌, ◌+◌, ◌<◌, ◌≤◌, ◌^◌, ℕ, true, Option, IfOk, IfSome, MatchOption, if◌then◌else◌, Some, None};
 ghost use Rattle.std.specs.List.{list_all};
 ghost use Rattle.hdfs_script.specs.Numbers as spec;
 

@@ -14,7 +14,7 @@ struct Failing {
 }
 
 impl Failing {
-    ghost use Rattle.std.specs.Prelude.{◌≡◌, ◌≤◌, ◌==◌, ◌+◌, ◌-◌, ◌^◌, min, IsErr, true, OnErr, OnOk, ◌↔◌};
+    ghost use Rattle.std.specs.Prelude.{◌≡◌, ◌≤◌, ◌==◌, ◌+◌, ◌-◌, ◌^◌, min, IsErr, true, OnOk, ◌↔◌};
     ghost use Rattle.std.specs.List.{list_any};
     ghost use Rattle.hdfs_model.specs.Counts.{Rose};
     ghost use Rattle.hdfs_streams.specs.Streams.{HasCause};

@@ -1,6 +1,5 @@
 //! Reading a source, up to so many bytes.
-ghost use Rattle.std.specs.Prelude.{◌≡◌, ◌≤◌, ◌<◌, ◌+◌, ◌++◌, ℕ, List, [], length, IfOk, IfErr, OnErr, OnOk, vec_len};
-ghost use Rattle.hdfs_model.specs.Counts.{Rose};
+ghost use Rattle.std.specs.Prelude.{◌≡◌, ◌≤◌, ◌<◌, ◌+◌, ◌++◌, ℕ, List, [], length, IfOk, OnErr, OnOk, vec_len};
 ghost use Rattle.hdfs_streams.specs.Streams.{Took, TookAtMost, IsDry, IsFront};
 ghost use Rattle.hdfs_streams.specs.Reads.{HasReadCause};
 ghost use Rattle.hdfs_streams.specs.declared.read_source.ReadFault.TheVariants as read_faults;

@@ -1,6 +1,6 @@
 //! The fields of a message.
 
-ghost use Rattle.std.specs.Prelude.{◌↔◌, IsTrue, ◌≡◌, ℕ, ◌<◌, ◌≤◌, ◌++◌, Ok, Err, List, [], length, drop, IfOk, OnOk, OnErr};
+ghost use Rattle.std.specs.Prelude.{◌↔◌, IsTrue, ◌≡◌, ℕ, ◌<◌, ◌≤◌, ◌++◌, Ok, Err, List, [], length, IfOk, OnOk, OnErr};
 ghost use Rattle.hdfs_wire.specs.Reading.{Gives, GivesUnlessNoMemory};
 ghost use Rattle.hdfs_wire.specs.Varint.{varint_at};
 ghost use Rattle.hdfs_wire.specs.Fields.{IsFieldNumber, Extends, wire_type, field_spelling, value_spelling, value_at, field_at, fields_at, number_at, sized_at, message_spelling, ReadsMessage, FitsField};

@@ -1,8 +1,7 @@
 //! Frames of a stream: a length of four bytes, the highest first, and that many bytes.
 
-ghost use Rattle.std.specs.Prelude.{◌≡◌, ℕ, ◌+◌, ◌<◌, ◌≤◌, ◌^◌, ◌-◌, ◌++◌, ◌∷◌, [], ◌↔◌, ◌⊎◌, Ok, Err, List, length, take, drop, map, min, IfOk, IfErr, OnErr};
-ghost use Rattle.std.specs.Int.{w32, to_be_bytes};
-ghost use Rattle.std.specs.Borrow.{Bor};
+ghost use Rattle.std.specs.Prelude.{◌≡◌, ℕ, ◌+◌, ◌<◌, ◌≤◌, ◌^◌, ◌-◌, ◌++◌, ◌∷◌, [], ◌↔◌, ◌⊎◌, Ok, Err, length, take, map, min, IfOk, IfErr};
+ghost use Rattle.std.specs.Int.{to_be_bytes};
 ghost use Rattle.hdfs_wire.specs.Varint.{varint};
 ghost use Rattle.hdfs_wire.specs.Frames.{sized, joined, frame};
 

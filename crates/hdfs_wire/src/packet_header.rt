@@ -1,7 +1,7 @@
 //! The header of a packet as a message of fields.
 
 ghost use Rattle.std.specs.Int.{w64};
-ghost use Rattle.std.specs.Prelude.{FitsSigned, ◌≡◌, ◌≤◌, ◌++◌, OnOk, length, Ok, Err};
+ghost use Rattle.std.specs.Prelude.{FitsSigned, ◌≡◌, ◌≤◌, ◌++◌, OnOk, Ok, Err};
 ghost use Rattle.hdfs_wire.specs.Reading.{Gives, GivesUnlessNoMemory};
 ghost use Rattle.hdfs_wire.specs.Headers.{header_spelling, header_at, header_from, with_field, field, no_header};
 ghost use Rattle.hdfs_wire.specs.Fields.{IsFieldNumber, field_spelling};

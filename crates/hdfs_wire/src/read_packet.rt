@@ -1,10 +1,9 @@
 //! Packets that are read.
 
-ghost use Rattle.std.specs.Prelude.{◌≡◌, ◌+◌, ◌≤◌, ◌<◌, ◌^◌, Ok, Err, length, take, drop, IfOk};
+ghost use Rattle.std.specs.Prelude.{◌≡◌, ◌+◌, ◌≤◌, ◌<◌, ◌^◌, Ok, Err, length, IfOk};
 ghost use Rattle.hdfs_wire.specs.declared.read_packet.ReadPacket.{ReadPacket};
-ghost use Rattle.std.specs.Int.{w16, w32};
-ghost use Rattle.hdfs_wire.specs.Reading.{Gives, GivesUnlessNoMemory};
-ghost use Rattle.hdfs_wire.specs.Packets.{body_length, header_length, packet_length, packet_header_at, packet_at, is_data_length, data_length, checksum_length, body_of, ReadsPacket, IsWhole, AreBytes};
+ghost use Rattle.hdfs_wire.specs.Reading.{GivesUnlessNoMemory};
+ghost use Rattle.hdfs_wire.specs.Packets.{body_length, header_length, packet_header_at, packet_at, ReadsPacket, IsWhole, AreBytes};
 
 use crate::packet_header::{PacketHeader, header_of};
 use crate::wire_fault::WireFault;

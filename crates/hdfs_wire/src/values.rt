@@ -1,5 +1,5 @@
 //! Owned text, bytes and lists, each seen by contracts as a list.
-ghost use Rattle.std.specs.Prelude.{◌≡◌, List as Items, ℕ, length, IfOk, IfErr, ◌++◌, ◌∷◌, [], OnOk, OnErr, string_bytes};
+ghost use Rattle.std.specs.Prelude.{◌≡◌, ℕ, IfOk, IfErr, ◌++◌, ◌∷◌, [], OnOk, OnErr, string_bytes};
 
 use std::alloc::{AllocError, AllocFailed, Global};
 use std::marker::Model;
