@@ -7,8 +7,8 @@ use Rattle.hdfs_model.specs.declared.picture.Entry.TheVariants as entries
 use Rattle.hdfs_model.specs.declared.picture.BlockEntry.{BlockEntry}
 use Rattle.hdfs_model.specs.Files.{Node, Dir, File, Writing, State}
 use Rattle.hdfs_model.specs.Picture.{Picture}
-use Rattle.hdfs_cluster.specs.Adding.{AddsBlock, KeepsBlocks, blocks_picture}
-use Rattle.hdfs_cluster.proofs.Sizing.{keeps_from-AddsBlock}
+use Rattle.hdfs_namespace.specs.Adding.{AddsBlock, KeepsBlocks, blocks_picture}
+use Rattle.hdfs_namespace.proofs.Sizing.{keeps_from-AddsBlock}
 use Rattle.hdfs_model.specs.Loading.{with_new}
 use Rattle.hdfs_model.specs.Stores.{Agrees, AgreesAt, StoresBlocks, StoresBlock, HoldsPrefix}
 

@@ -24,7 +24,7 @@ use Rattle.hdfs_faults.specs.Following.{Follows}
 use Rattle.hdfs_faults.specs.Plans.{Counts, Forgets, SamePlan, SetsUp, calls_of, fails_at, has_node, has_series, is_bad, link_faults_of, node_faults_of}
 use Rattle.hdfs_faults.specs.Series.{Series, SetUps, acks_of, kind_of, plans, sends_to}
 use Rattle.hdfs_faults.proofs.Following.{ack_follows, counts_follows, end_follows, next_kind_follows}
-use Rattle.hdfs_cluster.specs.declared.datanodes.Datanodes.{Datanodes}
+use Rattle.hdfs_replicas.specs.declared.datanodes.Datanodes.{Datanodes}
 use Rattle.hdfs_cluster.specs.declared.mem_cluster.MemCluster.{MemCluster}
 use Rattle.hdfs_cluster.specs.declared.mem_link.MemLink.{MemLink}
 use Rattle.hdfs_cluster.specs.declared.mem_link.MemLink.TheVariants as links
@@ -33,7 +33,7 @@ use Rattle.hdfs_cluster.specs.Counting.{AsksAck, AsksSend, AsksSetUp, CanCount, 
 use Rattle.hdfs_cluster.specs.Failures.{failure_of, is_broken, is_counted, planned_failure}
 use Rattle.hdfs_cluster.specs.Links.{write_told, OnWrites, AckedOn, SendsOn, first_uuid}
 use Rattle.hdfs_cluster.specs.Lines.{line_of}
-use Rattle.hdfs_cluster.specs.Nodes.{SameNodes, node_at}
+use Rattle.hdfs_replicas.specs.Nodes.{SameNodes, node_at}
 use Rattle.hdfs_cluster.specs.Telling.{TellsAll, times}
 use Rattle.hdfs_cluster.specs.Writes.{told_of}
 use Rattle.hdfs_cluster.proofs.Acknowledging.{acked_links, acked_nodes, acked_replies, one_of, rest_due}

@@ -19,7 +19,7 @@ use Rattle.hdfs_cluster.specs.Counting.{CallsNode, CountsNothing}
 use Rattle.hdfs_cluster.specs.Failures.{planned_failure}
 use Rattle.hdfs_cluster.specs.Lines.{line_of}
 use Rattle.hdfs_cluster.specs.MemShown.{HasNodesOf, counts_of, shown_of}
-use Rattle.hdfs_cluster.specs.Nodes.{SameNodes}
+use Rattle.hdfs_replicas.specs.Nodes.{SameNodes}
 
 pub falls_refl : (plan : FaultPlan) → NeverFall (counts_of plan) (counts_of plan)
 falls_refl plan = record { calls = λ i. omega arith; links = omega arith; nodes = λ d. omega arith }

@@ -10,11 +10,12 @@ use Rattle.hdfs_model.specs.declared.picture.BlockEntry.{BlockEntry}
 use Rattle.hdfs_model.specs.declared.picture.Entry.{Entry}
 use Rattle.hdfs_model.specs.Picture.{Picture}
 use Rattle.hdfs_model.specs.Stores.{StoresBlocks, StoresBlock, HoldsPrefix}
-use Rattle.hdfs_cluster.specs.Adding.{AddsBlock, AreNew, KeepsBlocks, blocks_picture}
+use Rattle.hdfs_namespace.specs.Adding.{AddsBlock, AreNew, KeepsBlocks, blocks_picture}
 use Rattle.hdfs_cluster.specs.Cutting.{HoldsPiece, IsCut}
-use Rattle.hdfs_cluster.specs.Memory.{first_node, is_kth, is_sized, is_length, plus_length, total}
-use Rattle.hdfs_cluster.proofs.Apart.{kth_absent}
-use Rattle.hdfs_cluster.proofs.FileChanges.{kth_push_cases}
+use Rattle.hdfs_namespace.specs.Memory.{is_kth, is_sized, is_length, plus_length, total}
+use Rattle.hdfs_replicas.specs.Uuids.{first_node}
+use Rattle.hdfs_namespace.proofs.Apart.{kth_absent}
+use Rattle.hdfs_namespace.proofs.FileChanges.{kth_push_cases}
 
 -- whether there are bytes
 pub some_left : (bytes : List ℕ) → eqb (length bytes) 0 ≡ false → 0 < length bytes
@@ -94,7 +95,7 @@ module _ (t : ℕ → Option BlockEntry) (held : List ℕ → ℕ → List ℕ) 
       let rest : drop h.0.entry.length bytes ≡ drop size bytes = ap (λ (n : ℕ). drop n bytes) h.0.has_length ∙ drop_min size bytes in
       (h.0.entry, h.0.listed, omega (arith, h.0.has_length), stores_piece id bytes h.0, subst (StoresBlocks p ids) (sym rest) (stores_cut ids (drop size bytes) h.1))
 
-  total_cut : (ids bytes : List ℕ) → IsCut t held size ids bytes → total t ids ≡ Some (length bytes)
+  pub total_cut : (ids bytes : List ℕ) → IsCut t held size ids bytes → total t ids ≡ Some (length bytes)
   total_cut [] bytes h = ap (λ (b : List ℕ). Some (length b)) (sym h)
   total_cut (id ∷ ids) bytes h =
       let sum : h.0.entry.length + length (drop size bytes) ≡ length bytes = omega (arith, h.0.has_length, length-drop size bytes) in

@@ -20,8 +20,8 @@ use Rattle.hdfs_model.specs.Counts.{Rose}
 use Rattle.hdfs_model.specs.Picture.{Picture, SameFiles}
 use Rattle.hdfs_model.specs.Reading.{ReadsAt, IsSlice, moved_on}
 use Rattle.hdfs_model.specs.Shown.{Shown, Later, Opened, Given, NotGiven, Ended}
-use Rattle.hdfs_cluster.specs.declared.namespace.Namespace.{Namespace}
-use Rattle.hdfs_cluster.specs.declared.datanodes.Datanodes.{Datanodes}
+use Rattle.hdfs_namespace.specs.declared.namespace.Namespace.{Namespace}
+use Rattle.hdfs_replicas.specs.declared.datanodes.Datanodes.{Datanodes}
 use Rattle.hdfs_cluster.specs.declared.read_link.MemRead.{MemRead}
 use Rattle.hdfs_cluster.specs.declared.mem_cluster.MemCluster.{MemCluster}
 use Rattle.hdfs_cluster.specs.declared.mem_link.MemLink.{MemLink}
@@ -29,7 +29,7 @@ use Rattle.hdfs_cluster.specs.declared.mem_link.MemLink.TheVariants as links
 use Rattle.hdfs_cluster.specs.Links.{read_told, read_place, write_told, write_place, OnReads, MovedOn}
 use Rattle.hdfs_cluster.specs.Counting.{AsksPacket}
 use Rattle.hdfs_cluster.specs.MemShown.{picture_at}
-use Rattle.hdfs_cluster.specs.Nodes.{held_in, SameHeld}
+use Rattle.hdfs_replicas.specs.Nodes.{held_in, SameHeld}
 use Rattle.hdfs_cluster.proofs.Counting.{falls_counts, falls_refl, rose_counts}
 use Rattle.hdfs_cluster.proofs.Places.{slot_stays, no_write, no_write_place}
 use Rattle.hdfs_cluster.proofs.Stills.{shown_at, still_later, still_files, still_place}

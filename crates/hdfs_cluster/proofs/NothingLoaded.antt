@@ -14,14 +14,14 @@ use Rattle.std.proofs.lemmas.List.{map-append}
 use Rattle.hdfs_faults.specs.declared.fault_plan.FaultPlan.{FaultPlan}
 use Rattle.hdfs_faults.specs.Following.{Follows}
 use Rattle.hdfs_cluster.specs.declared.loaded.Kept.{Kept}
-use Rattle.hdfs_cluster.specs.declared.namespace.Namespace.{Namespace}
-use Rattle.hdfs_cluster.specs.declared.datanodes.Datanodes.{Datanodes}
+use Rattle.hdfs_namespace.specs.declared.namespace.Namespace.{Namespace}
+use Rattle.hdfs_replicas.specs.declared.datanodes.Datanodes.{Datanodes}
 use Rattle.hdfs_cluster.specs.declared.mem_link.MemLink.{MemLink}
-use Rattle.hdfs_cluster.specs.Adding.{KeepsBlocks}
+use Rattle.hdfs_namespace.specs.Adding.{KeepsBlocks}
 use Rattle.hdfs_cluster.specs.Lines.{line_of}
-use Rattle.hdfs_cluster.specs.Memory.{table_of}
+use Rattle.hdfs_namespace.specs.Memory.{table_of}
 use Rattle.hdfs_cluster.specs.MemShown.{picture_at, loaded_at}
-use Rattle.hdfs_cluster.specs.Nodes.{held_in, undisturbed_in}
+use Rattle.hdfs_replicas.specs.Nodes.{held_in, undisturbed_in}
 use Rattle.hdfs_cluster.proofs.Agreeing.{agrees_kept}
 use Rattle.hdfs_cluster.proofs.Places.{place_same}
 use Rattle.hdfs_cluster.proofs.Stills.{shown_at}

@@ -21,14 +21,15 @@ use Rattle.hdfs_model.specs.Namenode.{IsToWrite}
 use Rattle.hdfs_model.specs.Picture.{Picture, SamePicture, kinds_in}
 use Rattle.hdfs_model.specs.Refusals.{append_refusal}
 use Rattle.hdfs_model.specs.Sending.{uuids}
-use Rattle.hdfs_cluster.specs.declared.namespace.Namespace.{Namespace}
-use Rattle.hdfs_cluster.specs.declared.datanodes.Datanodes.{Datanodes}
+use Rattle.hdfs_namespace.specs.declared.namespace.Namespace.{Namespace}
+use Rattle.hdfs_replicas.specs.declared.datanodes.Datanodes.{Datanodes}
 use Rattle.hdfs_cluster.specs.declared.mem_link.MemLink.{MemLink}
-use Rattle.hdfs_cluster.specs.Adding.{OpensAgain}
-use Rattle.hdfs_cluster.specs.Answering.{Answers, StandsForWritten}
-use Rattle.hdfs_cluster.specs.Memory.{table_of}
+use Rattle.hdfs_namespace.specs.Adding.{OpensAgain}
+use Rattle.hdfs_namespace.specs.Spaces.{space_of}
+use Rattle.hdfs_namespace.specs.Answering.{Answers, StandsForWritten}
+use Rattle.hdfs_namespace.specs.Memory.{table_of}
 use Rattle.hdfs_cluster.specs.MemShown.{picture_at}
-use Rattle.hdfs_cluster.specs.Nodes.{held_in, SameHeld}
+use Rattle.hdfs_replicas.specs.Nodes.{held_in, SameHeld}
 use Rattle.hdfs_cluster.proofs.Places.{place_same}
 
 abbrev new_entry : ℕ → ℕ → List (List ℕ) → BlockEntry
@@ -59,7 +60,7 @@ module _ (space space' : Namespace) (nodes nodes' : Datanodes) (settings : MemSe
   }
 
   opens : (src : List ℕ) (file : FileEntry) (block : Option LocatedBlock) → get_by_text space.names src ≡ Some (entries.File file)
-      → OpensAgain (get_by_text space.names) (table_of space.table.entries) (held_in nodes) src file (get_by_text space'.names) (table_of space'.table.entries) block → IfSome block IsToWrite → Opens src file block p q
+      → OpensAgain (space_of space nodes) src file (space_of space' nodes') block → IfSome block IsToWrite → Opens src file block p q
   opens src file None is h shape = (h.0, changes_space _ _ h.1 h.2)
   opens src file (Some block) is h shape =
       let id = h.0 in
@@ -88,7 +89,7 @@ module _ (space space' : Namespace) (nodes nodes' : Datanodes) (settings : MemSe
   module _ (i : ℕ) (here : i ≡ settings.active) (text src : List ℕ) (is : text ≡ src) (client : List ℕ) (flag : ℕ) where
     pub answers_appended : (appended : Appended) → append_refusal (kinds_in (get_by_text space.names)) text ≡ None
         → (file : FileEntry) × (get_by_text space.names text ≡ Some (entries.File file)) × HasStatus file appended.stat
-        × OpensAgain (get_by_text space.names) (table_of space.table.entries) (held_in nodes) text file (get_by_text space'.names) (table_of space'.table.entries) appended.block
+        × OpensAgain (space_of space nodes) text file (space_of space' nodes') appended.block
         → IfSome appended.block IsToWrite → Answers p i (asks.Append src client flag) (Ok (answers.Append appended)) q
     answers_appended appended allowed done shape =
         subst (λ (s : List ℕ). Answers p i (asks.Append s client flag) (Ok (answers.Append appended)) q) is

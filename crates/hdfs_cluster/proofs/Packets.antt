@@ -7,7 +7,7 @@ use Rattle.std.specs.Str.{bytes_eq}
 use Rattle.hdfs_wire.specs.Outgoing.{Outgoing}
 use Rattle.hdfs_model.specs.declared.messages.DatanodeInfo.{DatanodeInfo}
 use Rattle.hdfs_model.specs.Sending.{uuids, end_of, seqno_of, put_packet, put_packets}
-use Rattle.hdfs_cluster.specs.Nodes.{is_named}
+use Rattle.hdfs_replicas.specs.Nodes.{is_named}
 use Rattle.hdfs_cluster.specs.Writes.{last_end}
 
 pub last_end-push : (end : Option ℕ) (sent : List Outgoing) (packet : Outgoing) → last_end end (sent ++ packet ∷ []) ≡ Some (end_of packet)

@@ -8,12 +8,12 @@ use Rattle.slab.specs.Slab as slab
 use Rattle.hdfs_wire.specs.declared.ack.Ack.{Ack}
 use Rattle.slab.specs.Slab.{Slab, Updates, with_value}
 use Rattle.hdfs_model.specs.Sending.{uuids}
-use Rattle.hdfs_cluster.specs.declared.datanodes.Datanodes.{Datanodes}
+use Rattle.hdfs_replicas.specs.declared.datanodes.Datanodes.{Datanodes}
 use Rattle.hdfs_cluster.specs.declared.mem_link.MemLink.{MemLink}
 use Rattle.hdfs_cluster.specs.declared.mem_link.MemLink.TheVariants as links
 use Rattle.hdfs_model.specs.declared.picture.OpenWrite.{OpenWrite}
 use Rattle.hdfs_cluster.specs.Links.{read_told, read_place, write_told, write_place, OnWrite}
-use Rattle.hdfs_cluster.specs.Nodes.{undisturbed_in}
+use Rattle.hdfs_replicas.specs.Nodes.{undisturbed_in}
 use Rattle.hdfs_cluster.specs.declared.write_link.MemWrite.{MemWrite}
 use Rattle.hdfs_cluster.specs.Writes.{told_at, told_of, place_at, place_of, disturbed_at}
 use Rattle.hdfs_wire.specs.Outgoing.{Outgoing}

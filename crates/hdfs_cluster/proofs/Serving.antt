@@ -14,12 +14,12 @@ use Rattle.hdfs_model.specs.Namenode.{last_of}
 use Rattle.hdfs_model.specs.Picture.{Picture}
 use Rattle.hdfs_model.specs.Shown.{Served}
 use Rattle.hdfs_faults.specs.declared.fault_plan.FaultPlan.{FaultPlan}
-use Rattle.hdfs_cluster.specs.declared.namespace.Namespace.{Namespace}
-use Rattle.hdfs_cluster.specs.declared.datanodes.Datanodes.{Datanodes}
+use Rattle.hdfs_namespace.specs.declared.namespace.Namespace.{Namespace}
+use Rattle.hdfs_replicas.specs.declared.datanodes.Datanodes.{Datanodes}
 use Rattle.hdfs_cluster.specs.declared.mem_link.MemLink.{MemLink}
-use Rattle.hdfs_cluster.specs.Answering.{Answers}
+use Rattle.hdfs_namespace.specs.Answering.{Answers}
 use Rattle.hdfs_cluster.specs.MemShown.{picture_at}
-use Rattle.hdfs_cluster.proofs.Answering.{serves_answer}
+use Rattle.hdfs_namespace.proofs.Answering.{serves_answer}
 use Rattle.hdfs_cluster.proofs.Counting.{falls_refl}
 use Rattle.hdfs_cluster.proofs.Stills.{shown_at}
 

@@ -18,15 +18,15 @@ use Rattle.hdfs_model.specs.declared.picture.OpenWrite.{OpenWrite}
 use Rattle.hdfs_faults.specs.declared.fault_plan.FaultPlan.{FaultPlan}
 use Rattle.hdfs_faults.specs.Plans.{node_faults_of}
 use Rattle.hdfs_model.specs.Shown.{Shown, Later, NotOpened}
-use Rattle.hdfs_cluster.specs.declared.namespace.Namespace.{Namespace}
-use Rattle.hdfs_cluster.specs.declared.datanodes.Datanodes.{Datanodes}
+use Rattle.hdfs_namespace.specs.declared.namespace.Namespace.{Namespace}
+use Rattle.hdfs_replicas.specs.declared.datanodes.Datanodes.{Datanodes}
 use Rattle.hdfs_cluster.specs.declared.mem_link.MemLink.{MemLink}
 use Rattle.hdfs_cluster.specs.declared.mem_link.MemLink.TheVariants as links
 use Rattle.hdfs_cluster.specs.declared.write_link.MemWrite.{MemWrite}
 use Rattle.hdfs_cluster.specs.Links.{read_told, read_place, write_told, write_place, OnWrites, UnsentOn, UnackedOn, first_uuid}
 use Rattle.hdfs_cluster.specs.MemShown.{picture_at, loaded_at, counts_of}
 use Rattle.hdfs_cluster.specs.Writes.{place_of, told_of}
-use Rattle.hdfs_cluster.specs.Nodes.{SameHeld}
+use Rattle.hdfs_replicas.specs.Nodes.{SameHeld}
 use Rattle.hdfs_cluster.proofs.Places.{slot_stays, place_same, told_kept, place_kept}
 
 -- what a cluster with these parts shows

@@ -10,7 +10,7 @@ use Rattle.hdfs_model.specs.Loading.{takes, is_free, is_directory}
 use Rattle.hdfs_model.specs.Paths.{is_path, parent_of}
 use Rattle.hdfs_model.specs.Picture.{Picture}
 use Rattle.hdfs_model.specs.Stores.{Agrees, AgreesAt}
-use Rattle.hdfs_cluster.specs.Memory.{is_dir, is_free_at, accepts}
+use Rattle.hdfs_namespace.specs.Memory.{is_dir, is_free_at, accepts}
 
 none_alike : (p : Picture) (o : Option Entry) (node : Option Node) → AgreesAt p o node → is_none node ≡ is_none o
 none_alike p None None h = refl

@@ -25,14 +25,14 @@ use Rattle.hdfs_faults.specs.declared.fault_plan.FaultPlan.{FaultPlan}
 use Rattle.hdfs_faults.specs.declared.node_plan.NodeCall.TheVariants as calls
 use Rattle.hdfs_faults.specs.Plans.{link_faults_of}
 use Rattle.hdfs_faults.specs.Series.{sends_to}
-use Rattle.hdfs_cluster.specs.declared.namespace.Namespace.{Namespace}
-use Rattle.hdfs_cluster.specs.declared.datanodes.Datanodes.{Datanodes}
+use Rattle.hdfs_namespace.specs.declared.namespace.Namespace.{Namespace}
+use Rattle.hdfs_replicas.specs.declared.datanodes.Datanodes.{Datanodes}
 use Rattle.hdfs_cluster.specs.declared.mem_link.MemLink.{MemLink}
 use Rattle.hdfs_cluster.specs.declared.mem_link.MemLink.TheVariants as links
 use Rattle.hdfs_cluster.specs.declared.write_link.MemWrite.{MemWrite}
 use Rattle.hdfs_cluster.specs.Links.{read_told, read_place, write_told, write_place, OnWrites, SendsOn, UnsentOn, first_uuid}
 use Rattle.hdfs_cluster.specs.MemShown.{picture_at, counts_of}
-use Rattle.hdfs_cluster.specs.Nodes.{held_in, undisturbed_in, is_named, is_on}
+use Rattle.hdfs_replicas.specs.Nodes.{held_in, undisturbed_in, is_named, is_on}
 use Rattle.hdfs_cluster.specs.Writes.{told_at, told_of, place_at, place_of, disturbed_at, SameWrite, PutsPacket}
 use Rattle.hdfs_cluster.proofs.Packets.{last_end-push, put_packets-push, waiting-push, named_at, named_any, contains_named, answered}
 use Rattle.hdfs_cluster.proofs.Places.{slot_stays, place_same_for, place_same_at}

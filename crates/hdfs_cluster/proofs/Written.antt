@@ -19,13 +19,15 @@ use Rattle.hdfs_model.specs.Effects.{AddsNew, Changes, ClosesIf, GivesAgain, Has
 use Rattle.hdfs_model.specs.Namenode.{new_file, overwrites}
 use Rattle.hdfs_model.specs.Picture.{Picture, SamePicture, kinds_in}
 use Rattle.hdfs_model.specs.Refusals.{create_refusal, with_parents}
-use Rattle.hdfs_cluster.specs.declared.namespace.Namespace.{Namespace}
-use Rattle.hdfs_cluster.specs.declared.datanodes.Datanodes.{Datanodes}
+use Rattle.hdfs_namespace.specs.declared.namespace.Namespace.{Namespace}
+use Rattle.hdfs_replicas.specs.declared.datanodes.Datanodes.{Datanodes}
 use Rattle.hdfs_cluster.specs.declared.mem_link.MemLink.{MemLink}
-use Rattle.hdfs_cluster.specs.Answering.{Answers, StandsForStray, StandsForWritten}
-use Rattle.hdfs_cluster.specs.Adding.{AddsLast, GivesLast, with_open}
-use Rattle.hdfs_cluster.specs.Memory.{first_node, table_of}
-use Rattle.hdfs_cluster.specs.Nodes.{held_in}
+use Rattle.hdfs_namespace.specs.Answering.{Answers, StandsForStray, StandsForWritten}
+use Rattle.hdfs_namespace.specs.Adding.{AddsLast, GivesLast, with_open}
+use Rattle.hdfs_namespace.specs.Spaces.{space_of}
+use Rattle.hdfs_namespace.specs.Memory.{table_of}
+use Rattle.hdfs_replicas.specs.Uuids.{first_node}
+use Rattle.hdfs_replicas.specs.Nodes.{held_in}
 use Rattle.std.proofs.lemmas.List.Elements.{All-cons, All-nil}
 use Rattle.std.specs.List.{All, IsDistinct}
 use Rattle.std.specs.Str.{bytes_eq}
@@ -55,12 +57,12 @@ module _ (space space' : Namespace) (nodes : Datanodes) (settings : MemSettings)
   pub same_looks : ((path : List ℕ) → get_by_text space'.names path ≡ get_by_text space.names path) × ((id : ℕ) → table_of space'.table.entries id ≡ table_of space.table.entries id) → SamePicture p q
   same_looks same = record { rest = record { files = record { names = same.0; table = same.1; held = λ node id. refl; defaults = refl }; reads = λ link. refl; writes = λ link. refl }; active = refl }
 
-  gives_last : (src : List ℕ) (file : FileEntry) (previous : Option Block) (block : LocatedBlock) → GivesLast (get_by_text space.names) (table_of space.table.entries) file previous (get_by_text space'.names) (table_of space'.table.entries) block
+  gives_last : (src : List ℕ) (file : FileEntry) (previous : Option Block) (block : LocatedBlock) → GivesLast (space_of space nodes) file previous (space_of space' nodes) block
       → GivesAgain src file previous block p q
   gives_last src file previous block h = record { id = h.id; retried = h.retried; answered = h.answered; changes = changes_space _ _ h.same h.listed }
 
   adds_last : (src : List ℕ) (file : FileEntry) (previous : Option Block) (block : LocatedBlock) → get_by_text space.names src ≡ Some (entries.File file)
-      → AddsLast (get_by_text space.names) (table_of space.table.entries) (held_in nodes) src file previous (get_by_text space'.names) (table_of space'.table.entries) block → AddsNew src file previous block p q
+      → AddsLast (space_of space nodes) src file previous (space_of space' nodes) block → AddsNew src file previous block p q
   adds_last src file previous block is h = record {
     id = h.adds.id;
     entry = h.adds.entry;
@@ -117,8 +119,8 @@ module _ (space space' : Namespace) (nodes : Datanodes) (settings : MemSettings)
         (stray.2, same_space same, inr (here, inr (stray.0, stray.1)))
 
     pub answers_added : (client : List ℕ) (previous : Option Block) (excludes : List DatanodeInfo) (file_id : Option ℕ) (block : LocatedBlock) → (file : FileEntry) × (get_by_text space.names text ≡ Some (entries.File file))
-        × (GivesLast (get_by_text space.names) (table_of space.table.entries) file previous (get_by_text space'.names) (table_of space'.table.entries) block
-        ⊎ AddsLast (get_by_text space.names) (table_of space.table.entries) (held_in nodes) text file previous (get_by_text space'.names) (table_of space'.table.entries) block)
+        × (GivesLast (space_of space nodes) file previous (space_of space' nodes) block
+        ⊎ AddsLast (space_of space nodes) text file previous (space_of space' nodes) block)
         → Answers p i (asks.AddBlock src client previous excludes file_id) (Ok (answers.AddBlock block)) q
     answers_added client previous excludes file_id block done =
         subst (λ (s : List ℕ). Answers p i (asks.AddBlock s client previous excludes file_id) (Ok (answers.AddBlock block)) q) is

@@ -15,7 +15,7 @@ use Rattle.hdfs_faults.specs.Calls.{is_bad_ack, one_if}
 use Rattle.hdfs_faults.specs.Plans.{calls_of, has_series, is_bad}
 use Rattle.hdfs_faults.specs.Series.{Series, SetUps, kind_of, plans, reads_of, sends_to, uuid_of}
 use Rattle.hdfs_cluster.specs.declared.mem_cluster.MemCluster.{MemCluster}
-use Rattle.hdfs_cluster.specs.Answering.{Answers}
+use Rattle.hdfs_namespace.specs.Answering.{Answers}
 use Rattle.hdfs_cluster.specs.Failures.{failure_of, is_broken, is_counted, planned_failure}
 use Rattle.hdfs_cluster.specs.Telling.{TellsAll}
 use Rattle.hdfs_cluster.specs.MemShown.{HasNode, HasNodesOf, nodes_of, picture_of, shown_of}

@@ -6,7 +6,7 @@ use Rattle.hdfs_model.specs.declared.picture.FileEntry.{FileEntry}
 use Rattle.hdfs_model.specs.declared.store.Line.{Line}
 use Rattle.hdfs_model.specs.declared.store.Line.TheVariants as lines
 use Rattle.hdfs_model.specs.Picture.{Picture}
-use Rattle.hdfs_cluster.specs.Memory.{first_node}
+use Rattle.hdfs_replicas.specs.Uuids.{first_node}
 
 -- There are bytes, and the block on the first datanode has the first so many of them, or all where there are no more.
 pub record HoldsPiece (table : ℕ → Option BlockEntry) (held : List ℕ → ℕ → List ℕ) (size id : ℕ) (bytes : List ℕ) : Type 0 where

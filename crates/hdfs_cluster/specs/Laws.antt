@@ -15,15 +15,15 @@ use Rattle.hdfs_model.specs.declared.store.Line.{Line}
 use Rattle.std.specs.BTreeMap.{get_by_text}
 use Rattle.hdfs_model.specs.Sound.{IsSound}
 use Rattle.hdfs_model.proofs.Loads.{and_parts}
-use Rattle.hdfs_cluster.specs.Soundness.{sound_from}
+use Rattle.hdfs_namespace.specs.Soundness.{sound_from}
 use Rattle.hdfs_model.specs.Pipes.{IsPlaceOf, ShowsWrites}
 use Rattle.hdfs_model.specs.Sending.{WritePlace}
-use Rattle.hdfs_cluster.specs.declared.datanodes.Datanodes.{Datanodes}
+use Rattle.hdfs_replicas.specs.declared.datanodes.Datanodes.{Datanodes}
 use Rattle.hdfs_cluster.specs.declared.mem_link.MemLink.{MemLink}
 use Rattle.hdfs_cluster.specs.declared.mem_link.MemLink.TheVariants as links
 use Rattle.hdfs_cluster.specs.Links.{write_told, write_place}
 use Rattle.hdfs_cluster.specs.Writes.{told_of, place_of}
-use Rattle.hdfs_cluster.specs.Memory.{is_bare_at, is_nil}
+use Rattle.hdfs_namespace.specs.Memory.{is_bare_at, is_nil}
 use Rattle.hdfs_cluster.specs.MemShown.{picture_of, shown_of, is_fresh_of}
 
 -- the picture that is told is the cluster's

@@ -1,6 +1,3 @@
-pub mod Adding
-pub mod Answering
-pub mod Blocks
 pub mod Counting
 pub mod Cutting
 pub mod Failures
@@ -8,11 +5,6 @@ pub mod Laws
 pub mod Lines
 pub mod Links
 pub mod MemShown
-pub mod Memory
-pub mod Nodes
-pub mod Pieces
-pub mod Replicas
-pub mod Soundness
 pub mod Starting
 pub mod Telling
 pub mod Writes

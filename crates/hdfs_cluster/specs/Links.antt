@@ -10,12 +10,12 @@ use Rattle.hdfs_model.specs.Sending.{WritePlace, seqno_of, uuids}
 use Rattle.hdfs_faults.specs.declared.fault_plan.FaultPlan.{FaultPlan}
 use Rattle.hdfs_faults.specs.Plans.{fails_at, Counts, SameLinks, TakesAck}
 use Rattle.hdfs_faults.specs.Series.{sends_to}
-use Rattle.hdfs_cluster.specs.declared.datanodes.Datanodes.{Datanodes}
+use Rattle.hdfs_replicas.specs.declared.datanodes.Datanodes.{Datanodes}
 use Rattle.hdfs_cluster.specs.declared.mem_link.MemLink.{MemLink}
 use Rattle.hdfs_cluster.specs.declared.mem_link.MemLink.TheVariants as links
 use Rattle.hdfs_cluster.specs.declared.read_link.MemRead.{MemRead}
 use Rattle.hdfs_cluster.specs.declared.write_link.MemWrite.{MemWrite}
-use Rattle.hdfs_cluster.specs.Nodes.{SameHeld}
+use Rattle.hdfs_replicas.specs.Nodes.{SameHeld}
 use Rattle.hdfs_cluster.specs.Telling.{GoesOn, TellsAll}
 use Rattle.hdfs_cluster.specs.Writes.{told_of, place_of, SameWrite, PutsPacket}
 

@@ -11,15 +11,15 @@ use Rattle.hdfs_faults.specs.Series.{uuid_of}
 use Rattle.hdfs_model.specs.Counts.{FaultCounts}
 use Rattle.hdfs_model.specs.Picture.{Picture}
 use Rattle.hdfs_model.specs.Shown.{Loaded, Shown}
-use Rattle.hdfs_cluster.specs.declared.namespace.Namespace.{Namespace}
-use Rattle.hdfs_cluster.specs.declared.datanodes.Datanodes.{Datanodes}
+use Rattle.hdfs_namespace.specs.declared.namespace.Namespace.{Namespace}
+use Rattle.hdfs_replicas.specs.declared.datanodes.Datanodes.{Datanodes}
 use Rattle.hdfs_cluster.specs.declared.mem_cluster.MemCluster.{MemCluster}
 use Rattle.hdfs_cluster.specs.declared.mem_link.MemLink.{MemLink}
 use Rattle.hdfs_cluster.specs.declared.counts.Counts.{Counts as SeenCounts}
 use Rattle.hdfs_cluster.specs.Lines.{line_of}
 use Rattle.hdfs_cluster.specs.Links.{read_told, read_place, write_told, write_place}
-use Rattle.hdfs_cluster.specs.Memory.{table_of, is_nil}
-use Rattle.hdfs_cluster.specs.Nodes.{node_at, held_in}
+use Rattle.hdfs_namespace.specs.Memory.{table_of, is_nil}
+use Rattle.hdfs_replicas.specs.Nodes.{node_at, held_in}
 
 -- the picture of these names, blocks, bytes and links
 abbrev pub picture_at : Namespace → Datanodes → MemSettings → Slab MemLink → Picture

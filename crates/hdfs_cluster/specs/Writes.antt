@@ -5,9 +5,9 @@ use Rattle.hdfs_wire.specs.Outgoing.{Outgoing}
 use Rattle.hdfs_model.specs.declared.messages.Setup.{Setup}
 use Rattle.hdfs_model.specs.declared.picture.OpenWrite.{OpenWrite}
 use Rattle.hdfs_model.specs.Sending.{WritePlace, Came, uuids, end_of, seqno_of, put_packet}
-use Rattle.hdfs_cluster.specs.declared.datanodes.Datanodes.{Datanodes}
+use Rattle.hdfs_replicas.specs.declared.datanodes.Datanodes.{Datanodes}
 use Rattle.hdfs_cluster.specs.declared.write_link.MemWrite.{MemWrite}
-use Rattle.hdfs_cluster.specs.Nodes.{held_in, undisturbed_in, is_on}
+use Rattle.hdfs_replicas.specs.Nodes.{held_in, undisturbed_in, is_on}
 
 -- where the last of these packets ended in the block, behind others
 abbrev pub last_end : Option ℕ → List Outgoing → Option ℕ

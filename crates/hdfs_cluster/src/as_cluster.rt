@@ -7,13 +7,13 @@ ghost use Rattle.hdfs_cluster.specs.Failures.{planned_failure};
 
 use crate::mem_cluster::MemCluster;
 use crate::mem_link::MemLink;
-use crate::namenode::last_answer;
 use crate::read_link::{MemRead, next_packet, opened};
 use crate::responding::respond;
 use crate::write_link::MemWrite;
 use hdfs_model::{
     Answer, Ask, AskFault, Cluster, LastAnswer, LinkFault, LinkKind, ReadAsk, ReadPlace, Setup,
 };
+use hdfs_namespace::last_answer;
 use hdfs_wire::{Ack, NoMemory, ReadPacket, WritePacket};
 
 /// How a set-up fails that is planned so. One with a bad acknowledgement to come doesn't.

@@ -3,9 +3,9 @@ ghost use Rattle.std.specs.Prelude.{◌≡◌, ◌<◌, ◌≤◌, ℕ, List as 
 ghost use Rattle.hdfs_faults.specs.Plans.{node_faults_of};
 ghost use Rattle.hdfs_faults.specs.Series.{link_fault_count, node_fault_count, uuid_of};
 
-use crate::datanodes::uuid;
 use crate::mem_cluster::MemCluster;
 use hdfs_faults::FaultPlan;
+use hdfs_replicas::uuid;
 use hdfs_wire::{List, NoMemory};
 use std::alloc::Global;
 

@@ -1,26 +1,15 @@
 //! A cluster in memory: namenodes and datanodes that hold the files and faults that were loaded into them.
 #![tactic(auto)]
 
-mod adding;
-mod appending;
 mod as_cluster;
 mod as_store;
-mod blocks;
-mod closing;
 mod config;
 mod counts;
-mod creating;
-mod datanode;
-mod datanodes;
 mod loaded;
 mod loading;
 mod mem_cluster;
 mod mem_link;
-mod namenode;
-mod namespace;
-mod pipeline;
 mod read_link;
-mod replica;
 mod responding;
 mod storing;
 mod write_link;

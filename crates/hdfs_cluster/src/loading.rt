@@ -2,13 +2,13 @@
 ghost use Rattle.std.specs.Prelude.{◌≡◌, ◌<◌, ℕ, true, false, length, IfOk, OnOk, OnErr, IsErrOf, MatchResult};
 ghost use Rattle.hdfs_model.specs.declared.store.Line.TheVariants as lines;
 ghost use Rattle.hdfs_model.specs.Loading.{Loads, LoadsNothing, SameShown};
-ghost use Rattle.hdfs_cluster.specs.Memory.{accepts, is_free_at};
+ghost use Rattle.hdfs_namespace.specs.Memory.{accepts, is_free_at};
 
 use crate::loaded::Kept;
 use crate::mem_cluster::MemCluster;
 use crate::storing::store_file;
 use bytes::Bytes;
-use hdfs_model::{AddFault, Attributes, Entry, FaultLine};
+use hdfs_model::{AddFault, Attributes, FaultLine};
 use hdfs_wire::{Blob, NoMemory, Text};
 
 /// The same bytes twice, without a copy of them.
@@ -35,7 +35,7 @@ impl MemCluster {
     {
         let name = String::from_str(self.alloc, path.as_str())?;
         self.loaded.reserve(1)?;
-        self.space.add(name, Entry::Dir)?;
+        self.space.add_dir(name)?;
         self.loaded.push_reserved(Kept::Dir { path });
         Ok(())
     }

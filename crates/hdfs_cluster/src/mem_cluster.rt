@@ -7,12 +7,12 @@ ghost use Rattle.hdfs_faults.specs.Following.{Follows};
 ghost use Rattle.hdfs_cluster.specs.Lines.{line_of};
 
 use crate::config::Config;
-use crate::datanodes::Datanodes;
 use crate::loaded::Kept;
 use crate::mem_link::MemLink;
-use crate::namespace::Namespace;
 use hdfs_faults::FaultPlan;
 use hdfs_model::{LastAnswer, MemSettings};
+use hdfs_namespace::Namespace;
+use hdfs_replicas::Datanodes;
 use hdfs_wire::NoMemory;
 use slab::Slab;
 use std::alloc::Global;

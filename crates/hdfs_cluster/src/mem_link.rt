@@ -1,10 +1,10 @@
 //! The links of a cluster in memory.
-ghost use Rattle.std.specs.Prelude.{◌≡◌, ◌+◌, ◌<◌, ◌≤◌, ◌^◌, length, IfOk, OnErr};
+ghost use Rattle.std.specs.Prelude.{◌≡◌, ◌+◌, ◌<◌, ◌≤◌, ◌^◌, IfOk, OnErr};
 
-use crate::datanodes::Datanodes;
 use crate::read_link::MemRead;
 use crate::write_link::MemWrite;
 use hdfs_faults::FaultPlan;
+use hdfs_replicas::Datanodes;
 use hdfs_wire::{Ack, NoMemory, WritePacket};
 use std::alloc::Global;
 
@@ -17,7 +17,7 @@ pub enum MemLink {
 
 impl MemLink {
     ghost use Rattle.hdfs_cluster.specs.Links.{OnRead, OnReads, OnWrite, OnWrites, CanMoveOn, MovedOn, IsDueOn, SendsOn, UnsentOn, AckedOn, UnackedOn};
-    ghost use Rattle.hdfs_cluster.specs.Nodes.{SameNodes};
+    ghost use Rattle.hdfs_replicas.specs.Nodes.{SameNodes};
 
     /// Moves the place of a read on by so many bytes.
     pub(crate) fn move_on(&mut self, count: u64)

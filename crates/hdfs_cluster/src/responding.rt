@@ -1,17 +1,16 @@
 //! How the namenodes of a cluster in memory respond to what is asked.
-ghost use Rattle.std.specs.Prelude.{◌≡◌, IfOk, IfErr};
+ghost use Rattle.std.specs.Prelude.{◌≡◌, IfOk};
 ghost use Rattle.hdfs_model.specs.Namenode.{IsShaped};
 ghost use Rattle.slab.specs.Slab.{Slab};
 ghost use Rattle.hdfs_cluster.specs.declared.mem_link.MemLink.{MemLink};
-ghost use Rattle.hdfs_cluster.specs.Answering.{Answers};
+ghost use Rattle.hdfs_namespace.specs.Answering.{Answers};
 ghost use Rattle.hdfs_cluster.specs.MemShown.{picture_at};
-ghost use Rattle.hdfs_cluster.specs.Nodes.{SameNodes};
+ghost use Rattle.hdfs_replicas.specs.Nodes.{SameNodes};
 
 use crate::config::Config;
-use crate::datanodes::Datanodes;
-use crate::namenode::{STANDBY, exception};
-use crate::namespace::Namespace;
 use hdfs_model::{Answer, Ask, AskFault, Attributes};
+use hdfs_namespace::{Namespace, STANDBY, exception};
+use hdfs_replicas::Datanodes;
 use std::alloc::Global;
 
 /// The flag by which an older file is overwritten.

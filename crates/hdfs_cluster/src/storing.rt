@@ -1,5 +1,5 @@
 //! How a file comes into a cluster in memory.
-ghost use Rattle.std.specs.Prelude.{◌≡◌, ◌<◌, ◌^◌, ℕ, List, Option, Some, length, string_bytes, IfOk, OnOk, OnErr};
+ghost use Rattle.std.specs.Prelude.{◌≡◌, ◌<◌, ◌^◌, ℕ, List, Some, length, string_bytes, IfOk, OnOk, OnErr};
 ghost use Rattle.std.specs.BTreeMap.{get_by_text};
 ghost use Rattle.hdfs_model.specs.declared.mem_settings.MemSettings.{MemSettings};
 ghost use Rattle.hdfs_model.specs.declared.picture.Entry.TheVariants as entries;
@@ -9,16 +9,17 @@ ghost use Rattle.hdfs_model.specs.Loading.{with_file};
 ghost use Rattle.hdfs_model.specs.Stores.{Agrees};
 ghost use Rattle.slab.specs.Slab.{Slab};
 ghost use Rattle.hdfs_cluster.specs.declared.mem_link.MemLink.{MemLink};
-ghost use Rattle.hdfs_cluster.specs.Adding.{IsPlace, AddsBlock, AreNew, KeepsBlocks};
+ghost use Rattle.hdfs_namespace.specs.Adding.{IsPlace, AddsBlock, AreNew, KeepsBlocks};
 ghost use Rattle.hdfs_cluster.specs.Cutting.{IsCut};
 ghost use Rattle.hdfs_cluster.specs.MemShown.{picture_at};
-ghost use Rattle.hdfs_cluster.specs.Memory.{first_node, table_of};
-ghost use Rattle.hdfs_cluster.specs.Nodes.{held_in, undisturbed_in, SameNodes};
+ghost use Rattle.hdfs_namespace.specs.Memory.{table_of};
+ghost use Rattle.hdfs_replicas.specs.Uuids.{first_node};
+ghost use Rattle.hdfs_replicas.specs.Nodes.{held_in, undisturbed_in, SameNodes};
 
-use crate::datanodes::Datanodes;
-use crate::namespace::Namespace;
 use bytes::Bytes;
-use hdfs_model::{Attributes, Entry, FileEntry};
+use hdfs_model::{Attributes, FileEntry};
+use hdfs_namespace::Namespace;
+use hdfs_replicas::Datanodes;
 use hdfs_wire::{List, NoMemory};
 use std::alloc::Global;
 
@@ -79,8 +80,7 @@ pub(crate) fn store_file(
     bytes: Bytes,
 ) -> Result<(), NoMemory>
     requires place { IsPlace (get_by_text space.old.names) (string_bytes path) }
-    requires size { 0 < attributes.now.block_size }
-    requires short { length bytes < 2 ^ 63 }
+    requires numbers { (0 < attributes.now.block_size) × (length bytes < 2 ^ 63) }
     ensures files { OnOk result ((settings : MemSettings) (links : Slab MemLink) (state : State)
         → Agrees (Some (picture_at space.old nodes.old settings links)) state.files
         → Agrees (Some (picture_at space.new nodes.new settings links)) (with_file state (string_bytes path)
@@ -93,11 +93,12 @@ pub(crate) fn store_file(
         (held_in nodes.old) (held_in nodes.new) }
     ensures err { OnErr result (space.new.names.entries ≡ space.old.names.entries) }
 {
+    let sum = bytes.len() as u64;
     let blocks = store_bytes(alloc, space, nodes, attributes.block_size, bytes)?;
     let file = FileEntry {
         attributes: *attributes,
         blocks,
         is_open: false,
     };
-    space.add(path, Entry::File(file))
+    space.add_file(alloc, path, file, sum)
 }

@@ -5,10 +5,10 @@ ghost use Rattle.hdfs_faults.specs.Plans.{fails_at, SameLinks, SamePlans};
 ghost use Rattle.hdfs_model.specs.Sending.{offset_of, uuids};
 ghost use Rattle.hdfs_cluster.specs.Telling.{GoesOn, TellsAll};
 
-use crate::datanodes::Datanodes;
 use bytes::Bytes;
 use hdfs_faults::FaultPlan;
 use hdfs_model::{DatanodeInfo, Setup};
+use hdfs_replicas::Datanodes;
 use hdfs_wire::{Ack, List, NoMemory, PacketHeader, WritePacket};
 use std::alloc::Global;
 
@@ -88,7 +88,7 @@ fn copy_all(statuses: &[u32], kept: &mut Vec<u32>)
 
 impl MemWrite {
     ghost use Rattle.hdfs_cluster.specs.Links.{SendsOn, UnsentOn, AckedOn, UnackedOn, TakesSeqno};
-    ghost use Rattle.hdfs_cluster.specs.Nodes.{SameNodes};
+    ghost use Rattle.hdfs_replicas.specs.Nodes.{SameNodes};
 
     /// A link that was just opened.
     pub(crate) fn new(alloc: Global, setup: Setup, base: Vec<Bytes>) -> MemWrite

@@ -1,7 +1,7 @@
 //! A block is written through a pipeline, and read back.
-ghost use Rattle.std.specs.Prelude.{◌≡◌, ◌<◌, ◌≤◌, ◌^◌, ℕ, pos, length, Some, IfOk, OnOk, IsSome};
+ghost use Rattle.std.specs.Prelude.{◌≡◌, ◌<◌, ◌≤◌, ◌^◌, ℕ, length, Some, IfOk, OnOk};
 ghost use Rattle.hdfs_model.specs.declared.picture.OpenWrite.{OpenWrite};
-ghost use Rattle.hdfs_model.specs.Pipes.{IsSetup, FollowsOn, IsAwaited};
+ghost use Rattle.hdfs_model.specs.Pipes.{IsSetup, FollowsOn};
 ghost use Rattle.hdfs_model.specs.Sending.{end_of};
 ghost use Rattle.hdfs_cluster.specs.MemShown.{shown_of};
 

@@ -1,28 +1,12 @@
 //! A store is prepared and loaded, and its pipelines fail as the lines say.
+use crate::answers::located;
 use crate::block_writing::{packet, put, setup};
 use hdfs_cluster::{
-    Answer, Ask, Attributes, Cluster, FaultLine, Line, LinkFault, LinkKind, LocatedBlocks,
-    MemCluster, MemSettings, Store,
+    Attributes, Cluster, FaultLine, Line, LinkFault, LinkKind, MemCluster, MemSettings, Store,
 };
 use hdfs_wire::{Blob, Text};
 use std::alloc::Global;
 use std::test::Fail;
-
-/// The blocks of a file.
-fn located(alloc: Global, cluster: &mut MemCluster, path: &str) -> Result<LocatedBlocks, Fail> {
-    let ask = Ask::GetBlockLocations {
-        src: Text::from_str(alloc, path)?,
-        offset: 0,
-        length: 100,
-    };
-    if cluster.namenodes() == 0 {
-        return Err(Fail::from("there is a namenode"));
-    }
-    match cluster.ask(0, &ask) {
-        Ok(Answer::GetBlockLocations(Some(found))) => Ok(found),
-        _ => Err(Fail::from("the file is located")),
-    }
-}
 
 /// The lengths of the blocks of a file.
 fn lengths(alloc: Global, cluster: &mut MemCluster, path: &str) -> Result<Vec<u64>, Fail> {

@@ -7,10 +7,10 @@ use Rattle.hdfs_model.specs.declared.asks.Answer.TheVariants as answers
 use Rattle.hdfs_model.specs.Files.{no_file}
 use Rattle.hdfs_model.specs.Namenode.{IsShaped}
 use Rattle.hdfs_model.specs.Picture.{kinds_in}
-use Rattle.hdfs_cluster.specs.Answering.{Answers, LocatesFile, StandsForRefusal}
-use Rattle.hdfs_cluster.specs.Memory.{table_of}
+use Rattle.hdfs_namespace.specs.Answering.{Answers, LocatesFile, StandsForRefusal}
+use Rattle.hdfs_namespace.specs.Memory.{table_of}
 use Rattle.hdfs_cluster.specs.MemShown.{picture_at}
-use Rattle.hdfs_cluster.proofs.Answering.{answers_found, answers_excused, same_picture, shaped_found}
+use Rattle.hdfs_namespace.proofs.Answering.{answers_found, answers_excused, same_picture, shaped_found}
 use Rattle.hdfs_cluster.proofs.Written.{answers_added, answers_not_added, answers_created, answers_not_created, answers_completed, answers_not_completed}
 use Rattle.hdfs_cluster.proofs.Opening.{answers_appended, answers_not_appended}
 use Rattle.hdfs_cluster.proofs.responding.respond.Goals as goal

@@ -2,13 +2,13 @@
 use Rattle.std.proofs.Common.{◌≡◌, ◌<◌, ℕ, true, min, List, [], ◌∷◌, ◌++◌, length, take, drop, is_some, refl, sym, ◌∙◌, ap, subst}
 use Rattle.std.proofs.lemmas.List.{take_min, drop_min}
 use Rattle.std.specs.BTreeMap.{get_by_text}
-use Rattle.hdfs_cluster.specs.Adding.{AreNew}
+use Rattle.hdfs_namespace.specs.Adding.{AreNew}
 use Rattle.hdfs_cluster.specs.Cutting.{IsCut}
-use Rattle.hdfs_cluster.specs.Memory.{table_of, is_sized}
-use Rattle.hdfs_cluster.specs.Nodes.{held_in}
-use Rattle.hdfs_cluster.proofs.Apart.{no_kth, no_new_block}
+use Rattle.hdfs_namespace.specs.Memory.{table_of, is_sized}
+use Rattle.hdfs_replicas.specs.Nodes.{held_in}
+use Rattle.hdfs_namespace.proofs.Apart.{no_kth, no_new_block}
 use Rattle.hdfs_cluster.proofs.Cutting.{AreListed, cuts_all, cuts_more, keeps_refl, keeps_trans, listed_more, new_more, none_left, piece_added, some_left}
-use Rattle.hdfs_cluster.proofs.Pipelines.{same_nodes_refl, same_nodes_trans}
+use Rattle.hdfs_replicas.proofs.Pipelines.{same_nodes_refl, same_nodes_trans}
 use Rattle.hdfs_cluster.proofs.storing.store_bytes.Goals as goal
 
 pub loop-alloc-init : goal.loop-alloc-init

@@ -1,8 +1,8 @@
 use Rattle.std.proofs.Common.{◌≡◌, ℕ, List, length}
 use Rattle.std.specs.BTreeMap.{get_by_text}
-use Rattle.hdfs_cluster.specs.Adding.{AreNew, KeepsBlocks}
-use Rattle.hdfs_cluster.specs.Memory.{table_of}
-use Rattle.hdfs_cluster.specs.Nodes.{held_in, undisturbed_in, SameNodes}
+use Rattle.hdfs_namespace.specs.Adding.{AreNew, KeepsBlocks}
+use Rattle.hdfs_namespace.specs.Memory.{table_of}
+use Rattle.hdfs_replicas.specs.Nodes.{held_in, undisturbed_in, SameNodes}
 use Rattle.hdfs_cluster.proofs.Cutting.{AreListed, CutsOn}
 use Rattle.hdfs_cluster.proofs.storing.store_bytes.Given as goal
 

@@ -7,18 +7,23 @@ use Rattle.std.specs.String.{string_bytes}
 use Rattle.hdfs_model.specs.declared.picture.Entry.TheVariants as entries
 use Rattle.hdfs_model.specs.declared.picture.FileEntry.{FileEntry}
 use Rattle.hdfs_model.specs.Files.{Content, File}
-use Rattle.hdfs_cluster.specs.Adding.{KeepsBlocks, Names}
+use Rattle.hdfs_namespace.specs.Adding.{KeepsBlocks, Names}
 use Rattle.hdfs_cluster.specs.Cutting.{IsCut}
-use Rattle.hdfs_cluster.specs.Memory.{table_of}
+use Rattle.hdfs_namespace.specs.Memory.{table_of}
 use Rattle.hdfs_cluster.specs.MemShown.{picture_at}
-use Rattle.hdfs_cluster.specs.Nodes.{held_in}
+use Rattle.hdfs_replicas.specs.Nodes.{held_in}
 use Rattle.hdfs_cluster.proofs.Agreeing.{agrees_with_new, stores_in}
-use Rattle.hdfs_cluster.proofs.Cutting.{sized_cut, stores_cut}
+use Rattle.hdfs_cluster.proofs.Cutting.{sized_cut, stores_cut, total_cut}
 use Rattle.hdfs_cluster.proofs.storing.store_file.Goals as goal
 
-pub add-requires-clause-sized : goal.add-requires-clause-sized
-add-requires-clause-sized c =
-    sized_cut (table_of c.store_bytes.new.space.table.entries) (held_in c.store_bytes.new.nodes) c.args.attributes.now.block_size c.in_ok-blocks.blocks c.args.bytes c.in_ok-blocks.ensures.cut c.requires.short
+pub add_file-requires-clause-sized : goal.add_file-requires-clause-sized
+add_file-requires-clause-sized c =
+    sized_cut (table_of c.store_bytes.new.space.table.entries) (held_in c.store_bytes.new.nodes) c.args.attributes.now.block_size c.in_ok-blocks.blocks c.args.bytes c.in_ok-blocks.ensures.cut c.requires.numbers.1
+
+pub add_file-requires-clause-sums : goal.add_file-requires-clause-sums
+add_file-requires-clause-sums c =
+    total_cut (table_of c.store_bytes.new.space.table.entries) (held_in c.store_bytes.new.nodes) c.args.attributes.now.block_size c.in_ok-blocks.blocks c.args.bytes c.in_ok-blocks.ensures.cut
+    ∙ ap Some (sym c.len-sum.ensures.value)
 
 pub returns-clause-files : goal.returns-clause-files
 returns-clause-files c =
@@ -30,24 +35,24 @@ returns-clause-files c =
     let file : FileEntry = record { attributes = attributes; blocks = blocks; is_open = false } in
     let content : Content = record { bytes = bytes; attributes = attributes } in
     let held = held_in c.store_bytes.new.nodes in
-    let cut = subst (λ table. IsCut (table_of table.entries) held attributes.block_size blocks bytes) (sym c.add.ensures.table) c.in_ok-blocks.ensures.cut in
-    let stores = stores_cut (table_of c.add.new.self.table.entries) held attributes.block_size blocks bytes cut in
-    let kept = subst (λ table. KeepsBlocks (table_of space.table.entries) (table_of table.entries) (held_in c.args.nodes.now) held) (sym c.add.ensures.table) c.store_bytes.ensures.kept in
-    on_ok_weaker c.add.result
+    let cut = subst (λ table. IsCut (table_of table.entries) held attributes.block_size blocks bytes) (sym c.add_file.ensures.table) c.in_ok-blocks.ensures.cut in
+    let stores = stores_cut (table_of c.add_file.new.self.table.entries) held attributes.block_size blocks bytes cut in
+    let kept = subst (λ table. KeepsBlocks (table_of space.table.entries) (table_of table.entries) (held_in c.args.nodes.now) held) (sym c.add_file.ensures.table) c.store_bytes.ensures.kept in
+    on_ok_weaker c.add_file.result
     (λ named settings links state was.
-    let p' = picture_at c.add.new.self c.store_bytes.new.nodes settings links in
+    let p' = picture_at c.add_file.new.self c.store_bytes.new.nodes settings links in
     agrees_with_new (picture_at space c.args.nodes.now settings links) p' state path (File content) (entries.File file) was
     kept
-    (subst (λ names. Names (get_by_text names) (get_by_text c.add.new.self.names) path (entries.File file)) c.store_bytes.ensures.names.0 named)
+    (subst (λ names. Names (get_by_text names) (get_by_text c.add_file.new.self.names) path (entries.File file)) c.store_bytes.ensures.names.0 named)
     (refl, refl, stores_in p' blocks bytes stores))
-    c.add.ensures.ok
+    c.add_file.ensures.ok
 
 pub returns-clause-cut : goal.returns-clause-cut
 returns-clause-cut c =
     let attributes = c.args.attributes.now in
     let path = string_bytes c.args.path in
     let file : FileEntry = record { attributes = attributes; blocks = c.in_ok-blocks.blocks; is_open = false } in
-    let cut = subst (λ table. IsCut (table_of table.entries) (held_in c.store_bytes.new.nodes) attributes.block_size c.in_ok-blocks.blocks c.args.bytes) (sym c.add.ensures.table) c.in_ok-blocks.ensures.cut in
-    on_ok_weaker c.add.result
+    let cut = subst (λ table. IsCut (table_of table.entries) (held_in c.store_bytes.new.nodes) attributes.block_size c.in_ok-blocks.blocks c.args.bytes) (sym c.add_file.ensures.table) c.in_ok-blocks.ensures.cut in
+    on_ok_weaker c.add_file.result
     (λ named. (file, named path ∙ ap (λ (b : Bool). cond b (Some (entries.File file)) (get_by_text c.store_bytes.new.space.names path)) ((bytes_eq-Decides path path).1 refl), cut))
-    c.add.ensures.ok
+    c.add_file.ensures.ok

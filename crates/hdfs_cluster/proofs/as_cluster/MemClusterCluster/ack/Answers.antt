@@ -10,7 +10,7 @@ use Rattle.hdfs_cluster.proofs.Acknowledging.{acknowledged_on, awaited, awaited_
 use Rattle.hdfs_cluster.proofs.Asking.{acks_follow_on, asks_ack_on}
 use Rattle.hdfs_cluster.proofs.Counting.{counts_nothing, falls_same}
 use Rattle.hdfs_cluster.proofs.NothingLoaded.{on_err}
-use Rattle.hdfs_cluster.proofs.Pipelines.{same_nodes_refl, same_held_refl}
+use Rattle.hdfs_replicas.proofs.Pipelines.{same_nodes_refl, same_held_refl}
 use Rattle.hdfs_cluster.proofs.Places.{updates_with}
 use Rattle.hdfs_cluster.proofs.Stills.{links_unacked, not_acknowledged}
 use Rattle.hdfs_cluster.proofs.as_cluster.MemClusterCluster.ack.Goals as goal

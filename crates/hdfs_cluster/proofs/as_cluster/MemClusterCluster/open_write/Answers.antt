@@ -11,7 +11,7 @@ use Rattle.hdfs_cluster.specs.declared.mem_link.MemLink.{MemLink}
 use Rattle.hdfs_cluster.specs.declared.mem_link.MemLink.TheVariants as links
 use Rattle.hdfs_cluster.specs.Lines.{line_of}
 use Rattle.hdfs_cluster.specs.Links.{write_told}
-use Rattle.hdfs_cluster.specs.Nodes.{held_in, is_named}
+use Rattle.hdfs_replicas.specs.Nodes.{held_in, is_named}
 use Rattle.hdfs_cluster.proofs.Asking.{asks_forgotten, asks_no_set_up, asks_set_up, counted_failure}
 use Rattle.hdfs_cluster.proofs.Counting.{falls_end, falls_refl, falls_same_plan, falls_set_up, falls_trans, rose_set_up}
 use Rattle.hdfs_cluster.proofs.Stills.{shown_at}

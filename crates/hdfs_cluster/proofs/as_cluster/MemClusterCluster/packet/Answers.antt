@@ -14,7 +14,7 @@ use Rattle.hdfs_cluster.specs.Lines.{line_of}
 use Rattle.hdfs_cluster.specs.Links.{OnRead, OnReads, CanMoveOn, MovedOn}
 use Rattle.hdfs_cluster.proofs.Counting.{calls_node, calls_nothing}
 use Rattle.hdfs_cluster.proofs.Giving.{broke_off, gave_on, asks_on}
-use Rattle.hdfs_cluster.proofs.Pipelines.{same_nodes_refl}
+use Rattle.hdfs_replicas.proofs.Pipelines.{same_nodes_refl}
 use Rattle.hdfs_cluster.proofs.Places.{updates_with}
 use Rattle.hdfs_cluster.proofs.as_cluster.MemClusterCluster.packet.Goals as goal
 

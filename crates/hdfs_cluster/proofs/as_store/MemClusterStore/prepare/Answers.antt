@@ -7,14 +7,14 @@ use Rattle.hdfs_faults.specs.declared.fault_plan.FaultPlan.{FaultPlan}
 use Rattle.hdfs_faults.specs.Following.{Follows}
 use Rattle.hdfs_faults.specs.Plans.{AddsNodes}
 use Rattle.hdfs_faults.proofs.Following.{added_follows}
-use Rattle.hdfs_cluster.specs.declared.datanodes.Datanodes.{Datanodes}
+use Rattle.hdfs_replicas.specs.declared.datanodes.Datanodes.{Datanodes}
 use Rattle.hdfs_cluster.specs.declared.mem_cluster.MemCluster.{MemCluster}
 use Rattle.hdfs_cluster.specs.Laws.{nil_from_test}
 use Rattle.hdfs_cluster.specs.Lines.{line_of}
-use Rattle.hdfs_cluster.specs.Memory.{is_nil}
+use Rattle.hdfs_namespace.specs.Memory.{is_nil}
 use Rattle.hdfs_cluster.specs.MemShown.{loaded_at, is_fresh_of}
-use Rattle.hdfs_cluster.specs.Nodes.{node_at, undisturbed_in, Joins}
-use Rattle.hdfs_cluster.specs.Replicas.{held_by, undisturbed_by}
+use Rattle.hdfs_replicas.specs.Nodes.{node_at, undisturbed_in, Joins}
+use Rattle.hdfs_replicas.specs.Replicas.{held_by, undisturbed_by}
 use Rattle.hdfs_cluster.proofs.NothingLoaded.{on_err}
 use Rattle.hdfs_cluster.proofs.Places.{place_same}
 use Rattle.hdfs_cluster.proofs.as_store.MemClusterStore.prepare.Goals as goal

@@ -9,7 +9,7 @@ use Rattle.hdfs_cluster.specs.Lines.{line_of}
 use Rattle.hdfs_cluster.specs.Links.{read_told, read_place, write_told, write_place}
 use Rattle.hdfs_cluster.specs.MemShown.{picture_at, loaded_at}
 use Rattle.hdfs_cluster.specs.Laws.{agrees_bare}
-use Rattle.hdfs_cluster.proofs.Naming.{empty_is_state}
+use Rattle.hdfs_namespace.proofs.Naming.{empty_is_state}
 use Rattle.hdfs_cluster.proofs.mem_cluster.MemCluster.new.Goals as goal
 
 pub returns-clause-starts : goal.returns-clause-starts

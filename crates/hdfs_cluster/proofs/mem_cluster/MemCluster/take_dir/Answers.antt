@@ -6,10 +6,10 @@ use Rattle.hdfs_model.specs.declared.picture.Entry.TheVariants as entries
 use Rattle.hdfs_model.specs.Files.{Dir}
 use Rattle.hdfs_model.specs.Loading.{with_new}
 use Rattle.hdfs_model.specs.Stores.{Agrees}
-use Rattle.hdfs_cluster.specs.Adding.{KeepsBlocks}
+use Rattle.hdfs_namespace.specs.Adding.{KeepsBlocks}
 use Rattle.hdfs_cluster.specs.MemShown.{picture_at}
-use Rattle.hdfs_cluster.specs.Memory.{table_of}
-use Rattle.hdfs_cluster.specs.Nodes.{held_in}
+use Rattle.hdfs_namespace.specs.Memory.{table_of}
+use Rattle.hdfs_replicas.specs.Nodes.{held_in}
 use Rattle.hdfs_cluster.specs.declared.loaded.Kept.{Kept}
 use Rattle.hdfs_cluster.specs.declared.loaded.Kept.TheVariants as keeps
 use Rattle.hdfs_cluster.specs.Lines.{line_of}
@@ -19,23 +19,23 @@ use Rattle.hdfs_cluster.proofs.Cutting.{keeps_refl}
 use Rattle.hdfs_cluster.proofs.NothingLoaded.{follows_push, on_err, loads_at, nothing_loaded}
 use Rattle.hdfs_cluster.proofs.mem_cluster.MemCluster.take_dir.Goals as goal
 
-pub returns-in_err-add-clause-err : goal.returns-in_err-add-clause-err
-returns-in_err-add-clause-err c =
+pub returns-in_err-add_dir-clause-err : goal.returns-in_err-add_dir-clause-err
+returns-in_err-add_dir-clause-err c =
     let m = c.args.self.now in
     let table = table_of m.space.table.entries in
-    let kept = subst (λ t. KeepsBlocks table (table_of t.entries) (held_in m.nodes) (held_in m.nodes)) (sym c.add.ensures.table) (keeps_refl table (held_in m.nodes)) in
-    on_err c.from_residual-in_err-add.result
-    (nothing_loaded m.space c.add.new.self m.config.settings m.last m.loaded.items c.reserve.new.self.items m.faults m.nodes m.nodes m.links c.reserve.ensures.items c.in_err-add.ensures.err.0 kept (λ d b link. refl))
+    let kept = subst (λ t. KeepsBlocks table (table_of t.entries) (held_in m.nodes) (held_in m.nodes)) (sym c.add_dir.ensures.table) (keeps_refl table (held_in m.nodes)) in
+    on_err c.from_residual-in_err-add_dir.result
+    (nothing_loaded m.space c.add_dir.new.self m.config.settings m.last m.loaded.items c.reserve.new.self.items m.faults m.nodes m.nodes m.links c.reserve.ensures.items c.in_err-add_dir.ensures.err.0 kept (λ d b link. refl))
 
 pub returns-clause-loads : goal.returns-clause-loads
 returns-clause-loads c =
     let m = c.args.self.now in
-    let space' = c.add.new.self in
+    let space' = c.add_dir.new.self in
     let kept = keeps.Dir c.args.path in
     let items : c.push_reserved.new.self.items ≡ m.loaded.items ++ kept ∷ [] = c.push_reserved.ensures.items ∙ ap (λ (xs : List Kept). xs ++ kept ∷ []) c.reserve.ensures.items in
     let name : string_bytes c.in_ok-name.name ≡ c.args.path = search rules in
     let table = table_of m.space.table.entries in
-    let blocks = subst (λ t. KeepsBlocks table (table_of t.entries) (held_in m.nodes) (held_in m.nodes)) (sym c.add.ensures.table) (keeps_refl table (held_in m.nodes)) in
+    let blocks = subst (λ t. KeepsBlocks table (table_of t.entries) (held_in m.nodes) (held_in m.nodes)) (sym c.add_dir.ensures.table) (keeps_refl table (held_in m.nodes)) in
     let p' = picture_at space' m.nodes m.config.settings m.links in
     record {
       rest = record { counts = record { calls = λ i. refl; links = refl; nodes = λ d. refl }; last = refl; namenodes = refl; reads = λ link. refl; writes = λ link. refl };
@@ -44,7 +44,7 @@ returns-clause-loads c =
       picture = loads_at m.space space' m.nodes m.nodes m.config.settings m.links blocks (λ d b link. refl);
       files = λ state was.
           subst (λ (path : List ℕ). Agrees (Some p') (with_new state path Dir).files) name
-          (agrees_with_new (picture_at m.space m.nodes m.config.settings m.links) p' state (string_bytes c.in_ok-name.name) Dir entries.Dir was blocks c.in_ok-add.ensures.ok tt);
+          (agrees_with_new (picture_at m.space m.nodes m.config.settings m.links) p' state (string_bytes c.in_ok-name.name) Dir entries.Dir was blocks c.in_ok-add_dir.ensures.ok tt);
     }
 
 pub invariant_of-self-2 : goal.invariant_of-self-2

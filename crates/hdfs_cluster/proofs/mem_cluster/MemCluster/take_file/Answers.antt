@@ -9,9 +9,9 @@ use Rattle.hdfs_model.specs.declared.store.Line.TheVariants as lines
 use Rattle.hdfs_model.specs.Loading.{with_file}
 use Rattle.hdfs_model.specs.Stores.{Agrees}
 use Rattle.hdfs_cluster.specs.Cutting.{IsCut}
-use Rattle.hdfs_cluster.specs.Memory.{table_of}
+use Rattle.hdfs_namespace.specs.Memory.{table_of}
 use Rattle.hdfs_cluster.specs.MemShown.{picture_at}
-use Rattle.hdfs_cluster.specs.Nodes.{held_in}
+use Rattle.hdfs_replicas.specs.Nodes.{held_in}
 use Rattle.hdfs_cluster.specs.declared.loaded.Kept.{Kept}
 use Rattle.hdfs_cluster.specs.declared.loaded.Kept.TheVariants as keeps
 use Rattle.hdfs_cluster.specs.Lines.{line_of}

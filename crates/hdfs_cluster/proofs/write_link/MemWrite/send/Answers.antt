@@ -6,8 +6,8 @@ use Rattle.hdfs_model.specs.declared.messages.DatanodeInfo.{DatanodeInfo}
 use Rattle.hdfs_model.specs.Sending.{offset_of, uuids}
 use Rattle.hdfs_faults.specs.Plans.{Counts}
 use Rattle.hdfs_faults.specs.Series.{sends_to}
-use Rattle.hdfs_cluster.specs.Nodes.{held_in, whole_in, undisturbed_in, is_named, is_on}
-use Rattle.hdfs_cluster.proofs.Pipelines.{puts_packet}
+use Rattle.hdfs_replicas.specs.Nodes.{held_in, whole_in, undisturbed_in, is_named, is_on}
+use Rattle.hdfs_cluster.proofs.Puts.{puts_packet}
 use Rattle.hdfs_cluster.proofs.write_link.MemWrite.send.Goals as goal
 
 pub returns-then-send-clause-ok : goal.returns-then-send-clause-ok

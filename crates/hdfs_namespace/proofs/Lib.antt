@@ -1,0 +1,12 @@
+pub mod Answering
+pub mod Apart
+pub mod Directories
+pub mod FileChanges
+pub mod Fronts
+pub mod Locating
+pub mod Naming
+pub mod NewFiles
+pub mod Numbers
+pub mod Sizing
+pub mod Sums
+pub mod Tables

@@ -1,0 +1,6 @@
+pub mod Adding
+pub mod Answering
+pub mod Memory
+pub mod Soundness
+pub mod Spaces
+pub mod Totals

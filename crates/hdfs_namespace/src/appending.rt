@@ -1,0 +1,164 @@
+//! How a file is opened to be gone on with in a cluster in memory.
+ghost use Rattle.std.specs.Prelude.{◌≡◌, ◌<◌, ℕ, true, false, List, length, All, Some, None, IfOk, IfErr, IfSome, OnOk, OnErr, MatchResult};
+ghost use Rattle.std.specs.BTreeMap.{get_by_text};
+ghost use Rattle.hdfs_model.specs.declared.picture.Entry.TheVariants as entries;
+ghost use Rattle.hdfs_model.specs.declared.picture.BlockEntry.{BlockEntry};
+ghost use Rattle.hdfs_model.specs.declared.picture.FileEntry.{FileEntry};
+ghost use Rattle.hdfs_model.specs.Effects.{HasStatus, with_block, with_entry};
+ghost use Rattle.hdfs_model.specs.Namenode.{IsToWrite, StandsForAny};
+ghost use Rattle.hdfs_model.specs.Picture.{kinds_in};
+ghost use Rattle.hdfs_model.specs.Refusals.{append_refusal};
+ghost use Rattle.hdfs_namespace.specs.Adding.{HasOne, OpensAgain, Reopened, with_open, with_stamp};
+ghost use Rattle.hdfs_namespace.specs.Spaces.{space_of};
+ghost use Rattle.hdfs_namespace.specs.Answering.{StandsForWritten};
+ghost use Rattle.hdfs_namespace.specs.Memory.{table_of};
+ghost use Rattle.hdfs_replicas.specs.Nodes.{held_in, SameHeld, SameNodes};
+
+use crate::blocks::{last_id, set_open};
+use crate::creating::{BEING_CREATED, status};
+use crate::namenode::{NOT_FOUND, PARENT_NOT_DIRECTORY, block_to_write, exception};
+use crate::namespace::Namespace;
+use hdfs_model::{Appended, AskFault, BlockEntry, Entry, FileEntry, LocatedBlock};
+use hdfs_replicas::Datanodes;
+use hdfs_wire::NoMemory;
+use std::alloc::Global;
+use std::collections::BTreeMap;
+
+/// Whether one datanode is listed for a block, and holds it whole.
+fn is_whole(
+    alloc: Global,
+    nodes: &mut Datanodes,
+    id: u64,
+    entry: &BlockEntry,
+) -> Result<bool, NoMemory>
+    ensures whole { IfOk result (λ whole. whole ≡ true
+        → All (λ node. length (held_in nodes.old node id) ≡ entry.now.length) entry.now.nodes) }
+    ensures same { SameHeld nodes.old nodes.new }
+    ensures rest { SameNodes nodes.old nodes.new }
+{
+    let uuids = entry.nodes.as_slice();
+    if uuids.len() != 1 {
+        return Ok(false);
+    }
+    let bytes = nodes.read(alloc, uuids[0].as_str(), id)?;
+    Ok(bytes.as_slice().len() as u64 == entry.length)
+}
+
+/// Gives a block a generation stamp.
+fn set_stamp(table: &mut BTreeMap<u64, BlockEntry>, id: u64, stamp: u64)
+    ensures { (entry : BlockEntry) → table_of table.old.entries id ≡ Some entry
+        → (b : ℕ) → table_of table.new.entries b ≡ with_block (table_of table.old.entries) id (with_stamp entry stamp) b }
+{
+    if let Some(entry) = table.get_mut(&id) {
+        entry.stamp = stamp;
+    }
+}
+
+impl Namespace {
+    /// The closed file at a path, or the class of the exception for why there is none.
+    fn closed_file(&self, src: &str) -> Result<&FileEntry, &'static str>
+        ensures { MatchResult result (λ file. (get_by_text self.now.names src.now ≡ Some (entries.File file.now))
+            × (append_refusal (kinds_in (get_by_text self.now.names)) src.now ≡ None))
+            (λ class. StandsForAny (kinds_in (get_by_text self.now.names) src.now)
+            (append_refusal (kinds_in (get_by_text self.now.names)) src.now) class.now) }
+    {
+        match self.names.get(src) {
+            None => {
+                if self.is_below_file(src) {
+                    Err(PARENT_NOT_DIRECTORY)
+                } else {
+                    Err(NOT_FOUND)
+                }
+            }
+            Some(Entry::Dir) => Err(NOT_FOUND),
+            Some(Entry::File(file)) => {
+                if file.is_open {
+                    Err(BEING_CREATED)
+                } else {
+                    Ok(file)
+                }
+            }
+        }
+    }
+
+    /// Opens the file at a path.
+    fn open(&mut self, src: &str)
+        requires { (file : FileEntry) × (get_by_text self.old.names src.now ≡ Some (entries.File file)) }
+        ensures names { (file : FileEntry) → get_by_text self.old.names src.now ≡ Some (entries.File file)
+            → (q : List ℕ) → get_by_text self.new.names q ≡ with_entry (get_by_text self.old.names) src.now (with_open file true) q }
+        ensures table { self.new.table ≡ self.old.table }
+    {
+        set_open(&mut self.names, src, true);
+    }
+
+    /// Opens the file at a path and gives its block a greater stamp, where the datanode that is listed for it holds it whole.
+    fn reopen(
+        &mut self,
+        alloc: Global,
+        nodes: &mut Datanodes,
+        src: &str,
+        id: u64,
+    ) -> Result<LocatedBlock, NoMemory>
+        requires { HasOne (get_by_text self.old.names) src.now id }
+        ensures reopened { IfOk result (Reopened (space_of self.old nodes.old) src.now id (space_of self.new nodes.new)) }
+        ensures shape { IfOk result IsToWrite }
+        ensures err { OnErr result ((self.new.names ≡ self.old.names) × (self.new.table ≡ self.old.table)) }
+        ensures same { SameHeld nodes.old nodes.new }
+        ensures rest { SameNodes nodes.old nodes.new }
+    {
+        let Some(entry) = self.table.get(&id) else {
+            return Err(NoMemory);
+        };
+        if !is_whole(alloc, nodes, id, entry)? {
+            return Err(NoMemory);
+        }
+        let Some(above) = entry.stamp.checked_add(1) else {
+            return Err(NoMemory);
+        };
+        let stamp = self.next_stamp.max(above);
+        let Some(next_stamp) = stamp.checked_add(1) else {
+            return Err(NoMemory);
+        };
+        let mut block = block_to_write(alloc, id, entry)?;
+        block.b.generation_stamp = stamp;
+        set_stamp(&mut self.table, id, stamp);
+        set_open(&mut self.names, src, true);
+        self.next_stamp = next_stamp;
+        Ok(block)
+    }
+
+    /// Opens a closed file, and answers its last block.
+    pub fn append(
+        &mut self,
+        alloc: Global,
+        nodes: &mut Datanodes,
+        src: &str,
+    ) -> Result<Appended, AskFault>
+        ensures allowed { OnOk result (append_refusal (kinds_in (get_by_text self.old.names)) src.now ≡ None) }
+        ensures opened { IfOk result (λ appended. (file : FileEntry) × (get_by_text self.old.names src.now ≡ Some (entries.File file))
+            × HasStatus file appended.stat
+            × OpensAgain (space_of self.old nodes.old) src.now file (space_of self.new nodes.new) appended.block) }
+        ensures shape { IfOk result (λ appended. IfSome appended.block IsToWrite) }
+        ensures excused { IfErr result (StandsForWritten (kinds_in (get_by_text self.old.names) src.now)
+            (append_refusal (kinds_in (get_by_text self.old.names)) src.now)) }
+        ensures err { OnErr result ((self.new.names ≡ self.old.names) × (self.new.table ≡ self.old.table)) }
+        ensures same { SameHeld nodes.old nodes.new }
+        ensures rest { SameNodes nodes.old nodes.new }
+    {
+        let file = match self.closed_file(src) {
+            Ok(file) => file,
+            Err(class) => return Err(exception(alloc, class)?),
+        };
+        let stat = Some(status(alloc, file, None)?);
+        match last_id(file.blocks.as_slice()) {
+            None => {
+                self.open(src);
+                Ok(Appended { block: None, stat })
+            }
+            Some(id) => {
+                let block = Some(self.reopen(alloc, nodes, src, id)?);
+                Ok(Appended { block, stat })
+            }
+        }
+    }
+}

@@ -1,0 +1,14 @@
+//! The names and blocks of a cluster in memory, and what a namenode answers from them.
+#![tactic(auto)]
+
+mod adding;
+mod appending;
+mod blocks;
+mod closing;
+mod creating;
+mod namenode;
+mod namespace;
+mod totals;
+
+pub use namenode::{STANDBY, exception, last_answer};
+pub use namespace::Namespace;

@@ -1,0 +1,168 @@
+//! The datanodes of a cluster in memory.
+ghost use Rattle.std.specs.Prelude.{◌≡◌, ◌≢◌, ◌⊎◌, ◌<◌, ◌==◌, ◌&&◌, ℕ, [], true, false, List, is_some, string_bytes, OnOk, IfOk, if◌then◌else◌};
+ghost use Rattle.std.specs.BTreeMap.{get_by_text};
+ghost use Rattle.hdfs_model.specs.Sending.{put};
+ghost use Rattle.hdfs_faults.specs.Series.{uuid_of};
+ghost use Rattle.hdfs_replicas.specs.Uuids.{first_node};
+
+use crate::datanode::Datanode;
+use crate::replica::Piece;
+use bytes::Bytes;
+use hdfs_model::DatanodeInfo;
+use hdfs_wire::NoMemory;
+use std::alloc::Global;
+use std::collections::BTreeMap;
+
+/// The datanodes by their uuids, `dn0`, `dn1` and so on. The first holds the blocks.
+#[derive(Drop)]
+pub struct Datanodes {
+    pub(crate) by_uuid: BTreeMap<String, Datanode>,
+    pub count: u32,
+    ghost first: { is_some (get_by_text by_uuid first_node) ≡ true },
+    ghost numbered: { (k : ℕ) → k < count → is_some (get_by_text by_uuid (uuid_of k)) ≡ true },
+}
+
+const FIRST_NODE: &str = "dn0";
+
+/// The uuid of a datanode by its number.
+pub fn uuid(alloc: Global, number: u32) -> Result<String, NoMemory>
+    ensures { IfOk result (λ text. string_bytes text ≡ uuid_of number) }
+{
+    Ok(format!(in alloc; "dn{number}")?)
+}
+
+impl Datanodes {
+    ghost use Rattle.hdfs_replicas.specs.Nodes.{node_at, held_in, whole_in, undisturbed_in, is_here, SameHeld, SameNodes, Joins};
+
+    /// So many datanodes that hold nothing.
+    pub fn new(alloc: Global, count: u32) -> Result<Datanodes, NoMemory>
+        requires { 0 < count }
+        ensures count { IfOk result (λ nodes. nodes.count ≡ count) }
+        ensures held { IfOk result (λ nodes. (d : List ℕ) (block : ℕ) → held_in nodes d block ≡ []) }
+    {
+        let mut by_uuid = BTreeMap::new(alloc);
+        for number in 0..count {
+            by_uuid.insert(uuid(alloc, number)?, Datanode::new(alloc))?;
+        }
+        Ok(Datanodes { by_uuid, count })
+    }
+
+    /// Sees to it that there is a datanode of this number, if only one that holds nothing.
+    fn join(&mut self, alloc: Global, number: u32) -> Result<(), NoMemory>
+        ensures there { OnOk result (is_some (node_at self.new (uuid_of number)) ≡ true) }
+        ensures joins { (d : List ℕ) → Joins (node_at self.old d) (node_at self.new d) }
+        ensures count { self.new.count ≡ self.old.count }
+    {
+        let uuid = uuid(alloc, number)?;
+        if !self.by_uuid.contains_key(uuid.as_str()) {
+            self.by_uuid.insert(uuid, Datanode::new(alloc))?;
+        }
+        Ok(())
+    }
+
+    /// Sees to it that there are so many datanodes. Those that are there stay.
+    pub fn grow(&mut self, alloc: Global, count: u32) -> Result<(), NoMemory>
+        ensures count { OnOk result (self.new.count ≡ count) }
+        ensures joins { (d : List ℕ) → Joins (node_at self.old d) (node_at self.new d) }
+    {
+        for number in 0..count {
+            self.join(alloc, number)?;
+        }
+        self.count = count;
+        Ok(())
+    }
+
+    /// Gives the first datanode the bytes of a block.
+    pub fn hold(&mut self, alloc: Global, block: u64, bytes: Bytes) -> Result<(), NoMemory>
+        ensures held { OnOk result (held_in self.new first_node block ≡ bytes) }
+        ensures others { (d : List ℕ) (other : ℕ) → other ≢ block → held_in self.new d other ≡ held_in self.old d other }
+        ensures links { (d : List ℕ) (other link : ℕ) → undisturbed_in self.new d other link ≡ undisturbed_in self.old d other link }
+        ensures rest { SameNodes self.old self.new }
+    {
+        let Some(node) = self.by_uuid.get_mut(FIRST_NODE) else {
+            unreachable!();
+        };
+        node.hold(alloc, block, bytes)
+    }
+
+    /// Whether the first datanode may hold bytes of a block.
+    pub fn may_hold(&self, block: u64) -> bool
+        ensures { result ≡ false → held_in self.now first_node block ≡ [] }
+    {
+        match self.by_uuid.get(FIRST_NODE) {
+            Some(node) => node.blocks.contains_key(&block),
+            None => false,
+        }
+    }
+
+    /// Takes memory for a piece of a block, of which nothing is seen before it is taken. There is none on a datanode that
+    /// isn't there.
+    pub(crate) fn offer(
+        &mut self,
+        alloc: Global,
+        uuid: &str,
+        block: u64,
+        piece: Piece,
+    ) -> Result<(), NoMemory>
+        ensures offered { OnOk result (whole_in self.new uuid.now block ≡ put (held_in self.old uuid.now block) piece.at piece.bytes) }
+        ensures others { (d : List ℕ) → d ≢ uuid.now → node_at self.new d ≡ node_at self.old d }
+        ensures same { SameHeld self.old self.new }
+        ensures rest { SameNodes self.old self.new }
+    {
+        match self.by_uuid.get_mut(uuid) {
+            Some(node) => node.offer(alloc, block, piece),
+            None => Err(NoMemory),
+        }
+    }
+
+    /// Takes the piece of a block that a link has offered. It disturbs all other links there.
+    pub(crate) fn take(&mut self, uuid: &str, block: u64, link: u64)
+        ensures bytes { (d : List ℕ) (b : ℕ) → held_in self.new d b
+            ≡ (if is_here uuid.now block d b then whole_in self.old d b else held_in self.old d b) }
+        ensures whole { (d : List ℕ) (b : ℕ) → whole_in self.new d b ≡ whole_in self.old d b }
+        ensures links { (d : List ℕ) (b other : ℕ) → undisturbed_in self.new d b other
+            ≡ (if is_here uuid.now block d b then undisturbed_in self.old d b other && link == other
+            else undisturbed_in self.old d b other) }
+        ensures rest { SameNodes self.old self.new }
+    {
+        match self.by_uuid.get_mut(uuid) {
+            Some(node) => node.take(block, link),
+            None => {}
+        }
+    }
+
+    /// Notes a link that is opened on a block, and answers what is held of that. There is no memory for one on a datanode that
+    /// isn't there.
+    pub(crate) fn enter(
+        &mut self,
+        alloc: Global,
+        uuid: &str,
+        block: u64,
+        link: u64,
+    ) -> Result<Bytes, NoMemory>
+        ensures value { IfOk result (λ bytes. bytes ≡ held_in self.old uuid.now block) }
+        ensures own { OnOk result (undisturbed_in self.new uuid.now block link ≡ true) }
+        ensures others { (d : List ℕ) (b other : ℕ) → (link ≡ other → ⊥)
+            → undisturbed_in self.new d b other ≡ undisturbed_in self.old d b other }
+        ensures kept { (d : List ℕ) (b : ℕ) → undisturbed_in self.old d b link ≡ true → undisturbed_in self.new d b link ≡ true }
+        ensures bytes { (d : List ℕ) (b : ℕ) → held_in self.new d b ≡ held_in self.old d b }
+        ensures rest { SameNodes self.old self.new }
+    {
+        match self.by_uuid.get_mut(uuid) {
+            Some(node) => node.enter(alloc, block, link),
+            None => Err(NoMemory),
+        }
+    }
+
+    /// The bytes that a datanode holds of a block.
+    pub fn read(&mut self, alloc: Global, uuid: &str, block: u64) -> Result<Bytes, NoMemory>
+        ensures bytes { IfOk result (λ bytes. bytes ≡ held_in self.old uuid.now block) }
+        ensures same { SameHeld self.old self.new }
+        ensures rest { SameNodes self.old self.new }
+    {
+        match self.by_uuid.get_mut(uuid) {
+            Some(node) => node.read(alloc, block),
+            None => Ok(Bytes::new()),
+        }
+    }
+}

@@ -1,0 +1,9 @@
+//! The datanodes of a cluster in memory, and what each of them holds of each block.
+#![tactic(auto)]
+
+mod datanode;
+mod datanodes;
+mod pipeline;
+mod replica;
+
+pub use datanodes::{Datanodes, uuid};
