@@ -61,7 +61,7 @@ module _ (pipe : Pipe) (packet : Outgoing) (core last : Pipeline) (a b m z : Sho
 -- whether memory was wanting or not
 pub finish_comes : {C : Type 0} (shown : C → Shown) (ends : C → ℕ → C → Type 0) → ((old new : C) (link : ℕ) → ends old link new → WriteEnded (shown old) link (shown new))
     → (pipe : Pipe) (packet : Outgoing) (back : Option Outgoing) (core : Pipeline) (a : Shown) (m z : C) (r : Result PipelineEnd NoMemory) → Goes a pipe → Drove pipe.link (taken_in packet back) pipe.core a core (shown m) → IsGivenBack packet back pipe.core core
-    → IfOk r (λ end. DroveToEnd shown ends pipe.link core m end z) → OnErr r (StoppedShort shown ends pipe.link core m z) → Comes pipe packet a (finish_of r) (shown z)
+    → IfOk r (λ end. DroveToEnd shown (λ before. ends before pipe.link z) pipe.link core m end) → OnErr r (StoppedShort shown ends pipe.link core m z) → Comes pipe packet a (finish_of r) (shown z)
 finish_comes shown ends row pipe packet back core a m z (Ok end) goes first given drove err =
     by_end pipe packet core drove.last a (shown m) (shown drove.before) (shown z) goes drove.drove drove.is_core (row drove.before z pipe.link drove.ended) end drove.is drove.has_ended back first given drove.last.end refl
 finish_comes shown ends row pipe packet back core a m z (Err memory) goes first given drove err = (tt, stopped_between shown ends row pipe (taken_in packet back) core a m z first err)

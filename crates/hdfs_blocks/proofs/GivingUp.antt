@@ -158,7 +158,7 @@ stopped_between shown ends row pipe more core a m z first err =
 -- the end of a pipeline that has failed, whether memory was wanting or not
 pub failed_gives_up : {C : Type 0} (shown : C → Shown) (ends : C → ℕ → C → Type 0) → ((old new : C) (link : ℕ) → ends old link new → WriteEnded (shown old) link (shown new))
     → (pipe : Pipe) (more : List Outgoing) (core : Pipeline) (a : Shown) (m z : C) (r : Result PipelineEnd NoMemory) → Goes a pipe → Drove pipe.link more pipe.core a core (shown m) → IsSome core.end
-    → IfOk r (λ end. DroveToEnd shown ends pipe.link core m end z) → OnErr r (StoppedShort shown ends pipe.link core m z) → GivesUp pipe a (failure_of r) (shown z)
+    → IfOk r (λ end. DroveToEnd shown (λ before. ends before pipe.link z) pipe.link core m end) → OnErr r (StoppedShort shown ends pipe.link core m z) → GivesUp pipe a (failure_of r) (shown z)
 failed_gives_up shown ends row pipe more core a m z (Ok end) goes first has drove err =
     ended_gives_up pipe more core drove.last a (shown m) (shown drove.before) (shown z) goes first drove.drove drove.is_core (row drove.before z pipe.link drove.ended) end has drove.is
 failed_gives_up shown ends row pipe more core a m z (Err memory) goes first has drove err = stopped_between shown ends row pipe more core a m z first err

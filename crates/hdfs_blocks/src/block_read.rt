@@ -1,5 +1,5 @@
 //! A range of one block, read from the nodes that are listed for it, in order.
-ghost use Rattle.std.specs.Prelude.{◌≡◌, ◌<◌, ◌≤◌, ◌+◌, ◌-◌, ◌^◌, ◌⊎◌, ℕ, List, Option, Some, None, Ok, IfOk, OnOk, OnErr, IfErr, IsSome, IfSome, MatchOption, length, true, false};
+ghost use Rattle.std.specs.Prelude.{◌≡◌, ◌<◌, ◌≤◌, ◌+◌, ◌-◌, ◌^◌, ◌⊎◌, ℕ, List, Option, Some, None, Ok, IfOk, OnErr, IfErr, MatchOption, length, true, false};
 ghost use Rattle.hdfs_blocks.specs.Blocks.{node_count};
 ghost use Rattle.hdfs_model.specs.declared.errors.HdfsError.TheVariants as errors;
 
@@ -28,7 +28,6 @@ pub struct BlockRead {
 impl BlockRead {
     ghost use Rattle.hdfs_model.specs.Counts.{FaultCounts};
     ghost use Rattle.hdfs_model.specs.Shown.{Shown};
-    ghost use Rattle.hdfs_model.specs.Steps.{range_of};
     ghost use Rattle.hdfs_blocks.specs.Reader.{block_of, client_of, wanted_of, end_of, tried_of, link_of, has_failed, EndsStill, Holds, Stands, Keeps, ShowsBlock, Over, Reads, AllBlamed, IsRead, GivesPiece, IsPieceOf, Fails};
     ghost use Rattle.hdfs_blocks.specs.Going.{Frame, Goes, Accepts, Steps, IsPartOf, ReadsLocation};
 

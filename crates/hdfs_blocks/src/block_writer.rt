@@ -46,14 +46,15 @@ impl BlockWriter {
         client: &Text,
     ) -> Result<BlockWriter, WriteFault>
         requires located { IsToWrite located }
-        requires sizes { ArePacketSizes chunk packet_size }
+        requires sizes { ArePacketSizes chunk packet_size × (1 ≤ window) × (window ≤ 1000) }
         requires size { (located.b.num_bytes ≤ block_size) × (block_size < 2 ^ 63) }
-        requires window { (1 ≤ window) × (window ≤ 1000) }
         ensures stands { IfOk result (λ writer. Stands (C.shown cluster.new) writer) }
         ensures new { IfOk result (λ writer. IsNew located block_size chunk packet_size window writer) }
-        ensures opened { IfOk result (λ writer. OpensLink (C.shown cluster.old) (setup_of located chunk client.now) writer (C.shown cluster.new)) }
+        ensures opened { IfOk result (λ writer.
+            OpensLink (C.shown cluster.old) (setup_of located chunk client.now) writer (C.shown cluster.new)) }
         ensures begins { IfOk result (λ writer. BeginsWhole (C.shown cluster.old) located writer (C.shown cluster.new)) }
-        ensures err { IfErr result (λ fault. OpensNone (C.shown cluster.old) (setup_of located chunk client.now) fault (C.shown cluster.new)) }
+        ensures err { IfErr result (λ fault.
+            OpensNone (C.shown cluster.old) (setup_of located chunk client.now) fault (C.shown cluster.new)) }
     {
         let Prepared { core, block, setup } = match prepare(alloc, located, chunk, window, client) {
             Ok(prepared) => prepared,

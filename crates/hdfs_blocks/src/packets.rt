@@ -1,5 +1,5 @@
 //! The packets of one read, and what is asked for.
-ghost use Rattle.std.specs.Prelude.{◌≡◌, ◌<◌, ◌≤◌, ◌+◌, ℕ, pos, Some, IfOk, IfErr, IfSome, IsSome, Any, length};
+ghost use Rattle.std.specs.Prelude.{◌≡◌, ◌<◌, ◌≤◌, ◌+◌, ℕ, pos, Some, IfOk, IfSome, IsSome, Any, length};
 ghost use Rattle.hdfs_blocks.specs.Blocks.{node_at, node_count};
 
 use bytes::Bytes;

@@ -1,6 +1,6 @@
 //! An open pipeline, as a writer of a block uses it.
 
-ghost use Rattle.std.specs.Prelude.{◌≡◌, ◌∷◌, [], None, Some, IfOk, IfErr, OnOk};
+ghost use Rattle.std.specs.Prelude.{◌≡◌, ◌∷◌, [], IfOk, IfErr, OnOk};
 ghost use Rattle.hdfs_model.specs.Pipes.{FollowsOn};
 
 use crate::pipe_failure::{failure, finish};

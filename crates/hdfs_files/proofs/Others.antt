@@ -129,7 +129,13 @@ stands_beside a b w stays stands = record {
   packets = stands.packets;
   going = λ block is.
       (let going = stands.going block is in
-      record { limited = going.limited; stands = still_stands a b block (λ link named. stays link (ap link_by is ∙ named)) going.stands; size = going.size });
+      record {
+        limited = going.limited;
+        stands = still_stands a b block (λ link named. stays link (ap link_by is ∙ named)) going.stands;
+        size = going.size;
+        chunk = going.chunk;
+        packet_size = going.packet_size;
+      });
   is_open = stands.is_open;
   idle = stands.idle;
   reopened = stands.reopened;

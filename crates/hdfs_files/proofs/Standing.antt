@@ -97,6 +97,8 @@ module _ (a b : Shown) (sound : Shows IsSound a) (w : FileWriter) (block : Block
           limited = subst (λ (s : WriteSizes). AreLimited s) (sym keeps.sizes) (stands.going block going).limited;
           stands = itself;
           size = wrote.keeps.block_size ∙ (stands.going block going).size ∙ ap (λ (s : WriteSizes). s.block_size) (sym keeps.sizes);
+          chunk = wrote.keeps.chunk ∙ (stands.going block going).chunk ∙ ap (λ (s : WriteSizes). s.chunk) (sym keeps.sizes);
+          packet_size = wrote.keeps.packet_size ∙ (stands.going block going).packet_size ∙ ap (λ (s : WriteSizes). s.packet_size) (sym keeps.sizes);
         }));
     is_open = λ fine'' other is.
         (let same : block' ≡ other = cc (going', is) in
@@ -172,7 +174,13 @@ begun_stands b m w w' block found setup sizes fine same going done itself new op
   packets = subst (λ (s : WriteSizes). ArePackets s) (sym same) sizes.packets;
   going = λ other is.
       (let one : block ≡ other = cc (going, is) in
-      subst (λ (x : BlockWriter). BlockStands b w'.sizes x) one (record { limited = subst (λ (s : WriteSizes). AreLimited s) (sym same) sizes.limited; stands = itself; size = new.size ∙ ap (λ (s : WriteSizes). s.block_size) (sym same) }));
+      subst (λ (x : BlockWriter). BlockStands b w'.sizes x) one (record {
+        limited = subst (λ (s : WriteSizes). AreLimited s) (sym same) sizes.limited;
+        stands = itself;
+        size = new.size ∙ ap (λ (s : WriteSizes). s.block_size) (sym same);
+        chunk = new.chunk ∙ ap (λ (s : WriteSizes). s.chunk) (sym same);
+        packet_size = new.packet_size ∙ ap (λ (s : WriteSizes). s.packet_size) (sym same);
+      }));
   is_open = λ fine' other is.
       (let one : block ≡ other = cc (going, is) in
       subst (λ (x : BlockWriter). IsSome (block_link x)) one (subst IsSome (sym opens.1) refl));

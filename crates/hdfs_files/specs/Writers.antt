@@ -1,9 +1,11 @@
 -- A writer of one file, as its callers see it.
-use Rattle.std.specs.Prelude.{◌≡◌, ◌≢◌, ◌⊎◌, ℕ, ◌^◌, ◌<◌, ◌≤◌, true, false, Bool, List, ◌++◌, Option, Some, None, IsSome, IfSome}
+use Rattle.std.specs.Prelude.{◌≡◌, ◌≢◌, ◌⊎◌, ℕ, ◌^◌, ◌<◌, ◌≤◌, true, false, Bool, List, [], ◌++◌, Option, Some, None, IsSome, IfSome, Result, Err}
 use Rattle.hdfs_wire.specs.Outgoing.{ArePacketSizes}
 use Rattle.hdfs_model.specs.declared.messages.Block.{Block}
 use Rattle.hdfs_model.specs.declared.messages.LocatedBlock.{LocatedBlock}
+use Rattle.hdfs_model.specs.declared.errors.ArgFault.TheVariants as args
 use Rattle.hdfs_model.specs.declared.errors.HdfsError.{HdfsError}
+use Rattle.hdfs_model.specs.declared.errors.HdfsError.TheVariants as errors
 use Rattle.hdfs_model.specs.Effects.{blocks_at}
 use Rattle.hdfs_model.specs.Files.{File}
 use Rattle.hdfs_model.specs.Namenode.{IsToWrite}
@@ -83,11 +85,14 @@ link_by (Some writer) = blocks.link_of writer
 abbrev pub link_of : FileWriter → Option ℕ
 link_of writer = link_by writer.going
 
--- the writer of a block stands as its last call left it, and its block has the size of the file's blocks, which is in its limits
+-- The writer of a block stands as its last call left it. Its block has the size of the file's blocks, which is in its limits, and its
+-- packets have the file's sizes of packets.
 pub record BlockStands (shown : Shown) (sizes : WriteSizes) (writer : BlockWriter) : Type 0 where
   pub limited : AreLimited sizes
   pub stands : blocks.Stands shown writer
   pub size : blocks.size_of writer ≡ sizes.block_size
+  pub chunk : writer.chunk ≡ sizes.chunk
+  pub packet_size : writer.packet_size ≡ sizes.packet_size
 
 -- What a writer of a file is between calls. Once it has failed it keeps no link. Until then a block of it is done only where the one
 -- behind it is being written.
@@ -100,6 +105,13 @@ pub record Stands (shown : Shown) (writer : FileWriter) : Type 0 where
   pub apart : IsSome writer.reopened → writer.going ≡ None
   pub done : writer.failed ≡ false → writer.going ≡ None → writer.last ≡ None
 
+-- A writer at work on a cluster with a namenode: it stands, hasn't failed, and its file's numbers are in their limits.
+pub record IsAtWork (shown : Shown) (writer : FileWriter) : Type 0 where
+  pub namenode : 0 < shown.namenodes
+  pub limited : AreLimited writer.sizes
+  pub stands : Stands shown writer
+  pub fine : writer.failed ≡ false
+
 -- a block is being written that has room for a byte
 abbrev pub HasRoom : FileWriter → Type 0
 HasRoom writer = (block : BlockWriter) × (writer.going ≡ Some block) × (blocks.length_of block ≢ blocks.size_of block)
@@ -109,11 +121,26 @@ pub record IsBetweenBlocks (writer : FileWriter) : Type 0 where
   pub none : writer.going ≡ None
   pub done : writer.reopened ≡ None
 
+-- A writer that may begin a block: it hasn't failed, is between blocks, and all its sizes are in their limits.
+pub record MayBegin (writer : FileWriter) : Type 0 where
+  pub sizes : AreSizes writer.sizes
+  pub fine : writer.failed ≡ false
+  pub between : IsBetweenBlocks writer
+
 -- what every call keeps of a writer
 pub record Keeps (writer writer' : FileWriter) : Type 0 where
   pub path : writer'.path ≡ writer.path
   pub file_id : writer'.file_id ≡ writer.file_id
   pub sizes : writer'.sizes ≡ writer.sizes
+
+-- When a write does nothing to the cluster: of no bytes; by a writer that has failed; and by one whose file's replication or block size
+-- is out of its limits, which has failed then.
+pub record IsIdle {C : Type 0} (writer : FileWriter) (bytes : List ℕ) (old : C) (result : Result ℕ HdfsError) (writer' : FileWriter) (new : C)
+    : Type 0 where
+  pub none : bytes ≡ [] → new ≡ old
+  pub failed : writer.failed ≡ true → (result ≡ Err errors.Failed) × (writer' ≡ writer) × (new ≡ old)
+  pub options : writer.failed ≡ false → (AreLimited writer.sizes → ⊥)
+      → (result ≡ Err (errors.InvalidArgument args.Options)) × (link_of writer ≡ None) × (new ≡ old)
 
 -- Calls on the cluster in the writer's name: read links stay, and so do the write links that were open and aren't its own; none
 -- is left open but its own, which it had before or wasn't open.

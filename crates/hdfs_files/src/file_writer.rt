@@ -1,7 +1,6 @@
 //! Writes a file, block by block.
 ghost use Rattle.std.specs.Prelude.{◌≡◌, ◌<◌, ◌≤◌, [], true, false, length, take, None, Some, Err, IsTrue, ◌↔◌, IfOk, IfErr, IfSome, OnOk, OnErr};
 ghost use Rattle.hdfs_model.specs.Shown.{Shown};
-ghost use Rattle.hdfs_model.specs.declared.errors.ArgFault.TheVariants as args;
 ghost use Rattle.hdfs_model.specs.declared.errors.HdfsError.TheVariants as errors;
 
 use crate::faults::error_of;
@@ -35,7 +34,7 @@ pub struct FileWriter {
 impl FileWriter {
     ghost use Rattle.hdfs_files.specs.Tails.{Bare, IsFull};
     ghost use Rattle.hdfs_model.specs.Namenode.{IsToWrite};
-    ghost use Rattle.hdfs_files.specs.Writers.{AreLimited, ArePackets, AreSizes, path_of, file_id_of, sizes_of, has_failed, link_of, tail_of, tail_opened, Stands, Keeps, IsBetweenBlocks, HasRoom, OnlyOwnLink, LeavesFile, Wrote, Closed, Fails, FailsToClose};
+    ghost use Rattle.hdfs_files.specs.Writers.{AreLimited, ArePackets, AreSizes, path_of, file_id_of, sizes_of, has_failed, link_of, tail_of, tail_opened, IsAtWork, MayBegin, IsIdle, Stands, Keeps, IsBetweenBlocks, HasRoom, OnlyOwnLink, LeavesFile, Wrote, Closed, Fails, FailsToClose};
 
     /// A writer of a file that was just created at `path`, which has the size of blocks that `sizes` says. `file_id` is the id that
     /// the namenode told.
@@ -125,9 +124,7 @@ impl FileWriter {
         namenode: &NamenodeProtocol,
         located: LocatedBlock,
     ) -> Result<(), HdfsError>
-        requires sizes { AreSizes self.old.sizes }
-        requires fine { self.old.failed ≡ false }
-        requires between { IsBetweenBlocks self.old }
+        requires begins { MayBegin self.old }
         requires block { IsToWrite located }
         requires room { located.b.num_bytes < self.old.sizes.block_size }
         ensures fine { self.new.failed ≡ false }
@@ -167,9 +164,7 @@ impl FileWriter {
         namenode: &NamenodeProtocol,
     ) -> Result<(), HdfsError>
         requires namenode { 0 < (C.shown cluster.old).namenodes }
-        requires sizes { AreSizes self.old.sizes }
-        requires fine { self.old.failed ≡ false }
-        requires between { IsBetweenBlocks self.old }
+        requires begins { MayBegin self.old }
         requires full { IsFull self.old.sizes.block_size (tail_of self.old) }
         ensures fine { self.new.failed ≡ false }
         ensures keeps { Keeps self.old self.new }
@@ -215,10 +210,7 @@ impl FileWriter {
         cluster: &mut C,
         namenode: &NamenodeProtocol,
     ) -> Result<(), HdfsError>
-        requires namenode { 0 < (C.shown cluster.old).namenodes }
-        requires sizes { AreLimited self.old.sizes }
-        requires stands { Stands (C.shown cluster.old) self.old }
-        requires fine { self.old.failed ≡ false }
+        requires works { IsAtWork (C.shown cluster.old) self.old }
         ensures fine { self.new.failed ≡ false }
         ensures keeps { Keeps self.old self.new }
         ensures stands { OnOk result (Stands (C.shown cluster.new) self.new × HasRoom self.new) }
@@ -264,10 +256,7 @@ impl FileWriter {
         namenode: &NamenodeProtocol,
         bytes: &[u8],
     ) -> Result<usize, HdfsError>
-        requires namenode { 0 < (C.shown cluster.old).namenodes }
-        requires sizes { AreLimited self.old.sizes }
-        requires stands { Stands (C.shown cluster.old) self.old }
-        requires fine { self.old.failed ≡ false }
+        requires works { IsAtWork (C.shown cluster.old) self.old }
         requires bytes { 0 < length bytes.now }
         ensures fine { self.new.failed ≡ false }
         ensures stands { OnOk result (Stands (C.shown cluster.new) self.new) }
@@ -307,12 +296,8 @@ impl FileWriter {
 
         ensures stands { Stands (C.shown cluster.new) self.new × Keeps self.old self.new }
         ensures count { IfOk result (λ n. (n ≡ length bytes.now) × AreLimited (sizes_of self.old)) }
-        ensures none { bytes.now ≡ [] → cluster.new ≡ cluster.old }
-        ensures failed { has_failed self.old ≡ true
-            → (result ≡ Err errors.Failed) × (self.new ≡ self.old) × (cluster.new ≡ cluster.old) }
+        ensures idle { IsIdle self.old bytes.now cluster.old result self.new cluster.new }
         ensures fails { (OnOk result (has_failed self.new ≡ false)) × (OnErr result (has_failed self.new ≡ true)) }
-        ensures options { has_failed self.old ≡ false → (AreLimited (sizes_of self.old) → ⊥)
-            → (result ≡ Err (errors.InvalidArgument args.Options)) × (link_of self.old ≡ None) × (cluster.new ≡ cluster.old) }
 
         // Over a told picture these bytes are carried too, nothing but the file changes, and no block is begun before the one before it
         // is full.
@@ -352,10 +337,7 @@ impl FileWriter {
         namenode: &NamenodeProtocol,
         bytes: &[u8],
     ) -> Result<(), HdfsError>
-        requires namenode { 0 < (C.shown cluster.old).namenodes }
-        requires sizes { AreLimited self.old.sizes }
-        requires stands { Stands (C.shown cluster.old) self.old }
-        requires fine { self.old.failed ≡ false }
+        requires works { IsAtWork (C.shown cluster.old) self.old }
         ensures fine { self.new.failed ≡ false }
         ensures stands { OnOk result (Stands (C.shown cluster.new) self.new) }
         ensures wrote { OnOk result (Wrote (C.shown cluster.old) self.old bytes.now (C.shown cluster.new) self.new) }

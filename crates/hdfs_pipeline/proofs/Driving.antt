@@ -18,8 +18,8 @@ use Rattle.hdfs_model.specs.Writing.{IsBehind, MayBeBehind}
 use Rattle.hdfs_pipeline.specs.Pipelines.{Pipeline, End, Done, Failed, Bad, ended}
 use Rattle.hdfs_pipeline.specs.Places.{are_fine, failed_from}
 use Rattle.hdfs_pipeline.proofs.Acknowledging.{Acks, Misshapen, Nodes, First, Other, without_first}
-use Rattle.hdfs_pipeline.specs.Driving.{Drives, OnLink, Settles, DroveTold, Drove}
-use Rattle.hdfs_pipeline.proofs.Settling.{on_link, none_or_some, settles_still, settles_first, settles_sent, settles_unsent, told_response, told_send}
+use Rattle.hdfs_pipeline.specs.Driving.{Drives, OnLink, Settles, Drove}
+use Rattle.hdfs_pipeline.proofs.Settling.{DroveTold, on_link, none_or_some, settles_still, settles_first, settles_sent, settles_unsent, told_response, told_send}
 
 -- a place is that of a status that isn't 0
 abbrev IsFailedAt : ℕ → List ℕ → ℕ → Type 0

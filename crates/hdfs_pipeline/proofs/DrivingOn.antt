@@ -20,8 +20,8 @@ use Rattle.hdfs_pipeline.specs.declared.event.Event.TheVariants.{Push, Take, Wro
 use Rattle.hdfs_pipeline.specs.Cores.{Follows, CanTake, next_of}
 use Rattle.hdfs_pipeline.proofs.Rows.{pushes, takes, writes, fails_to_write}
 use Rattle.hdfs_pipeline.specs.Pipelines.{Done, End, Failed, Pipeline, ended, hand_of, has_hand, has_room}
-use Rattle.hdfs_pipeline.specs.Driving.{SentFirst, EndsInLast, IsInStep, Drives, OnLink, GoesOn, HasCause, Settles, SentMore, DroveTold, Drove, StopsShort}
-use Rattle.hdfs_pipeline.proofs.Settling.{only_from-WritesAt, same_further, on_link, none_or_some, nothing_sent}
+use Rattle.hdfs_pipeline.specs.Driving.{SentFirst, EndsInLast, IsInStep, Drives, OnLink, GoesOn, HasCause, Settles, SentMore, Drove, StopsShort}
+use Rattle.hdfs_pipeline.proofs.Settling.{DroveTold, only_from-WritesAt, same_further, on_link, none_or_some, nothing_sent}
 use Rattle.hdfs_pipeline.proofs.Driving.{RoseAt, IsNotLast}
 
 -- calls on a link, one after another

@@ -14,7 +14,7 @@ use Rattle.hdfs_model.proofs.Frames.{told_after}
 use Rattle.hdfs_pipeline.proofs.Rows.{writes}
 use Rattle.hdfs_pipeline.specs.Pipelines.{Pipeline}
 use Rattle.hdfs_pipeline.specs.Places.{are_fine}
-use Rattle.hdfs_pipeline.specs.Driving.{OnLink, Settles, SentMore, DroveTold}
+use Rattle.hdfs_pipeline.specs.Driving.{OnLink, Settles, SentMore}
 
 -- a call on a link changes nothing but its block at its datanodes
 pub only_from-WritesAt : (link : ℕ) (p q : Picture) (place : WritePlace) → WritesAt link p q → p.writes link ≡ Some place → OnlyBlock place.block place.nodes p q
@@ -139,6 +139,13 @@ module _ (place place' : WritePlace) (core core' : Pipeline) (settled : ℕ) (s 
     received = received_still;
     going = λ none. none_or_some core'.end has none;
   }
+
+-- In the picture: the link goes further by these packets, and what became acknowledged is settled.
+abbrev pub DroveTold : ℕ → Pipeline → Option Picture → ℕ → List Outgoing → Pipeline → Option Picture → Type 0
+DroveTold link core old acknowledged more core' new =
+    (p : Picture) (place : WritePlace) (settled : ℕ) → old ≡ Some p → p.writes link ≡ Some place → Settles place core settled
+    → (q : Picture) × (place' : WritePlace) × (new ≡ Some q) × (q.writes link ≡ Some place') × GoesFurther p place q place'
+    × SentMore place more core' place' × Settles place' core' (settled + acknowledged)
 
 -- the told part of a response, where so much more is settled
 pub told_response : (link : ℕ) (core core' : Pipeline) (a b : Option Picture) (response : Response) (n : ℕ) → Told (Responds link response) a b

@@ -76,21 +76,17 @@ pub record SentMore (place : WritePlace) (more : List Outgoing) (core' : Pipelin
   pub behind : place'.sent ≡ place.sent ++ sent
   pub all : ((places : List ℕ) → core'.end ≡ Some (Failed places) → ⊥) → rest ≡ []
 
--- In the picture: the link goes further by these packets, and what became acknowledged is settled.
-abbrev pub DroveTold : ℕ → Pipeline → Option Picture → ℕ → List Outgoing → Pipeline → Option Picture → Type 0
-DroveTold link core old acknowledged more core' new =
-    (p : Picture) (place : WritePlace) (settled : ℕ) → old ≡ Some p → p.writes link ≡ Some place → Settles place core settled
-    → (q : Picture) × (place' : WritePlace) × (new ≡ Some q) × (q.writes link ≡ Some place') × GoesFurther p place q place'
-    × SentMore place more core' place' × Settles place' core' (settled + acknowledged)
-
--- A pipeline was driven from one state to another: these packets came in, and others were acknowledged.
+-- A pipeline was driven from one state to another: these packets came in, and others were acknowledged. In the picture the link goes
+-- further by these packets, and what became acknowledged is settled.
 pub record Drove (link : ℕ) (more : List Outgoing) (core : Pipeline) (old : Shown) (core' : Pipeline) (new : Shown) : Type 0 where
   pub on : OnLink link old new
   pub drives : Drives new link core'
   pub acknowledged : ℕ
   pub goes : GoesOn core acknowledged more core'
   pub cause : HasCause link core old core' new
-  pub told : DroveTold link core old.picture acknowledged more core' new.picture
+  pub told : (p : Picture) (place : WritePlace) (settled : ℕ) → old.picture ≡ Some p → p.writes link ≡ Some place → Settles place core settled
+      → (q : Picture) × (place' : WritePlace) × (new.picture ≡ Some q) × (q.writes link ≡ Some place') × GoesFurther p place q place'
+      × SentMore place more core' place' × Settles place' core' (settled + acknowledged)
 
 -- what came back on a link, by the events of a core
 abbrev pub responses_of : List Event → List Response
@@ -146,8 +142,8 @@ IsGivenBack packet (Some back) core core' = (back ≡ packet) × IsSome core'.en
 abbrev pub EndsInLast : List Outgoing → Type 0
 EndsInLast packets = (front : List Outgoing) × (packet : Outgoing) × (packets ≡ front ++ packet ∷ []) × (packet.header.last_packet_in_block ≡ true) × All IsNotLast front
 
--- A pipeline was driven to its end, and then its link was ended. With success no packet is left.
-pub record DroveToEnd {C : Type 0} (shown : C → Shown) (ends : C → ℕ → C → Type 0) (link : ℕ) (core : Pipeline) (old : C) (end : PipelineEnd) (new : C) : Type 0 where
+-- A pipeline was driven to its end, and then its link was ended, as is said of what was before. With success no packet is left.
+pub record DroveToEnd {C : Type 0} (shown : C → Shown) (Ended : C → Type 0) (link : ℕ) (core : Pipeline) (old : C) (end : PipelineEnd) : Type 0 where
   pub last : Pipeline
   pub before : C
   pub drove : Drove link [] core (shown old) last (shown before)
@@ -156,7 +152,7 @@ pub record DroveToEnd {C : Type 0} (shown : C → Shown) (ends : C → ℕ → C
   pub is_core : IsCore last
   pub is : end ≡ end_of last
   pub none_left : core.end ≡ None → last.end ≡ Some Done → last.pushed ≡ []
-  pub ended : ends before link new
+  pub ended : Ended before
 
 -- memory was wanting, and the link was ended
 pub record StoppedShort {C : Type 0} (shown : C → Shown) (ends : C → ℕ → C → Type 0) (link : ℕ) (core : Pipeline) (old new : C) : Type 0 where

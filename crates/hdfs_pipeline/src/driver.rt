@@ -3,9 +3,8 @@
 ghost use Rattle.std.specs.Prelude.{◌≡◌, ◌<◌, ◌≤◌, ◌+◌, ◌⊎◌, ◌∷◌, ◌++◌, ℕ, [], length, None, Some, IsSome, IfOk, OnOk, OnErr, IsTrue, ◌↔◌};
 ghost use Rattle.hdfs_wire.specs.Outgoing.{Outgoing};
 ghost use Rattle.hdfs_model.specs.Pipes.{FollowsOn};
-ghost use Rattle.hdfs_pipeline.specs.Pipelines.{Pipeline, has_room};
+ghost use Rattle.hdfs_pipeline.specs.Pipelines.{has_room};
 ghost use Rattle.hdfs_pipeline.specs.Cores.{IsCore};
-ghost use Rattle.hdfs_pipeline.specs.Ends.{end_of};
 ghost use Rattle.hdfs_pipeline.specs.Driving.{Happened, IsGoing, Drives, Drove, StopsShort, IsNext, EndsWith, taken_in, IsGivenBack, EndsInLast, DroveToEnd, StoppedShort};
 
 use crate::end::PipelineEnd;
@@ -115,8 +114,8 @@ pub fn drive_push<C: Cluster>(
     ensures sent { IfOk result (λ back. core.new.end ≡ None → EndsWith (C.shown cluster.new) link packet) }
 
     // No acknowledgement is read while there is room, and else that of one packet alone.
-    ensures prompt { IfOk result (λ back. IsTrue (has_room core.old) → core.new.pushed ≡ core.old.pushed ++ taken_in packet back) }
-    ensures one { OnOk result (core.new.end ≡ None → length core.old.pushed ≤ length core.new.pushed) }
+    ensures prompt { IfOk result (λ back. (IsTrue (has_room core.old) → core.new.pushed ≡ core.old.pushed ++ taken_in packet back)
+        × (core.new.end ≡ None → length core.old.pushed ≤ length core.new.pushed)) }
     ensures err { OnErr result (StopsShort link (packet ∷ []) core.old (C.shown cluster.old) (C.shown cluster.new)) }
 {
     make_room(core, cluster, link)?;
@@ -153,7 +152,7 @@ pub fn drive_end<C: Cluster>(
     requires drives { Drives (C.shown cluster.old) link core }
     requires last { core.end ≡ None → EndsInLast core.pushed }
     ensures ended { (C.shown cluster.new).writes link ≡ None }
-    ensures drove { IfOk result (λ end. DroveToEnd C.shown C.ends link core cluster.old end cluster.new) }
+    ensures drove { IfOk result (λ end. DroveToEnd C.shown (λ before. C.ends before link cluster.new) link core cluster.old end) }
     ensures err { OnErr result (StoppedShort C.shown C.ends link core cluster.old cluster.new) }
 {
     let read = read_all(&mut core, cluster, link);

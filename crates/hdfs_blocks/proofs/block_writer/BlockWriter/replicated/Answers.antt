@@ -15,9 +15,9 @@ returns-in-Ok-open_write-clause-stands g c =
     let link = c.in-Ok-open_write.link in
     let is = c.in-Ok.ensures in
     let w : BlockWriter = record { alloc = c.args.alloc; block = prepared.block; block_size = c.args.block_size; chunk = c.args.chunk; packet_size = c.args.packet_size; pipe = Some (record { core = prepared.core; link = link }); packet = None; length = prepared.block.num_bytes; seqno = 0 } in
-    new_stands c.args.located c.args.chunk c.args.window link c.args.client.now w prepared.core a b c.requires.located c.requires.window is.core
+    new_stands c.args.located c.args.chunk c.args.window link c.args.client.now w prepared.core a b c.requires.located (c.requires.sizes.1, c.requires.sizes.2) is.core
     (subst (λ (s : Setup). WriteOpened a s link b) is.setup c.in-Ok-open_write.ensures.ok) refl refl is.block (ap (λ x. x.num_bytes) is.block)
-    c.requires.sizes refl (subst (λ x. (x.num_bytes ≤ c.args.block_size) × (c.args.block_size < 2 ^ 63)) (sym is.block) c.requires.size)
+    c.requires.sizes.0 refl (subst (λ x. (x.num_bytes ≤ c.args.block_size) × (c.args.block_size < 2 ^ 63)) (sym is.block) c.requires.size)
 
 pub returns-in-Ok-open_write-clause-new : goal.returns-in-Ok-open_write-clause-new
 returns-in-Ok-open_write-clause-new g c =
@@ -41,5 +41,5 @@ returns-in-Ok-open_write-clause-begins g c =
     let link = c.in-Ok-open_write.link in
     let is = c.in-Ok.ensures in
     let w : BlockWriter = record { alloc = c.args.alloc; block = prepared.block; block_size = c.args.block_size; chunk = c.args.chunk; packet_size = c.args.packet_size; pipe = Some (record { core = prepared.core; link = link }); packet = None; length = prepared.block.num_bytes; seqno = 0 } in
-    new_begins c.args.located c.args.chunk c.args.window link c.args.client.now w prepared.core a b c.requires.located c.requires.window is.core
+    new_begins c.args.located c.args.chunk c.args.window link c.args.client.now w prepared.core a b c.requires.located (c.requires.sizes.1, c.requires.sizes.2) is.core
     (subst (λ (s : Setup). WriteOpened a s link b) is.setup c.in-Ok-open_write.ensures.ok) refl refl is.block (ap (λ x. x.num_bytes) is.block)

@@ -24,9 +24,9 @@ returns-in-Err-clause-err g c =
     c.as_str.ensures c.as_ref.ensures.value refl c.in-Err.is c.add_block.ensures.asked in
     ⊎_elim
     (λ fault. subst (λ (e : HdfsError). Fails s w e t) (sym fault.1)
-    (unanswered_fails s t (g.met.C.Cluster.sound c.args.cluster.now) w c.requires.between client fault.0 fault.2 c.requires.namenode (g.met.C.Cluster.active_below c.args.cluster.now)))
+    (unanswered_fails s t (g.met.C.Cluster.sound c.args.cluster.now) w c.requires.begins.between client fault.0 fault.2 c.requires.namenode (g.met.C.Cluster.active_below c.args.cluster.now)))
     (λ memory. subst (λ (e : HdfsError). Fails s w e t) (sym memory.0)
-    (subst (λ (x : Shown). Fails s w errors.NoMemory x) (sym (ap g.C.Cluster.shown memory.1)) (starved_fails s w (ap link_by c.requires.between.none))))
+    (subst (λ (x : Shown). Fails s w errors.NoMemory x) (sym (ap g.C.Cluster.shown memory.1)) (starved_fails s w (ap link_by c.requires.begins.between.none))))
     (served_error g.C.Cluster.shown g.C.Cluster.serves g.met.C.Cluster.serves_rows (asks.AddBlock w.path client w.last [] w.file_id) c.args.cluster.now c.add_block.new.cluster c.in-Err.error asked)
 
 pub returns-in-Ok-open_block-clause-wrote : goal.returns-in-Ok-open_block-clause-wrote
@@ -40,8 +40,8 @@ returns-in-Ok-open_block-clause-wrote g c =
     c.as_str.ensures c.as_ref.ensures.value refl c.in-Ok.is c.add_block.ensures.asked in
     let served = served_answer g.C.Cluster.shown g.C.Cluster.serves g.met.C.Cluster.serves_rows (asks.AddBlock w.path client w.last [] w.file_id) c.args.cluster.now c.add_block.new.cluster (answers.AddBlock located) asked in
     wrote_trans s m (g.C.Cluster.shown c.open_block.new.cluster) w (record w { going = None; reopened = Some located }) c.open_block.new.self [] []
-    (added_wrote s m (g.met.C.Cluster.sound c.args.cluster.now) w c.requires.between client located served.1.1 c.requires.full served.0)
-    (subst (λ (o : Option BlockWriter). Wrote m (record w { going = o; reopened = Some located }) [] (g.C.Cluster.shown c.open_block.new.cluster) c.open_block.new.self) c.requires.between.none c.in-Ok-open_block.ensures.wrote)
+    (added_wrote s m (g.met.C.Cluster.sound c.args.cluster.now) w c.requires.begins.between client located served.1.1 c.requires.full served.0)
+    (subst (λ (o : Option BlockWriter). Wrote m (record w { going = o; reopened = Some located }) [] (g.C.Cluster.shown c.open_block.new.cluster) c.open_block.new.self) c.requires.begins.between.none c.in-Ok-open_block.ensures.wrote)
 
 pub returns-in-Err-open_block-clause-err : goal.returns-in-Err-open_block-clause-err
 returns-in-Err-open_block-clause-err g c =
@@ -54,5 +54,5 @@ returns-in-Err-open_block-clause-err g c =
     c.as_str.ensures c.as_ref.ensures.value refl c.in-Ok.is c.add_block.ensures.asked in
     let served = served_answer g.C.Cluster.shown g.C.Cluster.serves g.met.C.Cluster.serves_rows (asks.AddBlock w.path client w.last [] w.file_id) c.args.cluster.now c.add_block.new.cluster (answers.AddBlock located) asked in
     fails_after s m (g.C.Cluster.shown c.open_block.new.cluster) w (record w { going = None; reopened = Some located }) [] c.in-Err-open_block.error
-    (added_wrote s m (g.met.C.Cluster.sound c.args.cluster.now) w c.requires.between client located served.1.1 c.requires.full served.0)
-    (subst (λ (o : Option BlockWriter). Fails m (record w { going = o; reopened = Some located }) c.in-Err-open_block.error (g.C.Cluster.shown c.open_block.new.cluster)) c.requires.between.none c.in-Err-open_block.ensures.err)
+    (added_wrote s m (g.met.C.Cluster.sound c.args.cluster.now) w c.requires.begins.between client located served.1.1 c.requires.full served.0)
+    (subst (λ (o : Option BlockWriter). Fails m (record w { going = o; reopened = Some located }) c.in-Err-open_block.error (g.C.Cluster.shown c.open_block.new.cluster)) c.requires.begins.between.none c.in-Err-open_block.ensures.err)

@@ -10,7 +10,7 @@ none_left : (bytes done rest : List ℕ) → bytes ≡ [] → bytes ≡ done ++ 
 none_left bytes done rest empty cut some = omega (arith, ap length (sym cut ∙ empty), length-append done rest, some)
 
 pub blocks-2-init : goal.blocks-2-init
-blocks-2-init g c = record { stands = c.requires.stands; fine = c.requires.fine; told = ([], refl, wrote_nothing (g.C.Cluster.shown c.args.cluster.now) c.args.self.now); none = λ empty. refl }
+blocks-2-init g c = record { stands = c.requires.works.stands; fine = c.requires.works.fine; told = ([], refl, wrote_nothing (g.C.Cluster.shown c.args.cluster.now) c.args.self.now); none = λ empty. refl }
 
 pub blocks-2-preserved : goal.blocks-2-preserved
 blocks-2-preserved g c =
