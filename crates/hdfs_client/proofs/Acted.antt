@@ -23,10 +23,13 @@ use Rattle.hdfs_files.specs.Writers as files
 use Rattle.hdfs_files.specs.declared.file_writer.FileWriter.{FileWriter}
 use Rattle.hdfs_client.specs.Acting.{Acts, IsReady, world_at}
 use Rattle.hdfs_client.specs.Looking.{OnlyLooks}
-use Rattle.hdfs_client.specs.Session.{Carried, CarriesFile, CarriesOpen, Stands, after, defaults_known, opened_of, writer_of}
+use Rattle.hdfs_client.specs.Preparing.{Remembers}
+use Rattle.hdfs_client.specs.Session.{Carried, CarriesFile, CarriesOpen, IsSized, Stands, after, defaults_known, opened_of, writer_of}
 use Rattle.hdfs_client.specs.declared.session.Session.{Session}
+use Rattle.hdfs_client.proofs.OneFile.{not_same}
 use Rattle.hdfs_client.proofs.Begun.{Begun}
 use Rattle.hdfs_client.proofs.Moved.{HasMore, links_moved, links_with, session_moved, session_with, writer_cases}
+use Rattle.hdfs_client.proofs.Sized.{remembers_failed, remembers_refl}
 use Rattle.hdfs_client.proofs.WithWriting.{other_there, writing_there}
 
 reads_same : (s t : Shown) → OnlyLooks s t → SameReads s t
@@ -41,15 +44,17 @@ Fails world state command s t error = Cause world state command s t error × Agr
 
 -- A command that has failed behind asks alone.
 pub failed_acts : (command : Command) (s t : Shown) (session session' : Session) (error : HdfsError) → Stands s session → OnlyLooks s t
-    → ((r : List ℕ) → writer_of session' r ≡ writer_of session r) → session'.settings ≡ session.settings → Tells command s t error
+    → ((r : List ℕ) → writer_of session' r ≡ writer_of session r) → Remembers session session' → Tells command s t error
     → ((path : List ℕ) (byte : ℕ) → CommandLost s.counts t path command byte → ⊥)
     → ((state : State) → IsReady s session state command → Fails (world_at session s) state command s t error)
     → ((state : State) → IsReady s session state command → CarriesOpen t session' state)
     → Acts command s session t (after {T = Reply} session' (Err error)) (Err error)
-failed_acts command s t session session' error stands looks writers settings tells found told others = record {
+failed_acts command s t session session' error stands looks writers remembers tells found told others = record {
   anywhere = record { later = looks.later; reads = reads_same s t looks; replies = tt; tells = tells; refused = λ early. looks.nodes; idle = λ idle. looks.nodes };
   links = links_moved s t looks.links.writes session (record session' { failed = true }) writers;
-  stands = session_moved s t looks.links.writes session (record session' { failed = true }) writers settings (λ failed. absurd (false≢true (sym failed))) stands;
+  stands = session_moved s t looks.links.writes session (record session' { failed = true }) writers (remembers_failed session session' remembers)
+      (λ failed. absurd (false≢true (sym failed))) stands;
+  writers = λ r apart. writers r;
   applied = λ state ready. record {
     ok = tt;
     err = told state ready;
@@ -116,7 +121,7 @@ module _ (command : Command) (s t : Shown) (session session' : Session) (path : 
 
     same_world : world_at session' t ≡ world_at session s
     same_world =
-        ap (λ (x : Settings). world_of x t) more.settings
+        ap (λ (x : Settings). world_of x t) more.remembers.settings
         ∙ ap (λ (x : ServerDefaults). (let w : World = record { home = session.settings.home; defaults = x } in w)) same_defaults
 
     file_carried : (q : Picture) → t.picture ≡ Some q → (r : List ℕ) (other : FileWriter) → writer_of session' r ≡ Some other → CarriesFile q (with_writing state path (told state ready).content) r other
@@ -143,13 +148,18 @@ module _ (command : Command) (s t : Shown) (session session' : Session) (path : 
         (writer_cases t session session' path writer more r other has))
 
   -- A command that has opened a file, of which the session has the writer.
-  pub begun_acts : IsReply command reply → Stands s session → OnlyLooks s t → files.Stands t writer → files.path_of writer ≡ path → files.has_failed writer ≡ false → files.link_of writer ≡ None
+  pub begun_acts : target_of (world_at session s) command ≡ path → IsReply command reply → Stands s session → OnlyLooks s t → files.Stands t writer → files.path_of writer ≡ path
+      → files.has_failed writer ≡ false → files.link_of writer ≡ None → IsSized session' writer
       → ((state : State) → IsReady s session state command → (known : ServerDefaults) × (defaults_known session' ≡ Some known) × (known ≡ defaults_of t.picture))
       → Acts command s session t session' (Ok reply)
-  begun_acts replies stands looks own at fine linkless knows = record {
+  begun_acts called replies stands looks own at fine linkless sized knows = record {
     anywhere = record { later = looks.later; reads = reads_same s t looks; replies = replies; tells = tt; refused = tt; idle = λ idle. looks.nodes };
     links = links_with t session session' path writer more linkless s looks.links.writes;
-    stands = session_with t session session' path writer more linkless (session_moved s t looks.links.writes session session (λ r. refl) refl (λ failed. failed) stands) own at fine;
+    stands = session_with t session session' path writer more linkless
+        (session_moved s t looks.links.writes session session (λ r. refl) (remembers_refl session) (λ failed. failed) stands) own at fine sized;
+    writers = λ r apart.
+        more.put r
+        ∙ ap (λ (b : Bool). cond b (Some writer) (writer_of session r)) (not_same path r (λ same. apart (same ∙ sym called)));
     applied = λ state ready. (let f = told state ready in
         record {
           ok = (with_writing state path f.content, f.done, f.limited, fits_next state ready, opened_same state ready);

@@ -16,9 +16,11 @@ use Rattle.hdfs_files.specs.Writers as files
 use Rattle.hdfs_files.specs.declared.file_writer.FileWriter.{FileWriter}
 use Rattle.hdfs_files.proofs.Others.{carries_others}
 use Rattle.hdfs_client.specs.Acting.{world_at}
-use Rattle.hdfs_client.specs.Session.{settings_of, writer_of, opened_of, defaults_known, HasLink, Stands, OnlyOwnLinks, CarriesFile, Carried, CarriesOpen}
+use Rattle.hdfs_client.specs.Preparing.{Remembers}
+use Rattle.hdfs_client.specs.Session.{settings_of, writer_of, opened_of, defaults_known, HasLink, IsSized, Stands, OnlyOwnLinks, CarriesFile, Carried, CarriesOpen}
 use Rattle.hdfs_client.specs.declared.session.Session.{Session}
 use Rattle.hdfs_client.proofs.Links.{link_is_open}
+use Rattle.hdfs_client.proofs.Sized.{named_still, sized_still}
 
 -- the link of a writer, where there is one
 abbrev pub link_in : Option FileWriter → Option ℕ
@@ -126,10 +128,11 @@ module _ (old new : Shown) (session session' : Session) (path : List ℕ) (was n
       other_stands other writer apart is = beside writer (λ link at. link_stays other writer apart is link at) (stands.each other writer is).0
 
       -- the session stands behind the call, if the writer at the path does
-      pub stands_after : settings_of session' ≡ settings_of session → ((writer : FileWriter) → now ≡ Some writer → files.Stands new writer × (files.path_of writer ≡ path))
+      pub stands_after : Remembers session session'
+          → ((writer : FileWriter) → now ≡ Some writer → files.Stands new writer × (files.path_of writer ≡ path) × IsSized session' writer)
           → (session'.failed ≡ false → (session.failed ≡ false) × ((writer : FileWriter) → now ≡ Some writer → files.has_failed writer ≡ false)) → Stands new session'
-      stands_after same mine fine = record {
-        limited = ap are_settings same ∙ stands.limited;
+      stands_after remembers mine fine = record {
+        limited = ap are_settings remembers.settings ∙ stands.limited;
         each = λ other writer is.
             ⊎_elim
             (λ here. (let stood = mine writer (sym here.1 ∙ is) in (stood.0, stood.1 ∙ here.0)))
@@ -149,6 +152,12 @@ module _ (old new : Shown) (session session' : Session) (path : List ℕ) (was n
             (λ apart'. stands.apart one two writer writer' (sym apart.1 ∙ is) (sym apart'.1 ∙ is') differ link at at')
             (cases_at two))
             (cases_at one);
+        name = named_still session session' remembers stands.name;
+        sized = λ other writer is.
+            ⊎_elim
+            (λ here. (mine writer (sym here.1 ∙ is)).2)
+            (λ apart. sized_still session session' remembers writer writer refl (stands.sized other writer (sym apart.1 ∙ is)))
+            (cases_at other);
       }
 
   -- over a told picture in which nothing changed but the file at the path

@@ -18,6 +18,7 @@ use Rattle.hdfs_client.specs.Acting.{Acts, IsReady, world_at}
 use Rattle.hdfs_client.specs.Session.{Stands, after, opened_of}
 use Rattle.hdfs_client.specs.declared.session.Session.{Session}
 use Rattle.hdfs_client.proofs.Agreeing.{agrees_but}
+use Rattle.hdfs_client.proofs.Sized.{remembers_failed, remembers_refl, sized_still}
 
 -- a result that is an error
 abbrev error_result : HdfsError → Result Reply HdfsError
@@ -25,7 +26,16 @@ error_result error = Err error
 
 -- a session that stands once a call of it has failed
 pub failed_stands : (s : Shown) (session : Session) → Stands s session → Stands s (record session { failed = true })
-failed_stands s session stands = record { limited = stands.limited; each = stands.each; fine = λ fine. absurd (cc (fine)); apart = stands.apart }
+failed_stands s session stands = record {
+  limited = stands.limited;
+  each = stands.each;
+  fine = λ fine. absurd (cc (fine));
+  apart = stands.apart;
+  name = stands.name;
+  sized = λ path writer is.
+      sized_still session (record session { failed = true }) (remembers_failed session session (remembers_refl session)) writer writer refl
+      (stands.sized path writer is);
+}
 
 -- nothing was done
 pub early_acts : (s : Shown) (session : Session) (command : Command) (error : HdfsError) → Stands s session → Tells command s s error
@@ -35,6 +45,7 @@ early_acts s session command error stands tells cause = record {
   anywhere = record { later = later_refl s; reads = same_reads_refl s; replies = tt; tells = tells; refused = λ early d. refl; idle = λ idle d. refl };
   links = record { others = λ link some foreign. refl; none = λ link was. was; fresh = λ link has. inl has };
   stands = failed_stands s session stands;
+  writers = λ r apart. refl;
   applied = λ state ready. record {
     ok = tt;
     err = ((cause state ready).0, agrees_but (spared (world_at session s) state command error) s.picture state.files ready.ready.fits.agrees);

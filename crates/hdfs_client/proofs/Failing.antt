@@ -30,7 +30,7 @@ use Rattle.hdfs_files.specs.declared.file_writer.FileWriter.{FileWriter}
 use Rattle.std.proofs.lemmas.Bool.{false≢true}
 use Rattle.hdfs_client.specs.Acting.{Acts, IsReady, world_at}
 use Rattle.hdfs_client.specs.Looking.{OnlyLooks}
-use Rattle.hdfs_client.specs.Preparing.{AreTold, LacksDefaults, Prepares}
+use Rattle.hdfs_client.specs.Preparing.{AreTold, LacksDefaults, Prepares, Remembers}
 use Rattle.hdfs_client.specs.Session.{CarriesFile, CarriesOpen, Stands, after, writer_of}
 use Rattle.hdfs_client.specs.declared.session.Session.{Session}
 use Rattle.hdfs_client.proofs.Still.{carries_stays}
@@ -39,6 +39,7 @@ use Rattle.hdfs_client.proofs.Agreeing.{agrees_but, agrees_files, is_told}
 use Rattle.hdfs_client.proofs.Opening.{Over}
 use Rattle.hdfs_client.proofs.Prepared.{looks_from-Served, looks_refl, looks_trans}
 use Rattle.hdfs_client.proofs.Refusing.{excepted, exception_cause, fault_tells, unanswered}
+use Rattle.hdfs_client.proofs.Sized.{remembers_refl, remembers_trans}
 
 -- namenodes that have failed since a time have failed since an earlier time
 rose_before : (a b c : Shown) → OnlyLooks a b → CallsRose b.counts c → CallsRose a.counts c
@@ -71,7 +72,7 @@ append_opens name = record { uses = tt; found = λ old new path byte lost. lost 
 pub options_acts : (s : Shown) (session : Session) (name : List ℕ) (options : WriteOptions) → Stands s session → are_options options ≡ false
     → Acts (commands.Create name options) s session s (after {T = Reply} session (Err (errors.InvalidArgument args.Options))) (Err (errors.InvalidArgument args.Options))
 options_acts s session name options stands out =
-    failed_acts (commands.Create name options) s s session session (errors.InvalidArgument args.Options) stands (looks_refl s) (λ r. refl) refl tt (λ path byte lost. lost)
+    failed_acts (commands.Create name options) s s session session (errors.InvalidArgument args.Options) stands (looks_refl s) (λ r. refl) (remembers_refl session) tt (λ path byte lost. lost)
     (λ state ready. (out, agrees_but (spared (world_at session s) state (commands.Create name options) (errors.InvalidArgument args.Options)) s.picture state.files ready.ready.fits.agrees))
     (λ state ready. record { each = λ p told r writer is. inr (ready.carried.each p told r writer is) })
 
@@ -96,7 +97,7 @@ module _ (command : Command) (opens : Opens command) (s m : Shown) (session sess
   -- want of memory, once the defaults were asked for
   pub starved_acts : Acts command s session m (after {T = Reply} session' (Err errors.NoMemory)) (Err errors.NoMemory)
   starved_acts =
-      failed_acts command s m session session' errors.NoMemory stands prepares.looks kept prepares.settings tt (opens.found s m)
+      failed_acts command s m session session' errors.NoMemory stands prepares.looks kept prepares.remembers tt (opens.found s m)
       (λ state ready. (tt, agrees_but (spared (world_at session s) state command errors.NoMemory) m.picture state.files (agrees_still state ready)))
       open_still
 
@@ -117,16 +118,16 @@ module _ (command : Command) (opens : Opens command) (s m : Shown) (session sess
   pub lacks_acts : (error : HdfsError) → LacksDefaults s session error m → Acts command s session m (after {T = Reply} session' (Err error)) (Err error)
   lacks_acts error (inl fault) =
       subst (λ (e : HdfsError). Acts command s session m (after {T = Reply} session' (Err e)) (Err e)) (sym fault.1)
-      (failed_acts command s m session session' (error_of fault.0) stands prepares.looks kept prepares.settings (fault_tells command s m fault.0 fault.2.last) (opens.found s m)
+      (failed_acts command s m session session' (error_of fault.0) stands prepares.looks kept prepares.remembers (fault_tells command s m fault.0 fault.2.last) (opens.found s m)
       (λ state ready. (fault_cause state ready fault.0 fault.2, agrees_but (spared (world_at session s) state command (error_of fault.0)) m.picture state.files (agrees_still state ready)))
       open_still)
   lacks_acts error (inr out) =
       subst (λ (e : HdfsError). Acts command s session m (after {T = Reply} session' (Err e)) (Err e)) (sym out.0)
-      (failed_acts command s m session session' (errors.InvalidArgument args.Defaults) stands prepares.looks kept prepares.settings opens.uses (opens.found s m)
+      (failed_acts command s m session session' (errors.InvalidArgument args.Defaults) stands prepares.looks kept prepares.remembers opens.uses (opens.found s m)
       (λ state ready. (out_cause state ready out.1 out.2 out.3, agrees_but (spared (world_at session s) state command (errors.InvalidArgument args.Defaults)) m.picture state.files (agrees_still state ready)))
       open_still)
 
-  module _ (t : Shown) (session'' : Session) (writers : (r : List ℕ) → writer_of session'' r ≡ writer_of session' r) (settings : session''.settings ≡ session'.settings) (ask : Ask) (path : List ℕ)
+  module _ (t : Shown) (session'' : Session) (writers : (r : List ℕ) → writer_of session'' r ≡ writer_of session' r) (remembers : Remembers session' session'') (ask : Ask) (path : List ℕ)
       (active' : (p : Picture) → m.picture ≡ Some p → p.active < m.namenodes)
       (called : (state : State) → target_of (world_at session s) command ≡ path)
       (over : (state : State) → IsReady s session state command → (p : Picture) → m.picture ≡ Some p → Over p (world_at session s) state command path ask) where
@@ -153,7 +154,7 @@ module _ (command : Command) (opens : Opens command) (s m : Shown) (session sess
         → ((state : State) → IsReady s session state command → (p : Picture) → m.picture ≡ Some p → Cause (world_at session s) state command s t error × ((q : Picture) × (t.picture ≡ Some q) × MayBeDone ask p q))
         → Acts command s session t (after {T = Reply} session'' (Err error)) (Err error)
     late_acts error late looks tells cause =
-        failed_acts command s t session session'' error stands (looks_trans s m t prepares.looks looks) (λ r. writers r ∙ kept r) (settings ∙ prepares.settings) tells (opens.found s t)
+        failed_acts command s t session session'' error stands (looks_trans s m t prepares.looks looks) (λ r. writers r ∙ kept r) (remembers_trans session session' session'' prepares.remembers remembers) tells (opens.found s t)
         (λ state ready.
         (let told = is_told m.picture state.files (agrees_still state ready) in
         let h = cause state ready told.0 told.1 in (
@@ -188,7 +189,7 @@ pub refused_acts : {C : Type 0} (shown : C → Shown) (a b : C) (command : Comma
     → Acts command s session (shown b) (after {T = Reply} session' (Err error)) (Err error)
 refused_acts shown a b command opens s session session' stands active prepares ask path active' called over no_own error (inl fault) =
     subst (λ (e : HdfsError). Acts command s session (shown b) (after {T = Reply} session' (Err e)) (Err e)) (sym fault.1)
-    (asked_acts command opens s (shown a) session session' stands active prepares (shown b) session' (λ r. refl) refl ask path active' (λ state. called) over no_own fault.0 fault.2)
+    (asked_acts command opens s (shown a) session session' stands active prepares (shown b) session' (λ r. refl) (remembers_refl session') ask path active' (λ state. called) over no_own fault.0 fault.2)
 refused_acts {C} shown a b command opens s session session' stands active prepares ask path active' called over no_own error (inr nothing) =
     subst (λ (x : C). Acts command s session (shown x) (after {T = Reply} session' (Err error)) (Err error)) (sym nothing.1)
     (subst (λ (e : HdfsError). Acts command s session (shown a) (after {T = Reply} session' (Err e)) (Err e)) (sym nothing.0)
@@ -196,11 +197,11 @@ refused_acts {C} shown a b command opens s session session' stands active prepar
 
 -- want of memory once the file was made, so that the session doesn't keep its writer
 pub unkept_acts : (command : Command) → Opens command → (s m t : Shown) (session session' session'' : Session) → Stands s session → ((p : Picture) → s.picture ≡ Some p → p.active < s.namenodes) → Prepares s session m session'
-    → ((r : List ℕ) → writer_of session'' r ≡ writer_of session' r) → session''.settings ≡ session'.settings → (ask : Ask) (path : List ℕ) → ((p : Picture) → m.picture ≡ Some p → p.active < m.namenodes)
+    → ((r : List ℕ) → writer_of session'' r ≡ writer_of session' r) → Remembers session' session'' → (ask : Ask) (path : List ℕ) → ((p : Picture) → m.picture ≡ Some p → p.active < m.namenodes)
     → target_of (world_at session s) command ≡ path → ((state : State) → IsReady s session state command → (p : Picture) → m.picture ≡ Some p → Over p (world_at session s) state command path ask)
     → OnlyLooks m t → ((p : Picture) → m.picture ≡ Some p → (q : Picture) × (t.picture ≡ Some q) × MayBeDone ask p q) → Acts command s session t (after {T = Reply} session'' (Err errors.NoMemory)) (Err errors.NoMemory)
-unkept_acts command opens s m t session session' session'' stands active prepares writers settings ask path active' called over looks done =
-    late_acts command opens s m session session' stands active prepares t session'' writers settings ask path active' (λ state. called) over errors.NoMemory refl looks tt (λ state ready p told. (tt, done p told))
+unkept_acts command opens s m t session session' session'' stands active prepares writers remembers ask path active' called over looks done =
+    late_acts command opens s m session session' stands active prepares t session'' writers remembers ask path active' (λ state. called) over errors.NoMemory refl looks tt (λ state ready p told. (tt, done p told))
 
 -- no status of the file was answered, of which an answer over a told picture always tells
 pub unstated_acts : (command : Command) → Opens command → (name : List ℕ) → name ≡ path_of command → (s m t : Shown) (session session' : Session) → Stands s session → ((p : Picture) → s.picture ≡ Some p → p.active < s.namenodes) → Prepares s session m session'
@@ -208,4 +209,4 @@ pub unstated_acts : (command : Command) → Opens command → (name : List ℕ) 
     → ((state : State) → IsReady s session state command → (p : Picture) → m.picture ≡ Some p → Over p (world_at session s) state command path ask) → OnlyLooks m t → t.last ≡ last_answers.Fine
     → ((p : Picture) → m.picture ≡ Some p → ⊥) → Acts command s session t (after {T = Reply} session' (Err (errors.FileNotFound name))) (Err (errors.FileNotFound name))
 unstated_acts command opens name is s m t session session' stands active prepares ask path active' called over looks last none =
-    late_acts command opens s m session session' stands active prepares t session' (λ r. refl) refl ask path active' (λ state. called) over (errors.FileNotFound name) refl looks (is, last) (λ state ready p told. absurd (none p told))
+    late_acts command opens s m session session' stands active prepares t session' (λ r. refl) (remembers_refl session') ask path active' (λ state. called) over (errors.FileNotFound name) refl looks (is, last) (λ state ready p told. absurd (none p told))

@@ -33,6 +33,7 @@ mod Refusing
 mod SendActs
 mod SendFails
 pub mod Since
+mod Sized
 mod Sizing
 mod Starting
 mod Stepping

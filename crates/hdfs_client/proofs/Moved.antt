@@ -13,8 +13,10 @@ use Rattle.hdfs_blocks.specs.Writers as blocks
 use Rattle.hdfs_blocks.specs.declared.block_writer.BlockWriter.{BlockWriter}
 use Rattle.hdfs_files.specs.Writers as files
 use Rattle.hdfs_files.specs.declared.file_writer.FileWriter.{FileWriter}
-use Rattle.hdfs_client.specs.Session.{HasLink, OnlyOwnLinks, Stands, writer_of, opened_of}
+use Rattle.hdfs_client.specs.Preparing.{Remembers}
+use Rattle.hdfs_client.specs.Session.{HasLink, IsSized, OnlyOwnLinks, Stands, writer_of, opened_of}
 use Rattle.hdfs_client.specs.declared.session.Session.{Session}
+use Rattle.hdfs_client.proofs.Sized.{named_still, sized_still}
 
 module _ (old new : Shown) (same : (link : ℕ) → new.writes link ≡ old.writes link) where
   block_moved : (writer : BlockWriter) → blocks.Stands old writer → blocks.Stands new writer
@@ -42,7 +44,9 @@ module _ (old new : Shown) (same : (link : ℕ) → new.writes link ≡ old.writ
   pub file_moved : (writer : FileWriter) → files.Stands old writer → files.Stands new writer
   file_moved writer stands = record {
     packets = stands.packets;
-    going = λ block is. (let h = stands.going block is in record { limited = h.limited; stands = block_moved block h.stands; size = h.size });
+    going = λ block is.
+        (let h = stands.going block is in
+        record { limited = h.limited; stands = block_moved block h.stands; size = h.size; chunk = h.chunk; packet_size = h.packet_size });
     is_open = stands.is_open;
     idle = stands.idle;
     reopened = stands.reopened;
@@ -52,12 +56,16 @@ module _ (old new : Shown) (same : (link : ℕ) → new.writes link ≡ old.writ
 
   module _ (session session' : Session) (writers_same : (path : List ℕ) → writer_of session' path ≡ writer_of session path) where
     -- so does a session with the same writers
-    pub session_moved : session'.settings ≡ session.settings → (session'.failed ≡ false → session.failed ≡ false) → Stands old session → Stands new session'
-    session_moved settings fine stands = record {
-      limited = ap are_settings settings ∙ stands.limited;
+    pub session_moved : Remembers session session' → (session'.failed ≡ false → session.failed ≡ false) → Stands old session
+        → Stands new session'
+    session_moved remembers fine stands = record {
+      limited = ap are_settings remembers.settings ∙ stands.limited;
       each = λ path writer is. (let h = stands.each path writer (sym (writers_same path) ∙ is) in (file_moved writer h.0, h.1));
       fine = λ failed path writer is. stands.fine (fine failed) path writer (sym (writers_same path) ∙ is);
       apart = λ path other writer writer' is is'. stands.apart path other writer writer' (sym (writers_same path) ∙ is) (sym (writers_same other) ∙ is');
+      name = named_still session session' remembers stands.name;
+      sized = λ path writer is.
+          sized_still session session' remembers writer writer refl (stands.sized path writer (sym (writers_same path) ∙ is));
     }
 
     link_before : (link : ℕ) → HasLink session' link → HasLink session link
@@ -74,9 +82,9 @@ module _ (old new : Shown) (same : (link : ℕ) → new.writes link ≡ old.writ
       fresh = λ link own. inl (link_before link own);
     }
 
--- A session has one writer more, at a path that it hadn't open; its settings are the same, and no command has failed.
+-- A session has one writer more, at a path that it hadn't open; it remembers what it is run with, and no command has failed.
 pub record HasMore (session session' : Session) (path : List ℕ) (writer : FileWriter) : Type 0 where
-  pub settings : session'.settings ≡ session.settings
+  pub remembers : Remembers session session'
   pub fine : session.failed ≡ false
   pub free : opened_of session path ≡ false
   pub put : (r : List ℕ) → writer_of session' r ≡ cond (bytes_eq path r) (Some writer) (writer_of session r)
@@ -118,9 +126,10 @@ module _ (shown : Shown) (session session' : Session) (path : List ℕ) (writer 
     no_link other link same is = let l : files.link_of writer ≡ Some link = ap files.link_of same ∙ is in absurd (cc (linkless, l))
 
     -- the session stands, where the new writer does, which keeps no link
-    pub session_with : Stands shown session → files.Stands shown writer → files.path_of writer ≡ path → files.has_failed writer ≡ false → Stands shown session'
-    session_with stands own at fine = record {
-      limited = ap are_settings more.settings ∙ stands.limited;
+    pub session_with : Stands shown session → files.Stands shown writer → files.path_of writer ≡ path → files.has_failed writer ≡ false
+        → IsSized session' writer → Stands shown session'
+    session_with stands own at fine sized = record {
+      limited = ap are_settings more.remembers.settings ∙ stands.limited;
       each = λ r other is. ⊎_elim
           (λ here. (subst (files.Stands shown) here.1 own, ap files.path_of (sym here.1) ∙ at ∙ here.0))
           (λ away. stands.each r other away.1)
@@ -133,6 +142,11 @@ module _ (shown : Shown) (session session' : Session) (path : List ℕ) (writer 
           (λ here. no_link one link here.1 a)
           (λ away. ⊎_elim (λ here. no_link two link here.1 b) (λ off. stands.apart r q one two away.1 off.1 apart link a b) (writer_cases q two is'))
           (writer_cases r one is);
+      name = named_still session session' more.remembers stands.name;
+      sized = λ r other is. ⊎_elim
+          (λ here. subst (λ (x : FileWriter). IsSized session' x) here.1 sized)
+          (λ away. sized_still session session' more.remembers other other refl (stands.sized r other away.1))
+          (writer_cases r other is);
     }
 
     had_link : (link : ℕ) → HasLink session' link → HasLink session link

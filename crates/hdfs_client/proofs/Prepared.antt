@@ -1,6 +1,6 @@
 -- What a session has once it has asked for the cluster's defaults.
 use Rattle.std.proofs.Common.{◌≡◌, inl, inr, ⊎_elim, ℕ, true, false, Option, Some, None, Result, Ok, Err, refl, sym, ◌∙◌, subst}
-use Rattle.std.specs.Prelude.{IfSome}
+use Rattle.std.specs.Prelude.{IfOk, IfSome}
 use Rattle.hdfs_model.specs.declared.asks.Answer.{Answer}
 use Rattle.hdfs_model.specs.declared.asks.Answer.TheVariants as answers
 use Rattle.hdfs_model.specs.declared.asks.Ask.{Ask}
@@ -15,6 +15,7 @@ use Rattle.hdfs_model.specs.Picture.{Picture, SameButActive, Told}
 use Rattle.hdfs_model.specs.Shown.{Shown, Served}
 use Rattle.hdfs_model.proofs.Frames.{later_refl, later_trans, same_files_refl, same_links_refl, same_links_trans, told_refl, told_weaker}
 use Rattle.hdfs_namenode.specs.Asked.{Asked, as_answer}
+use Rattle.hdfs_namenode.specs.Clients.{defaults_of, name_of}
 use Rattle.hdfs_namenode.specs.declared.protocol.NamenodeProtocol.{NamenodeProtocol}
 use Rattle.hdfs_client.specs.Looking.{OnlyLooks}
 use Rattle.hdfs_client.specs.Preparing.{Prepares}
@@ -82,13 +83,31 @@ module _ {C : Type 0} (shown : C → Shown) (serves : C → ℕ → Ask → Resu
       by_known None is h = (let one = asked is in leaves_served (shown a) (shown b) one.given (rows a b 0 asks.GetServerDefaults one.given one.served))
       by_known (Some x) is h = subst (λ (y : C). Leaves (shown a) (shown y)) (sym h.1) (leaves_refl (shown a))
 
+-- what was known was answered, and is kept
+known_kept : {C : Type 0} (a b : C) (known kept : Option ServerDefaults) (result : Result ServerDefaults HdfsError)
+    → IfSome known (λ d. (result ≡ Ok d) × (b ≡ a)) → IfOk result (λ d. kept ≡ Some d) → (d : ServerDefaults) → known ≡ Some d → kept ≡ Some d
+known_kept a b known kept result answered keeps d is =
+    let one = subst (λ (o : Option ServerDefaults). IfSome o (λ x. (result ≡ Ok x) × (b ≡ a))) is answered in
+    subst (λ (r : Result ServerDefaults HdfsError). IfOk r (λ x. kept ≡ Some x)) one.0 keeps
+
 -- a session that has asked for them, or knew them
 pub prepared : {C : Type 0} (shown : C → Shown) (serves : C → ℕ → Ask → Result Answer AskFault → C → Type 0)
     (rows : (old new : C) (i : ℕ) (ask : Ask) (result : Result Answer AskFault) → serves old i ask result new → Served (shown old) i ask result (shown new))
     (a b : C) (session : Session) (protocol : NamenodeProtocol) (result : Result ServerDefaults HdfsError)
     → IfSome (defaults_known session) (λ kept. (result ≡ Ok kept) × (b ≡ a))
     → (defaults_known session ≡ None → Asked serves asks.GetServerDefaults a (as_answer answers.GetServerDefaults result) b)
+    → IfOk result (λ d. defaults_of protocol ≡ Some d) → name_of protocol ≡ name_of session.namenode
     → Prepares (shown a) session (shown b) (record session { namenode = protocol })
-prepared shown serves rows a b session protocol result kept asked =
+prepared shown serves rows a b session protocol result kept asked keeps name =
     let leaves = leaves_by shown serves rows (defaults_known session) a b result kept asked in
-    record { looks = leaves.0; picture = leaves.1; settings = refl; writers = refl; failed = refl }
+    record {
+      looks = leaves.0;
+      picture = leaves.1;
+      remembers = record {
+        settings = refl;
+        name = name;
+        known = known_kept a b (defaults_known session) (defaults_of protocol) result kept keeps;
+      };
+      writers = refl;
+      failed = refl;
+    }

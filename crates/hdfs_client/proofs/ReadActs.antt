@@ -127,6 +127,7 @@ module _ (old new : Shown) (session : Session) (name path : List ℕ) (offset le
     anywhere = anywhere;
     links = after_links_stay {T = Reply} old new session (Ok reply) links.writes;
     stands = session_stands old new session (λ link has. links.writes link) stands;
+    writers = λ r apart. refl;
     applied = λ state ready. applied_ok state ready reply ok;
     world = λ state ready. same_world state ready files;
     carried = λ state ready next done.
@@ -139,6 +140,7 @@ module _ (old new : Shown) (session : Session) (name path : List ℕ) (offset le
     anywhere = anywhere;
     links = after_links_stay {T = Reply} old new session (Err e) links.writes;
     stands = after_stands {T = Reply} new session (Err e) (session_stands old new session (λ link has. links.writes link) stands);
+    writers = λ r apart. refl;
     applied = λ state ready. applied_err state ready (after {T = Reply} session (Err e)) e err anywhere.later;
     world = λ state ready. tt;
     carried = λ state ready. tt;

@@ -1,5 +1,5 @@
 -- How what a command does to a session and its cluster is put together.
-use Rattle.std.proofs.Common.{◌≡◌, ℕ, true, List, Some, Ok, Err, is_some, ◌∙◌, ap, subst}
+use Rattle.std.proofs.Common.{◌≡◌, ◌≢◌, ℕ, true, List, Some, Ok, Err, is_some, ◌∙◌, ap, subst}
 use Rattle.hdfs_model.specs.declared.commands.Command.{Command}
 use Rattle.hdfs_model.specs.declared.commands.Reply.{Reply}
 use Rattle.hdfs_model.specs.declared.errors.HdfsError.{HdfsError}
@@ -51,13 +51,15 @@ open_at old session state command path writer ready here =
     }
 
 module _ (command : Command) (old new : Shown) (session session' : Session) (later : Later old new) (reads : SameReads old new)
-    (idle : TouchesNothing command → SameNodes old new) (links : OnlyOwnLinks old session new session') (stands : Stands new session') where
+    (idle : TouchesNothing command → SameNodes old new) (links : OnlyOwnLinks old session new session') (stands : Stands new session')
+    (writers : (r : List ℕ) → r ≢ target_of (world_at session old) command → writer_of session' r ≡ writer_of session r) where
   -- a command that is done
   pub acts_done : (reply : Reply) → IsReply command reply → ((state : State) → IsReady old session state command → Comes command old session new session' reply state) → Acts command old session new session' (Ok reply)
   acts_done reply replies comes = record {
     anywhere = record { later = later; reads = reads; replies = replies; tells = tt; refused = tt; idle = idle };
     links = links;
     stands = stands;
+    writers = writers;
     applied = λ state ready.
         (let c = comes state ready in
         record { ok = (c.next, c.done, c.limited, c.fits, c.opened); err = tt; complete = tt });
@@ -79,6 +81,7 @@ module _ (command : Command) (old new : Shown) (session session' : Session) (lat
     anywhere = record { later = later; reads = reads; replies = tt; tells = tells; refused = refused; idle = idle };
     links = links;
     stands = stands;
+    writers = writers;
     applied = λ state ready. record {
       ok = tt;
       err = over state ready;

@@ -1,5 +1,5 @@
 -- A write or a close that fails.
-use Rattle.std.proofs.Common.{◌≡◌, ℕ, Bool, false, not, ◌&&◌, List, Some, Err, refl, sym, ◌∙◌, ap, subst}
+use Rattle.std.proofs.Common.{◌≡◌, ◌≢◌, ℕ, Bool, false, not, ◌&&◌, List, Some, Err, refl, sym, ◌∙◌, ap, subst}
 use Rattle.std.specs.Str.{bytes_eq}
 use Rattle.hdfs_model.specs.declared.commands.Command.{Command}
 use Rattle.hdfs_model.specs.declared.commands.Command.TheVariants as commands
@@ -49,6 +49,7 @@ module _ (command : Command) (sends : Sends command) (old new : Shown) (session 
     (here : writer_of session path ≡ Some writer) (before : Stands old session) (called : target_of (world_at session old) command ≡ path)
     (done : (state : State) → OpenAt old path writer state → IsDone (step (world_at session old) state command))
     (later : Later old new) (reads : SameReads old new) (links : OnlyOwnLinks old session new session') (stands : Stands new session')
+    (writers : (r : List ℕ) → r ≢ target_of (world_at session old) command → writer_of session' r ≡ writer_of session r)
     (others : (p q : Picture) → old.picture ≡ Some p → new.picture ≡ Some q → IsSound p → OnlyFile path p q → (state : State) → Carried old session state → CarriesOpen new session' state) where
   -- once something was asked nothing is said of the path alone
   spared_at : (error : HdfsError) → is_before_asking error ≡ false → (state : State) → IsDone (step (world_at session old) state command) → (q : List ℕ) → spared (world_at session old) state command error q ≡ bytes_eq path q
@@ -78,7 +79,7 @@ module _ (command : Command) (sends : Sends command) (old new : Shown) (session 
   pub sending_fails : (TouchesNothing command → SameNodes old new) → ((p : Picture) → old.picture ≡ Some p → IsSound p) → (error : HdfsError) → TellsClose path old new error → TouchesFile old writer new → HasCause old writer error new
       → Acts command old session new session' (Err error)
   sending_fails idle sound error tells touches causes =
-      acts_failed command old new session session' later reads idle links stands error
+      acts_failed command old new session session' later reads idle links stands writers error
       (tells_sending path old new command sends error tells)
       (λ early. absurd (not_early path old new command sends error tells early))
       (λ at byte lost. loses_none command sends old.counts new at byte lost)
@@ -98,11 +99,12 @@ module _ (command : Command) (sends : Sends command) (old new : Shown) (session 
 -- a write that is refused, as the file's attributes are out of their limits
 pub write_refused : (old new : Shown) (session session' : Session) (name path more : List ℕ) (writer : FileWriter) → writer_of session path ≡ Some writer → absolute (settings_of session).home name ≡ path
     → (AreLimited (sizes_of writer) → ⊥) → new ≡ old → Later old new → SameReads old new → SameNodes old new → OnlyOwnLinks old session new session' → Stands new session'
+    → ((r : List ℕ) → r ≢ absolute (settings_of session).home name → writer_of session' r ≡ writer_of session r)
     → ((p q : Picture) → old.picture ≡ Some p → new.picture ≡ Some q → IsSound p → OnlyFile path p q → (state : State) → Carried old session state → CarriesOpen new session' state)
     → ((p : Picture) → old.picture ≡ Some p → IsSound p)
     → Acts (commands.Write name more) old session new session' (Err (errors.InvalidArgument args.Options))
-write_refused old new session session' name path more writer here called out same later reads nodes links stands others sound =
-    acts_failed (commands.Write name more) old new session session' later reads (λ none. nodes) links stands (errors.InvalidArgument args.Options)
+write_refused old new session session' name path more writer here called out same later reads nodes links stands writers others sound =
+    acts_failed (commands.Write name more) old new session session' later reads (λ none. nodes) links stands writers (errors.InvalidArgument args.Options)
     tt
     (λ early. nodes)
     (λ at byte lost. lost)

@@ -29,7 +29,7 @@ use Rattle.hdfs_files.specs.declared.file_writer.FileWriter.{FileWriter}
 use Rattle.hdfs_files.specs.declared.sizes.WriteSizes.{WriteSizes}
 use Rattle.hdfs_files.proofs.Others.{tail_stays}
 use Rattle.hdfs_client.specs.Acting.{Acts, IsReady, world_at}
-use Rattle.hdfs_client.specs.Preparing.{HasDefaults, Prepares, sizes_by}
+use Rattle.hdfs_client.specs.Preparing.{HasDefaults, Prepares, Remembers, sizes_by}
 use Rattle.hdfs_client.specs.Session.{Stands, defaults_known, opened_of}
 use Rattle.hdfs_client.specs.declared.session.Session.{Session}
 use Rattle.hdfs_client.proofs.Acted.{BeginsFile, begun_acts}
@@ -39,6 +39,7 @@ use Rattle.hdfs_client.proofs.Moved.{HasMore}
 use Rattle.hdfs_client.proofs.Opening.{Over, append_over, appending, create_over, creating, made, was_made, was_reopened}
 use Rattle.hdfs_client.proofs.Prepared.{looks_from-Served, looks_trans}
 use Rattle.hdfs_client.proofs.Refusing.{append_step, create_step, kinds_same}
+use Rattle.hdfs_client.proofs.Sized.{sized_by}
 use Rattle.hdfs_client.proofs.WithWriting.{clear_to_create, closed_to_append}
 
 -- what a writer carries it carries where another namenode is active
@@ -112,7 +113,7 @@ module _ (s m : Shown) (session session' : Session) (path : List ℕ) (d : Serve
       (append_over path client flag h.now (world_at session s) state name (sound h.now h.told) h.agrees named h.unopened called)
 
   module _ (t : Shown) (session'' : Session) (writer : FileWriter) (more : HasMore session session'' path writer) (stands : Stands s session) (own : files.Stands t writer) (at : files.path_of writer ≡ path) (fine : files.has_failed writer ≡ false)
-      (linkless : files.link_of writer ≡ None) (knows : defaults_known session'' ≡ Some d) where
+      (linkless : files.link_of writer ≡ None) (on : Remembers session' session'') (knows : defaults_known session'' ≡ Some d) where
     module _ (name client : List ℕ) (options : WriteOptions) (status : Option FileStatusMsg) (called : absolute session.settings.home name ≡ path) where
       abbrev replication : ℕ
       replication = unwrap_or options.replication d.replication
@@ -160,8 +161,9 @@ module _ (s m : Shown) (session session' : Session) (path : List ℕ) (d : Serve
         -- a file was created
         pub created_acts : Acts create s session t session'' (Ok replies.Created)
         created_acts =
-            begun_acts create s t session session'' path writer replies.Created more created_begins refl stands
-            (looks_trans s m t prepares.looks (looks_from-Served m t (creating path client options replication block_size) (Ok (answers.Create status)) served)) own at fine linkless created_knows
+            begun_acts create s t session session'' path writer replies.Created more created_begins called refl stands
+            (looks_trans s m t prepares.looks (looks_from-Served m t (creating path client options replication block_size) (Ok (answers.Create status)) served)) own at fine linkless
+            (sized_by session' session'' on d writer replication block_size sizes knows) created_knows
 
     module _ (name client : List ℕ) (flag : ℕ) (appended : Appended) (stat : FileStatusMsg) (called : absolute session.settings.home name ≡ path) where
       abbrev append : Command
@@ -211,5 +213,7 @@ module _ (s m : Shown) (session session' : Session) (path : List ℕ) (d : Serve
         -- a file was opened to be gone on with
         pub appended_acts : Acts append s session t session'' (Ok replies.Appended)
         appended_acts =
-            begun_acts append s t session session'' path writer replies.Appended more appended_begins refl stands
-            (looks_trans s m t prepares.looks (looks_from-Served m t (appending path client flag) (Ok (answers.Append appended)) served)) own at fine linkless appended_knows
+            begun_acts append s t session session'' path writer replies.Appended more appended_begins called refl stands
+            (looks_trans s m t prepares.looks (looks_from-Served m t (appending path client flag) (Ok (answers.Append appended)) served)) own at fine linkless
+            (sized_by session' session'' on d writer (unwrap_or stat.block_replication 0) (unwrap_or stat.blocksize 0) sizes knows)
+            appended_knows

@@ -13,6 +13,7 @@ use Rattle.hdfs_files.specs.declared.file_writer.FileWriter.{FileWriter}
 use Rattle.hdfs_files.proofs.Others.{tail_stays}
 use Rattle.hdfs_client.specs.Session.{Stands, HasLink, OnlyOwnLinks, CarriesFile, Carried, after, defaults_known}
 use Rattle.hdfs_client.specs.declared.session.Session.{Session}
+use Rattle.hdfs_client.proofs.Early.{failed_stands}
 
 -- The writer of a file stands still where its link stayed.
 pub writer_stands : (a b : Shown) (w : FileWriter) → ((link : ℕ) → files.link_of w ≡ Some link → b.writes link ≡ a.writes link) → files.Stands a w → files.Stands b w
@@ -20,7 +21,13 @@ writer_stands a b w stays s = record {
   packets = s.packets;
   going = λ block is.
       let g = s.going block is in
-      record { limited = g.limited; stands = still_stands a b block (λ link has. stays link (ap files.link_by is ∙ has)) g.stands; size = g.size };
+      record {
+        limited = g.limited;
+        stands = still_stands a b block (λ link has. stays link (ap files.link_by is ∙ has)) g.stands;
+        size = g.size;
+        chunk = g.chunk;
+        packet_size = g.packet_size;
+      };
   is_open = s.is_open;
   idle = s.idle;
   reopened = s.reopened;
@@ -37,12 +44,14 @@ session_stands a b s stays h = record {
       (writer_stands a b writer (λ link has. stays link (path, writer, is, has)) e.0, e.1);
   fine = h.fine;
   apart = h.apart;
+  name = h.name;
+  sized = h.sized;
 }
 
 -- It stands once it has failed, too.
 pub after_stands : {T : Type 0} (shown : Shown) (s : Session) (result : Result T HdfsError) → Stands shown s → Stands shown (after s result)
 after_stands shown s (Ok value) h = h
-after_stands shown s (Err error) h = record { limited = h.limited; each = h.each; fine = λ is. absurd (cc); apart = h.apart }
+after_stands shown s (Err error) h = failed_stands shown s h
 
 -- A call that leaves the write links leaves those of the session.
 links_stay : (a b : Shown) (s : Session) → ((link : ℕ) → b.writes link ≡ a.writes link) → OnlyOwnLinks a s b s

@@ -1,5 +1,5 @@
 -- How a write and a close of a session end.
-use Rattle.std.proofs.Common.{◌≡◌, ⊎_elim, ℕ, true, false, cond, List, [], length, Option, Some, None, Ok, Err, refl, sym, ◌∙◌, ap, subst}
+use Rattle.std.proofs.Common.{◌≡◌, ◌≢◌, ⊎_elim, ℕ, Bool, true, false, cond, List, [], length, Option, Some, None, Ok, Err, refl, sym, ◌∙◌, ap, subst}
 use Rattle.std.proofs.lemmas.Bool.{false≢true}
 use Rattle.std.specs.Str.{bytes_eq}
 use Rattle.hdfs_model.specs.declared.commands.Command.TheVariants as commands
@@ -12,20 +12,24 @@ use Rattle.hdfs_model.specs.Picture.{Picture}
 use Rattle.hdfs_model.specs.Sessions.{IsNotOwed}
 use Rattle.hdfs_model.specs.Shown.{Shown, SameNodes}
 use Rattle.hdfs_model.specs.Sound.{IsSound}
+use Rattle.hdfs_namenode.specs.Clients.{defaults_of, name_of}
 use Rattle.hdfs_files.specs.Failing.{TellsClose}
 use Rattle.hdfs_files.specs.Writers as files
 use Rattle.hdfs_files.specs.declared.file_writer.FileWriter.{FileWriter}
 use Rattle.hdfs_files.proofs.Moving.{own_link_refl}
 use Rattle.hdfs_files.proofs.Others.{stands_beside}
 use Rattle.hdfs_client.specs.Acting.{world_at, Acts}
-use Rattle.hdfs_client.specs.Session.{settings_of, writer_of, defaults_known, Stands}
+use Rattle.hdfs_client.specs.Preparing.{Remembers}
+use Rattle.hdfs_client.specs.Session.{settings_of, writer_of, defaults_known, IsSized, Stands}
 use Rattle.hdfs_client.specs.declared.session.Session.{Session}
+use Rattle.hdfs_client.proofs.OneFile.{not_same}
 use Rattle.hdfs_client.proofs.SendActs.{acts_done}
 use Rattle.hdfs_client.proofs.Beside.{link_in, OneCall, links_of_one, stands_after, others_open}
 use Rattle.hdfs_client.proofs.CloseActs.{close_comes}
 use Rattle.hdfs_client.proofs.Limited.{limited_cases}
 use Rattle.hdfs_client.proofs.OpenFiles.{written_state, closed_state, write_is_done, close_is_done}
 use Rattle.hdfs_client.proofs.SendFails.{sending_fails, write_refused}
+use Rattle.hdfs_client.proofs.Sized.{sized_still}
 use Rattle.hdfs_client.proofs.WriteActs.{write_comes}
 use Rattle.hdfs_client.proofs.WriteFaults.{fails_as_close, not_owed}
 
@@ -38,20 +42,40 @@ pub record Called (old : Shown) (session : Session) (name path : List ℕ) (writ
   pub called : absolute (settings_of session).home name ≡ path
   pub named : is_path path ≡ true
   pub settings : settings_of session' ≡ settings_of session
-  pub known : defaults_known session' ≡ defaults_known session
+  pub namenode : session'.namenode ≡ session.namenode
 
 module _ (old new : Shown) (session session' : Session) (name path : List ℕ) (writer : FileWriter) where
   -- the call, by the links that it leaves
   call_of : (now : Option FileWriter) → Called old session name path writer now session' → files.OnlyOwnLink old (files.link_of writer) new (link_in now) → OneCall old session path (Some writer) now new session'
   call_of now c own = record { here = c.here; writers = c.writers; own = own }
 
+  -- the session knows what it knew
+  known_of : (now : Option FileWriter) → Called old session name path writer now session'
+      → defaults_known session' ≡ defaults_known session
+  known_of now c = ap defaults_of c.namenode
+
+  -- no other writer is touched
+  elsewhere : (now : Option FileWriter) → Called old session name path writer now session' → (r : List ℕ) → r ≢ absolute (settings_of session).home name
+      → writer_of session' r ≡ writer_of session r
+  elsewhere now c r apart =
+      c.writers r ∙ ap (λ (b : Bool). cond b now (writer_of session r)) (not_same path r (λ same. apart (same ∙ sym c.called)))
+
+  -- and remembers what it is run with
+  remembers_of : (now : Option FileWriter) → Called old session name path writer now session' → Remembers session session'
+  remembers_of now c = record { settings = c.settings; name = ap name_of c.namenode; known = λ defaults is. known_of now c ∙ is }
+
   module _ (writer' : FileWriter) (c : Called old session name path writer (Some writer') session') (stands : files.Stands new writer' × files.Keeps writer writer') where
     -- the session stands behind a write
     write_stands : files.OnlyOwnLink old (files.link_of writer) new (files.link_of writer') → (session'.failed ≡ false → (session.failed ≡ false) × (files.has_failed writer' ≡ false)) → Stands new session'
     write_stands own fine =
-        stands_after old new session session' path (Some writer) (Some writer') (call_of (Some writer') c own) c.before (stands_beside old new) c.settings
+        stands_after old new session session' path (Some writer) (Some writer') (call_of (Some writer') c own) c.before (stands_beside old new)
+        (remembers_of (Some writer') c)
         (λ w is. (let same : writer' ≡ w = cc in
-        subst (λ (x : FileWriter). files.Stands new x × (files.path_of x ≡ path)) same (stands.0, stands.1.path ∙ (c.before.each path writer c.here).1)))
+        subst (λ (x : FileWriter). files.Stands new x × (files.path_of x ≡ path) × IsSized session' x) same (
+          stands.0,
+          stands.1.path ∙ (c.before.each path writer c.here).1,
+          sized_still session session' (remembers_of (Some writer') c) writer writer' stands.1.sizes (c.before.sized path writer c.here),
+        )))
         (λ not_failed. ((fine not_failed).0, λ w is. (let same : writer' ≡ w = cc in subst (λ (x : FileWriter). files.has_failed x ≡ false) same (fine not_failed).1)))
 
     -- a writer that has failed keeps no link
@@ -66,8 +90,9 @@ module _ (old new : Shown) (session session' : Session) (name path : List ℕ) (
           let call = call_of (Some writer') c wrote.own in
           subst (λ (k : ℕ). Acts (commands.Write name more) old session new session' (Ok (replies.Written k))) (sym count)
           (acts_done (commands.Write name more) old new session session' wrote.own.later wrote.own.reads empty
-          (links_of_one old new session session' path (Some writer) (Some writer') call) (write_stands wrote.own (λ is. (failed is, fine))) (replies.Written (length more)) refl
-          (write_comes old new session session' name path more writer writer' call c.before c.sound c.called c.named stands.1 c.settings c.known wrote.carries limited))
+          (links_of_one old new session session' path (Some writer) (Some writer') call) (write_stands wrote.own (λ is. (failed is, fine))) (elsewhere (Some writer') c) (replies.Written (length more)) refl
+          (write_comes old new session session' name path more writer writer' call c.before c.sound c.called c.named stands.1 c.settings
+          (known_of (Some writer') c) wrote.carries limited))
 
       module _ (failed : session'.failed ≡ true) (has : files.has_failed writer' ≡ true) where
         -- the session stands behind a write that fails
@@ -84,7 +109,7 @@ module _ (old new : Shown) (session session' : Session) (name path : List ℕ) (
               written_state state path o.file.content more,
               write_is_done (world_at session old) state name path o.file.content c.called c.named o.opened o.file.named more,
             ))
-            own.later own.reads (links_of_one old new session session' path (Some writer) (Some writer') (call_of (Some writer') c own)) (fails_stands own)
+            own.later own.reads (links_of_one old new session session' path (Some writer) (Some writer') (call_of (Some writer') c own)) (fails_stands own) (elsewhere (Some writer') c)
             (others_open old new session session' path (Some writer) (Some writer') (call_of (Some writer') c own) (λ w is. (let one : writer' ≡ w = cc in subst (λ (x : FileWriter). files.has_failed x ≡ true) one has)))
             empty c.sound error (fails_as_close path old new error fails.tells) fails.touches fails.cause
 
@@ -94,7 +119,7 @@ module _ (old new : Shown) (session session' : Session) (name path : List ℕ) (
             let stayed : files.OnlyOwnLink old None new None = subst (λ (x : Shown). files.OnlyOwnLink old None x None) (sym same) (own_link_refl old None) in
             let own = failed_own has (files.link_of writer) (subst (λ (x : Option ℕ). files.OnlyOwnLink old x new None) (sym idle) stayed) in
             write_refused old new session session' name path more writer c.here c.called out same own.later own.reads (λ d. ap (λ (s : Shown). s.counts.nodes d) same)
-            (links_of_one old new session session' path (Some writer) (Some writer') (call_of (Some writer') c own)) (fails_stands own)
+            (links_of_one old new session session' path (Some writer) (Some writer') (call_of (Some writer') c own)) (fails_stands own) (elsewhere (Some writer') c)
             (others_open old new session session' path (Some writer) (Some writer') (call_of (Some writer') c own) (λ w is. (let one : writer' ≡ w = cc in subst (λ (x : FileWriter). files.has_failed x ≡ true) one has))) c.sound
 
         -- a write that isn't done
@@ -112,7 +137,8 @@ module _ (old new : Shown) (session session' : Session) (name path : List ℕ) (
     -- the session stands behind a close
     close_stands : files.OnlyOwnLink old (files.link_of writer) new None → (session'.failed ≡ false → session.failed ≡ false) → Stands new session'
     close_stands own failed =
-        stands_after old new session session' path (Some writer) None (call_of None c own) c.before (stands_beside old new) c.settings
+        stands_after old new session session' path (Some writer) None (call_of None c own) c.before (stands_beside old new)
+        (remembers_of None c)
         (λ w is. absurd (cc)) (λ is. (failed is, λ w at. absurd (cc)))
 
     -- a close that is done
@@ -120,8 +146,9 @@ module _ (old new : Shown) (session session' : Session) (name path : List ℕ) (
     close_acts failed closed =
         let call = call_of None c closed.own in
         acts_done (commands.Close name) old new session session' closed.own.later closed.own.reads (λ none. absurd none)
-        (links_of_one old new session session' path (Some writer) None call) (close_stands closed.own failed) replies.Closed refl
-        (close_comes old new session session' name path writer call c.before c.sound c.called c.named c.settings c.known closed.closes)
+        (links_of_one old new session session' path (Some writer) None call) (close_stands closed.own failed) (elsewhere None c) replies.Closed refl
+        (close_comes old new session session' name path writer call c.before c.sound c.called c.named c.settings (known_of None c)
+        closed.closes)
 
     -- a close that fails
     pub close_fails : session'.failed ≡ true → (error : HdfsError) → files.FailsToClose old writer error new → Acts (commands.Close name) old session new session' (Err error)
@@ -130,7 +157,7 @@ module _ (old new : Shown) (session session' : Session) (name path : List ℕ) (
         sending_fails (commands.Close name) tt old new session session' path writer c.here c.before c.called
         (λ state o. (replies.Closed, closed_state state path o.file.content, close_is_done (world_at session old) state name path o.file.content c.called c.named o.opened o.file.named))
         own.later own.reads (links_of_one old new session session' path (Some writer) None (call_of None c own))
-        (close_stands own (λ is. absurd (false≢true (sym is ∙ failed))))
+        (close_stands own (λ is. absurd (false≢true (sym is ∙ failed)))) (elsewhere None c)
         (others_open old new session session' path (Some writer) None (call_of None c own) (λ w is. absurd (cc)))
         (λ none. absurd none) c.sound error (subst (λ (x : List ℕ). TellsClose x old new error) (c.before.each path writer c.here).1 fails.tells) fails.touches fails.cause
 

@@ -11,17 +11,24 @@ use Rattle.hdfs_model.specs.Picture.{Picture, SameButActive, Told}
 use Rattle.hdfs_model.specs.Sessions.{defaults_of}
 use Rattle.hdfs_model.specs.Shown.{Shown, Served}
 use Rattle.hdfs_namenode.specs.Asked.{error_of}
+use Rattle.hdfs_namenode.specs.Clients.{name_of}
 use Rattle.hdfs_files.specs.declared.sizes.WriteSizes.{WriteSizes}
 use Rattle.hdfs_client.specs.Looking.{OnlyLooks}
 use Rattle.hdfs_client.specs.Session.{defaults_known, settings_of}
 use Rattle.hdfs_client.specs.declared.session.Session.{Session}
 
+-- A session is run with what it was run with, asks in the name in which it asked, and knows the defaults that it knew.
+pub record Remembers (session session' : Session) : Type 0 where
+  pub settings : session'.settings ≡ session.settings
+  pub name : name_of session'.namenode ≡ name_of session.namenode
+  pub known : (defaults : ServerDefaults) → defaults_known session ≡ Some defaults → defaults_known session' ≡ Some defaults
+
 -- Asking for them leaves the links and the datanodes, and of a told picture all but which namenode is active; of the session it leaves
--- all but what that knows of them.
+-- all but what that knows of them, and what it knew it knows still.
 pub record Prepares (old : Shown) (session : Session) (new : Shown) (session' : Session) : Type 0 where
   pub looks : OnlyLooks old new
   pub picture : Told SameButActive old.picture new.picture
-  pub settings : session'.settings ≡ session.settings
+  pub remembers : Remembers session session'
   pub writers : session'.writers ≡ session.writers
   pub failed : session'.failed ≡ session.failed
 

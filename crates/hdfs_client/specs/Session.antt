@@ -65,14 +65,25 @@ abbrev pub after : {T : Type 0} → Session → Result T HdfsError → Session
 after session (Ok value) = session
 after session (Err error) = record session { failed = true }
 
+-- A writer has the session's window, and the sizes of packets of the cluster's defaults, which the session knows.
+pub record IsSized (session : Session) (writer : FileWriter) : Type 0 where
+  pub known : ServerDefaults
+  pub is_known : defaults_known session ≡ Some known
+  pub window : (files.sizes_of writer).window ≡ session.settings.window
+  pub chunk : (files.sizes_of writer).chunk ≡ known.bytes_per_checksum
+  pub packet_size : (files.sizes_of writer).packet_size ≡ known.write_packet_size
+
 -- What a session is between calls: its settings are in their limits, each writer stands and is that of the file at its path, and
--- no two keep one link. As long as no command has failed, no writer has.
+-- no two keep one link. As long as no command has failed, no writer has. It asks in the name of its client, and its writers write with
+-- its window, and with the sizes of packets of the cluster's defaults.
 pub record Stands (shown : Shown) (session : Session) : Type 0 where
   pub limited : are_settings session.settings ≡ true
   pub each : (path : List ℕ) (writer : FileWriter) → writer_of session path ≡ Some writer → files.Stands shown writer × (files.path_of writer ≡ path)
   pub fine : session.failed ≡ false → (path : List ℕ) (writer : FileWriter) → writer_of session path ≡ Some writer → files.has_failed writer ≡ false
   pub apart : (path other : List ℕ) (writer writer' : FileWriter) → writer_of session path ≡ Some writer → writer_of session other ≡ Some writer'
       → path ≢ other → (link : ℕ) → files.link_of writer ≡ Some link → files.link_of writer' ≡ Some link → ⊥
+  pub name : namenode.name_of session.namenode ≡ namenode.client_name session.settings.client
+  pub sized : (path : List ℕ) (writer : FileWriter) → writer_of session path ≡ Some writer → IsSized session writer
 
 -- Calls on the cluster in the session's name: the write links that were open and aren't its own stay; one that wasn't open, or was its
 -- own, isn't open, or is its own; and its own were its own before, or weren't open.

@@ -39,7 +39,8 @@ pub(crate) fn locate<C: Cluster>(
         → (q : Picture) × ((C.shown cluster.new).picture ≡ Some q) × SameFiles p q }
     ensures found { IfOk result (λ found. (p : Picture) → (C.shown cluster.old).picture ≡ Some p
         → IsClosed p path.now → Locates p path.now found) }
-    ensures cause { IfErr result (λ e. (world : World) (state : State) (offset len : ℕ) → Meets world (C.shown cluster.old) state name.now path.now
+    ensures cause { IfErr result (λ e. (world : World) (state : State) (offset len : ℕ)
+        → Meets world (C.shown cluster.old) state name.now path.now
         → Cause world state (Command.Read name.now offset len) (C.shown cluster.old) (C.shown cluster.new) e) }
 {
     match namenode.get_block_locations(cluster, path, 0, WHOLE_FILE) {

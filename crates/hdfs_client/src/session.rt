@@ -1,5 +1,5 @@
 //! One session of commands.
-ghost use Rattle.std.specs.Prelude.{◌≡◌, ◌⊎◌, ◌<◌, ◌↔◌, Err, None, IfOk, IfErr, IfSome, IsSome, IsTrue, OnOk, OnErr, true, false, List, ℕ};
+ghost use Rattle.std.specs.Prelude.{◌≡◌, ◌⊎◌, ◌<◌, ◌↔◌, Err, None, IfOk, IfErr, IsSome, IsTrue, OnOk, OnErr, true, false, List, ℕ};
 ghost use Rattle.hdfs_client.specs.Acting.{Acts, world_at};
 ghost use Rattle.hdfs_model.specs.Files.{State};
 ghost use Rattle.hdfs_model.specs.Limits.{are_settings};
@@ -7,7 +7,6 @@ ghost use Rattle.hdfs_model.specs.Paths.{is_path, absolute};
 ghost use Rattle.hdfs_model.specs.Sessions.{Owed, is_misplaced};
 ghost use Rattle.hdfs_model.specs.Shown.{Shown, Later, SameReads};
 ghost use Rattle.hdfs_model.specs.Steps.{path_of};
-ghost use Rattle.hdfs_model.specs.declared.errors.ArgFault.TheVariants as args;
 ghost use Rattle.hdfs_model.specs.declared.errors.HdfsError.TheVariants as errors;
 
 use crate::reading::read_file;
@@ -64,7 +63,8 @@ impl Session {
     fn target(&self, command: &Command) -> Result<Text, HdfsError>
         ensures ok { IfOk result (λ path. (path ≡ absolute (settings_of self.now).home (path_of command.now)) × (is_path path ≡ true)) }
         ensures err { IfErr result (λ e. (e ≡ errors.NoMemory)
-            ⊎ ((e ≡ errors.InvalidPath (path_of command.now)) × (is_path (absolute (settings_of self.now).home (path_of command.now)) ≡ false))) }
+            ⊎ ((e ≡ errors.InvalidPath (path_of command.now))
+            × (is_path (absolute (settings_of self.now).home (path_of command.now)) ≡ false))) }
     {
         let name = command.path();
         let path = absolute_path(self.alloc, self.settings.home.as_str(), name.as_str())?;

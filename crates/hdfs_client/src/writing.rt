@@ -1,7 +1,6 @@
 //! The commands of a session that write.
-ghost use Rattle.std.specs.Prelude.{◌≡◌, ◌<◌, ℕ, List, IfOk, IfErr, OnOk, true, false};
+ghost use Rattle.std.specs.Prelude.{◌≡◌, ◌<◌, ℕ, List, IfOk, IfErr, true, false};
 ghost use Rattle.hdfs_model.specs.declared.commands.Command.TheVariants as Command;
-ghost use Rattle.hdfs_model.specs.Limits.{are_defaults};
 ghost use Rattle.hdfs_model.specs.Paths.{is_path, absolute};
 ghost use Rattle.hdfs_model.specs.Sessions.{IsNotOwed};
 

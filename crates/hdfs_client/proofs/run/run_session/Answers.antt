@@ -1,24 +1,52 @@
 -- The loop's fold goes on by one command, or stops there.
-use Rattle.std.proofs.Common.{◌≡◌, ℕ, ◌+◌, List, length, take, Result, Err, Vec, sym, ◌∙◌, ap, subst, arith}
+use Rattle.std.proofs.Common.{◌≡◌, ℕ, ◌+◌, Option, is_some, List, [], length, take, Result, Err, Vec, sym, ◌∙◌, ap, subst, arith, rules}
 use Rattle.std.specs.declared.alloc.Global.{Global}
 use Rattle.std.proofs.lemmas.List.{take_all, length_push}
 use Rattle.hdfs_model.specs.declared.commands.Reply.{Reply}
+use Rattle.hdfs_model.specs.declared.commands.Settings.{Settings}
+use Rattle.hdfs_files.specs.declared.file_writer.FileWriter.{FileWriter}
 use Rattle.hdfs_model.specs.Anywhere.{AreReplies}
 use Rattle.hdfs_model.specs.Steps.{World}
 use Rattle.hdfs_model.specs.Sessions.{world_of}
-use Rattle.hdfs_model.proofs.Frames.{later_trans, same_reads_trans}
+use Rattle.hdfs_model.proofs.Frames.{later_refl, later_trans, same_reads_refl, same_reads_trans}
 use Rattle.hdfs_model.specs.declared.errors.HdfsError.{HdfsError}
 use Rattle.hdfs_model.specs.Folds.{fold}
 use Rattle.hdfs_client.specs.Acting.{Acts}
 use Rattle.hdfs_client.proofs.Ending.{replies_next, runs_failed}
 use Rattle.hdfs_client.proofs.Finishing.{complete_done}
-use Rattle.hdfs_client.proofs.Going.{GoneOn, goes_on, stops_there, complete_there, ends_there}
-use Rattle.hdfs_client.proofs.Owning.{own_end, own_next}
+use Rattle.hdfs_client.proofs.Going.{GoneOn, gone_none, goes_on, stops_there, complete_there, ends_there}
+use Rattle.hdfs_client.proofs.Owning.{own_end, own_next, own_start}
 use Rattle.hdfs_client.proofs.run.run_session.Goals as goal
 
 -- a result that is an error
 abbrev failed_with : HdfsError → Result Reply HdfsError
 failed_with e = Err e
+
+-- before the first command
+pub loop-command-init : goal.loop-command-init
+loop-command-init g c =
+    let s = g.C.Cluster.shown c.args.cluster.now in
+    let session = c.in-Ok-new.session in
+    let made = c.in-Ok-new.ensures in
+    let w : World = world_of c.args.settings.now s in
+    record {
+      later = later_refl s;
+      reads = same_reads_refl s;
+      own = own_start s session made.none.0;
+      stands = made.stands.0 s;
+      fine = made.stands.1;
+      settings = made.settings.0;
+      count = ap length c.in-Ok.ensures.items;
+      replied = subst (AreReplies []) (sym c.in-Ok.ensures.items) tt;
+      room = search rules;
+      told = λ state ready.
+          subst (λ (rs : List Reply). GoneOn w state c.args.commands.now 0 rs s session) (sym c.in-Ok.ensures.items)
+          (gone_none w state c.args.commands.now s session ready.fits (λ path. ready.opened path ∙ sym (ap (λ (o : Option FileWriter). is_some o) (made.none.0 path))) ready.avoids
+          (record {
+            each = λ p told path writer is. (let none = made.none.0 path in absurd (cc (is, none)));
+            defaults = rw made.none.1 tt;
+          }) (ap (λ (x : Settings). world_of x s) made.settings.0));
+    }
 
 pub loop-command-preserved : goal.loop-command-preserved
 loop-command-preserved g c =

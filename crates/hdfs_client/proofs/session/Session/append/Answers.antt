@@ -17,6 +17,7 @@ use Rattle.hdfs_client.proofs.Failing.{append_opens, lacks_acts, refused_acts, s
 use Rattle.hdfs_client.proofs.Moved.{kept_by, put_by}
 use Rattle.hdfs_client.proofs.Opening.{appending, appending_as, was_reopened}
 use Rattle.hdfs_client.proofs.Prepared.{looks_from-Served}
+use Rattle.hdfs_client.proofs.Sized.{remembers_refl, remembers_trans, remembers_with}
 use Rattle.hdfs_client.proofs.Starting.{appended_acts, appended_over}
 use Rattle.hdfs_client.proofs.session.Session.append.Goals as goal
 
@@ -87,7 +88,7 @@ returns-in_err-copy-clause-acts g c =
     let looks = looks_from-Served m t (appending c.args.path client 4) (Ok (answers.Append appended)) served.0 in
     let over = λ (called : absolute c.args.self.now.settings.home name ≡ c.args.path). appended_over s m c.args.self.now session c.args.path d prepares c.in_ok-defaults.ensures.ok c.requires.path c.requires.placed (g.met.C.Cluster.sound c.defaults.new.cluster) name client 4 called in
     rw (p.1, p.2) (λ called. unkept_acts (commands.Append name) (append_opens name) s m t c.args.self.now session session c.requires.stands
-    (g.met.C.Cluster.active_below c.args.cluster.now) prepares (λ r. refl) refl (appending c.args.path client 4) c.args.path (g.met.C.Cluster.active_below c.defaults.new.cluster) called (over called) looks
+    (g.met.C.Cluster.active_below c.args.cluster.now) prepares (λ r. refl) (remembers_refl session) (appending c.args.path client 4) c.args.path (g.met.C.Cluster.active_below c.defaults.new.cluster) called (over called) looks
     (λ q told. (let one = was_reopened c.args.path client 4 q m t appended told served.1 served.0 in (one.0, one.1, one.3))))
 
 pub returns-in_err-insert-clause-acts : goal.returns-in_err-insert-clause-acts
@@ -107,7 +108,7 @@ returns-in_err-insert-clause-acts g c =
     let looks = looks_from-Served m t (appending c.args.path client 4) (Ok (answers.Append appended)) served.0 in
     let over = λ (called : absolute c.args.self.now.settings.home name ≡ c.args.path). appended_over s m c.args.self.now session c.args.path d prepares c.in_ok-defaults.ensures.ok c.requires.path c.requires.placed (g.met.C.Cluster.sound c.defaults.new.cluster) name client 4 called in
     rw (p.1, p.2) (λ called. unkept_acts (commands.Append name) (append_opens name) s m t c.args.self.now session (record session { writers = c.insert.new.self }) c.requires.stands
-    (g.met.C.Cluster.active_below c.args.cluster.now) prepares (kept_by session.writers c.insert.new.self c.in_err-insert.ensures.err) refl (appending c.args.path client 4) c.args.path (g.met.C.Cluster.active_below c.defaults.new.cluster) called (over called) looks
+    (g.met.C.Cluster.active_below c.args.cluster.now) prepares (kept_by session.writers c.insert.new.self c.in_err-insert.ensures.err) (remembers_with session c.insert.new.self) (appending c.args.path client 4) c.args.path (g.met.C.Cluster.active_below c.defaults.new.cluster) called (over called) looks
     (λ q told. (let one = was_reopened c.args.path client 4 q m t appended told served.1 served.0 in (one.0, one.1, one.3))))
 
 pub returns-clause-acts : goal.returns-clause-acts
@@ -132,11 +133,12 @@ returns-clause-acts g c = λ called.
     appended_acts s m c.args.self.now session c.args.path d prepares c.in_ok-defaults.ensures.ok c.requires.path c.requires.placed (g.met.C.Cluster.sound c.defaults.new.cluster)
     t (record session { writers = c.insert.new.self }) writer
     (record {
-      settings = prepares.settings;
+      remembers = remembers_trans c.args.self.now session (record session { writers = c.insert.new.self }) prepares.remembers
+          (remembers_with session c.insert.new.self);
       fine = c.requires.fine;
       free = c.requires.placed;
       put = put_by session.writers c.insert.new.self c.args.self.now.writers (string_bytes c.in_ok-key.key) c.args.path writer prepares.writers (c.in_ok-key.ensures.ok ∙ c.as_str.ensures)
           (btree_map_updates_text (string_bytes c.in_ok-key.key) session.writers c.insert.new.self (Some writer) c.in_ok-insert.ensures.updates);
     })
-    c.requires.stands (c.appended-writer.ensures.stands t) c.appended-writer.ensures.path.0 c.appended-writer.ensures.idle.1 c.appended-writer.ensures.idle.0 c.in_ok-defaults.ensures.ok.known
+    c.requires.stands (c.appended-writer.ensures.stands t) c.appended-writer.ensures.path.0 c.appended-writer.ensures.idle.1 c.appended-writer.ensures.idle.0 (remembers_with session c.insert.new.self) c.in_ok-defaults.ensures.ok.known
     name client 4 appended stat called c.in-Some.is c.appended-writer.ensures.tail (c.appended-writer.ensures.path.1 ∙ sizes) served.1 served.0

@@ -20,7 +20,7 @@ returns-in-Ok-clause-acts g c = λ name is.
       called = is;
       named = c.requires.path;
       settings = refl;
-      known = refl;
+      namenode = refl;
     })
     (λ fine. fine) c.in-Ok.ensures.closed
 
@@ -38,7 +38,7 @@ returns-in-Err-clause-acts g c = λ name is.
       called = is;
       named = c.requires.path;
       settings = refl;
-      known = refl;
+      namenode = refl;
     })
     refl c.in-Err.error (c.in-Err.ensures.err (c.requires.stands.fine c.requires.fine path c.in-Some.writer here))
 

@@ -13,6 +13,7 @@ use Rattle.hdfs_client.proofs.Failing.{create_opens, lacks_acts, options_acts, r
 use Rattle.hdfs_client.proofs.Moved.{kept_by, put_by}
 use Rattle.hdfs_client.proofs.Opening.{creating, creating_as, was_made}
 use Rattle.hdfs_client.proofs.Prepared.{looks_from-Served}
+use Rattle.hdfs_client.proofs.Sized.{remembers_trans, remembers_with}
 use Rattle.hdfs_client.proofs.Sizing.{are_sizes_by}
 use Rattle.hdfs_client.proofs.Starting.{created_acts, created_over}
 use Rattle.hdfs_client.proofs.session.Session.create.Goals.{then-options, else-options}
@@ -77,7 +78,8 @@ returns-in_err-insert-clause-acts g c =
     c.as_str-2.ensures flag c.unwrap_or-replication.ensures c.unwrap_or-block_size.ensures c.in_ok-status.ensures.asked in
     let served = served_answer g.C.Cluster.shown g.C.Cluster.serves g.met.C.Cluster.serves_rows (creating c.args.path client options r k) c.defaults.new.cluster c.create.new.cluster (answers.Create status) asked in
     rw (p.1, p.2) (λ name called. unkept_acts (commands.Create name options) (create_opens name options) s m t c.args.self.now c.defaults.new.self (record c.defaults.new.self { writers = c.insert.new.self }) c.requires.stands
-    (g.met.C.Cluster.active_below c.args.cluster.now) c.in_ok-defaults.ensures.prepares (kept_by c.defaults.new.self.writers c.insert.new.self c.in_err-insert.ensures.err) refl
+    (g.met.C.Cluster.active_below c.args.cluster.now) c.in_ok-defaults.ensures.prepares (kept_by c.defaults.new.self.writers c.insert.new.self c.in_err-insert.ensures.err)
+    (remembers_with c.defaults.new.self c.insert.new.self)
     (creating c.args.path client options r k) c.args.path (g.met.C.Cluster.active_below c.defaults.new.cluster) called
     (created_over s m c.args.self.now c.defaults.new.self c.args.path d c.in_ok-defaults.ensures.prepares c.in_ok-defaults.ensures.ok c.requires.path c.requires.placed (g.met.C.Cluster.sound c.defaults.new.cluster) name client options r k called)
     (looks_from-Served m t (creating c.args.path client options r k) (Ok (answers.Create status)) served.0)
@@ -93,7 +95,7 @@ new-writer-requires g c =
     let same : c.sizes-sizes.result ≡ sizes_by session d r k =
     c.sizes-sizes.ensures ∙ ap (λ (x : ℕ). sizes_by session d x c.unwrap_or-block_size.result) c.unwrap_or-replication.ensures ∙ ap (λ (x : ℕ). sizes_by session d r x) c.unwrap_or-block_size.ensures in
     subst AreSizes (sym same)
-    (are_sizes_by session d (ap are_settings c.in_ok-defaults.ensures.prepares.settings ∙ c.requires.stands.limited) c.in_ok-defaults.ensures.ok.limited options (sym c.are_limited.ensures ∙ c.if-not-are_limited.false))
+    (are_sizes_by session d (ap are_settings c.in_ok-defaults.ensures.prepares.remembers.settings ∙ c.requires.stands.limited) c.in_ok-defaults.ensures.ok.limited options (sym c.are_limited.ensures ∙ c.if-not-are_limited.false))
 
 pub returns-clause-acts : goal.returns-clause-acts
 returns-clause-acts g c = λ name called.
@@ -121,11 +123,12 @@ returns-clause-acts g c = λ name called.
     created_acts s m c.args.self.now session c.args.path d prepares c.in_ok-defaults.ensures.ok c.requires.path c.requires.placed (g.met.C.Cluster.sound c.defaults.new.cluster)
     t (record session { writers = c.insert.new.self }) writer
     (record {
-      settings = prepares.settings;
+      remembers = remembers_trans c.args.self.now session (record session { writers = c.insert.new.self }) prepares.remembers
+          (remembers_with session c.insert.new.self);
       fine = c.requires.fine;
       free = c.requires.placed;
       put = put_by session.writers c.insert.new.self c.args.self.now.writers (string_bytes c.in_ok-key.key) c.args.path writer prepares.writers (c.in_ok-key.ensures.ok ∙ c.as_str.ensures)
           (btree_map_updates_text (string_bytes c.in_ok-key.key) session.writers c.insert.new.self (Some writer) c.in_ok-insert.ensures.updates);
     })
-    c.requires.stands (c.new-writer.ensures.stands t) c.new-writer.ensures.path.0 c.new-writer.ensures.idle.1 c.new-writer.ensures.idle.0 c.in_ok-defaults.ensures.ok.known name client options status called
+    c.requires.stands (c.new-writer.ensures.stands t) c.new-writer.ensures.path.0 c.new-writer.ensures.idle.1 c.new-writer.ensures.idle.0 (remembers_with session c.insert.new.self) c.in_ok-defaults.ensures.ok.known name client options status called
     (sym c.are_limited.ensures ∙ c.if-not-are_limited.false) c.new-writer.ensures.tail (c.new-writer.ensures.path.1 ∙ sizes) served.0

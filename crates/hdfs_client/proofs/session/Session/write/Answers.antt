@@ -21,10 +21,10 @@ returns-in-Ok-clause-acts g c = λ name is.
       called = is;
       named = c.requires.path;
       settings = refl;
-      known = refl;
+      namenode = refl;
     })
     c.write.ensures.stands c.args.bytes.now
-    (λ none d. ap (λ x. (g.C.Cluster.shown x).counts.nodes d) (c.write.ensures.none none))
+    (λ none d. ap (λ x. (g.C.Cluster.shown x).counts.nodes d) (c.write.ensures.idle.none none))
     (λ fine. fine) c.in-Ok.ensures.fails.0 c.in-Ok.ensures.wrote c.in-Ok.ensures.count.1 c.in-Ok.count c.in-Ok.ensures.count.0
 
 pub returns-in-Err-clause-acts : goal.returns-in-Err-clause-acts
@@ -43,15 +43,15 @@ returns-in-Err-clause-acts g c = λ name is.
       called = is;
       named = c.requires.path;
       settings = refl;
-      known = refl;
+      namenode = refl;
     })
     c.write.ensures.stands c.args.bytes.now
-    (λ none d. ap (λ x. (g.C.Cluster.shown x).counts.nodes d) (c.write.ensures.none none))
+    (λ none d. ap (λ x. (g.C.Cluster.shown x).counts.nodes d) (c.write.ensures.idle.none none))
     refl c.in-Err.ensures.fails.1 c.in-Err.error (c.in-Err.ensures.err fine)
-    (λ out. (let o = c.in-Err.ensures.options fine out in (cc o.0, o.1, ap (λ x. g.C.Cluster.shown x) o.2)))
+    (λ out. (let o = c.in-Err.ensures.idle.options fine out in (cc o.0, o.1, ap (λ x. g.C.Cluster.shown x) o.2)))
 
 pub returns-in-Err-clause-owed : goal.returns-in-Err-clause-owed
 returns-in-Err-clause-owed g c =
     let fine = c.requires.stands.fine c.requires.fine c.args.path.now c.in-Some.writer.now (sym c.in-Some.ensures.value) in
     write_not_owed (g.C.Cluster.shown c.args.cluster.now) (g.C.Cluster.shown c.write.new.cluster) c.in-Some.writer.now c.in-Err.error
-    (c.in-Err.ensures.err fine) (λ out. cc (c.in-Err.ensures.options fine out).0)
+    (c.in-Err.ensures.err fine) (λ out. cc (c.in-Err.ensures.idle.options fine out).0)

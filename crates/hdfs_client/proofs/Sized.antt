@@ -1,0 +1,62 @@
+-- What the writers of a session are made with, and what a session remembers of it.
+use Rattle.std.proofs.Common.{◌≡◌, ℕ, true, Some, refl, sym, ◌∙◌, ap}
+use Rattle.std.specs.BTreeMap.{BTreeMap}
+use Rattle.std.specs.Prelude.{String}
+use Rattle.std.specs.declared.alloc.Global.{Global}
+use Rattle.hdfs_model.specs.declared.commands.Settings.{Settings}
+use Rattle.hdfs_model.specs.declared.messages.ServerDefaults.{ServerDefaults}
+use Rattle.hdfs_namenode.specs.Clients.{client_name, name_of}
+use Rattle.hdfs_files.specs.Writers.{sizes_of}
+use Rattle.hdfs_files.specs.declared.file_writer.FileWriter.{FileWriter}
+use Rattle.hdfs_files.specs.declared.sizes.WriteSizes.{WriteSizes}
+use Rattle.hdfs_client.specs.Preparing.{Remembers, sizes_by}
+use Rattle.hdfs_client.specs.Session.{IsSized, defaults_known}
+use Rattle.hdfs_client.specs.declared.session.Session.{Session}
+
+-- a session that is left as it is remembers what it is run with
+pub remembers_refl : (session : Session) → Remembers session session
+remembers_refl session = record { settings = refl; name = refl; known = λ defaults is. is }
+
+-- so does one behind two calls
+pub remembers_trans : (a b c : Session) → Remembers a b → Remembers b c → Remembers a c
+remembers_trans a b c one two = record {
+  settings = two.settings ∙ one.settings;
+  name = two.name ∙ one.name;
+  known = λ defaults is. two.known defaults (one.known defaults is);
+}
+
+-- and one that has other writers
+pub remembers_with : (session : Session) (writers : BTreeMap (String Global) FileWriter)
+    → Remembers session (record session { writers = writers })
+remembers_with session writers = record { settings = refl; name = refl; known = λ defaults is. is }
+
+-- and one whose command has failed
+pub remembers_failed : (a b : Session) → Remembers a b → Remembers a (record b { failed = true })
+remembers_failed a b one = record { settings = one.settings; name = one.name; known = one.known }
+
+module _ (session session' : Session) (remembers : Remembers session session') where
+  -- it asks in the name of its client still
+  pub named_still : name_of session.namenode ≡ client_name session.settings.client
+      → name_of session'.namenode ≡ client_name session'.settings.client
+  named_still is = remembers.name ∙ is ∙ ap (λ (s : Settings). client_name s.client) (sym remembers.settings)
+
+  -- a writer that has the sizes of one of the session's writers is sized as that is
+  pub sized_still : (writer writer' : FileWriter) → sizes_of writer' ≡ sizes_of writer → IsSized session writer → IsSized session' writer'
+  sized_still writer writer' same sized = record {
+    known = sized.known;
+    is_known = remembers.known sized.known sized.is_known;
+    window = ap (λ (s : WriteSizes). s.window) same ∙ sized.window ∙ ap (λ (s : Settings). s.window) (sym remembers.settings);
+    chunk = ap (λ (s : WriteSizes). s.chunk) same ∙ sized.chunk;
+    packet_size = ap (λ (s : WriteSizes). s.packet_size) same ∙ sized.packet_size;
+  }
+
+  -- so is a new one, which was given them
+  pub sized_by : (d : ServerDefaults) (writer : FileWriter) (replication block_size : ℕ)
+      → sizes_of writer ≡ sizes_by session d replication block_size → defaults_known session' ≡ Some d → IsSized session' writer
+  sized_by d writer replication block_size sizes knows = record {
+    known = d;
+    is_known = knows;
+    window = ap (λ (s : WriteSizes). s.window) sizes ∙ ap (λ (s : Settings). s.window) (sym remembers.settings);
+    chunk = ap (λ (s : WriteSizes). s.chunk) sizes;
+    packet_size = ap (λ (s : WriteSizes). s.packet_size) sizes;
+  }
