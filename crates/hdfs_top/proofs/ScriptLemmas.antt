@@ -30,7 +30,7 @@ use Rattle.hdfs_streams.specs.Streams.{SourceShown, SinkShown, TookAtMost, Wrote
 use Rattle.hdfs_streams.proofs.PrintLemmas.{wrote_none}
 use Rattle.hdfs_top.specs.declared.note.Note.{Note}
 use Rattle.hdfs_top.specs.Top.{IsSession, Outside, outside, IsKnown, Loaded, Finishes, Halts, NotesFault, RefusedScript, StatusOf, ScriptDecides, world_over}
-use Rattle.hdfs_top.specs.Inside.{RanSession, Gave, IsKnownStore, LoadsScript, RefusesScript, PrintsWhole, Concludes, ToEnd, ToFault, NotesStop, RanCommands, world_ready}
+use Rattle.hdfs_top.specs.Inside.{RanSession, Gave, IsKnownStore, LoadsScript, RefusesScript, PrintsWhole, Concludes, ToEnd, ToFault, NotesStop, RanCommands, stage, world_ready}
 use Rattle.hdfs_client.proofs.Since.{cause_since, tells_since}
 use Rattle.hdfs_top.proofs.LoadLemmas.{closed_lines}
 use Rattle.hdfs_top.proofs.ReadyLemmas.{readies_counts, readies_defaults, readies_fits, readies_lines, readies_one, readies_settings, readies_some}
@@ -139,7 +139,7 @@ loaded_from a b given s mid run bytes state known = record {
   lines = ap (λ l. l.lines) run.later.loaded ∙ run.lines;
 }
 
-finishes_from : (a b : Outside) (given : List ℕ) (s : Script) (mid : Shown) (status : ℕ) → LoadedRun a given s mid b → (end : ToEnd s.settings s.commands mid b.store a.sink status b.sink) → (bytes : List ℕ) (state : State) → IsKnown a bytes state → Finishes a bytes state (replies_text end.replies) b
+finishes_from : (a b : Outside) (given : List ℕ) (s : Script) (mid : Shown) (status : ℕ) → LoadedRun a given s mid b → (end : ToEnd s.settings s.commands (stage mid a.sink) status (stage b.store b.sink)) → (bytes : List ℕ) (state : State) → IsKnown a bytes state → Finishes a bytes state (replies_text end.replies) b
 finishes_from a b given s mid status run end bytes state known =
     let t = end.told (with_lines state s.lines) (after_lines a b given s mid run bytes state known) in
     record {
@@ -152,7 +152,7 @@ finishes_from a b given s mid status run end bytes state known =
       is_text = refl;
     }
 
-halts_from : (a b : Outside) (given : List ℕ) (s : Script) (mid : Shown) (status : ℕ) → LoadedRun a given s mid b → (stop : ToFault s.settings s.commands mid b.store a.sink status b.sink) → (bytes : List ℕ) (state : State) → IsKnown a bytes state → Halts a bytes state (fault_text stop.fault) b
+halts_from : (a b : Outside) (given : List ℕ) (s : Script) (mid : Shown) (status : ℕ) → LoadedRun a given s mid b → (stop : ToFault s.settings s.commands (stage mid a.sink) status (stage b.store b.sink)) → (bytes : List ℕ) (state : State) → IsKnown a bytes state → Halts a bytes state (fault_text stop.fault) b
 halts_from a b given s mid status run stop bytes state known = record {
   parsed = s;
   loaded = loaded_from a b given s mid run bytes state known;
@@ -164,7 +164,7 @@ halts_from a b given s mid status run stop bytes state known = record {
   is_text = refl;
 }
 
-decides_from : (a b : Outside) (given : List ℕ) (s : Script) (mid : Shown) (status : ℕ) → LoadedRun a given s mid b → ToFault s.settings s.commands mid b.store a.sink status b.sink → status ≡ 2 → ScriptDecides a status b
+decides_from : (a b : Outside) (given : List ℕ) (s : Script) (mid : Shown) (status : ℕ) → LoadedRun a given s mid b → ToFault s.settings s.commands (stage mid a.sink) status (stage b.store b.sink) → status ≡ 2 → ScriptDecides a status b
 decides_from a b given s mid status run stop two bytes state found known is limited none =
     let here = (loaded_from a b given s mid run bytes state known).is in
     let same : s ≡ found = cc (here, is) in
@@ -183,7 +183,7 @@ kept_loaded words a b given s mid status is run =
     kept_session words a b status is (never_fall_trans a.store.counts mid.counts b.store.counts (never_fall_from-SameCounts a.store.counts mid.counts run.counts) run.later.counts) run.gave.taken
 
 -- the session came to its end
-ran_end : (a b : Outside) (given : List ℕ) (s : Script) (mid : Shown) (status : ℕ) → LoadedRun a given s mid b → (end : ToEnd s.settings s.commands mid b.store a.sink status b.sink) → Concludes 0 a.sink (replies_text end.replies) status b.sink → RanSession a status b
+ran_end : (a b : Outside) (given : List ℕ) (s : Script) (mid : Shown) (status : ℕ) → LoadedRun a given s mid b → (end : ToEnd s.settings s.commands (stage mid a.sink) status (stage b.store b.sink)) → Concludes 0 a.sink (replies_text end.replies) status b.sink → RanSession a status b
 ran_end a b given s mid status run end (inl whole) words is =
     ran_done words a b (replies_text end.replies) status (kept_loaded words a b given s mid status is run) run.gave.fine whole (finishes_from a b given s mid status run end)
 ran_end a b given s mid status run end (inr part) words is =
@@ -191,14 +191,14 @@ ran_end a b given s mid status run end (inr part) words is =
     (λ _ bytes state known. inr (inl (finishes_from a b given s mid status run end bytes state known)))
 
 -- the session stopped
-ran_fault : (a b : Outside) (given : List ℕ) (s : Script) (mid : Shown) (status : ℕ) → LoadedRun a given s mid b → (stop : ToFault s.settings s.commands mid b.store a.sink status b.sink) → Concludes 2 a.sink (fault_text stop.fault) status b.sink → RanSession a status b
+ran_fault : (a b : Outside) (given : List ℕ) (s : Script) (mid : Shown) (status : ℕ) → LoadedRun a given s mid b → (stop : ToFault s.settings s.commands (stage mid a.sink) status (stage b.store b.sink)) → Concludes 2 a.sink (fault_text stop.fault) status b.sink → RanSession a status b
 ran_fault a b given s mid status run stop (inl whole) words is =
     ran_stopped words a b (fault_text stop.fault) status (kept_loaded words a b given s mid status is run) run.gave.fine whole (halts_from a b given s mid status run stop) (decides_from a b given s mid status run stop whole.is)
 ran_fault a b given s mid status run stop (inr part) words is =
     ran_sink_failed words a b (fault_text stop.fault) status (kept_loaded words a b given s mid status is run) run.gave.fine part
     (λ _ bytes state known. inr (inr (halts_from a b given s mid status run stop bytes state known)))
 
-ran_ending : (a b : Outside) (given : List ℕ) (s : Script) (mid : Shown) (status : ℕ) → LoadedRun a given s mid b → PrintsWhole 3 a.sink [] status b.sink ⊎ ToEnd s.settings s.commands mid b.store a.sink status b.sink ⊎ ToFault s.settings s.commands mid b.store a.sink status b.sink → RanSession a status b
+ran_ending : (a b : Outside) (given : List ℕ) (s : Script) (mid : Shown) (status : ℕ) → LoadedRun a given s mid b → PrintsWhole 3 a.sink [] status b.sink ⊎ ToEnd s.settings s.commands (stage mid a.sink) status (stage b.store b.sink) ⊎ ToFault s.settings s.commands (stage mid a.sink) status (stage b.store b.sink) → RanSession a status b
 ran_ending a b given s mid status run (inl whole) words is =
     ran_no_memory words a b status (kept_loaded words a b given s mid status is run) run.gave.fine whole
 ran_ending a b given s mid status run (inr (inl end)) words is = ran_end a b given s mid status run end end.printed words is
@@ -248,13 +248,13 @@ some_namenode fresh old read new loads valid some =
 
 -- the lines were loaded, and the commands run
 pub ran_loaded : (a b : Outside) (given : List ℕ) (read : Parsed) (mid : Shown) (status : ℕ) → 0 < a.store.namenodes → Gave a.source given b.source → Parses given read → LoadsScript a.fresh a.store read mid
-    → RanCommands read.settings read.commands mid b.store a.sink status b.sink → RanSession a status b
+    → RanCommands read.settings read.commands (stage mid a.sink) status (stage b.store b.sink) → RanSession a status b
 ran_loaded a b given read mid status some gave parses loads ran =
     ran_ending a b given (script_read read) mid status (loaded_run a b given read mid some gave parses loads ran.later) ran.ending
 
 -- and where they stopped, that was noted
 pub notes_loaded : (a b : Outside) (given : List ℕ) (read : Parsed) (mid : Shown) (status : ℕ) (note : Note) → 0 < a.store.namenodes → Gave a.source given b.source → Parses given read → LoadsScript a.fresh a.store read mid
-    → Later mid b.store → status ≡ 2 → NotesStop read.settings read.commands mid b.store a.sink status note b.sink → NotesFault a note b
+    → Later mid b.store → status ≡ 2 → NotesStop read.settings read.commands (stage mid a.sink) status note (stage b.store b.sink) → NotesFault a note b
 unfolding halts_from
 notes_loaded a b given read mid status note some gave parses loads later two noted =
     let run : LoadedRun a given (script_read read) mid b = loaded_run a b given read mid some gave parses loads later in record {

@@ -22,7 +22,7 @@ use Rattle.hdfs_streams.specs.Streams.{SinkShown, Prints, Wrote}
 use Rattle.hdfs_top.specs.Top.{IsClosed, StatusOf}
 use Rattle.hdfs_top.specs.declared.note.Note.{Note}
 use Rattle.hdfs_top.specs.declared.note.Note.TheVariants as notes
-use Rattle.hdfs_top.specs.Inside.{IsKnownStore, Concludes, ToEnd, ToFault, NotesStop, RanCommands, world_ready}
+use Rattle.hdfs_top.specs.Inside.{IsKnownStore, Concludes, ToEnd, ToFault, NotesStop, RanCommands, stage, world_ready}
 
 -- the status of a print
 pub concludes_from-Prints : {T : Type 0} (good : ℕ) (a c : SinkShown) (text : List ℕ) (r : Result T IoFailed) (status : ℕ) → Prints a text r c → MatchResult r (λ x. status ≡ good) (λ e. status ≡ 5) → Concludes good a text status c
@@ -58,9 +58,9 @@ abbrev RanReady : World → List Command → Shown → Shown → Result (Vec Rep
 RanReady w commands old new result = (state : State) → Ready w (record { opened = none_open; shown = old }) state commands → Ran w state commands old new result
 
 -- a session came to its end
-pub ran_to_end : (w : World) (given : ScriptSettings) (commands : List Command) (old new : Shown) (before after : SinkShown) (status : ℕ) (replies : Vec Reply Global) → w ≡ world_ready given old → Later old new → RanReady w commands old new (Ok replies) → Concludes 0 before (replies_text replies.items) status after → RanCommands given commands old new before status after
+pub ran_to_end : (w : World) (given : ScriptSettings) (commands : List Command) (old new : Shown) (before after : SinkShown) (status : ℕ) (replies : Vec Reply Global) → w ≡ world_ready given old → Later old new → RanReady w commands old new (Ok replies) → Concludes 0 before (replies_text replies.items) status after → RanCommands given commands (stage old before) status (stage new after)
 ran_to_end w given commands old new before after status replies is later ran printed =
-    let end : ToEnd given commands old new before status after = record {
+    let end : ToEnd given commands (stage old before) status (stage new after) = record {
       replies = replies.items;
       told = λ state known.
           let t = (ran state (ready w old state commands known)).ok in
@@ -75,7 +75,7 @@ refused_from-Complete T (Ends replies last) fault complete other = absurd (other
 refused_from-Complete T (Stops replies last why) fault complete other = inl refl
 
 -- a session stopped at a fault
-to_fault : (w : World) (given : ScriptSettings) (commands : List Command) (old new : Shown) (before after : SinkShown) (status : ℕ) (fault : Fault) → w ≡ world_ready given old → RanReady w commands old new (Err fault) → fault.error ≢ errors.NoMemory → Concludes 2 before (fault_text fault) status after → ToFault given commands old new before status after
+to_fault : (w : World) (given : ScriptSettings) (commands : List Command) (old new : Shown) (before after : SinkShown) (status : ℕ) (fault : Fault) → w ≡ world_ready given old → RanReady w commands old new (Err fault) → fault.error ≢ errors.NoMemory → Concludes 2 before (fault_text fault) status after → ToFault given commands (stage old before) status (stage new after)
 to_fault w given commands old new before after status fault is ran other printed = record {
   fault = fault;
   other = other;
@@ -87,12 +87,12 @@ to_fault w given commands old new before after status fault is ran other printed
   printed = printed;
 }
 
-pub ran_to_fault : (w : World) (given : ScriptSettings) (commands : List Command) (old new : Shown) (before after : SinkShown) (status : ℕ) (fault : Fault) → w ≡ world_ready given old → Later old new → RanReady w commands old new (Err fault) → fault.error ≢ errors.NoMemory → Concludes 2 before (fault_text fault) status after → RanCommands given commands old new before status after
+pub ran_to_fault : (w : World) (given : ScriptSettings) (commands : List Command) (old new : Shown) (before after : SinkShown) (status : ℕ) (fault : Fault) → w ≡ world_ready given old → Later old new → RanReady w commands old new (Err fault) → fault.error ≢ errors.NoMemory → Concludes 2 before (fault_text fault) status after → RanCommands given commands (stage old before) status (stage new after)
 ran_to_fault w given commands old new before after status fault is later ran other printed =
     record { later = later; ending = inr (inr (to_fault w given commands old new before after status fault is ran other printed)) }
 
 -- and that was noted
-pub notes_stop : (w : World) (given : ScriptSettings) (commands : List Command) (old new : Shown) (before after : SinkShown) (status : ℕ) (fault : Fault) (note : Note) → w ≡ world_ready given old → RanReady w commands old new (Err fault) → fault.error ≢ errors.NoMemory → Concludes 2 before (fault_text fault) status after → note ≡ notes.Stopped fault.at fault.error → NotesStop given commands old new before status note after
+pub notes_stop : (w : World) (given : ScriptSettings) (commands : List Command) (old new : Shown) (before after : SinkShown) (status : ℕ) (fault : Fault) (note : Note) → w ≡ world_ready given old → RanReady w commands old new (Err fault) → fault.error ≢ errors.NoMemory → Concludes 2 before (fault_text fault) status after → note ≡ notes.Stopped fault.at fault.error → NotesStop given commands (stage old before) status note (stage new after)
 unfolding to_fault
 notes_stop w given commands old new before after status fault note is ran other printed noted =
     record { stop = to_fault w given commands old new before after status fault is ran other printed; is = noted }

@@ -91,29 +91,38 @@ Concludes good before text status after = PrintsWhole good before text status af
 abbrev pub world_ready : ScriptSettings → Shown → World
 world_ready given store = world_of (session_settings given) store
 
+-- what commands run over and what they print to: a store and a sink
+pub record Stage : Type 0 where
+  pub store : Shown
+  pub sink : SinkShown
+
+abbrev pub stage : Shown → SinkShown → Stage
+stage store sink = record { store = store; sink = sink }
+
 -- commands came to their end
-pub record ToEnd (given : ScriptSettings) (commands : List Command) (old new : Shown) (before : SinkShown) (status : ℕ) (after : SinkShown) : Type 0 where
+pub record ToEnd (given : ScriptSettings) (commands : List Command) (old : Stage) (status : ℕ) (new : Stage) : Type 0 where
   pub replies : List Reply
-  pub told : (state : State) → IsKnownStore old state
-      → (last : State) × (fold (world_ready given old) state commands ≡ Ends replies last) × Fits new last
-  pub printed : Concludes 0 before (replies_text replies) status after
+  pub told : (state : State) → IsKnownStore old.store state
+      → (last : State) × (fold (world_ready given old.store) state commands ≡ Ends replies last) × Fits new.store last
+  pub printed : Concludes 0 old.sink (replies_text replies) status new.sink
 
 -- commands stopped at a fault other than want of memory
-pub record ToFault (given : ScriptSettings) (commands : List Command) (old new : Shown) (before : SinkShown) (status : ℕ) (after : SinkShown) : Type 0 where
+pub record ToFault (given : ScriptSettings) (commands : List Command) (old : Stage) (status : ℕ) (new : Stage) : Type 0 where
   pub fault : Fault
   pub other : fault.error ≢ errors.NoMemory
-  pub told : (state : State) → IsKnownStore old state → Stopped (world_ready given old) state commands old new fault
-  pub complete : (state : State) → IsKnownStore old state → AreLimited (world_ready given old) state commands
-      → NoneRose old.namenodes old.counts new.counts → StatusOf (fold (world_ready given old) state commands) 2
-  pub printed : Concludes 2 before (fault_text fault) status after
+  pub told : (state : State) → IsKnownStore old.store state
+      → Stopped (world_ready given old.store) state commands old.store new.store fault
+  pub complete : (state : State) → IsKnownStore old.store state → AreLimited (world_ready given old.store) state commands
+      → NoneRose old.store.namenodes old.store.counts new.store.counts → StatusOf (fold (world_ready given old.store) state commands) 2
+  pub printed : Concludes 2 old.sink (fault_text fault) status new.sink
 
 -- a note tells of the fault at which commands stopped, and whose text was printed
-pub record NotesStop (given : ScriptSettings) (commands : List Command) (old new : Shown) (before : SinkShown) (status : ℕ) (note : Note) (after : SinkShown) : Type 0 where
-  pub stop : ToFault given commands old new before status after
+pub record NotesStop (given : ScriptSettings) (commands : List Command) (old : Stage) (status : ℕ) (note : Note) (new : Stage) : Type 0 where
+  pub stop : ToFault given commands old status new
   pub is : note ≡ notes.Stopped stop.fault.at stop.fault.error
 
 -- commands were run, and what they answered was printed; for want of memory nothing was
-pub record RanCommands (given : ScriptSettings) (commands : List Command) (old new : Shown) (before : SinkShown) (status : ℕ) (after : SinkShown) : Type 0 where
-  pub later : Later old new
-  pub ending : PrintsWhole 3 before [] status after
-      ⊎ ToEnd given commands old new before status after ⊎ ToFault given commands old new before status after
+pub record RanCommands (given : ScriptSettings) (commands : List Command) (old : Stage) (status : ℕ) (new : Stage) : Type 0 where
+  pub later : Later old.store new.store
+  pub ending : PrintsWhole 3 old.sink [] status new.sink
+      ⊎ ToEnd given commands old status new ⊎ ToFault given commands old status new

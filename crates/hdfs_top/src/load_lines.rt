@@ -2,7 +2,7 @@
 ghost use Rattle.std.specs.Prelude.{◌≡◌, ◌||◌, ℕ, None, Err, false, true, IfOk, OnOk};
 ghost use Rattle.hdfs_model.specs.Counts.{SameCounts};
 ghost use Rattle.hdfs_model.specs.Files.{State};
-ghost use Rattle.hdfs_model.specs.Loading.{takes, AreValid, SameShown, Loads};
+ghost use Rattle.hdfs_model.specs.Loading.{takes, AreValid, Loads};
 ghost use Rattle.hdfs_model.specs.Stores.{Agrees};
 ghost use Rattle.hdfs_model.specs.Sessions.{Fits};
 ghost use Rattle.hdfs_script.specs.Parsing.{first_untaken, or_else};

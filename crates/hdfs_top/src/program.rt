@@ -1,6 +1,6 @@
 //! The program's one call.
-ghost use Rattle.std.specs.Prelude.{◌≡◌, ◌<◌, ◌≤◌, ◌↔◌, List, ℕ, map, string_bytes, IsTrue, codes};
-ghost use Rattle.hdfs_top.specs.Top.{IsSession, RanProgram, WroteReplies, WroteFault, WroteSome, ScriptDecides, NotesFault, outside};
+ghost use Rattle.std.specs.Prelude.{◌≡◌, ◌<◌, ◌≤◌, ◌↔◌, ℕ, map, string_bytes, IsTrue, codes};
+ghost use Rattle.hdfs_top.specs.Top.{IsSession, RanProgram, WroteReplies, WroteFault, ScriptDecides, NotesFault, outside};
 ghost use Rattle.hdfs_top.specs.Inside.{RanSession};
 
 use crate::note::Note;

@@ -8,7 +8,7 @@ ghost use Rattle.hdfs_script.specs.Scripts.{session_settings};
 ghost use Rattle.hdfs_script.specs.Texts.{fault_text};
 ghost use Rattle.hdfs_streams.specs.Streams.{SourceShown};
 ghost use Rattle.hdfs_top.specs.Top.{outside, NotesFault};
-ghost use Rattle.hdfs_top.specs.Inside.{PrintsWhole, Concludes, RanCommands, RanSession, Gave, NotesStop};
+ghost use Rattle.hdfs_top.specs.Inside.{PrintsWhole, Concludes, RanCommands, RanSession, Gave, NotesStop, stage};
 
 use crate::load_lines::{LoadFault, load_script};
 use crate::note::{Note, note_of_commands, note_of_fault, note_of_script};
@@ -42,9 +42,11 @@ fn run_commands<K: Sink, C: Store>(
 ) -> u8
     requires namenode { 0 < (C.shown store.old).namenodes }
     ensures ran { (given : ScriptSettings) → settings.now ≡ session_settings given
-        → RanCommands given commands.now (C.shown store.old) (C.shown store.new) (K.shown sink.old) result (K.shown sink.new) }
+        → RanCommands given commands.now (stage (C.shown store.old) (K.shown sink.old)) result
+        (stage (C.shown store.new) (K.shown sink.new)) }
     ensures noted { result ≡ 2 → (given : ScriptSettings) → settings.now ≡ session_settings given
-        → NotesStop given commands.now (C.shown store.old) (C.shown store.new) (K.shown sink.old) result note.new (K.shown sink.new) }
+        → NotesStop given commands.now (stage (C.shown store.old) (K.shown sink.old)) result note.new
+        (stage (C.shown store.new) (K.shown sink.new)) }
 {
     *note = note_of_commands(commands);
     match run_session(alloc, store, settings, commands) {
