@@ -3,6 +3,10 @@ use Rattle.hdfs_model.proofs.Frames.{later_trans}
 use Rattle.hdfs_uses.proofs.Patience.{answers_reply, answers_error, leaves_files}
 use Rattle.hdfs_uses.proofs.patient.apply_patiently.Goals as goal
 
+-- a new session stands
+pub apply-requires-clause-stands : goal.apply-requires-clause-stands
+apply-requires-clause-stands g c = c.in_ok-session.ensures.stands.0 (g.C.Cluster.shown c.loop-session.cluster)
+
 -- a reply is that of the step
 pub returns-in-Ok : goal.returns-in-Ok
 returns-in-Ok g c = λ state ready.
