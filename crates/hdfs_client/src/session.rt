@@ -42,7 +42,8 @@ impl Session {
     ) -> Result<Session, HdfsError>
         requires { 0 < (C.shown cluster.now).namenodes }
         ensures settings { IfOk result (λ session. (settings_of session ≡ settings.now) × (are_settings settings.now ≡ true)) }
-        ensures stands { IfOk result (λ session. ((shown : Shown) → Stands shown session) × (has_failed session ≡ false)) }
+        ensures stands { IfOk result (λ session. (shown : Shown) → Stands shown session) }
+        ensures fresh { IfOk result (λ session. has_failed session ≡ false) }
         ensures none { IfOk result (λ session. ((path : List ℕ) → writer_of session path ≡ None)
             × (defaults_known session ≡ None)) }
         ensures err { IfErr result (IsNotBegun settings.now) }

@@ -31,7 +31,7 @@ use Rattle.hdfs_cluster.specs.declared.mem_link.MemLink.TheVariants as links
 use Rattle.hdfs_cluster.specs.declared.write_link.MemWrite.{MemWrite}
 use Rattle.hdfs_cluster.specs.Counting.{AsksAck, AsksSend, AsksSetUp, CanCount, CountsNothing, first_of}
 use Rattle.hdfs_cluster.specs.Failures.{failure_of, is_broken, is_counted, planned_failure}
-use Rattle.hdfs_cluster.specs.Links.{write_told, OnWrites, AckedOn, SendsOn, first_uuid}
+use Rattle.hdfs_cluster.specs.Links.{write_told, OnWrites, AckedOn, SendsOn, among, first_uuid}
 use Rattle.hdfs_cluster.specs.Lines.{line_of}
 use Rattle.hdfs_replicas.specs.Nodes.{SameNodes, node_at}
 use Rattle.hdfs_cluster.specs.Telling.{TellsAll, times}
@@ -41,13 +41,13 @@ use Rattle.hdfs_cluster.proofs.Counting.{at_once, calls_node, calls_nothing, nod
 
 -- what a packet that was sent counts, whether it broke or not
 pub sends_counts : (link : ℕ) (packet : Outgoing) (broke : Bool) (nodes nodes' : Datanodes) (faults faults' : FaultPlan) (v w : MemWrite)
-    → SendsOn link packet broke nodes nodes' faults faults' v w → Counts faults (sends_to (first_uuid v)) broke faults'
+    → SendsOn link packet broke (among nodes faults v) (among nodes' faults' w) → Counts faults (sends_to (first_uuid v)) broke faults'
 sends_counts link packet true nodes nodes' faults faults' v w h = h.1
 sends_counts link packet false nodes nodes' faults faults' v w h = h.1
 
 -- what a link that was sent on asks for
 pub asks_send : (m m' : MemCluster) (link : ℕ) (packet : Outgoing) (broke : Bool) (result : Result (Unit {0}) LinkFault) (o o' : MemLink) → slab.get m.links link ≡ Some o
-    → OnWrites (SendsOn link packet broke m.nodes m'.nodes m.faults m'.faults) o o' → SameNodes m.nodes m'.nodes → is_counted result ≡ true → broke ≡ is_broken result
+    → OnWrites (λ v w. SendsOn link packet broke (among m.nodes m.faults v) (among m'.nodes m'.faults w)) o o' → SameNodes m.nodes m'.nodes → is_counted result ≡ true → broke ≡ is_broken result
     → IfSome (write_told (slab.get m.links link)) (λ write. AsksSend m write result m')
 asks_send m m' link packet broke result (links.Write v) (links.Write w) was h rest counted is =
     subst (λ (o : Option OpenWrite). IfSome o (λ write. AsksSend m write result m')) (sym (ap write_told was))
@@ -246,7 +246,7 @@ counts_end m m' link forgets updates same = record {
 }
 
 -- a plan goes on following where a packet was sent
-pub sends_follow : (link : ℕ) (packet : Outgoing) (broke : Bool) (nodes nodes' : Datanodes) (faults faults' : FaultPlan) (loaded : List Line) (o o' : MemLink) → OnWrites (SendsOn link packet broke nodes nodes' faults faults') o o' → Follows faults loaded → Follows faults' loaded
+pub sends_follow : (link : ℕ) (packet : Outgoing) (broke : Bool) (nodes nodes' : Datanodes) (faults faults' : FaultPlan) (loaded : List Line) (o o' : MemLink) → OnWrites (λ v w. SendsOn link packet broke (among nodes faults v) (among nodes' faults' w)) o o' → Follows faults loaded → Follows faults' loaded
 sends_follow link packet broke nodes nodes' faults faults' loaded (links.Write v) (links.Write w) h was =
     counts_follows faults faults' loaded (sends_to (first_uuid v)) broke (sends_counts link packet broke nodes nodes' faults faults' v w h) was
 sends_follow link packet broke nodes nodes' faults faults' loaded (links.Write v) (links.Read w) h was = absurd h
@@ -262,7 +262,7 @@ acks_follow link ack faults faults' loaded (links.Read v) (links.Write w) h was 
 
 -- the same of the results of calls
 pub sends_follow_on : (P : Type 0) (link : ℕ) (packet : Outgoing) (result : Result Bool NoMemory) (nodes nodes' : Datanodes) (faults faults' : FaultPlan) (loaded : List Line) (o o' : MemLink)
-    → IfOk result (λ broke. OnWrites (SendsOn link packet broke nodes nodes' faults faults') o o') → OnErr result (P × (faults' ≡ faults)) → Follows faults loaded → Follows faults' loaded
+    → IfOk result (λ broke. OnWrites (λ v w. SendsOn link packet broke (among nodes faults v) (among nodes' faults' w)) o o') → OnErr result (P × (faults' ≡ faults)) → Follows faults loaded → Follows faults' loaded
 sends_follow_on P link packet (Ok broke) nodes nodes' faults faults' loaded o o' ok err was = sends_follow link packet broke nodes nodes' faults faults' loaded o o' ok was
 sends_follow_on P link packet (Err e) nodes nodes' faults faults' loaded o o' ok err was = subst (λ (p : FaultPlan). Follows p loaded) (sym err.1) was
 

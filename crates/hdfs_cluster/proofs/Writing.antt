@@ -30,7 +30,7 @@ use Rattle.hdfs_replicas.specs.declared.datanodes.Datanodes.{Datanodes}
 use Rattle.hdfs_cluster.specs.declared.mem_link.MemLink.{MemLink}
 use Rattle.hdfs_cluster.specs.declared.mem_link.MemLink.TheVariants as links
 use Rattle.hdfs_cluster.specs.declared.write_link.MemWrite.{MemWrite}
-use Rattle.hdfs_cluster.specs.Links.{read_told, read_place, write_told, write_place, OnWrites, SendsOn, UnsentOn, first_uuid}
+use Rattle.hdfs_cluster.specs.Links.{read_told, read_place, write_told, write_place, OnWrites, SendsOn, among, UnsentOn, first_uuid}
 use Rattle.hdfs_cluster.specs.MemShown.{picture_at, counts_of}
 use Rattle.hdfs_replicas.specs.Nodes.{held_in, undisturbed_in, is_named, is_on}
 use Rattle.hdfs_cluster.specs.Writes.{told_at, told_of, place_at, place_of, disturbed_at, SameWrite, PutsPacket}
@@ -331,7 +331,7 @@ module _ (space : Namespace) (settings : MemSettings) (last : LastAnswer) (loade
 
 -- the same of a slot
 pub sent_on : (space : Namespace) (settings : MemSettings) (last : LastAnswer) (loaded : List Line) (faults faults' : FaultPlan) (nodes nodes' : Datanodes) (s s' : Slab MemLink) (link : ℕ) (packet : Outgoing) (o o' : MemLink)
-    → slab.get s link ≡ Some o → Updates s s' link (Some o') → OnWrites (SendsOn link packet false nodes nodes' faults faults') o o'
+    → slab.get s link ≡ Some o → Updates s s' link (Some o') → OnWrites (λ v w. SendsOn link packet false (among nodes faults v) (among nodes' faults' w)) o o'
     → Sent (shown_at space settings last loaded faults nodes s) link packet (shown_at space settings last loaded faults' nodes' s')
 sent_on space settings last loaded faults faults' nodes nodes' s s' link packet (links.Write v) (links.Write w) was updates h =
     sent_packet space settings last loaded faults faults' (falls_counts faults faults' (sends_to (first_uuid v)) false h.1) nodes nodes' s s' link w updates v packet was h.0.same h.0.sent h.0.puts
@@ -341,7 +341,7 @@ sent_on space settings last loaded faults faults' nodes nodes' s s' link packet 
 
 -- the connection broke in place of a packet of a slot
 pub broke_on : (space : Namespace) (settings : MemSettings) (last : LastAnswer) (loaded : List Line) (faults faults' : FaultPlan) (nodes nodes' : Datanodes) (s s' : Slab MemLink) (link : ℕ) (packet : Outgoing) (o o' : MemLink)
-    → slab.get s link ≡ Some o → Updates s s' link (Some o') → OnWrites (SendsOn link packet true nodes nodes' faults faults') o o'
+    → slab.get s link ≡ Some o → Updates s s' link (Some o') → OnWrites (λ v w. SendsOn link packet true (among nodes faults v) (among nodes' faults' w)) o o'
     → NotSent (shown_at space settings last loaded faults nodes s) link packet link_faults.Broken (shown_at space settings last loaded faults' nodes' s')
 broke_on space settings last loaded faults faults' nodes nodes' s s' link packet (links.Write v) (links.Write w) was updates h =
     broke_off_sent space settings last loaded faults faults' (falls_counts faults faults' (sends_to (first_uuid v)) true h.1) nodes nodes' s s' h.0.held
@@ -351,7 +351,7 @@ broke_on space settings last loaded faults faults' nodes nodes' s s' link packet
 broke_on space settings last loaded faults faults' nodes nodes' s s' link packet (links.Read v) (links.Write w) was updates h = absurd h
 
 -- then no packet was sent
-pub broke_unsent : (link : ℕ) (packet : Outgoing) (nodes nodes' : Datanodes) (faults faults' : FaultPlan) (o o' : MemLink) → OnWrites (SendsOn link packet true nodes nodes' faults faults') o o' → OnWrites (UnsentOn nodes nodes') o o'
+pub broke_unsent : (link : ℕ) (packet : Outgoing) (nodes nodes' : Datanodes) (faults faults' : FaultPlan) (o o' : MemLink) → OnWrites (λ v w. SendsOn link packet true (among nodes faults v) (among nodes' faults' w)) o o' → OnWrites (UnsentOn nodes nodes') o o'
 broke_unsent link packet nodes nodes' faults faults' (links.Write v) (links.Write w) h = h.0
 broke_unsent link packet nodes nodes' faults faults' (links.Write v) (links.Read w) h = absurd h
 broke_unsent link packet nodes nodes' faults faults' (links.Read v) (links.Read w) h = absurd h

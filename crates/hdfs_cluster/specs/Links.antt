@@ -93,12 +93,22 @@ pub record UnsentOn (nodes nodes' : Datanodes) (old new : MemWrite) : Type 0 whe
 abbrev pub first_uuid : MemWrite → List ℕ
 first_uuid write = slice_index_or (uuids write.setup.locs) 0 []
 
+-- a write link, and what it is sent on with: the datanodes and the plan of faults
+pub record Sending : Type 0 where
+  pub nodes : Datanodes
+  pub faults : FaultPlan
+  pub write : MemWrite
+
+-- a write link among these
+abbrev pub among : Datanodes → FaultPlan → MemWrite → Sending
+among nodes faults write = record { nodes = nodes; faults = faults; write = write }
+
 -- a packet was sent and counted; or the connection broke, and nothing is seen to change of what is held
-abbrev pub SendsOn : ℕ → Outgoing → Bool → Datanodes → Datanodes → FaultPlan → FaultPlan → MemWrite → MemWrite → Type 0
-SendsOn link packet false nodes nodes' faults faults' old new =
-    SentOn link packet nodes nodes' old new × Counts faults (sends_to (first_uuid old)) false faults'
-SendsOn link packet true nodes nodes' faults faults' old new =
-    UnsentOn nodes nodes' old new × Counts faults (sends_to (first_uuid old)) true faults'
+abbrev pub SendsOn : ℕ → Outgoing → Bool → Sending → Sending → Type 0
+SendsOn link packet false old new =
+    SentOn link packet old.nodes new.nodes old.write new.write × Counts old.faults (sends_to (first_uuid old.write)) false new.faults
+SendsOn link packet true old new =
+    UnsentOn old.nodes new.nodes old.write new.write × Counts old.faults (sends_to (first_uuid old.write)) true new.faults
 
 -- a packet waits for its acknowledgement
 abbrev pub IsDueOn : MemWrite → Type 0

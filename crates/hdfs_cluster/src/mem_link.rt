@@ -16,7 +16,7 @@ pub enum MemLink {
 }
 
 impl MemLink {
-    ghost use Rattle.hdfs_cluster.specs.Links.{OnRead, OnReads, OnWrite, OnWrites, CanMoveOn, MovedOn, IsDueOn, SendsOn, UnsentOn, AckedOn, UnackedOn};
+    ghost use Rattle.hdfs_cluster.specs.Links.{OnRead, OnReads, OnWrite, OnWrites, CanMoveOn, MovedOn, IsDueOn, SendsOn, among, UnsentOn, AckedOn, UnackedOn};
     ghost use Rattle.hdfs_replicas.specs.Nodes.{SameNodes};
 
     /// Moves the place of a read on by so many bytes.
@@ -40,8 +40,8 @@ impl MemLink {
         packet: &WritePacket,
     ) -> Result<bool, NoMemory>
         requires { OnWrite (λ write. Unit {0}) self.old }
-        ensures ok { IfOk result (λ broke. OnWrites (SendsOn link packet.now broke nodes.old nodes.new faults.old faults.new)
-            self.old self.new) }
+        ensures ok { IfOk result (λ broke. OnWrites (λ old new. SendsOn link packet.now broke (among nodes.old faults.old old)
+            (among nodes.new faults.new new)) self.old self.new) }
         ensures err { OnErr result (OnWrites (UnsentOn nodes.old nodes.new) self.old self.new × (faults.new ≡ faults.old)) }
         ensures rest { SameNodes nodes.old nodes.new }
     {

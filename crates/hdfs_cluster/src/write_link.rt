@@ -87,7 +87,7 @@ fn copy_all(statuses: &[u32], kept: &mut Vec<u32>)
 }
 
 impl MemWrite {
-    ghost use Rattle.hdfs_cluster.specs.Links.{SendsOn, UnsentOn, AckedOn, UnackedOn, TakesSeqno};
+    ghost use Rattle.hdfs_cluster.specs.Links.{SendsOn, among, UnsentOn, AckedOn, UnackedOn, TakesSeqno};
     ghost use Rattle.hdfs_replicas.specs.Nodes.{SameNodes};
 
     /// A link that was just opened.
@@ -117,7 +117,8 @@ impl MemWrite {
         link: u64,
         packet: &WritePacket,
     ) -> Result<bool, NoMemory>
-        ensures ok { IfOk result (λ broke. SendsOn link packet.now broke nodes.old nodes.new faults.old faults.new self.old self.new) }
+        ensures ok { IfOk result (λ broke. SendsOn link packet.now broke (among nodes.old faults.old self.old)
+            (among nodes.new faults.new self.new)) }
         ensures err { OnErr result (UnsentOn nodes.old nodes.new self.old self.new × (faults.new ≡ faults.old)) }
         ensures rest { SameNodes nodes.old nodes.new }
     {

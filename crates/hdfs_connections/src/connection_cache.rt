@@ -61,7 +61,8 @@ impl ConnectionCache {
     /// Keeps the connection with this link to a datanode's address, behind those that are kept there. `moment` is that of the
     /// release, in milliseconds.
     pub fn release(&mut self, address: &str, link: u64, moment: u64) -> Result<(), NoMemory>
-        ensures kept { OnOk result (kept_at self.new address.now ≡ kept_at self.old address.now ++ record { link = link; moment = moment } ∷ []) }
+        ensures kept { OnOk result (kept_at self.new address.now
+            ≡ kept_at self.old address.now ++ record { link = link; moment = moment } ∷ []) }
         ensures others { (other : List ℕ) → other ≢ address.now → kept_at self.new other ≡ kept_at self.old other }
         ensures err { OnErr result ((other : List ℕ) → kept_at self.new other ≡ kept_at self.old other) }
     {

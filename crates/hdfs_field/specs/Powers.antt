@@ -2,6 +2,7 @@
 use Rattle.std.specs.Prelude.{ℕ, zero, suc}
 use Rattle.hdfs_field.specs.Elements.{shifted}
 
+-- x multiplied so often with itself
 unfoldable pub power : ℕ → ℕ
 power zero = 1
 power (suc n) = shifted (power n)

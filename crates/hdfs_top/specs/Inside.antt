@@ -96,6 +96,7 @@ pub record Stage : Type 0 where
   pub store : Shown
   pub sink : SinkShown
 
+-- these two together
 abbrev pub stage : Shown → SinkShown → Stage
 stage store sink = record { store = store; sink = sink }
 

@@ -5,7 +5,7 @@ use Rattle.hdfs_uses.proofs.patient.apply_patiently.Goals as goal
 
 -- a new session stands
 pub apply-requires-clause-stands : goal.apply-requires-clause-stands
-apply-requires-clause-stands g c = c.in_ok-session.ensures.stands.0 (g.C.Cluster.shown c.loop-session.cluster)
+apply-requires-clause-stands g c = c.in_ok-session.ensures.stands (g.C.Cluster.shown c.loop-session.cluster)
 
 -- a reply is that of the step
 pub returns-in-Ok : goal.returns-in-Ok
@@ -14,7 +14,7 @@ returns-in-Ok g c = λ state ready.
     let now = g.C.Cluster.shown c.loop-session.cluster in
     let made = c.in_ok-session.ensures in
     answers_reply start now c.args.settings.now c.in_ok-session.session c.args.command.now c.requires.reads c.loop-session.invariant.later made.settings.0 made.none.0 made.none.1 state ready (c.loop-session.invariant.fits state ready)
-    (g.C.Cluster.shown c.apply.new.cluster) c.apply.new.self c.in-Ok.reply (c.in-Ok.ensures.acts made.stands.1)
+    (g.C.Cluster.shown c.apply.new.cluster) c.apply.new.self c.in-Ok.reply (c.in-Ok.ensures.acts made.fresh)
 
 -- an error leaves the files
 pub returns-then-left-le1 : goal.returns-then-left-le1
@@ -23,7 +23,7 @@ returns-then-left-le1 g c = λ state ready.
     let now = g.C.Cluster.shown c.loop-session.cluster in
     let made = c.in_ok-session.ensures in
     answers_error start now c.args.settings.now c.in_ok-session.session c.args.command.now c.requires.reads c.loop-session.invariant.later made.settings.0 made.none.0 made.none.1 state ready (c.loop-session.invariant.fits state ready)
-    (g.C.Cluster.shown c.apply.new.cluster) c.apply.new.self c.in-Err.error (c.in-Err.ensures.acts made.stands.1)
+    (g.C.Cluster.shown c.apply.new.cluster) c.apply.new.self c.in-Err.error (c.in-Err.ensures.acts made.fresh)
 
 -- and so does one after which the read is tried again
 pub loop-session-preserved : goal.loop-session-preserved
@@ -32,7 +32,7 @@ loop-session-preserved g c =
     let now = g.C.Cluster.shown c.loop-session.cluster in
     let new = g.C.Cluster.shown c.apply.new.cluster in
     let made = c.in_ok-session.ensures in
-    let acts = c.in-Err.ensures.acts made.stands.1 in
+    let acts = c.in-Err.ensures.acts made.fresh in
     record {
       later = later_trans start now new c.loop-session.invariant.later acts.anywhere.later;
       fits = λ state ready.

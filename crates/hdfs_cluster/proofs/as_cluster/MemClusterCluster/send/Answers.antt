@@ -5,7 +5,7 @@ use Rattle.slab.specs.Slab as slab
 use Rattle.slab.specs.Slab.{with_value}
 use Rattle.hdfs_model.specs.declared.asks.LinkFault.TheVariants as link_faults
 use Rattle.hdfs_cluster.specs.Lines.{line_of}
-use Rattle.hdfs_cluster.specs.Links.{write_told, OnWrites, SendsOn}
+use Rattle.hdfs_cluster.specs.Links.{write_told, OnWrites, SendsOn, among}
 use Rattle.hdfs_cluster.proofs.Asking.{asks_no_send, asks_send, sends_follow_on}
 use Rattle.hdfs_cluster.proofs.Counting.{falls_refl, falls_same}
 use Rattle.hdfs_cluster.proofs.NothingLoaded.{on_err}
@@ -54,7 +54,7 @@ returns-then-branch-clause-unsent c =
     let o' = c.send.new.self in
     let s' = with_value m.links c.args.link o' in
     let was : slab.get m.links c.args.link ≡ Some o = sym c.in-Some.ensures.value in
-    let broke = subst (λ (b : Bool). OnWrites (SendsOn c.args.link c.args.packet.now b m.nodes c.send.new.nodes m.faults c.send.new.faults) o o') c.if-branch.true c.in_ok-send.ensures.ok in
+    let broke = subst (λ (b : Bool). OnWrites (λ v w. SendsOn c.args.link c.args.packet.now b (among m.nodes m.faults v) (among c.send.new.nodes c.send.new.faults w)) o o') c.if-branch.true c.in_ok-send.ensures.ok in
     let unsent = links_unsent m.nodes c.send.new.nodes m.links s' c.args.link o o' was (updates_with m.links c.args.link o o' was) (broke_unsent c.args.link c.args.packet.now m.nodes c.send.new.nodes m.faults c.send.new.faults o o' broke) in
     still_picture m.space m.config.settings m.last (map line_of m.loaded.items) m.faults m.faults (falls_refl m.faults) m.nodes c.send.new.nodes m.links s' unsent.1 unsent.0
 
@@ -64,7 +64,7 @@ returns-then-branch-clause-err c =
     let o = c.in-Some.open.now in
     let o' = c.send.new.self in
     let was : slab.get m.links c.args.link ≡ Some o = sym c.in-Some.ensures.value in
-    let broke = subst (λ (b : Bool). OnWrites (SendsOn c.args.link c.args.packet.now b m.nodes c.send.new.nodes m.faults c.send.new.faults) o o') c.if-branch.true c.in_ok-send.ensures.ok in
+    let broke = subst (λ (b : Bool). OnWrites (λ v w. SendsOn c.args.link c.args.packet.now b (among m.nodes m.faults v) (among c.send.new.nodes c.send.new.faults w)) o o') c.if-branch.true c.in_ok-send.ensures.ok in
     broke_on m.space m.config.settings m.last (map line_of m.loaded.items) m.faults c.send.new.faults m.nodes c.send.new.nodes m.links (with_value m.links c.args.link o') c.args.link c.args.packet.now o o' was (updates_with m.links c.args.link o o' was) broke
 
 pub returns-then-branch-clause-asks : goal.returns-then-branch-clause-asks
@@ -78,7 +78,7 @@ returns-clause-ok c =
     let o = c.in-Some.open.now in
     let o' = c.send.new.self in
     let was : slab.get m.links c.args.link ≡ Some o = sym c.in-Some.ensures.value in
-    let sent = subst (λ (b : Bool). OnWrites (SendsOn c.args.link c.args.packet.now b m.nodes c.send.new.nodes m.faults c.send.new.faults) o o') c.if-branch.false c.in_ok-send.ensures.ok in
+    let sent = subst (λ (b : Bool). OnWrites (λ v w. SendsOn c.args.link c.args.packet.now b (among m.nodes m.faults v) (among c.send.new.nodes c.send.new.faults w)) o o') c.if-branch.false c.in_ok-send.ensures.ok in
     sent_on m.space m.config.settings m.last (map line_of m.loaded.items) m.faults c.send.new.faults m.nodes c.send.new.nodes m.links (with_value m.links c.args.link o') c.args.link c.args.packet.now o o' was (updates_with m.links c.args.link o o' was) sent
 
 pub returns-clause-asks : goal.returns-clause-asks
