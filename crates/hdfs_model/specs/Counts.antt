@@ -14,6 +14,10 @@ pub record FaultCounts : Type 0 where
 abbrev pub Rose : ℕ → ℕ → Type 0
 Rose before now = min (before + 1) (2 ^ 64 - 1) ≤ now
 
+-- it has risen twice, or stands at its type's end
+abbrev pub RoseTwice : ℕ → ℕ → Type 0
+RoseTwice before now = min (before + 2) (2 ^ 64 - 1) ≤ now
+
 -- no count fell
 pub record NeverFall (before now : FaultCounts) : Type 0 where
   pub calls : (i : ℕ) → before.calls i ≤ now.calls i

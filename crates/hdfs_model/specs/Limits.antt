@@ -7,12 +7,6 @@ use Rattle.hdfs_model.specs.declared.commands.Settings.{Settings}
 use Rattle.hdfs_model.specs.declared.commands.WriteOptions.{WriteOptions}
 use Rattle.hdfs_model.specs.declared.messages.ServerDefaults.{ServerDefaults}
 
--- permission bits up to 7777 in octal, one replica, a block size from 1 to 2^63 - 1, and fewer than 2^63 bytes
-abbrev pub in_limits : Attributes → ℕ → Bool
-in_limits attributes count =
-    nat_le attributes.permission 4095 && (attributes.replication == 1) && nat_le 1 attributes.block_size
-    && nat_lt attributes.block_size (2 ^ 63) && nat_lt count (2 ^ 63)
-
 -- a replication is from 1 to 65,535
 abbrev pub is_replication : ℕ → Bool
 is_replication n = nat_le 1 n && nat_le n 65535
@@ -38,6 +32,12 @@ if_given test (Some n) = test n
 -- the cluster's defaults are in their limits
 abbrev pub are_defaults : ServerDefaults → Bool
 are_defaults d = is_replication d.replication && is_block_size d.block_size && are_sizes d.bytes_per_checksum d.write_packet_size
+
+-- permission bits up to 7777 in octal, from 1 to 65,535 replicas, a block size from 1 to 2^63 - 1, and fewer than 2^63 bytes
+abbrev pub in_limits : Attributes → ℕ → Bool
+in_limits attributes count =
+    is_permission attributes.permission && is_replication attributes.replication && is_block_size attributes.block_size
+    && nat_lt count (2 ^ 63)
 
 -- what is given of the options is in its limits
 abbrev pub are_options : WriteOptions → Bool

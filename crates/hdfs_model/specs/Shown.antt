@@ -1,5 +1,7 @@
 -- What a cluster shows of itself, and what each of its calls does to that.
-use Rattle.std.specs.Prelude.{◌≡◌, ◌≢◌, ℕ, pos, List, length, Option, Some, None, IsSome, Result, IfSome}
+use Rattle.std.specs.Prelude.{◌≡◌, ◌≢◌, ◌⊎◌, ℕ, pos, List, length, Option, Some, None, IsSome, Result, IfSome}
+use Rattle.hdfs_wire.specs.Checksums.{IsChecked}
+use Rattle.hdfs_wire.specs.declared.checksums.ChecksumInfo.{ChecksumInfo}
 use Rattle.hdfs_wire.specs.declared.read_packet.ReadPacket.{ReadPacket}
 use Rattle.hdfs_model.specs.declared.messages.ReadAsk.{ReadAsk}
 use Rattle.hdfs_model.specs.declared.asks.Ask.{Ask}
@@ -99,10 +101,12 @@ pub record IsUnused (link : ℕ) (shown : Shown) : Type 0 where
 pub record Opened (old : Shown) (ask : ReadAsk) (link : ℕ) (new : Shown) : Type 0 where
   pub reading : Reading link old new
   pub fresh : IsUnused link old
+  pub checksums : Option ChecksumInfo
   pub opened : new.reads link ≡ Some (record {
     node = ask.node;
     block = ask.block;
     token = ask.token;
+    checksums = checksums;
     before = old.counts.nodes ask.node.datanode_uuid;
   })
   pub begins : Told (Begins ask link) old.picture new.picture
@@ -116,12 +120,19 @@ pub record NotOpened (old : Shown) (ask : ReadAsk) (fault : LinkFault) (new : Sh
   pub picture : Told SamePicture old.picture new.picture
   pub cause : fault ≢ faults.NoMemory → Rose (old.counts.nodes ask.node.datanode_uuid) (new.counts.nodes ask.node.datanode_uuid)
 
--- a packet was given
+-- the datanode of a read has failed since the read was opened
+abbrev pub HasFailedSince : OpenRead → Shown → Type 0
+HasFailedSince read now = Rose read.before (now.counts.nodes read.node.datanode_uuid)
+
+-- A packet was given. Where its checksums don't hold, or it isn't the next slice, the link's datanode has failed since the read was
+-- opened.
 pub record Given (old : Shown) (link : ℕ) (packet : ReadPacket) (new : Shown) : Type 0 where
   pub reading : Reading link old new
   pub still_open : new.reads link ≡ old.reads link
   pub length : packet.header.data_len ≡ pos (length packet.payload)
-  pub gives : Told (Gives link ⊥ packet) old.picture new.picture
+  pub checked : (read : OpenRead) → old.reads link ≡ Some read → IsChecked read.checksums packet ⊎ HasFailedSince read new
+  pub gives : (read : OpenRead) → old.reads link ≡ Some read
+      → Told (Gives link read.checksums (HasFailedSince read new) packet) old.picture new.picture
 
 -- No packet came, and the link is as it was. A broken packet comes only where the count of the link's datanode rose.
 pub record NotGiven (old : Shown) (link : ℕ) (fault : LinkFault) (new : Shown) : Type 0 where

@@ -1,7 +1,7 @@
 //! The attributes of a file.
 ghost use Rattle.std.specs.Prelude.{◌≡◌};
 
-use crate::limits::{MAX_BLOCK_SIZE, MAX_PERMISSION};
+use crate::limits::{MAX_BLOCK_SIZE, is_block_size, is_permission, is_replication};
 
 /// What a file is made with: its permission bits, its replication, and the size of its blocks in bytes.
 #[derive(Clone, Copy, Debug, PartialEq, Eq)]
@@ -14,15 +14,14 @@ pub struct Attributes {
 impl Attributes {
     ghost use Rattle.hdfs_model.specs.Limits.{in_limits};
 
-    /// Whether a stored file may have these attributes and so many bytes: permission bits up to 7777 in octal, one
-    /// replica, a block size from 1 to 2^63 - 1, and fewer than 2^63 bytes.
+    /// Whether a stored file may have these attributes and so many bytes: permission bits up to 7777 in octal, from 1 to 65,535
+    /// replicas, a block size from 1 to 2^63 - 1, and fewer than 2^63 bytes.
     pub fn in_limits(&self, count: u64) -> bool
         ensures { result ≡ in_limits self.now count }
     {
-        self.permission <= MAX_PERMISSION
-            && self.replication == 1
-            && 1 <= self.block_size
-            && self.block_size <= MAX_BLOCK_SIZE
+        is_permission(self.permission)
+            && is_replication(self.replication)
+            && is_block_size(self.block_size)
             && count <= MAX_BLOCK_SIZE
     }
 }

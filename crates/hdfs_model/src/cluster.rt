@@ -1,5 +1,5 @@
 //! The outside: namenodes that are asked, and datanodes that are read and written.
-ghost use Rattle.std.specs.Prelude.{◌≡◌, ◌<◌, ℕ, true, false, Some, Result, IfOk, IfErr, OnOk, IsSome, IsNone, IsTrue};
+ghost use Rattle.std.specs.Prelude.{◌≡◌, ◌<◌, ℕ, true, Some, Result, IfOk, IfErr, IfSome, OnOk, IsSome, IsTrue};
 ghost use Rattle.hdfs_model.specs.Namenode.{IsShaped};
 ghost use Rattle.hdfs_model.specs.Picture.{Picture};
 ghost use Rattle.hdfs_model.specs.Pipes.{IsSetup, WriteOpened, WriteNotOpened, FollowsOn, Sent, NotSent, IsAwaited, Acknowledged, NotAcknowledged, WriteEnded, ShowsWrites};
@@ -11,7 +11,7 @@ ghost use Rattle.hdfs_model.specs.declared.asks.AskFault.{AskFault};
 
 use crate::asks::{Answer, Ask, AskFault, LinkFault};
 use crate::messages::{ReadAsk, Setup};
-use hdfs_wire::{Ack, ReadPacket, WritePacket};
+use hdfs_wire::{Ack, ChecksumInfo, ReadPacket, WritePacket};
 
 /// Namenodes and datanodes. A call that fails for another cause than memory has raised a count.
 pub trait Cluster {
@@ -35,22 +35,32 @@ pub trait Cluster {
         ensures served { Served (shown self.old) i ask.now result (shown self.new) }
         ensures shape { IfOk result (λ answer. IsShaped ask.now answer) };
 
-    /// Opens a read on a fresh connection, and answers its link.
+    /// The moment in milliseconds, counted from any beginning.
+    fn moment(&mut self) -> u64
+        ensures { shown self.new ≡ shown self.old };
+
+    /// Opens a read, and answers its link: on the connection of a link that `end_read` has kept and that is idle, if it is one to the
+    /// asked datanode's address, and else on a fresh one.
     fn open_read(&mut self, kept: Option<u64>, ask: &ReadAsk) -> Result<u64, LinkFault>
-        requires { IsNone kept }
         ensures ok { IfOk result (λ link. Opened (shown self.old) ask.now link (shown self.new)) }
         ensures err { IfErr result (λ fault. NotOpened (shown self.old) ask.now fault (shown self.new)) };
 
-    /// The next packet of a read.
+    /// How the checksums of a read's packets are made; none where they have none.
+    fn checksums(&self, link: u64) -> Option<ChecksumInfo>
+        requires { IsSome ((shown self.now).reads link) }
+        ensures { IfSome ((shown self.now).reads link) (λ read. result ≡ read.checksums) };
+
+    /// The next packet of a read. One whose checksums don't hold, or that isn't the next one, comes only where the datanode has
+    /// failed since the read was opened.
     fn packet(&mut self, link: u64) -> Result<ReadPacket, LinkFault>
         requires { IsSome ((shown self.old).reads link) }
         ensures ok { IfOk result (λ packet. Given (shown self.old) link packet (shown self.new)) }
         ensures err { IfErr result (λ fault. NotGiven (shown self.old) link fault (shown self.new)) };
 
-    /// Ends a read. The answer is whether its connection is kept, which it is only where `keep` asks for it.
+    /// Ends a read. The answer is whether its connection is kept, to be gone on with by another read; it is only where `keep` asks
+    /// for that.
     fn end_read(&mut self, link: u64, keep: bool) -> bool
         requires open { IsSome ((shown self.old).reads link) }
-        requires unkept { keep ≡ false }
         ensures ended { Ended (shown self.old) link (shown self.new) }
         ensures kept { IsTrue result → keep ≡ true };
 

@@ -2,7 +2,7 @@
 use crate::attributes::Attributes;
 use crate::messages::{Block, DatanodeId, Setup, Token};
 use bytes::Bytes;
-use hdfs_wire::{List, Text};
+use hdfs_wire::{ChecksumInfo, List, Text};
 
 /// A file: its attributes and the ids of its blocks in order. It is open while a client holds its lease.
 #[derive(Debug, Drop)]
@@ -27,13 +27,14 @@ pub struct BlockEntry {
     pub nodes: List<Text>,
 }
 
-/// What every cluster tells of an open read link: the datanode, the block and the token that it was opened with, and the
-/// datanode's count just before the opening.
+/// What every cluster tells of an open read link: the datanode, the block and the token that it was opened with, how the
+/// checksums of its packets are made (none: they have none), and the datanode's count just before the opening.
 #[derive(Debug, Drop)]
 pub struct OpenRead {
     pub node: DatanodeId,
     pub block: Block,
     pub token: Token,
+    pub checksums: Option<ChecksumInfo>,
     pub before: u64,
 }
 

@@ -27,6 +27,12 @@ pub enum LinkKind {
 pub enum ReadKind {
     /// The connection breaks in place of the packet.
     Broken,
+    /// The first byte of the packet is another one, so that its checksum doesn't hold. Of a packet without bytes nothing is seen.
+    Damaged,
+    /// The packet is left out, and the one behind it comes.
+    Gap,
+    /// The datanode refuses to open the read. Such a fault counts the reads that are opened, and not packets.
+    Refused,
 }
 
 /// A fault that a store is to have: an object fails its `nth` call, from 1 on, counted from the making of the cluster. Datanodes
@@ -39,7 +45,7 @@ pub enum FaultLine {
     AckOf { node: u32, nth: u64 },
     /// The connection breaks in place of the `nth` packet that is sent down a pipeline whose first datanode is `node`.
     SendTo { node: u32, nth: u64 },
-    /// Datanode `node` fails in its `nth` packet.
+    /// Datanode `node` fails in its `nth` packet, or in the `nth` read that is opened on it.
     ReadOf { node: u32, nth: u64, kind: ReadKind },
 }
 

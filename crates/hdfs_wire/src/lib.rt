@@ -28,4 +28,4 @@ pub use read_packet::ReadPacket;
 pub use values::{Blob, List, NoMemory, Text};
 pub use varint::{put_varint, take_varint, varints_are_read_again};
 pub use wire_fault::WireFault;
-pub use write_packet::{WritePacket, no_packet_begins_another, written_sums_hold};
+pub use write_packet::{WritePacket, no_packet_begins_another, put_checksums, written_sums_hold};

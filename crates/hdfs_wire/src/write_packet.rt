@@ -75,8 +75,9 @@ fn put_sum(out: &mut Vec<u8>, sum: u32) -> Result<(), NoMemory>
     Ok(())
 }
 
-/// Writes a CRC-32C for each chunk at the end, of two whole chunks at a time. After `NoMemory` a part of them may be written.
-fn put_sums(out: &mut Vec<u8>, size: usize, payload: &[u8]) -> Result<(), NoMemory>
+/// Writes the checksums of a payload at the end: a CRC-32C for each chunk of `size` bytes, four bytes each, the highest first.
+/// After `NoMemory` a part of them may be written.
+pub fn put_checksums(out: &mut Vec<u8>, size: usize, payload: &[u8]) -> Result<(), NoMemory>
     requires { (1 ≤ size) × (size ≤ 2 ^ 32) }
     ensures { OnOk result (out.new.items ≡ out.old.items ++ checksums size payload.now) }
 {
@@ -137,7 +138,7 @@ fn put_packet(
     out.extend_from_slice(&body.to_be_bytes())?;
     out.extend_from_slice(&(header.len() as u16).to_be_bytes())?;
     out.extend_from_slice(header)?;
-    put_sums(out, chunk as usize, payload)?;
+    put_checksums(out, chunk as usize, payload)?;
     out.extend_from_slice(payload)?;
     Ok(())
 }

@@ -5,7 +5,7 @@ use Rattle.std.proofs.lemmas.Nat.{le-div}
 use Rattle.hdfs_wire.specs.Crc.{crc32c_of}
 use Rattle.hdfs_wire.specs.Outgoing.{chunk_count, first_sums}
 use Rattle.hdfs_wire.proofs.WrittenPacket.{sums_none, sums_more, rest_more}
-use Rattle.hdfs_wire.proofs.write_packet.put_sums.Goals as goal
+use Rattle.hdfs_wire.proofs.write_packet.put_checksums.Goals as goal
 
 -- two more whole chunks are among all chunks
 within_two : (size done : ℕ) (payload rest : List ℕ) → 1 ≤ size → rest ≡ drop (done * size) payload → 2 * size ≤ length rest → done + 2 ≤ chunk_count size (length payload)

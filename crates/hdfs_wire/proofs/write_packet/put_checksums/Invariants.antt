@@ -1,6 +1,6 @@
 use Rattle.std.proofs.Common.{◌≡◌, ◌≤◌, ◌++◌, ◌*◌, drop, length}
 use Rattle.hdfs_wire.specs.Outgoing.{first_sums}
-use Rattle.hdfs_wire.proofs.write_packet.put_sums.Given as goal
+use Rattle.hdfs_wire.proofs.write_packet.put_checksums.Given as goal
 
 abbrev pub invariant-pairs : goal.invariant-pairs
 invariant-pairs l = record {
