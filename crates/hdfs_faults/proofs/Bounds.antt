@@ -4,6 +4,7 @@ use Rattle.std.proofs.lemmas.List.Sums.{sum_by-cons}
 use Rattle.hdfs_model.specs.declared.store.Line.{Line}
 use Rattle.hdfs_model.specs.declared.store.Line.TheVariants as lines
 use Rattle.hdfs_model.specs.declared.store.FaultLine.TheVariants as faults
+use Rattle.hdfs_model.specs.declared.store.ReadKind.TheVariants as read_kinds
 use Rattle.hdfs_faults.specs.declared.fault_plan.FaultPlan.{FaultPlan}
 use Rattle.hdfs_faults.specs.declared.node_plan.NodeCall.{NodeCall}
 use Rattle.hdfs_faults.specs.declared.node_plan.NodeCall.TheVariants as calls
@@ -13,7 +14,7 @@ use Rattle.hdfs_faults.specs.Calls.{fails_in, one_if}
 use Rattle.hdfs_faults.specs.Following.{Follows}
 use Rattle.hdfs_faults.specs.NodePlans.{failed_in, node_at, planned_in}
 use Rattle.hdfs_faults.specs.Plans.{fails_at, link_faults_of, node_faults_of}
-use Rattle.hdfs_faults.specs.Series.{Series, SetUps, CallsOf, acks_of, is_fault_at, is_of, link_fault_count, node_fault_count, nth_of, of_fault, plans, reads_of, same_series, sends_to, series_fault_count, series_of}
+use Rattle.hdfs_faults.specs.Series.{Series, SetUps, CallsOf, acks_of, is_fault_at, is_of, link_fault_count, node_fault_count, nth_of, of_fault, opens_of, plans, reads_of, same_series, sends_to, series_fault_count, series_of}
 use Rattle.hdfs_faults.specs.Tallies.{is_planned}
 use Rattle.hdfs_faults.proofs.Failing.{fails-more, fails-never, fails-only, fails-or}
 
@@ -43,27 +44,31 @@ is_of_series s line = of_fault (λ fault. same_series (series_of fault) s) line
 abbrev is_of_node : List ℕ → Line → Bool
 is_of_node d line = of_fault (λ fault. is_of d (series_of fault)) line
 
--- a fault of a datanode is of one of its three series
-one_series : (d : List ℕ) (line : Line) → one_if (is_of_series (acks_of d) line) + one_if (is_of_series (sends_to d) line) + one_if (is_of_series (reads_of d) line) ≤ one_if (is_of_node d line)
+-- a fault of a datanode is of one of its four series
+one_series : (d : List ℕ) (line : Line) → one_if (is_of_series (acks_of d) line) + one_if (is_of_series (sends_to d) line) + one_if (is_of_series (reads_of d) line) + one_if (is_of_series (opens_of d) line) ≤ one_if (is_of_node d line)
 one_series d (lines.Dir path) = omega arith
 one_series d (lines.File path attributes bytes) = omega arith
 one_series d (lines.Fault (faults.Link n kind)) = omega arith
 one_series d (lines.Fault (faults.AckOf node n)) = omega arith
 one_series d (lines.Fault (faults.SendTo node n)) = omega arith
-one_series d (lines.Fault (faults.ReadOf node n kind)) = omega arith
+one_series d (lines.Fault (faults.ReadOf node n read_kinds.Broken)) = omega arith
+one_series d (lines.Fault (faults.ReadOf node n read_kinds.Damaged)) = omega arith
+one_series d (lines.Fault (faults.ReadOf node n read_kinds.Gap)) = omega arith
+one_series d (lines.Fault (faults.ReadOf node n read_kinds.Refused)) = omega arith
 
--- the faults of its three series are among the faults of a datanode
-three_series : (d : List ℕ) (loaded : List Line) → series_fault_count loaded (acks_of d) + series_fault_count loaded (sends_to d) + series_fault_count loaded (reads_of d) ≤ node_fault_count loaded d
-three_series d [] = omega arith
-three_series d (line ∷ loaded) =
+-- the faults of its four series are among the faults of a datanode
+four_series : (d : List ℕ) (loaded : List Line) → series_fault_count loaded (acks_of d) + series_fault_count loaded (sends_to d) + series_fault_count loaded (reads_of d) + series_fault_count loaded (opens_of d) ≤ node_fault_count loaded d
+four_series d [] = omega arith
+four_series d (line ∷ loaded) =
     let first = sum_by-cons (λ l. one_if (is_of_series (acks_of d) l)) line loaded in
     let second = sum_by-cons (λ l. one_if (is_of_series (sends_to d) l)) line loaded in
     let third = sum_by-cons (λ l. one_if (is_of_series (reads_of d) l)) line loaded in
+    let fourth = sum_by-cons (λ l. one_if (is_of_series (opens_of d) l)) line loaded in
     let node = sum_by-cons (λ l. one_if (is_of_node d l)) line loaded in
-    omega (arith, first, second, third, node, one_series d line, three_series d loaded)
+    omega (arith, first, second, third, fourth, node, one_series d line, four_series d loaded)
 
 -- a tally whose numbers are planned by lines has failed no more often than lines are faults of its series
-tally_le : (tally : Tally) (s : Series) (loaded : List Line) → ((k : ℕ) → is_planned tally k ≡ true → plans loaded s k ≡ true) → tally.failed ≤ series_fault_count loaded s
+tally_le : {K : Type 0} (tally : Tally K) (s : Series) (loaded : List Line) → ((k : ℕ) → is_planned tally k ≡ true → plans loaded s k ≡ true) → tally.failed ≤ series_fault_count loaded s
 tally_le tally s loaded planned =
     omega (arith, tally.counted, fails-more (is_planned tally) (plans loaded s) tally.calls planned, fails-lines s loaded tally.calls)
 
@@ -71,7 +76,11 @@ tally_le tally s loaded planned =
 node_le : (d : List ℕ) (loaded : List Line) (o : Option NodePlan) → ((call : NodeCall) (k : ℕ) → planned_in o call k ≡ true → plans loaded (CallsOf call d) k ≡ true) → failed_in o ≤ node_fault_count loaded d
 node_le d loaded None planned = omega arith
 node_le d loaded (Some node) planned =
-    omega (arith, tally_le node.acks (acks_of d) loaded (planned calls.Ack), tally_le node.sends (sends_to d) loaded (planned calls.Send), tally_le node.reads (reads_of d) loaded (planned calls.Read), three_series d loaded)
+    let acks = tally_le node.acks (acks_of d) loaded (planned calls.Ack) in
+    let sends = tally_le node.sends (sends_to d) loaded (planned calls.Send) in
+    let reads = tally_le node.reads (reads_of d) loaded (planned calls.Read) in
+    let opens = tally_le node.opens (opens_of d) loaded (planned calls.Open) in
+    omega (arith, acks, sends, reads, opens, four_series d loaded)
 
 -- THE LAW for datanodes: none has failed more often than lines are faults of it
 pub node_faults-le : (plan : FaultPlan) (loaded : List Line) → Follows plan loaded → (d : List ℕ) → node_faults_of plan d ≤ node_fault_count loaded d

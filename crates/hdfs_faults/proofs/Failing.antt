@@ -1,11 +1,14 @@
 -- How many of the first so many calls fail.
-use Rattle.std.proofs.Common.{◌≡◌, ℕ, ◌+◌, ◌<◌, ◌≤◌, zero, suc, Bool, true, false, ◌||◌, eqb, List, [], ◌∷◌, length, refl, sym, ◌∙◌, ap, subst, arith, add-one}
+use Rattle.std.proofs.Common.{◌≡◌, ℕ, ◌+◌, ◌<◌, ◌≤◌, zero, suc, Bool, true, false, ◌||◌, eqb, cond, List, [], ◌∷◌, length, Option, Some, is_some, refl, sym, ◌∙◌, ap, subst, arith, add-one}
 use Rattle.std.proofs.lemmas.Bool.Decides.{nat_tests}
-use Rattle.std.specs.List.{list_any}
+use Rattle.std.specs.Map.{lookup}
 use Rattle.std.specs.Ordering.{nat_cmp}
-use Rattle.std.specs.BTreeMap.{is_at}
-use Rattle.std.specs.BTreeSet.{BTreeSet, contains, btree_set_len}
+use Rattle.std.specs.BTreeMap.{BTreeMap, btree_map_len, get, is_at}
 use Rattle.hdfs_faults.specs.Calls.{fails_in, one_if}
+
+-- whether a number is planned to fail, in some way
+abbrev pub is_kind : {K : Type 0} → BTreeMap ℕ K → ℕ → Bool
+is_kind kinds nth = is_some (get nat_cmp kinds nth)
 
 -- a call fails once at most
 pub one-le : (b : Bool) → one_if b ≤ 1
@@ -74,18 +77,26 @@ fails-only m (suc n) = by_test (eqb m (suc n)) refl (fails-only m n)
         omega (arith, zero_or_reached m n (omega arith), one-le (eqb m (suc n)))
     by_test false is before = omega (arith, before, ap one_if is)
 
--- the same where the number is looked up in a set
+-- the same where the number is looked up in a map
 pub fails-at : (m n : ℕ) → fails_in (λ k. is_at (nat_cmp k) m) n ≤ 1
 fails-at m n =
     let same : (k : ℕ) → is_at (nat_cmp k) m ≡ true → eqb m k ≡ true = λ k is. grind (arith, nat_tests) in
     omega (arith, fails-more (λ k. is_at (nat_cmp k) m) (λ k. eqb m k) n same, fails-only m n)
 
+-- what is found at one entry or behind it is found at one of both
+found_or : {K : Type 0} (b : Bool) (kind : K) (o : Option K) → is_some (cond b (Some kind) o) ≡ true → (b || is_some o) ≡ true
+found_or true kind o is = refl
+found_or false kind o is = is
+
 -- no more calls fail than numbers are listed
-fails-listed : (keys : List ℕ) (n : ℕ) → fails_in (λ k. list_any (is_at (nat_cmp k)) keys) n ≤ length keys
+fails-listed : {K : Type 0} (entries : List (ℕ × K)) (n : ℕ) → fails_in (λ k. is_some (lookup (is_at (nat_cmp k)) entries)) n ≤ length entries
 fails-listed [] n = omega (arith, fails-never n)
-fails-listed (m ∷ keys) n =
-    omega (arith, fails-or (λ k. is_at (nat_cmp k) m) (λ k. list_any (is_at (nat_cmp k)) keys) n, fails-at m n, fails-listed keys n)
+fails-listed (e ∷ entries) n =
+    let here : ℕ → Bool = λ k. is_at (nat_cmp k) e.0 in
+    let behind : ℕ → Bool = λ k. is_some (lookup (is_at (nat_cmp k)) entries) in
+    let split = fails-more (λ k. is_some (lookup (is_at (nat_cmp k)) (e ∷ entries))) (λ k. here k || behind k) n (λ k. found_or (here k) e.1 (lookup (is_at (nat_cmp k)) entries)) in
+    omega (arith, split, fails-or here behind n, fails-at e.0 n, fails-listed entries n)
 
 -- no more calls fail than numbers are planned
-pub fails-len : (planned : BTreeSet ℕ) (n : ℕ) → fails_in (contains nat_cmp planned) n ≤ btree_set_len planned
-fails-len planned n = fails-listed planned.keys n
+pub fails-len : {K : Type 0} (planned : BTreeMap ℕ K) (n : ℕ) → fails_in (is_kind planned) n ≤ btree_map_len planned
+fails-len planned n = fails-listed planned.entries n

@@ -1,139 +1,45 @@
 -- What a plan that follows lines keeps, and how often its objects can have failed.
-use Rattle.std.proofs.Common.{◌≡◌, ◌≢◌, ◌⊎◌, inl, inr, ⊎_elim, ℕ, ◌+◌, ◌^◌, ◌<◌, ◌≤◌, Bool, true, false, nat_lt, ◌&&◌, ◌||◌, eqb, cond, List, [], ◌∷◌, ◌++◌, Option, Some, None, is_some, refl, sym, ◌∙◌, ap, subst, arith}
+use Rattle.std.proofs.Common.{◌≡◌, ⊎_elim, ℕ, ◌+◌, ◌^◌, ◌<◌, ◌≤◌, Bool, true, false, nat_lt, ◌&&◌, ◌||◌, eqb, cond, List, [], ◌∷◌, ◌++◌, Option, Some, None, is_some, refl, sym, ◌∙◌, ap, subst, arith}
 use Rattle.std.specs.Option.{option_or}
-use Rattle.std.specs.Str.{bytes_eq}
 use Rattle.std.proofs.lemmas.Bool.{or_cases}
 use Rattle.std.proofs.lemmas.Bool.Decides.{nat_tests}
-use Rattle.std.proofs.lemmas.List.Folds.{list_any-append}
-use Rattle.std.proofs.lemmas.Slice.Eq.{bytes_eq-Decides}
 use Rattle.hdfs_model.specs.declared.store.Line.{Line}
 use Rattle.hdfs_model.specs.declared.store.Line.TheVariants as lines
 use Rattle.hdfs_model.specs.declared.store.FaultLine.{FaultLine}
 use Rattle.hdfs_model.specs.declared.store.FaultLine.TheVariants as faults
 use Rattle.hdfs_model.specs.declared.store.LinkKind.{LinkKind}
+use Rattle.hdfs_model.specs.declared.store.ReadKind.{ReadKind}
 use Rattle.hdfs_faults.specs.declared.fault_plan.FaultPlan.{FaultPlan}
-use Rattle.hdfs_faults.specs.declared.node_plan.NodeCall.{NodeCall}
 use Rattle.hdfs_faults.specs.declared.node_plan.NodeCall.TheVariants as calls
+use Rattle.hdfs_faults.specs.declared.node_plan.NodePlan.{NodePlan}
 use Rattle.hdfs_faults.specs.Calls.{next_fails, next_kind}
 use Rattle.hdfs_faults.specs.Following.{Follows}
-use Rattle.hdfs_faults.specs.Plans.{AddsNodes, Counts, CountsOne, Forgets, IsNew, PlansFault, SameCalls, SamePlan, SamePlans, SetsUp, TakesAck, calls_of, fails_at, has_series, has_node, kind_at, may_come}
-use Rattle.hdfs_faults.specs.Series.{Series, SetUps, CallsOf, is_fault_at, is_fault, kind_in, kind_of, kind_of_line, nth_of, of_fault, plans, same_call, same_series, series_of}
-
--- a test is not true and false
-none_is : {P : Type 0} → true ≡ false → P
-none_is is = absurd (cc)
-
--- ---- the series
-
--- kinds of calls that test the same are the same
-same_call-is : (call other : NodeCall) → same_call call other ≡ true → call ≡ other
-same_call-is calls.Ack calls.Ack is = refl
-same_call-is calls.Send calls.Send is = refl
-same_call-is calls.Read calls.Read is = refl
-same_call-is calls.Ack calls.Send is = absurd (cc)
-same_call-is calls.Ack calls.Read is = absurd (cc)
-same_call-is calls.Send calls.Ack is = absurd (cc)
-same_call-is calls.Send calls.Read is = absurd (cc)
-same_call-is calls.Read calls.Ack is = absurd (cc)
-same_call-is calls.Read calls.Send is = absurd (cc)
-
--- and each tests the same as itself
-same_call-refl : (call : NodeCall) → same_call call call ≡ true
-same_call-refl calls.Ack = refl
-same_call-refl calls.Send = refl
-same_call-refl calls.Read = refl
-
--- both tests of a true pair are true
-both : (a b : Bool) → (a && b) ≡ true → (a ≡ true) × (b ≡ true)
-both true true is = (refl, refl)
-both true false is = absurd (cc)
-both false b is = absurd (cc)
-
--- and the pair of two true tests is
-together : (a b : Bool) → a ≡ true → b ≡ true → (a && b) ≡ true
-together true b first second = second
-together false b first second = absurd (cc)
-
--- series that test the same are the same
-pub same_series-is : (s t : Series) → same_series s t ≡ true → s ≡ t
-same_series-is SetUps SetUps is = refl
-same_series-is SetUps (CallsOf call d) is = absurd (cc)
-same_series-is (CallsOf call d) SetUps is = absurd (cc)
-same_series-is (CallsOf call d) (CallsOf other e) is =
-    let parts = both (same_call call other) (bytes_eq d e) is in
-    ap (λ (c : NodeCall). CallsOf c d) (same_call-is call other parts.0) ∙ ap (CallsOf other) ((bytes_eq-Decides d e).0 parts.1)
-
--- and each tests the same as itself
-pub same_series-refl : (s : Series) → same_series s s ≡ true
-same_series-refl SetUps = refl
-same_series-refl (CallsOf call d) = together (same_call call call) (bytes_eq d d) (same_call-refl call) ((bytes_eq-Decides d d).1 refl)
-
--- two series are the same or are not
-pub series_cases : (s t : Series) → (s ≡ t) ⊎ (s ≢ t)
-series_cases s t = by_test (same_series s t) refl
-  where
-    by_test : (b : Bool) → same_series s t ≡ b → (s ≡ t) ⊎ (s ≢ t)
-    by_test true is = inl (same_series-is s t is)
-    by_test false is = inr (λ same. none_is (sym (same_series-refl s) ∙ ap (same_series s) same ∙ is))
-
--- ---- the lines
-
--- what one more line plans, the lines plan
-plans_push : (loaded : List Line) (line : Line) (s : Series) (nth : ℕ) → plans (loaded ++ line ∷ []) s nth ≡ (plans loaded s nth || (of_fault (is_fault_at s nth) line || false))
-plans_push loaded line s nth = list_any-append (of_fault (is_fault_at s nth)) loaded (line ∷ [])
-
--- the first line of a set-up stays the first
-kind_push : (loaded more : List Line) (nth : ℕ) → kind_of (loaded ++ more) nth ≡ option_or (kind_of loaded nth) (kind_of more nth)
-kind_push [] more nth = refl
-kind_push (line ∷ loaded) more nth = ap (option_or (kind_of_line nth line)) (kind_push loaded more nth) ∙ assoc (kind_of_line nth line) (kind_of loaded nth) (kind_of more nth)
-  where
-    assoc : (a b c : Option LinkKind) → option_or a (option_or b c) ≡ option_or (option_or a b) c
-    assoc None b c = refl
-    assoc (Some x) b c = refl
-
--- something is there exactly where the test is true
-some_cond : (b : Bool) (kind : LinkKind) → is_some (cond b (Some kind) None) ≡ b
-some_cond true kind = refl
-some_cond false kind = refl
-
--- a line plans a set-up exactly where it says how
-line_plans : (line : Line) (nth : ℕ) → of_fault (is_fault_at SetUps nth) line ≡ is_some (kind_of_line nth line)
-line_plans (lines.Dir path) nth = refl
-line_plans (lines.File path attributes bytes) nth = refl
-line_plans (lines.Fault (faults.Link n kind)) nth = sym (some_cond (eqb n nth) kind)
-line_plans (lines.Fault (faults.AckOf node n)) nth = refl
-line_plans (lines.Fault (faults.SendTo node n)) nth = refl
-line_plans (lines.Fault (faults.ReadOf node n kind)) nth = refl
-
--- a set-up is planned to fail exactly where the lines say how
-pub plans_kind : (loaded : List Line) (nth : ℕ) → plans loaded SetUps nth ≡ is_some (kind_of loaded nth)
-plans_kind [] nth = refl
-plans_kind (line ∷ loaded) nth =
-    ap (λ (b : Bool). b || plans loaded SetUps nth) (line_plans line nth) ∙ ap (λ (b : Bool). is_some (kind_of_line nth line) || b) (plans_kind loaded nth)
-    ∙ either (kind_of_line nth line) (kind_of loaded nth)
-  where
-    either : (a b : Option LinkKind) → (is_some a || is_some b) ≡ is_some (option_or a b)
-    either None b = refl
-    either (Some x) b = refl
+use Rattle.hdfs_faults.specs.Plans.{AddsNodes, Counts, CountsOne, Forgets, IsNew, PlansFault, SameCalls, SamePlan, SamePlans, SetsUp, TakesAck, calls_of, fails_at, has_series, has_node, kind_at, may_come, packet_kind}
+use Rattle.hdfs_faults.specs.NodePlans.{node_at, packet_kind_at, planned_in}
+use Rattle.hdfs_faults.specs.Series.{Series, SetUps, CallsOf, is_fault_at, is_fault, kind_in, kind_of, nth_of, of_fault, packet_kind_in, packet_kind_of, plans, reads_of, said_kind, same_series, series_of}
+use Rattle.hdfs_faults.proofs.Lines.{both, kind_push, none_is, nothing_of, packet_push, plans_kind, plans_packet, plans_push, same_series-is, series_cases, together}
 
 -- ---- plans that follow lines
+
+-- nothing is not something
+none_some : {P X : Type 0} (x : X) → None ≡ Some x → P
+none_some x is = none_is (sym (ap is_some is))
 
 -- a new plan follows no lines
 pub new_follows : (plan : FaultPlan) → IsNew plan → Follows plan []
 new_follows plan new = record {
   planned = λ s nth is. none_is (sym is ∙ new.fails s nth);
   kinds = λ nth kind is. none_some kind (sym (new.kinds nth) ∙ is);
+  packets = λ d nth kind is. none_some kind (sym (new.packets d nth) ∙ is);
   acts = λ s nth there later is. none_is (sym is);
 }
-  where
-    none_some : {P : Type 0} (kind : LinkKind) → None ≡ Some kind → P
-    none_some kind is = none_is (sym (ap is_some is))
 
 -- before the first line datanodes may come
 pub added_follows : (old new : FaultPlan) → AddsNodes old new → Follows old [] → Follows new []
 added_follows old new added was = record {
   planned = λ s nth is. was.planned s nth (sym (added.fails s nth) ∙ is);
   kinds = λ nth kind is. was.kinds nth kind (sym (added.kinds nth) ∙ is);
+  packets = λ d nth kind is. was.packets d nth kind (sym (added.packets d nth) ∙ is);
   acts = λ s nth there later is. none_is (sym is);
 }
 
@@ -151,6 +57,7 @@ kept_follows : (old new : FaultPlan) (loaded : List Line) → Holds old new → 
 kept_follows old new loaded holds was = record {
   planned = λ s nth is. was.planned s nth (sym (holds.0.fails s nth) ∙ is);
   kinds = λ nth kind is. was.kinds nth kind (sym (holds.0.kinds nth) ∙ is);
+  packets = λ d nth kind is. was.packets d nth kind (sym (holds.0.packets d nth) ∙ is);
   acts = λ s nth there later is.
       (let le : calls_of old s ≤ calls_of new s = holds.1 s in
       holds.0.fails s nth ∙ was.acts s nth (sym (series_there old new holds.0.there s) ∙ there) (omega (arith, le, later)) is);
@@ -189,18 +96,6 @@ end_follows old new loaded link forgets = kept_follows old new loaded (forgets.p
 
 -- ---- one more line
 
--- a line that is no fault plans no call
-nothing_of : (line : Line) (s : Series) (nth : ℕ) → is_fault line ≡ false → of_fault (is_fault_at s nth) line ≡ false
-nothing_of (lines.Dir path) s nth is = refl
-nothing_of (lines.File path attributes bytes) s nth is = refl
-nothing_of (lines.Fault fault) s nth is = none_is is
-
--- and says of no set-up how it fails
-no_kind_of : (line : Line) (nth : ℕ) → is_fault line ≡ false → kind_of_line nth line ≡ None
-no_kind_of (lines.Dir path) nth is = refl
-no_kind_of (lines.File path attributes bytes) nth is = refl
-no_kind_of (lines.Fault fault) nth is = none_is is
-
 -- one of two tests is true where the first is
 or_left : (a b : Bool) → a ≡ true → (a || b) ≡ true
 or_left a b is = ap (λ (c : Bool). c || b) is
@@ -226,21 +121,35 @@ pub other_follows : (plan : FaultPlan) (loaded : List Line) (line : Line) → is
 other_follows plan loaded line other was = record {
   planned = λ s nth is. plans_push loaded line s nth ∙ or_left (plans loaded s nth) (of_fault (is_fault_at s nth) line || false) (was.planned s nth is);
   kinds = λ nth kind is. kind_push loaded (line ∷ []) nth ∙ ap (λ (o : Option LinkKind). option_or o (kind_of (line ∷ []) nth)) (was.kinds nth kind is);
+  packets = λ d nth kind is. packet_push loaded (line ∷ []) d nth ∙ ap (λ (o : Option ReadKind). option_or o (packet_kind_of (line ∷ []) d nth)) (was.packets d nth kind is);
   acts = λ s nth there later is.
       was.acts s nth there later (or_no (plans loaded s nth) (of_fault (is_fault_at s nth) line) (nothing_of line s nth other) (sym (plans_push loaded line s nth) ∙ is));
 }
 
+-- what is planned as lines say, and is planned where they say something, is what they say
+as_said : {X : Type 0} (o p : Option X) → ((x : X) → o ≡ Some x → p ≡ Some x) → (is_some p ≡ true → is_some o ≡ true) → o ≡ p
+as_said (Some x) p says acts = sym (says x refl)
+as_said None None says acts = refl
+as_said None (Some x) says acts = none_is (sym (acts refl))
+
 -- a set-up that is still to come is planned to fail as the lines say
 pub kind_later : (plan : FaultPlan) (loaded : List Line) → Follows plan loaded → (nth : ℕ) → calls_of plan SetUps < nth → kind_at plan nth ≡ kind_of loaded nth
-kind_later plan loaded follows nth later = by_kinds (kind_at plan nth) (kind_of loaded nth) refl refl
+kind_later plan loaded follows nth later =
+    as_said (kind_at plan nth) (kind_of loaded nth) (follows.kinds nth) (λ is. follows.acts SetUps nth refl later (plans_kind loaded nth ∙ is))
+
+-- a packet is planned to fail exactly where it is planned how
+pub read_fails : (plan : FaultPlan) (d : List ℕ) (nth : ℕ) → fails_at plan (reads_of d) nth ≡ is_some (packet_kind plan d nth)
+read_fails plan d nth = by_node (node_at plan.nodes d)
   where
-    by_kinds : (o p : Option LinkKind) → kind_at plan nth ≡ o → kind_of loaded nth ≡ p → o ≡ p
-    by_kinds (Some kind) p at of = sym (follows.kinds nth kind at) ∙ of
-    by_kinds None None at of = refl
-    by_kinds None (Some kind) at of =
-        let line : plans loaded SetUps nth ≡ true = plans_kind loaded nth ∙ ap is_some of in
-        let fails : is_some (kind_at plan nth) ≡ true = follows.acts SetUps nth refl later line in
-        none_is (sym fails ∙ ap is_some at)
+    by_node : (o : Option NodePlan) → planned_in o calls.Read nth ≡ is_some (packet_kind_at o nth)
+    by_node None = refl
+    by_node (Some node) = refl
+
+-- a packet that is still to come, of a datanode that is there, is planned to fail as the lines say
+pub packet_later : (plan : FaultPlan) (loaded : List Line) → Follows plan loaded → (d : List ℕ) (nth : ℕ) → has_node plan d ≡ true → calls_of plan (reads_of d) < nth → packet_kind plan d nth ≡ packet_kind_of loaded d nth
+packet_later plan loaded follows d nth there later =
+    as_said (packet_kind plan d nth) (packet_kind_of loaded d nth) (follows.packets d nth)
+    (λ is. sym (read_fails plan d nth) ∙ follows.acts (reads_of d) nth there later (plans_packet loaded d nth ∙ is))
 
 -- what tests less is less
 less : (a b : ℕ) → nat_lt a b ≡ true → a < b
@@ -255,18 +164,34 @@ same_number : (a b : ℕ) → eqb a b ≡ true → a ≡ b
 same_number a b is = grind (arith, nat_tests)
 
 -- what is there only under a test is there, and the test is true
-cond_some : (b : Bool) (o : Option LinkKind) (kind : LinkKind) → cond b o None ≡ Some kind → (b ≡ true) × (o ≡ Some kind)
-cond_some true o kind is = (refl, is)
-cond_some false o kind is = none_is (sym (ap is_some is))
+cond_some : {X : Type 0} (b : Bool) (o : Option X) (x : X) → cond b o None ≡ Some x → (b ≡ true) × (o ≡ Some x)
+cond_some true o x is = (refl, is)
+cond_some false o x is = none_some x is
 
 -- a fault that says how a set-up fails, and may still come, is of one that is still to come
 set_up_later : (plan : FaultPlan) (fault : FaultLine) (nth : ℕ) (kind : LinkKind) → may_come plan fault ≡ true → kind_in nth fault ≡ Some kind → calls_of plan SetUps < nth
 set_up_later plan (faults.Link n k) nth kind comes is =
     let at : n ≡ nth = same_number n nth (cond_some (eqb n nth) (Some k) kind is).0 in
     subst (λ (m : ℕ). calls_of plan SetUps < m) at (less (calls_of plan SetUps) n comes)
-set_up_later plan (faults.AckOf node n) nth kind comes is = none_is (sym (ap is_some is))
-set_up_later plan (faults.SendTo node n) nth kind comes is = none_is (sym (ap is_some is))
-set_up_later plan (faults.ReadOf node n k) nth kind comes is = none_is (sym (ap is_some is))
+set_up_later plan (faults.AckOf node n) nth kind comes is = none_some kind is
+set_up_later plan (faults.SendTo node n) nth kind comes is = none_some kind is
+set_up_later plan (faults.ReadOf node n k) nth kind comes is = none_some kind is
+
+-- and one that says how a packet fails, of one that is still to come, of a datanode that is there
+read_later : (plan : FaultPlan) (fault : FaultLine) (d : List ℕ) (nth : ℕ) (kind : ReadKind) → may_come plan fault ≡ true → packet_kind_in d nth fault ≡ Some kind → (has_node plan d ≡ true) × (calls_of plan (reads_of d) < nth)
+read_later plan fault d nth kind comes is =
+    let here = both (same_series (series_of fault) (reads_of d)) (eqb (nth_of fault) nth) (cond_some (is_fault_at (reads_of d) nth fault) (said_kind fault) kind is).0 in
+    let may = both (has_series plan (series_of fault)) (nat_lt (calls_of plan (series_of fault)) (nth_of fault)) comes in
+    let series : series_of fault ≡ reads_of d = same_series-is (series_of fault) (reads_of d) here.0 in
+    let number : nth_of fault ≡ nth = same_number (nth_of fault) nth here.1 in
+    let calls : calls_of plan (series_of fault) ≡ calls_of plan (reads_of d) = ap (calls_of plan) series in
+    (ap (has_series plan) (sym series) ∙ may.0, omega (arith, calls, number, less (calls_of plan (series_of fault)) (nth_of fault) may.1))
+
+-- the first that said how a call fails stays the first, where what may still come was planned as the lines said
+first_stays : {X : Type 0} (o was said : Option X) (comes : Bool) (x : X) → ((y : X) → o ≡ Some y → was ≡ Some y) → (comes ≡ true → said ≡ Some x → o ≡ was) → option_or o (cond comes said None) ≡ Some x → option_or was (option_or said None) ≡ Some x
+first_stays {X} (Some y) was said comes x says later is = ap (λ (p : Option X). option_or p (option_or said None)) (says y refl) ∙ is
+first_stays {X} None was said true x says later is = ap (λ (p : Option X). option_or p (option_or said None)) (sym (later refl is)) ∙ ap (λ (p : Option X). option_or p None) is
+first_stays None was said false x says later is = none_some x is
 
 module _ (old new : FaultPlan) (loaded : List Line) (fault : FaultLine) (plan : PlansFault old fault new) (was : Follows old loaded) where
   -- the lines with this one
@@ -299,20 +224,25 @@ module _ (old new : FaultPlan) (loaded : List Line) (fault : FaultLine) (plan : 
       (or_cases (plans loaded s nth) (is_fault_at s nth fault || false) (sym (plans_push loaded (lines.Fault fault) s nth) ∙ is))
 
   -- a set-up is planned as the first line of it says
-  kinds_after : (nth : ℕ) (kind : LinkKind) (o : Option LinkKind) → kind_at old nth ≡ o → option_or o (cond (may_come old fault) (kind_in nth fault) None) ≡ Some kind → kind_of more nth ≡ Some kind
-  kinds_after nth kind (Some k) at is =
-      kind_push loaded (lines.Fault fault ∷ []) nth ∙ ap (λ (p : Option LinkKind). option_or p (kind_of (lines.Fault fault ∷ []) nth)) (was.kinds nth k at) ∙ is
-  kinds_after nth kind None at is =
-      let parts = cond_some (may_come old fault) (kind_in nth fault) kind is in
-      let none : kind_of loaded nth ≡ None = sym (kind_later old loaded was nth (set_up_later old fault nth kind parts.0 parts.1)) ∙ at in
-      kind_push loaded (lines.Fault fault ∷ []) nth ∙ ap (λ (p : Option LinkKind). option_or p (kind_of (lines.Fault fault ∷ []) nth)) none
-      ∙ ap (λ (p : Option LinkKind). option_or p None) parts.1
+  kinds_after : (nth : ℕ) (kind : LinkKind) → kind_at new nth ≡ Some kind → kind_of more nth ≡ Some kind
+  kinds_after nth kind is =
+      kind_push loaded (lines.Fault fault ∷ []) nth
+      ∙ first_stays (kind_at old nth) (kind_of loaded nth) (kind_in nth fault) (may_come old fault) kind (was.kinds nth)
+      (λ comes says. kind_later old loaded was nth (set_up_later old fault nth kind comes says)) (sym (plan.kinds nth) ∙ is)
+
+  -- so is a packet
+  packets_after : (d : List ℕ) (nth : ℕ) (kind : ReadKind) → packet_kind new d nth ≡ Some kind → packet_kind_of more d nth ≡ Some kind
+  packets_after d nth kind is =
+      packet_push loaded (lines.Fault fault ∷ []) d nth
+      ∙ first_stays (packet_kind old d nth) (packet_kind_of loaded d nth) (packet_kind_in d nth fault) (may_come old fault) kind (was.packets d nth)
+      (λ comes says. (let later = read_later old fault d nth kind comes says in packet_later old loaded was d nth later.0 later.1)) (sym (plan.packets d nth) ∙ is)
 
   -- once a fault is planned, the plan follows the lines with it
   pub plan_follows : Follows new more
   plan_follows = record {
     planned = planned_after;
-    kinds = λ nth kind is. kinds_after nth kind (kind_at old nth) refl (sym (plan.kinds nth) ∙ is);
+    kinds = kinds_after;
+    packets = packets_after;
     acts = λ s nth there later is.
         acts_after s nth (sym (series_there old new plan.there s) ∙ there) (omega (arith, plan.calls s, later)) is;
   }
@@ -336,3 +266,9 @@ pub next_kind_follows : (plan : FaultPlan) (loaded : List Line) → Follows plan
 next_kind_follows plan loaded follows room =
     ap (λ (b : Bool). cond b (kind_at plan (calls_of plan SetUps + 1)) None) (less_test (calls_of plan SetUps + 1) (2 ^ 64) room)
     ∙ kind_later plan loaded follows (calls_of plan SetUps + 1) (omega arith)
+
+-- the next packet of a datanode that is there fails as the first line of its number says
+pub next_packet_follows : (plan : FaultPlan) (loaded : List Line) (d : List ℕ) → Follows plan loaded → has_node plan d ≡ true → calls_of plan (reads_of d) + 1 < 2 ^ 64 → next_kind (packet_kind plan d) (calls_of plan (reads_of d)) ≡ packet_kind_of loaded d (calls_of plan (reads_of d) + 1)
+next_packet_follows plan loaded d follows there room =
+    ap (λ (b : Bool). cond b (packet_kind plan d (calls_of plan (reads_of d) + 1)) None) (less_test (calls_of plan (reads_of d) + 1) (2 ^ 64) room)
+    ∙ packet_later plan loaded follows d (calls_of plan (reads_of d) + 1) there (omega arith)

@@ -6,11 +6,7 @@ use Rattle.std.specs.BTreeMap.{BTreeMap, is_at, get, Updates, IsUnchanged}
 use Rattle.hdfs_model.specs.declared.store.LinkKind.{LinkKind}
 use Rattle.hdfs_model.specs.declared.store.LinkKind.TheVariants as link_kinds
 use Rattle.hdfs_faults.specs.Calls.{fails_in, is_at_once, is_bad_ack, one_if}
-use Rattle.hdfs_faults.proofs.Failing.{fails-next}
-
--- whether a set-up is planned to fail
-abbrev pub is_kind : BTreeMap ℕ LinkKind → ℕ → Bool
-is_kind kinds nth = is_some (get nat_cmp kinds nth)
+use Rattle.hdfs_faults.proofs.Failing.{fails-next, is_kind}
 
 -- what is there stays there when something is put in
 some_at : {X : Type 0} (b : Bool) (v : X) (o : Option X) → is_some o ≡ true → is_some (cond b (Some v) o) ≡ true

@@ -41,7 +41,7 @@ none_from (Some x) is = absurd (cc)
 
 -- a datanode that is as it was
 pub adds_only_refl : (o : Option NodePlan) → AddsOnly o o
-adds_only_refl o = record { there = λ is. is; calls = λ call. refl; planned = λ call nth. refl; failed = refl }
+adds_only_refl o = record { there = λ is. is; calls = λ call. refl; planned = λ call nth. refl; packets = λ nth. refl; failed = refl }
 
 -- two steps that count and plan nothing
 pub adds_only_trans : (o p q : Option NodePlan) → AddsOnly o p → AddsOnly p q → AddsOnly o q
@@ -49,9 +49,10 @@ adds_only_trans o p q first second = record {
   there = λ is. second.there (first.there is);
   calls = λ call. second.calls call ∙ first.calls call;
   planned = λ call nth. second.planned call nth ∙ first.planned call nth;
+  packets = λ nth. second.packets nth ∙ first.packets nth;
   failed = second.failed ∙ first.failed;
 }
 
 -- a datanode that is as it was
 pub same_node_refl : (o : Option NodePlan) → SameNode o o
-same_node_refl o = record { there = refl; calls = λ call. refl; planned = λ call nth. refl; failed = refl }
+same_node_refl o = record { there = refl; calls = λ call. refl; planned = λ call nth. refl; packets = λ nth. refl; failed = refl }

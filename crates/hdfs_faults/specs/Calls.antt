@@ -16,9 +16,9 @@ after_one calls = min (calls + 1) (2 ^ 64 - 1)
 abbrev pub next_fails : (ℕ → Bool) → ℕ → Bool
 next_fails planned calls = nat_lt (calls + 1) (2 ^ 64) && planned (calls + 1)
 
--- how the next set-up of a pipeline fails; from number 2^64 on none does
-abbrev pub next_kind : (ℕ → Option LinkKind) → ℕ → Option LinkKind
-next_kind kinds set_ups = if nat_lt (set_ups + 1) (2 ^ 64) then kinds (set_ups + 1) else None
+-- how the next call fails; from number 2^64 on none does
+abbrev pub next_kind : {K : Type 0} → (ℕ → Option K) → ℕ → Option K
+next_kind kinds calls = if nat_lt (calls + 1) (2 ^ 64) then kinds (calls + 1) else None
 
 -- what a failed call adds to a count
 abbrev pub one_if : Bool → ℕ

@@ -6,10 +6,11 @@ use Rattle.std.specs.BTreeMap.{get}
 use Rattle.std.specs.BTreeSet.{contains}
 use Rattle.hdfs_model.specs.declared.store.FaultLine.{FaultLine}
 use Rattle.hdfs_model.specs.declared.store.LinkKind.{LinkKind}
+use Rattle.hdfs_model.specs.declared.store.ReadKind.{ReadKind}
 use Rattle.hdfs_faults.specs.declared.fault_plan.FaultPlan.{FaultPlan}
 use Rattle.hdfs_faults.specs.Calls.{after_one, is_at_once, is_bad_ack, next_fails, next_kind, one_if}
-use Rattle.hdfs_faults.specs.NodePlans.{calls_in, failed_in, node_at, planned_in}
-use Rattle.hdfs_faults.specs.Series.{Series, SetUps, CallsOf, is_fault_at, is_of, kind_in, nth_of, series_of}
+use Rattle.hdfs_faults.specs.NodePlans.{calls_in, failed_in, node_at, packet_kind_at, planned_in}
+use Rattle.hdfs_faults.specs.Series.{Series, SetUps, CallsOf, is_fault_at, is_of, kind_in, nth_of, packet_kind_in, series_of}
 
 -- the datanode with this uuid is there
 abbrev pub has_node : FaultPlan → List ℕ → Bool
@@ -29,6 +30,10 @@ calls_of plan (CallsOf call uuid) = calls_in (node_at plan.nodes uuid) call
 abbrev pub kind_at : FaultPlan → ℕ → Option LinkKind
 kind_at plan nth = get nat_cmp plan.links.kinds nth
 
+-- how a packet of a datanode is planned to fail
+abbrev pub packet_kind : FaultPlan → List ℕ → ℕ → Option ReadKind
+packet_kind plan uuid nth = packet_kind_at (node_at plan.nodes uuid) nth
+
 -- whether a call of a series is planned to fail
 abbrev pub fails_at : FaultPlan → Series → ℕ → Bool
 fails_at plan SetUps nth = is_some (kind_at plan nth)
@@ -46,11 +51,12 @@ node_faults_of plan uuid = failed_in (node_at plan.nodes uuid)
 abbrev pub link_faults_of : FaultPlan → ℕ
 link_faults_of plan = plan.links.failed
 
--- the same datanodes are there, and the same calls are planned to fail
+-- the same datanodes are there, and the same calls are planned to fail, in the same way
 pub record SamePlans (old new : FaultPlan) : Type 0 where
   pub there : (d : List ℕ) → has_node new d ≡ has_node old d
   pub fails : (s : Series) (nth : ℕ) → fails_at new s nth ≡ fails_at old s nth
   pub kinds : (nth : ℕ) → kind_at new nth ≡ kind_at old nth
+  pub packets : (d : List ℕ) (nth : ℕ) → packet_kind new d nth ≡ packet_kind old d nth
 
 -- no call was counted
 abbrev pub SameCalls : FaultPlan → FaultPlan → Type 0
@@ -77,6 +83,7 @@ pub record IsNew (plan : FaultPlan) : Type 0 where
   pub calls : (s : Series) → calls_of plan s ≡ 0
   pub fails : (s : Series) (nth : ℕ) → fails_at plan s nth ≡ false
   pub kinds : (nth : ℕ) → kind_at plan nth ≡ None
+  pub packets : (d : List ℕ) (nth : ℕ) → packet_kind plan d nth ≡ None
   pub bad : (link : ℕ) → is_bad plan link ≡ false
   pub nodes : (d : List ℕ) → node_faults_of plan d ≡ 0
   pub links : link_faults_of plan ≡ 0
@@ -86,6 +93,7 @@ pub record AddsNodes (old new : FaultPlan) : Type 0 where
   pub there : (d : List ℕ) → has_node old d ≡ true → has_node new d ≡ true
   pub fails : (s : Series) (nth : ℕ) → fails_at new s nth ≡ fails_at old s nth
   pub kinds : (nth : ℕ) → kind_at new nth ≡ kind_at old nth
+  pub packets : (d : List ℕ) (nth : ℕ) → packet_kind new d nth ≡ packet_kind old d nth
   pub calls : SameCalls old new
   pub nodes : SameNodeFaults old new
   pub links : SameLinks old new
@@ -94,10 +102,12 @@ pub record AddsNodes (old new : FaultPlan) : Type 0 where
 abbrev pub may_come : FaultPlan → FaultLine → Bool
 may_come plan fault = has_series plan (series_of fault) && nat_lt (calls_of plan (series_of fault)) (nth_of fault)
 
--- A fault was planned that may still come, or nothing was. Of two faults of one set-up the first one stays.
+-- A fault was planned that may still come, or nothing was. Of two faults of one set-up, or of one packet, the first one stays.
 pub record PlansFault (old : FaultPlan) (fault : FaultLine) (new : FaultPlan) : Type 0 where
   pub fails : (s : Series) (nth : ℕ) → fails_at new s nth ≡ (fails_at old s nth || (may_come old fault && is_fault_at s nth fault))
   pub kinds : (nth : ℕ) → kind_at new nth ≡ option_or (kind_at old nth) (if may_come old fault then kind_in nth fault else None)
+  pub packets : (d : List ℕ) (nth : ℕ) → packet_kind new d nth
+      ≡ option_or (packet_kind old d nth) (if may_come old fault then packet_kind_in d nth fault else None)
   pub there : (d : List ℕ) → has_node new d ≡ has_node old d
   pub calls : SameCalls old new
   pub nodes : SameNodeFaults old new

@@ -9,6 +9,8 @@ use Rattle.hdfs_model.specs.declared.store.Line.TheVariants as lines
 use Rattle.hdfs_model.specs.declared.store.FaultLine.{FaultLine}
 use Rattle.hdfs_model.specs.declared.store.FaultLine.TheVariants as faults
 use Rattle.hdfs_model.specs.declared.store.LinkKind.{LinkKind}
+use Rattle.hdfs_model.specs.declared.store.ReadKind.{ReadKind}
+use Rattle.hdfs_model.specs.declared.store.ReadKind.TheVariants as read_kinds
 use Rattle.hdfs_faults.specs.declared.node_plan.NodeCall.{NodeCall}
 use Rattle.hdfs_faults.specs.declared.node_plan.NodeCall.TheVariants as calls
 
@@ -29,11 +31,16 @@ sends_to uuid = CallsOf calls.Send uuid
 abbrev pub reads_of : List ℕ → Series
 reads_of uuid = CallsOf calls.Read uuid
 
+-- the reads that are opened on it
+abbrev pub opens_of : List ℕ → Series
+opens_of uuid = CallsOf calls.Open uuid
+
 -- the two kinds of calls are the same
 abbrev pub same_call : NodeCall → NodeCall → Bool
 same_call calls.Ack calls.Ack = true
 same_call calls.Send calls.Send = true
 same_call calls.Read calls.Read = true
+same_call calls.Open calls.Open = true
 same_call call other = false
 
 -- the two series are the same
@@ -51,12 +58,19 @@ is_of uuid (CallsOf call d) = bytes_eq d uuid
 abbrev pub uuid_of : ℕ → List ℕ
 uuid_of number = codes "dn" ++ decimal number
 
+-- the series of the reads of a datanode that fail so: of those that are opened, or of their packets
+abbrev pub reads_failing : ReadKind → List ℕ → Series
+reads_failing read_kinds.Broken uuid = reads_of uuid
+reads_failing read_kinds.Damaged uuid = reads_of uuid
+reads_failing read_kinds.Gap uuid = reads_of uuid
+reads_failing read_kinds.Refused uuid = opens_of uuid
+
 -- the series of the call that a fault is of
 abbrev pub series_of : FaultLine → Series
 series_of (faults.Link nth kind) = SetUps
 series_of (faults.AckOf node nth) = acks_of (uuid_of node)
 series_of (faults.SendTo node nth) = sends_to (uuid_of node)
-series_of (faults.ReadOf node nth kind) = reads_of (uuid_of node)
+series_of (faults.ReadOf node nth kind) = reads_failing kind (uuid_of node)
 
 -- the number of that call
 abbrev pub nth_of : FaultLine → ℕ
@@ -76,6 +90,17 @@ kind_in nth (faults.AckOf node n) = None
 kind_in nth (faults.SendTo node n) = None
 kind_in nth (faults.ReadOf node n kind) = None
 
+-- how a fault of a read says that it fails
+abbrev pub said_kind : FaultLine → Option ReadKind
+said_kind (faults.Link nth kind) = None
+said_kind (faults.AckOf node nth) = None
+said_kind (faults.SendTo node nth) = None
+said_kind (faults.ReadOf node nth kind) = Some kind
+
+-- how the fault makes this packet of a datanode fail, if it does
+abbrev pub packet_kind_in : List ℕ → ℕ → FaultLine → Option ReadKind
+packet_kind_in uuid nth fault = if is_fault_at (reads_of uuid) nth fault then said_kind fault else None
+
 -- what holds of the fault of a line, and of no other line
 abbrev pub of_fault : (FaultLine → Bool) → Line → Bool
 of_fault holds (lines.Dir path) = false
@@ -92,6 +117,12 @@ kind_of_line nth (lines.Dir path) = None
 kind_of_line nth (lines.File path attributes bytes) = None
 kind_of_line nth (lines.Fault fault) = kind_in nth fault
 
+-- how the fault of a line makes this packet of a datanode fail, if it does
+abbrev pub packet_kind_of_line : List ℕ → ℕ → Line → Option ReadKind
+packet_kind_of_line uuid nth (lines.Dir path) = None
+packet_kind_of_line uuid nth (lines.File path attributes bytes) = None
+packet_kind_of_line uuid nth (lines.Fault fault) = packet_kind_in uuid nth fault
+
 -- one of the lines plans that this call fails
 abbrev pub plans : List Line → Series → ℕ → Bool
 plans loaded series nth = list_any (of_fault (is_fault_at series nth)) loaded
@@ -100,6 +131,11 @@ plans loaded series nth = list_any (of_fault (is_fault_at series nth)) loaded
 abbrev pub kind_of : List Line → ℕ → Option LinkKind
 kind_of [] nth = None
 kind_of (line ∷ loaded) nth = option_or (kind_of_line nth line) (kind_of loaded nth)
+
+-- how the lines make this packet of a datanode fail: as the first line of it says
+abbrev pub packet_kind_of : List Line → List ℕ → ℕ → Option ReadKind
+packet_kind_of [] uuid nth = None
+packet_kind_of (line ∷ loaded) uuid nth = option_or (packet_kind_of_line uuid nth line) (packet_kind_of loaded uuid nth)
 
 -- how many of the lines are faults of calls of this series
 abbrev pub series_fault_count : List Line → Series → ℕ

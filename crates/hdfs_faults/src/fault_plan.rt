@@ -1,11 +1,12 @@
 //! Which calls of a cluster fail.
 ghost use Rattle.std.specs.Prelude.{◌≡◌, ◌≢◌, ◌<◌, ℕ, List, true, false, IfOk, OnOk, OnErr};
-ghost use Rattle.hdfs_faults.specs.Series.{acks_of, reads_of, sends_to, uuid_of};
+ghost use Rattle.hdfs_faults.specs.Calls.{next_fails, next_kind};
+ghost use Rattle.hdfs_faults.specs.Series.{acks_of, opens_of, reads_of, sends_to, uuid_of};
 
 use crate::links::Links;
-use crate::node_plan::NodeCall;
+use crate::node_plan::{NodeCall, NodeFault};
 use crate::nodes::Nodes;
-use hdfs_model::{FaultLine, LinkKind};
+use hdfs_model::{FaultLine, LinkKind, ReadKind};
 use hdfs_wire::NoMemory;
 use std::alloc::Global;
 
@@ -17,7 +18,7 @@ pub struct FaultPlan {
 }
 
 impl FaultPlan {
-    ghost use Rattle.hdfs_faults.specs.Plans.{has_node, link_faults_of, node_faults_of, AddsNodes, Counts, Forgets, IsNew, PlansFault, SamePlan, SetsUp, TakesAck};
+    ghost use Rattle.hdfs_faults.specs.Plans.{calls_of, fails_at, has_node, link_faults_of, node_faults_of, packet_kind, AddsNodes, Counts, Forgets, IsNew, PlansFault, SamePlan, SetsUp, TakesAck};
 
     /// So many datanodes. Nothing was counted, and nothing is planned.
     pub fn new(alloc: Global, nodes: u32) -> Result<FaultPlan, NoMemory>
@@ -49,10 +50,13 @@ impl FaultPlan {
     {
         match fault {
             FaultLine::Link { nth, kind } => self.links.plan(*nth, *kind),
-            FaultLine::AckOf { node, nth } => self.nodes.plan(alloc, NodeCall::Ack, *node, *nth),
-            FaultLine::SendTo { node, nth } => self.nodes.plan(alloc, NodeCall::Send, *node, *nth),
-            FaultLine::ReadOf { node, nth, .. } => {
-                self.nodes.plan(alloc, NodeCall::Read, *node, *nth)
+            FaultLine::AckOf { node, nth } => self.nodes.plan(alloc, NodeFault::Ack, *node, *nth),
+            FaultLine::SendTo { node, nth } => {
+                self.nodes.plan(alloc, NodeFault::Send, *node, *nth)
+            }
+            FaultLine::ReadOf { node, nth, kind } => {
+                let fault = NodeFault::of_reads(*kind);
+                self.nodes.plan(alloc, fault, *node, *nth)
             }
         }
     }
@@ -92,6 +96,27 @@ impl FaultPlan {
         ensures { Counts self.old (acks_of node.now) result self.new }
     {
         self.nodes.count(NodeCall::Ack, node)
+    }
+
+    /// Whether the next read that is opened on a datanode is refused. Nothing is counted.
+    pub fn refuses(&self, node: &str) -> bool
+        ensures { result ≡ next_fails (fails_at self.now (opens_of node.now)) (calls_of self.now (opens_of node.now)) }
+    {
+        self.nodes.refuses(node)
+    }
+
+    /// Counts a read that is opened on a datanode, and says whether it is refused.
+    pub fn open(&mut self, node: &str) -> bool
+        ensures { Counts self.old (opens_of node.now) result self.new }
+    {
+        self.nodes.count(NodeCall::Open, node)
+    }
+
+    /// How the next packet that a datanode gives fails. Nothing is counted.
+    pub fn next_packet(&self, node: &str) -> Option<ReadKind>
+        ensures { result ≡ next_kind (packet_kind self.now node.now) (calls_of self.now (reads_of node.now)) }
+    {
+        self.nodes.next_packet(node)
     }
 
     /// Counts a packet that a datanode gives, and says whether it fails.

@@ -2,28 +2,54 @@
 ghost use Rattle.std.specs.Prelude.{◌≡◌, Some, None, OnOk, OnErr};
 
 use crate::tally::Tally;
+use hdfs_model::ReadKind;
 use hdfs_wire::NoMemory;
 use std::alloc::Global;
 
-/// The three series of calls of a datanode: acknowledgements that tell of it, packets that are sent down pipelines whose first
-/// datanode it is, and packets that it gives.
+/// The four series of calls of a datanode: acknowledgements that tell of it, packets that are sent down pipelines whose first
+/// datanode it is, packets that it gives, and reads that are opened on it.
 #[derive(Clone, Copy)]
 pub enum NodeCall {
     Ack,
     Send,
     Read,
+    Open,
+}
+
+/// How a call of a datanode fails. Only packets that it gives fail in more than one way.
+#[derive(Clone, Copy)]
+pub(crate) enum NodeFault {
+    Ack,
+    Send,
+    Read(ReadKind),
+    Open,
+}
+
+impl NodeFault {
+    ghost use Rattle.hdfs_faults.specs.NodePlans.{read_fault};
+
+    /// The fault of reads that fail so.
+    pub(crate) fn of_reads(kind: ReadKind) -> NodeFault
+        ensures { result ≡ read_fault kind }
+    {
+        match kind {
+            ReadKind::Broken | ReadKind::Damaged | ReadKind::Gap => NodeFault::Read(kind),
+            ReadKind::Refused => NodeFault::Open,
+        }
+    }
 }
 
 /// The tallies of a datanode.
 #[derive(Drop)]
 pub(crate) struct NodePlan {
-    pub(crate) acks: Tally,
-    pub(crate) sends: Tally,
-    pub(crate) reads: Tally,
+    pub(crate) acks: Tally<()>,
+    pub(crate) sends: Tally<()>,
+    pub(crate) reads: Tally<ReadKind>,
+    pub(crate) opens: Tally<()>,
 }
 
 impl NodePlan {
-    ghost use Rattle.hdfs_faults.specs.NodePlans.{AddsOnly, CountsCall, PlansCall, SameNode, failed_in};
+    ghost use Rattle.hdfs_faults.specs.NodePlans.{AddsOnly, CountsCall, PlansCall, SameNode, failed_in, next_packet_in, refuses_next};
 
     /// A datanode of which nothing was counted or planned.
     pub(crate) fn new(alloc: Global) -> NodePlan
@@ -33,18 +59,20 @@ impl NodePlan {
             acks: Tally::new(alloc),
             sends: Tally::new(alloc),
             reads: Tally::new(alloc),
+            opens: Tally::new(alloc),
         }
     }
 
-    /// Plans that a call fails, where it was not counted yet.
-    pub(crate) fn plan(&mut self, call: NodeCall, nth: u64) -> Result<(), NoMemory>
-        ensures ok { OnOk result (PlansCall (Some self.old) call nth (Some self.new)) }
+    /// Plans how a call fails, where it was not counted yet and nothing is planned of it.
+    pub(crate) fn plan(&mut self, fault: NodeFault, nth: u64) -> Result<(), NoMemory>
+        ensures ok { OnOk result (PlansCall (Some self.old) fault nth (Some self.new)) }
         ensures err { OnErr result (SameNode (Some self.old) (Some self.new)) }
     {
-        match call {
-            NodeCall::Ack => self.acks.plan(nth),
-            NodeCall::Send => self.sends.plan(nth),
-            NodeCall::Read => self.reads.plan(nth),
+        match fault {
+            NodeFault::Ack => self.acks.plan(nth, ()),
+            NodeFault::Send => self.sends.plan(nth, ()),
+            NodeFault::Read(kind) => self.reads.plan(nth, kind),
+            NodeFault::Open => self.opens.plan(nth, ()),
         }
     }
 
@@ -56,13 +84,28 @@ impl NodePlan {
             NodeCall::Ack => self.acks.count(),
             NodeCall::Send => self.sends.count(),
             NodeCall::Read => self.reads.count(),
+            NodeCall::Open => self.opens.count(),
         }
+    }
+
+    /// Whether the next read that is opened on it is refused.
+    pub(crate) fn refuses(&self) -> bool
+        ensures { result ≡ refuses_next (Some self.now) }
+    {
+        self.opens.next().is_some()
+    }
+
+    /// How the next packet that it gives fails.
+    pub(crate) fn next_packet(&self) -> Option<ReadKind>
+        ensures { result ≡ next_packet_in (Some self.now) }
+    {
+        self.reads.next()
     }
 
     /// How often it has failed.
     pub(crate) fn failed(&self) -> u64
         ensures { result ≡ failed_in (Some self.now) }
     {
-        self.acks.failed + self.sends.failed + self.reads.failed
+        self.acks.failed + self.sends.failed + self.reads.failed + self.opens.failed
     }
 }

@@ -2,7 +2,8 @@
 ghost use Rattle.std.specs.Prelude.{◌≡◌, ◌≢◌, ◌<◌, ℕ, List, None, true, is_some, string_bytes, IfOk, OnOk, OnErr};
 ghost use Rattle.hdfs_faults.specs.Series.{uuid_of};
 
-use crate::node_plan::{NodeCall, NodePlan};
+use crate::node_plan::{NodeCall, NodeFault, NodePlan};
+use hdfs_model::ReadKind;
 use hdfs_wire::NoMemory;
 use std::alloc::Global;
 use std::collections::BTreeMap;
@@ -20,7 +21,7 @@ fn uuid(alloc: Global, number: u32) -> Result<String, NoMemory>
 }
 
 impl Nodes {
-    ghost use Rattle.hdfs_faults.specs.NodePlans.{AddsOnly, CountsCall, PlansCall, SameNode, failed_in, node_at};
+    ghost use Rattle.hdfs_faults.specs.NodePlans.{AddsOnly, CountsCall, PlansCall, SameNode, failed_in, next_packet_in, node_at, refuses_next};
 
     /// No datanodes.
     pub(crate) fn new(alloc: Global) -> Nodes
@@ -56,15 +57,15 @@ impl Nodes {
         Ok(())
     }
 
-    /// Plans that a call of a datanode fails, where it is there and the call was not counted yet.
+    /// Plans how a call of a datanode fails, where it is there, the call was not counted yet, and nothing is planned of it.
     pub(crate) fn plan(
         &mut self,
         alloc: Global,
-        call: NodeCall,
+        fault: NodeFault,
         number: u32,
         nth: u64,
     ) -> Result<(), NoMemory>
-        ensures ok { OnOk result (PlansCall (node_at self.old (uuid_of number)) call nth (node_at self.new (uuid_of number))) }
+        ensures ok { OnOk result (PlansCall (node_at self.old (uuid_of number)) fault nth (node_at self.new (uuid_of number))) }
         ensures others { (d : List ℕ) → d ≢ uuid_of number → node_at self.new d ≡ node_at self.old d }
         ensures err { OnErr result ((d : List ℕ) → SameNode (node_at self.old d) (node_at self.new d)) }
     {
@@ -72,7 +73,7 @@ impl Nodes {
         let Some(node) = self.by_uuid.get_mut(uuid.as_str()) else {
             return Ok(());
         };
-        node.plan(call, nth)
+        node.plan(fault, nth)
     }
 
     /// Counts a call of a datanode that is there, and says whether it fails.
@@ -83,6 +84,26 @@ impl Nodes {
         match self.by_uuid.get_mut(uuid) {
             Some(node) => node.count(call),
             None => false,
+        }
+    }
+
+    /// Whether the next read that is opened on a datanode is refused.
+    pub(crate) fn refuses(&self, uuid: &str) -> bool
+        ensures { result ≡ refuses_next (node_at self.now uuid.now) }
+    {
+        match self.by_uuid.get(uuid) {
+            Some(node) => node.refuses(),
+            None => false,
+        }
+    }
+
+    /// How the next packet that a datanode gives fails.
+    pub(crate) fn next_packet(&self, uuid: &str) -> Option<ReadKind>
+        ensures { result ≡ next_packet_in (node_at self.now uuid.now) }
+    {
+        match self.by_uuid.get(uuid) {
+            Some(node) => node.next_packet(),
+            None => None,
         }
     }
 

@@ -1,55 +1,63 @@
 //! A series of calls, some of which are planned to fail.
-ghost use Rattle.std.specs.Prelude.{◌≡◌, ℕ, ◌^◌, ◌≤◌, false, OnOk, OnErr};
+ghost use Rattle.std.specs.Prelude.{◌≡◌, ℕ, ◌^◌, ◌≤◌, None, is_some, OnOk, OnErr};
 ghost use Rattle.std.specs.Ordering.{nat_cmp};
-ghost use Rattle.std.specs.BTreeSet.{contains, btree_set_len};
-ghost use Rattle.hdfs_faults.specs.Calls.{fails_in};
+ghost use Rattle.std.specs.BTreeMap.{get, btree_map_len};
+ghost use Rattle.hdfs_faults.specs.Calls.{fails_in, next_kind};
 
 use hdfs_wire::NoMemory;
 use std::alloc::Global;
-use std::collections::BTreeSet;
+use std::collections::BTreeMap;
 
 /// How many numbers are planned at most. No memory holds as many.
 const MOST: usize = 1 << 60;
 
-/// A series of calls, which are counted from 1 on: how many there were, which numbers are planned to fail, and how many calls
-/// have failed.
+/// A series of calls, which are counted from 1 on: how many there were, which numbers are planned to fail and how, and how many
+/// calls have failed.
 #[derive(Drop)]
-pub struct Tally {
+pub struct Tally<K> {
     pub(crate) calls: u64,
-    pub(crate) planned: BTreeSet<u64>,
+    pub(crate) planned: BTreeMap<u64, K>,
     pub(crate) failed: u64,
-    ghost counted: { failed ≡ fails_in (contains nat_cmp planned) calls },
-    ghost few: { btree_set_len planned ≤ 2 ^ 60 },
+    ghost counted: { failed ≡ fails_in (λ nth. is_some (get nat_cmp planned nth)) calls },
+    ghost few: { btree_map_len planned ≤ 2 ^ 60 },
 }
 
-impl Tally {
-    ghost use Rattle.hdfs_faults.specs.Tallies.{Counted, Planned, SameTally};
+impl<K: Copy> Tally<K> {
+    ghost use Rattle.hdfs_faults.specs.Tallies.{Counted, Planned, SameTally, kind_planned};
 
     /// A series of no calls, none of which is planned to fail.
-    pub fn new(alloc: Global) -> Tally
+    pub fn new(alloc: Global) -> Tally<K>
         ensures calls { result.calls ≡ 0 }
-        ensures planned { (nth : ℕ) → contains nat_cmp result.planned nth ≡ false }
+        ensures planned { (nth : ℕ) → kind_planned result nth ≡ None }
         ensures failed { result.failed ≡ 0 }
     {
         Tally {
             calls: 0,
-            planned: BTreeSet::new(alloc),
+            planned: BTreeMap::new(alloc),
             failed: 0,
         }
     }
 
-    /// Plans that a call fails. One that was counted already is not planned.
-    pub fn plan(&mut self, nth: u64) -> Result<(), NoMemory>
-        ensures ok { OnOk result (Planned self.old nth self.new) }
+    /// Plans how a call fails, where it was not counted yet and nothing is planned of it.
+    pub fn plan(&mut self, nth: u64, kind: K) -> Result<(), NoMemory>
+        ensures ok { OnOk result (Planned self.old nth kind self.new) }
         ensures err { OnErr result (SameTally self.old self.new) }
     {
-        if nth > self.calls {
+        if nth > self.calls && !self.planned.contains_key(&nth) {
             if self.planned.len() >= MOST {
                 return Err(NoMemory);
             }
-            self.planned.insert(nth)?;
+            self.planned.insert(nth, kind)?;
         }
         Ok(())
+    }
+
+    /// How the next call fails, if it does. Nothing is counted.
+    pub fn next(&self) -> Option<K>
+        ensures { result ≡ next_kind (kind_planned self.now) self.now.calls }
+    {
+        let reached = self.calls.checked_add(1)?;
+        self.planned.get(&reached).copied()
     }
 
     /// Counts a call, and says whether it fails. From number 2^64 on nothing is counted, and no call fails.
@@ -60,7 +68,7 @@ impl Tally {
             return false;
         };
         self.calls = reached;
-        if !self.planned.contains(&reached) {
+        if !self.planned.contains_key(&reached) {
             return false;
         }
         self.failed += 1;

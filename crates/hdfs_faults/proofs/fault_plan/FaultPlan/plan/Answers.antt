@@ -1,31 +1,38 @@
 -- A fault of a datanode is planned in the tally of its calls.
-use Rattle.std.proofs.Common.{ap}
+use Rattle.std.proofs.Common.{◌∙◌, ap, subst}
 use Rattle.std.proofs.lemmas.Result.{on_ok_weaker}
-use Rattle.hdfs_faults.specs.declared.node_plan.NodeCall.TheVariants as calls
-use Rattle.hdfs_faults.specs.Series.{kind_in, nth_of, series_of, uuid_of}
-use Rattle.hdfs_faults.proofs.Planning.{plans_node}
+use Rattle.hdfs_faults.specs.declared.node_plan.NodeFault.{NodeFault}
+use Rattle.hdfs_faults.specs.declared.node_plan.NodeFault.TheVariants as node_faults
+use Rattle.hdfs_faults.specs.NodePlans.{PlansCall, node_at, read_fault}
+use Rattle.hdfs_faults.specs.Series.{kind_in, nth_of, packet_kind_in, series_of, uuid_of}
+use Rattle.hdfs_faults.proofs.Planning.{plans_node, reads_say, reads_series}
 use Rattle.hdfs_faults.proofs.fault_plan.FaultPlan.plan.Goals as goal
 
 pub returns-in-AckOf-clause-ok : goal.returns-in-AckOf-clause-ok
 returns-in-AckOf-clause-ok c =
     let s = c.in-AckOf in
     on_ok_weaker c.plan-in-AckOf.result
-    (λ here. plans_node c.args.self.now c.plan-in-AckOf.new.self calls.Ack (uuid_of s.node) s.nth here c.plan-in-AckOf.ensures.others
-    c.args.fault.now (ap series_of s.is) (ap nth_of s.is) (λ k. ap (kind_in k) s.is))
+    (λ here. plans_node c.args.self.now c.plan-in-AckOf.new.self node_faults.Ack (uuid_of s.node) s.nth here c.plan-in-AckOf.ensures.others
+    c.args.fault.now (ap series_of s.is) (ap nth_of s.is) (λ k. ap (kind_in k) s.is) (λ d k. ap (packet_kind_in d k) s.is))
     c.plan-in-AckOf.ensures.ok
 
 pub returns-in-SendTo-clause-ok : goal.returns-in-SendTo-clause-ok
 returns-in-SendTo-clause-ok c =
     let s = c.in-SendTo in
     on_ok_weaker c.plan-in-SendTo.result
-    (λ here. plans_node c.args.self.now c.plan-in-SendTo.new.self calls.Send (uuid_of s.node) s.nth here c.plan-in-SendTo.ensures.others
-    c.args.fault.now (ap series_of s.is) (ap nth_of s.is) (λ k. ap (kind_in k) s.is))
+    (λ here. plans_node c.args.self.now c.plan-in-SendTo.new.self node_faults.Send (uuid_of s.node) s.nth here c.plan-in-SendTo.ensures.others
+    c.args.fault.now (ap series_of s.is) (ap nth_of s.is) (λ k. ap (kind_in k) s.is) (λ d k. ap (packet_kind_in d k) s.is))
     c.plan-in-SendTo.ensures.ok
 
 pub returns-in-ReadOf-clause-ok : goal.returns-in-ReadOf-clause-ok
 returns-in-ReadOf-clause-ok c =
     let s = c.in-ReadOf in
+    let uuid = uuid_of s.node in
+    let old = c.args.self.now in
+    let new = c.plan-in-ReadOf.new.self in
     on_ok_weaker c.plan-in-ReadOf.result
-    (λ here. plans_node c.args.self.now c.plan-in-ReadOf.new.self calls.Read (uuid_of s.node) s.nth here c.plan-in-ReadOf.ensures.others
-    c.args.fault.now (ap series_of s.is) (ap nth_of s.is) (λ k. ap (kind_in k) s.is))
+    (λ here. plans_node old new (read_fault s.kind) uuid s.nth
+    (subst (λ (f : NodeFault). PlansCall (node_at old.nodes uuid) f s.nth (node_at new uuid)) c.of_reads-fault.ensures here) c.plan-in-ReadOf.ensures.others
+    c.args.fault.now (ap series_of s.is ∙ reads_series s.kind uuid) (ap nth_of s.is) (λ k. ap (kind_in k) s.is)
+    (λ d k. ap (packet_kind_in d k) s.is ∙ reads_say s.kind s.node s.nth d k))
     c.plan-in-ReadOf.ensures.ok

@@ -2,8 +2,7 @@
 use Rattle.std.proofs.Common.{◌≡◌, ◌+◌, ap, arith}
 use Rattle.std.specs.BTreeSet.{btree_set_len}
 use Rattle.hdfs_faults.specs.Calls.{one_if}
-use Rattle.hdfs_faults.proofs.Failing.{fails-le}
-use Rattle.hdfs_faults.proofs.Linking.{is_kind}
+use Rattle.hdfs_faults.proofs.Failing.{fails-le, is_kind}
 use Rattle.hdfs_faults.proofs.links.Links.bad_ack.Goals as goal
 
 pub overflow_add-self : goal.overflow_add-self

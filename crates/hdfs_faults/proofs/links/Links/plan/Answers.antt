@@ -1,7 +1,7 @@
 -- What is planned stays planned.
 use Rattle.std.proofs.Common.{arith}
-use Rattle.hdfs_faults.proofs.Failing.{fails-more}
-use Rattle.hdfs_faults.proofs.Linking.{is_kind, kinds_stay}
+use Rattle.hdfs_faults.proofs.Failing.{fails-more, is_kind}
+use Rattle.hdfs_faults.proofs.Linking.{kinds_stay}
 use Rattle.hdfs_faults.proofs.links.Links.plan.Goals as goal
 
 pub invariant_of-self : goal.invariant_of-self

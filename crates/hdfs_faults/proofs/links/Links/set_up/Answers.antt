@@ -4,8 +4,8 @@ use Rattle.std.specs.Ordering.{nat_cmp}
 use Rattle.std.specs.BTreeMap.{get}
 use Rattle.std.specs.BTreeSet.{btree_set_len}
 use Rattle.hdfs_faults.specs.Calls.{is_at_once}
-use Rattle.hdfs_faults.proofs.Failing.{fails-le, one-le}
-use Rattle.hdfs_faults.proofs.Linking.{is_kind, bound_next}
+use Rattle.hdfs_faults.proofs.Failing.{fails-le, is_kind, one-le}
+use Rattle.hdfs_faults.proofs.Linking.{bound_next}
 use Rattle.hdfs_faults.proofs.links.Links.set_up.Goals as goal
 
 pub overflow_add-self : goal.overflow_add-self

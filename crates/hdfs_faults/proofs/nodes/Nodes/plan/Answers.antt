@@ -19,8 +19,8 @@ returns-clause-ok c =
     let old : look (uuid_of c.args.number) ≡ Some c.in-Some.node.now = ap look (sym key) ∙ sym c.in-Some.ensures.value in
     let new : after (uuid_of c.args.number) ≡ Some w = ap after (sym key) ∙ update_at look after c.as_str.result.now w updates in
     on_ok_weaker c.plan.result
-    (λ planned. subst (λ (o : Option NodePlan). PlansCall o c.args.call c.args.nth (after (uuid_of c.args.number))) (sym old)
-    (subst (PlansCall (Some c.in-Some.node.now) c.args.call c.args.nth) (sym new) planned))
+    (λ planned. subst (λ (o : Option NodePlan). PlansCall o c.args.fault c.args.nth (after (uuid_of c.args.number))) (sym old)
+    (subst (PlansCall (Some c.in-Some.node.now) c.args.fault c.args.nth) (sym new) planned))
     c.plan.ensures.ok
 
 pub returns-clause-others : goal.returns-clause-others

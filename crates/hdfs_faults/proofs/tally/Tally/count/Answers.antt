@@ -1,9 +1,7 @@
 -- One call more is counted, and one failure more where it is planned.
 use Rattle.std.proofs.Common.{◌≡◌, ℕ, ◌+◌, Bool, true, false, sym, ◌∙◌, ap, arith}
-use Rattle.std.specs.Ordering.{nat_cmp}
-use Rattle.std.specs.BTreeSet.{contains}
 use Rattle.hdfs_faults.specs.Calls.{fails_in, one_if}
-use Rattle.hdfs_faults.proofs.Failing.{fails-le, fails-next}
+use Rattle.hdfs_faults.proofs.Failing.{fails-le, fails-next, is_kind}
 use Rattle.hdfs_faults.proofs.tally.Tally.count.Goals as goal
 
 -- the count after one call more
@@ -13,22 +11,22 @@ counted_next f calls reached failed b was next is =
     ap (fails_in f) next ∙ fails-next f calls b here ∙ ap (λ (n : ℕ). n + one_if b) (sym was)
 
 pub invariant_of-self : goal.invariant_of-self
-invariant_of-self c =
+invariant_of-self g c =
     let old = c.args.self.now in
-    let next = counted_next (contains nat_cmp old.planned) old.calls c.in-Some.reached old.failed false old.counted c.in-Some.ensures.1 (sym c.contains.ensures ∙ c.if-not-contains.true) in
+    let next = counted_next (is_kind old.planned) old.calls c.in-Some.reached old.failed false old.counted c.in-Some.ensures.1 (sym c.contains_key.ensures ∙ c.if-not-contains_key.true) in
     record { counted = omega (arith, next); few = old.few }
 
 pub overflow_add-self : goal.overflow_add-self
-overflow_add-self c =
+overflow_add-self g c =
     let old = c.args.self.now in
-    let le = fails-le (contains nat_cmp old.planned) old.calls in
+    let le = fails-le (is_kind old.planned) old.calls in
     let room = c.in-Some.ensures.0 in
     omega (arith, le, room, old.counted)
 
 pub invariant_of-self-2 : goal.invariant_of-self-2
-invariant_of-self-2 c =
+invariant_of-self-2 g c =
     let old = c.args.self.now in
     record {
-      counted = sym (counted_next (contains nat_cmp old.planned) old.calls c.in-Some.reached old.failed true old.counted c.in-Some.ensures.1 (sym c.contains.ensures ∙ c.if-not-contains.false));
+      counted = sym (counted_next (is_kind old.planned) old.calls c.in-Some.reached old.failed true old.counted c.in-Some.ensures.1 (sym c.contains_key.ensures ∙ c.if-not-contains_key.false));
       few = old.few;
     }
