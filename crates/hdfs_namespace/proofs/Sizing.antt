@@ -31,5 +31,5 @@ keeps_others t t' new absent others id entry is =
     let apart : id ≢ new = λ same. (let none : t id ≡ None = ap t same ∙ absent in absurd (cc (none, is))) in
     others id apart ∙ is
 
-pub keeps_from-AddsBlock : (t t' : ℕ → Option BlockEntry) (new length : ℕ) → AddsBlock t t' new length → Keeps t t'
-keeps_from-AddsBlock t t' new length adds = keeps_others t t' new adds.absent adds.others
+pub keeps_from-AddsBlock : (t t' : ℕ → Option BlockEntry) (new length : ℕ) (nodes : List (List ℕ)) → AddsBlock t t' new length nodes → Keeps t t'
+keeps_from-AddsBlock t t' new length nodes adds = keeps_others t t' new adds.absent adds.others

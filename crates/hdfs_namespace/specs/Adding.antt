@@ -20,13 +20,13 @@ pub record IsPlace (names : List ℕ → Option Entry) (path : List ℕ) : Type 
   pub absent : names path ≡ None
   pub parent : is_dir (names (parent_of path)) ≡ true
 
--- a block that wasn't there is listed on the first datanode, and all other blocks stay
-pub record AddsBlock (old new : ℕ → Option BlockEntry) (id length : ℕ) : Type 0 where
+-- a block that wasn't there is listed on these datanodes, and all other blocks stay
+pub record AddsBlock (old new : ℕ → Option BlockEntry) (id length : ℕ) (nodes : List (List ℕ)) : Type 0 where
   pub absent : old id ≡ None
   pub entry : BlockEntry
   pub listed : new id ≡ Some entry
   pub has_length : entry.length ≡ length
-  pub on : entry.nodes ≡ first_node ∷ []
+  pub on : entry.nodes ≡ nodes
   pub others : (other : ℕ) → other ≢ id → new other ≡ old other
 
 -- these blocks are distinct, and of no file

@@ -24,7 +24,7 @@ use hdfs_wire::NoMemory;
 use std::alloc::Global;
 use std::collections::BTreeMap;
 
-/// Whether one datanode is listed for a block, and holds it whole.
+/// Whether each datanode that is listed for a block holds it whole.
 fn is_whole(
     alloc: Global,
     nodes: &mut Datanodes,
@@ -36,12 +36,13 @@ fn is_whole(
     ensures same { SameHeld nodes.old nodes.new }
     ensures rest { SameNodes nodes.old nodes.new }
 {
-    let uuids = entry.nodes.as_slice();
-    if uuids.len() != 1 {
-        return Ok(false);
+    for uuid in entry.nodes.as_slice() {
+        let bytes = nodes.read(alloc, uuid.as_str(), id)?;
+        if bytes.as_slice().len() as u64 != entry.length {
+            return Ok(false);
+        }
     }
-    let bytes = nodes.read(alloc, uuids[0].as_str(), id)?;
-    Ok(bytes.as_slice().len() as u64 == entry.length)
+    Ok(true)
 }
 
 /// Gives a block a generation stamp.
@@ -91,7 +92,7 @@ impl Namespace {
         set_open(&mut self.names, src, true);
     }
 
-    /// Opens the file at a path and gives its block a greater stamp, where the datanode that is listed for it holds it whole.
+    /// Opens the file at a path and gives its block a greater stamp, where the datanodes that are listed for it hold it whole.
     fn reopen(
         &mut self,
         alloc: Global,

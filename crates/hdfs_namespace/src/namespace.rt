@@ -42,7 +42,7 @@ const FIRST_STAMP: u64 = 1000;
 
 const FIRST_FILE: u64 = 1;
 
-/// The list with the uuid of the datanode that holds the blocks.
+/// The list with the uuid of the datanode on which blocks are written.
 pub(crate) fn first_nodes(alloc: Global) -> Result<List<Text>, NoMemory>
     ensures { IfOk result (λ nodes. nodes ≡ first_node ∷ []) }
 {
@@ -95,9 +95,9 @@ impl Namespace {
         self.is_free(path) && attributes.in_limits(count)
     }
 
-    /// Lists a new block on the first datanode, and answers its id.
-    pub fn add_block(&mut self, alloc: Global, length: u64) -> Result<u64, NoMemory>
-        ensures added { IfOk result (λ id. AddsBlock (table_of self.old.table.entries) (table_of self.new.table.entries) id length) }
+    /// Lists a new block on these datanodes, and answers its id.
+    pub fn add_block(&mut self, length: u64, nodes: List<Text>) -> Result<u64, NoMemory>
+        ensures added { IfOk result (λ id. AddsBlock (table_of self.old.table.entries) (table_of self.new.table.entries) id length nodes) }
         ensures ids { IfOk result (λ id. (id ≡ self.old.next_block) × (self.new.next_block ≡ id + 256)) }
         ensures names { (self.new.names ≡ self.old.names) × (self.new.grown ≡ self.old.grown) }
         ensures kept { Keeps (table_of self.old.table.entries) (table_of self.new.table.entries) }
@@ -113,7 +113,7 @@ impl Namespace {
         let entry = BlockEntry {
             length,
             stamp,
-            nodes: first_nodes(alloc)?,
+            nodes,
         };
         self.table.insert(id, entry)?;
         self.next_block = next;

@@ -1,3 +1,4 @@
+pub mod Lowest
 pub mod Nodes
 pub mod Pieces
 pub mod Pipelines

@@ -1,23 +1,24 @@
 //! The datanodes of a cluster in memory.
-ghost use Rattle.std.specs.Prelude.{◌≡◌, ◌≢◌, ◌⊎◌, ◌<◌, ◌==◌, ◌&&◌, ℕ, [], true, false, List, is_some, string_bytes, OnOk, IfOk, if◌then◌else◌};
+ghost use Rattle.std.specs.Prelude.{◌≡◌, ◌≢◌, ◌⊎◌, ◌<◌, ◌==◌, ◌&&◌, ℕ, [], true, false, min, All, List, is_some, string_bytes, OnOk, IfOk, if◌then◌else◌};
 ghost use Rattle.std.specs.BTreeMap.{get_by_text};
 ghost use Rattle.hdfs_model.specs.Sending.{put};
 ghost use Rattle.hdfs_faults.specs.Series.{uuid_of};
-ghost use Rattle.hdfs_replicas.specs.Uuids.{first_node};
+ghost use Rattle.hdfs_replicas.specs.Uuids.{first_node, lowest};
 
 use crate::datanode::Datanode;
 use crate::replica::Piece;
 use bytes::Bytes;
 use hdfs_model::DatanodeInfo;
-use hdfs_wire::NoMemory;
+use hdfs_wire::{List, NoMemory, Text};
 use std::alloc::Global;
 use std::collections::BTreeMap;
 
-/// The datanodes by their uuids, `dn0`, `dn1` and so on. The first holds the blocks.
+/// The datanodes by their uuids, `dn0`, `dn1` and so on.
 #[derive(Drop)]
 pub struct Datanodes {
     pub(crate) by_uuid: BTreeMap<String, Datanode>,
     pub count: u32,
+    ghost some: { 0 < count },
     ghost first: { is_some (get_by_text by_uuid first_node) ≡ true },
     ghost numbered: { (k : ℕ) → k < count → is_some (get_by_text by_uuid (uuid_of k)) ≡ true },
 }
@@ -62,6 +63,7 @@ impl Datanodes {
 
     /// Sees to it that there are so many datanodes. Those that are there stay.
     pub fn grow(&mut self, alloc: Global, count: u32) -> Result<(), NoMemory>
+        requires { 0 < count }
         ensures count { OnOk result (self.new.count ≡ count) }
         ensures joins { (d : List ℕ) → Joins (node_at self.old d) (node_at self.new d) }
     {
@@ -72,17 +74,55 @@ impl Datanodes {
         Ok(())
     }
 
-    /// Gives the first datanode the bytes of a block.
-    pub fn hold(&mut self, alloc: Global, block: u64, bytes: Bytes) -> Result<(), NoMemory>
-        ensures held { OnOk result (held_in self.new first_node block ≡ bytes) }
+    /// The uuids of the lowest-numbered datanodes, as many as `most` or as there are.
+    pub fn lowest(&self, alloc: Global, most: u32) -> Result<List<Text>, NoMemory>
+        ensures { IfOk result (λ nodes. nodes ≡ lowest (min most self.now.count)) }
+    {
+        let mut nodes = List::new(alloc);
+        for number in 0..most.min(self.count) {
+            nodes.push(Text::from_string(uuid(alloc, number)?))?;
+        }
+        Ok(nodes)
+    }
+
+    /// Gives a datanode the bytes of a block. There is no memory for them on one that isn't there.
+    fn hold_on(
+        &mut self,
+        alloc: Global,
+        uuid: &str,
+        block: u64,
+        bytes: Bytes,
+    ) -> Result<(), NoMemory>
+        ensures held { OnOk result (held_in self.new uuid.now block ≡ bytes) }
+        ensures nodes { (d : List ℕ) → d ≢ uuid.now → node_at self.new d ≡ node_at self.old d }
         ensures others { (d : List ℕ) (other : ℕ) → other ≢ block → held_in self.new d other ≡ held_in self.old d other }
         ensures links { (d : List ℕ) (other link : ℕ) → undisturbed_in self.new d other link ≡ undisturbed_in self.old d other link }
         ensures rest { SameNodes self.old self.new }
     {
-        let Some(node) = self.by_uuid.get_mut(FIRST_NODE) else {
-            unreachable!();
-        };
-        node.hold(alloc, block, bytes)
+        match self.by_uuid.get_mut(uuid) {
+            Some(node) => node.hold(alloc, block, bytes),
+            None => Err(NoMemory),
+        }
+    }
+
+    /// Gives the lowest-numbered datanodes the bytes of a block, as many as `most` or as there are. They share the bytes.
+    pub fn hold(
+        &mut self,
+        alloc: Global,
+        most: u32,
+        block: u64,
+        bytes: &Bytes,
+    ) -> Result<(), NoMemory>
+        ensures held { OnOk result (All (λ node. held_in self.new node block ≡ bytes.now) (lowest (min most self.old.count))) }
+        ensures others { (d : List ℕ) (other : ℕ) → other ≢ block → held_in self.new d other ≡ held_in self.old d other }
+        ensures links { (d : List ℕ) (other link : ℕ) → undisturbed_in self.new d other link ≡ undisturbed_in self.old d other link }
+        ensures rest { SameNodes self.old self.new }
+    {
+        for number in 0..most.min(self.count) {
+            let uuid = uuid(alloc, number)?;
+            self.hold_on(alloc, uuid.as_str(), block, bytes.clone()?)?;
+        }
+        Ok(())
     }
 
     /// Whether the first datanode may hold bytes of a block.

@@ -1,45 +1,42 @@
--- The first datanode takes the block, and everything else stays.
-use Rattle.std.proofs.Common.{◌≡◌, Some, refl, sym, rules, ◌≢◌}
-use Rattle.std.proofs.lemmas.Map.Text.{btree_map_updates_text}
-use Rattle.std.specs.BTreeMap.{get_by_text}
+-- One datanode takes the block after another.
+use Rattle.std.proofs.Common.{◌≡◌, ℕ, min, List, All, refl, ◌∙◌, subst, rules, arith}
+use Rattle.std.proofs.lemmas.List.Elements.{All-nil, All-weaker}
 use Rattle.hdfs_faults.specs.Series.{uuid_of}
-use Rattle.hdfs_replicas.specs.Uuids.{first_node}
-use Rattle.hdfs_replicas.specs.Replicas.{held_by, SameLinksOf}
-use Rattle.hdfs_replicas.proofs.Nodes.{update_some, change_there, change_each, change_related}
+use Rattle.hdfs_replicas.specs.Nodes.{held_in}
+use Rattle.hdfs_replicas.specs.Uuids.{lowest}
+use Rattle.hdfs_replicas.proofs.Lowest.{lowest_all, still_held}
+use Rattle.hdfs_replicas.proofs.Pipelines.{same_nodes_refl, same_nodes_trans}
 use Rattle.hdfs_replicas.proofs.datanodes.Datanodes.hold.Goals as goal
 
-pub invariant_of-self : goal.invariant_of-self
-invariant_of-self c =
-    let w = c.hold.new.self in
-    let look = get_by_text c.args.self.now.by_uuid in
-    let after = get_by_text (c.get_mut.follows.lender w) in
-    let updates = btree_map_updates_text first_node c.args.self.now.by_uuid (c.get_mut.follows.lender w) (Some w) ((c.get_mut.follows.holds w).3 (search rules)) in
+pub loop-number-init : goal.loop-number-init
+loop-number-init c = record {
+  held = All-nil (λ node. held_in c.args.self.now node c.args.block ≡ c.args.bytes.now);
+  others = λ d other apart. refl;
+  links = λ d other link. refl;
+  rest = same_nodes_refl c.args.self.now;
+}
+
+pub loop-number-preserved : goal.loop-number-preserved
+loop-number-preserved c =
+    let was = c.loop-number.invariant in
+    let now = c.loop-number.self in
+    let new = c.hold_on.new.self in
+    let block = c.args.block in
+    let bytes = c.args.bytes.now in
+    let number = c.loop-number.number in
+    let shared : c.in_ok-clone.field-0 ≡ bytes = search rules in
+    let uuid : c.as_str.result.now ≡ uuid_of number = c.as_str.ensures.value ∙ c.in_ok-uuid.ensures in
+    let here : held_in new c.as_str.result.now block ≡ bytes = c.in_ok-hold_on.ensures.held ∙ shared in
+    let P = λ (node : List ℕ). held_in new node block ≡ bytes in
+    let still = still_held now new c.as_str.result.now block bytes here c.hold_on.ensures.nodes in
     record {
-      first = update_some look after first_node w updates first_node c.args.self.now.first;
-      numbered = λ k below. update_some look after first_node w updates (uuid_of k) (c.args.self.now.numbered k below);
+      held = lowest_all P number (All-weaker (λ node. held_in now node block ≡ bytes) P still (lowest number) was.held) (subst P uuid here);
+      others = λ d other apart. c.hold_on.ensures.others d other apart ∙ was.others d other apart;
+      links = λ d other link. c.hold_on.ensures.links d other link ∙ was.links d other link;
+      rest = same_nodes_trans c.args.self.now now new was.rest c.hold_on.ensures.rest;
     }
 
-pub returns-clause-others : goal.returns-clause-others
-returns-clause-others c =
-    let w = c.hold.new.self in
-    let look = get_by_text c.args.self.now.by_uuid in
-    let after = get_by_text (c.get_mut.follows.lender w) in
-    let updates = btree_map_updates_text first_node c.args.self.now.by_uuid (c.get_mut.follows.lender w) (Some w) ((c.get_mut.follows.holds w).3 (search rules)) in
-    λ d other apart. change_each look after first_node c.in-Some.node.now w updates (sym c.in-Some.ensures.value) c.args.block c.hold.ensures.rest
-    (λ d b o n. b ≢ c.args.block → held_by n ≡ held_by o) (λ other. absurd (other refl)) (λ d b elsewhere o other. refl) d other apart
-
-pub returns-clause-links : goal.returns-clause-links
-returns-clause-links c =
-    let w = c.hold.new.self in
-    let look = get_by_text c.args.self.now.by_uuid in
-    let after = get_by_text (c.get_mut.follows.lender w) in
-    let updates = btree_map_updates_text first_node c.args.self.now.by_uuid (c.get_mut.follows.lender w) (Some w) ((c.get_mut.follows.holds w).3 (search rules)) in
-    change_related look after first_node c.in-Some.node.now w updates (sym c.in-Some.ensures.value) c.args.block c.hold.ensures.rest SameLinksOf (λ o link. refl) c.hold.ensures.links
-
-pub returns-clause-rest : goal.returns-clause-rest
-returns-clause-rest c =
-    let w = c.hold.new.self in
-    let look = get_by_text c.args.self.now.by_uuid in
-    let after = get_by_text (c.get_mut.follows.lender w) in
-    let updates = btree_map_updates_text first_node c.args.self.now.by_uuid (c.get_mut.follows.lender w) (Some w) ((c.get_mut.follows.holds w).3 (search rules)) in
-    record { there = change_there look after first_node c.in-Some.node.now w updates (sym c.in-Some.ensures.value) c.args.block c.hold.ensures.rest; count = refl }
+pub returns-clause-held : goal.returns-clause-held
+returns-clause-held c =
+    let all : c.loop-number.number ≡ min c.args.most c.args.self.now.count = omega arith in
+    subst (λ (n : ℕ). All (λ node. held_in c.loop-number.self node c.args.block ≡ c.args.bytes.now) (lowest n)) all c.loop-number.invariant.held

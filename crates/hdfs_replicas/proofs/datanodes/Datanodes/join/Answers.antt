@@ -28,6 +28,7 @@ invariant_of-self c =
     let look = get_by_text old.by_uuid in
     let after = get_by_text c.insert.new.self in
     record {
+      some = old.some;
       first = by_result c.insert.result c.insert.ensures.updates c.insert.ensures.err
           (λ updates. update_some look after key w (btree_map_updates_text key old.by_uuid c.insert.new.self (Some w) updates) first_node old.first)
           (λ same. ap (λ es. is_some (lookup (is_at (λ k. slice_cmp nat_cmp first_node (string_bytes k))) es)) same ∙ old.first);

@@ -48,7 +48,7 @@ loop-number-preserved c =
     }
 
 pub invariant_of-result : goal.invariant_of-result
-invariant_of-result c = record { first = c.loop-number.invariant.first (omega arith); numbered = λ k below. c.loop-number.invariant.numbered k (omega (arith, below)) }
+invariant_of-result c = record { some = omega arith; first = c.loop-number.invariant.first (omega arith); numbered = λ k below. c.loop-number.invariant.numbered k (omega (arith, below)) }
 
 pub returns-clause-held : goal.returns-clause-held
 returns-clause-held c = λ d. λ block. ap held_by (c.loop-number.invariant.are_new d block)

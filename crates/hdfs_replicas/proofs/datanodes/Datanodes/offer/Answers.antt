@@ -15,6 +15,7 @@ invariant_of-self c =
     let after = get_by_text (c.get_mut.follows.lender w) in
     let updates = btree_map_updates_text c.args.uuid.now c.args.self.now.by_uuid (c.get_mut.follows.lender w) (Some w) ((c.get_mut.follows.holds w).3 (search rules)) in
     record {
+      some = c.args.self.now.some;
       first = update_some look after c.args.uuid.now w updates first_node c.args.self.now.first;
       numbered = λ k below. update_some look after c.args.uuid.now w updates (uuid_of k) (c.args.self.now.numbered k below);
     }
