@@ -49,9 +49,9 @@ agrees_with_new p p' state path node entry was ext names here q =
     subst (λ (o : Option Entry). AgreesAt p' o ((with_new state path node).files q)) (sym (names q)) (at_path p' (bytes_eq path q) entry node (p.names q) (state.files q) here (agrees_at p p' ext (p.names q) (state.files q) (was q)))
 
 -- where a block is added, the others stay
-pub kept_block : (t t' : ℕ → Option BlockEntry) (held held' : List ℕ → ℕ → List ℕ) (id length : ℕ) → AddsBlock t t' id length → ((d : List ℕ) (q : ℕ) → q ≢ id → held' d q ≡ held d q) → KeepsBlocks t t' held held'
-kept_block t t' held held' id length adds others = record {
-  table = keeps_from-AddsBlock t t' id length adds;
+pub kept_block : (t t' : ℕ → Option BlockEntry) (held held' : List ℕ → ℕ → List ℕ) (id length : ℕ) (nodes : List (List ℕ)) → AddsBlock t t' id length nodes → ((d : List ℕ) (q : ℕ) → q ≢ id → held' d q ≡ held d q) → KeepsBlocks t t' held held'
+kept_block t t' held held' id length nodes adds others = record {
+  table = keeps_from-AddsBlock t t' id length nodes adds;
   held = λ q entry is d. others d q (λ same. (let none : t q ≡ None = ap t same ∙ adds.absent in absurd (cc (none, is))));
 }
 

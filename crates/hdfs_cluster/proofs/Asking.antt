@@ -7,6 +7,7 @@ use Rattle.std.proofs.lemmas.Slice.Eq.{bytes_eq-Decides}
 use Rattle.std.specs.Result.{IfOk, OnErr}
 use Rattle.std.specs.Str.{bytes_eq}
 use Rattle.slab.specs.Slab as slab
+use Rattle.slab.specs.Slab.{Slab, with_value}
 use Rattle.hdfs_wire.specs.declared.ack.Ack.{Ack}
 use Rattle.hdfs_wire.specs.declared.values.NoMemory.{NoMemory}
 use Rattle.hdfs_wire.specs.Outgoing.{Outgoing}
@@ -16,6 +17,7 @@ use Rattle.hdfs_model.specs.declared.picture.OpenWrite.{OpenWrite}
 use Rattle.hdfs_model.specs.declared.store.Line.{Line}
 use Rattle.hdfs_model.specs.declared.store.LinkKind.{LinkKind}
 use Rattle.hdfs_model.specs.declared.store.LinkKind.TheVariants as kinds
+use Rattle.hdfs_model.specs.Counts.{NeverFall}
 use Rattle.hdfs_model.specs.Sending.{seqno_of, uuids}
 use Rattle.hdfs_faults.specs.declared.fault_plan.FaultPlan.{FaultPlan}
 use Rattle.hdfs_faults.specs.declared.node_plan.NodeCall.TheVariants as calls
@@ -31,13 +33,15 @@ use Rattle.hdfs_cluster.specs.declared.mem_link.MemLink.TheVariants as links
 use Rattle.hdfs_cluster.specs.declared.write_link.MemWrite.{MemWrite}
 use Rattle.hdfs_cluster.specs.Counting.{AsksAck, AsksSend, AsksSetUp, CanCount, CountsNothing, first_of}
 use Rattle.hdfs_cluster.specs.Failures.{failure_of, is_broken, is_counted, planned_failure}
-use Rattle.hdfs_cluster.specs.Links.{write_told, OnWrites, AckedOn, SendsOn, among, first_uuid}
+use Rattle.hdfs_cluster.specs.Links.{write_told, OnWrites, AckedOn, AreEarlier, SendsOn, among, first_uuid}
 use Rattle.hdfs_cluster.specs.Lines.{line_of}
+use Rattle.hdfs_cluster.specs.MemShown.{counts_of}
 use Rattle.hdfs_replicas.specs.Nodes.{SameNodes, node_at}
 use Rattle.hdfs_cluster.specs.Telling.{TellsAll, times}
 use Rattle.hdfs_cluster.specs.Writes.{told_of}
-use Rattle.hdfs_cluster.proofs.Acknowledging.{acked_links, acked_nodes, acked_replies, one_of, rest_due}
-use Rattle.hdfs_cluster.proofs.Counting.{at_once, calls_node, calls_nothing, nodes_stay, one_more}
+use Rattle.hdfs_cluster.proofs.Acknowledging.{acked_falls, acked_links, acked_nodes, acked_replies, one_of, rest_due}
+use Rattle.hdfs_cluster.proofs.Counting.{at_once, calls_node, calls_nothing, falls_counts, falls_same, nodes_stay, one_more}
+use Rattle.hdfs_cluster.proofs.Earlier.{written_earlier}
 
 -- what a packet that was sent counts, whether it broke or not
 pub sends_counts : (link : ℕ) (packet : Outgoing) (broke : Bool) (nodes nodes' : Datanodes) (faults faults' : FaultPlan) (v w : MemWrite)
@@ -270,3 +274,29 @@ pub acks_follow_on : (P : Type 0) (link : ℕ) (result : Result Ack NoMemory) (f
     → IfOk result (λ ack. OnWrites (AckedOn link ack faults faults') o o') → OnErr result (P × (faults' ≡ faults)) → Follows faults loaded → Follows faults' loaded
 acks_follow_on P link (Ok ack) faults faults' loaded o o' ok err was = acks_follow link ack faults faults' loaded o o' ok was
 acks_follow_on P link (Err e) faults faults' loaded o o' ok err was = subst (λ (p : FaultPlan). Follows p loaded) (sym err.1) was
+
+-- no count falls where a packet was sent
+sends_fall : (link : ℕ) (packet : Outgoing) (broke : Bool) (nodes nodes' : Datanodes) (faults faults' : FaultPlan) (o o' : MemLink) → OnWrites (λ v w. SendsOn link packet broke (among nodes faults v) (among nodes' faults' w)) o o' → NeverFall (counts_of faults) (counts_of faults')
+sends_fall link packet broke nodes nodes' faults faults' (links.Write v) (links.Write w) h = falls_counts faults faults' (sends_to (first_uuid v)) broke (sends_counts link packet broke nodes nodes' faults faults' v w h)
+sends_fall link packet broke nodes nodes' faults faults' (links.Write v) (links.Read w) h = absurd h
+sends_fall link packet broke nodes nodes' faults faults' (links.Read v) (links.Read w) h = absurd h
+sends_fall link packet broke nodes nodes' faults faults' (links.Read v) (links.Write w) h = absurd h
+
+acks_fall : (link : ℕ) (ack : Ack) (faults faults' : FaultPlan) (o o' : MemLink) → OnWrites (AckedOn link ack faults faults') o o' → NeverFall (counts_of faults) (counts_of faults')
+acks_fall link ack faults faults' (links.Write v) (links.Write w) h = acked_falls link ack faults faults' v w h
+acks_fall link ack faults faults' (links.Write v) (links.Read w) h = absurd h
+acks_fall link ack faults faults' (links.Read v) (links.Read w) h = absurd h
+acks_fall link ack faults faults' (links.Read v) (links.Write w) h = absurd h
+
+-- and the reads stay opened earlier
+pub sends_earlier : (P : MemWrite → MemWrite → Type 0) (s : Slab MemLink) (link : ℕ) (packet : Outgoing) (result : Result Bool NoMemory) (nodes nodes' : Datanodes) (faults faults' : FaultPlan) (o o' : MemLink)
+    → IfOk result (λ broke. OnWrites (λ v w. SendsOn link packet broke (among nodes faults v) (among nodes' faults' w)) o o') → OnErr result (OnWrites P o o' × (faults' ≡ faults)) → slab.get s link ≡ Some o
+    → AreEarlier s faults → AreEarlier (with_value s link o') faults'
+sends_earlier P s link packet (Ok broke) nodes nodes' faults faults' o o' ok err was =
+    written_earlier (λ v w. SendsOn link packet broke (among nodes faults v) (among nodes' faults' w)) s faults faults' link o o' was ok (sends_fall link packet broke nodes nodes' faults faults' o o' ok)
+sends_earlier P s link packet (Err e) nodes nodes' faults faults' o o' ok err was = written_earlier P s faults faults' link o o' was err.0 (falls_same faults faults' err.1)
+
+pub acks_earlier : (P : MemWrite → MemWrite → Type 0) (s : Slab MemLink) (link : ℕ) (result : Result Ack NoMemory) (faults faults' : FaultPlan) (o o' : MemLink)
+    → IfOk result (λ ack. OnWrites (AckedOn link ack faults faults') o o') → OnErr result (OnWrites P o o' × (faults' ≡ faults)) → slab.get s link ≡ Some o → AreEarlier s faults → AreEarlier (with_value s link o') faults'
+acks_earlier P s link (Ok ack) faults faults' o o' ok err was = written_earlier (AckedOn link ack faults faults') s faults faults' link o o' was ok (acks_fall link ack faults faults' o o' ok)
+acks_earlier P s link (Err e) faults faults' o o' ok err was = written_earlier P s faults faults' link o o' was err.0 (falls_same faults faults' err.1)

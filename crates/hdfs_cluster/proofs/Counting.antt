@@ -4,13 +4,14 @@ use Rattle.std.proofs.lemmas.Bool.{false≢true}
 use Rattle.std.proofs.lemmas.Slice.Eq.{bytes_eq-Decides}
 use Rattle.std.specs.Str.{bytes_eq}
 use Rattle.hdfs_model.specs.declared.asks.LinkFault.{LinkFault}
+use Rattle.hdfs_model.specs.declared.store.FaultLine.{FaultLine}
 use Rattle.hdfs_model.specs.declared.store.LinkKind.{LinkKind}
 use Rattle.hdfs_model.specs.declared.store.LinkKind.TheVariants as link_kinds
 use Rattle.hdfs_model.specs.Counts.{NeverFall, Rose}
 use Rattle.hdfs_faults.specs.declared.fault_plan.FaultPlan.{FaultPlan}
 use Rattle.hdfs_faults.specs.declared.node_plan.NodeCall.{NodeCall}
 use Rattle.hdfs_faults.specs.Calls.{after_one, is_at_once, one_if}
-use Rattle.hdfs_faults.specs.Plans.{Counts, Forgets, SamePlan, SetsUp, calls_of, has_node, is_bad, link_faults_of, node_faults_of}
+use Rattle.hdfs_faults.specs.Plans.{AddsNodes, Counts, Forgets, PlansFault, SamePlan, SetsUp, calls_of, has_node, is_bad, link_faults_of, node_faults_of}
 use Rattle.hdfs_faults.specs.Series.{Series, CallsOf, is_of, link_fault_count, node_fault_count}
 use Rattle.hdfs_faults.proofs.Bounds.{link_faults-le, node_faults-le}
 use Rattle.hdfs_faults.proofs.Following.{next_follows}
@@ -59,6 +60,12 @@ falls_same old new same = subst (λ (p : FaultPlan). NeverFall (counts_of old) (
 
 pub falls_same_plan : (old new : FaultPlan) → SamePlan old new → NeverFall (counts_of old) (counts_of new)
 falls_same_plan old new h = record { calls = λ i. omega arith; links = omega (arith, h.links.faults); nodes = λ d. omega (arith, h.nodes d) }
+
+pub falls_fault : (old new : FaultPlan) (fault : FaultLine) → PlansFault old fault new → NeverFall (counts_of old) (counts_of new)
+falls_fault old new fault h = record { calls = λ i. omega arith; links = omega (arith, h.links.faults); nodes = λ d. omega (arith, h.nodes d) }
+
+pub falls_adds : (old new : FaultPlan) → AddsNodes old new → NeverFall (counts_of old) (counts_of new)
+falls_adds old new h = record { calls = λ i. omega arith; links = omega (arith, h.links.faults); nodes = λ d. omega (arith, h.nodes d) }
 
 pub falls_trans : (a b c : FaultPlan) → NeverFall (counts_of a) (counts_of b) → NeverFall (counts_of b) (counts_of c) → NeverFall (counts_of a) (counts_of c)
 falls_trans a b c f g = record { calls = λ i. omega arith; links = omega (arith, f.links, g.links); nodes = λ d. omega (arith, f.nodes d, g.nodes d) }

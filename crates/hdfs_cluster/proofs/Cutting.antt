@@ -4,7 +4,7 @@ use Rattle.std.proofs.Math.Seq.{take-length}
 use Rattle.std.proofs.lemmas.Bool.{false≢true, eqb-true}
 use Rattle.std.proofs.lemmas.Bool.Decides.{nat_tests}
 use Rattle.std.proofs.lemmas.List.{append-nil, length-take, length-drop, take_min, drop_min}
-use Rattle.std.proofs.lemmas.List.Elements.{All-cons, All-nil}
+use Rattle.std.proofs.lemmas.List.Elements.{All-head, All-weaker}
 use Rattle.std.specs.List.{All, Any}
 use Rattle.hdfs_model.specs.declared.picture.BlockEntry.{BlockEntry}
 use Rattle.hdfs_model.specs.declared.picture.Entry.{Entry}
@@ -13,7 +13,6 @@ use Rattle.hdfs_model.specs.Stores.{StoresBlocks, StoresBlock, HoldsPrefix}
 use Rattle.hdfs_namespace.specs.Adding.{AddsBlock, AreNew, KeepsBlocks, blocks_picture}
 use Rattle.hdfs_cluster.specs.Cutting.{HoldsPiece, IsCut}
 use Rattle.hdfs_namespace.specs.Memory.{is_kth, is_sized, is_length, plus_length, total}
-use Rattle.hdfs_replicas.specs.Uuids.{first_node}
 use Rattle.hdfs_namespace.proofs.Apart.{kth_absent}
 use Rattle.hdfs_namespace.proofs.FileChanges.{kth_push_cases}
 
@@ -35,74 +34,83 @@ keeps_trans t t' t'' h h' h'' f g = record {
 }
 
 -- a piece stays where its block does
-piece_kept : (t t' : ℕ → Option BlockEntry) (held held' : List ℕ → ℕ → List ℕ) → KeepsBlocks t t' held held' → (size id : ℕ) (bytes : List ℕ) → HoldsPiece t held size id bytes → HoldsPiece t' held' size id bytes
-piece_kept t t' held held' kept size id bytes h = record {
+piece_kept : (t t' : ℕ → Option BlockEntry) (held held' : List ℕ → ℕ → List ℕ) → KeepsBlocks t t' held held' → (nodes : List (List ℕ)) (size id : ℕ) (bytes : List ℕ) → HoldsPiece t held nodes size id bytes → HoldsPiece t' held' nodes size id bytes
+piece_kept t t' held held' kept nodes size id bytes h = record {
   some = h.some;
   entry = h.entry;
   listed = kept.table id h.entry h.listed;
   has_length = h.has_length;
   on = h.on;
-  holds = kept.held id h.entry h.listed first_node ∙ h.holds;
+  holds = All-weaker (λ node. held node id ≡ take size bytes) (λ node. held' node id ≡ take size bytes) (λ node was. kept.held id h.entry h.listed node ∙ was) nodes h.holds;
 }
 
 -- a new block with the front of the bytes holds a piece of them
-pub piece_added : (t t' : ℕ → Option BlockEntry) (held' : List ℕ → ℕ → List ℕ) (size id : ℕ) (left front : List ℕ) → 0 < length left
-    → front ≡ take size left → AddsBlock t t' id (length front) → held' first_node id ≡ front → HoldsPiece t' held' size id left
-piece_added t t' held' size id left front some is adds holds = record {
+pub piece_added : (t t' : ℕ → Option BlockEntry) (held' : List ℕ → ℕ → List ℕ) (nodes : List (List ℕ)) (size id : ℕ) (left front : List ℕ) → 0 < length left
+    → front ≡ take size left → AddsBlock t t' id (length front) nodes → All (λ node. held' node id ≡ front) nodes → HoldsPiece t' held' nodes size id left
+piece_added t t' held' nodes size id left front some is adds holds = record {
   some = some;
   entry = adds.entry;
   listed = adds.listed;
   has_length = adds.has_length ∙ ap length is ∙ length-take size left;
   on = adds.on;
-  holds = holds ∙ is;
+  holds = All-weaker (λ node. held' node id ≡ front) (λ node. held' node id ≡ take size left) (λ node here. here ∙ is) nodes holds;
 }
 
 -- behind these blocks, what cuts the bytes that are left cuts all of them
-abbrev pub CutsOn : (ℕ → Option BlockEntry) → (List ℕ → ℕ → List ℕ) → ℕ → List ℕ → List ℕ → List ℕ → Type 0
-CutsOn t held size ids left bytes =
-    (t' : ℕ → Option BlockEntry) (held' : List ℕ → ℕ → List ℕ) (tail : List ℕ) → KeepsBlocks t t' held held' → IsCut t' held' size tail left → IsCut t' held' size (ids ++ tail) bytes
+abbrev pub CutsOn : (ℕ → Option BlockEntry) → (List ℕ → ℕ → List ℕ) → List (List ℕ) → ℕ → List ℕ → List ℕ → List ℕ → Type 0
+CutsOn t held nodes size ids left bytes =
+    (t' : ℕ → Option BlockEntry) (held' : List ℕ → ℕ → List ℕ) (tail : List ℕ) → KeepsBlocks t t' held held' → IsCut t' held' nodes size tail left → IsCut t' held' nodes size (ids ++ tail) bytes
 
-module _ (t t1 : ℕ → Option BlockEntry) (held held1 : List ℕ → ℕ → List ℕ) (kept : KeepsBlocks t t1 held held1) (size id : ℕ) (ids left bytes : List ℕ) where
+module _ (t t1 : ℕ → Option BlockEntry) (held held1 : List ℕ → ℕ → List ℕ) (kept : KeepsBlocks t t1 held held1) (nodes : List (List ℕ)) (size id : ℕ) (ids left bytes : List ℕ) where
   -- one block more
-  pub cuts_more : HoldsPiece t1 held1 size id left → CutsOn t held size ids left bytes → CutsOn t1 held1 size (ids ++ id ∷ []) (drop size left) bytes
+  pub cuts_more : HoldsPiece t1 held1 nodes size id left → CutsOn t held nodes size ids left bytes → CutsOn t1 held1 nodes size (ids ++ id ∷ []) (drop size left) bytes
   cuts_more piece on t' held' tail kept' is =
-      subst (λ (l : List ℕ). IsCut t' held' size l bytes) (sym (append_assoc ids (id ∷ []) tail))
-      (on t' held' (id ∷ tail) (keeps_trans t t1 t' held held1 held' kept kept') (piece_kept t1 t' held1 held' kept' size id left piece, is))
+      subst (λ (l : List ℕ). IsCut t' held' nodes size l bytes) (sym (append_assoc ids (id ∷ []) tail))
+      (on t' held' (id ∷ tail) (keeps_trans t t1 t' held held1 held' kept kept') (piece_kept t1 t' held1 held' kept' nodes size id left piece, is))
 
 -- no bytes are left
-pub cuts_all : (t : ℕ → Option BlockEntry) (held : List ℕ → ℕ → List ℕ) (size : ℕ) (ids left bytes : List ℕ) → CutsOn t held size ids left bytes → left ≡ [] → IsCut t held size ids bytes
-cuts_all t held size ids left bytes on none = subst (λ (l : List ℕ). IsCut t held size l bytes) (append-nil ids) (on t held [] (keeps_refl t held) none)
+pub cuts_all : (t : ℕ → Option BlockEntry) (held : List ℕ → ℕ → List ℕ) (nodes : List (List ℕ)) (size : ℕ) (ids left bytes : List ℕ) → CutsOn t held nodes size ids left bytes → left ≡ [] → IsCut t held nodes size ids bytes
+cuts_all t held nodes size ids left bytes on none = subst (λ (l : List ℕ). IsCut t held nodes size l bytes) (append-nil ids) (on t held [] (keeps_refl t held) none)
 
-module _ (t : ℕ → Option BlockEntry) (held : List ℕ → ℕ → List ℕ) (size : ℕ) where
+-- what holds of each of some datanodes holds of one of them
+any_from_all : (P : List ℕ → Type 0) (nodes : List (List ℕ)) → 0 < length nodes → All P nodes → Any P nodes
+any_from_all P [] some all = absurd (omega (arith, some))
+any_from_all P (node ∷ nodes) some all = (0, node, some, refl, All-head P node nodes all)
+
+module _ (t : ℕ → Option BlockEntry) (held : List ℕ → ℕ → List ℕ) (nodes : List (List ℕ)) (size : ℕ) where
   abbrev p : Picture
   p = blocks_picture t held
 
-  stores_piece : (id : ℕ) (bytes : List ℕ) (h : HoldsPiece t held size id bytes) → StoresBlock p id h.entry (take h.entry.length bytes)
-  stores_piece id bytes h =
+  -- those that hold the whole piece hold a prefix of it
+  prefix_whole : (id : ℕ) (piece node : List ℕ) → held node id ≡ piece → HoldsPrefix (λ n. held n id) piece node
+  prefix_whole id piece node whole = whole ∙ sym (ap (λ (l : List ℕ). take (length l) piece) whole ∙ take-length piece)
+
+  stores_piece : 0 < length nodes → (id : ℕ) (bytes : List ℕ) (h : HoldsPiece t held nodes size id bytes) → StoresBlock p id h.entry (take h.entry.length bytes)
+  stores_piece some id bytes h =
       let piece = take size bytes in
       let same : take h.entry.length bytes ≡ piece = ap (λ (n : ℕ). take n bytes) h.has_length ∙ take_min size bytes in
-      let prefix : HoldsPrefix (λ n. held n id) piece first_node = h.holds ∙ sym (ap (λ (l : List ℕ). take (length l) piece) h.holds ∙ take-length piece) in
+      let holds = λ (n : List ℕ). held n id ≡ piece in
       subst (StoresBlock p id h.entry) (sym same) (record {
         length = length-take size bytes ∙ sym h.has_length;
-        prefixes = subst (All (HoldsPrefix (λ n. held n id) piece)) (sym h.on) (All-cons (HoldsPrefix (λ n. held n id) piece) first_node [] prefix (All-nil _));
-        whole = subst (Any (λ n. held n id ≡ piece)) (sym h.on) (0, first_node, omega arith, refl, h.holds);
+        prefixes = subst (All (HoldsPrefix (λ n. held n id) piece)) (sym h.on) (All-weaker holds (HoldsPrefix (λ n. held n id) piece) (prefix_whole id piece) nodes h.holds);
+        whole = subst (Any holds) (sym h.on) (any_from_all holds nodes some h.holds);
       })
 
-  -- blocks into which bytes are cut store them
-  pub stores_cut : (ids bytes : List ℕ) → IsCut t held size ids bytes → StoresBlocks p ids bytes
-  stores_cut [] bytes h = h
-  stores_cut (id ∷ ids) bytes h =
+  -- blocks into which bytes are cut store them, where there is a datanode
+  pub stores_cut : 0 < length nodes → (ids bytes : List ℕ) → IsCut t held nodes size ids bytes → StoresBlocks p ids bytes
+  stores_cut some [] bytes h = h
+  stores_cut some (id ∷ ids) bytes h =
       let rest : drop h.0.entry.length bytes ≡ drop size bytes = ap (λ (n : ℕ). drop n bytes) h.0.has_length ∙ drop_min size bytes in
-      (h.0.entry, h.0.listed, omega (arith, h.0.has_length), stores_piece id bytes h.0, subst (StoresBlocks p ids) (sym rest) (stores_cut ids (drop size bytes) h.1))
+      (h.0.entry, h.0.listed, omega (arith, h.0.has_length), stores_piece some id bytes h.0, subst (StoresBlocks p ids) (sym rest) (stores_cut some ids (drop size bytes) h.1))
 
-  pub total_cut : (ids bytes : List ℕ) → IsCut t held size ids bytes → total t ids ≡ Some (length bytes)
+  pub total_cut : (ids bytes : List ℕ) → IsCut t held nodes size ids bytes → total t ids ≡ Some (length bytes)
   total_cut [] bytes h = ap (λ (b : List ℕ). Some (length b)) (sym h)
   total_cut (id ∷ ids) bytes h =
       let sum : h.0.entry.length + length (drop size bytes) ≡ length bytes = omega (arith, h.0.has_length, length-drop size bytes) in
       ap (λ (o : Option BlockEntry). plus_length o (total t ids)) h.0.listed ∙ ap (plus_length (Some h.0.entry)) (total_cut ids (drop size bytes) h.1) ∙ ap Some sum
 
   -- and have as many bytes together
-  pub sized_cut : (ids bytes : List ℕ) → IsCut t held size ids bytes → length bytes < 2 ^ 63 → is_length (total t ids) ≡ true
+  pub sized_cut : (ids bytes : List ℕ) → IsCut t held nodes size ids bytes → length bytes < 2 ^ 63 → is_length (total t ids) ≡ true
   sized_cut ids bytes h short =
       let below : ltb (length bytes) (2 ^ 63) ≡ true = grind (arith, nat_tests) in
       ap is_length (total_cut ids bytes h) ∙ below

@@ -1,8 +1,10 @@
 pub mod Acknowledging
 pub mod Agreeing
 pub mod Asking
+pub mod AskingReads
 pub mod Counting
 pub mod Cutting
+pub mod Earlier
 pub mod Giving
 pub mod NothingLoaded
 pub mod Opening
@@ -10,6 +12,7 @@ pub mod Packets
 pub mod Places
 pub mod Puts
 pub mod Serving
+pub mod Slices
 pub mod Stills
 pub mod Taking
 pub mod Telling

@@ -12,7 +12,7 @@ use Rattle.hdfs_replicas.specs.declared.datanodes.Datanodes.{Datanodes}
 use Rattle.hdfs_cluster.specs.declared.mem_link.MemLink.{MemLink}
 use Rattle.hdfs_cluster.specs.declared.mem_link.MemLink.TheVariants as links
 use Rattle.hdfs_model.specs.declared.picture.OpenWrite.{OpenWrite}
-use Rattle.hdfs_cluster.specs.Links.{read_told, read_place, write_told, write_place, OnWrite}
+use Rattle.hdfs_cluster.specs.Links.{read_told, read_place, write_told, write_place, OnRead, OnWrite}
 use Rattle.hdfs_replicas.specs.Nodes.{undisturbed_in}
 use Rattle.hdfs_cluster.specs.declared.write_link.MemWrite.{MemWrite}
 use Rattle.hdfs_cluster.specs.Writes.{told_at, told_of, place_at, place_of, disturbed_at}
@@ -53,6 +53,10 @@ pub place_same : (nodes nodes' : Datanodes) → ((d : List ℕ) (b link : ℕ) �
 place_same nodes nodes' same l = place_same_at nodes nodes' l (λ d b. same d b l)
 
 -- a link that is told as a write link is one
+pub on_read : (o : MemLink) → IsSome (read_told (Some o)) → OnRead (λ read. Unit {0}) o
+on_read (links.Read v) is = tt
+on_read (links.Write v) is = absurd (cc)
+
 pub on_write : (o : MemLink) (write : OpenWrite) → write_told (Some o) ≡ Some write → OnWrite (λ w. Unit {0}) o
 on_write (links.Write v) write is = tt
 on_write (links.Read v) write is = absurd (cc)

@@ -1,5 +1,5 @@
 -- What a cluster shows where nothing is seen to change.
-use Rattle.std.proofs.Common.{◌≡◌, inl, ℕ, List, [], get_or, Option, Some, unwrap_or, refl, sym, ◌∙◌, ap, subst, arith}
+use Rattle.std.proofs.Common.{◌≡◌, ◌≢◌, inl, ℕ, List, [], get_or, Option, Some, IfSome, unwrap_or, refl, sym, ◌∙◌, ap, subst, arith}
 use Rattle.slab.specs.Slab as slab
 use Rattle.slab.specs.Slab.{Slab, Updates}
 use Rattle.hdfs_wire.specs.Outgoing.{Outgoing}
@@ -17,11 +17,12 @@ use Rattle.hdfs_model.specs.Writing.{MayBeBehind, Sends, WritesAt}
 use Rattle.hdfs_model.specs.declared.picture.OpenWrite.{OpenWrite}
 use Rattle.hdfs_faults.specs.declared.fault_plan.FaultPlan.{FaultPlan}
 use Rattle.hdfs_faults.specs.Plans.{node_faults_of}
-use Rattle.hdfs_model.specs.Shown.{Shown, Later, NotOpened}
+use Rattle.hdfs_model.specs.Shown.{Shown, Later, NotOpened, NotGiven}
 use Rattle.hdfs_namespace.specs.declared.namespace.Namespace.{Namespace}
 use Rattle.hdfs_replicas.specs.declared.datanodes.Datanodes.{Datanodes}
 use Rattle.hdfs_cluster.specs.declared.mem_link.MemLink.{MemLink}
 use Rattle.hdfs_cluster.specs.declared.mem_link.MemLink.TheVariants as links
+use Rattle.hdfs_cluster.specs.declared.read_link.MemRead.{MemRead}
 use Rattle.hdfs_cluster.specs.declared.write_link.MemWrite.{MemWrite}
 use Rattle.hdfs_cluster.specs.Links.{read_told, read_place, write_told, write_place, OnWrites, UnsentOn, UnackedOn, first_uuid}
 use Rattle.hdfs_cluster.specs.MemShown.{picture_at, loaded_at, counts_of}
@@ -64,6 +65,15 @@ links_from_write s s' link v w was updates setup base sent responses acknowledge
   read_places = slot_stays (λ l. read_place) s s' link (Some (links.Write v)) (Some (links.Write w)) was updates refl;
   writes = slot_stays (λ l. write_told) s s' link (Some (links.Write v)) (Some (links.Write w)) was updates (ap Some (told_kept v w setup base sent responses acknowledged));
   write_places = λ nodes. slot_stays (write_place nodes) s s' link (Some (links.Write v)) (Some (links.Write w)) was updates (ap Some (place_kept v w setup base sent responses acknowledged nodes link));
+}
+
+-- a read link is written back of which nothing changed
+pub links_from_read : (s s' : Slab MemLink) (link : ℕ) (v w : MemRead) → slab.get s link ≡ Some (links.Read v) → Updates s s' link (Some (links.Read w)) → w.told ≡ v.told → w.place ≡ v.place → SameLinksShown s s'
+links_from_read s s' link v w was updates told place = record {
+  reads = slot_stays (λ l. read_told) s s' link (Some (links.Read v)) (Some (links.Read w)) was updates (ap Some told);
+  read_places = slot_stays (λ l. read_place) s s' link (Some (links.Read v)) (Some (links.Read w)) was updates (ap Some place);
+  writes = slot_stays (λ l. write_told) s s' link (Some (links.Read v)) (Some (links.Read w)) was updates refl;
+  write_places = λ nodes. slot_stays (write_place nodes) s s' link (Some (links.Read v)) (Some (links.Read w)) was updates refl;
 }
 
 -- a slot is written back after a packet that wasn't sent
@@ -137,6 +147,11 @@ module _ (space : Namespace) (settings : MemSettings) (last : LastAnswer) (loade
               λ i lt calm holds. (held (get_or (uuids v.setup.locs) i []) v.setup.block.block_id).bytes ∙ holds,
             ),
       )
+
+      -- no packet came
+      pub not_given : (link : ℕ) (fault : LinkFault) → fault ≢ link_faults.Refused
+          → (fault ≡ link_faults.Broken → IfSome (old.reads link) (λ read. Rose (old.counts.nodes read.node.datanode_uuid) (new.counts.nodes read.node.datanode_uuid))) → NotGiven old link fault new
+      not_given link fault not_refused cause = record { later = still_later; last = refl; reads = same.reads; writes = same.writes; picture = still_picture; not_refused = not_refused; cause = cause }
 
       -- the connection broke in place of a packet
       pub broke_off_sent : (link : ℕ) (packet : Outgoing) (v : MemWrite) → slab.get s link ≡ Some (links.Write v)

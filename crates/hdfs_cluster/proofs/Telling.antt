@@ -131,7 +131,12 @@ failed_status (u ∷ uuids) (s ∷ statuses) zero d within replied is =
 failed_status (u ∷ uuids) (s ∷ statuses) (suc i) d within replied is = omega (arith, failed_status uuids statuses i d (omega (arith, within)) (omega (arith, replied)) is)
 
 pub same_plans_trans : (a b c : FaultPlan) → SamePlans a b → SamePlans b c → SamePlans a c
-same_plans_trans a b c f g = record { there = λ d. g.there d ∙ f.there d; fails = λ s nth. g.fails s nth ∙ f.fails s nth; kinds = λ nth. g.kinds nth ∙ f.kinds nth }
+same_plans_trans a b c f g = record {
+  there = λ d. g.there d ∙ f.there d;
+  fails = λ s nth. g.fails s nth ∙ f.fails s nth;
+  kinds = λ nth. g.kinds nth ∙ f.kinds nth;
+  packets = λ d nth. g.packets d nth ∙ f.packets d nth;
+}
 
 pub same_links_trans : (a b c : FaultPlan) → SameLinks a b → SameLinks b c → SameLinks a c
 same_links_trans a b c f g = record { faults = g.faults ∙ f.faults; bad = λ link. g.bad link ∙ f.bad link }

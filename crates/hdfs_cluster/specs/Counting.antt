@@ -1,22 +1,27 @@
 -- Which calls of a cluster in memory are counted, and which of them fail.
-use Rattle.std.specs.Prelude.{◌≡◌, ◌≢◌, ℕ, ℤ, ◌+◌, ◌^◌, ◌<◌, ◌==◌, ◌&&◌, not, Bool, true, false, List, [], ◌∷◌, slice_index_or, Option, IsSome, is_some, Result, IfOk}
+use Rattle.std.specs.Prelude.{◌≡◌, ◌≢◌, ℕ, ℤ, ◌+◌, ◌^◌, ◌<◌, ◌==◌, ◌&&◌, not, Bool, true, false, List, [], ◌∷◌, slice_index_or, Option, Some, IsSome, is_some, Result, Err, IfOk}
 use Rattle.hdfs_wire.specs.declared.ack.Ack.{Ack}
 use Rattle.hdfs_wire.specs.declared.read_packet.ReadPacket.{ReadPacket}
 use Rattle.hdfs_model.specs.declared.asks.Ask.{Ask}
 use Rattle.hdfs_model.specs.declared.asks.Answer.{Answer}
 use Rattle.hdfs_model.specs.declared.asks.AskFault.{AskFault}
 use Rattle.hdfs_model.specs.declared.asks.LinkFault.{LinkFault}
+use Rattle.hdfs_model.specs.declared.asks.LinkFault.TheVariants as link_faults
+use Rattle.hdfs_model.specs.declared.picture.OpenRead.{OpenRead}
 use Rattle.hdfs_model.specs.declared.picture.OpenWrite.{OpenWrite}
+use Rattle.hdfs_model.specs.declared.picture.ReadPlace.{ReadPlace}
 use Rattle.hdfs_model.specs.declared.store.LinkKind.{LinkKind}
+use Rattle.hdfs_model.specs.declared.store.ReadKind.{ReadKind}
 use Rattle.hdfs_model.specs.Counts.{SameCounts}
 use Rattle.hdfs_model.specs.Pipes.{IsWellFormed, nodes_of as write_nodes}
 use Rattle.hdfs_model.specs.Shown.{Served}
 use Rattle.hdfs_faults.specs.Calls.{is_bad_ack, one_if}
 use Rattle.hdfs_faults.specs.Plans.{calls_of, has_series, is_bad}
-use Rattle.hdfs_faults.specs.Series.{Series, SetUps, kind_of, plans, reads_of, sends_to, uuid_of}
+use Rattle.hdfs_faults.specs.Series.{Series, SetUps, kind_of, opens_of, packet_kind_of, plans, reads_of, sends_to, uuid_of}
 use Rattle.hdfs_cluster.specs.declared.mem_cluster.MemCluster.{MemCluster}
 use Rattle.hdfs_namespace.specs.Answering.{Answers}
-use Rattle.hdfs_cluster.specs.Failures.{failure_of, is_broken, is_counted, planned_failure}
+use Rattle.hdfs_cluster.specs.Failures.{failure_of, is_broken, is_counted, is_refused, planned_failure}
+use Rattle.hdfs_cluster.specs.Coming.{ComesTo}
 use Rattle.hdfs_cluster.specs.Telling.{TellsAll}
 use Rattle.hdfs_cluster.specs.MemShown.{HasNode, HasNodesOf, nodes_of, picture_of, shown_of}
 
@@ -72,9 +77,25 @@ pub record CallsNode (old : MemCluster) (node : List ℕ) (series : Series) (cou
   pub links : (shown_of new).counts.links ≡ (shown_of old).counts.links
   pub bad : (link : ℕ) → is_bad_at new link ≡ is_bad_at old link
 
--- a packet was asked of a datanode
-abbrev pub AsksPacket : MemCluster → List ℕ → Result ReadPacket LinkFault → MemCluster → Type 0
-AsksPacket old node result new = CallsNode old node (reads_of node) (is_counted result) (is_broken result) new
+-- a read was opened on a datanode: it is refused exactly where a line plans that
+abbrev pub AsksOpening : MemCluster → List ℕ → Result ℕ LinkFault → MemCluster → Type 0
+AsksOpening old node result new =
+    CallsNode old node (opens_of node) (is_counted result) (is_refused result) new × (result ≢ Err link_faults.Broken)
+
+-- how the loaded lines make the next packet of a datanode fail
+abbrev pub next_packet_kind : MemCluster → List ℕ → Option ReadKind
+next_packet_kind m node = packet_kind_of (shown_of m).loaded.lines node (calls_at m (reads_of node) + 1)
+
+-- the datanode of an open read
+abbrev pub uuid_at : OpenRead → List ℕ
+uuid_at told = told.node.datanode_uuid
+
+-- A packet of a read was asked of its datanode. It has the next number, and fails exactly as a line plans that number to.
+pub record AsksPacket (old : MemCluster) (link : ℕ) (told : OpenRead) (result : Result ReadPacket LinkFault) (new : MemCluster) : Type 0 where
+  pub kind : Option ReadKind
+  pub planned : CanCount old (reads_of (uuid_at told)) → is_counted result ≡ true → kind ≡ next_packet_kind old (uuid_at told)
+  pub call : CallsNode old (uuid_at told) (reads_of (uuid_at told)) (is_counted result) (is_some kind) new
+  pub comes : (read : ReadPlace) → (picture_of old).reads link ≡ Some read → ComesTo told.checksums kind read result
 
 -- the first datanode of a link
 abbrev pub first_of : OpenWrite → List ℕ

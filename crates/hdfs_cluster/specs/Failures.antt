@@ -12,6 +12,13 @@ is_broken (Err link_faults.NoMemory) = false
 is_broken (Err link_faults.Broken) = true
 is_broken (Err link_faults.Refused) = false
 
+-- the datanode refused
+abbrev pub is_refused : {X : Type 0} → Result X LinkFault → Bool
+is_refused (Ok value) = false
+is_refused (Err link_faults.NoMemory) = false
+is_refused (Err link_faults.Broken) = false
+is_refused (Err link_faults.Refused) = true
+
 -- the call is counted: there was memory for it
 abbrev pub is_counted : {X : Type 0} → Result X LinkFault → Bool
 is_counted (Ok value) = true

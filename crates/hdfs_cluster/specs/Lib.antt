@@ -1,3 +1,4 @@
+pub mod Coming
 pub mod Counting
 pub mod Cutting
 pub mod Failures
@@ -5,6 +6,7 @@ pub mod Laws
 pub mod Lines
 pub mod Links
 pub mod MemShown
+pub mod Slices
 pub mod Starting
 pub mod Telling
 pub mod Writes

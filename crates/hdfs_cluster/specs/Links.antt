@@ -1,21 +1,30 @@
 -- What the links of a cluster in memory show.
-use Rattle.std.specs.Prelude.{◌≡◌, ◌≢◌, ℕ, ℤ, ◌+◌, ◌<◌, ◌≤◌, ◌^◌, Bool, true, false, List, [], ◌∷◌, ◌++◌, length, slice_index_or, Option, Some, None}
+use Rattle.std.specs.Prelude.{◌≡◌, ◌≢◌, ℕ, ℤ, pos, ◌+◌, ◌<◌, ◌≤◌, Bool, true, false, List, [], ◌∷◌, ◌++◌, length, slice_index_or, Option, Some, None, Result, Ok, Err}
+use Rattle.slab.specs.Slab as slab
+use Rattle.slab.specs.Slab.{Slab}
 use Rattle.hdfs_wire.specs.declared.ack.Ack.{Ack}
+use Rattle.hdfs_wire.specs.declared.read_packet.ReadPacket.{ReadPacket}
 use Rattle.hdfs_wire.specs.Outgoing.{Outgoing}
+use Rattle.hdfs_model.specs.declared.asks.LinkFault.{LinkFault}
+use Rattle.hdfs_model.specs.declared.asks.LinkFault.TheVariants as link_faults
 use Rattle.hdfs_model.specs.declared.picture.OpenRead.{OpenRead}
 use Rattle.hdfs_model.specs.declared.picture.OpenWrite.{OpenWrite}
 use Rattle.hdfs_model.specs.declared.picture.ReadPlace.{ReadPlace}
-use Rattle.hdfs_model.specs.Reading.{moved_on}
+use Rattle.hdfs_model.specs.declared.store.ReadKind.{ReadKind}
+use Rattle.hdfs_model.specs.declared.store.ReadKind.TheVariants as read_kinds
+use Rattle.hdfs_model.specs.Reading.{placed_at}
 use Rattle.hdfs_model.specs.Sending.{WritePlace, seqno_of, uuids}
 use Rattle.hdfs_faults.specs.declared.fault_plan.FaultPlan.{FaultPlan}
-use Rattle.hdfs_faults.specs.Plans.{fails_at, Counts, SameLinks, TakesAck}
-use Rattle.hdfs_faults.specs.Series.{sends_to}
+use Rattle.hdfs_faults.specs.Calls.{next_kind}
+use Rattle.hdfs_faults.specs.Plans.{calls_of, fails_at, node_faults_of, packet_kind, Counts, SameLinks, TakesAck}
+use Rattle.hdfs_faults.specs.Series.{reads_of, sends_to}
 use Rattle.hdfs_replicas.specs.declared.datanodes.Datanodes.{Datanodes}
 use Rattle.hdfs_cluster.specs.declared.mem_link.MemLink.{MemLink}
 use Rattle.hdfs_cluster.specs.declared.mem_link.MemLink.TheVariants as links
 use Rattle.hdfs_cluster.specs.declared.read_link.MemRead.{MemRead}
 use Rattle.hdfs_cluster.specs.declared.write_link.MemWrite.{MemWrite}
 use Rattle.hdfs_replicas.specs.Nodes.{SameHeld}
+use Rattle.hdfs_cluster.specs.Slices.{Comes}
 use Rattle.hdfs_cluster.specs.Telling.{GoesOn, TellsAll}
 use Rattle.hdfs_cluster.specs.Writes.{told_of, place_of, SameWrite, PutsPacket}
 
@@ -67,15 +76,49 @@ OnWrites P (links.Write old) (links.Read new) = ⊥
 OnWrites P (links.Read old) (links.Read new) = ⊥
 OnWrites P (links.Read old) (links.Write new) = ⊥
 
--- so many bytes are left of the base
-pub record CanMoveOn (count : ℕ) (read : MemRead) : Type 0 where
-  pub within : read.place.place + count ≤ length read.place.base
-  pub fits : read.place.place + count < 2 ^ 63
+-- when the read was opened its datanode had failed no more often than now
+abbrev pub IsEarlier : FaultPlan → OpenRead → Type 0
+IsEarlier faults read = read.before ≤ node_faults_of faults read.node.datanode_uuid
 
--- the place of a read moved on
-pub record MovedOn (count : ℕ) (old new : MemRead) : Type 0 where
+-- that holds of each read that is open
+abbrev pub AreEarlier : Slab MemLink → FaultPlan → Type 0
+AreEarlier links faults = (link : ℕ) (read : OpenRead) → read_told (slab.get links link) ≡ Some read → IsEarlier faults read
+
+-- no packet is planned to be refused
+abbrev pub NeverRefuses : FaultPlan → Type 0
+NeverRefuses faults = (d : List ℕ) (nth : ℕ) → packet_kind faults d nth ≢ Some read_kinds.Refused
+
+-- how the next packet of a datanode is planned to fail
+abbrev pub next_of : FaultPlan → List ℕ → Option ReadKind
+next_of faults node = next_kind (packet_kind faults node) (calls_of faults (reads_of node))
+
+-- the datanode of a read
+abbrev pub node_of : MemRead → List ℕ
+node_of read = read.told.node.datanode_uuid
+
+-- nothing changed of a read
+pub record SameRead (old new : MemRead) : Type 0 where
   pub told : new.told ≡ old.told
-  pub place : new.place ≡ moved_on old.place count
+  pub place : new.place ≡ old.place
+
+-- a packet came, and the place moved to its end
+pub record GaveOn (kind : Option ReadKind) (packet : ReadPacket) (old new : MemRead) : Type 0 where
+  pub comes : Comes old.chunk kind old.place packet
+  pub told : new.told ≡ old.told
+  pub place : (offset : ℕ) → packet.header.offset_in_block ≡ pos offset → new.place ≡ placed_at old.place (offset + length packet.payload)
+
+-- a packet of a datanode was counted
+abbrev pub CountsPacket : FaultPlan → List ℕ → FaultPlan → Type 0
+CountsPacket old node new = (fails : Bool) × Counts old (reads_of node) fails new
+
+-- A packet was asked for. It came as it is planned to fail, or the connection broke where that is planned, and it was counted; or
+-- there was no memory.
+abbrev pub GivesOn : FaultPlan → FaultPlan → MemRead → MemRead → Result ReadPacket LinkFault → Type 0
+GivesOn faults faults' old new (Ok packet) = GaveOn (next_of faults (node_of old)) packet old new × CountsPacket faults (node_of old) faults'
+GivesOn faults faults' old new (Err link_faults.NoMemory) = SameRead old new × (faults' ≡ faults)
+GivesOn faults faults' old new (Err link_faults.Broken) =
+    SameRead old new × (next_of faults (node_of old) ≡ Some read_kinds.Broken) × CountsPacket faults (node_of old) faults'
+GivesOn faults faults' old new (Err link_faults.Refused) = ⊥
 
 -- a packet was sent
 pub record SentOn (link : ℕ) (packet : Outgoing) (nodes nodes' : Datanodes) (old new : MemWrite) : Type 0 where

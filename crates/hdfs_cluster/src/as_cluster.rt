@@ -7,14 +7,12 @@ ghost use Rattle.hdfs_cluster.specs.Failures.{planned_failure};
 
 use crate::mem_cluster::MemCluster;
 use crate::mem_link::MemLink;
-use crate::read_link::{MemRead, next_packet, opened};
+use crate::read_link::MemRead;
 use crate::responding::respond;
 use crate::write_link::MemWrite;
-use hdfs_model::{
-    Answer, Ask, AskFault, Cluster, LastAnswer, LinkFault, LinkKind, ReadAsk, ReadPlace, Setup,
-};
+use hdfs_model::{Answer, Ask, AskFault, Cluster, LastAnswer, LinkFault, LinkKind, ReadAsk, Setup};
 use hdfs_namespace::last_answer;
-use hdfs_wire::{Ack, NoMemory, ReadPacket, WritePacket};
+use hdfs_wire::{Ack, ChecksumInfo, NoMemory, ReadPacket, WritePacket};
 
 /// How a set-up fails that is planned so. One with a bad acknowledgement to come doesn't.
 fn failure(kind: Option<LinkKind>) -> Option<LinkFault>
@@ -29,7 +27,7 @@ fn failure(kind: Option<LinkKind>) -> Option<LinkFault>
 }
 
 impl Cluster for MemCluster {
-    ghost use Rattle.hdfs_cluster.specs.Counting.{MemServes, CountsNothing, AsksPacket, AsksSend, AsksSetUp, AsksAck};
+    ghost use Rattle.hdfs_cluster.specs.Counting.{MemServes, CountsNothing, AsksOpening, AsksPacket, AsksSend, AsksSetUp, AsksAck};
     ghost use Rattle.hdfs_cluster.specs.MemShown.{shown_of, picture_of};
     ghost use Rattle.hdfs_cluster.specs.Laws.{active_law, sound_law, writes_law};
 
@@ -66,27 +64,36 @@ impl Cluster for MemCluster {
         }
     }
 
+    /// It has one moment.
+    fn moment(&mut self) -> u64 {
+        0
+    }
+
     fn open_read(&mut self, _kept: Option<u64>, ask: &ReadAsk) -> Result<u64, LinkFault>
         ensures ok { IfOk result (λ link. Opened (shown_of self.old) ask.now link (shown_of self.new)) }
         ensures err { IfErr result (λ fault. NotOpened (shown_of self.old) ask.now fault (shown_of self.new)) }
-        ensures counted { CountsNothing self.old self.new }
+
+        // A fault line acts at exactly its opening.
+        ensures asks { AsksOpening self.old ask.now.node.datanode_uuid result self.new }
     {
         let uuid = ask.node.datanode_uuid.as_str();
+        if self.faults.refuses(uuid) {
+            self.faults.open(uuid);
+            return Err(LinkFault::Refused);
+        }
+        let before = self.faults.node_faults(uuid);
         let base = self.nodes.read(self.alloc, uuid, ask.block.block_id)?;
-        let told = opened(self.alloc, ask, self.faults.node_faults(uuid))?;
-        let chunk_start = ask.offset - ask.offset % self.config.chunk;
-        let place = chunk_start.min(base.as_slice().len() as u64);
-        let link = self.links.insert(MemLink::Read(MemRead {
-            told,
-            place: ReadPlace {
-                block: ask.block.block_id,
-                offset: ask.offset,
-                len: ask.len,
-                base,
-                place,
-            },
-        }))?;
+        let read = MemRead::open(self.alloc, ask, before, base, self.config.chunk)?;
+        let link = self.links.insert(MemLink::Read(read))?;
+        self.faults.open(uuid);
         Ok(link as u64)
+    }
+
+    fn checksums(&self, link: u64) -> Option<ChecksumInfo> {
+        let Some(MemLink::Read(read)) = self.links.get(link as usize) else {
+            unreachable!();
+        };
+        read.told.checksums
     }
 
     fn packet(&mut self, link: u64) -> Result<ReadPacket, LinkFault>
@@ -95,20 +102,12 @@ impl Cluster for MemCluster {
         ensures err { IfErr result (λ fault. NotGiven (shown_of self.old) link fault (shown_of self.new)) }
 
         // A fault line acts at exactly its packet.
-        ensures asks { IfSome ((shown_of self.old).reads link) (λ read. AsksPacket self.old read.node.datanode_uuid result self.new) }
+        ensures asks { IfSome ((shown_of self.old).reads link) (λ told. AsksPacket self.old link told result self.new) }
     {
-        let Some(MemLink::Read(read)) = self.links.get(link as usize) else {
-            unreachable!();
-        };
-        let packet = next_packet(&read.place, self.config.limit)?;
-        if self.faults.packet(read.told.node.datanode_uuid.as_str()) {
-            return Err(LinkFault::Broken);
-        }
         let Some(open) = self.links.get_mut(link as usize) else {
             unreachable!();
         };
-        open.move_on(packet.payload.len() as u64);
-        Ok(packet)
+        open.give(self.alloc, &mut self.faults, self.config.limit)
     }
 
     fn end_read(&mut self, link: u64, _keep: bool) -> bool

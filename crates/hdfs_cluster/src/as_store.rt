@@ -47,8 +47,8 @@ impl Store for MemCluster {
             (λ fault. fault ≡ AddFault.Refused → takes state.files line ≡ false) }
         ensures err { OnErr result (LoadsNothing (shown_of self.old) (shown_of self.new)) }
 
-        // A file is cut into blocks of its block size, of which the last may be shorter.
-        ensures cut { OnOk result (CutsLine (picture_of self.new) line) }
+        // A file is cut into blocks of its block size, of which the last may be shorter, on the lowest-numbered datanodes.
+        ensures cut { OnOk result (CutsLine (nodes_of self.new) (picture_of self.new) line) }
         ensures counted { CountsNothing self.old self.new }
     {
         match line {

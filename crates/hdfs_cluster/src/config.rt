@@ -1,5 +1,5 @@
 //! What a cluster in memory keeps of its settings.
-ghost use Rattle.std.specs.Prelude.{◌≡◌, ◌<◌, ◌^◌};
+ghost use Rattle.std.specs.Prelude.{◌≡◌, ◌<◌, ◌≤◌, ◌^◌};
 ghost use Rattle.hdfs_model.specs.Loading.{AreValid};
 
 use crate::read_link::packet_limit;
@@ -9,10 +9,11 @@ use hdfs_model::MemSettings;
 #[derive(Clone, Copy)]
 pub struct Config {
     pub(crate) settings: MemSettings,
-    pub(crate) chunk: u64,
+    pub(crate) chunk: u32,
     pub(crate) limit: u64,
     ghost active_below: { settings.active < settings.namenodes },
-    ghost some_chunk: { 0 < chunk },
+    ghost some_chunk: { 1 ≤ chunk },
+    ghost chunk_bound: { chunk ≤ 2 ^ 30 },
     ghost some_limit: { 0 < limit },
     ghost bound: { limit < 2 ^ 31 },
 }
@@ -24,7 +25,7 @@ impl Config {
     {
         Config {
             settings,
-            chunk: settings.defaults.bytes_per_checksum as u64,
+            chunk: settings.defaults.bytes_per_checksum,
             limit: packet_limit(&settings.defaults),
         }
     }

@@ -24,7 +24,7 @@ impl MemCluster {
     ghost use Rattle.std.specs.BTreeMap.{get_by_text};
     ghost use Rattle.hdfs_cluster.specs.Counting.{CountsNothing};
     ghost use Rattle.hdfs_cluster.specs.Cutting.{CutsLine};
-    ghost use Rattle.hdfs_cluster.specs.MemShown.{shown_of, picture_of};
+    ghost use Rattle.hdfs_cluster.specs.MemShown.{nodes_of, shown_of, picture_of};
 
     /// Makes a directory at a free path. Room for the line is taken first, so that no directory is there without its line.
     fn take_dir(&mut self, path: Text) -> Result<(), NoMemory>
@@ -63,7 +63,7 @@ impl MemCluster {
     fn take_file(&mut self, path: Text, attributes: Attributes, bytes: Blob) -> Result<(), NoMemory>
         requires { accepts (get_by_text self.old.space.names) path attributes (length bytes) ≡ true }
         ensures loads { OnOk result (Loads (shown_of self.old) (lines.File path attributes bytes) (shown_of self.new)) }
-        ensures cut { OnOk result (CutsLine (picture_of self.new) (lines.File path attributes bytes)) }
+        ensures cut { OnOk result (CutsLine (nodes_of self.new) (picture_of self.new) (lines.File path attributes bytes)) }
         ensures err { OnErr result (LoadsNothing (shown_of self.old) (shown_of self.new)) }
         ensures counted { CountsNothing self.old self.new }
     {
@@ -94,7 +94,7 @@ impl MemCluster {
         bytes: Blob,
     ) -> Result<(), AddFault>
         ensures loads { OnOk result (Loads (shown_of self.old) (lines.File path attributes bytes) (shown_of self.new)) }
-        ensures cut { OnOk result (CutsLine (picture_of self.new) (lines.File path attributes bytes)) }
+        ensures cut { OnOk result (CutsLine (nodes_of self.new) (picture_of self.new) (lines.File path attributes bytes)) }
         ensures refused { IsErrOf result AddFault.Refused → SameShown (shown_of self.old) (shown_of self.new) }
         ensures exact { MatchResult result
             (λ done. accepts (get_by_text self.old.space.names) path attributes (length bytes) ≡ true)

@@ -5,6 +5,7 @@ ghost use Rattle.hdfs_model.specs.Loading.{AreValid};
 ghost use Rattle.hdfs_model.specs.Sessions.{Fits};
 ghost use Rattle.hdfs_faults.specs.Following.{Follows};
 ghost use Rattle.hdfs_cluster.specs.Lines.{line_of};
+ghost use Rattle.hdfs_cluster.specs.Links.{AreEarlier};
 
 use crate::config::Config;
 use crate::loaded::Kept;
@@ -30,6 +31,7 @@ pub struct MemCluster {
     pub(crate) faults: FaultPlan,
     pub(crate) loaded: Vec<Kept>,
     ghost follows: { Follows faults (map line_of loaded.items) },
+    ghost earlier: { AreEarlier links faults },
 }
 
 impl MemCluster {

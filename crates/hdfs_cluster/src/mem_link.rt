@@ -1,11 +1,12 @@
 //! The links of a cluster in memory.
-ghost use Rattle.std.specs.Prelude.{◌≡◌, ◌+◌, ◌<◌, ◌≤◌, ◌^◌, IfOk, OnErr};
+ghost use Rattle.std.specs.Prelude.{◌≡◌, ◌<◌, ◌^◌, IfOk, OnErr};
 
 use crate::read_link::MemRead;
 use crate::write_link::MemWrite;
 use hdfs_faults::FaultPlan;
+use hdfs_model::LinkFault;
 use hdfs_replicas::Datanodes;
-use hdfs_wire::{Ack, NoMemory, WritePacket};
+use hdfs_wire::{Ack, NoMemory, ReadPacket, WritePacket};
 use std::alloc::Global;
 
 /// A link that is open.
@@ -16,16 +17,24 @@ pub enum MemLink {
 }
 
 impl MemLink {
-    ghost use Rattle.hdfs_cluster.specs.Links.{OnRead, OnReads, OnWrite, OnWrites, CanMoveOn, MovedOn, IsDueOn, SendsOn, among, UnsentOn, AckedOn, UnackedOn};
+    ghost use Rattle.hdfs_cluster.specs.Links.{OnRead, OnReads, OnWrite, OnWrites, GivesOn, NeverRefuses, IsDueOn, SendsOn, among, UnsentOn, AckedOn, UnackedOn};
     ghost use Rattle.hdfs_replicas.specs.Nodes.{SameNodes};
 
-    /// Moves the place of a read on by so many bytes.
-    pub(crate) fn move_on(&mut self, count: u64)
-        requires { OnRead (CanMoveOn count) self.old }
-        ensures { OnReads (MovedOn count) self.old self.new }
+    /// Gives the next packet of a read, as it is planned to fail.
+    pub(crate) fn give(
+        &mut self,
+        alloc: Global,
+        faults: &mut FaultPlan,
+        limit: u64,
+    ) -> Result<ReadPacket, LinkFault>
+        requires read { OnRead (λ read. Unit {0}) self.old }
+        requires some { 0 < limit }
+        requires bound { limit < 2 ^ 31 }
+        requires never { NeverRefuses faults.old }
+        ensures { OnReads (λ old new. GivesOn faults.old faults.new old new result) self.old self.new }
     {
         match self {
-            MemLink::Read(read) => read.move_on(count),
+            MemLink::Read(read) => read.give(alloc, faults, limit),
             MemLink::Write(_) => unreachable!(),
         }
     }

@@ -1,49 +1,53 @@
 //! The packets of a read in memory.
-ghost use Rattle.std.specs.Prelude.{◌≡◌, ◌⊎◌, ◌+◌, ◌*◌, ◌<◌, ◌≤◌, ◌^◌, ℕ, pos, length, IfOk, min};
-ghost use Rattle.hdfs_model.specs.Reading.{IsSlice, moved_on};
+ghost use Rattle.std.specs.Prelude.{◌≡◌, ◌≢◌, ◌⊎◌, ◌+◌, ◌<◌, ◌≤◌, ◌^◌, ◌∷◌, ℕ, List, pos, length, Some, IfOk, OnOk};
+ghost use Rattle.hdfs_wire.specs.Outgoing.{checksums};
+ghost use Rattle.hdfs_model.specs.declared.store.ReadKind.TheVariants as read_kinds;
+ghost use Rattle.hdfs_model.specs.Reading.{placed_at};
+ghost use Rattle.hdfs_cluster.specs.Coming.{LeavesOneOut, first_turned};
+ghost use Rattle.hdfs_cluster.specs.Slices.{ComesUnlessBroken, IsNext, StandsIn, TurnsFirst, crc32c_for, place_for, told_for};
 
 use bytes::Bytes;
-use hdfs_model::{OpenRead, ReadAsk, ReadPlace, ServerDefaults};
-use hdfs_wire::{NoMemory, PacketHeader, ReadPacket};
+use hdfs_faults::FaultPlan;
+use hdfs_model::{LinkFault, OpenRead, ReadAsk, ReadKind, ReadPlace, ServerDefaults};
+use hdfs_wire::{ChecksumInfo, NoMemory, PacketHeader, ReadPacket, put_checksums};
 use std::alloc::Global;
 
-/// A read link that is open.
+/// A read link that is open. Each packet has a CRC-32C for each `chunk` of its bytes.
 #[derive(Drop)]
 pub struct MemRead {
     pub(crate) told: OpenRead,
     pub(crate) place: ReadPlace,
+    pub(crate) chunk: u32,
     ghost within: { place.place ≤ length place.base },
+    ghost sums: { told.checksums ≡ Some (crc32c_for chunk) },
+    ghost some_chunk: { 1 ≤ chunk },
+    ghost bound: { chunk ≤ 2 ^ 30 },
 }
 
-impl MemRead {
-    /// Moves its place on by so many bytes.
-    pub(crate) fn move_on(&mut self, count: u64)
-        requires within { self.old.place.place + count ≤ length self.old.place.base }
-        requires fits { self.old.place.place + count < 2 ^ 63 }
-        ensures told { self.new.told ≡ self.old.told }
-        ensures place { self.new.place ≡ moved_on self.old.place count }
-    {
-        self.place.place += count;
-    }
-}
-
-/// What is told of a read that is opened where its datanode's count is `before`.
-pub(crate) fn opened(alloc: Global, ask: &ReadAsk, before: u64) -> Result<OpenRead, NoMemory>
-    ensures { IfOk result (λ told. told ≡ record { node = ask.now.node; block = ask.now.block; token = ask.now.token; before = before }) }
-{
-    Ok(OpenRead {
-        node: ask.node.copy(alloc)?,
-        block: ask.block.copy(alloc)?,
-        token: ask.token.copy(alloc)?,
-        before,
-    })
-}
+/// The kind of checksums that CRC-32C is.
+const CRC_32C: u32 = 2;
 
 /// How many bytes the header of a packet takes at most.
 const HEADER_LEN: u64 = 33;
 
 /// How many bytes a checksum takes.
 const CHECKSUM_LEN: u64 = 4;
+
+/// What is told of a read that is opened where its datanode's count is `before`.
+fn told_of(alloc: Global, ask: &ReadAsk, before: u64, chunk: u32) -> Result<OpenRead, NoMemory>
+    ensures { IfOk result (λ told. told ≡ told_for ask.now before chunk) }
+{
+    Ok(OpenRead {
+        node: ask.node.copy(alloc)?,
+        block: ask.block.copy(alloc)?,
+        token: ask.token.copy(alloc)?,
+        checksums: Some(ChecksumInfo {
+            kind: CRC_32C,
+            bytes_per_checksum: chunk,
+        }),
+        before,
+    })
+}
 
 /// How many bytes a packet gives at most: as many whole chunks as fit, but one at least.
 pub(crate) fn packet_limit(defaults: &ServerDefaults) -> u64
@@ -58,46 +62,185 @@ pub(crate) fn packet_limit(defaults: &ServerDefaults) -> u64
     (room / (chunk + CHECKSUM_LEN) * chunk).max(chunk)
 }
 
-/// How many bytes the next packet of a read has: what is left of the base up to the limit, and none once the range is
-/// covered.
-fn packet_length(place: &ReadPlace, limit: u64) -> usize
+/// How many bytes a packet has that begins at this place of a read: what is left of the base up to the limit, and none once the
+/// range is covered.
+fn packet_length(read: &ReadPlace, place: u64, limit: u64) -> usize
     requires some { 0 < limit }
-    requires within { place.now.place ≤ length place.now.base }
-    ensures within { place.now.place + result ≤ length place.now.base }
+    requires within { place ≤ length read.now.base }
+    ensures within { place + result ≤ length read.now.base }
     ensures bound { result ≤ limit }
-    ensures fits { place.now.place + result < 2 ^ 63 }
-    ensures goes_on { result ≡ 0 → (place.now.offset + place.now.len ≤ place.now.place) ⊎ (length place.now.base ≤ place.now.place) }
-    ensures stops { place.now.offset + place.now.len ≤ place.now.place → result ≡ 0 }
+    ensures fits { place + result < 2 ^ 63 }
+    ensures goes_on { result ≡ 0 → (read.now.offset + read.now.len ≤ place) ⊎ (length read.now.base ≤ place) }
+    ensures stops { read.now.offset + read.now.len ≤ place → result ≡ 0 }
 {
-    let end = place.base.as_slice().len() as u64;
-    if place.offset <= place.place && place.len <= place.place - place.offset {
+    let end = read.base.as_slice().len() as u64;
+    if read.offset <= place && read.len <= place - read.offset {
         return 0;
     }
-    (end - place.place).min(limit) as usize
+    (end - place).min(limit) as usize
 }
 
-/// The next packet of a read: a slice of its base.
-pub(crate) fn next_packet(place: &ReadPlace, limit: u64) -> Result<ReadPacket, NoMemory>
-    requires some { 0 < limit }
-    requires bound { limit < 2 ^ 31 }
-    requires within { place.now.place ≤ length place.now.base }
-    ensures slice { IfOk result (IsSlice place.now) }
-    ensures within { IfOk result (λ packet. place.now.place + length packet.payload ≤ length place.now.base) }
-    ensures fits { IfOk result (λ packet. place.now.place + length packet.payload < 2 ^ 63) }
-    ensures length { IfOk result (λ packet. packet.header.data_len ≡ pos (length packet.payload)) }
+/// The checksums of a payload.
+fn checksums_of(alloc: Global, chunk: u32, payload: &[u8]) -> Result<Bytes, NoMemory>
+    requires { 1 ≤ chunk }
+    ensures { IfOk result (λ sums. sums ≡ checksums chunk payload.now) }
 {
-    let count = packet_length(place, limit);
-    let from = place.place as usize;
-    let payload = place.base.slice(from..from + count)?;
-    Ok(ReadPacket {
-        header: PacketHeader {
-            offset_in_block: place.place as i64,
-            seqno: 0,
-            last_packet_in_block: count == 0,
-            data_len: count as i32,
-            sync_block: None,
-        },
-        checksum: Bytes::new(),
+    let mut sums = Vec::new(alloc);
+    put_checksums(&mut sums, chunk as usize, payload)?;
+    Ok(Bytes::from_vec(sums)?)
+}
+
+/// The same bytes in memory of their own, where all bits of the first are turned.
+fn first_turned(alloc: Global, bytes: &[u8]) -> Result<Bytes, NoMemory>
+    ensures turned { IfOk result (λ turned. turned ≡ first_turned bytes.now) }
+    ensures byte { OnOk result ((byte : ℕ) (rest : List ℕ) → bytes.now ≡ byte ∷ rest → byte < 256) }
+{
+    let mut turned = Vec::from_slice(alloc, bytes)?;
+    if !bytes.is_empty() {
+        turned[0] = u8::MAX - bytes[0];
+    }
+    Ok(Bytes::from_vec(turned)?)
+}
+
+/// The packet damaged: under the header and the checksums of the bytes that it had.
+fn damaged(alloc: Global, packet: ReadPacket) -> Result<ReadPacket, NoMemory>
+    ensures { IfOk result (TurnsFirst packet) }
+{
+    let ReadPacket {
+        header,
+        checksum,
         payload,
+    } = packet;
+    Ok(ReadPacket {
+        header,
+        checksum,
+        payload: first_turned(alloc, payload.as_slice())?,
     })
+}
+
+impl MemRead {
+    ghost use Rattle.hdfs_cluster.specs.Links.{GivesOn, NeverRefuses};
+
+    /// A read that is opened where its datanode has failed `before` times and holds these bytes of the block. It begins with a whole
+    /// chunk, and not behind the bytes.
+    pub(crate) fn open(
+        alloc: Global,
+        ask: &ReadAsk,
+        before: u64,
+        base: Bytes,
+        chunk: u32,
+    ) -> Result<MemRead, NoMemory>
+        requires some { 1 ≤ chunk }
+        requires bound { chunk ≤ 2 ^ 30 }
+        ensures told { IfOk result (λ read. read.told ≡ told_for ask.now before read.chunk) }
+        ensures place { IfOk result (λ read. read.place ≡ place_for ask.now base read.place.place) }
+        ensures behind { IfOk result (λ read. read.place.place ≤ ask.now.offset) }
+    {
+        let chunk_start = ask.offset - ask.offset % u64::from(chunk);
+        let place = chunk_start.min(base.as_slice().len() as u64);
+        Ok(MemRead {
+            told: told_of(alloc, ask, before, chunk)?,
+            place: ReadPlace {
+                block: ask.block.block_id,
+                offset: ask.offset,
+                len: ask.len,
+                base,
+                place,
+            },
+            chunk,
+        })
+    }
+
+    /// The packet that begins at this place: a slice of the base, with the checksums of its bytes.
+    fn packet_at(&self, alloc: Global, place: u64, limit: u64) -> Result<ReadPacket, NoMemory>
+        requires some { 0 < limit }
+        requires bound { limit < 2 ^ 31 }
+        requires within { place ≤ length self.now.place.base }
+        ensures { IfOk result (IsNext self.now.chunk (placed_at self.now.place place)) }
+    {
+        let count = packet_length(&self.place, place, limit);
+        let from = place as usize;
+        let payload = self.place.base.slice(from..from + count)?;
+        Ok(ReadPacket {
+            header: PacketHeader {
+                offset_in_block: place as i64,
+                seqno: 0,
+                last_packet_in_block: count == 0,
+                data_len: count as i32,
+                sync_block: None,
+            },
+            checksum: checksums_of(alloc, self.chunk, payload.as_slice())?,
+            payload,
+        })
+    }
+
+    /// The packet behind the next one.
+    fn packet_behind(&self, alloc: Global, limit: u64) -> Result<ReadPacket, NoMemory>
+        requires some { 0 < limit }
+        requires bound { limit < 2 ^ 31 }
+        ensures { IfOk result (λ packet. (place : ℕ) × IsNext self.now.chunk (placed_at self.now.place place) packet
+            × LeavesOneOut self.now.place packet) }
+    {
+        let count = packet_length(&self.place, self.place.place, limit);
+        self.packet_at(alloc, self.place.place + count as u64, limit)
+    }
+
+    /// What comes for the next packet, where it is planned to fail so: none, where the connection breaks.
+    fn coming(
+        &self,
+        alloc: Global,
+        kind: Option<ReadKind>,
+        limit: u64,
+    ) -> Result<Option<ReadPacket>, NoMemory>
+        requires some { 0 < limit }
+        requires bound { limit < 2 ^ 31 }
+        requires never { kind ≢ Some read_kinds.Refused }
+        ensures { IfOk result (ComesUnlessBroken self.now.chunk kind self.now.place) }
+    {
+        match kind {
+            None => Ok(Some(self.packet_at(alloc, self.place.place, limit)?)),
+            Some(ReadKind::Damaged) => {
+                let whole = self.packet_at(alloc, self.place.place, limit)?;
+                Ok(Some(damaged(alloc, whole)?))
+            }
+            Some(ReadKind::Gap) => Ok(Some(self.packet_behind(alloc, limit)?)),
+            Some(ReadKind::Broken) => Ok(None),
+            Some(ReadKind::Refused) => unreachable!(),
+        }
+    }
+
+    /// Moves its place on to the end of a packet.
+    fn move_behind(&mut self, packet: &ReadPacket)
+        requires { StandsIn self.old.place.base packet.now }
+        ensures told { self.new.told ≡ self.old.told }
+        ensures chunk { self.new.chunk ≡ self.old.chunk }
+        ensures place { (offset : ℕ) → packet.now.header.offset_in_block ≡ pos offset
+            → self.new.place ≡ placed_at self.old.place (offset + length packet.now.payload) }
+    {
+        let from = packet.header.offset_in_block as u64;
+        self.place.place = from + packet.payload.len() as u64;
+    }
+
+    /// Gives the next packet, as it is planned to fail. For want of memory it isn't counted.
+    pub(crate) fn give(
+        &mut self,
+        alloc: Global,
+        faults: &mut FaultPlan,
+        limit: u64,
+    ) -> Result<ReadPacket, LinkFault>
+        requires some { 0 < limit }
+        requires bound { limit < 2 ^ 31 }
+        requires never { NeverRefuses faults.old }
+        ensures { GivesOn faults.old faults.new self.old self.new result }
+    {
+        let uuid = self.told.node.datanode_uuid.as_str();
+        let kind = faults.next_packet(uuid);
+        let coming = self.coming(alloc, kind, limit)?;
+        faults.packet(uuid);
+        let Some(packet) = coming else {
+            return Err(LinkFault::Broken);
+        };
+        self.move_behind(&packet);
+        Ok(packet)
+    }
 }

@@ -1,5 +1,5 @@
 //! How a file comes into a cluster in memory.
-ghost use Rattle.std.specs.Prelude.{◌≡◌, ◌<◌, ◌^◌, ℕ, List, Some, length, string_bytes, IfOk, OnOk, OnErr};
+ghost use Rattle.std.specs.Prelude.{◌≡◌, ◌<◌, ◌^◌, ℕ, List, All, min, Some, length, string_bytes, IfOk, OnOk, OnErr};
 ghost use Rattle.std.specs.BTreeMap.{get_by_text};
 ghost use Rattle.hdfs_model.specs.declared.mem_settings.MemSettings.{MemSettings};
 ghost use Rattle.hdfs_model.specs.declared.picture.Entry.TheVariants as entries;
@@ -13,7 +13,7 @@ ghost use Rattle.hdfs_namespace.specs.Adding.{IsPlace, AddsBlock, AreNew, KeepsB
 ghost use Rattle.hdfs_cluster.specs.Cutting.{IsCut};
 ghost use Rattle.hdfs_cluster.specs.MemShown.{picture_at};
 ghost use Rattle.hdfs_namespace.specs.Memory.{table_of};
-ghost use Rattle.hdfs_replicas.specs.Uuids.{first_node};
+ghost use Rattle.hdfs_replicas.specs.Uuids.{lowest};
 ghost use Rattle.hdfs_replicas.specs.Nodes.{held_in, undisturbed_in, SameNodes};
 
 use bytes::Bytes;
@@ -23,23 +23,26 @@ use hdfs_replicas::Datanodes;
 use hdfs_wire::{List, NoMemory};
 use std::alloc::Global;
 
-/// Stores bytes in a new block, and answers its id.
+/// Stores bytes in a new block on the lowest-numbered datanodes, and answers its id.
 fn store_block(
     alloc: Global,
     space: &mut Namespace,
     nodes: &mut Datanodes,
+    replication: u32,
     bytes: Bytes,
 ) -> Result<u64, NoMemory>
-    ensures added { IfOk result (λ id. AddsBlock (table_of space.old.table.entries) (table_of space.new.table.entries) id (length bytes)) }
-    ensures held { IfOk result (λ id. held_in nodes.new first_node id ≡ bytes) }
+    ensures added { IfOk result (λ id. AddsBlock (table_of space.old.table.entries) (table_of space.new.table.entries) id (length bytes)
+        (lowest (min replication nodes.old.count))) }
+    ensures held { IfOk result (λ id. All (λ node. held_in nodes.new node id ≡ bytes) (lowest (min replication nodes.old.count))) }
     ensures kept { KeepsBlocks (table_of space.old.table.entries) (table_of space.new.table.entries)
         (held_in nodes.old) (held_in nodes.new) }
     ensures names { (space.new.names ≡ space.old.names) × (space.new.grown ≡ space.old.grown) }
     ensures rest { SameNodes nodes.old nodes.new }
     ensures links { (d : List ℕ) (block link : ℕ) → undisturbed_in nodes.new d block link ≡ undisturbed_in nodes.old d block link }
 {
-    let id = space.add_block(alloc, bytes.len() as u64)?;
-    nodes.hold(alloc, id, bytes)?;
+    let listed = nodes.lowest(alloc, replication)?;
+    let id = space.add_block(bytes.len() as u64, listed)?;
+    nodes.hold(alloc, replication, id, &bytes)?;
     Ok(id)
 }
 
@@ -48,11 +51,12 @@ fn store_bytes(
     alloc: Global,
     space: &mut Namespace,
     nodes: &mut Datanodes,
-    block_size: u64,
+    attributes: &Attributes,
     bytes: Bytes,
 ) -> Result<List<u64>, NoMemory>
-    requires { 0 < block_size }
-    ensures cut { IfOk result (λ ids. IsCut (table_of space.new.table.entries) (held_in nodes.new) block_size ids bytes) }
+    requires { 0 < attributes.now.block_size }
+    ensures cut { IfOk result (λ ids. IsCut (table_of space.new.table.entries) (held_in nodes.new)
+        (lowest (min attributes.now.replication nodes.old.count)) attributes.now.block_size ids bytes) }
     ensures kept { KeepsBlocks (table_of space.old.table.entries) (table_of space.new.table.entries)
         (held_in nodes.old) (held_in nodes.new) }
     ensures new { IfOk result (AreNew (get_by_text space.old.names)) }
@@ -63,9 +67,9 @@ fn store_bytes(
     let mut ids = List::new(alloc);
     let mut left = bytes;
     while !left.is_empty() {
-        let count = block_size.min(left.len() as u64) as usize;
+        let count = attributes.block_size.min(left.len() as u64) as usize;
         let front = left.split_to(count)?;
-        ids.push(store_block(alloc, space, nodes, front)?)?;
+        ids.push(store_block(alloc, space, nodes, attributes.replication, front)?)?;
     }
     Ok(ids)
 }
@@ -80,13 +84,14 @@ pub(crate) fn store_file(
     bytes: Bytes,
 ) -> Result<(), NoMemory>
     requires place { IsPlace (get_by_text space.old.names) (string_bytes path) }
-    requires numbers { (0 < attributes.now.block_size) × (length bytes < 2 ^ 63) }
+    requires numbers { (0 < attributes.now.block_size) × (0 < attributes.now.replication) × (length bytes < 2 ^ 63) }
     ensures files { OnOk result ((settings : MemSettings) (links : Slab MemLink) (state : State)
         → Agrees (Some (picture_at space.old nodes.old settings links)) state.files
         → Agrees (Some (picture_at space.new nodes.new settings links)) (with_file state (string_bytes path)
         (record { bytes = bytes; attributes = attributes.now })).files) }
     ensures cut { OnOk result ((file : FileEntry) × (get_by_text space.new.names (string_bytes path) ≡ Some (entries.File file))
-        × IsCut (table_of space.new.table.entries) (held_in nodes.new) attributes.now.block_size file.blocks bytes) }
+        × IsCut (table_of space.new.table.entries) (held_in nodes.new) (lowest (min attributes.now.replication nodes.old.count))
+        attributes.now.block_size file.blocks bytes) }
     ensures rest { SameNodes nodes.old nodes.new }
     ensures links { (d : List ℕ) (block link : ℕ) → undisturbed_in nodes.new d block link ≡ undisturbed_in nodes.old d block link }
     ensures kept { KeepsBlocks (table_of space.old.table.entries) (table_of space.new.table.entries)
@@ -94,7 +99,7 @@ pub(crate) fn store_file(
     ensures err { OnErr result (space.new.names.entries ≡ space.old.names.entries) }
 {
     let sum = bytes.len() as u64;
-    let blocks = store_bytes(alloc, space, nodes, attributes.block_size, bytes)?;
+    let blocks = store_bytes(alloc, space, nodes, attributes, bytes)?;
     let file = FileEntry {
         attributes: *attributes,
         blocks,

@@ -1,5 +1,5 @@
 -- A file at its place, whose blocks store its bytes.
-use Rattle.std.proofs.Common.{Bool, false, cond, Some, refl, sym, ◌∙◌, ap, subst}
+use Rattle.std.proofs.Common.{◌<◌, min, arith, Bool, false, cond, Some, refl, sym, ◌∙◌, ap, subst}
 use Rattle.std.proofs.lemmas.Result.{on_ok_weaker}
 use Rattle.std.proofs.lemmas.Slice.Eq.{bytes_eq-Decides}
 use Rattle.std.specs.BTreeMap.{get_by_text}
@@ -12,17 +12,19 @@ use Rattle.hdfs_cluster.specs.Cutting.{IsCut}
 use Rattle.hdfs_namespace.specs.Memory.{table_of}
 use Rattle.hdfs_cluster.specs.MemShown.{picture_at}
 use Rattle.hdfs_replicas.specs.Nodes.{held_in}
+use Rattle.hdfs_replicas.specs.Uuids.{lowest}
+use Rattle.hdfs_replicas.proofs.Lowest.{lowest_some}
 use Rattle.hdfs_cluster.proofs.Agreeing.{agrees_with_new, stores_in}
 use Rattle.hdfs_cluster.proofs.Cutting.{sized_cut, stores_cut, total_cut}
 use Rattle.hdfs_cluster.proofs.storing.store_file.Goals as goal
 
 pub add_file-requires-clause-sized : goal.add_file-requires-clause-sized
 add_file-requires-clause-sized c =
-    sized_cut (table_of c.store_bytes.new.space.table.entries) (held_in c.store_bytes.new.nodes) c.args.attributes.now.block_size c.in_ok-blocks.blocks c.args.bytes c.in_ok-blocks.ensures.cut c.requires.numbers.1
+    sized_cut (table_of c.store_bytes.new.space.table.entries) (held_in c.store_bytes.new.nodes) (lowest (min c.args.attributes.now.replication c.args.nodes.now.count)) c.args.attributes.now.block_size c.in_ok-blocks.blocks c.args.bytes c.in_ok-blocks.ensures.cut c.requires.numbers.2
 
 pub add_file-requires-clause-sums : goal.add_file-requires-clause-sums
 add_file-requires-clause-sums c =
-    total_cut (table_of c.store_bytes.new.space.table.entries) (held_in c.store_bytes.new.nodes) c.args.attributes.now.block_size c.in_ok-blocks.blocks c.args.bytes c.in_ok-blocks.ensures.cut
+    total_cut (table_of c.store_bytes.new.space.table.entries) (held_in c.store_bytes.new.nodes) (lowest (min c.args.attributes.now.replication c.args.nodes.now.count)) c.args.attributes.now.block_size c.in_ok-blocks.blocks c.args.bytes c.in_ok-blocks.ensures.cut
     ∙ ap Some (sym c.len-sum.ensures.value)
 
 pub returns-clause-files : goal.returns-clause-files
@@ -35,8 +37,10 @@ returns-clause-files c =
     let file : FileEntry = record { attributes = attributes; blocks = blocks; is_open = false } in
     let content : Content = record { bytes = bytes; attributes = attributes } in
     let held = held_in c.store_bytes.new.nodes in
-    let cut = subst (λ table. IsCut (table_of table.entries) held attributes.block_size blocks bytes) (sym c.add_file.ensures.table) c.in_ok-blocks.ensures.cut in
-    let stores = stores_cut (table_of c.add_file.new.self.table.entries) held attributes.block_size blocks bytes cut in
+    let most = min attributes.replication c.args.nodes.now.count in
+    let cut = subst (λ table. IsCut (table_of table.entries) held (lowest most) attributes.block_size blocks bytes) (sym c.add_file.ensures.table) c.in_ok-blocks.ensures.cut in
+    let some : 0 < most = omega (arith, c.requires.numbers.1, c.args.nodes.now.some) in
+    let stores = stores_cut (table_of c.add_file.new.self.table.entries) held (lowest most) attributes.block_size (lowest_some most some) blocks bytes cut in
     let kept = subst (λ table. KeepsBlocks (table_of space.table.entries) (table_of table.entries) (held_in c.args.nodes.now) held) (sym c.add_file.ensures.table) c.store_bytes.ensures.kept in
     on_ok_weaker c.add_file.result
     (λ named settings links state was.
@@ -52,7 +56,7 @@ returns-clause-cut c =
     let attributes = c.args.attributes.now in
     let path = string_bytes c.args.path in
     let file : FileEntry = record { attributes = attributes; blocks = c.in_ok-blocks.blocks; is_open = false } in
-    let cut = subst (λ table. IsCut (table_of table.entries) (held_in c.store_bytes.new.nodes) attributes.block_size c.in_ok-blocks.blocks c.args.bytes) (sym c.add_file.ensures.table) c.in_ok-blocks.ensures.cut in
+    let cut = subst (λ table. IsCut (table_of table.entries) (held_in c.store_bytes.new.nodes) (lowest (min attributes.replication c.args.nodes.now.count)) attributes.block_size c.in_ok-blocks.blocks c.args.bytes) (sym c.add_file.ensures.table) c.in_ok-blocks.ensures.cut in
     on_ok_weaker c.add_file.result
     (λ named. (file, named path ∙ ap (λ (b : Bool). cond b (Some (entries.File file)) (get_by_text c.store_bytes.new.space.names path)) ((bytes_eq-Decides path path).1 refl), cut))
     c.add_file.ensures.ok

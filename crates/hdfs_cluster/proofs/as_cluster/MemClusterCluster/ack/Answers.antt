@@ -5,9 +5,9 @@ use Rattle.slab.specs.Slab as slab
 use Rattle.slab.specs.Slab.{with_value}
 use Rattle.hdfs_model.specs.declared.asks.LinkFault.TheVariants as link_faults
 use Rattle.hdfs_cluster.specs.Lines.{line_of}
-use Rattle.hdfs_cluster.specs.Links.{write_told}
+use Rattle.hdfs_cluster.specs.Links.{write_told, UnackedOn}
 use Rattle.hdfs_cluster.proofs.Acknowledging.{acknowledged_on, awaited, awaited_on}
-use Rattle.hdfs_cluster.proofs.Asking.{acks_follow_on, asks_ack_on}
+use Rattle.hdfs_cluster.proofs.Asking.{acks_earlier, acks_follow_on, asks_ack_on}
 use Rattle.hdfs_cluster.proofs.Counting.{counts_nothing, falls_same}
 use Rattle.hdfs_cluster.proofs.NothingLoaded.{on_err}
 use Rattle.hdfs_replicas.proofs.Pipelines.{same_nodes_refl, same_held_refl}
@@ -19,7 +19,13 @@ pub ack-requires : goal.ack-requires
 ack-requires c = awaited_on c.in-Some.open.now c.requires.0 (ap write_told c.in-Some.ensures.value ∙ c.requires.1) c.requires.2
 
 pub invariant_of-self : goal.invariant_of-self
-invariant_of-self c = record { follows = acks_follow_on _ c.args.link c.ack.result c.args.self.now.faults c.ack.new.faults (map line_of c.args.self.now.loaded.items) c.in-Some.open.now c.ack.new.self c.ack.ensures.ok c.ack.ensures.err c.args.self.now.follows }
+invariant_of-self c =
+    let m = c.args.self.now in
+    let o = c.in-Some.open.now in
+    record {
+      follows = acks_follow_on _ c.args.link c.ack.result m.faults c.ack.new.faults (map line_of m.loaded.items) o c.ack.new.self c.ack.ensures.ok c.ack.ensures.err m.follows;
+      earlier = acks_earlier UnackedOn m.links c.args.link c.ack.result m.faults c.ack.new.faults o c.ack.new.self c.ack.ensures.ok c.ack.ensures.err (sym c.in-Some.ensures.value) m.earlier;
+    }
 
 pub returns-in_err-ack-clause-err : goal.returns-in_err-ack-clause-err
 returns-in_err-ack-clause-err c =

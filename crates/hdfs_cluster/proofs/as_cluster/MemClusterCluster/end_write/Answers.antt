@@ -5,10 +5,18 @@ use Rattle.hdfs_faults.proofs.Following.{end_follows}
 use Rattle.hdfs_cluster.proofs.Acknowledging.{ended_write}
 use Rattle.hdfs_cluster.proofs.Asking.{counts_end}
 use Rattle.hdfs_cluster.proofs.Counting.{falls_end}
+use Rattle.hdfs_cluster.proofs.Earlier.{changed_earlier, later_earlier}
 use Rattle.hdfs_cluster.proofs.as_cluster.MemClusterCluster.end_write.Goals as goal
 
 pub invariant_of-self : goal.invariant_of-self
-invariant_of-self c = record { follows = end_follows c.args.self.now.faults c.end.new.self (map line_of c.args.self.now.loaded.items) c.args.link c.end.ensures c.args.self.now.follows }
+invariant_of-self c =
+    let m = c.args.self.now in
+    let faults' = c.end.new.self in
+    record {
+      follows = end_follows m.faults faults' (map line_of m.loaded.items) c.args.link c.end.ensures m.follows;
+      earlier = changed_earlier m.links c.try_remove-gone.new.self faults' c.args.link None c.try_remove-gone.ensures.updates (λ read is. absurd (cc))
+          (later_earlier m.links m.faults faults' (falls_end m.faults faults' c.args.link c.end.ensures) m.earlier);
+    }
 
 pub returns-clause-ends : goal.returns-clause-ends
 returns-clause-ends c =

@@ -14,6 +14,7 @@ use Rattle.hdfs_cluster.specs.Links.{write_told}
 use Rattle.hdfs_replicas.specs.Nodes.{held_in, is_named}
 use Rattle.hdfs_cluster.proofs.Asking.{asks_forgotten, asks_no_set_up, asks_set_up, counted_failure}
 use Rattle.hdfs_cluster.proofs.Counting.{falls_end, falls_refl, falls_same_plan, falls_set_up, falls_trans, rose_set_up}
+use Rattle.hdfs_cluster.proofs.Earlier.{changed_earlier, later_earlier, same_earlier}
 use Rattle.hdfs_cluster.proofs.Stills.{shown_at}
 use Rattle.hdfs_cluster.proofs.Writing.{opened_write, not_opened_write}
 use Rattle.hdfs_cluster.proofs.as_cluster.MemClusterCluster.open_write.Goals as goal
@@ -45,7 +46,11 @@ returns-in_err-reserve-clause-asks c =
 pub invariant_of-self-in-Break-branch-3 : goal.invariant_of-self-in-Break-branch-3
 invariant_of-self-in-Break-branch-3 c =
     let m = c.args.self.now in
-    record { follows = same_follows c.end.new.self c.set_up.new.self (map line_of m.loaded.items) c.in_err-kind.ensures.err (end_follows m.faults c.end.new.self (map line_of m.loaded.items) c.vacant_key-key.result c.end.ensures m.follows) }
+    let fall = falls_trans m.faults c.end.new.self c.set_up.new.self (falls_end m.faults c.end.new.self c.vacant_key-key.result c.end.ensures) (falls_same_plan c.end.new.self c.set_up.new.self c.in_err-kind.ensures.err) in
+    record {
+      follows = same_follows c.end.new.self c.set_up.new.self (map line_of m.loaded.items) c.in_err-kind.ensures.err (end_follows m.faults c.end.new.self (map line_of m.loaded.items) c.vacant_key-key.result c.end.ensures m.follows);
+      earlier = same_earlier m.links c.reserve.new.self c.set_up.new.self (λ l. ap (λ s. slab.get s l) c.reserve.ensures.rest_kept) (later_earlier m.links m.faults c.set_up.new.self fall m.earlier);
+    }
 
 pub returns-in_err-kind-clause-err : goal.returns-in_err-kind-clause-err
 returns-in_err-kind-clause-err c =
@@ -63,7 +68,11 @@ returns-in_err-kind-clause-asks c =
 pub invariant_of-self-in-Some-1 : goal.invariant_of-self-in-Some-1
 invariant_of-self-in-Some-1 c =
     let m = c.args.self.now in
-    record { follows = set_up_follows c.end.new.self c.set_up.new.self (map line_of m.loaded.items) c.vacant_key-key.result c.in_ok-kind.kind c.in_ok-kind.ensures.ok (end_follows m.faults c.end.new.self (map line_of m.loaded.items) c.vacant_key-key.result c.end.ensures m.follows) }
+    let fall = falls_trans m.faults c.end.new.self c.set_up.new.self (falls_end m.faults c.end.new.self c.vacant_key-key.result c.end.ensures) (falls_set_up c.end.new.self c.set_up.new.self c.vacant_key-key.result c.in_ok-kind.kind c.in_ok-kind.ensures.ok) in
+    record {
+      follows = set_up_follows c.end.new.self c.set_up.new.self (map line_of m.loaded.items) c.vacant_key-key.result c.in_ok-kind.kind c.in_ok-kind.ensures.ok (end_follows m.faults c.end.new.self (map line_of m.loaded.items) c.vacant_key-key.result c.end.ensures m.follows);
+      earlier = same_earlier m.links c.reserve.new.self c.set_up.new.self (λ l. ap (λ s. slab.get s l) c.reserve.ensures.rest_kept) (later_earlier m.links m.faults c.set_up.new.self fall m.earlier);
+    }
 
 pub returns-in-Some-clause-err : goal.returns-in-Some-clause-err
 returns-in-Some-clause-err c =
@@ -81,7 +90,12 @@ returns-in-Some-clause-asks c =
 pub invariant_of-self-2 : goal.invariant_of-self-2
 invariant_of-self-2 c =
     let m = c.args.self.now in
-    record { follows = set_up_follows c.end.new.self c.set_up.new.self (map line_of m.loaded.items) c.vacant_key-key.result c.in_ok-kind.kind c.in_ok-kind.ensures.ok (end_follows m.faults c.end.new.self (map line_of m.loaded.items) c.vacant_key-key.result c.end.ensures m.follows) }
+    let fall = falls_trans m.faults c.end.new.self c.set_up.new.self (falls_end m.faults c.end.new.self c.vacant_key-key.result c.end.ensures) (falls_set_up c.end.new.self c.set_up.new.self c.vacant_key-key.result c.in_ok-kind.kind c.in_ok-kind.ensures.ok) in
+    record {
+      follows = set_up_follows c.end.new.self c.set_up.new.self (map line_of m.loaded.items) c.vacant_key-key.result c.in_ok-kind.kind c.in_ok-kind.ensures.ok (end_follows m.faults c.end.new.self (map line_of m.loaded.items) c.vacant_key-key.result c.end.ensures m.follows);
+      earlier = changed_earlier c.reserve.new.self c.insert_reserved.new.self c.set_up.new.self c.insert_reserved.result (Some (links.Write c.new-write.result)) c.insert_reserved.ensures.updates (λ read is. absurd (cc))
+          (same_earlier m.links c.reserve.new.self c.set_up.new.self (λ l. ap (λ s. slab.get s l) c.reserve.ensures.rest_kept) (later_earlier m.links m.faults c.set_up.new.self fall m.earlier));
+    }
 
 pub returns-clause-ok : goal.returns-clause-ok
 returns-clause-ok c =

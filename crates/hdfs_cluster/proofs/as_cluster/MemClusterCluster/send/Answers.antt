@@ -5,8 +5,8 @@ use Rattle.slab.specs.Slab as slab
 use Rattle.slab.specs.Slab.{with_value}
 use Rattle.hdfs_model.specs.declared.asks.LinkFault.TheVariants as link_faults
 use Rattle.hdfs_cluster.specs.Lines.{line_of}
-use Rattle.hdfs_cluster.specs.Links.{write_told, OnWrites, SendsOn, among}
-use Rattle.hdfs_cluster.proofs.Asking.{asks_no_send, asks_send, sends_follow_on}
+use Rattle.hdfs_cluster.specs.Links.{write_told, OnWrites, SendsOn, UnsentOn, among}
+use Rattle.hdfs_cluster.proofs.Asking.{asks_no_send, asks_send, sends_earlier, sends_follow_on}
 use Rattle.hdfs_cluster.proofs.Counting.{falls_refl, falls_same}
 use Rattle.hdfs_cluster.proofs.NothingLoaded.{on_err}
 use Rattle.hdfs_cluster.proofs.Places.{updates_with, on_write}
@@ -18,7 +18,13 @@ pub send-requires : goal.send-requires
 send-requires c = on_write c.in-Some.open.now c.requires.0 (ap write_told c.in-Some.ensures.value ∙ c.requires.1)
 
 pub invariant_of-self : goal.invariant_of-self
-invariant_of-self c = record { follows = sends_follow_on _ c.args.link c.args.packet.now c.send.result c.args.self.now.nodes c.send.new.nodes c.args.self.now.faults c.send.new.faults (map line_of c.args.self.now.loaded.items) c.in-Some.open.now c.send.new.self c.send.ensures.ok c.send.ensures.err c.args.self.now.follows }
+invariant_of-self c =
+    let m = c.args.self.now in
+    let o = c.in-Some.open.now in
+    record {
+      follows = sends_follow_on _ c.args.link c.args.packet.now c.send.result m.nodes c.send.new.nodes m.faults c.send.new.faults (map line_of m.loaded.items) o c.send.new.self c.send.ensures.ok c.send.ensures.err m.follows;
+      earlier = sends_earlier (UnsentOn m.nodes c.send.new.nodes) m.links c.args.link c.args.packet.now c.send.result m.nodes c.send.new.nodes m.faults c.send.new.faults o c.send.new.self c.send.ensures.ok c.send.ensures.err (sym c.in-Some.ensures.value) m.earlier;
+    }
 
 pub returns-in_err-send-clause-err : goal.returns-in_err-send-clause-err
 returns-in_err-send-clause-err c =

@@ -4,7 +4,7 @@ use Rattle.std.proofs.lemmas.Result.{MatchResult-weaker}
 use Rattle.hdfs_model.specs.declared.store.Line.{Line}
 use Rattle.hdfs_model.specs.Loading.{takes}
 use Rattle.hdfs_cluster.specs.Cutting.{CutsLine}
-use Rattle.hdfs_cluster.specs.MemShown.{picture_of}
+use Rattle.hdfs_cluster.specs.MemShown.{nodes_of, picture_of}
 use Rattle.hdfs_cluster.proofs.Taking.{free_alike, takes_accepts}
 use Rattle.hdfs_cluster.proofs.as_store.MemClusterStore.load.Goals as goal
 
@@ -19,4 +19,4 @@ returns-in-File-clause-exact c = λ state agrees.
     MatchResult-weaker c.load_file.result c.load_file.ensures.exact (λ done taken. same ∙ taken) (λ fault refused is. same ∙ refused is)
 
 pub returns-in-File-clause-cut : goal.returns-in-File-clause-cut
-returns-in-File-clause-cut c = subst (λ (line : Line). OnOk c.load_file.result (CutsLine (picture_of c.load_file.new.self) line)) (sym c.in-File.is) c.load_file.ensures.cut
+returns-in-File-clause-cut c = subst (λ (line : Line). OnOk c.load_file.result (CutsLine (nodes_of c.load_file.new.self) (picture_of c.load_file.new.self) line)) (sym c.in-File.is) c.load_file.ensures.cut

@@ -15,6 +15,8 @@ use Rattle.hdfs_namespace.specs.Memory.{is_nil}
 use Rattle.hdfs_cluster.specs.MemShown.{loaded_at, is_fresh_of}
 use Rattle.hdfs_replicas.specs.Nodes.{node_at, undisturbed_in, Joins}
 use Rattle.hdfs_replicas.specs.Replicas.{held_by, undisturbed_by}
+use Rattle.hdfs_cluster.proofs.Counting.{falls_adds}
+use Rattle.hdfs_cluster.proofs.Earlier.{later_earlier}
 use Rattle.hdfs_cluster.proofs.NothingLoaded.{on_err}
 use Rattle.hdfs_cluster.proofs.Places.{place_same}
 use Rattle.hdfs_cluster.proofs.as_store.MemClusterStore.prepare.Goals as goal
@@ -30,10 +32,16 @@ same_links : (old new : Datanodes) → ((d : List ℕ) → Joins (node_at old d)
 same_links old new joins d b link = ap (λ o. undisturbed_by o link) ((joins d).replicas b)
 
 pub invariant_of-self-2 : goal.invariant_of-self-2
-invariant_of-self-2 c = record { follows = follows_more c.args.self.now c.add_nodes.new.self c.requires.fresh c.add_nodes.ensures.rest }
+invariant_of-self-2 c =
+    let m = c.args.self.now in
+    let adds = c.add_nodes.ensures.rest in
+    record { follows = follows_more m c.add_nodes.new.self c.requires.fresh adds; earlier = later_earlier m.links m.faults c.add_nodes.new.self (falls_adds m.faults c.add_nodes.new.self adds) m.earlier }
 
 pub invariant_of-self-in-Break-branch-2 : goal.invariant_of-self-in-Break-branch-2
-invariant_of-self-in-Break-branch-2 c = record { follows = follows_more c.args.self.now c.add_nodes.new.self c.requires.fresh c.add_nodes.ensures.rest }
+invariant_of-self-in-Break-branch-2 c =
+    let m = c.args.self.now in
+    let adds = c.add_nodes.ensures.rest in
+    record { follows = follows_more m c.add_nodes.new.self c.requires.fresh adds; earlier = later_earlier m.links m.faults c.add_nodes.new.self (falls_adds m.faults c.add_nodes.new.self adds) m.earlier }
 
 pub returns-in_err-grow-clause-err : goal.returns-in_err-grow-clause-err
 returns-in_err-grow-clause-err c =

@@ -1,5 +1,5 @@
 -- A new cluster shows the root alone.
-use Rattle.std.proofs.Common.{ℕ, ◌<◌, List, None, map, refl, sym, ◌∙◌, ap, subst}
+use Rattle.std.proofs.Common.{◌≡◌, ℕ, ◌<◌, List, Some, None, map, refl, sym, ◌∙◌, ap, subst}
 use Rattle.hdfs_faults.specs.Following.{Follows}
 use Rattle.hdfs_faults.proofs.Following.{new_follows}
 use Rattle.std.specs.List.{slice_index_or}
@@ -50,4 +50,9 @@ returns-clause-asked c = record {
 }
 
 pub invariant_of-result : goal.invariant_of-result
-invariant_of-result c = record { follows = subst (λ (xs : List Kept). Follows c.in_ok-new-3.field-0 (map line_of xs)) (sym c.new-6.ensures.items) (new_follows c.in_ok-new-3.field-0 c.in_ok-new-3.ensures.new) }
+invariant_of-result c = record {
+  follows = subst (λ (xs : List Kept). Follows c.in_ok-new-3.field-0 (map line_of xs)) (sym c.new-6.ensures.items) (new_follows c.in_ok-new-3.field-0 c.in_ok-new-3.ensures.new);
+  earlier = λ link read is.
+      (let none : read_told None ≡ Some read = sym (ap (λ slots. read_told (slice_index_or slots link None)) c.new-4.ensures.empty) ∙ is in
+      absurd (cc));
+}

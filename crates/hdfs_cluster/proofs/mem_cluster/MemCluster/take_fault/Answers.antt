@@ -7,20 +7,25 @@ use Rattle.hdfs_cluster.specs.declared.loaded.Kept.{Kept}
 use Rattle.hdfs_cluster.specs.declared.loaded.Kept.TheVariants as keeps
 use Rattle.hdfs_cluster.specs.Lines.{line_of}
 use Rattle.hdfs_cluster.specs.MemShown.{loaded_at}
+use Rattle.hdfs_cluster.proofs.Counting.{falls_fault}
+use Rattle.hdfs_cluster.proofs.Earlier.{later_earlier}
 use Rattle.hdfs_cluster.proofs.NothingLoaded.{follows_push, on_err}
 use Rattle.hdfs_cluster.proofs.mem_cluster.MemCluster.take_fault.Goals as goal
 
 pub invariant_of-self : goal.invariant_of-self
 invariant_of-self c =
     let m = c.args.self.now in
-    record { follows = subst (λ (xs : List Kept). Follows m.faults (map line_of xs)) (sym c.reserve.ensures.items) m.follows }
+    record { earlier = m.earlier; follows = subst (λ (xs : List Kept). Follows m.faults (map line_of xs)) (sym c.reserve.ensures.items) m.follows }
 
 pub invariant_of-self-2 : goal.invariant_of-self-2
 invariant_of-self-2 c =
     let m = c.args.self.now in
     let kept = keeps.Fault c.args.fault in
     let items : c.push_reserved.new.self.items ≡ m.loaded.items ++ kept ∷ [] = c.push_reserved.ensures.items ∙ ap (λ (xs : List Kept). xs ++ kept ∷ []) c.reserve.ensures.items in
-    record { follows = follows_push c.plan.new.self m.loaded.items c.push_reserved.new.self.items kept items (plan_follows m.faults c.plan.new.self (map line_of m.loaded.items) c.args.fault c.in_ok-plan.ensures.ok m.follows) }
+    record {
+      follows = follows_push c.plan.new.self m.loaded.items c.push_reserved.new.self.items kept items (plan_follows m.faults c.plan.new.self (map line_of m.loaded.items) c.args.fault c.in_ok-plan.ensures.ok m.follows);
+      earlier = later_earlier m.links m.faults c.plan.new.self (falls_fault m.faults c.plan.new.self c.args.fault c.in_ok-plan.ensures.ok) m.earlier;
+    }
 
 pub returns-clause-loads : goal.returns-clause-loads
 returns-clause-loads c =

@@ -1,5 +1,5 @@
 -- The file is stored with its line, or the blocks that were taken for it belong to no file.
-use Rattle.std.proofs.Common.{◌≡◌, ℕ, List, [], ◌∷◌, ◌++◌, map, Some, refl, ◌∙◌, ap, subst, rules}
+use Rattle.std.proofs.Common.{◌≡◌, ℕ, ◌<◌, ◌^◌, min, length, List, [], ◌∷◌, ◌++◌, map, Some, refl, sym, ◌∙◌, ap, subst, rules}
 use Rattle.std.specs.BTreeMap.{get_by_text}
 use Rattle.std.specs.String.{string_bytes}
 use Rattle.std.proofs.lemmas.List.{map-append}
@@ -9,15 +9,29 @@ use Rattle.hdfs_model.specs.declared.store.Line.TheVariants as lines
 use Rattle.hdfs_model.specs.Loading.{with_file}
 use Rattle.hdfs_model.specs.Stores.{Agrees}
 use Rattle.hdfs_cluster.specs.Cutting.{IsCut}
+use Rattle.hdfs_namespace.specs.Adding.{IsPlace}
 use Rattle.hdfs_namespace.specs.Memory.{table_of}
 use Rattle.hdfs_cluster.specs.MemShown.{picture_at}
 use Rattle.hdfs_replicas.specs.Nodes.{held_in}
+use Rattle.hdfs_replicas.specs.Uuids.{lowest}
 use Rattle.hdfs_cluster.specs.declared.loaded.Kept.{Kept}
 use Rattle.hdfs_cluster.specs.declared.loaded.Kept.TheVariants as keeps
 use Rattle.hdfs_cluster.specs.Lines.{line_of}
 use Rattle.hdfs_faults.proofs.Following.{other_follows}
 use Rattle.hdfs_cluster.proofs.NothingLoaded.{follows_push, on_err, loads_at, nothing_loaded}
+use Rattle.hdfs_cluster.proofs.Taking.{accepted_numbers, accepted_place}
 use Rattle.hdfs_cluster.proofs.mem_cluster.MemCluster.take_file.Goals as goal
+
+pub store_file-requires-clause-place : goal.store_file-requires-clause-place
+store_file-requires-clause-place c =
+    let names = get_by_text c.args.self.now.space.names in
+    let name : string_bytes c.in_ok-name.name ≡ c.args.path = search rules in
+    subst (IsPlace names) (sym name) (accepted_place names c.args.path c.args.attributes (length c.args.bytes) c.requires)
+
+pub store_file-requires-clause-numbers : goal.store_file-requires-clause-numbers
+store_file-requires-clause-numbers c =
+    let numbers = accepted_numbers (get_by_text c.args.self.now.space.names) c.args.path c.args.attributes (length c.args.bytes) c.requires in
+    (numbers.0, numbers.1, subst (λ (bytes : List ℕ). length bytes < 2 ^ 63) (sym c.in_ok-bytes.ensures.1) numbers.2)
 
 pub returns-in_err-store_file-clause-err : goal.returns-in_err-store_file-clause-err
 returns-in_err-store_file-clause-err c =
@@ -54,12 +68,15 @@ returns-clause-cut c =
     let table = table_of c.store_file.new.space.table.entries in
     let held = held_in c.store_file.new.nodes in
     let size = c.args.attributes.block_size in
-    subst (λ (path : List ℕ). (file : FileEntry) × (names path ≡ Some (entries.File file)) × IsCut table held size file.blocks c.args.bytes) name
-    (subst (λ (bytes : List ℕ). (file : FileEntry) × (names (string_bytes c.in_ok-name.name) ≡ Some (entries.File file)) × IsCut table held size file.blocks bytes) c.in_ok-bytes.ensures.1 c.in_ok-store_file.ensures.cut)
+    let count = c.store_file.new.nodes.count in
+    let nodes = λ (n : ℕ). lowest (min c.args.attributes.replication n) in
+    subst (λ (path : List ℕ). (file : FileEntry) × (names path ≡ Some (entries.File file)) × IsCut table held (nodes count) size file.blocks c.args.bytes) name
+    (subst (λ (bytes : List ℕ). (file : FileEntry) × (names (string_bytes c.in_ok-name.name) ≡ Some (entries.File file)) × IsCut table held (nodes count) size file.blocks bytes) c.in_ok-bytes.ensures.1
+    (subst (λ (n : ℕ). (file : FileEntry) × (names (string_bytes c.in_ok-name.name) ≡ Some (entries.File file)) × IsCut table held (nodes n) size file.blocks c.in_ok-bytes.held) (sym c.store_file.ensures.rest.count) c.in_ok-store_file.ensures.cut))
 
 pub invariant_of-self-2 : goal.invariant_of-self-2
 invariant_of-self-2 c =
     let m = c.args.self.now in
     let kept = keeps.File c.args.path c.args.attributes c.in_ok-bytes.bytes in
     let items : c.push_reserved.new.self.items ≡ m.loaded.items ++ kept ∷ [] = c.push_reserved.ensures.items ∙ ap (λ (xs : List Kept). xs ++ kept ∷ []) c.reserve.ensures.items in
-    record { follows = follows_push m.faults m.loaded.items c.push_reserved.new.self.items kept items (other_follows m.faults (map line_of m.loaded.items) (line_of kept) refl m.follows) }
+    record { earlier = m.earlier; follows = follows_push m.faults m.loaded.items c.push_reserved.new.self.items kept items (other_follows m.faults (map line_of m.loaded.items) (line_of kept) refl m.follows) }
