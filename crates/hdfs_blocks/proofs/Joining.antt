@@ -8,9 +8,10 @@ use Rattle.hdfs_model.specs.Picture.{Picture, SameFiles, Told}
 use Rattle.hdfs_model.specs.Shown.{Shown, OnlyReads}
 use Rattle.hdfs_model.proofs.Frames.{told_after, told_join, only_reads_trans, never_fall_trans}
 use Rattle.hdfs_blocks.specs.Blocks.{node_at}
-use Rattle.hdfs_blocks.specs.Reader.{Stands, OthersStay, Keeps, Reads, Over, Blamed, stage_of, GaveUp, GivesUp}
+use Rattle.hdfs_blocks.specs.Reader.{tried_of, Stands, OthersStay, Keeps, Reads, ShowsBlock, Over, Blamed, stage_of, GaveUp, GivesUp}
 use Rattle.hdfs_blocks.specs.Going.{Frame, Goes}
 use Rattle.hdfs_blocks.specs.declared.block_read.BlockRead.{BlockRead}
+use Rattle.hdfs_blocks.proofs.Locations.{grows, locations_trans}
 use Rattle.hdfs_blocks.proofs.Listing.{gave_up_before, gave_up_trans, gave_up_opened, gave_up_blamed, blame_after}
 
 -- an open link is there or not
@@ -79,22 +80,31 @@ module _ (s t u : Shown) (q r w : BlockRead) where
   }
 
   -- the locations that both gave up
-  gives_up_trans : Goes s t q r → Goes t u r w → GivesUp s u q w
-  gives_up_trans f g bytes shows =
-      let first = f.gives_up bytes shows in
-      let mid = f.shows bytes shows in
-      let second = g.gives_up bytes mid in
-      let same = same_files_shown s t shows.picture mid.picture f.frame.only shows.told mid.told in
-      let moved = subst (λ (b : LocatedBlock). GaveUp mid.picture b bytes second.0 (stage_of t r) (stage_of u w)) f.frame.block second.1 in
+  gives_up_trans : Frame s t q r → ((bytes : List ℕ) → ShowsBlock s q bytes → ShowsBlock t r bytes) → GivesUp s t q r → GivesUp t u r w → GivesUp s u q w
+  gives_up_trans frame goes_on before after bytes shows =
+      let first = before bytes shows in
+      let mid = goes_on bytes shows in
+      let second = after bytes mid in
+      let same = same_files_shown s t shows.picture mid.picture frame.only shows.told mid.told in
+      let moved = subst (λ (b : LocatedBlock). GaveUp mid.picture b bytes second.0 (stage_of t r) (stage_of u w)) frame.block second.1 in
       gave_up_trans shows.picture q.block bytes first.0 second.0 (stage_of s q) (stage_of t r) (stage_of u w) first.1
       (gave_up_before shows.picture mid.picture q.block bytes second.0 (stage_of t r) (stage_of u w) same moved)
+
+  -- what is read over both
+  pub reads_joined : Frame s t q r → Reads s t q r → Reads t u r w → Reads s u q w
+  reads_joined frame before after = record {
+    shows = λ bytes shows. after.shows bytes (before.shows bytes shows);
+    over = λ start bytes over. after.over start bytes (before.over start bytes over);
+    gives_up = gives_up_trans frame before.shows before.gives_up after.gives_up;
+  }
 
   -- all that stays over both
   pub goes_trans : Goes s t q r → Goes t u r w → Goes s u q w
   goes_trans f g = record {
     frame = frame_trans f.frame g.frame;
     shows = λ bytes shows. g.shows bytes (f.shows bytes shows);
-    gives_up = gives_up_trans f g;
+    gives_up = gives_up_trans f.frame f.shows f.gives_up g.gives_up;
+    locations = locations_trans s t u q r w f.frame.block f.frame.only.later.counts g.frame.only.later.counts f.locations g.locations;
   }
 
 module _ (s t : Shown) (r r' : BlockRead) (goes : Goes s t r r') where
@@ -109,7 +119,7 @@ module _ (s t : Shown) (r r' : BlockRead) (goes : Goes s t r r') where
       record {
         shows = after;
         since = never_fall_trans start s.counts t.counts o.since goes.frame.only.later.counts;
-        opened = subst (λ (b : LocatedBlock). start.nodes (node_at b r'.tried) ≤ (stage_of t r').before) (sym goes.frame.block) opened;
+        opened = subst (λ (b : LocatedBlock). start.nodes (node_at b (tried_of r')) ≤ (stage_of t r').before) (sym goes.frame.block) opened;
         blamed = λ k lt. subst (λ (b : LocatedBlock). Blamed start t after.picture b bytes k) (sym goes.frame.block) (blame_after o.shows.picture after.picture r.block bytes k (start.nodes (node_at r.block k)) t.counts same (blamed k lt));
       }
 
@@ -121,6 +131,7 @@ module _ (s t : Shown) (r r' : BlockRead) (goes : Goes s t r r') where
   keeps_from-Goes stands = record {
     block = goes.frame.block;
     end = goes.frame.end;
+    given_up = grows s t r r' goes.locations;
     only = goes.frame.only;
     others = goes.frame.others;
     places = goes.frame.places;

@@ -1,16 +1,19 @@
 pub mod Awaiting
 pub mod Beginning
 pub mod Carried
+pub mod Connected
 pub mod Further
 pub mod Going
 pub mod Joining
 pub mod Links
 pub mod Listed
 pub mod Listing
+pub mod Locations
 pub mod OnlyBlocks
 pub mod Prefixes
 pub mod Ranges
 pub mod Starting
+pub mod Taking
 mod GivingUp
 mod Finishing
 mod Flushing

@@ -24,6 +24,6 @@ pub over_new : (shown : Shown) (reader : BlockRead) (bytes : List ℕ) → link_
 over_new shown reader bytes idle new shows = record {
   shows = shows;
   since = never_fall_refl shown.counts;
-  opened = subst (λ (link : Option ℕ). shown.counts.nodes (node_at reader.block reader.tried) ≤ before_link shown link (shown.counts.nodes (node_at reader.block reader.tried))) (sym idle) (omega arith);
+  opened = subst (λ (link : Option ℕ). shown.counts.nodes (node_at reader.block (tried_of reader)) ≤ before_link shown link (shown.counts.nodes (node_at reader.block (tried_of reader)))) (sym idle) (omega arith);
   blamed = λ k lt. absurd (omega (arith, lt, new));
 }

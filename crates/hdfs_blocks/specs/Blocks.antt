@@ -1,5 +1,7 @@
 -- The datanodes that are listed for a block, its locations.
-use Rattle.std.specs.Prelude.{◌⊎◌, ℕ, ◌<◌, List, [], length, slice_index_or}
+use Rattle.std.specs.Prelude.{◌⊎◌, ℕ, ◌<◌, List, [], ◌++◌, length, slice_index_or, codes}
+use Rattle.std.specs.Fmt.{decimal}
+use Rattle.hdfs_model.specs.declared.messages.DatanodeId.{DatanodeId}
 use Rattle.hdfs_model.specs.declared.messages.LocatedBlock.{LocatedBlock}
 use Rattle.hdfs_model.specs.Counts.{FaultCounts, Rose}
 use Rattle.hdfs_model.specs.Picture.{Picture}
@@ -8,6 +10,10 @@ use Rattle.hdfs_model.specs.Sending.{uuids}
 -- the datanode of the k-th location, by its uuid
 abbrev pub node_at : LocatedBlock → ℕ → List ℕ
 node_at block k = slice_index_or (uuids block.locs) k []
+
+-- the address of a datanode, as `10.0.0.1:9866`
+abbrev pub address_of_node : DatanodeId → List ℕ
+address_of_node node = node.ip_addr ++ codes ":" ++ decimal node.xfer_port
 
 -- how many datanodes are listed for a block
 abbrev pub node_count : LocatedBlock → ℕ

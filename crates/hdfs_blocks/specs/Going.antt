@@ -1,11 +1,14 @@
 -- How a reader goes on from call to call of a cluster. No public clause cites this module.
-use Rattle.std.specs.Prelude.{◌≡◌, ◌≢◌, ◌⊎◌, ℕ, ◌+◌, ◌-◌, ◌<◌, ◌≤◌, List, length, Option, Some, None, IsSome, Result, IfOk, option_map, unwrap_or}
+use Rattle.std.specs.Prelude.{◌≡◌, ◌≢◌, ◌⊎◌, ℕ, ◌+◌, ◌-◌, ◌*◌, ◌<◌, ◌≤◌, Bool, true, false, List, [], ◌∷◌, ◌++◌, length, Option, Some, None, IsSome, Result, IfOk, option_map, unwrap_or, if◌then◌else◌}
 use Rattle.hdfs_wire.specs.declared.values.NoMemory.{NoMemory}
+use Rattle.hdfs_model.specs.Counts.{Rose, RoseTwice}
 use Rattle.hdfs_model.specs.Picture.{Told}
 use Rattle.hdfs_model.specs.Shown.{Shown, OnlyReads}
 use Rattle.hdfs_model.specs.Steps.{range_of}
-use Rattle.hdfs_blocks.specs.Reader.{Holds, OthersStay, ShowsBlock, GivesUp, IsPieceOf}
+use Rattle.hdfs_blocks.specs.Blocks.{node_at, node_count}
+use Rattle.hdfs_blocks.specs.Reader.{tried_of, is_of_connection, Holds, OthersStay, ShowsBlock, GivesUp, IsPieceOf}
 use Rattle.hdfs_blocks.specs.declared.block_read.BlockRead.{BlockRead}
+use Rattle.hdfs_blocks.specs.declared.given_up.GivenUp.{GivenUp}
 use Rattle.hdfs_blocks.specs.declared.packets.Step.{Step}
 use Rattle.hdfs_blocks.specs.declared.packets.Step.TheVariants as steps
 
@@ -20,16 +23,39 @@ pub record Frame (old new : Shown) (reader reader' : BlockRead) : Type 0 where
   pub frees : (link : ℕ) → reader'.link ≢ Some link → (reader.link ≡ Some link) ⊎ (old.reads link ≡ None) → new.reads link ≡ None
   pub holds : Holds new reader'
 
+-- the count of the datanode that the reader tries
+abbrev pub count_at : Shown → BlockRead → ℕ
+count_at shown reader = shown.counts.nodes (node_at reader.block (tried_of reader))
+
+-- a count rose, and where wanted bytes had come it rose twice
+abbrev pub RoseFor : Bool → ℕ → ℕ → Type 0
+RoseFor true before now = RoseTwice before now
+RoseFor false before now = Rose before now
+
+-- No location was given up, and the reader has lost what it had moved only where the datanode that it tries has failed.
+pub record StaysAt (old new : Shown) (reader reader' : BlockRead) : Type 0 where
+  pub given_up : reader'.given_up ≡ reader.given_up
+  pub lost : reader.moved ≡ true → reader'.moved ≡ false → Rose (count_at old reader) (count_at new reader)
+
+-- Locations were given up, the first one for this reason. Where that is of the connection, its datanode has failed, and twice where
+-- wanted bytes had come.
+pub record MovesOn (old new : Shown) (reader reader' : BlockRead) : Type 0 where
+  pub reason : GivenUp
+  pub more : List GivenUp
+  pub given_up : reader'.given_up ≡ reader.given_up ++ reason ∷ more
+  pub rose : is_of_connection reason ≡ true → RoseFor reader.moved (count_at old reader) (count_at new reader)
+
 -- all that stays
 pub record Goes (old new : Shown) (reader reader' : BlockRead) : Type 0 where
   pub frame : Frame old new reader reader'
   pub shows : (bytes : List ℕ) → ShowsBlock old reader bytes → ShowsBlock new reader' bytes
   pub gives_up : GivesUp old new reader reader'
+  pub locations : StaysAt old new reader reader' ⊎ MovesOn old new reader reader'
 
 -- What a reader takes from a packet's bytes: those that are wanted, or none where it ends before them.
 abbrev pub Accepts : BlockRead → ℕ → ℕ → List ℕ → Step → BlockRead → Type 0
 Accepts reader start end payload (steps.Piece bytes) reader' =
-    (reader' ≡ record reader { position = Some end; wanted = reader.wanted + length bytes })
+    (reader' ≡ record reader { position = Some end; wanted = reader.wanted + length bytes; moved = true })
     × (0 < length bytes)
     × (bytes ≡ range_of payload (reader.wanted - start) (length bytes))
     × (reader'.wanted ≤ reader.end)
@@ -42,12 +68,30 @@ Accepts reader start end payload steps.Failed reader' = ⊥
 abbrev pub gap : BlockRead → ℕ
 gap reader = unwrap_or (option_map (λ at. reader.wanted - at) reader.position) (reader.wanted + 1)
 
+-- How often locations may still fail to give bytes: each of those that are left, and one of them once more where wanted bytes have come.
+abbrev pub tries_left : BlockRead → ℕ
+tries_left reader = 2 * (node_count reader.block - tried_of reader) + (if reader.moved then 1 else 0)
+
+-- the reader without its link, which has given up the location that is tried
+abbrev pub gives_up : BlockRead → GivenUp → BlockRead
+gives_up reader reason = record reader { link = None; position = None; moved = false; given_up = reader.given_up ++ reason ∷ [] }
+
+-- The location that is tried was given up, as no wanted bytes had come; or it is tried once more.
+abbrev pub Loses : BlockRead → GivenUp → BlockRead → Type 0
+Loses reader reason reader' =
+    ((reader.moved ≡ false) × (reader' ≡ gives_up reader reason))
+    ⊎ ((reader.moved ≡ true) × (reader' ≡ record reader { link = None; position = None; moved = false }))
+
+-- one try fewer is left, and the reader keeps no link
+abbrev pub LosesOne : BlockRead → BlockRead → Type 0
+LosesOne reader reader' = (reader'.link ≡ None) × (tries_left reader' < tries_left reader)
+
 -- what a packet does to the reader
 abbrev pub Steps : BlockRead → Step → BlockRead → Type 0
-Steps reader (steps.Piece bytes) reader' = (reader'.wanted ≡ reader.wanted + length bytes) × (0 < length bytes)
+Steps reader (steps.Piece bytes) reader' = (reader'.wanted ≡ reader.wanted + length bytes) × (0 < length bytes) × (reader'.moved ≡ true)
 Steps reader steps.Before reader' =
-    (reader'.wanted ≡ reader.wanted) × (reader'.link ≡ reader.link) × (reader'.tried ≡ reader.tried) × (gap reader' < gap reader)
-Steps reader steps.Failed reader' = (reader'.wanted ≡ reader.wanted) × (reader'.link ≡ None) × (reader'.tried ≡ reader.tried + 1)
+    (reader'.wanted ≡ reader.wanted) × (reader'.link ≡ reader.link) × (tries_left reader' ≡ tries_left reader) × (gap reader' < gap reader)
+Steps reader steps.Failed reader' = (reader'.wanted ≡ reader.wanted) × LosesOne reader reader'
 
 -- the bytes that it gave stand there in the block
 abbrev pub IsPartOf : List ℕ → ℕ → Step → Type 0
@@ -55,10 +99,10 @@ IsPartOf block from (steps.Piece bytes) = bytes ≡ range_of block from (length 
 IsPartOf block from steps.Before = Unit {0}
 IsPartOf block from steps.Failed = Unit {0}
 
--- the next bytes of the range, or none and one location fewer
+-- the next bytes of the range, or none and one try fewer
 abbrev pub GivesOrGivesUp : BlockRead → Option (List ℕ) → BlockRead → Type 0
-GivesOrGivesUp reader (Some bytes) reader' = (reader'.wanted ≡ reader.wanted + length bytes) × (0 < length bytes)
-GivesOrGivesUp reader None reader' = (reader'.wanted ≡ reader.wanted) × (reader'.link ≡ None) × (reader'.tried ≡ reader.tried + 1)
+GivesOrGivesUp reader (Some bytes) reader' = (reader'.wanted ≡ reader.wanted + length bytes) × (0 < length bytes) × (reader'.moved ≡ true)
+GivesOrGivesUp reader None reader' = (reader'.wanted ≡ reader.wanted) × LosesOne reader reader'
 
 -- What reading from one location comes to: it goes on, and gives the next bytes of the range, or the location is given up.
 pub record ReadsLocation (old new : Shown) (reader reader' : BlockRead) (result : Result (Option (List ℕ)) NoMemory) : Type 0 where

@@ -1,5 +1,6 @@
 pub mod Blocks
 pub mod Carrying
+pub mod Connecting
 pub mod Going
 pub mod Piped
 pub mod Reader

@@ -1,18 +1,22 @@
 -- A reader of a block, the cluster that it reads from, and the bytes of the block.
-use Rattle.std.specs.Prelude.{◌≡◌, ◌≢◌, ◌⊎◌, ◌↔◌, ℕ, zero, suc, ◌+◌, ◌<◌, ◌≤◌, Bool, true, false, List, length, Option, Some, None, IsSome, Result, Ok}
+use Rattle.std.specs.Prelude.{◌≡◌, ◌≢◌, ◌⊎◌, ◌↔◌, ℕ, zero, suc, ◌+◌, ◌<◌, ◌≤◌, Bool, true, false, List, ◌∷◌, ◌++◌, length, All, Option, Some, None, IsSome, Result, Ok, IfOk, IfErr}
 use Rattle.hdfs_model.specs.declared.messages.LocatedBlock.{LocatedBlock}
 use Rattle.hdfs_model.specs.declared.picture.ReadPlace.{ReadPlace}
 use Rattle.hdfs_model.specs.declared.picture.OpenRead.{OpenRead}
 use Rattle.hdfs_model.specs.declared.errors.HdfsError.{HdfsError}
 use Rattle.hdfs_model.specs.declared.errors.HdfsError.TheVariants as errors
 use Rattle.hdfs_model.specs.declared.errors.TransferFault.TheVariants as transfer
-use Rattle.hdfs_model.specs.Counts.{FaultCounts, NeverFall}
+use Rattle.hdfs_model.specs.Counts.{FaultCounts, NeverFall, RoseTwice}
 use Rattle.hdfs_model.specs.Picture.{Picture, Told}
 use Rattle.hdfs_model.specs.Shown.{Shown, OnlyReads}
 use Rattle.hdfs_model.specs.Steps.{range_of}
 use Rattle.hdfs_model.specs.Stores.{HoldsPrefix}
-use Rattle.hdfs_blocks.specs.Blocks.{node_at, node_count, held_at, IsToBlame}
+use Rattle.hdfs_connections.specs.declared.connection_cache.ConnectionCache.{ConnectionCache}
+use Rattle.hdfs_connections.specs.Connections.{kept_at}
+use Rattle.hdfs_blocks.specs.Blocks.{address_of_node, node_at, node_count, held_at, IsToBlame}
 use Rattle.hdfs_blocks.specs.declared.block_read.BlockRead.{BlockRead}
+use Rattle.hdfs_blocks.specs.declared.given_up.GivenUp.{GivenUp}
+use Rattle.hdfs_blocks.specs.declared.given_up.GivenUp.TheVariants as reasons
 
 -- the block that it reads
 abbrev pub block_of : BlockRead → LocatedBlock
@@ -30,9 +34,17 @@ wanted_of reader = reader.wanted
 abbrev pub end_of : BlockRead → ℕ
 end_of reader = reader.end
 
--- how many locations it has given up: they are the first ones of the block
+-- why it has given up locations, in their order: they are the first ones of the block
+abbrev pub given_up_of : BlockRead → List GivenUp
+given_up_of reader = reader.given_up
+
+-- how many locations it has given up
 abbrev pub tried_of : BlockRead → ℕ
-tried_of reader = reader.tried
+tried_of reader = length (given_up_of reader)
+
+-- whether wanted bytes have come since a location last failed it
+abbrev pub moved_of : BlockRead → Bool
+moved_of reader = reader.moved
 
 -- the link that it keeps open from one call to the next
 abbrev pub link_of : BlockRead → Option ℕ
@@ -41,6 +53,11 @@ link_of reader = reader.link
 -- whether a call has answered an error
 abbrev pub has_failed : BlockRead → Bool
 has_failed reader = reader.failed
+
+-- the connections that are kept to an address of none of the block's locations stay
+abbrev pub KeepsConnections : LocatedBlock → ConnectionCache → ConnectionCache → Type 0
+KeepsConnections block old new =
+    (address : List ℕ) → All (λ node. address ≢ address_of_node node.id) block.locs → kept_at new address ≡ kept_at old address
 
 -- nothing more comes
 abbrev pub IsOver : BlockRead → Type 0
@@ -59,16 +76,16 @@ pub record IsOpenedOn (block : LocatedBlock) (k : ℕ) (opened : OpenRead) : Typ
 -- The link was opened on the location that the reader tries, when its node's count was at most what it is now.
 abbrev pub LinkHolds : Shown → BlockRead → ℕ → Type 0
 LinkHolds shown reader link =
-    (reader.tried < node_count reader.block)
+    (tried_of reader < node_count reader.block)
     × (opened : OpenRead)
     × (shown.reads link ≡ Some opened)
-    × IsOpenedOn reader.block reader.tried opened
-    × (opened.before ≤ shown.counts.nodes (node_at reader.block reader.tried))
+    × IsOpenedOn reader.block (tried_of reader) opened
+    × (opened.before ≤ shown.counts.nodes (node_at reader.block (tried_of reader)))
 
 -- The reader's place is in its range and its list, and the link that it keeps is open.
 pub record Holds (shown : Shown) (reader : BlockRead) : Type 0 where
   pub range : reader.wanted ≤ reader.end
-  pub tried : reader.tried ≤ node_count reader.block
+  pub tried : tried_of reader ≤ node_count reader.block
   pub link : (link : ℕ) → reader.link ≡ Some link → LinkHolds shown reader link
   pub position : (at : ℕ) → reader.position ≡ Some at → reader.wanted < reader.end → at ≤ reader.wanted
 
@@ -81,11 +98,29 @@ pub record Stands (shown : Shown) (reader : BlockRead) : Type 0 where
 abbrev pub OthersStay : Shown → BlockRead → Picture → Picture → Type 0
 OthersStay old reader p q = (link : ℕ) → link_of reader ≢ Some link → IsSome (old.reads link) → q.reads link ≡ p.reads link
 
+-- The datanode could not be reached, or the connection to it broke.
+abbrev pub is_of_connection : GivenUp → Bool
+is_of_connection reasons.NotOpened = true
+is_of_connection reasons.Broken = true
+is_of_connection reasons.Damaged = false
+is_of_connection reasons.Misplaced = false
+
+-- Where wanted bytes had come since a location last failed, a connection that fails doesn't lose the location: it is tried once more,
+-- and is given up for its connection only once its datanode has failed twice.
+abbrev pub TriesAgain : Shown → Shown → BlockRead → BlockRead → Type 0
+TriesAgain old new reader reader' =
+    moved_of reader ≡ true
+    → (reason : GivenUp) (more : List GivenUp)
+    → given_up_of reader' ≡ given_up_of reader ++ reason ∷ more
+    → is_of_connection reason ≡ true
+    → RoseTwice (old.counts.nodes (node_at (block_of reader) (tried_of reader))) (new.counts.nodes (node_at (block_of reader) (tried_of reader)))
+
 -- What every call of a reader keeps. Links that were open and aren't its own stay as they were. The link that it keeps
 -- is the same or a fresh one, and no other link that it used is left open.
 pub record Keeps (old new : Shown) (reader reader' : BlockRead) : Type 0 where
   pub block : block_of reader' ≡ block_of reader
   pub end : end_of reader' ≡ end_of reader
+  pub given_up : (more : List GivenUp) × (given_up_of reader' ≡ given_up_of reader ++ more)
   pub only : OnlyReads old new
   pub others : (link : ℕ) → link_of reader ≢ Some link → IsSome (old.reads link) → new.reads link ≡ old.reads link
   pub places : Told (OthersStay old reader) old.picture new.picture
@@ -105,7 +140,7 @@ PlacedIn picture reader =
     → reader.link ≡ Some link
     → (read : ReadPlace)
     × (picture.reads link ≡ Some read)
-    × (read.base ≡ held_at picture reader.block reader.tried)
+    × (read.base ≡ held_at picture reader.block (tried_of reader))
     × (read.offset + read.len ≡ reader.end)
     × PlaceIs reader.position reader.wanted read.place
 
@@ -185,10 +220,11 @@ AllBlamed start shown block bytes = (picture : Picture) → shown.picture ≡ So
 abbrev pub IsRead : HdfsError → Type 0
 IsRead e = e ≢ errors.NoMemory
 
--- What a call gave: bytes, by which the wanted offset moves on; or none, and the reader is what it was.
+-- What a call gave: bytes, by which the wanted offset moves on and the reader has moved; or none, and it is what it was.
 abbrev pub GivesPiece : BlockRead → Option (List ℕ) → BlockRead → Type 0
 GivesPiece reader None reader' = reader' ≡ reader
-GivesPiece reader (Some bytes) reader' = (wanted_of reader' ≡ wanted_of reader + length bytes) × (0 < length bytes) × (has_failed reader' ≡ false)
+GivesPiece reader (Some bytes) reader' =
+    (wanted_of reader' ≡ wanted_of reader + length bytes) × (0 < length bytes) × (has_failed reader' ≡ false) × (moved_of reader' ≡ true)
 
 -- the bytes stand in the block at the offset that was wanted
 abbrev pub IsPieceOf : List ℕ → ℕ → Option (List ℕ) → Type 0
@@ -202,3 +238,7 @@ pub record Fails (reader : BlockRead) (error : HdfsError) (reader' : BlockRead) 
   pub inside : wanted_of reader < end_of reader
   pub is : (error ≡ errors.NoMemory) ⊎ (error ≡ errors.DataTransferError (transfer.Read (wanted_of reader)))
   pub all_tried : IsRead error → tried_of reader' ≡ node_count (block_of reader)
+
+-- What a call answers: bytes or none, or why the read has failed.
+abbrev pub Gives : BlockRead → Result (Option (List ℕ)) HdfsError → BlockRead → Type 0
+Gives reader result reader' = IfOk result (λ piece. GivesPiece reader piece reader') × IfErr result (λ error. Fails reader error reader')

@@ -3,6 +3,8 @@
 
 mod block_read;
 mod block_writer;
+mod connecting;
+mod given_up;
 mod packets;
 mod packing;
 mod pipe;
@@ -11,4 +13,5 @@ mod set_up;
 
 pub use block_read::BlockRead;
 pub use block_writer::BlockWriter;
+pub use given_up::GivenUp;
 pub use pipe::WriteFault;

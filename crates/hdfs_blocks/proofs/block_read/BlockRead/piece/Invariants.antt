@@ -1,6 +1,6 @@
-use Rattle.std.proofs.Common.{◌≡◌, ◌-◌}
-use Rattle.hdfs_blocks.specs.Blocks.{node_count}
-use Rattle.hdfs_blocks.specs.Going.{Goes}
+use Rattle.std.proofs.Common.{◌≡◌}
+use Rattle.hdfs_blocks.specs.Going.{Goes, tries_left}
+use Rattle.hdfs_blocks.specs.Reader.{KeepsConnections}
 use Rattle.hdfs_blocks.proofs.block_read.BlockRead.piece.Given as goal
 
 abbrev pub invariant-locations : goal.invariant-locations
@@ -8,7 +8,8 @@ invariant-locations g l = record {
   goes : Goes (g.C.Cluster.shown l.fn.cluster) (g.C.Cluster.shown l.cluster) l.fn.self l.self;
   failed : l.self.failed ≡ l.fn.self.failed;
   wanted : l.self.wanted ≡ l.fn.self.wanted;
+  cached : KeepsConnections l.fn.self.block l.fn.cache l.cache;
 }
 
 abbrev pub decreases-locations : goal.decreases-locations
-decreases-locations g l = node_count l.fn.self.block - l.self.tried
+decreases-locations g l = tries_left l.self

@@ -35,7 +35,7 @@ packets-preserved g c =
       link = search rules;
       wanted = search rules;
       failed = search rules;
-      tried = search rules;
+      tries = search rules;
     }
 
 pub returns-in-Failed : goal.returns-in-Failed

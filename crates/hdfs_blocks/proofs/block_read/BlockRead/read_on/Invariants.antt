@@ -1,5 +1,5 @@
 use Rattle.std.proofs.Common.{◌≡◌, Some}
-use Rattle.hdfs_blocks.specs.Going.{Goes, gap}
+use Rattle.hdfs_blocks.specs.Going.{Goes, gap, tries_left}
 use Rattle.hdfs_blocks.proofs.block_read.BlockRead.read_on.Given as goal
 
 abbrev pub invariant-packets : goal.invariant-packets
@@ -8,7 +8,7 @@ invariant-packets g l = record {
   link : l.self.link ≡ Some l.link;
   wanted : l.self.wanted ≡ l.fn.self.wanted;
   failed : l.self.failed ≡ l.fn.self.failed;
-  tried : l.self.tried ≡ l.fn.self.tried;
+  tries : tries_left l.self ≡ tries_left l.fn.self;
 }
 
 abbrev pub decreases-packets : goal.decreases-packets
