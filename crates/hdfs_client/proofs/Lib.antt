@@ -7,6 +7,7 @@ mod Begun
 mod Beside
 mod Causing
 mod CloseActs
+mod Connected
 mod Early
 mod Ending
 mod Failing

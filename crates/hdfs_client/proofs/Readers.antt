@@ -1,5 +1,6 @@
 -- What calls of a block's reader keep, joined, and a reader that begins.
-use Rattle.std.proofs.Common.{◌≡◌, inr, ⊎_elim, ℕ, ◌+◌, ◌-◌, ◌<◌, ◌≤◌, List, ◌++◌, length, None, sym, ◌∙◌, ap, subst, arith}
+use Rattle.std.proofs.lemmas.List.{append_assoc}
+use Rattle.std.proofs.Common.{◌≡◌, inr, ⊎_elim, ℕ, ◌+◌, ◌-◌, ◌<◌, ◌≤◌, List, [], ◌++◌, length, None, sym, ◌∙◌, ap, subst, arith}
 use Rattle.hdfs_model.specs.declared.messages.LocatedBlock.{LocatedBlock}
 use Rattle.hdfs_model.specs.declared.errors.HdfsError.{HdfsError}
 use Rattle.hdfs_model.specs.declared.errors.HdfsError.TheVariants as errors
@@ -8,10 +9,11 @@ use Rattle.hdfs_model.specs.Counts.{FaultCounts}
 use Rattle.hdfs_model.specs.Shown.{Shown, SameLinks, SamePlaces, SameWrites}
 use Rattle.hdfs_model.specs.Steps.{range_of}
 use Rattle.hdfs_model.proofs.Frames.{told_weaker, told_both}
-use Rattle.hdfs_blocks.specs.Going.{Frame, Goes}
-use Rattle.hdfs_blocks.specs.Reader.{block_of, wanted_of, end_of, link_of, tried_of, OthersStay, Keeps, Reads, ShowsBlock, Over, AllBlamed}
+use Rattle.hdfs_blocks.specs.Going.{Frame}
+use Rattle.hdfs_blocks.specs.Reader.{block_of, wanted_of, end_of, link_of, given_up_of, OthersStay, Keeps, Reads, ShowsBlock, Over, AllBlamed}
 use Rattle.hdfs_blocks.specs.declared.block_read.BlockRead.{BlockRead}
-use Rattle.hdfs_blocks.proofs.Joining.{frame_trans, goes_trans, reads_from-Goes, some_or_none}
+use Rattle.hdfs_blocks.specs.declared.given_up.GivenUp.{GivenUp}
+use Rattle.hdfs_blocks.proofs.Joining.{frame_trans, reads_joined, some_or_none}
 use Rattle.hdfs_blocks.proofs.Starting.{shows_new, over_new}
 use Rattle.hdfs_client.specs.Ranges.{HoldsBlock, FailsAt}
 
@@ -22,13 +24,20 @@ module _ (s t u : Shown) (q r w : BlockRead) where
   pub keeps_trans : Keeps s t q r → Keeps t u r w → Keeps s u q w
   keeps_trans f g =
       let joined = frame_trans s t u q r w (frame_of s t q r f) (frame_of t u r w g) in
-      record { block = joined.block; end = joined.end; only = joined.only; others = joined.others; places = joined.places; own = joined.own; frees = joined.frees; stands = g.stands }
+      record {
+        block = joined.block;
+        end = joined.end;
+        given_up = (f.given_up.0 ++ g.given_up.0, g.given_up.1 ∙ ap (λ (l : List GivenUp). l ++ g.given_up.0) f.given_up.1 ∙ append_assoc (given_up_of q) f.given_up.0 g.given_up.0);
+        only = joined.only;
+        others = joined.others;
+        places = joined.places;
+        own = joined.own;
+        frees = joined.frees;
+        stands = g.stands;
+      }
 
   pub reads_trans : Keeps s t q r → Keeps t u r w → Reads s t q r → Reads t u r w → Reads s u q w
-  reads_trans k l f g =
-      let first : Goes s t q r = record { frame = frame_of s t q r k; shows = f.shows; gives_up = f.gives_up } in
-      let second : Goes t u r w = record { frame = frame_of t u r w l; shows = g.shows; gives_up = g.gives_up } in
-      reads_from-Goes s u q w (goes_trans s t u q r w first second)
+  reads_trans k l f g = reads_joined s t u q r w (frame_of s t q r k) f g
 
 -- a reader that keeps no link before and after leaves all links
 pub links_from-Keeps : (s t : Shown) (r r' : BlockRead) → Keeps s t r r' → link_of r ≡ None → link_of r' ≡ None → SameLinks s t
@@ -40,7 +49,7 @@ links_from-Keeps s t r r' k before after = record {
 }
 
 -- a new reader
-module _ (s : Shown) (r : BlockRead) (block : LocatedBlock) (offset len : ℕ) (same : block_of r ≡ block) (wanted : wanted_of r ≡ offset) (end : end_of r ≡ offset + len) (idle : link_of r ≡ None) (new : tried_of r ≡ 0) where
+module _ (s : Shown) (r : BlockRead) (block : LocatedBlock) (offset len : ℕ) (same : block_of r ≡ block) (wanted : wanted_of r ≡ offset) (end : end_of r ≡ offset + len) (idle : link_of r ≡ None) (new : given_up_of r ≡ []) where
   shows_held : (g : List ℕ) → HoldsBlock s block g → offset + len ≤ length g → ShowsBlock s r g
   shows_held g holds within =
       let here = subst (λ (b : LocatedBlock). HoldsBlock s b g) (sym same) holds in
@@ -55,7 +64,7 @@ module _ (s : Shown) (r : BlockRead) (block : LocatedBlock) (offset len : ℕ) (
   pub cause_new : (s' : Shown) → ((start : FaultCounts) (g : List ℕ) → Over start s r g → AllBlamed start s' (block_of r) g)
       → (g : List ℕ) → HoldsBlock s block g → offset + len ≤ length g → AllBlamed s.counts s' block g
   cause_new s' h g holds within =
-      subst (λ (b : LocatedBlock). AllBlamed s.counts s' b g) same (h s.counts g (over_new s r g idle new (shows_held g holds within)))
+      subst (λ (b : LocatedBlock). AllBlamed s.counts s' b g) same (h s.counts g (over_new s r g idle (ap length new) (shows_held g holds within)))
 
 -- a byte of what is left of a range is one of what was left of it before
 pub fails_from : (r q : BlockRead) (e : HdfsError) → wanted_of q ≤ wanted_of r → end_of r ≡ end_of q → FailsAt (λ byte. (wanted_of r ≤ byte) × (byte < end_of r)) e → FailsAt (λ byte. (wanted_of q ≤ byte) × (byte < end_of q)) e

@@ -14,6 +14,7 @@ ghost use Rattle.hdfs_client.specs.Ranges.{Stored, HoldsBlock, GoesOn, FailsAt, 
 
 use crate::locate::locate;
 use hdfs_blocks::BlockRead;
+use hdfs_connections::ConnectionCache;
 use hdfs_model::{ArgFault, Cluster, Command, HdfsError, LocatedBlock, Reply};
 use hdfs_namenode::NamenodeProtocol;
 use hdfs_wire::{Blob, Text};
@@ -25,6 +26,7 @@ const CLIENT: &str = "";
 /// Appends the next bytes of a reader's range; false where there are none.
 fn append_next<C: Cluster>(
     cluster: &mut C,
+    connections: &mut ConnectionCache,
     out: &mut Vec<u8>,
     reader: &mut BlockRead,
 ) -> Result<bool, HdfsError>
@@ -43,7 +45,7 @@ fn append_next<C: Cluster>(
     ensures bytes { OnOk result ((block : List ℕ) → ShowsBlock (C.shown cluster.old) reader.old block
         → out.new.items ≡ out.old.items ++ range_of block (wanted_of reader.old) (wanted_of reader.new - wanted_of reader.old)) }
 {
-    match reader.next(cluster) {
+    match reader.next(cluster, connections) {
         Ok(Some(bytes)) => match out.extend_from_slice(&bytes) {
             Ok(()) => Ok(true),
             Err(_) => {
@@ -59,6 +61,7 @@ fn append_next<C: Cluster>(
 /// Appends what is left of a reader's range.
 fn read_all<C: Cluster>(
     cluster: &mut C,
+    connections: &mut ConnectionCache,
     out: &mut Vec<u8>,
     reader: &mut BlockRead,
 ) -> Result<(), HdfsError>
@@ -74,7 +77,7 @@ fn read_all<C: Cluster>(
     ensures bytes { OnOk result ((block : List ℕ) → ShowsBlock (C.shown cluster.old) reader.old block
         → out.new.items ≡ out.old.items ++ range_of block (wanted_of reader.old) (end_of reader.old - wanted_of reader.old)) }
 {
-    'pieces: while append_next(cluster, out, reader)? {}
+    'pieces: while append_next(cluster, connections, out, reader)? {}
     Ok(())
 }
 
@@ -82,6 +85,7 @@ fn read_all<C: Cluster>(
 fn read_block<C: Cluster>(
     alloc: Global,
     cluster: &mut C,
+    connections: &mut ConnectionCache,
     out: &mut Vec<u8>,
     block: LocatedBlock,
     offset: u64,
@@ -102,13 +106,14 @@ fn read_block<C: Cluster>(
         → AllBlamed (C.shown cluster.old).counts (C.shown cluster.new) block bytes) }
 {
     let mut reader = BlockRead::replicated(alloc, block, offset, len, CLIENT)?;
-    read_all(cluster, out, &mut reader)
+    read_all(cluster, connections, out, &mut reader)
 }
 
 /// Appends the part of a block that lies in a range of the file. Where none does, the block isn't opened.
 fn read_part<C: Cluster>(
     alloc: Global,
     cluster: &mut C,
+    connections: &mut ConnectionCache,
     out: &mut Vec<u8>,
     block: LocatedBlock,
     offset: u64,
@@ -135,13 +140,14 @@ fn read_part<C: Cluster>(
         return Ok(());
     }
     let start = from - block.offset;
-    Ok(read_block(alloc, cluster, out, block, start, to - from)?)
+    Ok(read_block(alloc, cluster, connections, out, block, start, to - from)?)
 }
 
 /// Appends a range of a file, whose blocks come in order.
 fn read_blocks<C: Cluster>(
     alloc: Global,
     cluster: &mut C,
+    connections: &mut ConnectionCache,
     out: &mut Vec<u8>,
     blocks: Vec<LocatedBlock>,
     offset: u64,
@@ -163,7 +169,7 @@ fn read_blocks<C: Cluster>(
         (AllFailed (C.shown cluster.old).counts (C.shown cluster.new).counts stored.picture)) e) }
 {
     for block in blocks {
-        read_part(alloc, cluster, out, block, offset, end)?;
+        read_part(alloc, cluster, connections, out, block, offset, end)?;
     }
     Ok(())
 }
@@ -180,6 +186,7 @@ fn is_within(offset: u64, len: u64, length: u64) -> bool
 pub(crate) fn read_file<C: Cluster>(
     alloc: Global,
     cluster: &mut C,
+    connections: &mut ConnectionCache,
     namenode: &NamenodeProtocol,
     name: &Text,
     path: &str,
@@ -210,6 +217,7 @@ pub(crate) fn read_file<C: Cluster>(
     read_blocks(
         alloc,
         cluster,
+        connections,
         &mut out,
         found.blocks.into_vec(),
         offset,

@@ -10,6 +10,7 @@ ghost use Rattle.hdfs_model.specs.Steps.{path_of};
 ghost use Rattle.hdfs_model.specs.declared.errors.HdfsError.TheVariants as errors;
 
 use crate::reading::read_file;
+use hdfs_connections::ConnectionCache;
 use hdfs_files::FileWriter;
 use hdfs_model::{ArgFault, Cluster, Command, HdfsError, Reply, Settings, absolute_path, is_path};
 use hdfs_namenode::NamenodeProtocol;
@@ -17,7 +18,8 @@ use hdfs_wire::Text;
 use std::alloc::Global;
 use std::collections::BTreeMap;
 
-/// One service, as one client uses it: what it is run with, the files that it has open, and whether a command has failed. A session
+/// One service, as one client uses it: what it is run with, the files that it has open, the connections to datanodes that it keeps for
+/// the next read, and whether a command has failed. A session
 /// that is let go leaves its files and their links open; `abandon` ends the links.
 #[derive(Drop)]
 pub struct Session {
@@ -26,6 +28,8 @@ pub struct Session {
     pub(crate) namenode: NamenodeProtocol,
     // the writers of the files that it has open, by their paths
     pub(crate) writers: BTreeMap<String, FileWriter>,
+    // those over which blocks were read
+    pub(crate) connections: ConnectionCache,
     pub(crate) failed: bool,
 }
 
@@ -56,6 +60,7 @@ impl Session {
             settings: copy_settings(alloc, settings)?,
             namenode: NamenodeProtocol::new(alloc, settings.client)?,
             writers: BTreeMap::new(alloc),
+            connections: ConnectionCache::new(alloc),
             failed: false,
         })
     }
@@ -111,6 +116,7 @@ impl Session {
             } => read_file(
                 self.alloc,
                 cluster,
+                &mut self.connections,
                 &self.namenode,
                 name,
                 path.as_str(),

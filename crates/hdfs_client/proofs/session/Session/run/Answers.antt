@@ -6,6 +6,7 @@ use Rattle.hdfs_model.specs.Sessions.{is_misplaced}
 use Rattle.hdfs_client.specs.Acting.{world_at}
 use Rattle.hdfs_client.specs.Session.{opened_of}
 use Rattle.hdfs_client.proofs.Early.{fact_true, owed_result, state_acts, target_acts}
+use Rattle.hdfs_client.proofs.Connected.{connected_acts}
 use Rattle.hdfs_client.proofs.ReadActs.{read_command}
 use Rattle.hdfs_client.proofs.session.Session.run.Goals as goal
 
@@ -30,9 +31,10 @@ returns-in-Read-clause-acts g c =
     let command = c.args.command.now in
     let placed = c.is_placed.ensures.0 c.if-not-is_placed.false in
     let called = c.as_str-in-Read.ensures ∙ ok.0 in
-    read_command (g.C.Cluster.shown c.args.cluster.now) (g.C.Cluster.shown c.read_file.new.cluster) session command _ c.as_str-in-Read.result.now _ _ (search rules) (ap is_path c.as_str-in-Read.ensures ∙ ok.1) called
+    connected_acts command (g.C.Cluster.shown c.args.cluster.now) session (g.C.Cluster.shown c.read_file.new.cluster) session c.read_file.new.connections c.read_file.result
+    (read_command (g.C.Cluster.shown c.args.cluster.now) (g.C.Cluster.shown c.read_file.new.cluster) session command _ c.as_str-in-Read.result.now _ _ (search rules) (ap is_path c.as_str-in-Read.ensures ∙ ok.1) called
     (subst (λ (p : List ℕ). is_misplaced command (opened_of session p) ≡ false) (c.as_str.ensures ∙ sym c.as_str-in-Read.ensures) placed)
-    c.read_file.result c.requires.stands c.read_file.ensures.anywhere c.read_file.ensures.links c.read_file.ensures.files c.read_file.ensures.ok c.read_file.ensures.err
+    c.read_file.result c.requires.stands c.read_file.ensures.anywhere c.read_file.ensures.links c.read_file.ensures.files c.read_file.ensures.ok c.read_file.ensures.err)
 
 pub returns-in-Read-clause-owed : goal.returns-in-Read-clause-owed
 returns-in-Read-clause-owed g c =
