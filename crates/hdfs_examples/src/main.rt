@@ -10,10 +10,11 @@ use std::alloc::Global;
 use std::fs;
 
 /// The names of the examples.
-const NAMES: [&str; 14] = [
+const NAMES: [&str; 15] = [
     "first",
     "reads",
     "broken",
+    "replicas",
     "missing",
     "order",
     "upper",

@@ -21,7 +21,8 @@ A script has lines for settings, then for directories and files to load, then fo
   fault link NTH KIND                               the NTH pipeline fails: KIND is broken, refused or badack
   fault ack NODE NTH                                datanode NODE has failed in the NTH acknowledgement that tells of it
   fault send NODE NTH                               the NTH packet to a pipeline that begins at NODE breaks its connection
-  fault read NODE NTH broken                        datanode NODE breaks the connection at its NTH packet
+  fault read NODE NTH KIND                          datanode NODE fails in its NTH packet: KIND is broken, damaged or gap;
+                                                    or it refuses the NTH read that is opened on it: KIND is refused
   do create PATH PERMISSION REPLICATION BLOCK_SIZE OVERWRITE PARENTS
                                                     creates a file and opens it; - for the cluster's numbers
   do append PATH                                    opens a file to be gone on with

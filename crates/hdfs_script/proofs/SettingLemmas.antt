@@ -8,6 +8,7 @@ use Rattle.hdfs_model.specs.declared.commands.WriteOptions.{WriteOptions}
 use Rattle.hdfs_model.specs.declared.store.FaultLine.{FaultLine}
 use Rattle.hdfs_model.specs.declared.store.FaultLine.TheVariants as faults
 use Rattle.hdfs_model.specs.declared.store.LinkKind.{LinkKind}
+use Rattle.hdfs_model.specs.declared.store.ReadKind.{ReadKind}
 use Rattle.hdfs_model.specs.Limits.{is_block_size}
 use Rattle.hdfs_model.specs.Loading.{AreValid}
 use Rattle.hdfs_script.specs.declared.entry.Entry.{Entry}
@@ -16,7 +17,7 @@ use Rattle.hdfs_script.specs.declared.entry.ScriptSettings.{ScriptSettings}
 use Rattle.hdfs_script.specs.declared.entry.Setting.{Setting}
 use Rattle.hdfs_script.specs.declared.entry.Setting.TheVariants as settings
 use Rattle.hdfs_script.specs.Commands.{create_entry, options_of, read_entry, write_entry}
-use Rattle.hdfs_script.specs.Entries.{ascii_entry, attributes_of, broken_read, entry_of, fault_entry, file_entry, from_one, from_zero, link_entry, link_kind, node_entry, node_fault, set_entry, three_words, words_entry}
+use Rattle.hdfs_script.specs.Entries.{ascii_entry, attributes_of, entry_of, fault_entry, file_entry, from_one, from_zero, link_entry, link_kind, node_entry, node_fault, read_fault, read_kind, read_of, set_entry, three_words, words_entry}
 use Rattle.hdfs_script.specs.Numbers.{hex_bytes, is_number, number, value_from}
 use Rattle.hdfs_script.specs.Parsing.{good_front}
 use Rattle.hdfs_script.specs.Scripts.{ends_bad, entries_in, line_entries, may_stand, no_settings, part_of, script_limit, settings_from, with_setting}
@@ -98,6 +99,10 @@ allowed_node fault (Some node) (Some nth) = allowed_if (nat_le 1 nth) _ _ tt tt
 allowed_call : (fault : ℕ → ℕ → FaultLine) (node nth : List ℕ) → SetsAllowed (node_fault fault node nth)
 allowed_call fault node nth = allowed_node fault (number 10 (2 ^ 32) node) (number 10 (2 ^ 64) nth)
 
+allowed_read_fault : (kind : Option ReadKind) (node nth : List ℕ) → SetsAllowed (read_fault kind node nth)
+allowed_read_fault None node nth = tt
+allowed_read_fault (Some kind) node nth = allowed_call (read_of kind) node nth
+
 -- a file,
 allowed_file : (path : List ℕ) (attributes : Option Attributes) (bytes : Option (List ℕ)) → SetsAllowed (file_entry path attributes bytes)
 allowed_file path None bytes = tt
@@ -140,7 +145,7 @@ allowed_words (a ∷ b ∷ c ∷ d ∷ []) =
     allowed_if (bytes_eq a (codes "fault")) _ _ (allowed_fault b c d)
     (allowed_if (bytes_eq a (codes "do") && bytes_eq b (codes "write")) _ _ (allowed_write c (hex_bytes d)) tt)
 allowed_words (a ∷ b ∷ c ∷ d ∷ e ∷ []) =
-    allowed_if (bytes_eq a (codes "fault") && bytes_eq b (codes "read") && bytes_eq e (codes "broken")) _ _ (allowed_call broken_read c d)
+    allowed_if (bytes_eq a (codes "fault") && bytes_eq b (codes "read")) _ _ (allowed_read_fault (read_kind e) c d)
     (allowed_if (bytes_eq a (codes "do") && bytes_eq b (codes "read")) _ _ (allowed_read c (number 10 (2 ^ 64) d) (number 10 (2 ^ 64) e)) tt)
 allowed_words (a ∷ b ∷ c ∷ d ∷ e ∷ f ∷ []) = allowed_if (bytes_eq a (codes "file")) _ _ (allowed_file b (attributes_of c d e) (hex_bytes f)) tt
 allowed_words (a ∷ b ∷ c ∷ d ∷ e ∷ f ∷ g ∷ []) = tt

@@ -8,6 +8,7 @@ use Rattle.hdfs_model.specs.declared.store.FaultLine.{FaultLine}
 use Rattle.hdfs_model.specs.declared.store.FaultLine.TheVariants as faults
 use Rattle.hdfs_model.specs.declared.store.LinkKind.{LinkKind}
 use Rattle.hdfs_model.specs.declared.store.LinkKind.TheVariants as link_kinds
+use Rattle.hdfs_model.specs.declared.store.ReadKind.{ReadKind}
 use Rattle.hdfs_model.specs.declared.store.ReadKind.TheVariants as read_kinds
 use Rattle.hdfs_script.specs.declared.entry.Entry.{Entry}
 use Rattle.hdfs_script.specs.declared.entry.Entry.TheVariants.{Blank, Sets, Loads, Bad}
@@ -86,9 +87,23 @@ node_entry fault _ _ = Bad
 abbrev pub node_fault : (ℕ → ℕ → FaultLine) → List ℕ → List ℕ → Entry
 node_fault fault node nth = node_entry fault (number 10 (2 ^ 32) node) (number 10 (2 ^ 64) nth)
 
--- the packet of a datanode that breaks
-abbrev pub broken_read : ℕ → ℕ → FaultLine
-broken_read node nth = faults.ReadOf node nth read_kinds.Broken
+-- how a datanode fails in a read
+abbrev pub read_kind : List ℕ → Option ReadKind
+read_kind text =
+    if bytes_eq text (codes "broken") then Some read_kinds.Broken
+    else if bytes_eq text (codes "damaged") then Some read_kinds.Damaged
+    else if bytes_eq text (codes "gap") then Some read_kinds.Gap
+    else if bytes_eq text (codes "refused") then Some read_kinds.Refused
+    else None
+
+-- a fault of a read that is of this kind
+abbrev pub read_of : ReadKind → ℕ → ℕ → FaultLine
+read_of kind node nth = faults.ReadOf node nth kind
+
+-- `fault read D N KIND`
+abbrev pub read_fault : Option ReadKind → List ℕ → List ℕ → Entry
+read_fault None node nth = Bad
+read_fault (Some kind) node nth = node_fault (read_of kind) node nth
 
 -- two words: `dir PATH`
 abbrev pub two_words : List ℕ → List ℕ → Entry
@@ -117,10 +132,10 @@ four_words a b c d =
     else if bytes_eq a (codes "do") && bytes_eq b (codes "write") then write_entry c (hex_bytes d)
     else Bad
 
--- five words: `fault read D N broken` or `do read PATH OFFSET LEN`
+-- five words: `fault read D N KIND` or `do read PATH OFFSET LEN`
 abbrev pub five_words : List ℕ → List ℕ → List ℕ → List ℕ → List ℕ → Entry
 five_words a b c d e =
-    if bytes_eq a (codes "fault") && bytes_eq b (codes "read") && bytes_eq e (codes "broken") then node_fault broken_read c d
+    if bytes_eq a (codes "fault") && bytes_eq b (codes "read") then read_fault (read_kind e) c d
     else if bytes_eq a (codes "do") && bytes_eq b (codes "read") then read_entry c (number 10 (2 ^ 64) d) (number 10 (2 ^ 64) e)
     else Bad
 

@@ -1,13 +1,13 @@
 //! Why a script that is refused goes wrong at its first bad line. It is read once more for this.
 use crate::command::{flag, given_block_size, given_replication};
 use crate::entry::Entry;
-use crate::fault::link_kind;
+use crate::fault::{link_kind, read_kind};
 use crate::line::entry;
 use crate::numbers::number;
 use crate::parsing::{SCRIPT_LIMIT, may_stand, part_of_entry};
 use crate::words::{U32_MOST, U64_MOST, is_ascii, is_text, is_word, words};
 use crate::wrong::{Complaint, Wrong};
-use hdfs_model::{Attributes, Line, is_block_size, is_path, is_permission};
+use hdfs_model::{Attributes, Line, is_block_size, is_path, is_permission, is_replication};
 use hdfs_wire::Text;
 use std::alloc::Global;
 
@@ -79,10 +79,13 @@ fn wrong_sent(words: &[&[u8]], wrong: Wrong) -> Wrong {
     wrong_node(words[2])
 }
 
-// Why the words of a line plan no broken packet, which begins with `fault read`.
-fn wrong_broken(words: &[&[u8]]) -> Wrong {
-    if words.len() != 5 || !is_text(words[4], "broken") {
-        return Wrong::BrokenWords;
+// Why the words of a line plan no fault of a read, which begins with `fault read`.
+fn wrong_read_fault(words: &[&[u8]]) -> Wrong {
+    if words.len() != 5 {
+        return Wrong::ReadFaultWords;
+    }
+    if read_kind(words[4]).is_none() {
+        return Wrong::ReadKind;
     }
     wrong_node(words[2])
 }
@@ -100,7 +103,7 @@ fn wrong_fault(words: &[&[u8]]) -> Wrong {
     } else if is_text(call, "send") {
         wrong_sent(words, Wrong::SendWords)
     } else if is_text(call, "read") {
-        wrong_broken(words)
+        wrong_read_fault(words)
     } else {
         Wrong::FaultWords
     }
@@ -240,7 +243,7 @@ fn untaken_file(path: &Text, attributes: &Attributes) -> Wrong {
     if !is_permission(attributes.permission) {
         return Wrong::Permission;
     }
-    if attributes.replication != 1 {
+    if !is_replication(attributes.replication) {
         return Wrong::Replication;
     }
     if !is_block_size(attributes.block_size) {

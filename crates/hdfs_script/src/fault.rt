@@ -81,14 +81,35 @@ fn send_entry(node: &[u8], nth: &[u8]) -> Entry
     Entry::Loads(Line::Fault(FaultLine::SendTo { node, nth }))
 }
 
-/// `fault read D N broken`
-pub(crate) fn broken_entry(node: &[u8], nth: &[u8]) -> Entry
-    ensures { result ≡ spec.node_fault spec.broken_read node.now nth.now }
+/// How a datanode fails in a read.
+pub(crate) fn read_kind(text: &[u8]) -> Option<ReadKind>
+    ensures { result ≡ spec.read_kind text.now }
 {
+    if is_text(text, "broken") {
+        return Some(ReadKind::Broken);
+    }
+    if is_text(text, "damaged") {
+        return Some(ReadKind::Damaged);
+    }
+    if is_text(text, "gap") {
+        return Some(ReadKind::Gap);
+    }
+    if is_text(text, "refused") {
+        return Some(ReadKind::Refused);
+    }
+    None
+}
+
+/// `fault read D N KIND`
+pub(crate) fn read_fault(node: &[u8], nth: &[u8], kind: &[u8]) -> Entry
+    ensures { result ≡ spec.read_fault (spec.read_kind kind.now) node.now nth.now }
+{
+    let Some(kind) = read_kind(kind) else {
+        return Entry::Bad;
+    };
     let Some(NodeCall { node, nth }) = node_call(node, nth) else {
         return Entry::Bad;
     };
-    let kind = ReadKind::Broken;
     Entry::Loads(Line::Fault(FaultLine::ReadOf { node, nth, kind }))
 }
 

@@ -6,7 +6,7 @@ ghost use Rattle.hdfs_script.specs.Entries as spec;
 
 use crate::command::{append_entry, close_entry, create_entry, options, read_entry, write_entry};
 use crate::entry::Entry;
-use crate::fault::{broken_entry, fault_entry};
+use crate::fault::{fault_entry, read_fault};
 use crate::file::{attributes, dir_entry, file_entry};
 use crate::setting::set_entry;
 use crate::words::{is_ascii, is_text, words};
@@ -65,8 +65,8 @@ fn five_words(
     if !is_text(call, "read") {
         return Ok(Entry::Bad);
     }
-    if is_text(kind, "fault") && is_text(c, "broken") {
-        return Ok(broken_entry(a, b));
+    if is_text(kind, "fault") {
+        return Ok(read_fault(a, b, c));
     }
     if is_text(kind, "do") {
         return Ok(read_entry(alloc, a, b, c)?);

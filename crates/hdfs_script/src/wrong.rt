@@ -24,8 +24,8 @@ pub enum Wrong {
     AckWords,
     #[error("not `fault send NODE NTH`, with one space between words")]
     SendWords,
-    #[error("not `fault read NODE NTH broken`, with one space between words")]
-    BrokenWords,
+    #[error("not `fault read NODE NTH KIND`, with one space between words")]
+    ReadFaultWords,
     #[error("begins with none of `do create`, `do append`, `do write`, `do close` and `do read`")]
     CommandWords,
     #[error("not `do create PATH PERMISSION REPLICATION BLOCK_SIZE OVERWRITE PARENT`, with one space between words")]
@@ -52,7 +52,7 @@ pub enum Wrong {
     Unprintable,
     #[error("PERMISSION isn't a number from 0 to 7777 in octal digits")]
     Permission,
-    #[error("REPLICATION of a file isn't 1")]
+    #[error("REPLICATION of a file isn't a number from 1 to 65535")]
     Replication,
     #[error("BLOCK_SIZE isn't a number of bytes from 1 to 9223372036854775807")]
     BlockSize,
@@ -74,6 +74,8 @@ pub enum Wrong {
     Nth,
     #[error("KIND isn't `broken`, `refused` or `badack`")]
     LinkKind,
+    #[error("KIND isn't `broken`, `damaged`, `gap` or `refused`")]
+    ReadKind,
     #[error("OFFSET isn't a number from 0 to 18446744073709551615")]
     Offset,
     #[error("LENGTH isn't a number from 0 to 18446744073709551615")]
