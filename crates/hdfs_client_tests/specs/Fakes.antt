@@ -1,5 +1,5 @@
 -- What the cluster that gives what it is told to give shows.
-use Rattle.std.specs.Prelude.{◌≡◌, ◌<◌, ℕ, [], Some, None}
+use Rattle.std.specs.Prelude.{◌≡◌, ◌<◌, [], Some, None}
 use Rattle.std.proofs.lemmas.Option.{none-some}
 use Rattle.hdfs_model.specs.Picture.{Picture}
 use Rattle.slab.specs.Slab as slab

@@ -1,5 +1,6 @@
 //! A cluster that gives what it is told to give, call by call. It tells no picture.
-ghost use Rattle.std.specs.Prelude.{◌≡◌, ◌<◌, ◌^◌, ℕ, pos, length, IfOk};
+ghost use Rattle.std.specs.Prelude.{◌≡◌, ◌<◌, ◌^◌, ℕ, pos, length, Some, IfOk};
+ghost use Rattle.hdfs_wire.specs.Outgoing.{checksums};
 ghost use Rattle.hdfs_client_tests.specs.Blocks.{IsPair};
 
 use bytes::Bytes;
@@ -7,16 +8,22 @@ use hdfs_model::{
     Answer, Ask, AskFault, Block, Cluster, DatanodeId, DatanodeInfo, LastAnswer, LinkFault,
     LocatedBlock, LocatedBlocks, OpenRead, OpenWrite, ReadAsk, Setup, Token,
 };
-use hdfs_wire::{Ack, Blob, List, NoMemory, PacketHeader, ReadPacket, Text, WritePacket};
+use hdfs_wire::{
+    Ack, Blob, ChecksumInfo, List, NoMemory, PacketHeader, ReadPacket, Text, WritePacket,
+    put_checksums,
+};
 use slab::Slab;
 use std::alloc::Global;
 use std::collections::VecDeque;
 
-/// What a call on a datanode gives: an open link, a packet with its offset in the block, or a failure.
+/// What a call on a datanode gives: a link on a fresh connection or on a kept one, a packet with its offset in the block, one whose
+/// checksums don't hold, or a failure.
 #[derive(Clone, Copy, Debug)]
 pub(crate) enum Step {
     Opens,
+    OpensKept,
     Gives(i64, &'static [u8]),
+    Spoils(i64, &'static [u8]),
     Breaks,
     Refuses,
     LacksMemory,
@@ -75,14 +82,27 @@ impl FakeCluster {
     }
 }
 
+/// How the checksums of its packets are made: a CRC-32C for each 512 bytes.
+const SUMS: ChecksumInfo = ChecksumInfo {
+    kind: 2,
+    bytes_per_checksum: 512,
+};
+
 /// What is told of a read that is opened.
 fn opened(alloc: Global, ask: &ReadAsk, before: u64) -> Result<OpenRead, NoMemory>
-    ensures { IfOk result (λ told. told ≡ record { node = ask.now.node; block = ask.now.block; token = ask.now.token; before = before }) }
+    ensures { IfOk result (λ told. told ≡ record {
+      node = ask.now.node;
+      block = ask.now.block;
+      token = ask.now.token;
+      checksums = Some SUMS;
+      before = before;
+    }) }
 {
     Ok(OpenRead {
         node: ask.node.copy(alloc)?,
         block: ask.block.copy(alloc)?,
         token: ask.token.copy(alloc)?,
+        checksums: Some(SUMS),
         before,
     })
 }
@@ -91,7 +111,7 @@ fn opened(alloc: Global, ask: &ReadAsk, before: u64) -> Result<OpenRead, NoMemor
 fn datanode(alloc: Global, uuid: &str) -> Result<DatanodeInfo, NoMemory> {
     Ok(DatanodeInfo {
         id: DatanodeId {
-            ip_addr: Text::new(alloc),
+            ip_addr: Text::from_str(alloc, uuid)?,
             host_name: Text::new(alloc),
             datanode_uuid: Text::from_str(alloc, uuid)?,
             xfer_port: 0,
@@ -103,7 +123,7 @@ fn datanode(alloc: Global, uuid: &str) -> Result<DatanodeInfo, NoMemory> {
 }
 
 /// A block of four bytes on two datanodes.
-fn block(alloc: Global, id: u64, offset: u64) -> Result<LocatedBlock, NoMemory>
+pub(crate) fn block(alloc: Global, id: u64, offset: u64) -> Result<LocatedBlock, NoMemory>
     ensures { IfOk result (λ block. (block.offset ≡ offset) × (block.b.num_bytes ≡ 4)) }
 {
     let mut locs = List::new(alloc);
@@ -148,10 +168,25 @@ fn two_blocks(alloc: Global) -> Result<LocatedBlocks, NoMemory>
     })
 }
 
-/// A packet with these bytes at this offset in its block.
-fn packet(alloc: Global, offset: i64, bytes: &'static [u8]) -> Result<ReadPacket, NoMemory>
+/// The checksums of these bytes.
+fn sums(alloc: Global, bytes: &[u8]) -> Result<Bytes, NoMemory>
+    ensures { IfOk result (λ sums. sums ≡ checksums 512 bytes.now) }
+{
+    let mut sums = Vec::new(alloc);
+    put_checksums(&mut sums, 512, bytes)?;
+    Ok(Bytes::from_vec(sums)?)
+}
+
+/// A packet with these bytes at this offset in its block, and with these checksums.
+fn packet(
+    alloc: Global,
+    offset: i64,
+    bytes: &'static [u8],
+    checksum: Bytes,
+) -> Result<ReadPacket, NoMemory>
     requires { length bytes.now < 2 ^ 31 }
-    ensures { IfOk result (λ packet. packet.header.data_len ≡ pos (length packet.payload)) }
+    ensures length { IfOk result (λ packet. packet.header.data_len ≡ pos (length packet.payload)) }
+    ensures bytes { IfOk result (λ packet. (packet.payload ≡ bytes.now) × (packet.checksum ≡ checksum)) }
 {
     let payload = Bytes::from_vec(Vec::from_slice(alloc, bytes)?)?;
     Ok(ReadPacket {
@@ -162,7 +197,7 @@ fn packet(alloc: Global, offset: i64, bytes: &'static [u8]) -> Result<ReadPacket
             data_len: bytes.len() as i32,
             sync_block: None,
         },
-        checksum: Bytes::new(),
+        checksum,
         payload,
     })
 }
@@ -212,27 +247,52 @@ impl Cluster for FakeCluster {
         }
     }
 
-    fn open_read(&mut self, _kept: Option<u64>, ask: &ReadAsk) -> Result<u64, LinkFault> {
+    fn moment(&mut self) -> u64 {
+        0
+    }
+
+    /// There is no memory where the step wants another kind of connection than is asked for.
+    fn open_read(&mut self, kept: Option<u64>, ask: &ReadAsk) -> Result<u64, LinkFault> {
         let told = opened(self.alloc, ask, self.failures)?;
-        match self.next_step() {
-            Step::Opens => {
-                if self.writes.contains(self.reads.vacant_key()) {
-                    return Err(LinkFault::NoMemory);
-                }
-                Ok(self.reads.insert(told)? as u64)
+        let fits = match self.next_step() {
+            Step::Opens => kept.is_none(),
+            Step::OpensKept => kept.is_some(),
+            Step::LacksMemory => false,
+            Step::Breaks => {
+                self.failures = self.failures.saturating_add(1);
+                return Err(LinkFault::Broken);
             }
-            Step::LacksMemory => Err(LinkFault::NoMemory),
             _ => {
                 self.failures = self.failures.saturating_add(1);
-                Err(LinkFault::Refused)
+                return Err(LinkFault::Refused);
             }
+        };
+        if !fits || self.writes.contains(self.reads.vacant_key()) {
+            return Err(LinkFault::NoMemory);
+        }
+        Ok(self.reads.insert(told)? as u64)
+    }
+
+    fn checksums(&self, link: u64) -> Option<ChecksumInfo> {
+        match self.reads.get(link as usize) {
+            Some(read) => read.checksums,
+            None => None,
         }
     }
 
-    fn packet(&mut self, _link: u64) -> Result<ReadPacket, LinkFault> {
+    fn packet(&mut self, link: u64) -> Result<ReadPacket, LinkFault> {
+        let makes_sums = self.checksums(link) == Some(SUMS);
         match self.next_step() {
-            Step::Gives(offset, bytes) if bytes.len() < 64 => {
-                Ok(packet(self.alloc, offset, bytes)?)
+            Step::Gives(offset, bytes) if makes_sums && bytes.len() < 64 => {
+                Ok(packet(self.alloc, offset, bytes, sums(self.alloc, bytes)?)?)
+            }
+            Step::Spoils(offset, bytes) if bytes.len() < 64 => {
+                let spoilt = packet(self.alloc, offset, bytes, Bytes::new())?;
+                self.failures = self.failures.saturating_add(1);
+                match self.reads.get(link as usize) {
+                    Some(read) if read.before < self.failures => Ok(spoilt),
+                    _ => Err(LinkFault::Broken),
+                }
             }
             Step::LacksMemory => Err(LinkFault::NoMemory),
             _ => {
@@ -242,9 +302,9 @@ impl Cluster for FakeCluster {
         }
     }
 
-    fn end_read(&mut self, link: u64, _keep: bool) -> bool {
+    fn end_read(&mut self, link: u64, keep: bool) -> bool {
         let _ended = self.reads.try_remove(link as usize);
-        false
+        keep
     }
 
     /// It opens no write link.

@@ -1,9 +1,11 @@
 //! What a session makes of datanodes that fail, call by call.
 
-use crate::fake_cluster::Step::{Breaks, Gives, LacksMemory, Opens, Refuses};
-use crate::fake_cluster::{FakeCluster, Look, Step};
+use crate::fake_cluster::Step::{Breaks, Gives, LacksMemory, Opens, OpensKept, Refuses, Spoils};
+use crate::fake_cluster::{FakeCluster, Look, Step, block};
 use crate::making::settings;
+use hdfs_blocks::BlockRead;
 use hdfs_client::run_session;
+use hdfs_connections::ConnectionCache;
 use hdfs_model::{Command, Fault, HdfsError, Reply, TransferFault};
 use hdfs_wire::Text;
 use std::alloc::Global;
@@ -24,17 +26,35 @@ enum Ends {
     Other,
 }
 
+/// The packet behind a block, which ends a read.
+const ENDS: Step = Gives(4, &[]);
+
 /// A read of five bytes from the third on, of a file of two blocks on two datanodes: what the datanodes do, and how it
 /// ends.
-const ROWS: [(&str, &[Step], Ends); 13] = [
+const ROWS: [(&str, &[Step], Ends); 20] = [
     (
         "two blocks",
-        &[Opens, Gives(0, FIRST), Opens, Gives(0, SECOND)],
+        &[
+            Opens,
+            Gives(0, FIRST),
+            ENDS,
+            OpensKept,
+            Gives(0, SECOND),
+            ENDS,
+        ],
         Ends::Bytes(&[2, 3, 4, 5, 6]),
     ),
     (
         "the first replica refuses",
-        &[Refuses, Opens, Gives(0, FIRST), Opens, Gives(0, SECOND)],
+        &[
+            Refuses,
+            Opens,
+            Gives(0, FIRST),
+            ENDS,
+            Opens,
+            Gives(0, SECOND),
+            ENDS,
+        ],
         Ends::Bytes(&[2, 3, 4, 5, 6]),
     ),
     (
@@ -44,8 +64,10 @@ const ROWS: [(&str, &[Step], Ends); 13] = [
             Breaks,
             Opens,
             Gives(0, FIRST),
+            ENDS,
             Opens,
             Gives(0, SECOND),
+            ENDS,
         ],
         Ends::Bytes(&[2, 3, 4, 5, 6]),
     ),
@@ -55,8 +77,10 @@ const ROWS: [(&str, &[Step], Ends); 13] = [
             Opens,
             Gives(0, &[0, 1]),
             Gives(2, &[2, 3]),
-            Opens,
+            ENDS,
+            OpensKept,
             Gives(0, SECOND),
+            ENDS,
         ],
         Ends::Bytes(&[2, 3, 4, 5, 6]),
     ),
@@ -67,8 +91,10 @@ const ROWS: [(&str, &[Step], Ends); 13] = [
             Gives(3, &[3]),
             Opens,
             Gives(0, FIRST),
+            ENDS,
             Opens,
             Gives(0, SECOND),
+            ENDS,
         ],
         Ends::Bytes(&[2, 3, 4, 5, 6]),
     ),
@@ -80,8 +106,10 @@ const ROWS: [(&str, &[Step], Ends); 13] = [
             Gives(1, &[1, 9]),
             Opens,
             Gives(2, &[2, 3]),
+            ENDS,
             Opens,
             Gives(0, SECOND),
+            ENDS,
         ],
         Ends::Bytes(&[2, 3, 4, 5, 6]),
     ),
@@ -92,8 +120,10 @@ const ROWS: [(&str, &[Step], Ends); 13] = [
             Gives(-1, &[9, 9, 9, 9, 9]),
             Opens,
             Gives(0, FIRST),
+            ENDS,
             Opens,
             Gives(0, SECOND),
+            ENDS,
         ],
         Ends::Bytes(&[2, 3, 4, 5, 6]),
     ),
@@ -105,21 +135,127 @@ const ROWS: [(&str, &[Step], Ends); 13] = [
             Gives(3, &[]),
             Opens,
             Gives(3, &[3]),
+            ENDS,
             Opens,
             Gives(0, SECOND),
+            ENDS,
         ],
         Ends::Bytes(&[2, 3, 4, 5, 6]),
     ),
     (
-        "the second replica goes on where the first one broke",
+        "the same replica goes on where its connection broke",
         &[
             Opens,
             Gives(0, &[0, 1, 2]),
             Breaks,
             Opens,
             Gives(3, &[3]),
+            ENDS,
+            OpensKept,
+            Gives(0, SECOND),
+            ENDS,
+        ],
+        Ends::Bytes(&[2, 3, 4, 5, 6]),
+    ),
+    (
+        "the second replica goes on where the first one broke twice",
+        &[
+            Opens,
+            Gives(0, &[0, 1, 2]),
+            Breaks,
+            Opens,
+            Breaks,
+            Opens,
+            Gives(3, &[3]),
+            ENDS,
             Opens,
             Gives(0, SECOND),
+            ENDS,
+        ],
+        Ends::Bytes(&[2, 3, 4, 5, 6]),
+    ),
+    (
+        "the second replica goes on where the first one broke and refused",
+        &[
+            Opens,
+            Gives(0, &[0, 1, 2]),
+            Breaks,
+            Refuses,
+            Opens,
+            Gives(3, &[3]),
+            ENDS,
+            Opens,
+            Gives(0, SECOND),
+            ENDS,
+        ],
+        Ends::Bytes(&[2, 3, 4, 5, 6]),
+    ),
+    (
+        "a packet before the wanted offset is no reason to try once more",
+        &[
+            Opens,
+            Gives(0, &[0, 1]),
+            Breaks,
+            Opens,
+            Gives(0, FIRST),
+            ENDS,
+            Opens,
+            Gives(0, SECOND),
+            ENDS,
+        ],
+        Ends::Bytes(&[2, 3, 4, 5, 6]),
+    ),
+    (
+        "a packet whose checksums don't hold",
+        &[
+            Opens,
+            Spoils(0, FIRST),
+            Opens,
+            Gives(0, FIRST),
+            ENDS,
+            Opens,
+            Gives(0, &[4, 5]),
+            Spoils(2, &[6, 7]),
+            OpensKept,
+            Gives(2, &[6, 7]),
+            ENDS,
+        ],
+        Ends::Bytes(&[2, 3, 4, 5, 6]),
+    ),
+    (
+        "a kept connection that breaks is followed by a fresh one",
+        &[
+            Opens,
+            Gives(0, FIRST),
+            ENDS,
+            Breaks,
+            Opens,
+            Gives(0, SECOND),
+            ENDS,
+        ],
+        Ends::Bytes(&[2, 3, 4, 5, 6]),
+    ),
+    (
+        "a connection that breaks behind the range isn't kept",
+        &[
+            Opens,
+            Gives(0, FIRST),
+            Breaks,
+            Opens,
+            Gives(0, SECOND),
+            Breaks,
+        ],
+        Ends::Bytes(&[2, 3, 4, 5, 6]),
+    ),
+    (
+        "a connection that gives bytes behind the range isn't kept",
+        &[
+            Opens,
+            Gives(0, FIRST),
+            Gives(4, &[9]),
+            Opens,
+            Gives(0, SECOND),
+            LacksMemory,
         ],
         Ends::Bytes(&[2, 3, 4, 5, 6]),
     ),
@@ -130,12 +266,12 @@ const ROWS: [(&str, &[Step], Ends); 13] = [
     ),
     (
         "both replicas in the middle of the first block",
-        &[Opens, Gives(0, &[0, 1, 2]), Breaks, Refuses],
+        &[Opens, Gives(0, &[0, 1, 2]), Breaks, Refuses, Refuses],
         Ends::ReadFails(3),
     ),
     (
-        "both replicas of the second block",
-        &[Opens, Gives(0, FIRST), Refuses, Opens, Breaks],
+        "both replicas of the second block, the first on a kept connection",
+        &[Opens, Gives(0, FIRST), ENDS, Refuses, Opens, Breaks],
         Ends::ReadFails(0),
     ),
     (
@@ -191,5 +327,29 @@ fn reads_fall_over_to_the_next_replica(rt: HostRuntime) -> Result<(), Fail> {
     }
     let (ends, _, _) = run(rt.alloc(), Look::NoFile, &[])?;
     assert_eq!(rt; ends, Ends::FileNotFound);
+    Ok(())
+}
+
+/// Of three connections that are kept to a datanode two are tried, and both break; then a fresh one is made, which doesn't lose the
+/// replica, and is kept behind the third.
+#[test]
+fn two_kept_connections_are_tried_and_then_a_fresh_one(rt: HostRuntime) -> Result<(), Fail> {
+    let alloc = rt.alloc();
+    let mut cache = ConnectionCache::new(alloc);
+    cache.release("dn0:0", 7, 0)?;
+    cache.release("dn0:0", 8, 0)?;
+    cache.release("dn0:0", 9, 0)?;
+    let steps = [Breaks, Breaks, Opens, Gives(0, FIRST), ENDS];
+    let mut cluster = FakeCluster::new(alloc, Look::TwoBlocks, &steps)?;
+    let mut reader = BlockRead::replicated(alloc, block(alloc, 1, 0)?, 0, 4, "")?;
+    let bytes = reader
+        .next(&mut cluster, &mut cache)?
+        .ok_or("the block has bytes")?;
+    assert_eq!(rt; bytes.as_slice(), FIRST);
+    assert_eq!(rt; cluster.left(), 0);
+    assert!(rt; reader.given_up().is_empty());
+    assert_eq!(rt; cache.get("dn0:0", 0), Some(9));
+    assert!(rt; cache.get("dn0:0", 0).is_some());
+    assert!(rt; cache.get("dn0:0", 0).is_none());
     Ok(())
 }

@@ -5,7 +5,7 @@ use std::alloc::Global;
 use std::test::Fail;
 
 /// The calls of a tally that fail, of the next five.
-fn failing(tally: &mut Tally) -> [bool; 5] {
+fn failing(tally: &mut Tally<()>) -> [bool; 5] {
     [
         tally.count(),
         tally.count(),
@@ -27,12 +27,12 @@ fn planned(alloc: Global, faults: &[FaultLine]) -> Result<FaultPlan, Fail> {
 #[test]
 fn calls_fail_by_their_numbers(rt: HostRuntime) -> Result<(), Fail> {
     let mut tally = Tally::new(rt.alloc());
-    tally.plan(2)?;
-    tally.plan(4)?;
-    tally.plan(0)?;
+    tally.plan(2, ())?;
+    tally.plan(4, ())?;
+    tally.plan(0, ())?;
     assert!(rt; failing(&mut tally) == [false, true, false, true, false]);
-    tally.plan(5)?;
-    tally.plan(6)?;
+    tally.plan(5, ())?;
+    tally.plan(6, ())?;
     assert!(rt; failing(&mut tally) == [true, false, false, false, false]);
     Ok(())
 }

@@ -1,6 +1,6 @@
 //! Scripts that set their cluster and plan faults of write links, and what the program writes for them.
 
-use crate::support::{answer, expected, plain_answer, run, sink, source};
+use hdfs_checking::{answer, expected, plain_answer, run, sink, source};
 use hdfs_client_tests::cluster;
 use std::alloc::Global;
 use std::test::Fail;

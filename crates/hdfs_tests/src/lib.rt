@@ -4,13 +4,11 @@
 #[cfg(test)]
 mod fault_rows;
 #[cfg(test)]
+mod replica_rows;
+#[cfg(test)]
 mod rows;
 #[cfg(test)]
 mod runs;
-#[cfg(test)]
-mod single_faults;
-#[cfg(test)]
-mod support;
 #[cfg(test)]
 mod texts;
 #[cfg(test)]

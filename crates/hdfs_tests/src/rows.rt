@@ -1,5 +1,5 @@
 //! Scripts, and what the program writes for them.
-use crate::support::{answer, expected, plain_answer, refused};
+use hdfs_checking::{answer, expected, plain_answer, refused};
 use std::alloc::Global;
 use std::test::Fail;
 
@@ -90,16 +90,21 @@ fn each_script_is_answered_as_by_the_plain_program(rt: HostRuntime) -> Result<()
 }
 
 /// Scripts with faults of datanodes, what is written, and the status.
-const FAULTS: [(&str, &str, u8); 7] = [
+const FAULTS: [(&str, &str, u8); 8] = [
     (
         "file /a 644 1 8 00\nfault read 0 1 broken\ndo read /a 0 1\n",
         "fault 1 DataTransferError\n",
         2,
     ),
     (
-        "file /a 644 1 8 00\nfault read 0 2 broken\ndo read /a 0 1\ndo read /a 0 1\ndo read /a 0 1\n",
+        "file /a 644 1 8 00\nfault read 0 3 broken\ndo read /a 0 1\ndo read /a 0 1\ndo read /a 0 1\n",
         "ok bytes 00\nfault 2 DataTransferError\n",
         2,
+    ),
+    (
+        "file /a 644 1 8 00\nfault read 0 2 broken\nfault read 0 4 damaged\ndo read /a 0 1\ndo read /a 0 1\n",
+        "ok bytes 00\nok bytes 00\n",
+        0,
     ),
     (
         "file /a 644 1 8 00\nfault read 0 2 broken\nfault read 0 2 broken\ndo read /a 0 1\n",
@@ -142,7 +147,7 @@ fn a_broken_packet_fails_the_read_that_met_it(rt: HostRuntime) -> Result<(), Fai
 }
 
 /// Scripts that are refused, and their first bad line.
-const BAD: [(&str, u64); 101] = [
+const BAD: [(&str, u64); 102] = [
     ("file  /a 644 1 8 00", 1),
     (" file /a 644 1 8 00", 1),
     ("file /a 644 1 8 00 ", 1),
@@ -158,7 +163,7 @@ const BAD: [(&str, u64); 101] = [
     ("file /a 648 1 8 00", 1),
     ("file /a 10000 1 8 00", 1),
     ("file /a 644 0 8 00", 1),
-    ("file /a 644 2 8 00", 1),
+    ("file /a 644 65536 8 00", 1),
     ("file /a 644 4294967296 8 00", 1),
     ("file /a 644 1 0 -", 1),
     ("file /a 644 1 9223372036854775808 -", 1),
@@ -202,7 +207,8 @@ const BAD: [(&str, u64); 101] = [
     ("fault read 4294967296 1 broken", 1),
     ("fault read 0 0 broken", 1),
     ("fault read 0 18446744073709551616 broken", 1),
-    ("fault read 0 1 damaged", 1),
+    ("fault read 0 1 lost", 1),
+    ("fault read 0 1", 1),
     ("fault link 0 broken", 1),
     ("fault link 1 damaged", 1),
     ("fault ack 0 0", 1),

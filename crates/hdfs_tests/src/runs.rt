@@ -1,6 +1,6 @@
 //! Words, sources and sinks that fail, and clusters that hold files before the program runs.
 
-use crate::support::{expected, failing_source, run, sink, source};
+use hdfs_checking::{expected, failing_source, run, sink, source};
 use hdfs_client_tests::{cluster, held};
 use hdfs_model::Store;
 use hdfs_streams::MemSink;

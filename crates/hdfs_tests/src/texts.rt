@@ -2,7 +2,7 @@
 ghost use Rattle.std.specs.Prelude.{◌<◌};
 ghost use Rattle.hdfs_cluster.specs.MemShown.{shown_of};
 
-use crate::support::{sink, source, words};
+use hdfs_checking::{sink, source, words};
 use hdfs_client_tests::{cluster, held};
 use hdfs_cluster::MemCluster;
 use hdfs_model::{
@@ -132,7 +132,7 @@ const NOTES: [(&str, &str); 28] = [
     ),
     (
         "\nfault read 0 1\n",
-        "line 2: not `fault read NODE NTH broken`, with one space between words",
+        "line 2: not `fault read NODE NTH KIND`, with one space between words",
     ),
     (
         "do  read /a 0 1\n",
@@ -159,8 +159,8 @@ const NOTES: [(&str, &str); 28] = [
         "line 1: PERMISSION isn't a number from 0 to 7777 in octal digits",
     ),
     (
-        "file /a 644 2 8 00\n",
-        "line 1: REPLICATION of a file isn't 1",
+        "file /a 644 0 8 00\n",
+        "line 1: REPLICATION of a file isn't a number from 1 to 65535",
     ),
     (
         "file /a 644 1 0 -\n",

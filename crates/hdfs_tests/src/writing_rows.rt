@@ -1,6 +1,6 @@
 //! Scripts that write, and what the program writes for them.
 
-use crate::support::{answer, expected, plain_answer};
+use hdfs_checking::{answer, expected, plain_answer};
 use std::alloc::Global;
 use std::test::Fail;
 
@@ -217,90 +217,6 @@ fn numbers_out_of_their_limits_and_datanodes_that_fail(rt: HostRuntime) -> Resul
             expected(alloc, *status, text)?,
             "{script}"
         );
-    }
-    Ok(())
-}
-
-/// A line of a script that does something to a path: the first half and the second, with the path between them.
-const CALLS: [(&str, &str); 10] = [
-    ("do create ", " 644 1 4 false true\n"),
-    ("do create ", " 600 1 8 true true\n"),
-    ("do append ", "\n"),
-    ("do write ", " -\n"),
-    ("do write ", " 01\n"),
-    ("do write ", " 0203040506\n"),
-    ("do write ", " 0708090a0b0c0d0e0f\n"),
-    ("do close ", "\n"),
-    ("do read ", " 0 1\n"),
-    ("do read ", " 3 3\n"),
-];
-
-/// Two paths.
-pub(crate) const PATHS: [&str; 2] = ["/a", "/b"];
-
-/// A call on a path, by its number: the calls in order on the first path, and then on the second.
-pub(crate) fn push_call(script: &mut String, number: usize) -> Result<(), Fail> {
-    let (before, behind) = CALLS[number % 10];
-    script.push_str(before)?;
-    script.push_str(PATHS[number / 10 % 2])?;
-    script.push_str(behind)?;
-    Ok(())
-}
-
-/// The script of `count` calls with this number, each one of `kinds`, behind the line of a file.
-fn script_of(alloc: Global, number: usize, kinds: usize, count: usize) -> Result<String, Fail> {
-    let mut script = String::from_str(alloc, "file /a 644 1 4 10111213\n")?;
-    let mut rest = number;
-    for _ in 0..count {
-        push_call(&mut script, rest.checked_rem(kinds).unwrap_or(0))?;
-        rest = rest.checked_div(kinds).unwrap_or(0);
-    }
-    Ok(script)
-}
-
-/// How many scripts there are of two calls on two paths, of three calls on one path, and of four calls on two paths.
-const OF_TWO: usize = 400;
-
-const OF_THREE: usize = 1000;
-
-const OF_FOUR: usize = 160_000;
-
-#[test]
-fn all_scripts_of_two_calls_on_two_paths_are_answered_as_by_the_plain_program(
-    rt: HostRuntime,
-) -> Result<(), Fail> {
-    let alloc = rt.alloc();
-    for number in 0..OF_TWO {
-        let script = script_of(alloc, number, 20, 2)?;
-        let plain = plain_answer(alloc, script.as_bytes())?;
-        assert_eq!(rt; answer(alloc, script.as_bytes())?, plain, "{script}");
-    }
-    Ok(())
-}
-
-#[test]
-fn all_scripts_of_three_calls_on_one_path_are_answered_as_by_the_plain_program(
-    rt: HostRuntime,
-) -> Result<(), Fail> {
-    let alloc = rt.alloc();
-    for number in 0..OF_THREE {
-        let script = script_of(alloc, number, 10, 3)?;
-        let plain = plain_answer(alloc, script.as_bytes())?;
-        assert_eq!(rt; answer(alloc, script.as_bytes())?, plain, "{script}");
-    }
-    Ok(())
-}
-
-// (2,623 scripts)
-#[test]
-fn each_61st_script_of_four_calls_on_two_paths_is_answered_as_by_the_plain_program(
-    rt: HostRuntime,
-) -> Result<(), Fail> {
-    let alloc = rt.alloc();
-    for number in (0..OF_FOUR).step_by(61) {
-        let script = script_of(alloc, number, 20, 4)?;
-        let plain = plain_answer(alloc, script.as_bytes())?;
-        assert_eq!(rt; answer(alloc, script.as_bytes())?, plain, "{script}");
     }
     Ok(())
 }

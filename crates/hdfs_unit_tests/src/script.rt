@@ -29,11 +29,14 @@ file /a/b 644 1 1 0001
 fault link 1 badack
 fault ack 0 2
 fault send 4294967295 1
-fault read 0 1 broken";
+fault read 0 1 broken
+fault read 1 1 damaged
+fault read 1 2 gap
+fault read 1 1 refused";
     let read = parse(rt.alloc(), script)?;
     assert_eq!(rt; read.bad, None);
     assert_eq!(rt; read.sets, Some(2));
-    assert_eq!(rt; read.lines.as_slice().len(), 6);
+    assert_eq!(rt; read.lines.as_slice().len(), 9);
     assert_eq!(rt; read.settings.cluster.nodes, 5);
     let session = session_settings(rt.alloc(), &read.settings)?;
     assert_eq!(rt; session.home.as_str(), "/user/Ada1");
@@ -41,7 +44,7 @@ fault read 0 1 broken";
 }
 
 // Lines, and what is said of each as the first of a script over a fresh store.
-const WRONG: [(&str, Wrong); 34] = [
+const WRONG: [(&str, Wrong); 36] = [
     ("set", Wrong::SetWords),
     ("set replication 1", Wrong::SetWords),
     ("set user", Wrong::SetWords),
@@ -62,7 +65,9 @@ const WRONG: [(&str, Wrong); 34] = [
     ("fault link 0 broken", Wrong::Nth),
     ("fault ack 0", Wrong::AckWords),
     ("fault send 0 1 broken", Wrong::SendWords),
-    ("fault read 0 1", Wrong::BrokenWords),
+    ("fault read 0 1", Wrong::ReadFaultWords),
+    ("fault read 0 1 slow", Wrong::ReadKind),
+    ("fault read 0 0 gap", Wrong::Nth),
     ("fault ack 4294967296 1", Wrong::Node),
     ("fault send 0 0", Wrong::Nth),
     ("do", Wrong::CommandWords),

@@ -1,15 +1,16 @@
 //! Sessions with a single fault: what they answer, and what then stands at the other path.
 
-use crate::support::{Ending, plain_answer, run, sink, source};
-use crate::writing_rows::{PATHS, push_call};
+use crate::comparing::{COUNTS, calls_of};
+use crate::scripts::{PATHS, script_of};
+use hdfs_checking::{Ending, plain_answer, run, sink, source};
 use hdfs_client_tests::cluster;
 use hdfs_cluster::{Cluster, MemCluster};
 use std::alloc::Global;
-use std::process::Abort;
 use std::test::Fail;
 
-/// The first three set-ups of a pipeline, each of which fails alone, in each way.
-const LINKS: [&str; 9] = [
+/// One of the first three set-ups of a pipeline fails, in each way; one of the first three acknowledgements that tell of a datanode; or
+/// one of the first three packets that are sent to it.
+const FAULTS: [&str; 15] = [
     "link 1 broken",
     "link 1 refused",
     "link 1 badack",
@@ -19,43 +20,13 @@ const LINKS: [&str; 9] = [
     "link 3 broken",
     "link 3 refused",
     "link 3 badack",
+    "ack 0 1",
+    "ack 0 2",
+    "ack 0 3",
+    "send 0 1",
+    "send 0 2",
+    "send 0 3",
 ];
-
-/// The first three acknowledgements that tell of a datanode.
-const ACKS: [&str; 3] = ["ack 0 1", "ack 0 2", "ack 0 3"];
-
-/// The first three packets that are sent to it.
-const SENDS: [&str; 3] = ["send 0 1", "send 0 2", "send 0 3"];
-
-/// A stored file.
-const FILE: &str = "file /a 644 1 4 10111213\n";
-
-/// Four calls, by their numbers: a file is created or gone on with, bytes are written to it, and any two calls follow. There are 3,600
-/// such sessions.
-fn calls_of(number: usize) -> [usize; 4] {
-    let opening = [1, 2, 10][number % 3];
-    let first = if opening < 10 { 0 } else { 10 };
-    [
-        opening,
-        first + 4 + number / 3 % 3,
-        number / 9 % 20,
-        number / 180 % 20,
-    ]
-}
-
-/// The script of a fault, if there is one, and of calls.
-fn script_of(alloc: Global, fault: Option<&str>, calls: &[usize]) -> Result<String, Fail> {
-    let mut script = String::from_str(alloc, FILE)?;
-    if let Some(fault) = fault {
-        script.push_str("fault ")?;
-        script.push_str(fault)?;
-        script.push('\n')?;
-    }
-    for call in calls {
-        push_call(&mut script, *call)?;
-    }
-    Ok(script)
-}
 
 /// How many replies stand before the fault of a link or a datanode, where each is that of the plain program.
 fn done_before(alloc: Global, given: &str, plain: &str) -> Result<Option<usize>, Fail> {
@@ -126,14 +97,13 @@ fn failures(store: &MemCluster) -> Result<u64, Fail> {
 fn run_over(alloc: Global, script: &str, store: &mut MemCluster) -> Result<Ending, Fail> {
     let source = source(alloc, script.as_bytes())?;
     if store.namenodes() == 0 {
-        return Err(Fail::from("there is a namenode"));
+        return Err(Fail::from("there is no namenode"));
     }
     run(alloc, &["session"], source, sink(alloc), store)
 }
 
 /// What a new session reads of a path is what the plain program reads behind the calls that were done.
 fn check_path(
-    rt: &impl Abort,
     alloc: Global,
     path: usize,
     done: &[usize],
@@ -145,76 +115,61 @@ fn check_path(
         let given = run_over(alloc, read.as_str(), store)?.text;
         let given = unnumbered(alloc, given.as_str(), 1)?;
         let wanted = plain_read(alloc, done, read.as_str())?;
-        assert_eq!(rt; given, wanted, "{done:?} {read}");
+        if given != wanted {
+            return Err(Fail::new(format_args!(
+                "behind {done:?} {read} gives {given}, not {wanted}"
+            )));
+        }
     }
     Ok(())
 }
 
 /// Runs a session with a fault. Where nothing fails, it is answered as by the plain program; else it ends at a fault, behind the
 /// plain program's replies, and the other path stands as these commands left it. Answers whether something failed.
-fn check_session(
-    rt: &impl Abort,
-    alloc: Global,
-    fault: &str,
-    calls: &[usize],
-) -> Result<bool, Fail> {
+fn check_session(alloc: Global, fault: &str, calls: &[usize]) -> Result<bool, Fail> {
     let plain = plain_answer(alloc, script_of(alloc, None, calls)?.as_bytes())?;
     let script = script_of(alloc, Some(fault), calls)?;
     let mut store = cluster(alloc)?;
     let given = run_over(alloc, script.as_str(), &mut store)?;
     if failures(&store)? == 0 {
-        assert_eq!(rt; given, plain, "{script}");
+        if given != plain {
+            return Err(Fail::new(format_args!(
+                "{script}\nis answered by\n{given:?}\nand not by\n{plain:?}"
+            )));
+        }
         return Ok(false);
     }
-    assert_eq!(rt; given.status, 2, "{script}");
+    if given.status != 2 {
+        return Err(Fail::new(format_args!("{script}\nends with status {}", given.status)));
+    }
     let Some(done) = done_before(alloc, given.text.as_str(), plain.text.as_str())? else {
-        return Err(Fail::from("the replies are those of the plain program"));
+        return Err(Fail::new(format_args!(
+            "{script}\nis answered by\n{given:?}\nand not by a part of\n{plain:?}"
+        )));
     };
     let (Some(done), Some(failed)) = (calls.get(..done), calls.get(done)) else {
-        return Err(Fail::from("a command fails"));
+        return Err(Fail::new(format_args!("{script}\nends behind its last command")));
     };
     let other = 1 - failed / 10 % 2;
     if !is_open(other, done) {
-        check_path(rt, alloc, other, done, &mut store)?;
+        check_path(alloc, other, done, &mut store)?;
     }
     Ok(true)
 }
 
-// (321 pairs)
-#[test]
-fn a_pipeline_that_fails_leaves_the_other_path(rt: HostRuntime) -> Result<(), Fail> {
+/// Runs of the pairs of a session of each length and a single fault those with the numbers `first`, `first + step` and so on. Answers
+/// how many it ran, and in how many something failed.
+pub(crate) fn check_all(alloc: Global, first: usize, step: usize) -> Result<(u64, u64), Fail> {
+    let mut done = 0u64;
     let mut failed = 0u64;
-    for pair in (0..32_400).step_by(101) {
-        if check_session(&rt, rt.alloc(), LINKS[pair % 9], &calls_of(pair / 9))? {
-            failed = failed.saturating_add(1);
+    for (length, count) in COUNTS {
+        for pair in (first..count.saturating_mul(15)).step_by(step.max(1)) {
+            let calls = calls_of(alloc, pair / 15, length)?;
+            if check_session(alloc, FAULTS[pair % 15], calls.as_slice())? {
+                failed = failed.saturating_add(1);
+            }
+            done = done.saturating_add(1);
         }
     }
-    assert!(rt; failed > 100, "{failed}");
-    Ok(())
-}
-
-// (349 pairs)
-#[test]
-fn an_acknowledgement_that_fails_leaves_the_other_path(rt: HostRuntime) -> Result<(), Fail> {
-    let mut failed = 0u64;
-    for pair in (0..10_800).step_by(31) {
-        if check_session(&rt, rt.alloc(), ACKS[pair % 3], &calls_of(pair / 3))? {
-            failed = failed.saturating_add(1);
-        }
-    }
-    assert!(rt; failed > 100, "{failed}");
-    Ok(())
-}
-
-// (349 pairs)
-#[test]
-fn a_packet_that_is_not_sent_leaves_the_other_path(rt: HostRuntime) -> Result<(), Fail> {
-    let mut failed = 0u64;
-    for pair in (0..10_800).step_by(31) {
-        if check_session(&rt, rt.alloc(), SENDS[pair % 3], &calls_of(pair / 3))? {
-            failed = failed.saturating_add(1);
-        }
-    }
-    assert!(rt; failed > 100, "{failed}");
-    Ok(())
+    Ok((done, failed))
 }

@@ -1,4 +1,6 @@
-//! What the tests share: the program over memory, and the plain program's answer to the same script.
+//! The program over memory, and the plain program's answer to the same script: what tests and the sweep over short sessions share.
+#![tactic(auto)]
+
 ghost use Rattle.std.specs.Prelude.{◌<◌};
 ghost use Rattle.hdfs_cluster.specs.MemShown.{shown_of};
 
@@ -15,30 +17,30 @@ use std::test::Fail;
 
 /// A status and what was written.
 #[derive(Debug, PartialEq, Eq, Drop)]
-pub(crate) struct Ending {
-    pub(crate) status: u8,
-    pub(crate) text: String,
+pub struct Ending {
+    pub status: u8,
+    pub text: String,
 }
 
 /// A source that gives a script.
-pub(crate) fn source(alloc: Global, script: &[u8]) -> Result<MemSource, Fail> {
+pub fn source(alloc: Global, script: &[u8]) -> Result<MemSource, Fail> {
     let bytes = Blob::from_vec(Vec::from_slice(alloc, script)?);
     Ok(MemSource::new(bytes, List::new(alloc)))
 }
 
 /// A source of a script whose call of this number fails.
-pub(crate) fn failing_source(alloc: Global, script: &[u8], call: u64) -> Result<MemSource, Fail> {
+pub fn failing_source(alloc: Global, script: &[u8], call: u64) -> Result<MemSource, Fail> {
     let bytes = Blob::from_vec(Vec::from_slice(alloc, script)?);
     Ok(MemSource::new(bytes, List::from_vec(vec![in alloc; call]?)))
 }
 
 /// A sink that never fails.
-pub(crate) fn sink(alloc: Global) -> MemSink {
+pub fn sink(alloc: Global) -> MemSink {
     MemSink::new(alloc, 4096, List::new(alloc))
 }
 
 /// Words of a command line.
-pub(crate) fn words(alloc: Global, texts: &[&str]) -> Result<Vec<String>, Fail> {
+pub fn words(alloc: Global, texts: &[&str]) -> Result<Vec<String>, Fail> {
     let mut words = Vec::new(alloc);
     for text in texts {
         words.push(String::from_str(alloc, text)?)?;
@@ -47,7 +49,7 @@ pub(crate) fn words(alloc: Global, texts: &[&str]) -> Result<Vec<String>, Fail> 
 }
 
 /// Runs the program, and tells its status and what was written.
-pub(crate) fn run(
+pub fn run(
     alloc: Global,
     texts: &[&str],
     mut source: MemSource,
@@ -67,14 +69,14 @@ pub(crate) fn run(
 }
 
 /// What the program answers over a new cluster in memory.
-pub(crate) fn answer(alloc: Global, script: &[u8]) -> Result<Ending, Fail> {
+pub fn answer(alloc: Global, script: &[u8]) -> Result<Ending, Fail> {
     let mut store = cluster(alloc)?;
     let source = source(alloc, script)?;
     Ok(run(alloc, &["session"], source, sink(alloc), &mut store)?)
 }
 
 /// A status and a text.
-pub(crate) fn expected(alloc: Global, status: u8, text: &str) -> Result<Ending, Fail> {
+pub fn expected(alloc: Global, status: u8, text: &str) -> Result<Ending, Fail> {
     Ok(Ending {
         status,
         text: String::from_str(alloc, text)?,
@@ -82,7 +84,7 @@ pub(crate) fn expected(alloc: Global, status: u8, text: &str) -> Result<Ending, 
 }
 
 /// What is answered to a script with this first bad line.
-pub(crate) fn refused(alloc: Global, line: u64) -> Result<Ending, Fail> {
+pub fn refused(alloc: Global, line: u64) -> Result<Ending, Fail> {
     Ok(Ending {
         status: 1,
         text: format!(in alloc; "bad {line}\n")?,
@@ -98,7 +100,7 @@ fn world(alloc: Global, given: &ScriptSettings) -> Result<PlainWorld, Fail> {
 }
 
 /// What the plain program answers to a script without faults.
-pub(crate) fn plain_answer(alloc: Global, script: &[u8]) -> Result<Ending, Fail> {
+pub fn plain_answer(alloc: Global, script: &[u8]) -> Result<Ending, Fail> {
     let read = parse(alloc, script)?;
     let world = world(alloc, &read.settings)?;
     let mut files = PlainFiles::new(alloc)?;
