@@ -1,13 +1,16 @@
 #!/usr/bin/env python3
 """Times the program on scripts of two kinds, and prints the figures as ratios.
 
-usage: bench/run.py PROGRAM
+usage: bench/run.py PROGRAM [EARLIER]
   PROGRAM  the built program hdfs_run
+  EARLIER  an earlier build of it, whose reads are timed beside
 
 One large file: a script with one file of 8 MB (and one of 4 MB) in hexadecimal digits, and one read of all of it.
 Many files: a script with 10,000 files (and one with 1,000) of 16 bytes, and one read of each.
 The same files written: one write of 8 MB (and one of 4 MB), read back; a file of 10,000 blocks (and one of 1,000) of 512 bytes;
 10,000 files (and 1,000) that are created, written with 16 bytes and closed.
+Reads alone: a file of 8 MB that is read four times and once, on three replicas and, by an earlier build, on one, whose difference is
+that of three reads; 10,000 reads (and 1,000) of one file of 16 bytes.
 Each run is made five times, and the fastest counts; memory is the largest resident set of the five.
 """
 import os
@@ -19,9 +22,14 @@ import time
 RUNS = 5
 
 
-def one_file(size):
+def one_file(size, replication=1, reads=1):
     digits = bytes(range(256)).hex() * (size // 256)
-    return f"file /a 644 1 {size} {digits}\ndo read /a 0 {size}\n", f"ok bytes {digits}\n"
+    read = f"do read /a 0 {size}\n"
+    return f"file /a 644 {replication} {size} {digits}\n{read * reads}", f"ok bytes {digits}\n" * reads
+
+
+def one_small_file(reads):
+    return "file /a 644 3 16 " + "00" * 16 + "\n" + "do read /a 0 16\n" * reads, ("ok bytes " + "00" * 16 + "\n") * reads
 
 
 def many_files(count):
@@ -82,10 +90,23 @@ def run(program, script, expected):
         return min(seconds), peak
 
 
+def read_alone(program, replication):
+    """The seconds that one read of 8 MB takes, without loading them."""
+    four, _ = run(program, *one_file(8_000_000, replication, reads=4))
+    one, _ = run(program, *one_file(8_000_000, replication))
+    return (four - one) / 3
+
+
 def main():
     if len(sys.argv) == 4:
         return once(*sys.argv[1:])
     program = sys.argv[1]
+    if len(sys.argv) == 3:
+        earlier, now = read_alone(sys.argv[2], 1), read_alone(program, 3)
+        print(f"8 MB read from three replicas, of the earlier build's speed: {earlier / now:.2f}")
+    many, _ = run(program, *one_small_file(10_000))
+    few, _ = run(program, *one_small_file(1_000))
+    print(f"per read of one small file, 10,000 against 1,000: {many / 10 / few:.2f} times")
     large, peak = run(program, *one_file(8_000_000))
     small, _ = run(program, *one_file(4_000_000))
     many, _ = run(program, *many_files(10_000))
