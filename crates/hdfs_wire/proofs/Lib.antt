@@ -9,6 +9,7 @@ pub mod Numbers
 pub mod OneField
 pub mod Register
 pub mod Sliced
+pub mod Spelled
 pub mod Steps
 pub mod Stream
 pub mod Tables

@@ -32,10 +32,11 @@ smaller left i lt =
           rw gone (omega arith)
     ]
 
-pub Sliced-more : (near far : List (List ℕ)) (register : ℕ) (bytes : List ℕ) (sum left i entry : ℕ) → i < 16 → length bytes ≡ 16 → IsBytes bytes → Sliced near far register bytes sum left i
-    → ((p : ℕ) → AreTables p 0 near → AreTables p 8 far → entry ≡ zero_bytes p (16 - 1 - i + 1) (bit_xor (left % 256) (get_or bytes i 0)))
+pub Sliced-more : (near far : List (List ℕ)) (register : ℕ) (bytes : List ℕ) (sum left i byte entry : ℕ) → i < 16 → length bytes ≡ 16 → IsBytes bytes → Sliced near far register bytes sum left i
+    → ((p : ℕ) → AreTables p 0 near → AreTables p 8 far → entry ≡ zero_bytes p (16 - 1 - i + 1) (bit_xor (left % 256) byte))
+    → byte ≡ get_or bytes i 0
     → Sliced near far register bytes (bit_xor sum entry) (left / 256) (i + 1)
-Sliced-more near far register bytes sum left i entry lt len fits so is =
+Sliced-more near far register bytes sum left i byte entry lt len fits so is at =
     let here : drop i bytes ≡ get_or bytes i 0 ∷ drop (i + 1) bytes = drop_more bytes i 0 (omega arith) in
     let after : suc (length (drop (i + 1) bytes)) ≡ 16 - 1 - i + 1 = rw (length-drop (i + 1) bytes) (omega arith) in
     record {
@@ -45,7 +46,7 @@ Sliced-more near far register bytes sum left i entry lt len fits so is =
           let whole : IsBytes (b ∷ drop (i + 1) bytes) = rw (← here) (IsBytes-drop i bytes fits) in
           let first : enter p left (drop i bytes) ≡ bit_xor (zero_bytes p (suc (length (drop (i + 1) bytes))) (bit_xor (left % 256) b)) (enter p (left / 256) (drop (i + 1) bytes)) =
           ap (enter p left) here ∙ enter-first p left b (drop (i + 1) bytes) whole in
-          let entry-is : zero_bytes p (suc (length (drop (i + 1) bytes))) (bit_xor (left % 256) b) ≡ entry = ap (λ (k : ℕ). zero_bytes p k (bit_xor (left % 256) b)) after ∙ sym (is p n f) in
+          let entry-is : zero_bytes p (suc (length (drop (i + 1) bytes))) (bit_xor (left % 256) b) ≡ entry = ap (λ (k : ℕ). zero_bytes p k (bit_xor (left % 256) b)) after ∙ ap (λ (v : ℕ). zero_bytes p (16 - 1 - i + 1) (bit_xor (left % 256) v)) (sym at) ∙ sym (is p n f) in
           xor_assoc sum entry (enter p (left / 256) (drop (i + 1) bytes))
           ∙ ap (bit_xor sum) (sym (first ∙ ap (λ (x : ℕ). bit_xor x (enter p (left / 256) (drop (i + 1) bytes))) entry-is))
           ∙ so.same p n f;

@@ -8,3 +8,4 @@ pub mod Outgoing
 pub mod Packets
 pub mod Reading
 pub mod Varint
+pub mod Words

@@ -3,6 +3,7 @@
 ghost use Rattle.std.specs.Prelude.{◌≡◌, ℕ, length, ◌+◌, ◌<◌, ◌∷◌, []};
 ghost use Rattle.hdfs_wire.specs.Crc.{enter, checksum, crc32c_of, crc32_of, TellsOneByte};
 ghost use Rattle.hdfs_wire.specs.CrcTables.{AreTables, zero_bytes};
+ghost use Rattle.hdfs_wire.specs.Words.{Spells};
 
 mod tables;
 
@@ -35,6 +36,17 @@ fn enter_byte(near: &Tables, register: u32, byte: u8) -> u32
     near[0][place as usize] ^ (register >> 8)
 }
 
+/// The number that eight bytes write, the first one as its lowest byte.
+#[inline(always)]
+fn word_of(bytes: &[u8]) -> u64
+    requires { length bytes.now ≡ 8 }
+    ensures { Spells result bytes.now }
+{
+    u64::from_le_bytes([
+        bytes[0], bytes[1], bytes[2], bytes[3], bytes[4], bytes[5], bytes[6], bytes[7],
+    ])
+}
+
 /// The register after sixteen bytes.
 #[inline(always)]
 fn enter_step(near: &Tables, far: &Tables, register: u32, bytes: &[u8]) -> u32
@@ -43,10 +55,19 @@ fn enter_step(near: &Tables, far: &Tables, register: u32, bytes: &[u8]) -> u32
 {
     let mut left = register;
     let mut sum = 0;
-    for i in 0..STEP {
-        let byte = (left % 256) as u8 ^ bytes[i];
+    let mut word = word_of(&bytes[..8]);
+    for i in 0..8 {
+        let byte = (left % 256) as u8 ^ (word % 256) as u8;
         sum ^= left_behind(near, far, STEP - 1 - i, byte);
         left >>= 8;
+        word >>= 8;
+    }
+    let mut word = word_of(&bytes[8..]);
+    for k in 8..STEP {
+        let byte = (left % 256) as u8 ^ (word % 256) as u8;
+        sum ^= left_behind(near, far, STEP - 1 - k, byte);
+        left >>= 8;
+        word >>= 8;
     }
     sum
 }
