@@ -1,9 +1,9 @@
 -- Slices of bytes that are added up, and rows of a matrix times slices.
-use Rattle.std.proofs.Common.{zero, suc, ◌-◌, length-append, ◌≡◌, ℕ, ◌+◌, ◌<◌, List, [], ◌∷◌, ◌++◌, length, get_or, set, take, drop, inl, inr, refl, sym, ap, subst, ◌∙◌, arith}
-use Rattle.std.proofs.lemmas.Bool.{cases_eq, cases_lt}
+use Rattle.std.proofs.Common.{◌≡◌, ℕ, ◌+◌, ◌<◌, List, [], ◌∷◌, ◌++◌, length, get_or, set, take, drop, inl, inr, refl, sym, ap, subst, ◌∙◌, arith}
+use Rattle.std.proofs.lemmas.Bool.{cases_eq}
 use Rattle.std.proofs.lemmas.List.{length-set, length_push, get_or_push, get_or_append_left, get_or-set_same, get_or-set_other}
 use Rattle.std.proofs.Math.Nat.{mod-eq_of_lt}
-use Rattle.std.proofs.Math.Seq.{take-append_seam, get_or-append_right}
+use Rattle.std.proofs.Math.Seq.{take-append_seam}
 use Rattle.hdfs_field.specs.declared.gf256.GF256.{GF256}
 use Rattle.hdfs_field.specs.Elements.{element, gf256}
 use Rattle.hdfs_field.specs.FieldLaws.{same_element}
@@ -36,42 +36,30 @@ module _ (c : GF256) (input old : List ℕ) where
   added_all new q h end = record { long = h.long; bytes = λ k lt. h.done k (omega arith) }
 
 module _ (m : List (List GF256)) (shards : List (List ℕ)) (r n : ℕ) where
-  pub first_none : AreFirst m shards r n []
-  first_none = record { each = λ q lt. absurd (omega arith) }
+  -- no byte yet
+  pub first_none : (bytes : List ℕ) → AreFirst m shards r n 0 bytes
+  first_none bytes = record { each = λ q lt. absurd (omega arith) }
 
-  -- more bytes behind the first
-  pub first_more : (xs ys : List ℕ) → AreFirst m shards r n xs → ((k : ℕ) → k < length ys → get_or ys k 0 ≡ (combined_below m shards r n (length xs + k)).value)
-      → AreFirst m shards r n (xs ++ ys)
-  first_more xs ys h more = record {
-    each = λ q lt. elim (cases_lt q (length xs)) [
-      | inl before ↦ get_or_append_left xs ys 0 q before ∙ h.each q before
-      | inr le ↦
-          let k = q - length xs in
-          let at : length xs + k ≡ q = omega arith in
-          let within : k < length ys = omega (arith, length-append xs ys) in
-          get_or-append_right xs ys q 0 le ∙ more k within ∙ ap (λ (p : ℕ). (combined_below m shards r n p).value) at
+  -- one byte more
+  pub first_set : (bytes : List ℕ) (y q : ℕ) → q < length bytes → AreFirst m shards r n q bytes → y ≡ (combined_below m shards r n q).value
+      → AreFirst m shards r n (q + 1) (set bytes q y)
+  first_set bytes y q here h is = record {
+    each = λ k lt. elim (cases_eq k q) [
+      | inl e ↦ ap (λ (i : ℕ). get_or (set bytes q y) i 0) e ∙ get_or-set_same bytes q y 0 here ∙ is ∙ ap (λ (p : ℕ). (combined_below m shards r n p).value) (sym e)
+      | inr apart ↦ get_or-set_other bytes q k y 0 apart ∙ h.each k (omega arith)
     ];
   }
 
-  one_byte : (y v k : ℕ) → y ≡ v → k < 1 → get_or (y ∷ []) k 0 ≡ v
-  one_byte y v zero e lt = e
-  one_byte y v (suc k) e lt = absurd (omega arith)
-
-  -- one byte more
-  pub first_push : (xs : List ℕ) (y q : ℕ) → length xs ≡ q → AreFirst m shards r n xs → y ≡ (combined_below m shards r n q).value → AreFirst m shards r n (xs ++ y ∷ [])
-  first_push xs y q long h is = first_more xs (y ∷ []) h (λ k lt.
-      let at : q ≡ length xs + k = omega arith in
-      one_byte y _ k (is ∙ ap (λ (p : ℕ). (combined_below m shards r n p).value) at) lt)
-
   -- all the bytes
-  pub first_all : (bytes : List ℕ) → length bytes ≡ length (get_or shards 0 []) → AreFirst m shards r n bytes → IsCombined m shards r n bytes
-  first_all bytes long h = record { long = long; bytes = λ q lt. h.each q (omega arith) }
+  pub first_all : (bytes : List ℕ) (count : ℕ) → length bytes ≡ count → count ≡ length (get_or shards 0 []) → AreFirst m shards r n count bytes
+      → IsCombined m shards r n bytes
+  first_all bytes count long even h = record { long = long ∙ even; bytes = λ q lt. h.each q (omega arith) }
 
 -- the product of a row, over the slices that it was made of
 pub row_product : (m : List (List GF256)) (inputs shards : List (List ℕ)) (r len : ℕ) (bytes : List ℕ) → inputs ≡ shards → len ≡ length (get_or shards 0 [])
     → IsRowProduct m inputs r len bytes → IsCombined m shards r (width m) bytes
 row_product m inputs shards r len bytes same even h =
-    first_all m shards r (width m) bytes (h.long ∙ even) (subst (λ (s : List (List ℕ)). AreFirst m s r (width m) bytes) same h.first)
+    first_all m shards r (width m) bytes len h.long even (subst (λ (s : List (List ℕ)). AreFirst m s r (width m) len bytes) same h.first)
 
 pub added_value : (c a b p s : GF256) (x y v : ℕ) → v ≡ s.value → s ≡ gf256.sum a p → a ≡ element x → p ≡ gf256.product c b → b ≡ element y
     → v ≡ (gf256.sum (element x) (gf256.product c (element y))).value

@@ -15,7 +15,6 @@ use Rattle.hdfs_field.specs.Lanes.{HasLanes}
 use Rattle.hdfs_field.specs.Matrices.{entry, total}
 use Rattle.hdfs_field.specs.Slices.{AddedBelow, added_at, AreFirst, byte_at, combined_below}
 use Rattle.hdfs_field.proofs.Writes.{total_more}
-use Rattle.hdfs_field.proofs.Combining.{first_more}
 use Rattle.std.proofs.Math.ListN.{get_or-map}
 use Rattle.std.proofs.lemmas.List.{length-map}
 
@@ -131,12 +130,22 @@ module _ (m : List (List GF256)) (shards : List (List ℕ)) (r i : ℕ) where
             ∙ sym (ap (λ (x : GF256). x.value) (total_more gf256 n f));
       }
 
--- a vector of bytes behind the first ones
-pub first_vector : (m : List (List GF256)) (shards : List (List ℕ)) (r n i : ℕ) (xs ys : List ℕ) → length xs ≡ i → AreFirst m shards r n xs
-    → HasLanes ys (λ k. (combined_below m shards r n (i + k)).value) → AreFirst m shards r n (xs ++ ys)
-first_vector m shards r n i xs ys at h lanes =
+-- a vector of bytes more, written behind the first ones
+pub first_vector : (m : List (List GF256)) (shards : List (List ℕ)) (r n i : ℕ) (bytes ys : List ℕ) → i + 64 ≤ length bytes → AreFirst m shards r n i bytes
+    → HasLanes ys (λ k. (combined_below m shards r n (i + k)).value) → AreFirst m shards r n (i + 64) (put_chunk i bytes ys)
+first_vector m shards r n i bytes ys room h lanes =
     let long = lanes.long in
-    first_more m shards r n xs ys h (λ k lt. lanes.each k (omega arith) ∙ ap (λ (p : ℕ). (combined_below m shards r n (p + k)).value) (sym at))
+    record {
+      each = λ q lt. elim (cases_lt q i) [
+        | inl before ↦ get_or-put_chunk_below i bytes ys q 0 before ∙ h.each q before
+        | inr le ↦
+            let k = q - i in
+            let at : i + k ≡ q = omega arith in
+            let within : k < 64 = omega arith in
+            let P : ℕ → Type 0 = λ p. get_or (put_chunk i bytes ys) p 0 ≡ (combined_below m shards r n p).value in
+            subst P at (get_or-put_chunk_at i bytes ys k 0 (omega arith) (omega arith) ∙ lanes.each k within)
+      ];
+    }
 
 -- what a slice in a list of slices points to
 pub slice_at : (inputs : List (Bor (List ℕ))) (c : ℕ) → get_or (map (λ (p : Bor (List ℕ)). p.now) inputs) c [] ≡ (get_or inputs c (record { ref_ptr = (0, 0); now = [] })).now

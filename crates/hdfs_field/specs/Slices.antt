@@ -52,11 +52,11 @@ pub record AreLong (count len : ℕ) (shards : List (List ℕ)) : Type 0 where
   pub size : length shards ≡ count
   pub even : (c : ℕ) → c < count → length (slice_index_or shards c []) ≡ len
 
--- the first bytes of row r of the matrix times these slices, byte by byte
-pub record AreFirst (m : List (List GF256)) (shards : List (List ℕ)) (r n : ℕ) (bytes : List ℕ) : Type 0 where
-  pub each : (q : ℕ) → q < length bytes → slice_index bytes q ≡ (combined_below m shards r n q).value
+-- the first bytes, so many, are the first entries of row r of the matrix, n of them, times these slices, byte by byte
+pub record AreFirst (m : List (List GF256)) (shards : List (List ℕ)) (r n count : ℕ) (bytes : List ℕ) : Type 0 where
+  pub each : (q : ℕ) → q < count → slice_index bytes q ≡ (combined_below m shards r n q).value
 
 -- row r of the matrix times these slices, of this length, byte by byte
 pub record IsRowProduct (m : List (List GF256)) (shards : List (List ℕ)) (r len : ℕ) (bytes : List ℕ) : Type 0 where
   pub long : length bytes ≡ len
-  pub first : AreFirst m shards r (width m) bytes
+  pub first : AreFirst m shards r (width m) len bytes

@@ -5,7 +5,7 @@ ghost use Rattle.std.specs.Prelude.{List, [], map, slice_index_or, ◌≡◌, �
 ghost use Rattle.hdfs_field.specs.declared.gf256.GF256.{GF256};
 ghost use Rattle.hdfs_field.specs.Elements.{product};
 ghost use Rattle.hdfs_field.specs.Lanes.{HasLanes, AreEntries, AreProducts, AreRowTables};
-ghost use Rattle.hdfs_field.specs.Slices.{IsAdded, AddedBelow, combined_below};
+ghost use Rattle.hdfs_field.specs.Slices.{IsAdded, AddedBelow, AreFirst, combined_below};
 
 use crate::gf256::GF256;
 use crate::gf256::residues::{product, shifted};
@@ -81,6 +81,17 @@ fn load(bytes: &[u8], i: usize) -> u8x64
     ensures bytes { (k : ℕ) → slice_index bytes.now k < 256 }
 {
     u8x64::from_slice(&bytes[i..])
+}
+
+/// Writes a vector over the bytes from `i` on.
+#[inline(always)]
+pub(crate) fn store(out: &mut [u8], i: usize, vector: u8x64)
+    requires { i + LANES ≤ length out.old }
+    ensures long { length out.new ≡ length out.old }
+    ensures first { (m : List (List GF256)) (shards : List (List ℕ)) (r n : ℕ) → AreFirst m shards r n i out.old
+        → HasLanes vector (λ k. (combined_below m shards r n (i + k)).value) → AreFirst m shards r n (i + LANES) out.new }
+{
+    vector.copy_to_slice(&mut out[i..]);
 }
 
 /// Adds the products of the bytes from `i` on, as many as a vector has.

@@ -6,7 +6,7 @@ ghost use Rattle.hdfs_field.specs.Slices.{AreEven, AreLong, IsRowProduct, AreCom
 ghost use Rattle.hdfs_field.specs.Lanes.{AreRowTables};
 
 use crate::gf256::GF256;
-use crate::kernel::{LANES, combined_vector, combined_vectors, tables};
+use crate::kernel::{LANES, combined_vector, combined_vectors, store, tables};
 use crate::matrix::Matrix;
 use crate::ring::Ring;
 use bytes::Bytes;
@@ -81,15 +81,14 @@ impl Matrix<GF256> {
         ensures { IfOk result (λ b. IsRowProduct self.now (map (λ p. p.now) inputs.now) r len b) }
     {
         let tables = self.row_tables(alloc, r)?;
-        let mut out = Vec::with_capacity(alloc, len)?;
+        let mut out = vec![in alloc; 0u8; len]?;
         let mut i = 0;
         'vectors: while i + LANES <= len {
-            let bytes = combined_vector(&tables, inputs, i).to_array();
-            out.extend_from_slice(&bytes)?;
+            store(&mut out, i, combined_vector(&tables, inputs, i));
             i += LANES;
         }
         'bytes: for q in i..len {
-            out.push(self.combined_byte(inputs, r, q))?;
+            out[q] = self.combined_byte(inputs, r, q);
         }
         Ok(Blob::from_vec(out))
     }
@@ -111,18 +110,18 @@ impl Matrix<GF256> {
     {
         let tables = self.row_tables(alloc, r)?;
         let other_tables = self.row_tables(alloc, next)?;
-        let mut out = Vec::with_capacity(alloc, len)?;
-        let mut other = Vec::with_capacity(alloc, len)?;
+        let mut out = vec![in alloc; 0u8; len]?;
+        let mut other = vec![in alloc; 0u8; len]?;
         let mut i = 0;
         'vectors: while i + LANES <= len {
             let (bytes, other_bytes) = combined_vectors(&tables, &other_tables, inputs, i);
-            out.extend_from_slice(&bytes.to_array())?;
-            other.extend_from_slice(&other_bytes.to_array())?;
+            store(&mut out, i, bytes);
+            store(&mut other, i, other_bytes);
             i += LANES;
         }
         'bytes: for q in i..len {
-            out.push(self.combined_byte(inputs, r, q))?;
-            other.push(self.combined_byte(inputs, next, q))?;
+            out[q] = self.combined_byte(inputs, r, q);
+            other[q] = self.combined_byte(inputs, next, q);
         }
         Ok((Blob::from_vec(out), Blob::from_vec(other)))
     }

@@ -9,12 +9,12 @@ decreases-vectors l = l.len - l.i
 abbrev pub invariant-vectors : goal.invariant-vectors
 invariant-vectors l = record {
   within : l.i ≤ l.len;
-  long : length l.out.items ≡ l.i;
-  first : AreFirst l.self (map (λ p. p.now) l.inputs) l.r (width l.self) l.out.items;
+  long : length l.out.items ≡ l.len;
+  first : AreFirst l.self (map (λ p. p.now) l.inputs) l.r (width l.self) l.i l.out.items;
 }
 
 abbrev pub invariant-bytes : goal.invariant-bytes
 invariant-bytes l = record {
-  long : length l.out.items ≡ l.q;
-  first : AreFirst l.self (map (λ p. p.now) l.inputs) l.r (width l.self) l.out.items;
+  long : length l.out.items ≡ l.len;
+  first : AreFirst l.self (map (λ p. p.now) l.inputs) l.r (width l.self) l.q l.out.items;
 }

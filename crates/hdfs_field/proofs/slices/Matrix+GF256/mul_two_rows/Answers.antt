@@ -1,10 +1,9 @@
-use Rattle.std.proofs.Common.{ℕ, ◌+◌, length, map, sym, ap, subst, ◌∙◌, arith, length-append}
-use Rattle.std.proofs.lemmas.List.{length_push}
+use Rattle.std.proofs.Common.{ℕ, ◌+◌, length, map, sym, ap, subst, ◌∙◌, arith}
 use Rattle.hdfs_field.specs.Lanes.{HasLanes, AreRowTables}
 use Rattle.hdfs_field.specs.Matrices.{width}
 use Rattle.hdfs_field.specs.Slices.{AreFirst, combined_below}
-use Rattle.hdfs_field.proofs.Combining.{first_push}
-use Rattle.hdfs_field.proofs.LaneLemmas.{first_vector, slice_count}
+use Rattle.hdfs_field.proofs.Combining.{whole_written}
+use Rattle.hdfs_field.proofs.LaneLemmas.{slice_count}
 use Rattle.hdfs_field.proofs.slices.Matrix+GF256.mul_two_rows.Goals as goal
 
 pub vectors-preserved : goal.vectors-preserved
@@ -21,34 +20,17 @@ vectors-preserved c =
     (c.combined_vectors.ensures.first m c.args.r so) in
     let other_lanes = subst (λ (k : ℕ). HasLanes c.combined_vectors.result.1 (λ j. (combined_below m shards c.args.next k (c.vectors.i + j)).value)) count
     (c.combined_vectors.ensures.second m c.args.next other_so) in
-    let long = lanes.long in
-    let other_long = other_lanes.long in
-    let items = c.in_ok-extend_from_slice.ensures.items in
-    let other_items = c.in_ok-extend_from_slice-2.ensures.items in
-    let before = c.vectors.invariant.long in
-    let other_before = c.vectors.invariant.other_long in
+    let value = c.deref_mut.ensures.value in
+    let whole = whole_written c.vectors.out.len c.store.new.out c.vectors.out.items (c.store.ensures.long ∙ ap length value) (sym c.deref_mut.ensures.len ∙ ap length value) in
+    let other_value = c.deref_mut-in-vectors.ensures.value in
+    let other_whole = whole_written c.vectors.other.len c.store-in-vectors.new.out c.vectors.other.items (c.store-in-vectors.ensures.long ∙ ap length other_value)
+    (sym c.deref_mut-in-vectors.ensures.len ∙ ap length other_value) in
     record {
       within = omega arith;
-      long = ap length items ∙ length-append c.vectors.out.items c.combined_vectors.result.0 ∙ omega arith;
-      first = subst (AreFirst m shards c.args.r n) (sym items) (first_vector m shards c.args.r n c.vectors.i c.vectors.out.items c.combined_vectors.result.0 before c.vectors.invariant.first lanes);
-      other_long = ap length other_items ∙ length-append c.vectors.other.items c.combined_vectors.result.1 ∙ omega arith;
-      second = subst (AreFirst m shards c.args.next n) (sym other_items)
-          (first_vector m shards c.args.next n c.vectors.i c.vectors.other.items c.combined_vectors.result.1 other_before c.vectors.invariant.second other_lanes);
-    }
-
-pub bytes-preserved : goal.bytes-preserved
-bytes-preserved c =
-    let m = c.args.self.now in
-    let shards = map (λ p. p.now) c.args.inputs.now in
-    let n = width m in
-    let items = c.in_ok-push.ensures.items in
-    let other_items = c.in_ok-push-2.ensures.items in
-    let before = c.bytes.invariant.long in
-    let other_before = c.bytes.invariant.other_long in
-    record {
-      long = ap length items ∙ length_push c.bytes.out.items c.combined_byte.result ∙ omega arith;
-      first = subst (AreFirst m shards c.args.r n) (sym items) (first_push m shards c.args.r n c.bytes.out.items c.combined_byte.result c.bytes.q before c.bytes.invariant.first c.combined_byte.ensures);
-      other_long = ap length other_items ∙ length_push c.bytes.other.items c.combined_byte-in-bytes.result ∙ omega arith;
-      second = subst (AreFirst m shards c.args.next n) (sym other_items)
-          (first_push m shards c.args.next n c.bytes.other.items c.combined_byte-in-bytes.result c.bytes.q other_before c.bytes.invariant.second c.combined_byte-in-bytes.ensures);
+      long = ap length whole ∙ c.store.ensures.long ∙ ap length value ∙ c.vectors.invariant.long;
+      first = subst (AreFirst m shards c.args.r n (c.vectors.i + 64)) (sym whole)
+          (c.store.ensures.first m shards c.args.r n (subst (AreFirst m shards c.args.r n c.vectors.i) (sym value) c.vectors.invariant.first) lanes);
+      other_long = ap length other_whole ∙ c.store-in-vectors.ensures.long ∙ ap length other_value ∙ c.vectors.invariant.other_long;
+      second = subst (AreFirst m shards c.args.next n (c.vectors.i + 64)) (sym other_whole)
+          (c.store-in-vectors.ensures.first m shards c.args.next n (subst (AreFirst m shards c.args.next n c.vectors.i) (sym other_value) c.vectors.invariant.second) other_lanes);
     }

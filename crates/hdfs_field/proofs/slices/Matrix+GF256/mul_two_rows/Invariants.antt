@@ -9,16 +9,16 @@ decreases-vectors l = l.len - l.i
 abbrev pub invariant-vectors : goal.invariant-vectors
 invariant-vectors l = record {
   within : l.i ≤ l.len;
-  long : length l.out.items ≡ l.i;
-  first : AreFirst l.self (map (λ p. p.now) l.inputs) l.r (width l.self) l.out.items;
-  other_long : length l.other.items ≡ l.i;
-  second : AreFirst l.self (map (λ p. p.now) l.inputs) l.next (width l.self) l.other.items;
+  long : length l.out.items ≡ l.len;
+  first : AreFirst l.self (map (λ p. p.now) l.inputs) l.r (width l.self) l.i l.out.items;
+  other_long : length l.other.items ≡ l.len;
+  second : AreFirst l.self (map (λ p. p.now) l.inputs) l.next (width l.self) l.i l.other.items;
 }
 
 abbrev pub invariant-bytes : goal.invariant-bytes
 invariant-bytes l = record {
-  long : length l.out.items ≡ l.q;
-  first : AreFirst l.self (map (λ p. p.now) l.inputs) l.r (width l.self) l.out.items;
-  other_long : length l.other.items ≡ l.q;
-  second : AreFirst l.self (map (λ p. p.now) l.inputs) l.next (width l.self) l.other.items;
+  long : length l.out.items ≡ l.len;
+  first : AreFirst l.self (map (λ p. p.now) l.inputs) l.r (width l.self) l.q l.out.items;
+  other_long : length l.other.items ≡ l.len;
+  second : AreFirst l.self (map (λ p. p.now) l.inputs) l.next (width l.self) l.q l.other.items;
 }
