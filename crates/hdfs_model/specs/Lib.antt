@@ -13,6 +13,7 @@ pub mod Picture
 pub mod Pipes
 pub mod Reading
 pub mod Refusals
+pub mod Replicas
 pub mod Scenes
 pub mod Sending
 pub mod Sessions

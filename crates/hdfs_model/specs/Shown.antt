@@ -102,27 +102,27 @@ pub record Opened (old : Shown) (ask : ReadAsk) (link : ℕ) (new : Shown) : Typ
   pub reading : Reading link old new
   pub fresh : IsUnused link old
   pub checksums : Option ChecksumInfo
-  pub opened : new.reads link ≡ Some (record {
-    node = ask.node;
-    block = ask.block;
-    token = ask.token;
-    checksums = checksums;
-    before = old.counts.nodes ask.node.datanode_uuid;
-  })
+  pub opened : new.reads link ≡ Some (record { ask = ask; checksums = checksums; before = old.counts.nodes ask.node.datanode_uuid })
   pub begins : Told (Begins ask link) old.picture new.picture
 
--- No read was opened. Beside want of memory this comes only where the datanode's count rose.
-pub record NotOpened (old : Shown) (ask : ReadAsk) (fault : LinkFault) (new : Shown) : Type 0 where
+-- a connection that was kept is found broken: datanodes end those that are idle
+abbrev pub IsStale : Option ℕ → LinkFault → Type 0
+IsStale kept fault = IsSome kept × (fault ≡ faults.Broken)
+
+-- No read was opened. Beside want of memory and a kept connection that is found broken, this comes only where the datanode's count
+-- rose.
+pub record NotOpened (old : Shown) (kept : Option ℕ) (ask : ReadAsk) (fault : LinkFault) (new : Shown) : Type 0 where
   pub later : Later old new
   pub last : new.last ≡ old.last
   pub reads : (link : ℕ) → new.reads link ≡ old.reads link
   pub writes : (link : ℕ) → new.writes link ≡ old.writes link
   pub picture : Told SamePicture old.picture new.picture
-  pub cause : fault ≢ faults.NoMemory → Rose (old.counts.nodes ask.node.datanode_uuid) (new.counts.nodes ask.node.datanode_uuid)
+  pub cause : fault ≢ faults.NoMemory
+      → IsStale kept fault ⊎ Rose (old.counts.nodes ask.node.datanode_uuid) (new.counts.nodes ask.node.datanode_uuid)
 
 -- the datanode of a read has failed since the read was opened
 abbrev pub HasFailedSince : OpenRead → Shown → Type 0
-HasFailedSince read now = Rose read.before (now.counts.nodes read.node.datanode_uuid)
+HasFailedSince read now = Rose read.before (now.counts.nodes read.ask.node.datanode_uuid)
 
 -- A packet was given. Where its checksums don't hold, or it isn't the next slice, the link's datanode has failed since the read was
 -- opened.
@@ -143,7 +143,7 @@ pub record NotGiven (old : Shown) (link : ℕ) (fault : LinkFault) (new : Shown)
   pub picture : Told SamePicture old.picture new.picture
   pub not_refused : fault ≢ faults.Refused
   pub cause : fault ≡ faults.Broken
-      → IfSome (old.reads link) (λ read. Rose (old.counts.nodes read.node.datanode_uuid) (new.counts.nodes read.node.datanode_uuid))
+      → IfSome (old.reads link) (λ read. Rose (old.counts.nodes read.ask.node.datanode_uuid) (new.counts.nodes read.ask.node.datanode_uuid))
 
 -- a read was ended
 pub record Ended (old : Shown) (link : ℕ) (new : Shown) : Type 0 where

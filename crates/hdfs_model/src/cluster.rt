@@ -13,7 +13,8 @@ use crate::asks::{Answer, Ask, AskFault, LinkFault};
 use crate::messages::{ReadAsk, Setup};
 use hdfs_wire::{Ack, ChecksumInfo, ReadPacket, WritePacket};
 
-/// Namenodes and datanodes. A call that fails for another cause than memory has raised a count.
+/// Namenodes and datanodes. A call that fails for another cause than memory has raised a count, but for an opening that finds a kept
+/// connection broken.
 pub trait Cluster {
     /// What it shows of itself.
     ghost shown: { Self → Shown };
@@ -40,10 +41,11 @@ pub trait Cluster {
         ensures { shown self.new ≡ shown self.old };
 
     /// Opens a read, and answers its link: on the connection of a link that `end_read` has kept and that is idle, if it is one to the
-    /// asked datanode's address, and else on a fresh one.
+    /// asked datanode's address, and else on a fresh one. A kept connection may be found broken, as datanodes end those that are
+    /// idle; a fresh one breaks only where the datanode has failed.
     fn open_read(&mut self, kept: Option<u64>, ask: &ReadAsk) -> Result<u64, LinkFault>
         ensures ok { IfOk result (λ link. Opened (shown self.old) ask.now link (shown self.new)) }
-        ensures err { IfErr result (λ fault. NotOpened (shown self.old) ask.now fault (shown self.new)) };
+        ensures err { IfErr result (λ fault. NotOpened (shown self.old) kept ask.now fault (shown self.new)) };
 
     /// How the checksums of a read's packets are made; none where they have none.
     fn checksums(&self, link: u64) -> Option<ChecksumInfo>

@@ -1,6 +1,6 @@
 //! What a cluster shows of one path, one block and one link.
 use crate::attributes::Attributes;
-use crate::messages::{Block, DatanodeId, Setup, Token};
+use crate::messages::{ReadAsk, Setup};
 use bytes::Bytes;
 use hdfs_wire::{ChecksumInfo, List, Text};
 
@@ -27,13 +27,11 @@ pub struct BlockEntry {
     pub nodes: List<Text>,
 }
 
-/// What every cluster tells of an open read link: the datanode, the block and the token that it was opened with, how the
-/// checksums of its packets are made (none: they have none), and the datanode's count just before the opening.
+/// What every cluster tells of an open read link: what was asked for when it was opened, how the checksums of its packets are
+/// made (none: they have none), and the datanode's count just before the opening.
 #[derive(Debug, Drop)]
 pub struct OpenRead {
-    pub node: DatanodeId,
-    pub block: Block,
-    pub token: Token,
+    pub ask: ReadAsk,
     pub checksums: Option<ChecksumInfo>,
     pub before: u64,
 }

@@ -1,6 +1,6 @@
 //! A cluster that files and faults can be loaded into.
 ghost use Rattle.std.specs.Prelude.{◌≡◌, ◌↔◌, Bool, IsTrue, [], Some, OnOk, OnErr, IsErrOf, MatchResult, true, false};
-ghost use Rattle.hdfs_model.specs.Loading.{AreValid, Loads, LoadsNothing, Prepares, SameShown, takes};
+ghost use Rattle.hdfs_model.specs.Loading.{AreValid, IsDecided, Loads, LoadsNothing, Prepares, SameShown, takes};
 ghost use Rattle.hdfs_model.specs.Files.{State, only_root};
 ghost use Rattle.hdfs_model.specs.Picture.{Picture};
 ghost use Rattle.hdfs_model.specs.Stores.{Agrees};
@@ -62,6 +62,14 @@ pub enum Line {
         attributes: Attributes,
         bytes: Blob,
     },
+    /// A replica of a closed file's block that has lost its end: datanode `node` holds the block's first `len` bytes alone. The blocks of
+    /// a file and the datanodes are numbered from 0.
+    Short {
+        path: Text,
+        block: u32,
+        node: u32,
+        len: u64,
+    },
     Fault(FaultLine),
 }
 
@@ -70,8 +78,9 @@ pub enum Line {
 pub enum AddFault {
     #[error("out of memory")]
     NoMemory,
-    /// The path isn't new, its parent is no directory, or a value is out of its limits.
-    #[error("the path isn't new, its parent is no directory, or a value is out of its limits")]
+    /// The path isn't new, its parent is no directory, or a value is out of its limits; or there is no such replica, it is shorter
+    /// already, or none would be whole.
+    #[error("the path isn't new, its parent is no directory, or a value is out of its limits; or there is no such replica to cut")]
     Refused,
 }
 
@@ -97,8 +106,9 @@ pub trait Store: Cluster {
         ensures ok { OnOk result (Loads (Self.shown self.old) line (Self.shown self.new)) }
         ensures refused { IsErrOf result AddFault.Refused → SameShown (Self.shown self.old) (Self.shown self.new) }
         ensures exact { (state : State) → Agrees (Self.shown self.old).picture state.files
-            → MatchResult result (λ done. takes state.files line ≡ true)
-            (λ fault. fault ≡ AddFault.Refused → takes state.files line ≡ false) }
+            → IsDecided (Self.shown self.old) state.files line
+            → MatchResult result (λ done. takes (Self.shown self.old).loaded state.files line ≡ true)
+            (λ fault. fault ≡ AddFault.Refused → takes (Self.shown self.old).loaded state.files line ≡ false) }
         ensures err { OnErr result (LoadsNothing (Self.shown self.old) (Self.shown self.new)) };
 
     /// A fresh store that tells its picture has the root alone and no line, and no other store has.
