@@ -12,6 +12,23 @@ use Rattle.hdfs_namespace.proofs.Sizing.{keeps_from-AddsBlock}
 use Rattle.hdfs_model.specs.Loading.{with_new}
 use Rattle.hdfs_model.specs.Stores.{Agrees, AgreesAt, StoresBlocks, StoresBlock, HoldsPrefix}
 
+-- the blocks of the old picture are in the new one, and store there what they stored
+module _ (p p' : Picture) (table : (id : ℕ) (entry : BlockEntry) → p.table id ≡ Some entry → p'.table id ≡ Some entry) (stores : (id : ℕ) (entry : BlockEntry) (bytes : List ℕ) → p.table id ≡ Some entry → StoresBlock p id entry bytes → StoresBlock p' id entry bytes) where
+  pub stores_by : (ids bytes : List ℕ) → StoresBlocks p ids bytes → StoresBlocks p' ids bytes
+  stores_by [] bytes h = h
+  stores_by (id ∷ ids) bytes h = (h.0, table id h.0 h.1, h.2, stores id h.0 (take h.0.length bytes) h.1 h.3, stores_by ids (drop h.0.length bytes) h.4)
+
+  pub agrees_by : (entry : Option Entry) (node : Option Node) → AgreesAt p entry node → AgreesAt p' entry node
+  agrees_by None None h = h
+  agrees_by (Some entries.Dir) (Some Dir) h = h
+  agrees_by (Some (entries.File file)) (Some (File content)) h = (h.0, h.1, stores_by file.blocks content.bytes h.2)
+  agrees_by (Some (entries.File file)) (Some (Writing content)) h = h
+  agrees_by None (Some node) h = absurd h
+  agrees_by (Some entry) None h = absurd h
+  agrees_by (Some entries.Dir) (Some (File content)) h = absurd h
+  agrees_by (Some entries.Dir) (Some (Writing content)) h = absurd h
+  agrees_by (Some (entries.File file)) (Some Dir) h = absurd h
+
 -- the blocks of the old picture are in the new one, and each node holds the same of them
 abbrev pub Extends : Picture → Picture → Type 0
 Extends p p' = KeepsBlocks p.table p'.table p.held p'.held
@@ -25,19 +42,10 @@ module _ (p p' : Picture) (ext : Extends p p') where
   }
 
   pub stores_blocks : (ids bytes : List ℕ) → StoresBlocks p ids bytes → StoresBlocks p' ids bytes
-  stores_blocks [] bytes h = h
-  stores_blocks (id ∷ ids) bytes h = (h.0, ext.table id h.0 h.1, h.2, stores_block id h.0 (take h.0.length bytes) h.1 h.3, stores_blocks ids (drop h.0.length bytes) h.4)
+  stores_blocks = stores_by p p' ext.table stores_block
 
   pub agrees_at : (entry : Option Entry) (node : Option Node) → AgreesAt p entry node → AgreesAt p' entry node
-  agrees_at None None h = h
-  agrees_at (Some entries.Dir) (Some Dir) h = h
-  agrees_at (Some (entries.File file)) (Some (File content)) h = (h.0, h.1, stores_blocks file.blocks content.bytes h.2)
-  agrees_at (Some (entries.File file)) (Some (Writing content)) h = h
-  agrees_at None (Some node) h = absurd h
-  agrees_at (Some entry) None h = absurd h
-  agrees_at (Some entries.Dir) (Some (File content)) h = absurd h
-  agrees_at (Some entries.Dir) (Some (Writing content)) h = absurd h
-  agrees_at (Some (entries.File file)) (Some Dir) h = absurd h
+  agrees_at = agrees_by p p' ext.table stores_block
 
 at_path : (p' : Picture) (b : Bool) (entry : Entry) (node : Node) (other : Option Entry) (files : Option Node) → AgreesAt p' (Some entry) (Some node) → AgreesAt p' other files → AgreesAt p' (cond b (Some entry) other) (cond b (Some node) files)
 at_path p' true entry node other files here there = here

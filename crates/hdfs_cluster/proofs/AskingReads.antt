@@ -56,6 +56,7 @@ fault_never d nth (lines_of.ReadOf node n read_kinds.Refused) = λ is. (cc)
 line_never : (d : List ℕ) (nth : ℕ) (line : Line) → packet_kind_of_line d nth line ≢ refused
 line_never d nth (lines.Dir path) = λ is. (cc)
 line_never d nth (lines.File path attributes bytes) = λ is. (cc)
+line_never d nth (lines.Short path block node len) = λ is. (cc)
 line_never d nth (lines.Fault fault) = fault_never d nth fault
 
 first_never : (a b : Option ReadKind) → a ≢ refused → b ≢ refused → option_or a b ≢ refused

@@ -19,7 +19,7 @@ use Rattle.hdfs_cluster.proofs.Places.{updates_with}
 
 -- no link changes
 pub later_earlier : (s : Slab MemLink) (faults faults' : FaultPlan) → NeverFall (counts_of faults) (counts_of faults') → AreEarlier s faults → AreEarlier s faults'
-later_earlier s faults faults' fall was link read is = omega (arith, was link read is, fall.nodes read.node.datanode_uuid)
+later_earlier s faults faults' fall was link read is = omega (arith, was link read is, fall.nodes read.ask.node.datanode_uuid)
 
 -- each slot is what it was
 pub same_earlier : (s s' : Slab MemLink) (faults : FaultPlan) → ((l : ℕ) → slab.get s' l ≡ slab.get s l) → AreEarlier s faults → AreEarlier s' faults

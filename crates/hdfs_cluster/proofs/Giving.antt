@@ -1,5 +1,5 @@
 -- What an opening and a packet of a read do to what a cluster shows.
-use Rattle.std.proofs.Common.{◌≡◌, ◌≢◌, ◌⊎◌, ℕ, ◌+◌, ◌≤◌, Bool, true, List, length, Option, Some, None, is_some, IfSome, Result, Ok, Err, refl, sym, ◌∙◌, ap, subst, unwrap_or, arith}
+use Rattle.std.proofs.Common.{◌≡◌, ◌≢◌, ◌⊎◌, inr, ℕ, ◌+◌, ◌≤◌, Bool, true, List, length, Option, Some, None, is_some, IfSome, Result, Ok, Err, refl, sym, ◌∙◌, ap, subst, unwrap_or, arith}
 use Rattle.std.specs.Option.{IsSome}
 use Rattle.std.specs.Result.{IfOk, IfErr}
 use Rattle.slab.specs.Slab as slab
@@ -70,15 +70,15 @@ opened_read space settings last loaded faults faults' nodes nodes' s s' link v a
     }
 
 -- one was refused
-pub refused_read : (space : Namespace) (settings : MemSettings) (last : LastAnswer) (loaded : List Line) (faults faults' : FaultPlan) (nodes : Datanodes) (s : Slab MemLink) (ask : ReadAsk) → Counts faults (opens_of ask.node.datanode_uuid) true faults'
-    → NotOpened (shown_at space settings last loaded faults nodes s) ask link_faults.Refused (shown_at space settings last loaded faults' nodes s)
-refused_read space settings last loaded faults faults' nodes s ask counts = record {
+pub refused_read : (space : Namespace) (settings : MemSettings) (last : LastAnswer) (loaded : List Line) (faults faults' : FaultPlan) (nodes : Datanodes) (s : Slab MemLink) (kept : Option ℕ) (ask : ReadAsk) → Counts faults (opens_of ask.node.datanode_uuid) true faults'
+    → NotOpened (shown_at space settings last loaded faults nodes s) kept ask link_faults.Refused (shown_at space settings last loaded faults' nodes s)
+refused_read space settings last loaded faults faults' nodes s kept ask counts = record {
   later = record { counts = falls_counts faults faults' (opens_of ask.node.datanode_uuid) true counts; namenodes = refl; loaded = refl };
   last = refl;
   reads = λ l. refl;
   writes = λ l. refl;
   picture = record { rest = record { files = record { names = λ path. refl; table = λ id. refl; held = λ node id. refl; defaults = refl }; reads = λ l. refl; writes = λ l. refl }; active = refl };
-  cause = λ apart. rose_counts faults faults' calls.Open ask.node.datanode_uuid counts;
+  cause = λ apart. inr (rose_counts faults faults' calls.Open ask.node.datanode_uuid counts);
 }
 
 -- a read was ended
@@ -183,7 +183,7 @@ module _ (space : Namespace) (settings : MemSettings) (last : LastAnswer) (loade
     gave_none : fault ≢ link_faults.Refused → (fault ≡ link_faults.Broken → Rose (node_faults_of faults (node_of v)) (node_faults_of faults' (node_of v))) → NotGiven old link fault new
     gave_none not_refused cause =
         not_given space settings last loaded faults faults' fall nodes nodes s s' (same_held_refl nodes) (links_from_read s s' link v w was updates same.told same.place) link fault not_refused
-        (λ broken. subst (λ (o : Option OpenRead). IfSome o (λ read. Rose (old.counts.nodes read.node.datanode_uuid) (new.counts.nodes read.node.datanode_uuid))) (sym (ap read_told was)) (cause broken))
+        (λ broken. subst (λ (o : Option OpenRead). IfSome o (λ read. Rose (old.counts.nodes read.ask.node.datanode_uuid) (new.counts.nodes read.ask.node.datanode_uuid))) (sym (ap read_told was)) (cause broken))
 
   pub gives_packet : (result : Result ReadPacket LinkFault) → GivesOn faults faults' v w result → IfOk result (λ packet. Given old link packet new)
   gives_packet (Ok packet) h = gave packet (next_of faults (node_of v)) h.0 (counted_packet faults faults' (node_of v) h.1)

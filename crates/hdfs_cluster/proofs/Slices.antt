@@ -13,7 +13,7 @@ use Rattle.hdfs_model.specs.declared.picture.ReadPlace.{ReadPlace}
 use Rattle.hdfs_model.specs.declared.store.ReadKind.{ReadKind}
 use Rattle.hdfs_model.specs.declared.store.ReadKind.TheVariants as read_kinds
 use Rattle.hdfs_model.specs.Reading.{IsHonest, IsSlice, placed_at}
-use Rattle.hdfs_cluster.specs.Coming.{IsGiven, IsWhole, LeavesOneOut, first_turned}
+use Rattle.hdfs_cluster.specs.Coming.{IsGiven, IsWhole, LeavesOneOut, TellsLast, first_turned}
 use Rattle.hdfs_cluster.specs.Slices.{Comes, IsNext, TurnsFirst, crc32c_for}
 
 -- ---- a slice
@@ -25,7 +25,7 @@ next_checked chunk read packet some next =
 
 -- so it is whole
 next_whole : (chunk : ℕ) (read : ReadPlace) (packet : ReadPacket) → 1 ≤ chunk → IsNext chunk read packet → IsWhole (Some (crc32c_for chunk)) read packet
-next_whole chunk read packet some next = record { slice = next.slice; checked = next_checked chunk read packet some next }
+next_whole chunk read packet some next = record { slice = next.slice; last = next.last; checked = next_checked chunk read packet some next }
 
 -- it is honest, wherever it begins
 slice_honest : (info : Option ChecksumInfo) (read : ReadPlace) (place : ℕ) (packet : ReadPacket) → IsSlice (placed_at read place) packet → IsHonest info read packet
@@ -40,8 +40,8 @@ slice_honest info read place packet slice = record {
 
 -- the one before it is left out
 pub leaves_out : (read : ReadPlace) (count : ℕ) (packet : ReadPacket) → read.place + count ≤ length read.base → (count ≡ 0 → (read.offset + read.len ≤ read.place) ⊎ (length read.base ≤ read.place))
-    → (read.offset + read.len ≤ read.place → count ≡ 0) → IsSlice (placed_at read (read.place + count)) packet → LeavesOneOut read packet
-leaves_out read count packet within goes_on stops behind =
+    → (read.offset + read.len ≤ read.place → count ≡ 0) → IsSlice (placed_at read (read.place + count)) packet → TellsLast packet → LeavesOneOut read packet
+leaves_out read count packet within goes_on stops behind last =
     let payload : List ℕ = take count (drop read.place read.base) in
     let size : length payload ≡ count = length-take-le count (drop read.place read.base) (omega (arith, within, length-drop read.place read.base)) in
     record {
@@ -57,6 +57,7 @@ leaves_out read count packet within goes_on stops behind =
         stops = λ covered. size ∙ stops covered;
       };
       behind = subst (λ (n : ℕ). IsSlice (placed_at read (read.place + n)) packet) (sym size) behind;
+      last = last;
     }
 
 -- ---- a damaged one

@@ -150,7 +150,7 @@ module _ (space : Namespace) (settings : MemSettings) (last : LastAnswer) (loade
 
       -- no packet came
       pub not_given : (link : ℕ) (fault : LinkFault) → fault ≢ link_faults.Refused
-          → (fault ≡ link_faults.Broken → IfSome (old.reads link) (λ read. Rose (old.counts.nodes read.node.datanode_uuid) (new.counts.nodes read.node.datanode_uuid))) → NotGiven old link fault new
+          → (fault ≡ link_faults.Broken → IfSome (old.reads link) (λ read. Rose (old.counts.nodes read.ask.node.datanode_uuid) (new.counts.nodes read.ask.node.datanode_uuid))) → NotGiven old link fault new
       not_given link fault not_refused cause = record { later = still_later; last = refl; reads = same.reads; writes = same.writes; picture = still_picture; not_refused = not_refused; cause = cause }
 
       -- the connection broke in place of a packet
@@ -168,8 +168,8 @@ module _ (space : Namespace) (settings : MemSettings) (last : LastAnswer) (loade
       }
 
       module _ (fault : LinkFault) (is : fault ≡ link_faults.NoMemory) where
-        pub not_opened : (ask : ReadAsk) → NotOpened old ask fault new
-        not_opened ask = record { later = still_later; last = refl; reads = same.reads; writes = same.writes; picture = still_picture; cause = λ apart. absurd (apart is) }
+        pub not_opened : (kept : Option ℕ) (ask : ReadAsk) → NotOpened old kept ask fault new
+        not_opened kept ask = record { later = still_later; last = refl; reads = same.reads; writes = same.writes; picture = still_picture; cause = λ apart. absurd (apart is) }
 
         pub not_sent : (link : ℕ) (packet : Outgoing) → NotSent old link packet fault new
         not_sent link packet = record {

@@ -10,6 +10,7 @@ use Rattle.hdfs_model.specs.Files.{Node, Dir, File, Writing, Files}
 use Rattle.hdfs_model.specs.Loading.{takes, is_free, is_directory}
 use Rattle.hdfs_model.specs.Paths.{is_path, parent_of}
 use Rattle.hdfs_model.specs.Picture.{Picture}
+use Rattle.hdfs_model.specs.Shown.{Loaded}
 use Rattle.hdfs_model.specs.Stores.{Agrees, AgreesAt}
 use Rattle.hdfs_model.proofs.Loads.{and_parts, none_from_test}
 use Rattle.hdfs_namespace.specs.Adding.{IsPlace}
@@ -39,8 +40,8 @@ free_alike p files agrees path =
     ∙ ap (λ (b : Bool). is_path path && is_none (p.names path) && b) (directory_alike p (p.names (parent_of path)) (files (parent_of path)) (agrees (parent_of path)))
 
 -- a cluster accepts the files that its state takes
-pub takes_accepts : (p : Picture) (files : Files) → Agrees (Some p) files → (path : List ℕ) (attributes : Attributes) (bytes : List ℕ) → takes files (lines.File path attributes bytes) ≡ accepts p.names path attributes (length bytes)
-takes_accepts p files agrees path attributes bytes = ap (λ (b : Bool). b && in_limits attributes (length bytes)) (free_alike p files agrees path)
+pub takes_accepts : (loaded : Loaded) (p : Picture) (files : Files) → Agrees (Some p) files → (path : List ℕ) (attributes : Attributes) (bytes : List ℕ) → takes loaded files (lines.File path attributes bytes) ≡ accepts p.names path attributes (length bytes)
+takes_accepts loaded p files agrees path attributes bytes = ap (λ (b : Bool). b && in_limits attributes (length bytes)) (free_alike p files agrees path)
 
 some_from : (n : ℕ) → nat_le 1 n ≡ true → 0 < n
 some_from n is = grind (arith, nat_tests, is)

@@ -1,5 +1,5 @@
 -- What a datanode gives for the next packet of a read, as it is planned to fail.
-use Rattle.std.specs.Prelude.{◌≡◌, ℕ, ◌+◌, ◌-◌, List, [], ◌∷◌, length, Option, Some, None, Result, Ok, Err}
+use Rattle.std.specs.Prelude.{◌≡◌, ℕ, ◌+◌, ◌-◌, ◌==◌, List, [], ◌∷◌, length, Option, Some, None, Result, Ok, Err}
 use Rattle.hdfs_wire.specs.declared.checksums.ChecksumInfo.{ChecksumInfo}
 use Rattle.hdfs_wire.specs.declared.read_packet.ReadPacket.{ReadPacket}
 use Rattle.hdfs_wire.specs.Checksums.{IsChecked}
@@ -15,9 +15,14 @@ abbrev pub first_turned : List ℕ → List ℕ
 first_turned [] = []
 first_turned (byte ∷ bytes) = (255 - byte) ∷ bytes
 
+-- the header of an empty packet says that it is the last, and that of another one doesn't
+abbrev pub TellsLast : ReadPacket → Type 0
+TellsLast packet = packet.header.last_packet_in_block ≡ (length packet.payload == 0)
+
 -- the next slice, with checksums that hold as the link tells that they are made
 pub record IsWhole (checksums : Option ChecksumInfo) (read : ReadPlace) (packet : ReadPacket) : Type 0 where
   pub slice : IsSlice read packet
+  pub last : TellsLast packet
   pub checked : IsChecked checksums packet
 
 -- the next slice with its first byte turned, under the header and the checksums of the slice
@@ -33,6 +38,7 @@ pub record LeavesOneOut (read : ReadPlace) (packet : ReadPacket) : Type 0 where
   pub left_out : ReadPacket
   pub slice : IsSlice read left_out
   pub behind : IsSlice (placed_at read (read.place + length left_out.payload)) packet
+  pub last : TellsLast packet
 
 -- a packet that comes though it is planned to fail so; only a damaged one has checksums that may not hold
 abbrev pub IsGiven : Option ChecksumInfo → Option ReadKind → ReadPlace → ReadPacket → Type 0

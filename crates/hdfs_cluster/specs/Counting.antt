@@ -1,5 +1,5 @@
 -- Which calls of a cluster in memory are counted, and which of them fail.
-use Rattle.std.specs.Prelude.{◌≡◌, ◌≢◌, ℕ, ℤ, ◌+◌, ◌^◌, ◌<◌, ◌==◌, ◌&&◌, not, Bool, true, false, List, [], ◌∷◌, slice_index_or, Option, Some, IsSome, is_some, Result, Err, IfOk}
+use Rattle.std.specs.Prelude.{◌≡◌, ◌≢◌, ℕ, ℤ, ◌+◌, ◌-◌, ◌%◌, ◌^◌, ◌<◌, ◌==◌, ◌&&◌, min, not, Bool, true, false, List, [], ◌∷◌, length, slice_index_or, Option, Some, IsSome, IsSomeAnd, is_some, Result, Err, IfOk}
 use Rattle.hdfs_wire.specs.declared.ack.Ack.{Ack}
 use Rattle.hdfs_wire.specs.declared.read_packet.ReadPacket.{ReadPacket}
 use Rattle.hdfs_model.specs.declared.asks.Ask.{Ask}
@@ -82,13 +82,24 @@ abbrev pub AsksOpening : MemCluster → List ℕ → Result ℕ LinkFault → Me
 AsksOpening old node result new =
     CallsNode old node (opens_of node) (is_counted result) (is_refused result) new × (result ≢ Err link_faults.Broken)
 
+-- A read begins where a chunk of so many bytes does: the one in which its first wanted byte stands, or where the datanode's bytes end if
+-- they end before that.
+abbrev pub BeginsAtChunk : ℕ → ReadPlace → Type 0
+BeginsAtChunk chunk read = read.place ≡ min (read.offset - read.offset % chunk) (length read.base)
+
+-- an open read has checksums, and begins with a whole chunk of theirs
+abbrev pub BeginsWithChunk : MemCluster → ℕ → Type 0
+BeginsWithChunk m link =
+    IsSomeAnd ((shown_of m).reads link) (λ told. IsSomeAnd told.checksums (λ sums.
+    IsSomeAnd ((picture_of m).reads link) (BeginsAtChunk sums.bytes_per_checksum)))
+
 -- how the loaded lines make the next packet of a datanode fail
 abbrev pub next_packet_kind : MemCluster → List ℕ → Option ReadKind
 next_packet_kind m node = packet_kind_of (shown_of m).loaded.lines node (calls_at m (reads_of node) + 1)
 
 -- the datanode of an open read
 abbrev pub uuid_at : OpenRead → List ℕ
-uuid_at told = told.node.datanode_uuid
+uuid_at told = told.ask.node.datanode_uuid
 
 -- A packet of a read was asked of its datanode. It has the next number, and fails exactly as a line plans that number to.
 pub record AsksPacket (old : MemCluster) (link : ℕ) (told : OpenRead) (result : Result ReadPacket LinkFault) (new : MemCluster) : Type 0 where

@@ -31,4 +31,5 @@ CutsLine nodes p (lines.File path attributes bytes) =
     (file : FileEntry)
     × (p.names path ≡ Some (entries.File file))
     × IsCut p.table p.held (lowest (min attributes.replication nodes)) attributes.block_size file.blocks bytes
+CutsLine nodes p (lines.Short path block node len) = Unit {0}
 CutsLine nodes p (lines.Fault fault) = Unit {0}

@@ -8,4 +8,5 @@ use Rattle.hdfs_cluster.specs.declared.loaded.Kept.TheVariants as keeps
 abbrev pub line_of : Kept → Line
 line_of (keeps.Dir path) = lines.Dir path
 line_of (keeps.File path attributes bytes) = lines.File path attributes bytes
+line_of (keeps.Short path block node len) = lines.Short path block node len
 line_of (keeps.Fault fault) = lines.Fault fault

@@ -78,7 +78,7 @@ OnWrites P (links.Read old) (links.Write new) = ⊥
 
 -- when the read was opened its datanode had failed no more often than now
 abbrev pub IsEarlier : FaultPlan → OpenRead → Type 0
-IsEarlier faults read = read.before ≤ node_faults_of faults read.node.datanode_uuid
+IsEarlier faults read = read.before ≤ node_faults_of faults read.ask.node.datanode_uuid
 
 -- that holds of each read that is open
 abbrev pub AreEarlier : Slab MemLink → FaultPlan → Type 0
@@ -94,7 +94,7 @@ next_of faults node = next_kind (packet_kind faults node) (calls_of faults (read
 
 -- the datanode of a read
 abbrev pub node_of : MemRead → List ℕ
-node_of read = read.told.node.datanode_uuid
+node_of read = read.told.ask.node.datanode_uuid
 
 -- nothing changed of a read
 pub record SameRead (old new : MemRead) : Type 0 where

@@ -9,7 +9,7 @@ use Rattle.hdfs_model.specs.declared.picture.ReadPlace.{ReadPlace}
 use Rattle.hdfs_model.specs.declared.store.ReadKind.{ReadKind}
 use Rattle.hdfs_model.specs.declared.store.ReadKind.TheVariants as read_kinds
 use Rattle.hdfs_model.specs.Reading.{IsSlice, placed_at}
-use Rattle.hdfs_cluster.specs.Coming.{LeavesOneOut, first_turned}
+use Rattle.hdfs_cluster.specs.Coming.{LeavesOneOut, TellsLast, first_turned}
 
 -- a CRC-32C for each so many bytes
 abbrev pub crc32c_for : ℕ → ChecksumInfo
@@ -18,7 +18,7 @@ crc32c_for chunk = record { kind = 2; bytes_per_checksum = chunk }
 -- what is told of a read that was asked for, where its datanode had failed so often before
 abbrev pub told_for : ReadAsk → ℕ → ℕ → OpenRead
 told_for ask before chunk =
-    record { node = ask.node; block = ask.block; token = ask.token; checksums = Some (crc32c_for chunk); before = before }
+    record { ask = ask; checksums = Some (crc32c_for chunk); before = before }
 
 -- a read that was asked for stands at this place of this base
 abbrev pub place_for : ReadAsk → List ℕ → ℕ → ReadPlace
@@ -27,6 +27,7 @@ place_for ask base place = record { block = ask.block.block_id; offset = ask.off
 -- a packet is the next slice of the base, with the checksums of its bytes
 pub record IsNext (chunk : ℕ) (read : ReadPlace) (packet : ReadPacket) : Type 0 where
   pub slice : IsSlice read packet
+  pub last : TellsLast packet
   pub checksum : packet.checksum ≡ checksums chunk packet.payload
   pub told : packet.header.data_len ≡ pos (length packet.payload)
   pub within : read.place + length packet.payload ≤ length read.base

@@ -27,7 +27,7 @@ fn failure(kind: Option<LinkKind>) -> Option<LinkFault>
 }
 
 impl Cluster for MemCluster {
-    ghost use Rattle.hdfs_cluster.specs.Counting.{MemServes, CountsNothing, AsksOpening, AsksPacket, AsksSend, AsksSetUp, AsksAck};
+    ghost use Rattle.hdfs_cluster.specs.Counting.{MemServes, CountsNothing, BeginsWithChunk, AsksOpening, AsksPacket, AsksSend, AsksSetUp, AsksAck};
     ghost use Rattle.hdfs_cluster.specs.MemShown.{shown_of, picture_of};
     ghost use Rattle.hdfs_cluster.specs.Laws.{active_law, sound_law, writes_law};
 
@@ -71,10 +71,11 @@ impl Cluster for MemCluster {
 
     fn open_read(&mut self, _kept: Option<u64>, ask: &ReadAsk) -> Result<u64, LinkFault>
         ensures ok { IfOk result (λ link. Opened (shown_of self.old) ask.now link (shown_of self.new)) }
-        ensures err { IfErr result (λ fault. NotOpened (shown_of self.old) ask.now fault (shown_of self.new)) }
+        ensures err { IfErr result (λ fault. NotOpened (shown_of self.old) _kept ask.now fault (shown_of self.new)) }
 
         // A fault line acts at exactly its opening.
         ensures asks { AsksOpening self.old ask.now.node.datanode_uuid result self.new }
+        ensures begins { IfOk result (BeginsWithChunk self.new) }
     {
         let uuid = ask.node.datanode_uuid.as_str();
         if self.faults.refuses(uuid) {

@@ -1,7 +1,7 @@
 //! The cluster in memory as a store, into which directories, files and faults are loaded.
 ghost use Rattle.std.specs.Prelude.{◌≡◌, ◌<◌, ℕ, true, false, OnOk, OnErr, IsErrOf, MatchResult};
 ghost use Rattle.hdfs_model.specs.Files.{State};
-ghost use Rattle.hdfs_model.specs.Loading.{AreValid, Loads, LoadsNothing, Prepares, SameShown, takes};
+ghost use Rattle.hdfs_model.specs.Loading.{AreValid, IsDecided, Loads, LoadsNothing, Prepares, SameShown, takes};
 ghost use Rattle.hdfs_model.specs.Stores.{Agrees};
 ghost use Rattle.hdfs_faults.specs.Series.{uuid_of};
 
@@ -33,8 +33,8 @@ impl Store for MemCluster {
         ensures there { OnOk result ((k : ℕ) → k < settings.nodes → HasNode self.new (uuid_of k)) }
         ensures counted { CountsNothing self.old self.new }
     {
-        self.nodes.grow(self.alloc, settings.nodes)?;
         self.faults.add_nodes(self.alloc, settings.nodes)?;
+        self.nodes.grow(self.alloc, settings.nodes)?;
         self.config = Config::new(settings);
         Ok(())
     }
@@ -42,9 +42,9 @@ impl Store for MemCluster {
     fn load(&mut self, line: Line) -> Result<(), AddFault>
         ensures ok { OnOk result (Loads (shown_of self.old) line (shown_of self.new)) }
         ensures refused { IsErrOf result AddFault.Refused → SameShown (shown_of self.old) (shown_of self.new) }
-        ensures exact { (state : State) → Agrees (shown_of self.old).picture state.files
-            → MatchResult result (λ done. takes state.files line ≡ true)
-            (λ fault. fault ≡ AddFault.Refused → takes state.files line ≡ false) }
+        ensures exact { (state : State) → Agrees (shown_of self.old).picture state.files → IsDecided (shown_of self.old) state.files line
+            → MatchResult result (λ done. takes (shown_of self.old).loaded state.files line ≡ true)
+            (λ fault. fault ≡ AddFault.Refused → takes (shown_of self.old).loaded state.files line ≡ false) }
         ensures err { OnErr result (LoadsNothing (shown_of self.old) (shown_of self.new)) }
 
         // A file is cut into blocks of its block size, of which the last may be shorter, on the lowest-numbered datanodes.
@@ -58,6 +58,12 @@ impl Store for MemCluster {
                 attributes,
                 bytes,
             } => self.load_file(path, attributes, bytes),
+            Line::Short {
+                path,
+                block,
+                node,
+                len,
+            } => self.load_short(path, block, node, len),
             Line::Fault(fault) => match self.take_fault(fault) {
                 Ok(()) => Ok(()),
                 Err(NoMemory) => Err(AddFault::NoMemory),

@@ -12,6 +12,7 @@ pub struct Config {
     pub(crate) chunk: u32,
     pub(crate) limit: u64,
     ghost active_below: { settings.active < settings.namenodes },
+    ghost few_nodes: { settings.nodes ≤ 64 },
     ghost some_chunk: { 1 ≤ chunk },
     ghost chunk_bound: { chunk ≤ 2 ^ 30 },
     ghost some_limit: { 0 < limit },

@@ -11,6 +11,7 @@ mod mem_cluster;
 mod mem_link;
 mod read_link;
 mod responding;
+mod shortening;
 mod storing;
 mod write_link;
 

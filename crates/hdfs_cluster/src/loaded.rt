@@ -14,5 +14,11 @@ pub enum Kept {
         attributes: Attributes,
         bytes: Bytes,
     },
+    Short {
+        path: Text,
+        block: u32,
+        node: u32,
+        len: u64,
+    },
     Fault(FaultLine),
 }

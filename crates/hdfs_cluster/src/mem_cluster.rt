@@ -32,6 +32,7 @@ pub struct MemCluster {
     pub(crate) loaded: Vec<Kept>,
     ghost follows: { Follows faults (map line_of loaded.items) },
     ghost earlier: { AreEarlier links faults },
+    ghost counted: { nodes.count ≡ config.settings.nodes },
 }
 
 impl MemCluster {

@@ -1,5 +1,5 @@
 //! The packets of a read in memory.
-ghost use Rattle.std.specs.Prelude.{◌≡◌, ◌≢◌, ◌⊎◌, ◌+◌, ◌<◌, ◌≤◌, ◌^◌, ◌∷◌, ℕ, List, pos, length, Some, IfOk, OnOk};
+ghost use Rattle.std.specs.Prelude.{◌≡◌, ◌≢◌, ◌⊎◌, ◌+◌, ◌-◌, ◌%◌, ◌<◌, ◌≤◌, ◌^◌, ◌∷◌, ℕ, List, pos, length, min, Some, IfOk, OnOk};
 ghost use Rattle.hdfs_wire.specs.Outgoing.{checksums};
 ghost use Rattle.hdfs_model.specs.declared.store.ReadKind.TheVariants as read_kinds;
 ghost use Rattle.hdfs_model.specs.Reading.{placed_at};
@@ -38,9 +38,7 @@ fn told_of(alloc: Global, ask: &ReadAsk, before: u64, chunk: u32) -> Result<Open
     ensures { IfOk result (λ told. told ≡ told_for ask.now before chunk) }
 {
     Ok(OpenRead {
-        node: ask.node.copy(alloc)?,
-        block: ask.block.copy(alloc)?,
-        token: ask.token.copy(alloc)?,
+        ask: ask.copy(alloc)?,
         checksums: Some(ChecksumInfo {
             kind: CRC_32C,
             bytes_per_checksum: chunk,
@@ -135,6 +133,9 @@ impl MemRead {
         ensures told { IfOk result (λ read. read.told ≡ told_for ask.now before read.chunk) }
         ensures place { IfOk result (λ read. read.place ≡ place_for ask.now base read.place.place) }
         ensures behind { IfOk result (λ read. read.place.place ≤ ask.now.offset) }
+        ensures chunk { IfOk result (λ read. read.chunk ≡ chunk) }
+        ensures starts { IfOk result (λ read. read.place.place
+            ≡ min (ask.now.offset - ask.now.offset % chunk) (length read.place.base)) }
     {
         let chunk_start = ask.offset - ask.offset % u64::from(chunk);
         let place = chunk_start.min(base.as_slice().len() as u64);
@@ -233,7 +234,7 @@ impl MemRead {
         requires never { NeverRefuses faults.old }
         ensures { GivesOn faults.old faults.new self.old self.new result }
     {
-        let uuid = self.told.node.datanode_uuid.as_str();
+        let uuid = self.told.ask.node.datanode_uuid.as_str();
         let kind = faults.next_packet(uuid);
         let coming = self.coming(alloc, kind, limit)?;
         faults.packet(uuid);

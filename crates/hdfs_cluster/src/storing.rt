@@ -9,7 +9,7 @@ ghost use Rattle.hdfs_model.specs.Loading.{with_file};
 ghost use Rattle.hdfs_model.specs.Stores.{Agrees};
 ghost use Rattle.slab.specs.Slab.{Slab};
 ghost use Rattle.hdfs_cluster.specs.declared.mem_link.MemLink.{MemLink};
-ghost use Rattle.hdfs_namespace.specs.Adding.{IsPlace, AddsBlock, AreNew, KeepsBlocks};
+ghost use Rattle.hdfs_namespace.specs.Adding.{IsPlace, AddsBlock, AreNew, KeepsBlocks, Names};
 ghost use Rattle.hdfs_cluster.specs.Cutting.{IsCut};
 ghost use Rattle.hdfs_cluster.specs.MemShown.{picture_at};
 ghost use Rattle.hdfs_namespace.specs.Memory.{table_of};
@@ -89,7 +89,8 @@ pub(crate) fn store_file(
         → Agrees (Some (picture_at space.old nodes.old settings links)) state.files
         → Agrees (Some (picture_at space.new nodes.new settings links)) (with_file state (string_bytes path)
         (record { bytes = bytes; attributes = attributes.now })).files) }
-    ensures cut { OnOk result ((file : FileEntry) × (get_by_text space.new.names (string_bytes path) ≡ Some (entries.File file))
+    ensures cut { OnOk result ((file : FileEntry)
+        × Names (get_by_text space.old.names) (get_by_text space.new.names) (string_bytes path) (entries.File file)
         × IsCut (table_of space.new.table.entries) (held_in nodes.new) (lowest (min attributes.now.replication nodes.old.count))
         attributes.now.block_size file.blocks bytes) }
     ensures rest { SameNodes nodes.old nodes.new }

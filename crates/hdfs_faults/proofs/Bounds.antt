@@ -22,6 +22,7 @@ use Rattle.hdfs_faults.proofs.Failing.{fails-more, fails-never, fails-only, fail
 fails-line : (s : Series) (line : Line) (n : ℕ) → fails_in (λ k. of_fault (is_fault_at s k) line) n ≤ one_if (of_fault (λ fault. same_series (series_of fault) s) line)
 fails-line s (lines.Dir path) n = omega (arith, fails-never n)
 fails-line s (lines.File path attributes bytes) n = omega (arith, fails-never n)
+fails-line s (lines.Short path block node len) n = omega (arith, fails-never n)
 fails-line s (lines.Fault fault) n = by_test (same_series (series_of fault) s)
   where
     by_test : (b : Bool) → fails_in (λ k. b && eqb (nth_of fault) k) n ≤ one_if b
@@ -48,6 +49,7 @@ is_of_node d line = of_fault (λ fault. is_of d (series_of fault)) line
 one_series : (d : List ℕ) (line : Line) → one_if (is_of_series (acks_of d) line) + one_if (is_of_series (sends_to d) line) + one_if (is_of_series (reads_of d) line) + one_if (is_of_series (opens_of d) line) ≤ one_if (is_of_node d line)
 one_series d (lines.Dir path) = omega arith
 one_series d (lines.File path attributes bytes) = omega arith
+one_series d (lines.Short path block node len) = omega arith
 one_series d (lines.Fault (faults.Link n kind)) = omega arith
 one_series d (lines.Fault (faults.AckOf node n)) = omega arith
 one_series d (lines.Fault (faults.SendTo node n)) = omega arith

@@ -114,6 +114,7 @@ packet_push (line ∷ loaded) more d nth = ap (option_or (packet_kind_of_line d 
 pub nothing_of : (line : Line) (s : Series) (nth : ℕ) → is_fault line ≡ false → of_fault (is_fault_at s nth) line ≡ false
 nothing_of (lines.Dir path) s nth is = refl
 nothing_of (lines.File path attributes bytes) s nth is = refl
+nothing_of (lines.Short path block node len) s nth is = refl
 nothing_of (lines.Fault fault) s nth is = none_is is
 
 -- ---- that a call fails, and how
@@ -122,6 +123,7 @@ nothing_of (lines.Fault fault) s nth is = none_is is
 line_plans : (line : Line) (nth : ℕ) → of_fault (is_fault_at SetUps nth) line ≡ is_some (kind_of_line nth line)
 line_plans (lines.Dir path) nth = refl
 line_plans (lines.File path attributes bytes) nth = refl
+line_plans (lines.Short path block node len) nth = refl
 line_plans (lines.Fault (faults.Link n kind)) nth = some_cond (eqb n nth) kind
 line_plans (lines.Fault (faults.AckOf node n)) nth = refl
 line_plans (lines.Fault (faults.SendTo node n)) nth = refl
@@ -141,6 +143,7 @@ plans_kind (line ∷ loaded) nth =
 line_plans_packet : (line : Line) (d : List ℕ) (nth : ℕ) → of_fault (is_fault_at (reads_of d) nth) line ≡ is_some (packet_kind_of_line d nth line)
 line_plans_packet (lines.Dir path) d nth = refl
 line_plans_packet (lines.File path attributes bytes) d nth = refl
+line_plans_packet (lines.Short path block node len) d nth = refl
 line_plans_packet (lines.Fault (faults.Link n kind)) d nth = refl
 line_plans_packet (lines.Fault (faults.AckOf node n)) d nth = refl
 line_plans_packet (lines.Fault (faults.SendTo node n)) d nth = refl

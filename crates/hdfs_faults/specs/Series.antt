@@ -105,6 +105,7 @@ packet_kind_in uuid nth fault = if is_fault_at (reads_of uuid) nth fault then sa
 abbrev pub of_fault : (FaultLine → Bool) → Line → Bool
 of_fault holds (lines.Dir path) = false
 of_fault holds (lines.File path attributes bytes) = false
+of_fault holds (lines.Short path block node len) = false
 of_fault holds (lines.Fault fault) = holds fault
 
 -- the line is one with a fault
@@ -115,12 +116,14 @@ is_fault line = of_fault (λ fault. true) line
 abbrev pub kind_of_line : ℕ → Line → Option LinkKind
 kind_of_line nth (lines.Dir path) = None
 kind_of_line nth (lines.File path attributes bytes) = None
+kind_of_line nth (lines.Short path block node len) = None
 kind_of_line nth (lines.Fault fault) = kind_in nth fault
 
 -- how the fault of a line makes this packet of a datanode fail, if it does
 abbrev pub packet_kind_of_line : List ℕ → ℕ → Line → Option ReadKind
 packet_kind_of_line uuid nth (lines.Dir path) = None
 packet_kind_of_line uuid nth (lines.File path attributes bytes) = None
+packet_kind_of_line uuid nth (lines.Short path block node len) = None
 packet_kind_of_line uuid nth (lines.Fault fault) = packet_kind_in uuid nth fault
 
 -- one of the lines plans that this call fails

@@ -1,5 +1,5 @@
 -- How blocks and files come into a cluster in memory.
-use Rattle.std.specs.Prelude.{◌≡◌, ◌≢◌, ◌<◌, ℕ, Bool, true, false, List, [], ◌∷◌, ◌++◌, length, All, Contains, Option, Some, None, unwrap_or, if◌then◌else◌}
+use Rattle.std.specs.Prelude.{◌≡◌, ◌≢◌, ◌<◌, ℕ, Bool, true, false, List, [], ◌∷◌, ◌++◌, length, slice_index_or, All, Contains, Option, Some, None, unwrap_or, if◌then◌else◌}
 use Rattle.std.specs.List.{list_any}
 use Rattle.std.specs.Str.{bytes_eq}
 use Rattle.hdfs_model.specs.declared.picture.Entry.{Entry}
@@ -148,3 +148,11 @@ OpensAgain old path file new None =
     × ((b : ℕ) → new.table b ≡ old.table b)
 OpensAgain old path file new (Some block) =
     (id : ℕ) × IsLast file.blocks (Some block.b) × (block.b.block_id ≡ id) × Reopened old path id new block
+
+-- this is the block of the closed file at a path with this number
+pub record IsClosedBlock (names : List ℕ → Option Entry) (path : List ℕ) (k id : ℕ) : Type 0 where
+  pub file : FileEntry
+  pub is : names path ≡ Some (entries.File file)
+  pub closed : file.is_open ≡ false
+  pub below : k < length file.blocks
+  pub at : slice_index_or file.blocks k 0 ≡ id

@@ -1,5 +1,5 @@
 //! What a writer names of the blocks of a file in memory.
-ghost use Rattle.std.specs.Prelude.{◌≡◌, ◌↔◌, ℕ, true, List, [], ◌∷◌, ◌++◌, Option, Some, IsTrue, MatchOption, OnOk, OnErr};
+ghost use Rattle.std.specs.Prelude.{◌≡◌, ◌↔◌, ◌<◌, ◌≤◌, ℕ, length, slice_index_or, true, List, [], ◌∷◌, ◌++◌, Option, Some, IsTrue, MatchOption, OnOk, OnErr};
 ghost use Rattle.std.specs.BTreeMap.{get_by_text};
 ghost use Rattle.hdfs_model.specs.declared.picture.BlockEntry.{BlockEntry};
 ghost use Rattle.hdfs_model.specs.declared.picture.Entry.TheVariants as entries;
@@ -128,5 +128,15 @@ pub(crate) fn push_id(
     match names.get_mut(src) {
         None => Ok(()),
         Some(entry) => push_id_at(entry, id),
+    }
+}
+
+/// The block with a number among those of a file.
+pub(crate) fn kth_id(ids: &[u64], number: u32) -> Option<u64>
+    ensures { MatchOption result (length ids.now ≤ number) (λ id. (number < length ids.now) × (slice_index_or ids.now number 0 ≡ id)) }
+{
+    match ids.get(number as usize) {
+        None => None,
+        Some(id) => Some(*id),
     }
 }

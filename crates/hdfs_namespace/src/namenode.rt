@@ -1,5 +1,5 @@
 //! What the namenodes of a cluster in memory answer.
-ghost use Rattle.std.specs.Prelude.{◌≡◌, ◌⊎◌, ◌<◌, ◌^◌, ℕ, [], true, List, length, None, IfOk, IfErr, IsErr, OnOk, OnErr};
+ghost use Rattle.std.specs.Prelude.{◌≡◌, ◌⊎◌, ◌<◌, ◌^◌, ℕ, [], true, List, length, None, IfOk, IfErr, IsErr, OnOk, OnErr, MatchOption};
 ghost use Rattle.std.specs.List.{list_any};
 ghost use Rattle.std.specs.BTreeMap.{get_by_text};
 ghost use Rattle.hdfs_model.specs.Effects.{IsEntry};
@@ -8,9 +8,11 @@ ghost use Rattle.hdfs_model.specs.Namenode.{last_of, IsToWrite, LocatesBlock, Lo
 ghost use Rattle.hdfs_model.specs.Sending.{uuids};
 ghost use Rattle.hdfs_model.specs.Paths.{ancestors};
 ghost use Rattle.hdfs_model.specs.Picture.{kinds_in};
+ghost use Rattle.hdfs_namespace.specs.Adding.{IsClosedBlock};
 ghost use Rattle.hdfs_namespace.specs.Answering.{LocatesFile, StandsForRefusal};
 ghost use Rattle.hdfs_namespace.specs.Memory.{table_of, total, is_length};
 
+use crate::blocks::kth_id;
 use crate::namespace::Namespace;
 use hdfs_model::{
     Answer, AskFault, Block, BlockEntry, DatanodeId, DatanodeInfo, Entry, FileEntry, LastAnswer,
@@ -197,6 +199,24 @@ impl Namespace {
             Some(Entry::File(file)) => Ok(locate(alloc, &self.table, file)?),
             Some(Entry::Dir) => Err(exception(alloc, NOT_FOUND)?),
             None => Err(self.absent(alloc, src)?),
+        }
+    }
+
+    /// The block of the closed file at a path with a number, from 0 on.
+    pub fn closed_block(&self, src: &str, number: u32) -> Option<u64>
+        ensures { MatchOption result ((id : ℕ) → IsClosedBlock (get_by_text self.now.names) src.now number id → ⊥)
+            (IsClosedBlock (get_by_text self.now.names) src.now number) }
+    {
+        match self.names.get(src) {
+            None => None,
+            Some(Entry::Dir) => None,
+            Some(Entry::File(file)) => {
+                if file.is_open {
+                    None
+                } else {
+                    kth_id(file.blocks.as_slice(), number)
+                }
+            }
         }
     }
 

@@ -1,5 +1,5 @@
 //! A datanode in memory: its replicas of blocks.
-ghost use Rattle.std.specs.Prelude.{◌≡◌, ◌≢◌, ◌+◌, ◌-◌, ◌^◌, ◌<◌, ◌≤◌, ◌==◌, ◌&&◌, ℕ, [], true, Some, None, is_some, OnOk, IfOk, if◌then◌else◌};
+ghost use Rattle.std.specs.Prelude.{◌≡◌, ◌≢◌, ◌+◌, ◌-◌, ◌^◌, ◌<◌, ◌≤◌, ◌==◌, ◌&&◌, ℕ, [], true, false, take, Some, None, is_some, OnOk, OnErr, IfOk, if◌then◌else◌};
 ghost use Rattle.std.specs.Ordering.{nat_cmp};
 ghost use Rattle.std.specs.BTreeMap.{get};
 ghost use Rattle.hdfs_model.specs.Sending.{put};
@@ -64,6 +64,19 @@ impl Datanode {
         match self.blocks.get_mut(&block) {
             Some(replica) => Ok(replica.read(alloc)?),
             None => Ok(Bytes::new()),
+        }
+    }
+
+    /// Keeps the first so many bytes of a block alone. It disturbs all links there.
+    pub(crate) fn cut(&mut self, alloc: Global, block: u64, len: u64) -> Result<(), NoMemory>
+        ensures bytes { OnOk result (held_by (get nat_cmp self.new.blocks block) ≡ take len (held_by (get nat_cmp self.old.blocks block))) }
+        ensures links { OnOk result ((link : ℕ) → undisturbed_by (get nat_cmp self.new.blocks block) link ≡ false) }
+        ensures err { OnErr result (SameReplica (get nat_cmp self.old.blocks block) (get nat_cmp self.new.blocks block)) }
+        ensures rest { ChangesBlock block self.old self.new }
+    {
+        match self.blocks.get_mut(&block) {
+            Some(replica) => replica.cut(alloc, len),
+            None => Ok(()),
         }
     }
 

@@ -1,5 +1,5 @@
 //! The datanodes of a cluster in memory.
-ghost use Rattle.std.specs.Prelude.{◌≡◌, ◌≢◌, ◌⊎◌, ◌<◌, ◌==◌, ◌&&◌, ℕ, [], true, false, min, All, List, is_some, string_bytes, OnOk, IfOk, if◌then◌else◌};
+ghost use Rattle.std.specs.Prelude.{◌≡◌, ◌≢◌, ◌⊎◌, ◌<◌, ◌==◌, ◌&&◌, ℕ, [], true, false, min, All, List, length, take, is_some, string_bytes, OnOk, OnErr, IfOk, if◌then◌else◌};
 ghost use Rattle.std.specs.BTreeMap.{get_by_text};
 ghost use Rattle.hdfs_model.specs.Sending.{put};
 ghost use Rattle.hdfs_faults.specs.Series.{uuid_of};
@@ -65,6 +65,7 @@ impl Datanodes {
     pub fn grow(&mut self, alloc: Global, count: u32) -> Result<(), NoMemory>
         requires { 0 < count }
         ensures count { OnOk result (self.new.count ≡ count) }
+        ensures err { OnErr result (self.new.count ≡ self.old.count) }
         ensures joins { (d : List ℕ) → Joins (node_at self.old d) (node_at self.new d) }
     {
         for number in 0..count {
@@ -203,6 +204,32 @@ impl Datanodes {
         match self.by_uuid.get_mut(uuid) {
             Some(node) => node.read(alloc, block),
             None => Ok(Bytes::new()),
+        }
+    }
+
+    /// How many bytes a datanode holds of a block.
+    pub fn count_held(&mut self, alloc: Global, uuid: &str, block: u64) -> Result<u64, NoMemory>
+        ensures count { IfOk result (λ count. count ≡ length (held_in self.old uuid.now block)) }
+        ensures same { SameHeld self.old self.new }
+        ensures rest { SameNodes self.old self.new }
+    {
+        let bytes = self.read(alloc, uuid, block)?;
+        Ok(bytes.len() as u64)
+    }
+
+    /// Leaves the first so many bytes of a block alone on a datanode, and disturbs all links there. There is no memory for that on
+    /// a datanode that isn't there.
+    pub fn cut(&mut self, alloc: Global, uuid: &str, block: u64, len: u64) -> Result<(), NoMemory>
+        ensures bytes { OnOk result ((d : List ℕ) (b : ℕ) → held_in self.new d b
+            ≡ (if is_here uuid.now block d b then take len (held_in self.old d b) else held_in self.old d b)) }
+        ensures links { OnOk result ((d : List ℕ) (b link : ℕ) → undisturbed_in self.new d b link
+            ≡ (if is_here uuid.now block d b then false else undisturbed_in self.old d b link)) }
+        ensures err { OnErr result (SameHeld self.old self.new) }
+        ensures rest { SameNodes self.old self.new }
+    {
+        match self.by_uuid.get_mut(uuid) {
+            Some(node) => node.cut(alloc, block, len),
+            None => Err(NoMemory),
         }
     }
 }

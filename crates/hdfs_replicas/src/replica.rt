@@ -1,5 +1,5 @@
 //! What a datanode in memory holds of a block.
-ghost use Rattle.std.specs.Prelude.{◌≡◌, ◌≤◌, ◌==◌, ◌&&◌, ℕ, [], false, true, length, IfOk, OnOk};
+ghost use Rattle.std.specs.Prelude.{◌≡◌, ◌≤◌, ◌==◌, ◌&&◌, ℕ, [], false, true, length, take, IfOk, OnOk, OnErr};
 ghost use Rattle.hdfs_model.specs.Sending.{put};
 ghost use Rattle.hdfs_replicas.specs.Pieces.{put_pieces};
 
@@ -87,6 +87,20 @@ impl Replica {
             self.taken = 0;
         }
         Ok(self.base.clone()?)
+    }
+
+    /// Keeps its first so many bytes alone. It disturbs all links.
+    pub(crate) fn cut(&mut self, alloc: Global, len: u64) -> Result<(), NoMemory>
+        ensures bytes { OnOk result (bytes_of self.new ≡ take len (bytes_of self.old)) }
+        ensures links { OnOk result ((link : ℕ) → is_undisturbed self.new link ≡ false) }
+        ensures err { OnErr result ((bytes_of self.new ≡ bytes_of self.old) × (self.new.undisturbed ≡ self.old.undisturbed)) }
+    {
+        let bytes = self.read(alloc)?;
+        let count = bytes.len().min(len as usize);
+        let front = bytes.slice(0..count)?;
+        self.hold(front);
+        self.undisturbed.clear();
+        Ok(())
     }
 
     /// Takes memory for a piece, of which nothing is seen before it is taken.

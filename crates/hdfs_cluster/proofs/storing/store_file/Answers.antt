@@ -1,7 +1,6 @@
 -- A file at its place, whose blocks store its bytes.
-use Rattle.std.proofs.Common.{◌<◌, min, arith, Bool, false, cond, Some, refl, sym, ◌∙◌, ap, subst}
+use Rattle.std.proofs.Common.{◌<◌, min, arith, false, Some, refl, sym, ◌∙◌, ap, subst}
 use Rattle.std.proofs.lemmas.Result.{on_ok_weaker}
-use Rattle.std.proofs.lemmas.Slice.Eq.{bytes_eq-Decides}
 use Rattle.std.specs.BTreeMap.{get_by_text}
 use Rattle.std.specs.String.{string_bytes}
 use Rattle.hdfs_model.specs.declared.picture.Entry.TheVariants as entries
@@ -58,5 +57,5 @@ returns-clause-cut c =
     let file : FileEntry = record { attributes = attributes; blocks = c.in_ok-blocks.blocks; is_open = false } in
     let cut = subst (λ table. IsCut (table_of table.entries) (held_in c.store_bytes.new.nodes) (lowest (min attributes.replication c.args.nodes.now.count)) attributes.block_size c.in_ok-blocks.blocks c.args.bytes) (sym c.add_file.ensures.table) c.in_ok-blocks.ensures.cut in
     on_ok_weaker c.add_file.result
-    (λ named. (file, named path ∙ ap (λ (b : Bool). cond b (Some (entries.File file)) (get_by_text c.store_bytes.new.space.names path)) ((bytes_eq-Decides path path).1 refl), cut))
+    (λ named. (file, subst (λ names. Names (get_by_text names) (get_by_text c.add_file.new.self.names) path (entries.File file)) c.store_bytes.ensures.names.0 named, cut))
     c.add_file.ensures.ok

@@ -23,6 +23,7 @@ invariant_of-self c =
     let m = c.args.self.now in
     let o = c.in-Some.open.now in
     record {
+      counted = m.counted;
       follows = acks_follow_on _ c.args.link c.ack.result m.faults c.ack.new.faults (map line_of m.loaded.items) o c.ack.new.self c.ack.ensures.ok c.ack.ensures.err m.follows;
       earlier = acks_earlier UnackedOn m.links c.args.link c.ack.result m.faults c.ack.new.faults o c.ack.new.self c.ack.ensures.ok c.ack.ensures.err (sym c.in-Some.ensures.value) m.earlier;
     }

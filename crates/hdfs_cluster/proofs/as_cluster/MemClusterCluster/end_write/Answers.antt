@@ -13,6 +13,7 @@ invariant_of-self c =
     let m = c.args.self.now in
     let faults' = c.end.new.self in
     record {
+      counted = m.counted;
       follows = end_follows m.faults faults' (map line_of m.loaded.items) c.args.link c.end.ensures m.follows;
       earlier = changed_earlier m.links c.try_remove-gone.new.self faults' c.args.link None c.try_remove-gone.ensures.updates (λ read is. absurd (cc))
           (later_earlier m.links m.faults faults' (falls_end m.faults faults' c.args.link c.end.ensures) m.earlier);

@@ -48,6 +48,7 @@ invariant_of-self-in-Break-branch-3 c =
     let m = c.args.self.now in
     let fall = falls_trans m.faults c.end.new.self c.set_up.new.self (falls_end m.faults c.end.new.self c.vacant_key-key.result c.end.ensures) (falls_same_plan c.end.new.self c.set_up.new.self c.in_err-kind.ensures.err) in
     record {
+      counted = c.enter_all.ensures.rest.count ∙ m.counted;
       follows = same_follows c.end.new.self c.set_up.new.self (map line_of m.loaded.items) c.in_err-kind.ensures.err (end_follows m.faults c.end.new.self (map line_of m.loaded.items) c.vacant_key-key.result c.end.ensures m.follows);
       earlier = same_earlier m.links c.reserve.new.self c.set_up.new.self (λ l. ap (λ s. slab.get s l) c.reserve.ensures.rest_kept) (later_earlier m.links m.faults c.set_up.new.self fall m.earlier);
     }
@@ -70,6 +71,7 @@ invariant_of-self-in-Some-1 c =
     let m = c.args.self.now in
     let fall = falls_trans m.faults c.end.new.self c.set_up.new.self (falls_end m.faults c.end.new.self c.vacant_key-key.result c.end.ensures) (falls_set_up c.end.new.self c.set_up.new.self c.vacant_key-key.result c.in_ok-kind.kind c.in_ok-kind.ensures.ok) in
     record {
+      counted = c.enter_all.ensures.rest.count ∙ m.counted;
       follows = set_up_follows c.end.new.self c.set_up.new.self (map line_of m.loaded.items) c.vacant_key-key.result c.in_ok-kind.kind c.in_ok-kind.ensures.ok (end_follows m.faults c.end.new.self (map line_of m.loaded.items) c.vacant_key-key.result c.end.ensures m.follows);
       earlier = same_earlier m.links c.reserve.new.self c.set_up.new.self (λ l. ap (λ s. slab.get s l) c.reserve.ensures.rest_kept) (later_earlier m.links m.faults c.set_up.new.self fall m.earlier);
     }
@@ -92,6 +94,7 @@ invariant_of-self-2 c =
     let m = c.args.self.now in
     let fall = falls_trans m.faults c.end.new.self c.set_up.new.self (falls_end m.faults c.end.new.self c.vacant_key-key.result c.end.ensures) (falls_set_up c.end.new.self c.set_up.new.self c.vacant_key-key.result c.in_ok-kind.kind c.in_ok-kind.ensures.ok) in
     record {
+      counted = c.enter_all.ensures.rest.count ∙ m.counted;
       follows = set_up_follows c.end.new.self c.set_up.new.self (map line_of m.loaded.items) c.vacant_key-key.result c.in_ok-kind.kind c.in_ok-kind.ensures.ok (end_follows m.faults c.end.new.self (map line_of m.loaded.items) c.vacant_key-key.result c.end.ensures m.follows);
       earlier = changed_earlier c.reserve.new.self c.insert_reserved.new.self c.set_up.new.self c.insert_reserved.result (Some (links.Write c.new-write.result)) c.insert_reserved.ensures.updates (λ read is. absurd (cc))
           (same_earlier m.links c.reserve.new.self c.set_up.new.self (λ l. ap (λ s. slab.get s l) c.reserve.ensures.rest_kept) (later_earlier m.links m.faults c.set_up.new.self fall m.earlier));

@@ -22,6 +22,7 @@ invariant_of-self c =
     let m = c.args.self.now in
     let o = c.in-Some.open.now in
     record {
+      counted = c.send.ensures.rest.count ∙ m.counted;
       follows = sends_follow_on _ c.args.link c.args.packet.now c.send.result m.nodes c.send.new.nodes m.faults c.send.new.faults (map line_of m.loaded.items) o c.send.new.self c.send.ensures.ok c.send.ensures.err m.follows;
       earlier = sends_earlier (UnsentOn m.nodes c.send.new.nodes) m.links c.args.link c.args.packet.now c.send.result m.nodes c.send.new.nodes m.faults c.send.new.faults o c.send.new.self c.send.ensures.ok c.send.ensures.err (sym c.in-Some.ensures.value) m.earlier;
     }

@@ -1,5 +1,5 @@
 -- Nothing changes but the settings, and datanodes that hold nothing join.
-use Rattle.std.proofs.Common.{◌≡◌, ◌<◌, ℕ, true, not, List, map, refl, sym, ap, subst}
+use Rattle.std.proofs.Common.{◌≡◌, ◌<◌, ℕ, true, not, List, map, refl, sym, ◌∙◌, ap, subst}
 use Rattle.slab.specs.Slab as slab
 use Rattle.hdfs_model.specs.declared.mem_settings.MemSettings.{MemSettings}
 use Rattle.hdfs_model.proofs.Loads.{and_parts}
@@ -31,41 +31,46 @@ follows_more m plan fresh adds =
 same_links : (old new : Datanodes) → ((d : List ℕ) → Joins (node_at old d) (node_at new d)) → (d : List ℕ) (b link : ℕ) → undisturbed_in new d b link ≡ undisturbed_in old d b link
 same_links old new joins d b link = ap (λ o. undisturbed_by o link) ((joins d).replicas b)
 
-pub invariant_of-self-2 : goal.invariant_of-self-2
-invariant_of-self-2 c =
+pub invariant_of-self : goal.invariant_of-self
+invariant_of-self c =
     let m = c.args.self.now in
     let adds = c.add_nodes.ensures.rest in
-    record { follows = follows_more m c.add_nodes.new.self c.requires.fresh adds; earlier = later_earlier m.links m.faults c.add_nodes.new.self (falls_adds m.faults c.add_nodes.new.self adds) m.earlier }
+    record { counted = m.counted; follows = follows_more m c.add_nodes.new.self c.requires.fresh adds; earlier = later_earlier m.links m.faults c.add_nodes.new.self (falls_adds m.faults c.add_nodes.new.self adds) m.earlier }
 
 pub invariant_of-self-in-Break-branch-2 : goal.invariant_of-self-in-Break-branch-2
 invariant_of-self-in-Break-branch-2 c =
     let m = c.args.self.now in
     let adds = c.add_nodes.ensures.rest in
-    record { follows = follows_more m c.add_nodes.new.self c.requires.fresh adds; earlier = later_earlier m.links m.faults c.add_nodes.new.self (falls_adds m.faults c.add_nodes.new.self adds) m.earlier }
+    record { counted = c.in_err-grow.ensures.err ∙ m.counted; follows = follows_more m c.add_nodes.new.self c.requires.fresh adds; earlier = later_earlier m.links m.faults c.add_nodes.new.self (falls_adds m.faults c.add_nodes.new.self adds) m.earlier }
 
-pub returns-in_err-grow-clause-err : goal.returns-in_err-grow-clause-err
-returns-in_err-grow-clause-err c =
+pub invariant_of-self-2 : goal.invariant_of-self-2
+invariant_of-self-2 c =
     let m = c.args.self.now in
-    let joins = c.grow.ensures.joins in
+    let adds = c.add_nodes.ensures.rest in
+    record { counted = c.in_ok-grow.ensures.count ∙ sym (ap (λ (s : MemSettings). s.nodes) c.new-self.ensures); follows = follows_more m c.add_nodes.new.self c.requires.fresh adds; earlier = later_earlier m.links m.faults c.add_nodes.new.self (falls_adds m.faults c.add_nodes.new.self adds) m.earlier }
+
+pub returns-in_err-add_nodes-clause-err : goal.returns-in_err-add_nodes-clause-err
+returns-in_err-add_nodes-clause-err c =
+    let adds = c.add_nodes.ensures.rest in
     on_err c.from_residual.result (record {
-      rest = record { counts = record { calls = λ i. refl; links = refl; nodes = λ d. refl }; last = refl; namenodes = refl; reads = λ link. refl; writes = λ link. refl };
+      rest = record { counts = record { calls = λ i. refl; links = adds.links.faults; nodes = adds.nodes }; last = refl; namenodes = refl; reads = λ link. refl; writes = λ link. refl };
       lines = refl;
       picture = record {
         rest = record {
-          files = record { names = λ path. refl; table = λ id. refl; held = λ node id. ap held_by ((joins node).replicas id); defaults = refl };
+          files = record { names = λ path. refl; table = λ id. refl; held = λ node id. refl; defaults = refl };
           reads = λ link. refl;
-          writes = λ link. place_same m.nodes c.grow.new.self (same_links m.nodes c.grow.new.self joins) link (slab.get m.links link);
+          writes = λ link. refl;
         };
         active = refl;
       };
     })
 
-pub returns-in_err-add_nodes-clause-err : goal.returns-in_err-add_nodes-clause-err
-returns-in_err-add_nodes-clause-err c =
+pub returns-in_err-grow-clause-err : goal.returns-in_err-grow-clause-err
+returns-in_err-grow-clause-err c =
     let m = c.args.self.now in
     let joins = c.grow.ensures.joins in
     let adds = c.add_nodes.ensures.rest in
-    on_err c.from_residual-in_err-add_nodes.result (record {
+    on_err c.from_residual-in_err-grow.result (record {
       rest = record { counts = record { calls = λ i. refl; links = adds.links.faults; nodes = adds.nodes }; last = refl; namenodes = refl; reads = λ link. refl; writes = λ link. refl };
       lines = refl;
       picture = record {
@@ -117,16 +122,18 @@ returns-clause-counted c =
       there = λ d has. record { there = (c.grow.ensures.joins d).there has.there; counted = adds.there d has.counted };
     }
 
-pub returns-in_err-grow-clause-counted : goal.returns-in_err-grow-clause-counted
-returns-in_err-grow-clause-counted c = record {
-  counts = record { calls = λ i. refl; links = refl; nodes = λ d. refl };
-  calls = λ s. refl;
-  bad = λ link shown. refl;
-  there = λ d has. record { there = (c.grow.ensures.joins d).there has.there; counted = has.counted };
-}
-
 pub returns-in_err-add_nodes-clause-counted : goal.returns-in_err-add_nodes-clause-counted
 returns-in_err-add_nodes-clause-counted c =
+    let adds = c.add_nodes.ensures.rest in
+    record {
+      counts = record { calls = λ i. refl; links = adds.links.faults; nodes = adds.nodes };
+      calls = adds.calls;
+      bad = λ link shown. adds.links.bad link;
+      there = λ d has. record { there = has.there; counted = adds.there d has.counted };
+    }
+
+pub returns-in_err-grow-clause-counted : goal.returns-in_err-grow-clause-counted
+returns-in_err-grow-clause-counted c =
     let adds = c.add_nodes.ensures.rest in
     record {
       counts = record { calls = λ i. refl; links = adds.links.faults; nodes = adds.nodes };

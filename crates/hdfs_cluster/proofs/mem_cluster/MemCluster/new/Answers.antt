@@ -51,6 +51,7 @@ returns-clause-asked c = record {
 
 pub invariant_of-result : goal.invariant_of-result
 invariant_of-result c = record {
+  counted = c.in_ok-new-2.ensures.count ∙ sym (ap (λ (s : MemSettings). s.nodes) c.new.ensures);
   follows = subst (λ (xs : List Kept). Follows c.in_ok-new-3.field-0 (map line_of xs)) (sym c.new-6.ensures.items) (new_follows c.in_ok-new-3.field-0 c.in_ok-new-3.ensures.new);
   earlier = λ link read is.
       (let none : read_told None ≡ Some read = sym (ap (λ slots. read_told (slice_index_or slots link None)) c.new-4.ensures.empty) ∙ is in

@@ -6,7 +6,8 @@ use Rattle.hdfs_model.specs.declared.picture.Entry.TheVariants as entries
 use Rattle.hdfs_model.specs.Files.{Dir}
 use Rattle.hdfs_model.specs.Loading.{with_new}
 use Rattle.hdfs_model.specs.Stores.{Agrees}
-use Rattle.hdfs_namespace.specs.Adding.{KeepsBlocks}
+use Rattle.std.specs.BTreeMap.{get_by_text}
+use Rattle.hdfs_namespace.specs.Adding.{KeepsBlocks, Names}
 use Rattle.hdfs_cluster.specs.MemShown.{picture_at}
 use Rattle.hdfs_namespace.specs.Memory.{table_of}
 use Rattle.hdfs_replicas.specs.Nodes.{held_in}
@@ -16,6 +17,9 @@ use Rattle.hdfs_cluster.specs.Lines.{line_of}
 use Rattle.hdfs_faults.proofs.Following.{other_follows}
 use Rattle.hdfs_cluster.proofs.Agreeing.{agrees_with_new}
 use Rattle.hdfs_cluster.proofs.Cutting.{keeps_refl}
+use Rattle.hdfs_cluster.proofs.Lying.{lie_dir}
+use Rattle.hdfs_cluster.proofs.NewLying.{loaded_more}
+use Rattle.hdfs_cluster.proofs.Stills.{shown_at}
 use Rattle.hdfs_cluster.proofs.NothingLoaded.{follows_push, on_err, loads_at, nothing_loaded}
 use Rattle.hdfs_cluster.proofs.mem_cluster.MemCluster.take_dir.Goals as goal
 
@@ -45,6 +49,12 @@ returns-clause-loads c =
       files = λ state was.
           subst (λ (path : List ℕ). Agrees (Some p') (with_new state path Dir).files) name
           (agrees_with_new (picture_at m.space m.nodes m.config.settings m.links) p' state (string_bytes c.in_ok-name.name) Dir entries.Dir was blocks c.in_ok-add_dir.ensures.ok tt);
+      replicas = λ state was lie.
+          (let p = picture_at m.space m.nodes m.config.settings m.links in
+          let loaded = map line_of m.loaded.items in
+          let names = subst (λ (path : List ℕ). Names (get_by_text m.space.names) (get_by_text space'.names) path entries.Dir) name c.in_ok-add_dir.ensures.ok in
+          loaded_more (shown_at space' m.config.settings m.last (map line_of c.push_reserved.new.self.items) m.faults m.nodes m.links) p' (with_new state c.args.path Dir).files m.config.settings.nodes (loaded ++ line_of kept ∷ []) refl
+          (ap (map line_of) items ∙ map-append line_of m.loaded.items (kept ∷ [])) refl (lie_dir m.config.settings.nodes loaded p p' blocks state c.args.path names (lie p refl)));
     }
 
 pub invariant_of-self-2 : goal.invariant_of-self-2
@@ -52,4 +62,4 @@ invariant_of-self-2 c =
     let m = c.args.self.now in
     let kept = keeps.Dir c.args.path in
     let items : c.push_reserved.new.self.items ≡ m.loaded.items ++ kept ∷ [] = c.push_reserved.ensures.items ∙ ap (λ (xs : List Kept). xs ++ kept ∷ []) c.reserve.ensures.items in
-    record { earlier = m.earlier; follows = follows_push m.faults m.loaded.items c.push_reserved.new.self.items kept items (other_follows m.faults (map line_of m.loaded.items) (line_of kept) refl m.follows) }
+    record { counted = m.counted; earlier = m.earlier; follows = follows_push m.faults m.loaded.items c.push_reserved.new.self.items kept items (other_follows m.faults (map line_of m.loaded.items) (line_of kept) refl m.follows) }

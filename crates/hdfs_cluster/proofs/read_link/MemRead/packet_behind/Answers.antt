@@ -13,4 +13,4 @@ returns c =
     let count = c.packet_length-count.result in
     let h = c.packet_length-count.ensures in
     IfOk-weaker c.packet_at.result (IsNext v.chunk (placed_at v.place (v.place.place + count))) (λ packet. (place : ℕ) × IsNext v.chunk (placed_at v.place place) packet × LeavesOneOut v.place packet)
-    (λ packet next. (v.place.place + count, next, leaves_out v.place count packet h.within h.goes_on h.stops next.slice)) c.packet_at.ensures
+    (λ packet next. (v.place.place + count, next, leaves_out v.place count packet h.within h.goes_on h.stops next.slice next.last)) c.packet_at.ensures
