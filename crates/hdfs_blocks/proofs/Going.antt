@@ -1,5 +1,5 @@
 -- How a read goes on from call to call.
-use Rattle.std.proofs.Common.{◌≡◌, ◌≢◌, inl, inr, ⊎_elim, ℕ, zero, suc, ◌+◌, ◌-◌, ◌<◌, ◌≤◌, Bool, false, List, [], length, take, Option, Some, None, IsSome, IfSome, refl, sym, ◌∙◌, ap, subst, arith}
+use Rattle.std.proofs.Common.{◌≡◌, ◌≢◌, inl, inr, ⊎_elim, ℕ, zero, suc, ◌+◌, ◌<◌, ◌≤◌, Bool, false, List, [], length, take, Option, Some, None, IsSome, IfSome, refl, sym, ◌∙◌, ap, subst, arith}
 use Rattle.hdfs_model.specs.declared.messages.ReadAsk.{ReadAsk}
 use Rattle.hdfs_model.specs.declared.messages.Block.{Block}
 use Rattle.hdfs_model.specs.declared.messages.LocatedBlock.{LocatedBlock}
@@ -13,11 +13,11 @@ use Rattle.hdfs_model.specs.Shown.{Shown, Later, OnlyReads, Opened, NotOpened, N
 use Rattle.hdfs_model.specs.Stores.{HoldsPrefix}
 use Rattle.hdfs_model.proofs.Frames.{told_after, told_before, told_weaker, only_reads_from-Reading, only_reads_from-same, never_fall_refl}
 use Rattle.hdfs_blocks.specs.Blocks.{node_at, node_count, IsToBlame}
-use Rattle.hdfs_blocks.specs.Reader.{tried_of, Holds, LinkHolds, OthersStay, PlacedIn, ShowsBlock, stage_of, before_opening, before_link}
+use Rattle.hdfs_blocks.specs.Reader.{tried_of, Holds, LinkHolds, IsAskFor, OthersStay, PlacedIn, ShowsBlock, stage_of, before_opening, before_link}
 use Rattle.hdfs_blocks.specs.Going.{Frame, RoseFor, StaysAt, MovesOn, Goes, GivesOrGivesUp, count_at, tries_left, gives_up, Loses}
 use Rattle.hdfs_blocks.specs.declared.block_read.BlockRead.{BlockRead}
 use Rattle.hdfs_blocks.specs.declared.given_up.GivenUp.{GivenUp}
-use Rattle.hdfs_blocks.proofs.Joining.{not_some, frame_trans}
+use Rattle.hdfs_blocks.proofs.Joining.{not_some, asks_same, frame_trans}
 use Rattle.hdfs_blocks.proofs.Locations.{one_more, stays_same}
 
 -- what is shown of the block, but for the link
@@ -67,11 +67,14 @@ module _ (s t : Shown) (r : BlockRead) (holds : Holds s r) (later : Later s t) (
   pub still_frame : Frame s t r r
   still_frame = record {
     block = refl;
+    client = refl;
+    wanted = omega arith;
     end = refl;
     only = still_only;
     others = λ l other is. reads l;
     places = told_weaker SamePicture (OthersStay s r) s.picture t.picture (λ p q same l other is. same.rest.reads l) picture;
     own = λ l is. inl is;
+    asks = asks_same s t r r refl reads;
     frees = λ l not_its free. ⊎_elim (λ its. absurd (not_its its)) (λ none. reads l ∙ none) free;
     holds = record { range = holds.range; tried = holds.tried; link = λ l is. still_link l (holds.link l is); position = holds.position };
   }
@@ -177,10 +180,11 @@ loses_goes s t r r' reason holds frame rose (inr (moved, is)) =
     ended_goes s t r holds false r' is frame (record { given_up = ap (λ (x : BlockRead). x.given_up) is; lost = λ was now. rose })
 
 -- no read was opened, since the datanode has failed
-pub not_opened_goes : (s s' t : Shown) (r r' : BlockRead) (reason : GivenUp) (ask : ReadAsk) (fault : LinkFault) → Holds s r → NotOpened s ask fault s' → fault ≢ faults.NoMemory
+pub not_opened_goes : (s s' t : Shown) (r r' : BlockRead) (reason : GivenUp) (ask : ReadAsk) (fault : LinkFault) → Holds s r → NotOpened s None ask fault s' → fault ≢ faults.NoMemory
     → ask.node.datanode_uuid ≡ node_at r.block (tried_of r) → Frame s' t r r' → Loses r reason r' → Goes s t r r'
 not_opened_goes s s' t r r' reason ask fault holds n is node frame =
-    let rose : Rose (count_at s r) (count_at s' r) = subst (λ (d : List ℕ). Rose (s.counts.nodes d) (s'.counts.nodes d)) node (n.cause is) in
+    let fresh : Rose (s.counts.nodes ask.node.datanode_uuid) (s'.counts.nodes ask.node.datanode_uuid) = ⊎_elim (λ stale. absurd (cc (stale.0))) (λ rose. rose) (n.cause is) in
+    let rose : Rose (count_at s r) (count_at s' r) = subst (λ (d : List ℕ). Rose (s.counts.nodes d) (s'.counts.nodes d)) node fresh in
     loses_goes s t r r' reason holds (frame_trans s s' t r r r' (still_frame s s' r holds n.later n.last n.reads n.writes n.picture) frame)
     (omega (arith, rose, frame.only.later.counts.nodes (node_at r.block (tried_of r))))
 
@@ -195,14 +199,14 @@ pub not_given_goes : (s s' t : Shown) (r r' : BlockRead) (reason : GivenUp) (l :
     → Frame s' t r r' → Loses r reason r' → Goes s t r r'
 not_given_goes s s' t r r' reason l fault holds is n not_memory frame =
     let here = holds.link l is in
-    let broke : IfSome (Some here.1) (λ read. Rose (s.counts.nodes read.node.datanode_uuid) (s'.counts.nodes read.node.datanode_uuid)) =
-    subst (λ (o : Option OpenRead). IfSome o (λ read. Rose (s.counts.nodes read.node.datanode_uuid) (s'.counts.nodes read.node.datanode_uuid))) here.2 (n.cause (broken_else fault not_memory n.not_refused)) in
+    let broke : IfSome (Some here.1) (λ read. Rose (s.counts.nodes read.ask.node.datanode_uuid) (s'.counts.nodes read.ask.node.datanode_uuid)) =
+    subst (λ (o : Option OpenRead). IfSome o (λ read. Rose (s.counts.nodes read.ask.node.datanode_uuid) (s'.counts.nodes read.ask.node.datanode_uuid))) here.2 (n.cause (broken_else fault not_memory n.not_refused)) in
     let rose : Rose (count_at s r) (count_at s' r) = subst (λ (d : List ℕ). Rose (s.counts.nodes d) (s'.counts.nodes d)) here.3.node broke in
     loses_goes s t r r' reason holds (frame_trans s s' t r r r' (still_frame s s' r holds n.later n.last n.reads n.writes n.picture) frame)
     (omega (arith, rose, frame.only.later.counts.nodes (node_at r.block (tried_of r))))
 
--- a read was opened on the location that is tried
-module _ (s t : Shown) (r : BlockRead) (ask : ReadAsk) (l : ℕ) (holds : Holds s r) (idle : r.link ≡ None) (left : tried_of r < node_count r.block) (opened : Opened s ask l t) (node : ask.node.datanode_uuid ≡ node_at r.block (tried_of r)) (block : ask.block ≡ r.block.b) (token : ask.token ≡ r.block.block_token) where
+-- a read was opened on the location that is tried, from the wanted byte on
+module _ (s t : Shown) (r : BlockRead) (ask : ReadAsk) (l : ℕ) (holds : Holds s r) (idle : r.link ≡ None) (left : tried_of r < node_count r.block) (opened : Opened s ask l t) (asked : IsAskFor r.block (tried_of r) r.client r.end ask) (offset : ask.offset ≡ r.wanted) where
   -- only a read was opened
   opened_only : OnlyReads s t
   opened_only = only_reads_from-Reading l s t opened.reading
@@ -211,59 +215,75 @@ module _ (s t : Shown) (r : BlockRead) (ask : ReadAsk) (l : ℕ) (holds : Holds 
   apart : (m : ℕ) → IsSome (s.reads m) → m ≢ l
   apart m is same = not_some (s.reads m) (ap s.reads same ∙ opened.fresh.read) is
 
+  -- what is shown of the new link
+  abbrev opened_read : OpenRead
+  opened_read = record { ask = ask; checksums = opened.checksums; before = s.counts.nodes ask.node.datanode_uuid }
+
+  -- it is shown under the link that the reader keeps
+  opened_shown : (m : ℕ) → l ≡ m → t.reads m ≡ Some opened_read
+  opened_shown m same = ap t.reads (sym same) ∙ opened.opened
+
   -- the new link holds
   opened_link : (m : ℕ) → l ≡ m → LinkHolds t (record r { link = Some l; position = None }) m
   opened_link m same = (
     left,
-    record { node = ask.node; block = ask.block; token = ask.token; checksums = opened.checksums; before = s.counts.nodes ask.node.datanode_uuid },
-    ap t.reads (sym same) ∙ opened.opened,
-    record { node = node; same_block = block; token = token },
-    subst (λ (d : List ℕ). s.counts.nodes d ≤ count_at t r) (sym node) (opened_only.later.counts.nodes (node_at r.block (tried_of r))),
+    opened_read,
+    opened_shown m same,
+    asked,
+    subst (λ (d : List ℕ). s.counts.nodes d ≤ count_at t r) (sym asked.node) (opened_only.later.counts.nodes (node_at r.block (tried_of r))),
   )
+
+  -- and it was asked for from the wanted byte on
+  opened_asks : (m : ℕ) → l ≡ m → IfSome (t.reads m) (λ read. r.wanted ≤ read.ask.offset)
+  opened_asks m same = subst (λ (o : Option OpenRead). IfSome o (λ read. r.wanted ≤ read.ask.offset)) (sym (opened_shown m same)) (let le : r.wanted ≤ ask.offset = omega (arith, offset) in le)
 
   -- everything else stays
   opened_frame : Frame s t r (record r { link = Some l; position = None })
   opened_frame = record {
     block = refl;
+    client = refl;
+    wanted = omega arith;
     end = refl;
     only = opened_only;
     others = λ m no is. opened.reading.others m (apart m is);
     places = told_weaker (ReadsAt l) (OthersStay s r) s.picture t.picture (λ p q at m no is. at.others m (apart m is)) opened.reading.picture;
     own = λ m is. inr (let same : l ≡ m = cc in ap s.reads (sym same) ∙ opened.fresh.read);
+    asks = λ m is. inr (opened_asks m (let same : l ≡ m = cc in same));
     frees = λ m not_its free. ⊎_elim (λ its. absurd (cc (idle, its))) (λ none. opened.reading.others m (λ same. not_its (ap Some (sym same))) ∙ none) free;
     holds = record { range = holds.range; tried = holds.tried; link = λ m is. opened_link m (let e : l ≡ m = cc in e); position = λ at is. absurd (cc) };
   }
 
-  module _ (more : r.wanted < r.end) (offset : ask.offset ≡ r.wanted) (len : ask.len ≡ r.end - r.wanted) where
-    -- the place of the new link
-    opened_placed : (q : Picture) → t.picture ≡ Some q → PlacedIn q (record r { link = Some l; position = None })
-    opened_placed q told m is =
-        let before = told_before (Begins ask l) s.picture t.picture q opened.begins told in
-        let begins = before.2 in
-        let same : l ≡ m = cc in (
-          record { block = ask.block.block_id; offset = ask.offset; len = ask.len; base = before.0.held ask.node.datanode_uuid ask.block.block_id; place = begins.place },
-          ap q.reads (sym same) ∙ begins.at,
-          ap (λ (n : List ℕ). before.0.held n ask.block.block_id) node ∙ ap (before.0.held (node_at r.block (tried_of r))) (ap (λ (b : Block). b.block_id) block) ∙ sym (begins.rest.files.held (node_at r.block (tried_of r)) r.block.b.block_id),
-          omega (arith, offset, len, more),
-          omega (arith, offset, begins.behind),
-        )
+  -- the place of the new link
+  opened_placed : (q : Picture) → t.picture ≡ Some q → PlacedIn q (record r { link = Some l; position = None })
+  opened_placed q told m is =
+      let before = told_before (Begins ask l) s.picture t.picture q opened.begins told in
+      let begins = before.2 in
+      let same : l ≡ m = cc in (
+        record { block = ask.block.block_id; offset = ask.offset; len = ask.len; base = before.0.held ask.node.datanode_uuid ask.block.block_id; place = begins.place },
+        ap q.reads (sym same) ∙ begins.at,
+        ap (λ (n : List ℕ). before.0.held n ask.block.block_id) asked.node
+            ∙ ap (before.0.held (node_at r.block (tried_of r))) (ap (λ (b : Block). b.block_id) asked.same_block)
+            ∙ sym (begins.rest.files.held (node_at r.block (tried_of r)) r.block.b.block_id),
+        asked.same_end,
+        omega (arith, offset, begins.behind),
+      )
 
-    -- the count is the one before the opening
-    opened_before : (stage_of s r).before ≤ (stage_of t (record r { link = Some l; position = None })).before
-    opened_before =
-        let was : (stage_of s r).before ≡ count_at s r = ap (λ (link : Option ℕ). before_link s link (count_at s r)) idle in
-        let now : before_opening (t.reads l) (count_at t r) ≡ count_at s r =
-        ap (λ (o : Option OpenRead). before_opening o (count_at t r)) opened.opened ∙ ap s.counts.nodes node in
-        omega (arith, was, now)
+  -- the count is the one before the opening
+  opened_before : (stage_of s r).before ≤ (stage_of t (record r { link = Some l; position = None })).before
+  opened_before =
+      let was : (stage_of s r).before ≡ count_at s r = ap (λ (link : Option ℕ). before_link s link (count_at s r)) idle in
+      let now : before_opening (t.reads l) (count_at t r) ≡ count_at s r =
+      ap (λ (o : Option OpenRead). before_opening o (count_at t r)) opened.opened ∙ ap s.counts.nodes asked.node in
+      omega (arith, was, now)
 
-    -- so the reader goes on
-    pub opened_goes : Goes s t r (record r { link = Some l; position = None })
-    opened_goes = record {
-      frame = opened_frame;
-      shows = λ bytes shows. shows_later s t r (record r { link = Some l; position = None }) bytes shows opened_only refl refl opened_placed;
-      gives_up = λ bytes shows. (zero, (refl, opened_before, opened_only.later.counts));
-      locations = inl (stays_same s t r (record r { link = Some l; position = None }) refl (λ is. is));
-    }
+  -- so the reader goes on
+  pub opened_goes : Goes s t r (record r { link = Some l; position = None })
+  opened_goes = record {
+    frame = opened_frame;
+    shows = λ bytes shows. shows_later s t r (record r { link = Some l; position = None }) bytes shows opened_only refl refl opened_placed;
+    gives_up = λ bytes shows. (zero, (refl, opened_before, opened_only.later.counts));
+    locations = inl (stays_same s t r (record r { link = Some l; position = None }) refl (λ is. is));
+  }
 
 -- what is given from a place is given from the same place of an earlier reader
 pub gives_from : (q r w : BlockRead) (piece : Option (List ℕ)) → r.wanted ≡ q.wanted → tries_left r ≤ tries_left q → GivesOrGivesUp r piece w → GivesOrGivesUp q piece w

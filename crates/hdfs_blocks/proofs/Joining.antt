@@ -1,6 +1,7 @@
 -- What calls of a reader keep, joined.
-use Rattle.std.proofs.Common.{◌≡◌, ◌≢◌, ◌⊎◌, inl, inr, ⊎_elim, ℕ, ◌≤◌, List, Option, Some, None, IsSome, refl, sym, ◌∙◌, ap, subst}
+use Rattle.std.proofs.Common.{◌≡◌, ◌≢◌, ◌⊎◌, inl, inr, ⊎_elim, ℕ, ◌≤◌, List, Option, Some, None, IsSome, IfSome, refl, sym, ◌∙◌, ap, subst, arith}
 use Rattle.std.proofs.lemmas.Bool.{cases_eq}
+use Rattle.std.proofs.lemmas.Option.{IfSome_then}
 use Rattle.hdfs_model.specs.declared.picture.OpenRead.{OpenRead}
 use Rattle.hdfs_model.specs.declared.messages.LocatedBlock.{LocatedBlock}
 use Rattle.hdfs_model.specs.Counts.{FaultCounts}
@@ -8,7 +9,7 @@ use Rattle.hdfs_model.specs.Picture.{Picture, SameFiles, Told}
 use Rattle.hdfs_model.specs.Shown.{Shown, OnlyReads}
 use Rattle.hdfs_model.proofs.Frames.{told_after, told_join, only_reads_trans, never_fall_trans}
 use Rattle.hdfs_blocks.specs.Blocks.{node_at}
-use Rattle.hdfs_blocks.specs.Reader.{tried_of, Stands, OthersStay, Keeps, Reads, ShowsBlock, Over, Blamed, stage_of, GaveUp, GivesUp}
+use Rattle.hdfs_blocks.specs.Reader.{tried_of, Stands, AsksForWanted, OthersStay, Keeps, Reads, ShowsBlock, Over, Blamed, stage_of, GaveUp, GivesUp}
 use Rattle.hdfs_blocks.specs.Going.{Frame, Goes}
 use Rattle.hdfs_blocks.specs.declared.block_read.BlockRead.{BlockRead}
 use Rattle.hdfs_blocks.proofs.Locations.{grows, locations_trans}
@@ -28,6 +29,10 @@ is_link (Some x) l = ⊎_elim (λ e. inl (ap Some e)) (λ ne. inr (λ e. ne (cc)
 pub not_some : (o : Option OpenRead) → o ≡ None → IsSome o → ⊥
 not_some None is some = absurd (cc)
 not_some (Some x) is some = absurd (cc)
+
+-- where the reader keeps its link, and the links stay, nothing was asked for anew
+pub asks_same : (s t : Shown) (r r' : BlockRead) → r'.link ≡ r.link → ((l : ℕ) → t.reads l ≡ s.reads l) → AsksForWanted s t r r'
+asks_same s t r r' same reads l is = inl (sym same ∙ is, reads l)
 
 -- a told picture before and after reads
 pub same_files_shown : (s t : Shown) (p q : Picture) → OnlyReads s t → s.picture ≡ Some p → t.picture ≡ Some q → SameFiles p q
@@ -66,15 +71,29 @@ module _ (s t u : Shown) (q r w : BlockRead) where
   frees_trans : Frame s t q r → Frame t u r w → (l : ℕ) → w.link ≢ Some l → (q.link ≡ Some l) ⊎ (s.reads l ≡ None) → u.reads l ≡ None
   frees_trans f g l not_its free = ⊎_elim (λ its. g.frees l not_its (inl its)) (λ other. g.frees l not_its (inr (f.frees l other free))) (is_link r.link l)
 
+  -- what is kept was asked for from the wanted byte on, as the second call wants no earlier one than the first
+  asks_trans : Frame s t q r → Frame t u r w → AsksForWanted s u q w
+  asks_trans f g l is =
+      ⊎_elim
+      (λ kept. ⊎_elim
+      (λ first. inl (first.0, kept.1 ∙ first.1))
+      (λ asked. inr (subst (λ (o : Option OpenRead). IfSome o (λ opened. q.wanted ≤ opened.ask.offset)) (sym kept.1) asked))
+      (f.asks l kept.0))
+      (λ asked. inr (IfSome_then (u.reads l) asked (λ opened from. omega (arith, f.wanted, from))))
+      (g.asks l is)
+
   -- both calls together
   pub frame_trans : Frame s t q r → Frame t u r w → Frame s u q w
   frame_trans f g = record {
     block = g.block ∙ f.block;
+    client = g.client ∙ f.client;
+    wanted = omega (arith, f.wanted, g.wanted);
     end = g.end ∙ f.end;
     only = only_reads_trans s t u f.only g.only;
     others = others_trans f g;
     places = places_trans f g;
     own = own_trans f g;
+    asks = asks_trans f g;
     frees = frees_trans f g;
     holds = g.holds;
   }
@@ -130,12 +149,15 @@ module _ (s t : Shown) (r r' : BlockRead) (goes : Goes s t r r') where
   pub keeps_from-Goes : Stands t r' → Keeps s t r r'
   keeps_from-Goes stands = record {
     block = goes.frame.block;
+    client = goes.frame.client;
+    wanted = goes.frame.wanted;
     end = goes.frame.end;
     given_up = grows s t r r' goes.locations;
     only = goes.frame.only;
     others = goes.frame.others;
     places = goes.frame.places;
     own = goes.frame.own;
+    asks = goes.frame.asks;
     frees = goes.frame.frees;
     stands = stands;
   }

@@ -85,6 +85,10 @@ module _ (s t : Shown) (r r' : BlockRead) where
   grows (inl f) = ([], f.given_up ∙ sym (append-nil r.given_up))
   grows (inr f) = (f.reason ∷ f.more, f.given_up)
 
+  -- so no fewer locations are given up
+  pub tried_grows : (StaysAt s t r r') ⊎ (MovesOn s t r r') → tried_of r ≤ tried_of r'
+  tried_grows locations = let more = grows locations in omega (arith, ap (λ (given : List GivenUp). length given) more.1, length-append r.given_up more.0)
+
   -- a list isn't itself with one more reason
   not_longer : (more : List GivenUp) (reason : GivenUp) → r'.given_up ≡ r.given_up → r'.given_up ≡ r.given_up ++ reason ∷ more → ⊥
   not_longer more reason same grown = omega (arith, ap (λ (given : List GivenUp). length given) (sym same ∙ grown), length-append r.given_up (reason ∷ more))

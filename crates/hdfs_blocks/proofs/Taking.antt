@@ -12,14 +12,14 @@ use Rattle.hdfs_model.proofs.Frames.{told_after, told_weaker, only_reads_from-Re
 use Rattle.hdfs_wire.specs.Checksums.{IsChecked}
 use Rattle.hdfs_wire.specs.declared.read_packet.ReadPacket.{ReadPacket}
 use Rattle.hdfs_blocks.specs.Blocks.{node_at, node_count, held_at, IsToBlame}
-use Rattle.hdfs_blocks.specs.Reader.{tried_of, Holds, LinkHolds, IsOpenedOn, OthersStay, PlaceIs, PlacedIn, ShowsBlock, stage_of, before_opening, before_link}
+use Rattle.hdfs_blocks.specs.Reader.{tried_of, Holds, LinkHolds, OthersStay, PlaceIs, PlacedIn, ShowsBlock, stage_of, before_opening, before_link}
 use Rattle.hdfs_blocks.specs.Going.{Frame, Goes, Accepts, IsPartOf, count_at, gives_up}
 use Rattle.hdfs_blocks.specs.declared.block_read.BlockRead.{BlockRead}
 use Rattle.hdfs_blocks.specs.declared.given_up.GivenUp.{GivenUp}
 use Rattle.hdfs_blocks.specs.declared.given_up.GivenUp.TheVariants as reasons
 use Rattle.hdfs_blocks.specs.declared.packets.Step.{Step}
 use Rattle.hdfs_blocks.specs.declared.packets.Step.TheVariants as steps
-use Rattle.hdfs_blocks.proofs.Joining.{frame_trans}
+use Rattle.hdfs_blocks.proofs.Joining.{asks_same, frame_trans}
 use Rattle.hdfs_blocks.proofs.Going.{before_link_le, shows_later, gave_up_goes}
 use Rattle.hdfs_blocks.proofs.Locations.{stays_same, moves_on}
 use Rattle.hdfs_blocks.proofs.Ranges.{part_of_block}
@@ -33,9 +33,11 @@ zero_from_not_below : (n : ℕ) → (0 < n → ⊥) → n ≡ 0
 zero_from_not_below zero h = refl
 zero_from_not_below (suc n) h = absurd (h (omega arith))
 
--- a reader that differs from another only in where it is in the range, and in that bytes have come
+-- a reader that differs from another only in that it is further in the range, and in that bytes have come
 pub record SameRead (r r' : BlockRead) : Type 0 where
   pub block : r'.block ≡ r.block
+  pub client : r'.client ≡ r.client
+  pub wanted : r.wanted ≤ r'.wanted
   pub end : r'.end ≡ r.end
   pub given_up : r'.given_up ≡ r.given_up
   pub link : r'.link ≡ r.link
@@ -63,11 +65,14 @@ module _ (s t : Shown) (r : BlockRead) (l : ℕ) (packet : ReadPacket) (holds : 
   pub given_frame : Frame s t r r
   given_frame = record {
     block = refl;
+    client = refl;
+    wanted = omega arith;
     end = refl;
     only = given_only;
     others = λ m other is. same_reads m;
     places = told_weaker (ReadsAt l) (OthersStay s r) s.picture t.picture same_places given.reading.picture;
     own = λ m is. inl is;
+    asks = asks_same s t r r refl same_reads;
     frees = λ m not_its free. ⊎_elim (λ its. absurd (not_its its)) (λ none. same_reads m ∙ none) free;
     holds = record { range = holds.range; tried = holds.tried; link = λ m is. given_link m (holds.link m is); position = holds.position };
   }
@@ -185,23 +190,40 @@ module _ (s t : Shown) (r : BlockRead) (l : ℕ) (packet : ReadPacket) (holds : 
         (subst (λ (k : ℕ). (stage_of s r).before ≤ before_link t r.link (t.counts.nodes (node_at r.block k))) (sym same_tried)
         (before_link_le s t r.link (count_at s r) (count_at t r) same_reads (given_only.later.counts.nodes (node_at r.block (tried_of r))))))
 
+    -- which is the same datanode
+    same_node : node_at r'.block (tried_of r') ≡ node_at r.block (tried_of r)
+    same_node = ap (λ (b : LocatedBlock). node_at b (tried_of r')) same.block ∙ ap (node_at r.block) same_tried
+
     -- the kept link still holds
     accepted_link : (m : ℕ) → r'.link ≡ Some m → LinkHolds t r' m
     accepted_link m is =
-        let h = given_link m (holds.link m (sym same.link ∙ is)) in
-        subst (λ (b : LocatedBlock). ((tried_of r') < node_count b) × (opened : OpenRead) × (t.reads m ≡ Some opened) × IsOpenedOn b (tried_of r') opened × (opened.before ≤ t.counts.nodes (node_at b (tried_of r')))) (sym same.block)
-        (subst (λ (k : ℕ). (k < node_count r.block) × (opened : OpenRead) × (t.reads m ≡ Some opened) × IsOpenedOn r.block k opened × (opened.before ≤ t.counts.nodes (node_at r.block k))) (sym same_tried) h)
+        let h = given_link m (holds.link m (sym same.link ∙ is)) in (
+          omega (arith, h.0, same_tried, ap node_count same.block),
+          h.1,
+          h.2,
+          record {
+            node = h.3.node ∙ sym same_node;
+            same_block = h.3.same_block ∙ sym (ap (λ (b : LocatedBlock). b.b) same.block);
+            token = h.3.token ∙ sym (ap (λ (b : LocatedBlock). b.block_token) same.block);
+            same_client = h.3.same_client ∙ sym same.client;
+            same_end = h.3.same_end ∙ sym same.end;
+          },
+          omega (arith, h.4, ap t.counts.nodes same_node),
+        )
 
     -- so the reader goes on
     pub accepted_goes : r'.wanted ≤ r'.end → (r'.wanted < r'.end → end ≤ r'.wanted) → Goes s t r r'
     accepted_goes range behind = record {
       frame = record {
         block = same.block;
+        client = same.client;
+        wanted = same.wanted;
         end = same.end;
         only = given_only;
         others = λ m other is. same_reads m;
         places = told_weaker (ReadsAt l) (OthersStay s r) s.picture t.picture same_places given.reading.picture;
         own = λ m is. inl (sym same.link ∙ is);
+        asks = asks_same s t r r' same.link same_reads;
         frees = λ m not_its free. ⊎_elim (λ its. absurd (not_its (same.link ∙ its))) (λ none. same_reads m ∙ none) free;
         holds = record {
           range = range;
@@ -216,9 +238,12 @@ module _ (s t : Shown) (r : BlockRead) (l : ℕ) (packet : ReadPacket) (holds : 
     }
 
   -- such a reader by an equation
-  same_read : (r' x : BlockRead) → r' ≡ x → x.block ≡ r.block → x.end ≡ r.end → x.given_up ≡ r.given_up → x.link ≡ r.link → (r.moved ≡ true → x.moved ≡ true) → SameRead r r'
-  same_read r' x is b e k o m = record {
+  same_read : (r' x : BlockRead) → r' ≡ x → x.block ≡ r.block → x.client ≡ r.client → r.wanted ≤ x.wanted → x.end ≡ r.end → x.given_up ≡ r.given_up → x.link ≡ r.link
+      → (r.moved ≡ true → x.moved ≡ true) → SameRead r r'
+  same_read r' x is b c w e k o m = record {
     block = ap (λ (y : BlockRead). y.block) is ∙ b;
+    client = ap (λ (y : BlockRead). y.client) is ∙ c;
+    wanted = omega (arith, w, ap (λ (y : BlockRead). y.wanted) is);
     end = ap (λ (y : BlockRead). y.end) is ∙ e;
     given_up = ap (λ (y : BlockRead). y.given_up) is ∙ k;
     link = ap (λ (y : BlockRead). y.link) is ∙ o;
@@ -228,10 +253,10 @@ module _ (s t : Shown) (r : BlockRead) (l : ℕ) (packet : ReadPacket) (holds : 
   -- whatever was taken from the packet, the reader goes on
   pub goes_from-Accepts : (r' : BlockRead) (start end : ℕ) (step : Step) → Accepts r start end packet.payload step r' → packet.header.offset_in_block ≡ pos start → end ≡ start + length packet.payload → Goes s t r r'
   goes_from-Accepts r' start end (steps.Piece bytes) h offset ends =
-      let same = same_read r' (record r { position = Some end; wanted = r.wanted + length bytes; moved = true }) h.0 refl refl refl refl (λ moved. refl) in
+      let same = same_read r' (record r { position = Some end; wanted = r.wanted + length bytes; moved = true }) h.0 refl refl (omega arith) refl refl refl (λ moved. refl) in
       accepted_goes r' start end same offset ends (ap (λ (y : BlockRead). y.position) h.0) (omega (arith, h.3, same.end)) (λ lt. h.5 (omega (arith, lt, same.end)))
   goes_from-Accepts r' start end steps.Before h offset ends =
-      let same = same_read r' (record r { position = Some end }) h.0 refl refl refl refl (λ moved. moved) in
+      let same = same_read r' (record r { position = Some end }) h.0 refl refl (omega arith) refl refl refl (λ moved. moved) in
       let wanted : r'.wanted ≡ r.wanted = ap (λ (y : BlockRead). y.wanted) h.0 in
       accepted_goes r' start end same offset ends (ap (λ (y : BlockRead). y.position) h.0) (omega (arith, wanted, same.end, holds.range)) (λ lt. omega (arith, wanted, h.1))
   goes_from-Accepts r' start end steps.Failed h offset ends = absurd h

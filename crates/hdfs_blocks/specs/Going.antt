@@ -6,7 +6,7 @@ use Rattle.hdfs_model.specs.Picture.{Told}
 use Rattle.hdfs_model.specs.Shown.{Shown, OnlyReads}
 use Rattle.hdfs_model.specs.Steps.{range_of}
 use Rattle.hdfs_blocks.specs.Blocks.{node_at, node_count}
-use Rattle.hdfs_blocks.specs.Reader.{tried_of, is_of_connection, Holds, OthersStay, ShowsBlock, GivesUp, IsPieceOf}
+use Rattle.hdfs_blocks.specs.Reader.{tried_of, is_of_connection, AsksForWanted, Holds, OthersStay, ShowsBlock, GivesUp, IsPieceOf}
 use Rattle.hdfs_blocks.specs.declared.block_read.BlockRead.{BlockRead}
 use Rattle.hdfs_blocks.specs.declared.given_up.GivenUp.{GivenUp}
 use Rattle.hdfs_blocks.specs.declared.packets.Step.{Step}
@@ -15,11 +15,14 @@ use Rattle.hdfs_blocks.specs.declared.packets.Step.TheVariants as steps
 -- what stays, whether the picture is told or not
 pub record Frame (old new : Shown) (reader reader' : BlockRead) : Type 0 where
   pub block : reader'.block ≡ reader.block
+  pub client : reader'.client ≡ reader.client
+  pub wanted : reader.wanted ≤ reader'.wanted
   pub end : reader'.end ≡ reader.end
   pub only : OnlyReads old new
   pub others : (link : ℕ) → reader.link ≢ Some link → IsSome (old.reads link) → new.reads link ≡ old.reads link
   pub places : Told (OthersStay old reader) old.picture new.picture
   pub own : (link : ℕ) → reader'.link ≡ Some link → (reader.link ≡ Some link) ⊎ (old.reads link ≡ None)
+  pub asks : AsksForWanted old new reader reader'
   pub frees : (link : ℕ) → reader'.link ≢ Some link → (reader.link ≡ Some link) ⊎ (old.reads link ≡ None) → new.reads link ≡ None
   pub holds : Holds new reader'
 

@@ -1,6 +1,7 @@
 -- A reader of a block, the cluster that it reads from, and the bytes of the block.
-use Rattle.std.specs.Prelude.{◌≡◌, ◌≢◌, ◌⊎◌, ◌↔◌, ℕ, zero, suc, ◌+◌, ◌<◌, ◌≤◌, Bool, true, false, List, ◌∷◌, ◌++◌, length, All, Option, Some, None, IsSome, Result, Ok, IfOk, IfErr}
+use Rattle.std.specs.Prelude.{◌≡◌, ◌≢◌, ◌⊎◌, ◌↔◌, ℕ, zero, suc, ◌+◌, ◌<◌, ◌≤◌, Bool, true, false, List, ◌∷◌, ◌++◌, length, slice_get, Option, Some, None, IsSome, IsSomeAnd, IfSome, Result, Ok, IfOk, IfErr}
 use Rattle.hdfs_model.specs.declared.messages.LocatedBlock.{LocatedBlock}
+use Rattle.hdfs_model.specs.declared.messages.ReadAsk.{ReadAsk}
 use Rattle.hdfs_model.specs.declared.picture.ReadPlace.{ReadPlace}
 use Rattle.hdfs_model.specs.declared.picture.OpenRead.{OpenRead}
 use Rattle.hdfs_model.specs.declared.errors.HdfsError.{HdfsError}
@@ -54,10 +55,16 @@ link_of reader = reader.link
 abbrev pub has_failed : BlockRead → Bool
 has_failed reader = reader.failed
 
--- the connections that are kept to an address of none of the block's locations stay
-abbrev pub KeepsConnections : LocatedBlock → ConnectionCache → ConnectionCache → Type 0
-KeepsConnections block old new =
-    (address : List ℕ) → All (λ node. address ≢ address_of_node node.id) block.locs → kept_at new address ≡ kept_at old address
+-- an address is that of a location that is tried from one call to the next
+abbrev pub IsTriedAddress : BlockRead → BlockRead → List ℕ → Type 0
+IsTriedAddress reader reader' address =
+    (k : ℕ) × (tried_of reader ≤ k) × (k ≤ tried_of reader')
+    × IsSomeAnd (slice_get (block_of reader).locs k) (λ node. address ≡ address_of_node node.id)
+
+-- the connections stay that are kept to addresses of other locations than those that are tried
+abbrev pub KeepsConnections : BlockRead → BlockRead → ConnectionCache → ConnectionCache → Type 0
+KeepsConnections reader reader' old new =
+    (address : List ℕ) → (IsTriedAddress reader reader' address → ⊥) → kept_at new address ≡ kept_at old address
 
 -- nothing more comes
 abbrev pub IsOver : BlockRead → Type 0
@@ -67,11 +74,14 @@ IsOver reader = (has_failed reader ≡ true) ⊎ (wanted_of reader ≡ end_of re
 abbrev pub EndsStill : {C : Type 0} → BlockRead → C → Result (Option (List ℕ)) HdfsError → C → Type 0
 EndsStill reader old result new = ((result ≡ Ok None) ↔ IsOver reader) × (result ≡ Ok None → new ≡ old)
 
--- a read was opened on the k-th location of a block, with the block's stamp, pool and token as they were answered
-pub record IsOpenedOn (block : LocatedBlock) (k : ℕ) (opened : OpenRead) : Type 0 where
-  pub node : opened.node.datanode_uuid ≡ node_at block k
-  pub same_block : opened.block ≡ block.b
-  pub token : opened.token ≡ block.block_token
+-- a read of a block up to this byte was asked for from its k-th location in a client's name, with the block's stamp, pool and token as
+-- they were answered
+pub record IsAskFor (block : LocatedBlock) (k : ℕ) (client : List ℕ) (end : ℕ) (ask : ReadAsk) : Type 0 where
+  pub node : ask.node.datanode_uuid ≡ node_at block k
+  pub same_block : ask.block ≡ block.b
+  pub token : ask.token ≡ block.block_token
+  pub same_client : ask.client ≡ client
+  pub same_end : ask.offset + ask.len ≡ end
 
 -- The link was opened on the location that the reader tries, when its node's count was at most what it is now.
 abbrev pub LinkHolds : Shown → BlockRead → ℕ → Type 0
@@ -79,7 +89,7 @@ LinkHolds shown reader link =
     (tried_of reader < node_count reader.block)
     × (opened : OpenRead)
     × (shown.reads link ≡ Some opened)
-    × IsOpenedOn reader.block (tried_of reader) opened
+    × IsAskFor reader.block (tried_of reader) reader.client reader.end opened.ask
     × (opened.before ≤ shown.counts.nodes (node_at reader.block (tried_of reader)))
 
 -- The reader's place is in its range and its list, and the link that it keeps is open.
@@ -115,16 +125,25 @@ TriesAgain old new reader reader' =
     → is_of_connection reason ≡ true
     → RoseTwice (old.counts.nodes (node_at (block_of reader) (tried_of reader))) (new.counts.nodes (node_at (block_of reader) (tried_of reader)))
 
--- What every call of a reader keeps. Links that were open and aren't its own stay as they were. The link that it keeps
--- is the same or a fresh one, and no other link that it used is left open.
+-- The link that a reader keeps is the one that it had, or was asked for from the wanted byte on.
+abbrev pub AsksForWanted : Shown → Shown → BlockRead → BlockRead → Type 0
+AsksForWanted old new reader reader' =
+    (link : ℕ) → link_of reader' ≡ Some link
+    → ((link_of reader ≡ Some link) × (new.reads link ≡ old.reads link)) ⊎ IfSome (new.reads link) (λ opened. wanted_of reader ≤ opened.ask.offset)
+
+-- What every call of a reader keeps. What it has given it doesn't give again. Links that were open and aren't its own stay as they
+-- were. The link that it keeps is the same or a fresh one, and no other link that it used is left open.
 pub record Keeps (old new : Shown) (reader reader' : BlockRead) : Type 0 where
   pub block : block_of reader' ≡ block_of reader
+  pub client : client_of reader' ≡ client_of reader
+  pub wanted : wanted_of reader ≤ wanted_of reader'
   pub end : end_of reader' ≡ end_of reader
   pub given_up : (more : List GivenUp) × (given_up_of reader' ≡ given_up_of reader ++ more)
   pub only : OnlyReads old new
   pub others : (link : ℕ) → link_of reader ≢ Some link → IsSome (old.reads link) → new.reads link ≡ old.reads link
   pub places : Told (OthersStay old reader) old.picture new.picture
   pub own : (link : ℕ) → link_of reader' ≡ Some link → (link_of reader ≡ Some link) ⊎ (old.reads link ≡ None)
+  pub asks : AsksForWanted old new reader reader'
   pub frees : (link : ℕ) → link_of reader' ≢ Some link → (link_of reader ≡ Some link) ⊎ (old.reads link ≡ None) → new.reads link ≡ None
   pub stands : Stands new reader'
 

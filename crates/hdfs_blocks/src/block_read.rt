@@ -33,7 +33,7 @@ pub struct BlockRead {
 impl BlockRead {
     ghost use Rattle.hdfs_model.specs.Counts.{FaultCounts};
     ghost use Rattle.hdfs_model.specs.Shown.{Shown};
-    ghost use Rattle.hdfs_blocks.specs.Reader.{block_of, client_of, wanted_of, end_of, given_up_of, tried_of, link_of, has_failed, EndsStill, Holds, Stands, Keeps, KeepsConnections, ShowsBlock, TriesAgain, Over, Reads, AllBlamed, IsRead, Gives, IsPieceOf};
+    ghost use Rattle.hdfs_blocks.specs.Reader.{block_of, client_of, wanted_of, end_of, given_up_of, tried_of, link_of, moved_of, has_failed, EndsStill, Holds, Stands, Keeps, KeepsConnections, ShowsBlock, TriesAgain, Over, Reads, AllBlamed, IsRead, Gives, IsPieceOf};
     ghost use Rattle.hdfs_blocks.specs.Going.{Frame, Goes, Accepts, gives_up, tries_left, Loses, LosesOne, Steps, IsPartOf, ReadsLocation};
 
     /// A read of `len` bytes from `offset` on of a block that is held in whole by each of its locations. `client` is the
@@ -49,7 +49,8 @@ impl BlockRead {
         ensures block { IfOk result (λ reader. block_of reader ≡ block) }
         ensures range { IfOk result (λ reader. (wanted_of reader ≡ offset) × (end_of reader ≡ offset + len)) }
         ensures client { IfOk result (λ reader. client_of reader ≡ client.now) }
-        ensures idle { IfOk result (λ reader. (link_of reader ≡ None) × (given_up_of reader ≡ []) × (has_failed reader ≡ false)) }
+        ensures idle { IfOk result (λ reader. (link_of reader ≡ None) × (given_up_of reader ≡ []) × (moved_of reader ≡ false)
+            × (has_failed reader ≡ false)) }
         ensures stands { IfOk result (λ reader. (shown : Shown) → Stands shown reader) }
         ensures err { IfErr result (λ e. e ≡ errors.NoMemory) }
     {
@@ -82,7 +83,7 @@ impl BlockRead {
     ) -> Result<Option<Bytes>, HdfsError>
         requires { Stands (C.shown cluster.old) self.old }
         ensures keeps { Keeps (C.shown cluster.old) (C.shown cluster.new) self.old self.new }
-        ensures cached { KeepsConnections (block_of self.old) cache.old cache.new }
+        ensures cached { KeepsConnections self.old self.new cache.old cache.new }
         ensures answers { Gives self.old result self.new × EndsStill self.old cluster.old result cluster.new }
         ensures again { TriesAgain (C.shown cluster.old) (C.shown cluster.new) self.old self.new }
 
@@ -153,7 +154,7 @@ impl BlockRead {
         ensures goes { Goes (C.shown cluster.old) (C.shown cluster.new) self.old self.new }
         ensures same { (self.new.wanted ≡ self.old.wanted) × (self.new.failed ≡ self.old.failed) × (self.new.moved ≡ self.old.moved) }
         ensures idle { self.new.wanted ≡ self.new.end → self.new.link ≡ None }
-        ensures cached { KeepsConnections self.old.block cache.old cache.new }
+        ensures cached { KeepsConnections self.old self.new cache.old cache.new }
     {
         if self.wanted != self.end {
             return;
@@ -174,7 +175,7 @@ impl BlockRead {
         requires link { self.old.link ≡ Some link }
         ensures goes { Goes (C.shown cluster.old) (C.shown cluster.new) self.old self.new }
         ensures idle { self.new ≡ record self.old { link = None; position = None } }
-        ensures cached { KeepsConnections self.old.block cache.old cache.new }
+        ensures cached { KeepsConnections self.old self.new cache.old cache.new }
     {
         self.link = None;
         self.position = None;
@@ -241,7 +242,7 @@ impl BlockRead {
         ensures goes { Goes (C.shown cluster.old) (C.shown cluster.new) self.old self.new }
         ensures same { (self.new.wanted ≡ self.old.wanted) × (self.new.failed ≡ self.old.failed) }
         ensures opened { IfOk result (λ link. self.new.link ≡ link) }
-        ensures cached { KeepsConnections self.old.block cache.old cache.new }
+        ensures cached { KeepsConnections self.old self.new cache.old cache.new }
         ensures tried { IfOk result (λ link. MatchOption link
             (LosesOne self.old self.new)
             (λ opened. tries_left self.new ≤ tries_left self.old)) }
@@ -352,7 +353,7 @@ impl BlockRead {
         requires left { tried_of self.old < node_count self.old.block }
         requires more { self.old.wanted < self.old.end }
         ensures reads { ReadsLocation (C.shown cluster.old) (C.shown cluster.new) self.old self.new result }
-        ensures cached { KeepsConnections self.old.block cache.old cache.new }
+        ensures cached { KeepsConnections self.old self.new cache.old cache.new }
     {
         if let Some(link) = self.link {
             return self.read_on(cluster, link);
@@ -376,7 +377,7 @@ impl BlockRead {
         ensures piece { IfOk result (λ piece. MatchOption piece
             ((tried_of self.new ≡ node_count self.old.block) × (self.new.wanted ≡ self.old.wanted))
             (λ bytes. (self.new.wanted ≡ self.old.wanted + length bytes) × (0 < length bytes) × (self.new.moved ≡ true))) }
-        ensures cached { KeepsConnections self.old.block cache.old cache.new }
+        ensures cached { KeepsConnections self.old self.new cache.old cache.new }
         ensures bytes { IfOk result (λ piece. (block : List ℕ) → ShowsBlock (C.shown cluster.old) self.old block
             → IsPieceOf block self.old.wanted piece) }
     {

@@ -1,5 +1,5 @@
 //! How a read is opened, on a connection that is kept to its datanode or on a fresh one, and whether its connection can be kept.
-ghost use Rattle.std.specs.Prelude.{◌≡◌, ◌≢◌, ℕ, List, IfOk, IfErr, IsSome, string_bytes};
+ghost use Rattle.std.specs.Prelude.{◌≡◌, ◌≢◌, ℕ, List, None, IfOk, IfErr, IsSome, string_bytes};
 ghost use Rattle.hdfs_connections.specs.Connections.{kept_at};
 ghost use Rattle.hdfs_blocks.specs.Blocks.{address_of_node};
 ghost use Rattle.hdfs_blocks.specs.Connecting.{OpensBehind, WasAsked};
@@ -29,7 +29,7 @@ pub(crate) fn connect<C: Cluster>(
     ask: &ReadAsk,
 ) -> Result<u64, LinkFault>
     ensures ok { IfOk result (λ link. OpensBehind (C.shown cluster.old) ask.now link (C.shown cluster.new)) }
-    ensures err { IfErr result (λ fault. NotOpened (C.shown cluster.old) ask.now fault (C.shown cluster.new)) }
+    ensures err { IfErr result (λ fault. NotOpened (C.shown cluster.old) None ask.now fault (C.shown cluster.new)) }
     ensures others { (other : List ℕ) → other ≢ address.now → kept_at cache.new other ≡ kept_at cache.old other }
 {
     'kept: for _ in 0..KEPT_TRIES {

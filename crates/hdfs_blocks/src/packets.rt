@@ -1,5 +1,5 @@
 //! The packets of one read, and what is asked for.
-ghost use Rattle.std.specs.Prelude.{◌≡◌, ◌<◌, ◌≤◌, ◌+◌, ℕ, pos, Some, IfOk, IfSome, IsSome, Any, length};
+ghost use Rattle.std.specs.Prelude.{◌≡◌, ◌<◌, ◌≤◌, ◌+◌, ℕ, pos, Some, IfOk, IfSome, IsSome, IsSomeAnd, length, slice_get};
 ghost use Rattle.hdfs_blocks.specs.Blocks.{node_at, node_count};
 
 use bytes::Bytes;
@@ -62,7 +62,7 @@ pub(crate) fn read_ask(
 ) -> Result<ReadAsk, NoMemory>
     requires { index < node_count block.now }
     ensures node { IfOk result (λ ask. ask.node.datanode_uuid ≡ node_at block.now index) }
-    ensures listed { IfOk result (λ ask. Any (λ listed. listed.id ≡ ask.node) block.now.locs) }
+    ensures listed { IfOk result (λ ask. IsSomeAnd (slice_get block.now.locs index) (λ listed. ask.node ≡ listed.id)) }
     ensures block { IfOk result (λ ask. ask.block ≡ block.now.b) }
     ensures range { IfOk result (λ ask. (ask.offset ≡ offset) × (ask.len ≡ len)) }
     ensures token { IfOk result (λ ask. ask.token ≡ block.now.block_token) }

@@ -18,7 +18,19 @@ use Rattle.hdfs_blocks.proofs.Starting.{shows_new, over_new}
 use Rattle.hdfs_client.specs.Ranges.{HoldsBlock, FailsAt}
 
 frame_of : (s t : Shown) (q r : BlockRead) → Keeps s t q r → Frame s t q r
-frame_of s t q r k = record { block = k.block; end = k.end; only = k.only; others = k.others; places = k.places; own = k.own; frees = k.frees; holds = k.stands.holds }
+frame_of s t q r k = record {
+  block = k.block;
+  client = k.client;
+  wanted = k.wanted;
+  end = k.end;
+  only = k.only;
+  others = k.others;
+  places = k.places;
+  own = k.own;
+  asks = k.asks;
+  frees = k.frees;
+  holds = k.stands.holds;
+}
 
 module _ (s t u : Shown) (q r w : BlockRead) where
   pub keeps_trans : Keeps s t q r → Keeps t u r w → Keeps s u q w
@@ -26,12 +38,15 @@ module _ (s t u : Shown) (q r w : BlockRead) where
       let joined = frame_trans s t u q r w (frame_of s t q r f) (frame_of t u r w g) in
       record {
         block = joined.block;
+        client = joined.client;
+        wanted = joined.wanted;
         end = joined.end;
         given_up = (f.given_up.0 ++ g.given_up.0, g.given_up.1 ∙ ap (λ (l : List GivenUp). l ++ g.given_up.0) f.given_up.1 ∙ append_assoc (given_up_of q) f.given_up.0 g.given_up.0);
         only = joined.only;
         others = joined.others;
         places = joined.places;
         own = joined.own;
+        asks = joined.asks;
         frees = joined.frees;
         stands = g.stands;
       }

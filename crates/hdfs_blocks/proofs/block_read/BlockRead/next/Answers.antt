@@ -1,5 +1,5 @@
 -- A call is the piece that it reads, and the ending of the link where the range is given or no location is left.
-use Rattle.std.proofs.Common.{◌≡◌, Some, subst, ◌∙◌, ap, arith, rules}
+use Rattle.std.proofs.Common.{◌≡◌, Some, refl, subst, ◌∙◌, ap, arith, rules}
 use Rattle.hdfs_model.specs.Picture.{Picture}
 use Rattle.hdfs_model.specs.declared.messages.LocatedBlock.{LocatedBlock}
 use Rattle.hdfs_blocks.specs.Blocks.{node_count}
@@ -81,5 +81,18 @@ returns-in-Err-clause-again g c =
 
 pub returns-in-Ok-Some-clause-cached : goal.returns-in-Ok-Some-clause-cached
 returns-in-Ok-Some-clause-cached g c =
-    keeps_connections_trans c.args.self.now.block c.piece.new.self.block c.args.cache.now c.piece.new.cache c.finish_at_end.new.cache c.piece.ensures.goes.frame.block
-    c.piece.ensures.cached c.finish_at_end.ensures.cached
+    let s = g.C.Cluster.shown c.args.cluster.now in
+    keeps_connections_trans s (g.C.Cluster.shown c.piece.new.cluster) (g.C.Cluster.shown c.finish_at_end.new.cluster) c.args.self.now c.piece.new.self c.finish_at_end.new.self c.piece.ensures.goes c.finish_at_end.ensures.goes
+    c.args.cache.now c.piece.new.cache c.finish_at_end.new.cache c.piece.ensures.cached c.finish_at_end.ensures.cached
+
+pub returns-in-Ok-None-clause-cached : goal.returns-in-Ok-None-clause-cached
+returns-in-Ok-None-clause-cached g c =
+    let s = g.C.Cluster.shown c.args.cluster.now in
+    keeps_connections_trans s (g.C.Cluster.shown c.piece.new.cluster) (g.C.Cluster.shown c.fail.new.cluster) c.args.self.now c.piece.new.self c.fail.new.self c.piece.ensures.goes c.fail.ensures.goes
+    c.args.cache.now c.piece.new.cache c.piece.new.cache c.piece.ensures.cached (λ address none. refl)
+
+pub returns-in-Err-clause-cached : goal.returns-in-Err-clause-cached
+returns-in-Err-clause-cached g c =
+    let s = g.C.Cluster.shown c.args.cluster.now in
+    keeps_connections_trans s (g.C.Cluster.shown c.piece.new.cluster) (g.C.Cluster.shown c.fail-in-Err.new.cluster) c.args.self.now c.piece.new.self c.fail-in-Err.new.self c.piece.ensures.goes c.fail-in-Err.ensures.goes
+    c.args.cache.now c.piece.new.cache c.piece.new.cache c.piece.ensures.cached (λ address none. refl)

@@ -24,16 +24,16 @@ locations-preserved g c = record {
   goes = goes_trans (g.C.Cluster.shown c.args.cluster.now) (g.C.Cluster.shown c.locations.cluster) (g.C.Cluster.shown c.read_location.new.cluster) c.args.self.now c.locations.self c.read_location.new.self c.locations.invariant.goes c.read_location.ensures.reads.goes;
   failed = search rules;
   wanted = search rules;
-  cached = keeps_connections_trans c.args.self.now.block c.locations.self.block c.args.cache.now c.locations.cache c.read_location.new.cache c.locations.invariant.goes.frame.block
-      c.locations.invariant.cached c.read_location.ensures.cached;
+  cached = keeps_connections_trans (g.C.Cluster.shown c.args.cluster.now) (g.C.Cluster.shown c.locations.cluster) (g.C.Cluster.shown c.read_location.new.cluster) c.args.self.now c.locations.self c.read_location.new.self c.locations.invariant.goes c.read_location.ensures.reads.goes
+      c.args.cache.now c.locations.cache c.read_location.new.cache c.locations.invariant.cached c.read_location.ensures.cached;
 }
 
 pub returns-in_err-bytes-clause-cached : goal.returns-in_err-bytes-clause-cached
 returns-in_err-bytes-clause-cached g c =
-    keeps_connections_trans c.args.self.now.block c.locations.self.block c.args.cache.now c.locations.cache c.read_location.new.cache c.locations.invariant.goes.frame.block
-    c.locations.invariant.cached c.read_location.ensures.cached
+    keeps_connections_trans (g.C.Cluster.shown c.args.cluster.now) (g.C.Cluster.shown c.locations.cluster) (g.C.Cluster.shown c.read_location.new.cluster) c.args.self.now c.locations.self c.read_location.new.self c.locations.invariant.goes c.read_location.ensures.reads.goes
+    c.args.cache.now c.locations.cache c.read_location.new.cache c.locations.invariant.cached c.read_location.ensures.cached
 
 pub returns-in-Some-clause-cached : goal.returns-in-Some-clause-cached
 returns-in-Some-clause-cached g c =
-    keeps_connections_trans c.args.self.now.block c.locations.self.block c.args.cache.now c.locations.cache c.read_location.new.cache c.locations.invariant.goes.frame.block
-    c.locations.invariant.cached c.read_location.ensures.cached
+    keeps_connections_trans (g.C.Cluster.shown c.args.cluster.now) (g.C.Cluster.shown c.locations.cluster) (g.C.Cluster.shown c.read_location.new.cluster) c.args.self.now c.locations.self c.read_location.new.self c.locations.invariant.goes c.read_location.ensures.reads.goes
+    c.args.cache.now c.locations.cache c.read_location.new.cache c.locations.invariant.cached c.read_location.ensures.cached

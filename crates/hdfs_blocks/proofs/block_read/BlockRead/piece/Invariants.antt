@@ -8,7 +8,7 @@ invariant-locations g l = record {
   goes : Goes (g.C.Cluster.shown l.fn.cluster) (g.C.Cluster.shown l.cluster) l.fn.self l.self;
   failed : l.self.failed ≡ l.fn.self.failed;
   wanted : l.self.wanted ≡ l.fn.self.wanted;
-  cached : KeepsConnections l.fn.self.block l.fn.cache l.cache;
+  cached : KeepsConnections l.fn.self l.self l.fn.cache l.cache;
 }
 
 abbrev pub decreases-locations : goal.decreases-locations
