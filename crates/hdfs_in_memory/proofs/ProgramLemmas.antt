@@ -134,12 +134,14 @@ node_fault_of_none d [] none = refl
 node_fault_of_none d (lines.Fault fault ∷ rest) none = absurd (cc)
 node_fault_of_none d (lines.Dir path ∷ rest) none = node_fault_of_none d rest none
 node_fault_of_none d (lines.File path attributes bytes ∷ rest) none = node_fault_of_none d rest none
+node_fault_of_none d (lines.Short path block node len ∷ rest) none = node_fault_of_none d rest none
 
 link_fault_of_none : (rest : List Line) → list_any is_fault rest ≡ false → link_fault_count rest ≡ 0
 link_fault_of_none [] none = refl
 link_fault_of_none (lines.Fault fault ∷ rest) none = absurd (cc)
 link_fault_of_none (lines.Dir path ∷ rest) none = link_fault_of_none rest none
 link_fault_of_none (lines.File path attributes bytes ∷ rest) none = link_fault_of_none rest none
+link_fault_of_none (lines.Short path block node len ∷ rest) none = link_fault_of_none rest none
 
 unfailed_since : (n : ℕ) (old new : FaultCounts) → IsUnfailed old → IsUnfailed new → NoneRose n old new
 unfailed_since n old new before after = record {

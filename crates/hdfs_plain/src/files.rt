@@ -4,13 +4,15 @@ ghost use Rattle.std.specs.List.{list_any};
 ghost use Rattle.hdfs_model.specs.Files as spec;
 ghost use Rattle.hdfs_model.specs.Loading.{takes, is_directory, is_free, with_line};
 ghost use Rattle.hdfs_model.specs.Paths.{ancestors, parent_of};
+ghost use Rattle.hdfs_model.specs.Replicas.{takes_short};
 ghost use Rattle.hdfs_model.specs.Steps.{read_content};
 ghost use Rattle.hdfs_plain.specs.declared.files.PlainFiles.{PlainFiles};
 ghost use Rattle.hdfs_plain.specs.Answers.{Comes};
 ghost use Rattle.hdfs_plain.specs.Plain.{Holds, content_in, files_of, has_open};
 
 use crate::outcome::{PlainOutcome, PlainRefusal};
-use hdfs_model::{Attributes, Line, Reply, is_path, nearest_ancestor, parent_of};
+use crate::replicas::{block_length, can_cut};
+use hdfs_model::{Attributes, Line, MemSettings, Reply, is_path, nearest_ancestor, parent_of};
 use hdfs_wire::{Blob, NoMemory};
 use std::alloc::Global;
 use std::collections::{BTreeMap, BTreeSet};
@@ -129,9 +131,9 @@ impl PlainFiles {
         self.opened.contains(path)
     }
 
-    /// Whether a line may be loaded.
-    pub fn takes(&self, line: &Line) -> bool
-        ensures { result ≡ takes (files_of self.now) line.now }
+    /// Whether a line may be loaded behind those that were, into files of a cluster with these settings.
+    pub fn takes(&self, settings: &MemSettings, before: &[Line], line: &Line) -> bool
+        ensures { result ≡ takes (record { settings = Some settings.now; lines = before.now }) (files_of self.now) line.now }
     {
         match line {
             Line::Dir { path } => self.is_free(path.as_str()),
@@ -142,7 +144,42 @@ impl PlainFiles {
             } => {
                 self.is_free(path.as_str()) && attributes.in_limits(bytes.as_slice().len() as u64)
             }
+            Line::Short {
+                path,
+                block,
+                node,
+                len,
+            } => self.takes_short(settings.nodes, before, path.as_str(), *block, *node, *len),
             Line::Fault(_) => true,
+        }
+    }
+
+    // Whether what stands at a path has a replica that can be cut.
+    fn takes_short(
+        &self,
+        nodes: u32,
+        lines: &[Line],
+        path: &str,
+        block: u32,
+        node: u32,
+        len: u64,
+    ) -> bool
+        ensures { result ≡ takes_short nodes lines.now (files_of self.now path.now) path.now block node len }
+    {
+        match self.nodes.get(path) {
+            None | Some(PlainNode::Dir) | Some(PlainNode::Writing(_)) => false,
+            Some(PlainNode::File(file)) => {
+                let count = file.attributes.replication.min(nodes);
+                can_cut(
+                    count,
+                    lines,
+                    path,
+                    block,
+                    node,
+                    len,
+                    block_length(file, block),
+                )
+            }
         }
     }
 
@@ -172,12 +209,12 @@ impl PlainFiles {
     }
 
     /// Loads a line that may be loaded.
-    pub fn load(&mut self, line: Line) -> Result<(), NoMemory>
-        ensures { IfOk result (λ done. (state : spec.State) → Holds self.old state → Holds self.new (with_line state line)) }
+    pub fn load(&mut self, line: &Line) -> Result<(), NoMemory>
+        ensures { IfOk result (λ done. (state : spec.State) → Holds self.old state → Holds self.new (with_line state line.now)) }
     {
         match line {
             Line::Dir { path } => {
-                self.nodes.insert(path.into_string(), PlainNode::Dir)?;
+                self.put(path.as_str(), PlainNode::Dir)?;
                 Ok(())
             }
             Line::File {
@@ -185,12 +222,14 @@ impl PlainFiles {
                 attributes,
                 bytes,
             } => {
-                let file = PlainFile { bytes, attributes };
-                self.nodes
-                    .insert(path.into_string(), PlainNode::File(file))?;
+                let file = PlainFile {
+                    bytes: bytes.copy(self.alloc)?,
+                    attributes: *attributes,
+                };
+                self.put(path.as_str(), PlainNode::File(file))?;
                 Ok(())
             }
-            Line::Fault(_) => Ok(()),
+            Line::Short { .. } | Line::Fault(_) => Ok(()),
         }
     }
 }

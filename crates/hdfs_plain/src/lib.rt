@@ -3,6 +3,7 @@
 
 mod files;
 mod outcome;
+mod replicas;
 mod running;
 mod writing;
 

@@ -13,8 +13,8 @@ use hdfs_model::{Attributes, Reply, WriteOptions, nearest_ancestor, parent_of};
 use hdfs_wire::{Blob, NoMemory};
 
 impl PlainFiles {
-    // Puts a node at a path.
-    fn put(&mut self, path: &str, node: PlainNode) -> Result<(), NoMemory>
+    /// Puts a node at a path.
+    pub(crate) fn put(&mut self, path: &str, node: PlainNode) -> Result<(), NoMemory>
         ensures { OnOk result (Puts self.old path.now node self.new) }
     {
         self.nodes

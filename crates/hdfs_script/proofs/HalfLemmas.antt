@@ -4,17 +4,25 @@ use Rattle.std.proofs.lemmas.Bool.Decides.{nat_tests}
 use Rattle.hdfs_model.specs.declared.store.Line.{Line}
 use Rattle.hdfs_model.specs.declared.store.Line.TheVariants as lines
 use Rattle.hdfs_model.specs.Files.{State}
-use Rattle.hdfs_model.specs.Loading.{takes, with_line}
+use Rattle.hdfs_model.specs.Loading.{takes, with_line, with_loaded}
+use Rattle.hdfs_model.specs.Shown.{Loaded}
 use Rattle.hdfs_script.specs.declared.entry.Entry.{Entry}
 use Rattle.hdfs_script.specs.declared.entry.Entry.TheVariants.{Blank, Sets, Loads, Runs, Bad}
 use Rattle.hdfs_script.specs.declared.entry.NumberedLine.{NumberedLine}
 use Rattle.hdfs_script.specs.declared.entry.Parsed.{Parsed}
+use Rattle.hdfs_script.specs.declared.entry.ScriptSettings.{ScriptSettings}
 use Rattle.hdfs_script.specs.Parsing.{Parses, good_front, first_out, first_file, first_set, first_untaken, numbered_from, or_else, plain_lines, untaken_set}
-use Rattle.hdfs_script.specs.Scripts.{Script, script, entries_in, lines_of, commands_of, first_bad, is_fault, is_taken, may_stand, no_settings, part_of, settings_from, unless_bad, with_entry}
+use Rattle.hdfs_script.specs.Scripts.{Script, SoFar, begins, script, entries_in, lines_of, commands_of, first_bad, is_fault, is_taken, may_stand, no_settings, part_of, settings_from, unless_bad, with_entry}
+
+-- what is loaded so far, where these are the settings of all that is loaded
+abbrev loaded_over : ScriptSettings → SoFar → Loaded
+loaded_over given so_far = record { settings = Some given.cluster; lines = so_far.lines }
 
 -- the first bad line of a half that was read: one that isn't taken, or else the first that is bad by its text or place
-abbrev bad_half : Bool → State → ℕ → List Entry → Option ℕ → Option ℕ
-bad_half fresh state number front out = or_else (untaken_set fresh (first_set number front)) (or_else (first_untaken fresh state (numbered_from number front)) out)
+abbrev bad_half : Bool → SoFar → ℕ → List Entry → Option ℕ → Option ℕ
+bad_half fresh so_far number front out =
+    or_else (untaken_set fresh (first_set number front))
+    (or_else (first_untaken fresh (loaded_over (settings_from so_far.given front) so_far) so_far.state (numbered_from number front)) out)
 
 -- where nothing is set
 untaken_none : (fresh : Bool) → untaken_set fresh None ≡ None
@@ -46,35 +54,56 @@ no_sets now number (Loads line ∷ rest) behind =
 no_sets now number (Runs command ∷ rest) behind = no_set_if (nat_le now 3) number (Runs command) _ (no_sets 3 (number + 1) rest (lit< tt))
 no_sets now number (Bad ∷ rest) behind = refl
 
+-- where nothing is set, the settings stay
+settings_kept : (given : ScriptSettings) (number : ℕ) (front : List Entry) → first_set number front ≡ None → settings_from given front ≡ given
+settings_kept given number [] none = refl
+settings_kept given number (Sets setting ∷ rest) none = absurd (cc)
+settings_kept given number (Blank ∷ rest) none = settings_kept given (number + 1) rest none
+settings_kept given number (Loads line ∷ rest) none = settings_kept given (number + 1) rest none
+settings_kept given number (Runs command ∷ rest) none = settings_kept given (number + 1) rest none
+settings_kept given number (Bad ∷ rest) none = settings_kept given (number + 1) rest none
+
+-- the first bad line of a line that is loaded and of what stands behind it, by whether it's taken
+loading : (taken : Bool) (number : ℕ) (sets a b out : Option ℕ) → sets ≡ None → a ≡ or_else sets (or_else b out)
+    → (if taken then a else Some number) ≡ or_else sets (or_else (if taken then b else Some number) out)
+loading true number sets a b out none there = there
+loading false number sets a b out none there = rw none refl
+
+-- A store takes a line behind what is loaded so far. One that isn't fresh takes faults alone.
+abbrev takes_behind : Bool → ScriptSettings → SoFar → Line → Bool
+takes_behind fresh given so_far line = (fresh || is_fault line) && takes (loaded_over given so_far) so_far.state.files line
+
 -- an entry that stands in order, by whether it's taken
-standing : (fresh : Bool) (state : State) (now number : ℕ) (entry : Entry) (rest : List Entry)
-    → first_bad fresh (with_entry state entry) (part_of now entry) (number + 1) rest ≡ bad_half fresh (with_entry state entry) (number + 1) (good_front (part_of now entry) rest) (first_out (part_of now entry) (number + 1) rest)
-    → (if is_taken fresh state entry then first_bad fresh (with_entry state entry) (part_of now entry) (number + 1) rest else Some number)
-    ≡ bad_half fresh state number (entry ∷ good_front (part_of now entry) rest) (first_out (part_of now entry) (number + 1) rest)
-standing fresh state now number Blank rest there = there
-standing fresh state now number (Runs command) rest there = there
-standing fresh state now number Bad rest there = there
-standing true state now number (Sets setting) rest there = there
-standing false state now number (Sets setting) rest there = refl
-standing fresh state now number (Loads line) rest there =
-    loading ((fresh || is_fault line) && takes state.files line) _ _ _ _
-    (ap (untaken_set fresh) (no_sets (part_of now (Loads line)) (number + 1) rest (part_of_line line)) ∙ untaken_none fresh) there
-  where
-    loading : (taken : Bool) (sets a b c : Option ℕ) → sets ≡ None → a ≡ or_else sets (or_else b c) → (if taken then a else Some number) ≡ or_else sets (or_else (if taken then b else Some number) c)
-    loading true sets a b c none there = there
-    loading false sets a b c none there = rw none refl
+standing : (fresh : Bool) (so_far : SoFar) (now number : ℕ) (entry : Entry) (rest : List Entry)
+    → first_bad fresh (with_entry so_far entry) (part_of now entry) (number + 1) rest ≡ bad_half fresh (with_entry so_far entry) (number + 1) (good_front (part_of now entry) rest) (first_out (part_of now entry) (number + 1) rest)
+    → (if is_taken fresh so_far entry then first_bad fresh (with_entry so_far entry) (part_of now entry) (number + 1) rest else Some number)
+    ≡ bad_half fresh so_far number (entry ∷ good_front (part_of now entry) rest) (first_out (part_of now entry) (number + 1) rest)
+standing fresh so_far now number Blank rest there = there
+standing fresh so_far now number (Runs command) rest there = there
+standing fresh so_far now number Bad rest there = there
+standing true so_far now number (Sets setting) rest there = there
+standing false so_far now number (Sets setting) rest there = refl
+standing fresh so_far now number (Loads line) rest there =
+    let front = good_front (part_of now (Loads line)) rest in
+    let none : first_set (number + 1) front ≡ None = no_sets (part_of now (Loads line)) (number + 1) rest (part_of_line line) in
+    let kept : settings_from so_far.given front ≡ so_far.given = settings_kept so_far.given (number + 1) front none in
+    let sets = untaken_set fresh (first_set (number + 1) front) in
+    let behind = first_untaken fresh (loaded_over (settings_from so_far.given front) (with_entry so_far (Loads line))) (with_line so_far.state line) (numbered_from (number + 1) front) in
+    let out = first_out (part_of now (Loads line)) (number + 1) rest in
+    loading (is_taken fresh so_far (Loads line)) number sets _ behind out (ap (untaken_set fresh) none ∙ untaken_none fresh) there
+    ∙ ap (λ (given : ScriptSettings). or_else sets (or_else (if takes_behind fresh given so_far line then behind else Some number) out)) (sym kept)
 
 -- The first bad line is one that sets something or is loaded and isn't taken, in front of those that are bad by their text or
 -- place, or else the first of these.
-pub halves : (fresh : Bool) (state : State) (now number : ℕ) (entries : List Entry) → first_bad fresh state now number entries ≡ bad_half fresh state number (good_front now entries) (first_out now number entries)
-halves fresh state now number [] = rw (untaken_none fresh) refl
-halves fresh state now number (entry ∷ rest) =
-    placing (may_stand now entry) (standing fresh state now number entry rest (halves fresh (with_entry state entry) (part_of now entry) (number + 1) rest))
+pub halves : (fresh : Bool) (so_far : SoFar) (now number : ℕ) (entries : List Entry) → first_bad fresh so_far now number entries ≡ bad_half fresh so_far number (good_front now entries) (first_out now number entries)
+halves fresh so_far now number [] = rw (untaken_none fresh) refl
+halves fresh so_far now number (entry ∷ rest) =
+    placing (may_stand now entry) (standing fresh so_far now number entry rest (halves fresh (with_entry so_far entry) (part_of now entry) (number + 1) rest))
   where
-    placing : (stands : Bool) → (if is_taken fresh state entry then first_bad fresh (with_entry state entry) (part_of now entry) (number + 1) rest else Some number)
-        ≡ bad_half fresh state number (entry ∷ good_front (part_of now entry) rest) (first_out (part_of now entry) (number + 1) rest)
-        → (if stands && is_taken fresh state entry then first_bad fresh (with_entry state entry) (part_of now entry) (number + 1) rest else Some number)
-        ≡ bad_half fresh state number (if stands then entry ∷ good_front (part_of now entry) rest else []) (if stands then first_out (part_of now entry) (number + 1) rest else Some number)
+    placing : (stands : Bool) → (if is_taken fresh so_far entry then first_bad fresh (with_entry so_far entry) (part_of now entry) (number + 1) rest else Some number)
+        ≡ bad_half fresh so_far number (entry ∷ good_front (part_of now entry) rest) (first_out (part_of now entry) (number + 1) rest)
+        → (if stands && is_taken fresh so_far entry then first_bad fresh (with_entry so_far entry) (part_of now entry) (number + 1) rest else Some number)
+        ≡ bad_half fresh so_far number (if stands then entry ∷ good_front (part_of now entry) rest else []) (if stands then first_out (part_of now entry) (number + 1) rest else Some number)
     placing true there = there
     placing false there = rw (untaken_none fresh) refl
 
@@ -104,14 +133,22 @@ second_none (Some number) second none = absurd (cc)
 abbrev pub script_read : Parsed → Script
 script_read read = record { settings = read.settings; lines = plain_lines read.lines; commands = read.commands }
 
-first_bad_read : (fresh : Bool) (state : State) (bytes : List ℕ) (read : Parsed) → Parses bytes read → first_bad fresh state 0 1 (entries_in bytes) ≡ or_else (untaken_set fresh read.sets) (or_else (first_untaken fresh state read.lines) read.bad)
+-- what is loaded before the first line of what was read
+abbrev pub loaded_none : Parsed → Loaded
+loaded_none read = record { settings = Some read.settings.cluster; lines = [] }
+
+-- the first bad line of what was read
+abbrev pub bad_read : Bool → State → Parsed → Option ℕ
+bad_read fresh state read = or_else (untaken_set fresh read.sets) (or_else (first_untaken fresh (loaded_none read) state read.lines) read.bad)
+
+first_bad_read : (fresh : Bool) (state : State) (bytes : List ℕ) (read : Parsed) → Parses bytes read → first_bad fresh (begins state) 0 1 (entries_in bytes) ≡ bad_read fresh state read
 first_bad_read fresh state bytes read parses =
-    halves fresh state 0 1 (entries_in bytes) ∙ rw (← parses.sets, ← parses.lines, ← parses.bad) refl
+    halves fresh (begins state) 0 1 (entries_in bytes) ∙ rw (← parses.settings, ← parses.sets, ← parses.lines, ← parses.bad) refl
 
 -- no line is bad
-pub script_from : (fresh : Bool) (state : State) (bytes : List ℕ) (read : Parsed) → Parses bytes read → or_else (untaken_set fresh read.sets) (or_else (first_untaken fresh state read.lines) read.bad) ≡ None → script fresh state bytes ≡ Ok (script_read read)
+pub script_from : (fresh : Bool) (state : State) (bytes : List ℕ) (read : Parsed) → Parses bytes read → bad_read fresh state read ≡ None → script fresh state bytes ≡ Ok (script_read read)
 script_from fresh state bytes read parses none =
-    let good : read.bad ≡ None = second_none (first_untaken fresh state read.lines) read.bad (second_none (untaken_set fresh read.sets) _ none) in
+    let good : read.bad ≡ None = second_none (first_untaken fresh (loaded_none read) state read.lines) read.bad (second_none (untaken_set fresh read.sets) _ none) in
     let whole : good_front 0 (entries_in bytes) ≡ entries_in bytes = all_good 0 1 (entries_in bytes) (sym parses.bad ∙ good) in
     let settings : read.settings ≡ settings_from no_settings (entries_in bytes) = parses.settings ∙ ap (settings_from no_settings) whole in
     let lines : plain_lines read.lines ≡ lines_of (entries_in bytes) = ap plain_lines parses.lines ∙ plain_numbered 1 (good_front 0 (entries_in bytes)) ∙ ap lines_of whole in
@@ -119,26 +156,28 @@ script_from fresh state bytes read parses none =
     ap (λ bad. unless_bad bad (entries_in bytes)) (first_bad_read fresh state bytes read parses ∙ none) ∙ rw (← settings, ← lines, ← commands) refl
 
 -- the first bad line is this one
-pub refused_from : (fresh : Bool) (state : State) (bytes : List ℕ) (read : Parsed) (number : ℕ) → Parses bytes read → or_else (untaken_set fresh read.sets) (or_else (first_untaken fresh state read.lines) read.bad) ≡ Some number → script fresh state bytes ≡ Err number
+pub refused_from : (fresh : Bool) (state : State) (bytes : List ℕ) (read : Parsed) (number : ℕ) → Parses bytes read → bad_read fresh state read ≡ Some number → script fresh state bytes ≡ Err number
 refused_from fresh state bytes read number parses is =
     ap (λ bad. unless_bad bad (entries_in bytes)) (first_bad_read fresh state bytes read parses ∙ is)
 
 -- a store that isn't fresh takes faults alone, and all of them
-pub untaken_held : (state : State) (lines : List NumberedLine) → first_untaken false state lines ≡ first_file lines
-untaken_held state [] = refl
-untaken_held state (numbered ∷ rest) = by_line numbered.line (untaken_held state rest)
+pub untaken_held : (loaded : Loaded) (state : State) (lines : List NumberedLine) → first_untaken false loaded state lines ≡ first_file lines
+untaken_held loaded state [] = refl
+untaken_held loaded state (numbered ∷ rest) = by_line numbered.line (untaken_held (with_loaded loaded numbered.line) state rest)
   where
-    by_line : (line : Line) → first_untaken false state rest ≡ first_file rest → (if (false || is_fault line) && takes state.files line then first_untaken false (with_line state line) rest else Some numbered.number) ≡ (if is_fault line then first_file rest else Some numbered.number)
+    by_line : (line : Line) → first_untaken false (with_loaded loaded line) state rest ≡ first_file rest → (if (false || is_fault line) && takes loaded state.files line then first_untaken false (with_loaded loaded line) (with_line state line) rest else Some numbered.number) ≡ (if is_fault line then first_file rest else Some numbered.number)
     by_line (lines.Fault fault) there = there
     by_line (lines.Dir path) there = refl
     by_line (lines.File path attributes bytes) there = refl
+    by_line (lines.Short path block node len) there = refl
 
 -- faults are taken by every store
-pub faults_taken : (state : State) (lines : List NumberedLine) → first_file lines ≡ None → first_untaken true state lines ≡ None
-faults_taken state [] none = refl
-faults_taken state (numbered ∷ rest) none = by_line numbered.line (faults_taken state rest) none
+pub faults_taken : (loaded : Loaded) (state : State) (lines : List NumberedLine) → first_file lines ≡ None → first_untaken true loaded state lines ≡ None
+faults_taken loaded state [] none = refl
+faults_taken loaded state (numbered ∷ rest) none = by_line numbered.line (faults_taken (with_loaded loaded numbered.line) state rest) none
   where
-    by_line : (line : Line) → (first_file rest ≡ None → first_untaken true state rest ≡ None) → (if is_fault line then first_file rest else Some numbered.number) ≡ None → (if (true || is_fault line) && takes state.files line then first_untaken true (with_line state line) rest else Some numbered.number) ≡ None
+    by_line : (line : Line) → (first_file rest ≡ None → first_untaken true (with_loaded loaded line) state rest ≡ None) → (if is_fault line then first_file rest else Some numbered.number) ≡ None → (if (true || is_fault line) && takes loaded state.files line then first_untaken true (with_loaded loaded line) (with_line state line) rest else Some numbered.number) ≡ None
     by_line (lines.Fault fault) there none = there none
     by_line (lines.Dir path) there none = absurd (cc)
     by_line (lines.File path attributes bytes) there none = absurd (cc)
+    by_line (lines.Short path block node len) there none = absurd (cc)

@@ -17,7 +17,7 @@ use Rattle.hdfs_script.specs.declared.entry.ScriptSettings.{ScriptSettings}
 use Rattle.hdfs_script.specs.declared.entry.Setting.{Setting}
 use Rattle.hdfs_script.specs.declared.entry.Setting.TheVariants as settings
 use Rattle.hdfs_script.specs.Commands.{create_entry, options_of, read_entry, write_entry}
-use Rattle.hdfs_script.specs.Entries.{ascii_entry, attributes_of, entry_of, fault_entry, file_entry, from_one, from_zero, link_entry, link_kind, node_entry, node_fault, read_fault, read_kind, read_of, set_entry, three_words, words_entry}
+use Rattle.hdfs_script.specs.Entries.{ascii_entry, attributes_of, entry_of, fault_entry, file_entry, from_one, from_zero, link_entry, link_kind, node_entry, node_fault, read_fault, read_kind, read_of, set_entry, short_entry, short_of, three_words, words_entry}
 use Rattle.hdfs_script.specs.Numbers.{hex_bytes, is_number, number, value_from}
 use Rattle.hdfs_script.specs.Parsing.{good_front}
 use Rattle.hdfs_script.specs.Scripts.{ends_bad, entries_in, line_entries, may_stand, no_settings, part_of, script_limit, settings_from, with_setting}
@@ -109,6 +109,16 @@ allowed_file path None bytes = tt
 allowed_file path (Some attributes) None = tt
 allowed_file path (Some attributes) (Some bytes) = allowed_if (is_word path) _ _ tt tt
 
+-- a short replica,
+allowed_short_of : (path : List ℕ) (block node len : Option ℕ) → SetsAllowed (short_of path block node len)
+allowed_short_of path None node len = tt
+allowed_short_of path (Some block) None len = tt
+allowed_short_of path (Some block) (Some node) None = tt
+allowed_short_of path (Some block) (Some node) (Some len) = allowed_if (is_word path) _ _ tt tt
+
+allowed_short : (path block node len : List ℕ) → SetsAllowed (short_entry path block node len)
+allowed_short path block node len = allowed_short_of path (number 10 (2 ^ 32) block) (number 10 (2 ^ 32) node) (number 10 (2 ^ 64) len)
+
 -- a command.
 allowed_create : (path : List ℕ) (options : Option WriteOptions) → SetsAllowed (create_entry path options)
 allowed_create path None = tt
@@ -146,7 +156,8 @@ allowed_words (a ∷ b ∷ c ∷ d ∷ []) =
     (allowed_if (bytes_eq a (codes "do") && bytes_eq b (codes "write")) _ _ (allowed_write c (hex_bytes d)) tt)
 allowed_words (a ∷ b ∷ c ∷ d ∷ e ∷ []) =
     allowed_if (bytes_eq a (codes "fault") && bytes_eq b (codes "read")) _ _ (allowed_read_fault (read_kind e) c d)
-    (allowed_if (bytes_eq a (codes "do") && bytes_eq b (codes "read")) _ _ (allowed_read c (number 10 (2 ^ 64) d) (number 10 (2 ^ 64) e)) tt)
+    (allowed_if (bytes_eq a (codes "do") && bytes_eq b (codes "read")) _ _ (allowed_read c (number 10 (2 ^ 64) d) (number 10 (2 ^ 64) e))
+    (allowed_if (bytes_eq a (codes "short")) _ _ (allowed_short b c d e) tt))
 allowed_words (a ∷ b ∷ c ∷ d ∷ e ∷ f ∷ []) = allowed_if (bytes_eq a (codes "file")) _ _ (allowed_file b (attributes_of c d e) (hex_bytes f)) tt
 allowed_words (a ∷ b ∷ c ∷ d ∷ e ∷ f ∷ g ∷ []) = tt
 allowed_words (a ∷ b ∷ c ∷ d ∷ e ∷ f ∷ g ∷ h ∷ []) =

@@ -37,6 +37,15 @@ file_entry _ _ _ = Bad
 abbrev pub dir_entry : List ℕ → Entry
 dir_entry path = if is_word path then Loads (lines.Dir path) else Bad
 
+-- a replica of a file's block that is cut to a length
+abbrev pub short_of : List ℕ → Option ℕ → Option ℕ → Option ℕ → Entry
+short_of path (Some block) (Some node) (Some len) = if is_word path then Loads (lines.Short path block node len) else Bad
+short_of path _ _ _ = Bad
+
+-- `short PATH K D LEN`
+abbrev pub short_entry : List ℕ → List ℕ → List ℕ → List ℕ → Entry
+short_entry path block node len = short_of path (number 10 (2 ^ 32) block) (number 10 (2 ^ 32) node) (number 10 (2 ^ 64) len)
+
 -- a letter or a digit
 abbrev pub is_alphanumeric : ℕ → Bool
 is_alphanumeric c = (nat_le 48 c && nat_le c 57) || (nat_le 65 c && nat_le c 90) || (nat_le 97 c && nat_le c 122)
@@ -132,11 +141,12 @@ four_words a b c d =
     else if bytes_eq a (codes "do") && bytes_eq b (codes "write") then write_entry c (hex_bytes d)
     else Bad
 
--- five words: `fault read D N KIND` or `do read PATH OFFSET LEN`
+-- five words: `fault read D N KIND`, `do read PATH OFFSET LEN` or `short PATH K D LEN`
 abbrev pub five_words : List ℕ → List ℕ → List ℕ → List ℕ → List ℕ → Entry
 five_words a b c d e =
     if bytes_eq a (codes "fault") && bytes_eq b (codes "read") then read_fault (read_kind e) c d
     else if bytes_eq a (codes "do") && bytes_eq b (codes "read") then read_entry c (number 10 (2 ^ 64) d) (number 10 (2 ^ 64) e)
+    else if bytes_eq a (codes "short") then short_entry b c d e
     else Bad
 
 -- The entry that the words of a line are. Six words are a file, and eight a new file.

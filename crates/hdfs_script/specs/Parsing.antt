@@ -3,7 +3,8 @@
 use Rattle.std.specs.Prelude.{◌≡◌, ℕ, ◌+◌, Bool, true, false, ◌&&◌, ◌||◌, ◌==◌, List, [], ◌∷◌, ◌++◌, map, Option, Some, None, if◌then◌else◌}
 use Rattle.hdfs_model.specs.declared.store.Line.{Line}
 use Rattle.hdfs_model.specs.Files.{State}
-use Rattle.hdfs_model.specs.Loading.{AreValid, takes, with_line}
+use Rattle.hdfs_model.specs.Loading.{AreValid, takes, with_line, with_loaded}
+use Rattle.hdfs_model.specs.Shown.{Loaded}
 use Rattle.hdfs_script.specs.declared.entry.Entry.{Entry}
 use Rattle.hdfs_script.specs.declared.entry.Entry.TheVariants.{Sets, Loads, Bad}
 use Rattle.hdfs_script.specs.declared.entry.NumberedLine.{NumberedLine}
@@ -52,12 +53,12 @@ abbrev pub first_file : List NumberedLine → Option ℕ
 first_file [] = None
 first_file (numbered ∷ rest) = if is_fault numbered.line then first_file rest else Some numbered.number
 
--- the number of the first line that a store doesn't take over the files so far
-abbrev pub first_untaken : Bool → State → List NumberedLine → Option ℕ
-first_untaken fresh state [] = None
-first_untaken fresh state (numbered ∷ rest) =
-    if (fresh || is_fault numbered.line) && takes state.files numbered.line
-    then first_untaken fresh (with_line state numbered.line) rest
+-- the number of the first line that a store doesn't take behind what was loaded, over the files so far
+abbrev pub first_untaken : Bool → Loaded → State → List NumberedLine → Option ℕ
+first_untaken fresh loaded state [] = None
+first_untaken fresh loaded state (numbered ∷ rest) =
+    if (fresh || is_fault numbered.line) && takes loaded state.files numbered.line
+    then first_untaken fresh (with_loaded loaded numbered.line) (with_line state numbered.line) rest
     else Some numbered.number
 
 -- the number of the first line that sets something, where the store doesn't take it: one that isn't fresh

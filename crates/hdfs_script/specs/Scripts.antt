@@ -10,7 +10,7 @@ use Rattle.hdfs_model.specs.declared.messages.ServerDefaults.{ServerDefaults}
 use Rattle.hdfs_model.specs.Files.{State}
 use Rattle.hdfs_model.specs.Loading.{script_defaults, takes, with_line}
 use Rattle.hdfs_model.specs.Sessions.{defaults_of}
-use Rattle.hdfs_model.specs.Shown.{Shown}
+use Rattle.hdfs_model.specs.Shown.{Loaded, Shown}
 use Rattle.hdfs_model.specs.Steps.{World}
 use Rattle.hdfs_script.specs.declared.entry.Entry.{Entry}
 use Rattle.hdfs_script.specs.declared.entry.Entry.TheVariants.{Sets, Loads, Runs, Bad}
@@ -91,23 +91,38 @@ abbrev pub may_stand : ℕ → Entry → Bool
 may_stand now Bad = false
 may_stand now entry = nat_le now (part_of now entry)
 
--- The store takes what an entry sets or loads over the files so far. One that isn't fresh takes faults alone.
-abbrev pub is_taken : Bool → State → Entry → Bool
-is_taken fresh state (Sets setting) = fresh
-is_taken fresh state (Loads line) = (fresh || is_fault line) && takes state.files line
-is_taken fresh state _ = true
+-- what the entries so far have come to: the settings, the lines that are loaded, and the files
+pub record SoFar : Type 0 where
+  pub given : ScriptSettings
+  pub lines : List Line
+  pub state : State
 
--- the files behind an entry
-abbrev pub with_entry : State → Entry → State
-with_entry state (Loads line) = with_line state line
-with_entry state _ = state
+-- nothing so far, over these files
+abbrev pub begins : State → SoFar
+begins state = record { given = no_settings; lines = []; state = state }
+
+-- what is loaded so far
+abbrev pub loaded_so_far : SoFar → Loaded
+loaded_so_far so_far = record { settings = Some so_far.given.cluster; lines = so_far.lines }
+
+-- The store takes what an entry sets or loads behind what is loaded so far. One that isn't fresh takes faults alone.
+abbrev pub is_taken : Bool → SoFar → Entry → Bool
+is_taken fresh so_far (Sets setting) = fresh
+is_taken fresh so_far (Loads line) = (fresh || is_fault line) && takes (loaded_so_far so_far) so_far.state.files line
+is_taken fresh so_far _ = true
+
+-- what it comes to behind an entry
+abbrev pub with_entry : SoFar → Entry → SoFar
+with_entry so_far (Sets setting) = record so_far { given = with_setting so_far.given setting }
+with_entry so_far (Loads line) = record so_far { lines = so_far.lines ++ line ∷ []; state = with_line so_far.state line }
+with_entry so_far _ = so_far
 
 -- the number of the first bad line, where the next line has this part before it and this number
-abbrev pub first_bad : Bool → State → ℕ → ℕ → List Entry → Option ℕ
-first_bad fresh state now number [] = None
-first_bad fresh state now number (entry ∷ entries) =
-    if may_stand now entry && is_taken fresh state entry
-    then first_bad fresh (with_entry state entry) (part_of now entry) (number + 1) entries
+abbrev pub first_bad : Bool → SoFar → ℕ → ℕ → List Entry → Option ℕ
+first_bad fresh so_far now number [] = None
+first_bad fresh so_far now number (entry ∷ entries) =
+    if may_stand now entry && is_taken fresh so_far entry
+    then first_bad fresh (with_entry so_far entry) (part_of now entry) (number + 1) entries
     else Some number
 
 -- what entries say
@@ -121,7 +136,7 @@ unless_bad (Some line) entries = Err line
 
 -- the script that bytes are over a store with these files, or the number of the first bad line, from 1 on
 abbrev pub script : Bool → State → List ℕ → Result Script ℕ
-script fresh state bytes = unless_bad (first_bad fresh state 0 1 (entries_in bytes)) (entries_in bytes)
+script fresh state bytes = unless_bad (first_bad fresh (begins state) 0 1 (entries_in bytes)) (entries_in bytes)
 
 -- the settings of a script's session, whose home is that of its user
 abbrev pub session_settings : ScriptSettings → Settings

@@ -52,6 +52,23 @@ fn wrong_file(words: &[&[u8]]) -> Wrong {
     Wrong::Hex
 }
 
+// Why the words of a line are no short replica, which begins with `short`.
+fn wrong_short(words: &[&[u8]]) -> Wrong {
+    if words.len() != 5 {
+        return Wrong::ShortWords;
+    }
+    if !is_word(words[1]) {
+        return Wrong::Unprintable;
+    }
+    if number(10, U32_MOST, words[2]).is_none() {
+        return Wrong::Block;
+    }
+    if number(10, U32_MOST, words[3]).is_none() {
+        return Wrong::Node;
+    }
+    Wrong::Length
+}
+
 // Why these words name no call of a datanode.
 fn wrong_node(node: &[u8]) -> Wrong {
     if number(10, U32_MOST, node).is_none() {
@@ -206,6 +223,8 @@ fn wrong_words(words: &[&[u8]]) -> Wrong {
         wrong_dir(words)
     } else if is_text(kind, "file") {
         wrong_file(words)
+    } else if is_text(kind, "short") {
+        wrong_short(words)
     } else if is_text(kind, "fault") {
         wrong_fault(words)
     } else if is_text(kind, "do") {
@@ -252,6 +271,15 @@ fn untaken_file(path: &Text, attributes: &Attributes) -> Wrong {
     Wrong::Place
 }
 
+// Why a fresh store hasn't taken a short replica.
+fn untaken_short(path: &Text) -> Wrong {
+    if is_path(path.as_str()) {
+        Wrong::Replica
+    } else {
+        Wrong::Path
+    }
+}
+
 // Why a fresh store hasn't taken a line. It takes each fault.
 fn untaken(line: &Line) -> Wrong {
     match line {
@@ -261,6 +289,7 @@ fn untaken(line: &Line) -> Wrong {
             attributes,
             bytes: _,
         } => untaken_file(path, attributes),
+        Line::Short { path, .. } => untaken_short(path),
         Line::Fault(_) => Wrong::FaultWords,
     }
 }

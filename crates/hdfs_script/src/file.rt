@@ -1,4 +1,4 @@
-//! The lines of a script with a directory or a file.
+//! The lines of a script with a directory, a file or a short replica.
 ghost use Rattle.std.specs.Prelude.{◌≡◌, IfOk};
 ghost use Rattle.hdfs_script.specs.Entries as spec;
 ghost use Rattle.hdfs_script.specs.Numbers.{hex_bytes as hex_bytes_of};
@@ -59,5 +59,30 @@ pub(crate) fn file_entry(
         path,
         attributes,
         bytes,
+    }))
+}
+
+/// `short PATH K D LEN`
+pub(crate) fn short_entry(
+    alloc: Global,
+    path: &[u8],
+    block: &[u8],
+    node: &[u8],
+    len: &[u8],
+) -> Result<Entry, NoMemory>
+    ensures { IfOk result (λ entry. entry ≡ spec.short_entry path.now block.now node.now len.now) }
+{
+    let (Some(block), Some(node)) = (number(10, U32_MOST, block), number(10, U32_MOST, node)) else {
+        return Ok(Entry::Bad);
+    };
+    let (Some(len), Some(path)) = (number(10, U64_MOST, len), word(path)) else {
+        return Ok(Entry::Bad);
+    };
+    let path = Text::from_str(alloc, path)?;
+    Ok(Entry::Loads(Line::Short {
+        path,
+        block: block as u32,
+        node: node as u32,
+        len,
     }))
 }

@@ -7,7 +7,7 @@ ghost use Rattle.hdfs_script.specs.Entries as spec;
 use crate::command::{append_entry, close_entry, create_entry, options, read_entry, write_entry};
 use crate::entry::Entry;
 use crate::fault::{fault_entry, read_fault};
-use crate::file::{attributes, dir_entry, file_entry};
+use crate::file::{attributes, dir_entry, file_entry, short_entry};
 use crate::setting::set_entry;
 use crate::words::{is_ascii, is_text, words};
 use hdfs_model::WriteOptions;
@@ -62,14 +62,14 @@ fn five_words(
 ) -> Result<Entry, NoMemory>
     ensures { IfOk result (λ entry. entry ≡ spec.words_entry (kind.now ∷ call.now ∷ a.now ∷ b.now ∷ c.now ∷ [])) }
 {
-    if !is_text(call, "read") {
-        return Ok(Entry::Bad);
-    }
-    if is_text(kind, "fault") {
+    if is_text(kind, "fault") && is_text(call, "read") {
         return Ok(read_fault(a, b, c));
     }
-    if is_text(kind, "do") {
+    if is_text(kind, "do") && is_text(call, "read") {
         return Ok(read_entry(alloc, a, b, c)?);
+    }
+    if is_text(kind, "short") {
+        return Ok(short_entry(alloc, call, a, b, c)?);
     }
     Ok(Entry::Bad)
 }

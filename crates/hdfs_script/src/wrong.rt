@@ -8,7 +8,7 @@ pub enum Wrong {
     NotAscii,
     #[error("ends with a carriage return, where a newline alone ends a line")]
     CarriageReturn,
-    #[error("begins with none of `set`, `dir`, `file`, `fault`, `do` and `#`")]
+    #[error("begins with none of `set`, `dir`, `file`, `short`, `fault`, `do` and `#`")]
     Kind,
     #[error("not `set` and `user NAME`, `nodes NODES`, `block BLOCK_SIZE`, `chunk CHUNK` or `packet PACKET`, with one space between words")]
     SetWords,
@@ -16,6 +16,8 @@ pub enum Wrong {
     DirWords,
     #[error("not `file PATH PERMISSION REPLICATION BLOCK_SIZE HEX`, with one space between words")]
     FileWords,
+    #[error("not `short PATH BLOCK NODE LENGTH`, with one space between words")]
+    ShortWords,
     #[error("begins with none of `fault link`, `fault ack`, `fault send` and `fault read`")]
     FaultWords,
     #[error("not `fault link NTH KIND`, with one space between words")]
@@ -68,6 +70,8 @@ pub enum Wrong {
     Parent,
     #[error("HEX isn't `-` or pairs of lower-case hexadecimal digits")]
     Hex,
+    #[error("BLOCK isn't a number from 0 to 4294967295")]
+    Block,
     #[error("NODE isn't a number from 0 to 4294967295")]
     Node,
     #[error("NTH isn't a number from 1 to 18446744073709551615")]
@@ -80,14 +84,16 @@ pub enum Wrong {
     Offset,
     #[error("LENGTH isn't a number from 0 to 18446744073709551615")]
     Length,
-    #[error("out of order, since settings come first, then directories and files, then faults, then commands")]
+    #[error("out of order, since settings come first, then directories, files and short replicas, then faults, then commands")]
     Order,
     #[error("the script has more than 16777216 bytes")]
     TooLong,
-    #[error("the store isn't fresh, so it takes no line with a setting, a directory or a file")]
+    #[error("the store isn't fresh, so it takes no line with a setting, a directory, a file or a short replica")]
     HeldStore,
     #[error("something stands at PATH already, or its parent is no directory")]
     Place,
+    #[error("there is no such replica, it is shorter already, or none would be whole")]
+    Replica,
 }
 
 /// Why a script is refused, and at which line, counted from 1.

@@ -1,5 +1,5 @@
 -- What a script's settings leave of a store.
-use Rattle.std.proofs.Common.{◌≡◌, ℕ, ◌<◌, Bool, true, false, List, [], ◌∷◌, take, drop, Option, Some, None, refl, sym, ◌∙◌, ap, subst, arith}
+use Rattle.std.proofs.Common.{◌≡◌, ℕ, ◌<◌, Bool, true, false, List, [], ◌∷◌, take, drop, Option, Some, None, if◌then◌else◌, refl, sym, ◌∙◌, ap, subst, arith}
 use Rattle.std.proofs.lemmas.Bool.{false≢true}
 use Rattle.std.proofs.lemmas.List.Elements.{All-weaker}
 use Rattle.hdfs_model.specs.declared.mem_settings.MemSettings.{MemSettings}
@@ -7,15 +7,17 @@ use Rattle.hdfs_model.specs.declared.picture.BlockEntry.{BlockEntry}
 use Rattle.hdfs_model.specs.declared.picture.Entry.{Entry}
 use Rattle.hdfs_model.specs.declared.picture.Entry.TheVariants as entries
 use Rattle.hdfs_model.specs.Counts.{SameCounts}
-use Rattle.hdfs_model.specs.Files.{Files, Node, Dir, File, Writing, State}
-use Rattle.hdfs_model.specs.Loading.{AreValid, PreparesAt}
+use Rattle.hdfs_model.specs.Files.{Files, Content, Node, Dir, File, Writing, State, only_root}
+use Rattle.hdfs_model.specs.Loading.{AreLoaded, AreValid, Prepares, PreparesAt}
+use Rattle.hdfs_model.specs.Paths as paths
 use Rattle.hdfs_model.specs.Picture.{Picture, Told}
+use Rattle.std.specs.Str.{bytes_eq}
 use Rattle.hdfs_model.specs.Sessions.{Fits, defaults_of}
 use Rattle.hdfs_model.specs.Shown.{Shown}
 use Rattle.hdfs_model.specs.Stores.{Agrees, AgreesAt, HoldsPrefix, StoresBlock, StoresBlocks}
 use Rattle.hdfs_script.specs.declared.entry.ScriptSettings.{ScriptSettings}
 use Rattle.hdfs_script.specs.Scripts.{defaults_in}
-use Rattle.hdfs_top.specs.Inside.{Readies}
+use Rattle.hdfs_top.specs.Inside.{IsBare, Readies}
 
 module _ (settings : MemSettings) (p q : Picture) (same : PreparesAt settings p q) where
   stores_block : (id : ℕ) (entry : BlockEntry) (bytes : List ℕ) → StoresBlock p id entry bytes → StoresBlock q id entry bytes
@@ -49,6 +51,38 @@ agrees_ready settings (Some p) None files same h = absurd same
 pub readies_fits : (fresh : Bool) (old : Shown) (settings : MemSettings) (new : Shown) → Readies fresh old settings new → (state : State) → Fits old state → Fits new state
 readies_fits true old settings new ready state fits = record { is_state = fits.is_state; agrees = agrees_ready settings old.picture new.picture state.files ready.picture fits.agrees }
 readies_fits false old settings new same state fits = subst (λ (s : Shown). Fits s state) (sym same) fits
+
+-- a picture that has the root alone has no file
+no_file : (o : Option Picture) (files : Files) → Agrees o only_root → Agrees o files → (path : List ℕ) (content : Content) → files path ≡ Some (File content) → ⊥
+no_file None files root h path content is = absurd h
+no_file (Some p) files root h path content is = at (p.names path) (bytes_eq paths.root path) (files path) (root path) (h path) is
+  where
+    at : (entry : Option Entry) (b : Bool) (node : Option Node) → AgreesAt p entry (if b then Some Dir else None) → AgreesAt p entry node → node ≡ Some (File content) → ⊥
+    at None b None root h is = cc (is)
+    at None b (Some node) root h is = h
+    at (Some entry) b None root h is = h
+    at (Some entries.Dir) b (Some Dir) root h is = cc (is)
+    at (Some entries.Dir) b (Some (File other)) root h is = h
+    at (Some entries.Dir) b (Some (Writing other)) root h is = cc (is)
+    at (Some (entries.File file)) true _ root h is = root
+    at (Some (entries.File file)) false _ root h is = root
+
+-- a fresh store that fits a state tells its picture
+told_picture : (o : Option Picture) (files : Files) → Agrees o files → (p : Picture) × (o ≡ Some p)
+told_picture None files h = absurd h
+told_picture (Some p) files h = (p, refl)
+
+-- so it has no line
+pub bare_lines : (old : Shown) → IsBare old → (state : State) → Fits old state → old.loaded.lines ≡ []
+bare_lines old bare state fits =
+    let told = told_picture old.picture state.files fits.agrees in (bare told.0 told.1).0
+
+-- and no file, so that its files lie as they were loaded
+pub ready_loaded : (old : Shown) (settings : MemSettings) (new : Shown) → Prepares old settings new → IsBare old → (state : State) → Fits old state → AreLoaded new state.files
+ready_loaded old settings new ready bare state fits p is path content there =
+    let told = told_picture old.picture state.files fits.agrees in
+    let root : Agrees old.picture only_root = subst (λ (o : Option Picture). Agrees o only_root) (sym told.1) (bare told.0 told.1).1 in
+    absurd (no_file old.picture state.files root fits.agrees path content there)
 
 -- no count rises
 pub readies_counts : (fresh : Bool) (old : Shown) (settings : MemSettings) (new : Shown) → Readies fresh old settings new → SameCounts old.counts new.counts

@@ -23,7 +23,7 @@ use Rattle.hdfs_script.specs.declared.entry.ScriptSettings.{ScriptSettings}
 use Rattle.hdfs_script.specs.declared.entry.Setting.{Setting}
 use Rattle.hdfs_script.specs.declared.entry.Setting.TheVariants as settings
 use Rattle.hdfs_script.specs.Parsing.{Parses, good_front, plain_lines}
-use Rattle.hdfs_script.specs.Scripts.{Script, script, ends_bad, entries_in, first_bad, line_entries, no_settings, script_limit, session_settings, settings_from, unless_bad, with_setting}
+use Rattle.hdfs_script.specs.Scripts.{Script, script, begins, ends_bad, entries_in, first_bad, line_entries, no_settings, script_limit, session_settings, settings_from, unless_bad, with_setting}
 use Rattle.hdfs_script.proofs.HalfLemmas.{refused_from, script_from, script_read}
 use Rattle.hdfs_script.specs.Texts.{replies_text, fault_text, refusal_text}
 use Rattle.hdfs_streams.specs.Streams.{SourceShown, SinkShown, TookAtMost, Wrote}
@@ -66,7 +66,7 @@ entries-take bytes = ⊎_elim
 -- what the source gave is as good as all that it has
 given_is : (a : Outside) (given all : List ℕ) (left : SourceShown) (state : State) → Gave a.source given left → IsKnown a all state → script a.fresh state all ≡ script a.fresh state given
 given_is a given all left state gave known =
-    ap (λ entries. unless_bad (first_bad a.fresh state 0 1 entries) entries) (entries-take all ∙ ap entries_in (sym (gave.front all known.told)))
+    ap (λ entries. unless_bad (first_bad a.fresh (begins state) 0 1 entries) entries) (entries-take all ∙ ap entries_in (sym (gave.front all known.told)))
 
 -- the bytes are refused at this line, and a store that isn't fresh is as it was
 abbrev RefusedAt : Outside → ℕ → Outside → Type 0

@@ -5,11 +5,13 @@ use Rattle.hdfs_model.specs.declared.commands.Reply.{Reply}
 use Rattle.hdfs_model.specs.declared.errors.Fault.{Fault}
 use Rattle.hdfs_model.specs.declared.errors.HdfsError.TheVariants as errors
 use Rattle.hdfs_model.specs.Counts.{NoneRose, Rose, SameCounts}
-use Rattle.hdfs_model.specs.Files.{State}
+use Rattle.hdfs_model.specs.Files.{State, only_root}
 use Rattle.hdfs_model.specs.Folds.{Ends, fold}
 use Rattle.hdfs_model.specs.Headline.{Stopped}
 use Rattle.hdfs_model.specs.declared.mem_settings.MemSettings.{MemSettings}
-use Rattle.hdfs_model.specs.Loading.{Prepares, SameShown, with_lines}
+use Rattle.hdfs_model.specs.Loading.{AreLoaded, Prepares, SameShown, with_lines}
+use Rattle.hdfs_model.specs.Picture.{Picture}
+use Rattle.hdfs_model.specs.Stores.{Agrees}
 use Rattle.hdfs_model.specs.Sessions.{Fits, AreLimited, defaults_of, world_of}
 use Rattle.hdfs_model.specs.Shown.{Shown, Later}
 use Rattle.hdfs_model.specs.Steps.{World}
@@ -47,8 +49,13 @@ pub record LoadsAll (old : Shown) (lines : List NumberedLine) (new : Shown) : Ty
   pub defaults : defaults_of new.picture ≡ defaults_of old.picture
   pub settings : new.loaded.settings ≡ old.loaded.settings
   pub loaded : new.loaded.lines ≡ old.loaded.lines ++ plain_lines lines
-  pub taken : (state : State) → Fits old state → first_untaken true state lines ≡ None
+  pub taken : (state : State) → Fits old state → AreLoaded old state.files → first_untaken true old.loaded state lines ≡ None
   pub fits : (state : State) → Fits old state → Fits new (with_lines state (plain_lines lines))
+  pub replicas : (state : State) → Fits old state → AreLoaded old state.files → AreLoaded new (with_lines state (plain_lines lines)).files
+
+-- a store that tells its picture has the root alone and no line
+abbrev pub IsBare : Shown → Type 0
+IsBare store = (p : Picture) → store.picture ≡ Some p → (store.loaded.lines ≡ []) × Agrees (Some p) only_root
 
 -- a fresh store has a script's settings, and any other is as it was
 abbrev pub Readies : Bool → Shown → MemSettings → Shown → Type 0
@@ -57,7 +64,9 @@ Readies false old settings new = new ≡ old
 
 -- the number of the first line that a store refuses that is fresh or isn't, of those that were read of a script
 abbrev pub first_refused : Bool → State → Parsed → Option ℕ
-first_refused fresh state read = or_else (untaken_set fresh read.sets) (or_else (first_untaken fresh state read.lines) read.bad)
+first_refused fresh state read =
+    or_else (untaken_set fresh read.sets)
+    (or_else (first_untaken fresh (record { settings = Some read.settings.cluster; lines = [] }) state read.lines) read.bad)
 
 -- a script that was read was loaded, and none of its lines is bad
 pub record LoadsScript (fresh : Bool) (old : Shown) (read : Parsed) (new : Shown) : Type 0 where

@@ -2,7 +2,7 @@
 ghost use Rattle.std.specs.Prelude.{◌≡◌, ◌||◌, ℕ, None, Err, false, true, IfOk, OnOk};
 ghost use Rattle.hdfs_model.specs.Counts.{SameCounts};
 ghost use Rattle.hdfs_model.specs.Files.{State};
-ghost use Rattle.hdfs_model.specs.Loading.{takes, AreValid, Loads};
+ghost use Rattle.hdfs_model.specs.Loading.{AreLoaded, AreValid, IsDecided, Loads, takes};
 ghost use Rattle.hdfs_model.specs.Stores.{Agrees};
 ghost use Rattle.hdfs_model.specs.Sessions.{Fits};
 ghost use Rattle.hdfs_script.specs.Parsing.{first_untaken, or_else};
@@ -37,10 +37,11 @@ fn first_file(lines: &[NumberedLine]) -> Option<u64>
 fn load_line<C: Store>(store: &mut C, numbered: NumberedLine) -> Result<(), LoadFault>
     ensures loaded { OnOk result (Loads (C.shown store.old) numbered.line (C.shown store.new)) }
     ensures taken { OnOk result ((state : State) → Agrees (C.shown store.old).picture state.files
-        → takes state.files numbered.line ≡ true) }
+        → IsDecided (C.shown store.old) state.files numbered.line → takes (C.shown store.old).loaded state.files numbered.line ≡ true) }
     ensures counts { SameCounts (C.shown store.old).counts (C.shown store.new).counts }
     ensures refused { (number : ℕ) → result ≡ Err (LoadFault.Refused number) → (number ≡ numbered.number)
-        × ((state : State) → Agrees (C.shown store.old).picture state.files → takes state.files numbered.line ≡ false) }
+        × ((state : State) → Agrees (C.shown store.old).picture state.files → IsDecided (C.shown store.old) state.files numbered.line
+        → takes (C.shown store.old).loaded state.files numbered.line ≡ false) }
 {
     let NumberedLine { number, line } = numbered;
     match store.load(line) {
@@ -55,7 +56,9 @@ fn load_lines<C: Store>(store: &mut C, lines: List<NumberedLine>) -> Result<(), 
     ensures loaded { OnOk result (LoadsAll (C.shown store.old) lines (C.shown store.new)) }
     ensures counts { SameCounts (C.shown store.old).counts (C.shown store.new).counts }
     ensures refused { (number : ℕ) → result ≡ Err (LoadFault.Refused number) → (state : State) → Fits (C.shown store.old) state
-        → first_untaken true state lines ≡ Some number }
+        → AreLoaded (C.shown store.old) state.files → first_untaken true (C.shown store.old).loaded state lines ≡ Some number }
+    ensures faults { (number : ℕ) → result ≡ Err (LoadFault.Refused number) → (state : State) → Fits (C.shown store.old) state
+        → spec.first_file lines ≡ None → ⊥ }
 {
     for numbered in lines.into_vec() {
         load_line(store, numbered)?;
