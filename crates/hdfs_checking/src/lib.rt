@@ -6,7 +6,7 @@ ghost use Rattle.hdfs_cluster.specs.MemShown.{shown_of};
 
 use hdfs_client_tests::cluster;
 use hdfs_cluster::MemCluster;
-use hdfs_model::{Line, Reply};
+use hdfs_model::{Line, MemSettings, Reply};
 use hdfs_plain::{PlainFiles, PlainFold, PlainRefusal, PlainWorld};
 use hdfs_script::{ScriptSettings, parse, session_settings};
 use hdfs_streams::{MemSink, MemSource};
@@ -103,9 +103,11 @@ fn world(alloc: Global, given: &ScriptSettings) -> Result<PlainWorld, Fail> {
 pub fn plain_answer(alloc: Global, script: &[u8]) -> Result<Ending, Fail> {
     let read = parse(alloc, script)?;
     let world = world(alloc, &read.settings)?;
+    let settings = read.settings.cluster;
     let mut files = PlainFiles::new(alloc)?;
+    let mut before = Vec::new(alloc);
     for numbered in read.lines.into_vec() {
-        if !load(&mut files, numbered.line)? {
+        if !load(&mut files, &settings, &mut before, numbered.line)? {
             return refused(alloc, numbered.number);
         }
     }
@@ -116,12 +118,18 @@ pub fn plain_answer(alloc: Global, script: &[u8]) -> Result<Ending, Fail> {
     print(alloc, &fold)
 }
 
-/// Loads a line, where the plain program takes it.
-fn load(files: &mut PlainFiles, line: Line) -> Result<bool, Fail> {
-    if !files.takes(&line) {
+/// Loads a line behind those before it, where the plain program takes it.
+fn load(
+    files: &mut PlainFiles,
+    settings: &MemSettings,
+    before: &mut Vec<Line>,
+    line: Line,
+) -> Result<bool, Fail> {
+    if !files.takes(settings, before.as_slice(), &line) {
         return Ok(false);
     }
-    files.load(line)?;
+    files.load(&line)?;
+    before.push(line)?;
     Ok(true)
 }
 

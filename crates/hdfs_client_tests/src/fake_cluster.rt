@@ -36,7 +36,8 @@ pub(crate) enum Look {
     TwoBlocks,
 }
 
-/// The cluster: what it gives, its open links, and how often its datanodes have failed.
+/// The cluster: what it gives, its open links, how often its datanodes have failed, the moment, and how many milliseconds pass from one
+/// look at it to the next.
 #[derive(Drop)]
 pub(crate) struct FakeCluster {
     pub(crate) alloc: Global,
@@ -46,6 +47,8 @@ pub(crate) struct FakeCluster {
     pub(crate) reads: Slab<OpenRead>,
     pub(crate) writes: Slab<OpenWrite>,
     pub(crate) failures: u64,
+    pub(crate) moment: u64,
+    pub(crate) pace: u64,
 }
 
 impl FakeCluster {
@@ -67,6 +70,8 @@ impl FakeCluster {
             reads: Slab::new(alloc),
             writes: Slab::new(alloc),
             failures: 0,
+            moment: 0,
+            pace: 0,
         })
     }
 
@@ -90,18 +95,10 @@ const SUMS: ChecksumInfo = ChecksumInfo {
 
 /// What is told of a read that is opened.
 fn opened(alloc: Global, ask: &ReadAsk, before: u64) -> Result<OpenRead, NoMemory>
-    ensures { IfOk result (λ told. told ≡ record {
-      node = ask.now.node;
-      block = ask.now.block;
-      token = ask.now.token;
-      checksums = Some SUMS;
-      before = before;
-    }) }
+    ensures { IfOk result (λ told. told ≡ record { ask = ask.now; checksums = Some SUMS; before = before }) }
 {
     Ok(OpenRead {
-        node: ask.node.copy(alloc)?,
-        block: ask.block.copy(alloc)?,
-        token: ask.token.copy(alloc)?,
+        ask: ask.copy(alloc)?,
         checksums: Some(SUMS),
         before,
     })
@@ -248,16 +245,19 @@ impl Cluster for FakeCluster {
     }
 
     fn moment(&mut self) -> u64 {
-        0
+        self.moment = self.moment.saturating_add(self.pace);
+        self.moment
     }
 
-    /// There is no memory where the step wants another kind of connection than is asked for.
+    /// There is no memory where the step wants another kind of connection than is asked for. A kept connection breaks without a failure
+    /// of its datanode.
     fn open_read(&mut self, kept: Option<u64>, ask: &ReadAsk) -> Result<u64, LinkFault> {
         let told = opened(self.alloc, ask, self.failures)?;
         let fits = match self.next_step() {
             Step::Opens => kept.is_none(),
             Step::OpensKept => kept.is_some(),
             Step::LacksMemory => false,
+            Step::Breaks if kept.is_some() => return Err(LinkFault::Broken),
             Step::Breaks => {
                 self.failures = self.failures.saturating_add(1);
                 return Err(LinkFault::Broken);

@@ -330,6 +330,21 @@ fn reads_fall_over_to_the_next_replica(rt: HostRuntime) -> Result<(), Fail> {
     Ok(())
 }
 
+/// A connection is gone on with up to 2,999 milliseconds behind its release, and not later.
+#[test]
+fn a_connection_is_kept_for_less_than_three_seconds(rt: HostRuntime) -> Result<(), Fail> {
+    let alloc = rt.alloc();
+    for (pace, opens) in [(2_999, OpensKept), (3_000, Opens)] {
+        let steps = [Opens, Gives(0, FIRST), ENDS, opens, Gives(0, SECOND), ENDS];
+        let mut cluster = FakeCluster::new(alloc, Look::TwoBlocks, &steps)?;
+        cluster.pace = pace;
+        let result = run_session(alloc, &mut cluster, &settings(alloc)?, &[command(alloc)?]);
+        assert_eq!(rt; ending_of(result)?, Ends::Bytes(&[2, 3, 4, 5, 6]));
+        assert_eq!(rt; cluster.left(), 0);
+    }
+    Ok(())
+}
+
 /// Of three connections that are kept to a datanode two are tried, and both break; then a fresh one is made, which doesn't lose the
 /// replica, and is kept behind the third.
 #[test]

@@ -11,3 +11,5 @@ mod failing_links;
 mod loading;
 #[cfg(test)]
 mod planning;
+#[cfg(test)]
+mod short_replicas;

@@ -10,6 +10,8 @@ mod rows;
 #[cfg(test)]
 mod runs;
 #[cfg(test)]
+mod short_rows;
+#[cfg(test)]
 mod texts;
 #[cfg(test)]
 mod writing_rows;

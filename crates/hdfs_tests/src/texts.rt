@@ -91,11 +91,11 @@ fn errors_of_the_outside(rt: HostRuntime) -> Result<(), Fail> {
 }
 
 /// Scripts, and what is noted beside their status.
-const NOTES: [(&str, &str); 28] = [
+const NOTES: [(&str, &str); 31] = [
     ("", "the script has no command"),
     (
         "put\n",
-        "line 1: begins with none of `set`, `dir`, `file`, `fault`, `do` and `#`",
+        "line 1: begins with none of `set`, `dir`, `file`, `short`, `fault`, `do` and `#`",
     ),
     (
         "set\n",
@@ -184,7 +184,7 @@ const NOTES: [(&str, &str); 28] = [
     ),
     (
         "do read /a 0 0\n#\nfile /a 644 1 8 00\n",
-        "line 3: out of order, since settings come first, then directories and files, then faults, then commands",
+        "line 3: out of order, since settings come first, then directories, files and short replicas, then faults, then commands",
     ),
     (
         "file /a 644 1 8 00\n#\nfile /a 644 1 8 00\n",
@@ -195,8 +195,20 @@ const NOTES: [(&str, &str); 28] = [
         "line 2: something stands at PATH already, or its parent is no directory",
     ),
     (
+        "short /a 0 0\n",
+        "line 1: not `short PATH BLOCK NODE LENGTH`, with one space between words",
+    ),
+    (
+        "file /a 644 2 8 00\nshort /a x 0 0\n",
+        "line 2: BLOCK isn't a number from 0 to 4294967295",
+    ),
+    (
+        "file /a 644 1 8 00\nshort /a 0 0 0\n",
+        "line 2: there is no such replica, it is shorter already, or none would be whole",
+    ),
+    (
         "file /a 644 1 8 00\nput\nfile /a 644 1 8 00\n",
-        "line 2: begins with none of `set`, `dir`, `file`, `fault`, `do` and `#`",
+        "line 2: begins with none of `set`, `dir`, `file`, `short`, `fault`, `do` and `#`",
     ),
 ];
 
@@ -226,11 +238,11 @@ fn notes_on_scripts(rt: HostRuntime) -> Result<(), Fail> {
 const HELD_NOTES: [(&str, &str); 2] = [
     (
         "# more\nfile /b 644 1 8 00\nset\n",
-        "line 2: the store isn't fresh, so it takes no line with a setting, a directory or a file",
+        "line 2: the store isn't fresh, so it takes no line with a setting, a directory, a file or a short replica",
     ),
     (
         "fault read 0 1 broken\nfile /b 644 1 8 00\n",
-        "line 2: out of order, since settings come first, then directories and files, then faults, then commands",
+        "line 2: out of order, since settings come first, then directories, files and short replicas, then faults, then commands",
     ),
 ];
 

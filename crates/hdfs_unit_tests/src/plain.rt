@@ -1,4 +1,4 @@
-use hdfs_model::{Command, Reply, ServerDefaults, WriteOptions};
+use hdfs_model::{Attributes, Command, Line, MemSettings, Reply, ServerDefaults, WriteOptions};
 use hdfs_plain::*;
 use hdfs_wire::{Blob, NoMemory, Text};
 use std::alloc::Global;
@@ -103,6 +103,61 @@ fn commands_out_of_place_are_refused(rt: HostRuntime) -> Result<(), Fail> {
     for (commands, why) in rows {
         let fold = answer(rt.alloc(), commands)?;
         assert_eq!(rt; fold.refused, Some(why));
+    }
+    Ok(())
+}
+
+/// A file of ten bytes in blocks of four, each on two datanodes.
+fn file(alloc: Global) -> Result<Line, NoMemory> {
+    Ok(Line::File {
+        path: Text::from_str(alloc, "/a")?,
+        attributes: Attributes {
+            permission: 0o644,
+            replication: 2,
+            block_size: 4,
+        },
+        bytes: Blob::from_vec(Vec::from_slice(alloc, &[7; 10])?),
+    })
+}
+
+#[test]
+fn replicas_are_cut_but_for_a_whole_one(rt: HostRuntime) -> Result<(), Fail> {
+    let alloc = rt.alloc();
+    let settings = MemSettings::of_scripts();
+    let mut files = PlainFiles::new(alloc)?;
+    let mut before = vec![in alloc; file(alloc)?]?;
+    files.load(&before[0])?;
+    let rows = [
+        // there is no such datanode, no such block, or no such length
+        ((0, 2, 1), false),
+        ((3, 0, 0), false),
+        ((2, 0, 3), false),
+        // the other replica is whole
+        ((2, 0, 1), true),
+        // it is shorter already, or none would be whole
+        ((2, 0, 2), false),
+        ((2, 1, 1), false),
+        ((2, 1, 2), true),
+        ((2, 0, 0), true),
+        ((0, 1, 0), true),
+    ];
+    for ((block, node, len), taken) in rows {
+        let path = Text::from_str(alloc, "/a")?;
+        let line = Line::Short {
+            path,
+            block,
+            node,
+            len,
+        };
+        assert_eq!(rt;
+            files.takes(&settings, before.as_slice(), &line),
+            taken,
+            "{block} {node} {len}"
+        );
+        if taken {
+            files.load(&line)?;
+            before.push(line)?;
+        }
     }
     Ok(())
 }

@@ -26,6 +26,8 @@ set block 8
 set user Ada1
 dir /a
 file /a/b 644 1 1 0001
+short /a/b 0 0 0
+short /a/b 4294967295 4294967295 18446744073709551615
 fault link 1 badack
 fault ack 0 2
 fault send 4294967295 1
@@ -36,7 +38,7 @@ fault read 1 1 refused";
     let read = parse(rt.alloc(), script)?;
     assert_eq!(rt; read.bad, None);
     assert_eq!(rt; read.sets, Some(2));
-    assert_eq!(rt; read.lines.as_slice().len(), 9);
+    assert_eq!(rt; read.lines.as_slice().len(), 11);
     assert_eq!(rt; read.settings.cluster.nodes, 5);
     let session = session_settings(rt.alloc(), &read.settings)?;
     assert_eq!(rt; session.home.as_str(), "/user/Ada1");
@@ -44,7 +46,7 @@ fault read 1 1 refused";
 }
 
 // Lines, and what is said of each as the first of a script over a fresh store.
-const WRONG: [(&str, Wrong); 36] = [
+const WRONG: [(&str, Wrong); 45] = [
     ("set", Wrong::SetWords),
     ("set replication 1", Wrong::SetWords),
     ("set user", Wrong::SetWords),
@@ -58,6 +60,15 @@ const WRONG: [(&str, Wrong); 36] = [
     ("dir", Wrong::DirWords),
     ("dir a", Wrong::Path),
     ("dir /a/b/", Wrong::Path),
+    ("short", Wrong::ShortWords),
+    ("short /a 0 0", Wrong::ShortWords),
+    ("short /a x 0 1", Wrong::Block),
+    ("short /a 00 0 1", Wrong::Block),
+    ("short /a 0 4294967296 1", Wrong::Node),
+    ("short /a 0 0 18446744073709551616", Wrong::Length),
+    ("short /\x7f 0 0 1", Wrong::Unprintable),
+    ("short a 0 0 1", Wrong::Path),
+    ("short /a 0 0 1", Wrong::Replica),
     ("fault", Wrong::FaultWords),
     ("fault write 0 1", Wrong::FaultWords),
     ("fault link 1", Wrong::LinkWords),
@@ -96,8 +107,10 @@ fn what_is_wrong_with_the_second_line_is_said(rt: HostRuntime) {
     for (script, fresh, wrong) in [
         ("dir /a\nset nodes 1", true, Wrong::Order),
         ("fault ack 0 1\ndir /a", true, Wrong::Order),
+        ("fault ack 0 1\nshort /a 0 0 1", true, Wrong::Order),
         ("#\nset nodes 1", false, Wrong::HeldStore),
         ("#\ndir /a", false, Wrong::HeldStore),
+        ("#\nshort /a 0 0 1", false, Wrong::HeldStore),
     ] {
         let told = complaint_at(rt.alloc(), script.as_bytes(), fresh, 2);
         assert_eq!(rt; told, Some(Complaint { number: 2, wrong }), "{script}");
