@@ -40,6 +40,9 @@ row_keeps p q (asks.Create src masked client flag parents replication block_size
 row_keeps p q (asks.Append src client flag) (answers.Append appended) row = opens_keeps src row.1.0 appended.block p q row.1.3
 row_keeps p q (asks.AddBlock src client previous excludes file_id) (answers.AddBlock block) row = adds_keeps src row.0 previous block p q row.2
 row_keeps p q (asks.Complete src client last file_id) (answers.Complete true) row = closes_keeps row.0.is_open src row.0 last p q row.2.1
+row_keeps p q (asks.UpdateBlockForPipeline block client) (answers.UpdateBlockForPipeline located) row = keeps_same p q row.1
+row_keeps p q (asks.GetAdditionalDatanode src block existing excludes count client ids) (answers.GetAdditionalDatanode located) row = keeps_same p q row.2
+row_keeps p q (asks.UpdatePipeline client block block' nodes ids) answers.UpdatePipeline row = row.changes.bytes
 row_keeps p q ask answer row = absurd row
 
 -- a missing answer
@@ -57,6 +60,9 @@ served_keeps risen p q i ask (Ok (answers.GetServerDefaults defaults)) h = ⊎_e
 served_keeps risen p q i ask (Ok (answers.Create status)) h = ⊎_elim (row_keeps p q ask (answers.Create status)) (keeps_own ask p q) h.2
 served_keeps risen p q i ask (Ok (answers.Append appended)) h = ⊎_elim (row_keeps p q ask (answers.Append appended)) (keeps_own ask p q) h.2
 served_keeps risen p q i ask (Ok (answers.AddBlock block)) h = ⊎_elim (row_keeps p q ask (answers.AddBlock block)) (keeps_own ask p q) h.2
+served_keeps risen p q i ask (Ok (answers.UpdateBlockForPipeline block)) h = ⊎_elim (row_keeps p q ask (answers.UpdateBlockForPipeline block)) (keeps_own ask p q) h.2
+served_keeps risen p q i ask (Ok (answers.GetAdditionalDatanode block)) h = ⊎_elim (row_keeps p q ask (answers.GetAdditionalDatanode block)) (keeps_own ask p q) h.2
+served_keeps risen p q i ask (Ok answers.UpdatePipeline) h = ⊎_elim (row_keeps p q ask answers.UpdatePipeline) (keeps_own ask p q) h.2
 served_keeps risen p q i ask (Err faults.NoMemory) h = may_be_done_keeps ask p q h.1
 served_keeps risen p q i ask (Err (faults.Exception class message)) h =
     ⊎_elim (λ standby. keeps_same p q standby.2.rest) (λ rest. ⊎_elim (λ refused. keeps_same p q refused.2.rest) (λ more. ⊎_elim (λ own. keeps_own ask p q own.2) (λ rose. may_be_done_keeps ask p q rose.1) more) rest) h

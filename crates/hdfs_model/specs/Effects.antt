@@ -1,8 +1,10 @@
 -- What the asks of a writer do to the picture.
-use Rattle.std.specs.Prelude.{◌≡◌, ◌⊎◌, ℕ, ◌<◌, ◌≤◌, Bool, true, false, ◌==◌, List, [], ◌∷◌, ◌++◌, length, All, Contains, Option, Some, None, option_map, if◌then◌else◌}
+use Rattle.std.specs.Prelude.{◌≡◌, ◌⊎◌, ℕ, ◌<◌, ◌≤◌, Bool, true, false, ◌==◌, List, [], ◌∷◌, ◌++◌, length, map, All, Contains, Option, Some, None, option_map, if◌then◌else◌}
 use Rattle.std.specs.List.{list_any, IsDistinct}
 use Rattle.std.specs.Str.{bytes_eq}
 use Rattle.hdfs_model.specs.declared.messages.Block.{Block}
+use Rattle.hdfs_model.specs.declared.messages.DatanodeId.{DatanodeId}
+use Rattle.hdfs_model.specs.declared.messages.DatanodeInfo.{DatanodeInfo}
 use Rattle.hdfs_model.specs.declared.messages.FileStatusMsg.{FileStatusMsg}
 use Rattle.hdfs_model.specs.declared.messages.LocatedBlock.{LocatedBlock}
 use Rattle.hdfs_model.specs.declared.picture.Entry.{Entry}
@@ -151,3 +153,42 @@ ClosesIf false src file last old new = Changes old new old.names old.table
 -- a file with this last block is closed
 abbrev pub Completes : List ℕ → FileEntry → Option Block → Picture → Picture → Type 0
 Completes src file last old new = IsLast file.blocks last × ClosesIf file.is_open src file last old new
+
+-- the block is listed, and the answer has a greater generation stamp for it
+pub record HasGreaterStamp (p : Picture) (named : Block) (block : LocatedBlock) : Type 0 where
+  pub entry : BlockEntry
+  pub is : p.table named.block_id ≡ Some entry
+  pub same_id : block.b.block_id ≡ named.block_id
+  pub greater : entry.stamp < block.b.generation_stamp
+
+-- the block is one of the open file at the path
+pub record IsBeingWritten (p : Picture) (path : List ℕ) (block : Block) : Type 0 where
+  pub file : FileEntry
+  pub named : p.names path ≡ Some (entries.File file)
+  pub is_open : file.is_open ≡ true
+  pub has : Contains file.blocks block.block_id
+
+-- these datanodes are the existing ones in their order, and one more among them
+pub record HasOneMore (existing nodes : List DatanodeInfo) : Type 0 where
+  pub front : List DatanodeInfo
+  pub node : DatanodeInfo
+  pub back : List DatanodeInfo
+  pub is : nodes ≡ front ++ node ∷ back
+  pub others : existing ≡ front ++ back
+
+-- the one more is none of the existing ones, nor of those that are to be left out
+abbrev pub AddsOneOf : List DatanodeInfo → List DatanodeInfo → List DatanodeInfo → Type 0
+AddsOneOf existing excludes nodes =
+    (one : HasOneMore existing nodes) × (Contains (uuids existing ++ uuids excludes) one.node.id.datanode_uuid → ⊥)
+
+-- the datanodes by their uuids
+abbrev pub names_of : List DatanodeId → List (List ℕ)
+names_of nodes = map (λ node. node.datanode_uuid) nodes
+
+-- the block has the generation stamp with which it is named anew, and is listed on these datanodes
+pub record NamesPipeline (block block' : Block) (nodes : List DatanodeId) (old new : Picture) : Type 0 where
+  pub same_id : block'.block_id ≡ block.block_id
+  pub entry : BlockEntry
+  pub is : old.table block.block_id ≡ Some entry
+  pub changes : Changes old new old.names (with_block old.table block.block_id
+      (record { length = entry.length; stamp = block'.generation_stamp; nodes = names_of nodes }))

@@ -21,4 +21,5 @@ pub mod Shown
 pub mod Sound
 pub mod Steps
 pub mod Stores
+pub mod Transferring
 pub mod Writing

@@ -1,5 +1,5 @@
 -- What a namenode may answer to an ask, and what its answer does to the picture.
-use Rattle.std.specs.Prelude.{◌≡◌, ◌≢◌, ◌⊎◌, ℕ, ◌+◌, ◌-◌, ◌<◌, ◌≤◌, ◌^◌, ◌==◌, ◌||◌, Bool, true, false, length, List, [], ◌∷◌, All, Contains, IfSome, Option, Some, None, Result, Ok, Err, codes}
+use Rattle.std.specs.Prelude.{◌≡◌, ◌≢◌, ◌⊎◌, ℕ, ◌+◌, ◌-◌, ◌<◌, ◌≤◌, ◌^◌, ◌==◌, ◌||◌, Bool, true, false, length, List, [], ◌∷◌, All, Contains, IfSome, IsSome, Option, Some, None, Result, Ok, Err, codes}
 use Rattle.std.specs.Str.{bytes_eq}
 use Rattle.hdfs_model.specs.declared.messages.LocatedBlock.{LocatedBlock}
 use Rattle.hdfs_model.specs.declared.messages.LocatedBlocks.{LocatedBlocks}
@@ -14,7 +14,7 @@ use Rattle.hdfs_model.specs.declared.picture.LastAnswer.TheVariants as last_answ
 use Rattle.hdfs_model.specs.declared.picture.Entry.TheVariants as entries
 use Rattle.hdfs_model.specs.declared.picture.BlockEntry.{BlockEntry}
 use Rattle.hdfs_model.specs.declared.picture.FileEntry.{FileEntry}
-use Rattle.hdfs_model.specs.Effects.{HasStatus, HasBlock, IsLast, Creates, Opens, AddsBlock, Completes}
+use Rattle.hdfs_model.specs.Effects.{HasStatus, HasBlock, IsLast, Creates, Opens, AddsBlock, Completes, HasGreaterStamp, IsBeingWritten, HasOneMore, AddsOneOf, NamesPipeline}
 use Rattle.hdfs_model.specs.Files.{Kind, Directory, ClosedFile, NoFile, NotDirectory, Missing, NotFile, no_file, OpenFile}
 use Rattle.hdfs_model.specs.Picture.{Picture, SameButActive, SamePicture, kinds}
 use Rattle.hdfs_model.specs.Refusals.{Refusal, BadPath, WrongState, Exists, Lacks, BadRange, create_refusal, append_refusal}
@@ -127,6 +127,10 @@ IsShaped (asks.Create src masked client flag parents replication block_size) (an
 IsShaped (asks.Append src client flag) (answers.Append appended) = IfSome appended.block IsToWrite
 IsShaped (asks.AddBlock src client previous excludes file_id) (answers.AddBlock block) = IsToWrite block × (block.b.num_bytes ≡ 0)
 IsShaped (asks.Complete src client last file_id) (answers.Complete done) = Unit {0}
+IsShaped (asks.UpdateBlockForPipeline block client) (answers.UpdateBlockForPipeline located) = Unit {0}
+IsShaped (asks.GetAdditionalDatanode src block existing excludes count client ids) (answers.GetAdditionalDatanode located) =
+    IsToWrite located × HasOneMore existing located.locs
+IsShaped (asks.UpdatePipeline client block block' nodes ids) answers.UpdatePipeline = Unit {0}
 IsShaped ask answer = ⊥
 
 -- The row of an ask: what an active namenode answers, and what it does to all but which namenode is active. A look-up
@@ -147,6 +151,11 @@ Row old (asks.AddBlock src client previous excludes file_id) (answers.AddBlock b
     (file : FileEntry) × IsFileAt old src file × AddsBlock src file previous block old new
 Row old (asks.Complete src client last file_id) (answers.Complete true) new =
     (file : FileEntry) × IsFileAt old src file × Completes src file last old new
+Row old (asks.UpdateBlockForPipeline block client) (answers.UpdateBlockForPipeline located) new =
+    HasGreaterStamp old block located × SameButActive old new
+Row old (asks.GetAdditionalDatanode src block existing excludes count client ids) (answers.GetAdditionalDatanode located) new =
+    IsBeingWritten old src block × AddsOneOf existing excludes located.locs × SameButActive old new
+Row old (asks.UpdatePipeline client block block' nodes ids) answers.UpdatePipeline new = NamesPipeline block block' nodes old new
 Row old ask answer new = ⊥
 
 -- the class of the exception that stands for what is in the way at a path
@@ -177,9 +186,13 @@ IsRefusal p (asks.Create src masked client flag parents replication block_size) 
 IsRefusal p (asks.Append src client flag) class = StandsForAny (kinds p src) (append_refusal (kinds p) src) class
 IsRefusal p (asks.AddBlock src client previous excludes file_id) class = ⊥
 IsRefusal p (asks.Complete src client last file_id) class = ⊥
+IsRefusal p (asks.UpdateBlockForPipeline block client) class = ⊥
+IsRefusal p (asks.GetAdditionalDatanode src block existing excludes count client ids) class = ⊥
+IsRefusal p (asks.UpdatePipeline client block block' nodes ids) class = ⊥
 
 -- The answer is the implementation's own: the blocks of a file that is being written; a block more of what is no open file,
--- or behind a block that it doesn't have; the closing of what is no file with this last block.
+-- or behind a block that it doesn't have; the closing of what is no file with this last block; a pipeline of a block that isn't
+-- listed, or that no open file has.
 abbrev pub IsOwn : Picture → Ask → Type 0
 IsOwn p (asks.GetBlockLocations src offset length) = kinds p src ≡ Some OpenFile
 IsOwn p asks.GetServerDefaults = ⊥
@@ -188,8 +201,11 @@ IsOwn p (asks.Append src client flag) = ⊥
 IsOwn p (asks.AddBlock src client previous excludes file_id) =
     (file : FileEntry) → IsFileAt p src file → file.is_open ≡ true → HasBlock file.blocks previous → ⊥
 IsOwn p (asks.Complete src client last file_id) = (file : FileEntry) → IsFileAt p src file → IsLast file.blocks last → ⊥
+IsOwn p (asks.UpdateBlockForPipeline block client) = p.table block.block_id ≡ None
+IsOwn p (asks.GetAdditionalDatanode src block existing excludes count client ids) = IsBeingWritten p src block → ⊥
+IsOwn p (asks.UpdatePipeline client block block' nodes ids) = (block.block_id ≡ block'.block_id) × IsSome (p.table block.block_id) → ⊥
 
--- the path that an ask names; one that asks for the defaults names none
+-- the path that an ask names; one that names none has the empty text, at which nothing stands
 abbrev pub src_of : Ask → List ℕ
 src_of (asks.GetBlockLocations src offset length) = src
 src_of asks.GetServerDefaults = []
@@ -197,6 +213,9 @@ src_of (asks.Create src masked client flag parents replication block_size) = src
 src_of (asks.Append src client flag) = src
 src_of (asks.AddBlock src client previous excludes file_id) = src
 src_of (asks.Complete src client last file_id) = src
+src_of (asks.UpdateBlockForPipeline block client) = []
+src_of (asks.GetAdditionalDatanode src block existing excludes count client ids) = src
+src_of (asks.UpdatePipeline client block block' nodes ids) = []
 
 -- the block is one of the file at this path
 abbrev pub IsBlockOf : Picture → List ℕ → ℕ → Type 0

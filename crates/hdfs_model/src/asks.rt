@@ -4,7 +4,8 @@ ghost use Rattle.hdfs_model.specs.declared.asks.AskFault.TheVariants as ask_faul
 ghost use Rattle.hdfs_model.specs.declared.asks.LinkFault.TheVariants as link_faults;
 
 use crate::messages::{
-    Appended, Block, DatanodeInfo, FileStatusMsg, LocatedBlock, LocatedBlocks, ServerDefaults,
+    Appended, Block, DatanodeId, DatanodeInfo, FileStatusMsg, LocatedBlock, LocatedBlocks,
+    ServerDefaults,
 };
 use hdfs_wire::{List, NoMemory, Text};
 use std::alloc::{AllocError, AllocFailed};
@@ -54,6 +55,31 @@ pub enum Ask {
         last: Option<Block>,
         file_id: Option<u64>,
     },
+    /// A generation stamp for a block that is to be gone on with by another pipeline, greater than the one that it has, and a token.
+    UpdateBlockForPipeline {
+        block: Block,
+        client_name: Text,
+    },
+    /// Datanodes more for `block` of the open file at `src`, behind the `existing` ones, which have these storages; none of
+    /// `excludes`. Their number is 1.
+    GetAdditionalDatanode {
+        src: Text,
+        block: Block,
+        existing: List<DatanodeInfo>,
+        excludes: List<DatanodeInfo>,
+        num_additional_nodes: u32,
+        client_name: Text,
+        existing_storage_ids: List<Text>,
+    },
+    /// The block is written by these datanodes from now on, in these storages, and has the generation stamp with which it is named
+    /// anew.
+    UpdatePipeline {
+        client_name: Text,
+        old_block: Block,
+        new_block: Block,
+        new_nodes: List<DatanodeId>,
+        storage_ids: List<Text>,
+    },
 }
 
 /// What a namenode answers to the ask of the same name.
@@ -66,6 +92,11 @@ pub enum Answer {
     AddBlock(LocatedBlock),
     /// Whether the file is closed.
     Complete(bool),
+    /// The block with its new stamp, and its token.
+    UpdateBlockForPipeline(LocatedBlock),
+    /// The block with the existing datanodes in their order, and the new one.
+    GetAdditionalDatanode(LocatedBlock),
+    UpdatePipeline,
 }
 
 /// Why an ask has no answer.
