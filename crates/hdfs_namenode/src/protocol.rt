@@ -1,16 +1,17 @@
 //! The calls of a namenode.
 ghost use Rattle.std.specs.Prelude.{◌≡◌, ◌<◌, Some, None, Ok, IfOk, IfSome, OnErr, option_copied};
+ghost use Rattle.hdfs_model.specs.Effects.{HasOneMore};
 ghost use Rattle.hdfs_model.specs.Namenode.{IsShaped, IsToWrite};
 ghost use Rattle.hdfs_model.specs.declared.asks.Ask.TheVariants as asks;
 ghost use Rattle.hdfs_model.specs.declared.asks.Answer.TheVariants as answers;
 ghost use Rattle.hdfs_model.specs.declared.errors.HdfsError.TheVariants as errors;
 ghost use Rattle.hdfs_namenode.specs.Asked.{Asked, AskedOnce, as_answer};
 
-use crate::copies::{copy_block, copy_nodes};
+use crate::copies::copy_block;
 use crate::faults::outcome_of;
 use hdfs_model::{
-    Answer, Appended, Ask, Block, Cluster, DatanodeInfo, FileStatusMsg, HdfsError, LocatedBlock,
-    LocatedBlocks, ServerDefaults,
+    Answer, Appended, Ask, Block, Cluster, DatanodeId, DatanodeInfo, FileStatusMsg, HdfsError,
+    LocatedBlock, LocatedBlocks, ServerDefaults, copy_ids, copy_nodes, copy_texts,
 };
 use hdfs_wire::{NoMemory, Text};
 use std::alloc::Global;
@@ -232,6 +233,89 @@ impl NamenodeProtocol {
         };
         match ask_first(cluster, &ask) {
             Ok(Answer::Complete(done)) => Ok(done),
+            Ok(_) => unreachable!(),
+            Err(error) => Err(error),
+        }
+    }
+
+    /// A generation stamp and a token for `block`, which is to be gone on with by another pipeline. The stamp is greater than the
+    /// one that the block has.
+    pub fn update_block_for_pipeline<C: Cluster>(
+        &self,
+        cluster: &mut C,
+        block: &Block,
+    ) -> Result<LocatedBlock, HdfsError>
+        requires { 0 < (C.shown cluster.old).namenodes }
+        ensures asked { AskedOnce C.serves (asks.UpdateBlockForPipeline block.now (name_of self.now)) cluster.old
+            (as_answer answers.UpdateBlockForPipeline result) cluster.new }
+    {
+        let ask = Ask::UpdateBlockForPipeline {
+            block: block.copy(self.alloc)?,
+            client_name: self.client.copy(self.alloc)?,
+        };
+        match ask_first(cluster, &ask) {
+            Ok(Answer::UpdateBlockForPipeline(block)) => Ok(block),
+            Ok(_) => unreachable!(),
+            Err(error) => Err(error),
+        }
+    }
+
+    /// A datanode more for `block` of the open file at `src`, behind the `existing` ones, which have these storages, and none of
+    /// `excludes`: the block with the existing datanodes in their order, and the new one among them. `num_additional_nodes` is 1.
+    pub fn get_additional_datanode<C: Cluster>(
+        &self,
+        cluster: &mut C,
+        src: &str,
+        block: &Block,
+        existing: &[DatanodeInfo],
+        excludes: &[DatanodeInfo],
+        num_additional_nodes: u32,
+        existing_storage_ids: &[Text],
+    ) -> Result<LocatedBlock, HdfsError>
+        requires { 0 < (C.shown cluster.old).namenodes }
+        ensures asked { AskedOnce C.serves (asks.GetAdditionalDatanode src.now block.now existing.now excludes.now num_additional_nodes
+            (name_of self.now) existing_storage_ids.now) cluster.old (as_answer answers.GetAdditionalDatanode result) cluster.new }
+        ensures shape { IfOk result (λ located. IsToWrite located × HasOneMore existing.now located.locs) }
+    {
+        let ask = Ask::GetAdditionalDatanode {
+            src: Text::from_str(self.alloc, src)?,
+            block: block.copy(self.alloc)?,
+            existing: copy_nodes(self.alloc, existing)?,
+            excludes: copy_nodes(self.alloc, excludes)?,
+            num_additional_nodes,
+            client_name: self.client.copy(self.alloc)?,
+            existing_storage_ids: copy_texts(self.alloc, existing_storage_ids)?,
+        };
+        match ask_first(cluster, &ask) {
+            Ok(Answer::GetAdditionalDatanode(block)) => Ok(block),
+            Ok(_) => unreachable!(),
+            Err(error) => Err(error),
+        }
+    }
+
+    /// Says that `old_block` is written by the datanodes `new_nodes` from now on, in the storages `storage_ids`, and has the
+    /// generation stamp of `new_block`.
+    pub fn update_pipeline<C: Cluster>(
+        &self,
+        cluster: &mut C,
+        old_block: &Block,
+        new_block: &Block,
+        new_nodes: &[DatanodeId],
+        storage_ids: &[Text],
+    ) -> Result<(), HdfsError>
+        requires { 0 < (C.shown cluster.old).namenodes }
+        ensures asked { AskedOnce C.serves (asks.UpdatePipeline (name_of self.now) old_block.now new_block.now new_nodes.now
+            storage_ids.now) cluster.old (as_answer (λ _. answers.UpdatePipeline) result) cluster.new }
+    {
+        let ask = Ask::UpdatePipeline {
+            client_name: self.client.copy(self.alloc)?,
+            old_block: old_block.copy(self.alloc)?,
+            new_block: new_block.copy(self.alloc)?,
+            new_nodes: copy_ids(self.alloc, new_nodes)?,
+            storage_ids: copy_texts(self.alloc, storage_ids)?,
+        };
+        match ask_first(cluster, &ask) {
+            Ok(Answer::UpdatePipeline) => Ok(()),
             Ok(_) => unreachable!(),
             Err(error) => Err(error),
         }
