@@ -14,7 +14,7 @@ use Rattle.hdfs_faults.specs.declared.node_plan.NodeCall.TheVariants as calls
 use Rattle.hdfs_faults.specs.declared.node_plan.NodePlan.{NodePlan}
 use Rattle.hdfs_faults.specs.Calls.{next_fails, next_kind}
 use Rattle.hdfs_faults.specs.Following.{Follows}
-use Rattle.hdfs_faults.specs.Plans.{AddsNodes, Counts, CountsOne, Forgets, IsNew, PlansFault, SameCalls, SamePlan, SamePlans, SetsUp, TakesAck, calls_of, fails_at, has_series, has_node, kind_at, may_come, packet_kind}
+use Rattle.hdfs_faults.specs.Plans.{AddsNodes, Counts, CountsOne, CountsTransfer, Forgets, IsNew, PlansFault, SameCalls, SamePlan, SamePlans, SetsUp, TakesAck, calls_of, fails_at, has_series, has_node, kind_at, may_come, packet_kind}
 use Rattle.hdfs_faults.specs.NodePlans.{node_at, packet_kind_at, planned_in}
 use Rattle.hdfs_faults.specs.Series.{Series, SetUps, CallsOf, is_fault_at, is_fault, kind_in, kind_of, nth_of, of_fault, packet_kind_in, packet_kind_of, plans, reads_of, said_kind, same_series, series_of}
 use Rattle.hdfs_faults.proofs.Lines.{both, kind_push, none_is, nothing_of, packet_push, plans_kind, plans_packet, plans_push, same_series-is, series_cases, together}
@@ -85,6 +85,10 @@ counts_follows old new loaded series fails counts = kept_follows old new loaded 
 -- a set-up of a pipeline
 pub set_up_follows : (old new : FaultPlan) (loaded : List Line) (link : ℕ) (kind : Option LinkKind) → SetsUp old link kind new → Follows old loaded → Follows new loaded
 set_up_follows old new loaded link kind sets = kept_follows old new loaded (sets.call.plans, one_call_le old new SetUps sets.call)
+
+-- a transfer
+pub transfer_follows : (old new : FaultPlan) (loaded : List Line) (kind : Option LinkKind) → CountsTransfer old kind new → Follows old loaded → Follows new loaded
+transfer_follows old new loaded kind counts = kept_follows old new loaded (counts.call.plans, one_call_le old new SetUps counts.call)
 
 -- an acknowledgement of a link
 pub ack_follows : (old new : FaultPlan) (loaded : List Line) (link : ℕ) (bad : Bool) → TakesAck old link bad new → Follows old loaded → Follows new loaded
@@ -261,7 +265,7 @@ next_follows plan loaded s follows there room =
     ap (λ (b : Bool). b && fails_at plan s (calls_of plan s + 1)) (less_test (calls_of plan s + 1) (2 ^ 64) room)
     ∙ alike (fails_at plan s (calls_of plan s + 1)) (plans loaded s (calls_of plan s + 1)) (follows.planned s (calls_of plan s + 1)) (follows.acts s (calls_of plan s + 1) there (omega arith))
 
--- the next set-up of a pipeline fails as the first line of its number says
+-- the next set-up of a pipeline, or the next transfer, fails as the first line of its number says
 pub next_kind_follows : (plan : FaultPlan) (loaded : List Line) → Follows plan loaded → calls_of plan SetUps + 1 < 2 ^ 64 → next_kind (kind_at plan) (calls_of plan SetUps) ≡ kind_of loaded (calls_of plan SetUps + 1)
 next_kind_follows plan loaded follows room =
     ap (λ (b : Bool). cond b (kind_at plan (calls_of plan SetUps + 1)) None) (less_test (calls_of plan SetUps + 1) (2 ^ 64) room)

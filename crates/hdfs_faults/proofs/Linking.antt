@@ -31,3 +31,10 @@ bound_next kinds set_ups reached failed was is kind bound next planned len =
     let here : is_kind kinds (set_ups + 1) ≡ is_some kind = ap (is_kind kinds) (sym next) ∙ ap is_some (sym planned) in
     let more : fails_in (is_kind kinds) reached ≡ fails_in (is_kind kinds) set_ups + one_if (is_some kind) = ap (fails_in (is_kind kinds)) next ∙ fails-next (is_kind kinds) set_ups (is_some kind) here in
     omega (arith, bound, len, more, once_or_bad kind)
+
+-- the bound after one transfer more
+pub bound_transfer : (kinds : BTreeMap ℕ LinkKind) (set_ups reached failed bad : ℕ) (kind : Option LinkKind) → failed + bad ≤ fails_in (is_kind kinds) set_ups → reached ≡ set_ups + 1 → kind ≡ get nat_cmp kinds reached → failed + one_if (is_some kind) + bad ≤ fails_in (is_kind kinds) reached
+bound_transfer kinds set_ups reached failed bad kind bound next planned =
+    let here : is_kind kinds (set_ups + 1) ≡ is_some kind = ap (is_kind kinds) (sym next) ∙ ap is_some (sym planned) in
+    let more : fails_in (is_kind kinds) reached ≡ fails_in (is_kind kinds) set_ups + one_if (is_some kind) = ap (fails_in (is_kind kinds)) next ∙ fails-next (is_kind kinds) set_ups (is_some kind) here in
+    omega (arith, bound, more)

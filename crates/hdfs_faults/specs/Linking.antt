@@ -1,5 +1,5 @@
 -- What the calls of `Links` do. No public clause cites this module.
-use Rattle.std.specs.Prelude.{◌≡◌, ℕ, ◌+◌, ◌≤◌, nat_lt, Bool, not, ◌&&◌, ◌||◌, ◌==◌, Option, Some, None, if◌then◌else◌}
+use Rattle.std.specs.Prelude.{◌≡◌, ℕ, ◌+◌, ◌≤◌, nat_lt, Bool, not, ◌&&◌, ◌||◌, ◌==◌, Option, Some, None, is_some, if◌then◌else◌}
 use Rattle.std.specs.Option.{option_or}
 use Rattle.std.specs.Ordering.{nat_cmp}
 use Rattle.std.specs.BTreeMap.{get}
@@ -38,6 +38,15 @@ pub record SetsUpLink (old : Links) (link : ℕ) (kind : Option LinkKind) (new :
   pub kinds : (nth : ℕ) → kind_in new nth ≡ kind_in old nth
   pub bad : (l : ℕ) → bad_in new l ≡ (bad_in old l || (is_bad_ack kind && (link == l)))
   pub failed : new.failed ≡ old.failed + one_if (is_at_once kind)
+
+-- a transfer was counted, as a set-up
+pub record TransfersLink (old : Links) (kind : Option LinkKind) (new : Links) : Type 0 where
+  pub set_ups : new.set_ups ≡ after_one old.set_ups
+  pub grows : old.set_ups ≤ new.set_ups
+  pub as_planned : kind ≡ next_kind (kind_in old) old.set_ups
+  pub kinds : (nth : ℕ) → kind_in new nth ≡ kind_in old nth
+  pub bad : (l : ℕ) → bad_in new l ≡ bad_in old l
+  pub failed : new.failed ≡ old.failed + one_if (is_some kind)
 
 -- an acknowledgement of a link came
 pub record TakesLink (old : Links) (link : ℕ) (bad : Bool) (new : Links) : Type 0 where

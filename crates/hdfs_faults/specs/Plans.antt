@@ -26,7 +26,7 @@ abbrev pub calls_of : FaultPlan → Series → ℕ
 calls_of plan SetUps = plan.links.set_ups
 calls_of plan (CallsOf call uuid) = calls_in (node_at plan.nodes uuid) call
 
--- how a set-up of a pipeline is planned to fail
+-- how a set-up of a pipeline, or a transfer, is planned to fail
 abbrev pub kind_at : FaultPlan → ℕ → Option LinkKind
 kind_at plan nth = get nat_cmp plan.links.kinds nth
 
@@ -135,6 +135,15 @@ pub record SetsUp (old : FaultPlan) (link : ℕ) (kind : Option LinkKind) (new :
   pub as_planned : kind ≡ next_kind (kind_at old) (calls_of old SetUps)
   pub faults : link_faults_of new ≡ link_faults_of old + one_if (is_at_once kind)
   pub bad : (l : ℕ) → is_bad new l ≡ (is_bad old l || (is_bad_ack kind && (link == l)))
+  pub nodes : SameNodeFaults old new
+
+-- One transfer was counted, as a set-up. It fails as its number is planned to: the links have then failed once more, however it
+-- fails, and the same acknowledgements are bad.
+pub record CountsTransfer (old : FaultPlan) (kind : Option LinkKind) (new : FaultPlan) : Type 0 where
+  pub call : CountsOne old SetUps new
+  pub as_planned : kind ≡ next_kind (kind_at old) (calls_of old SetUps)
+  pub faults : link_faults_of new ≡ link_faults_of old + one_if (is_some kind)
+  pub bad : (link : ℕ) → is_bad new link ≡ is_bad old link
   pub nodes : SameNodeFaults old new
 
 -- An acknowledgement of a link came: where it is bad, the links have failed once more, and the next one is good.

@@ -14,7 +14,7 @@ use Rattle.hdfs_model.specs.declared.store.ReadKind.TheVariants as read_kinds
 use Rattle.hdfs_faults.specs.declared.node_plan.NodeCall.{NodeCall}
 use Rattle.hdfs_faults.specs.declared.node_plan.NodeCall.TheVariants as calls
 
--- a series of calls that are counted together: the set-ups of pipelines, or the calls of a kind of one datanode
+-- a series of calls that are counted together: the set-ups of pipelines with the transfers, or the calls of a kind of one datanode
 pub data Series : Type 0 where
   SetUps : Series
   CallsOf : NodeCall → List ℕ → Series

@@ -1,7 +1,7 @@
 //! Which calls of a cluster fail.
 ghost use Rattle.std.specs.Prelude.{◌≡◌, ◌≢◌, ◌<◌, ℕ, List, true, false, IfOk, OnOk, OnErr};
 ghost use Rattle.hdfs_faults.specs.Calls.{next_fails, next_kind};
-ghost use Rattle.hdfs_faults.specs.Series.{acks_of, opens_of, reads_of, sends_to, uuid_of};
+ghost use Rattle.hdfs_faults.specs.Series.{SetUps, acks_of, opens_of, reads_of, sends_to, uuid_of};
 
 use crate::links::Links;
 use crate::node_plan::{NodeCall, NodeFault};
@@ -18,7 +18,7 @@ pub struct FaultPlan {
 }
 
 impl FaultPlan {
-    ghost use Rattle.hdfs_faults.specs.Plans.{calls_of, fails_at, has_node, link_faults_of, node_faults_of, packet_kind, AddsNodes, Counts, Forgets, IsNew, PlansFault, SamePlan, SetsUp, TakesAck};
+    ghost use Rattle.hdfs_faults.specs.Plans.{calls_of, fails_at, has_node, kind_at, link_faults_of, node_faults_of, packet_kind, AddsNodes, Counts, CountsTransfer, Forgets, IsNew, PlansFault, SamePlan, SetsUp, TakesAck};
 
     /// So many datanodes. Nothing was counted, and nothing is planned.
     pub fn new(alloc: Global, nodes: u32) -> Result<FaultPlan, NoMemory>
@@ -68,6 +68,20 @@ impl FaultPlan {
         ensures err { OnErr result (SamePlan self.old self.new) }
     {
         self.links.set_up(link)
+    }
+
+    /// How the next set-up of a pipeline, or the next transfer, fails. Nothing is counted.
+    pub fn next_set_up(&self) -> Option<LinkKind>
+        ensures { result ≡ next_kind (kind_at self.now) (calls_of self.now SetUps) }
+    {
+        self.links.next_set_up()
+    }
+
+    /// Counts a transfer as the set-up of a pipeline, and says how it fails. However it does, the links' count rises at once.
+    pub fn transfer(&mut self) -> Option<LinkKind>
+        ensures { CountsTransfer self.old result self.new }
+    {
+        self.links.transfer()
     }
 
     /// Whether the next acknowledgement of a link is bad. Then the links' count rises, and the one after it is good.

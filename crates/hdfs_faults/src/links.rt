@@ -1,17 +1,17 @@
-//! Which set-ups of pipelines fail.
+//! Which set-ups of pipelines, and which transfers, fail.
 ghost use Rattle.std.specs.Prelude.{◌≡◌, ◌+◌, ◌^◌, ◌<◌, ◌≤◌, ℕ, None, false, ◌||◌, ◌&&◌, ◌==◌, is_some, OnOk, OnErr, IfOk};
 ghost use Rattle.std.specs.Ordering.{nat_cmp};
 ghost use Rattle.std.specs.BTreeMap.{get};
 ghost use Rattle.std.specs.BTreeSet.{contains, btree_set_len, IsUnchanged};
-ghost use Rattle.hdfs_faults.specs.Calls.{fails_in, is_at_once, is_bad_ack, one_if};
+ghost use Rattle.hdfs_faults.specs.Calls.{fails_in, is_at_once, is_bad_ack, next_kind, one_if};
 
 use hdfs_model::LinkKind;
 use hdfs_wire::NoMemory;
 use std::alloc::Global;
 use std::collections::{BTreeMap, BTreeSet};
 
-/// The write links: how many pipelines were set up, which numbers fail and how, the links whose next acknowledgement is bad,
-/// and how often links have failed.
+/// The write links: how many set-ups of pipelines and transfers were counted, which numbers fail and how, the links whose next
+/// acknowledgement is bad, and how often links have failed.
 #[derive(Drop)]
 pub struct Links {
     pub(crate) set_ups: u64,
@@ -48,7 +48,7 @@ fn note(bad: &mut BTreeSet<u64>, link: u64, kind: Option<LinkKind>) -> Result<()
 }
 
 impl Links {
-    ghost use Rattle.hdfs_faults.specs.Linking.{ForgetsLink, PlansLink, SameLink, SetsUpLink, TakesLink};
+    ghost use Rattle.hdfs_faults.specs.Linking.{kind_in, ForgetsLink, PlansLink, SameLink, SetsUpLink, TakesLink, TransfersLink};
 
     /// No set-ups, none of which is planned to fail.
     pub(crate) fn new(alloc: Global) -> Links
@@ -89,6 +89,27 @@ impl Links {
         self.set_ups = reached;
         self.failed += at_once(kind);
         Ok(kind)
+    }
+
+    /// How the next set-up fails.
+    pub(crate) fn next_set_up(&self) -> Option<LinkKind>
+        ensures { result ≡ next_kind (kind_in self.now) self.now.set_ups }
+    {
+        let reached = self.set_ups.checked_add(1)?;
+        self.kinds.get(&reached).copied()
+    }
+
+    /// Counts a transfer as a set-up, and says how it fails.
+    pub(crate) fn transfer(&mut self) -> Option<LinkKind>
+        ensures { TransfersLink self.old result self.new }
+    {
+        let reached = self.set_ups.checked_add(1)?;
+        let kind = self.kinds.get(&reached).copied();
+        self.set_ups = reached;
+        if kind.is_some() {
+            self.failed += 1;
+        }
+        kind
     }
 
     /// Whether the next acknowledgement of a link is bad. The one after it is good.
