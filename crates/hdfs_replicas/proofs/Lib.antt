@@ -1,3 +1,4 @@
+pub mod Giving
 pub mod Lowest
 pub mod Nodes
 pub mod Pieces

@@ -1,5 +1,5 @@
 -- What a replica shows.
-use Rattle.std.specs.Prelude.{◌≡◌, ◌==◌, ℕ, Bool, false, List, [], take, Option, Some, None}
+use Rattle.std.specs.Prelude.{◌≡◌, ◌⊎◌, ◌==◌, ℕ, Bool, false, List, [], take, Option, Some, None}
 use Rattle.std.specs.List.{list_any}
 use Rattle.hdfs_replicas.specs.declared.replica.Replica.{Replica}
 use Rattle.hdfs_replicas.specs.Pieces.{put_pieces}
@@ -39,3 +39,12 @@ SameLinksOf old new = (link : ℕ) → undisturbed_by new link ≡ undisturbed_b
 pub record SameReplica (old new : Option Replica) : Type 0 where
   pub bytes : held_by new ≡ held_by old
   pub links : SameLinksOf old new
+
+-- it holds these bytes, and all links are disturbed
+pub record IsGiven (given : List ℕ) (replica : Option Replica) : Type 0 where
+  pub bytes : held_by replica ≡ given
+  pub links : (link : ℕ) → undisturbed_by replica link ≡ false
+
+-- it was given these bytes, or nothing of it is seen to change
+abbrev pub MayBeGiven : List ℕ → Option Replica → Option Replica → Type 0
+MayBeGiven given old new = SameReplica old new ⊎ IsGiven given new

@@ -3,7 +3,7 @@ ghost use Rattle.std.specs.Prelude.{◌≡◌, ◌≢◌, ◌+◌, ◌-◌, ◌^
 ghost use Rattle.std.specs.Ordering.{nat_cmp};
 ghost use Rattle.std.specs.BTreeMap.{get};
 ghost use Rattle.hdfs_model.specs.Sending.{put};
-ghost use Rattle.hdfs_replicas.specs.Replicas.{held_by, whole_by, undisturbed_by, SameLinksOf, SameReplica};
+ghost use Rattle.hdfs_replicas.specs.Replicas.{held_by, whole_by, undisturbed_by, IsGiven, SameLinksOf, SameReplica};
 
 use crate::replica::{Piece, Replica};
 use bytes::Bytes;
@@ -52,6 +52,20 @@ impl Datanode {
             unreachable!();
         };
         replica.hold(bytes);
+        Ok(())
+    }
+
+    /// Takes the bytes that another datanode holds of a block. It disturbs all links there.
+    pub(crate) fn give(&mut self, alloc: Global, block: u64, bytes: Bytes) -> Result<(), NoMemory>
+        ensures given { OnOk result (IsGiven bytes (get nat_cmp self.new.blocks block)) }
+        ensures err { OnErr result (SameReplica (get nat_cmp self.old.blocks block) (get nat_cmp self.new.blocks block)) }
+        ensures rest { ChangesBlock block self.old self.new }
+    {
+        self.make(alloc, block)?;
+        let Some(replica) = self.blocks.get_mut(&block) else {
+            unreachable!();
+        };
+        replica.give(bytes);
         Ok(())
     }
 

@@ -33,7 +33,8 @@ pub fn uuid(alloc: Global, number: u32) -> Result<String, NoMemory>
 }
 
 impl Datanodes {
-    ghost use Rattle.hdfs_replicas.specs.Nodes.{node_at, held_in, whole_in, undisturbed_in, is_here, SameHeld, SameNodes, Joins};
+    ghost use Rattle.hdfs_replicas.specs.Nodes.{node_at, replica_at, held_in, whole_in, undisturbed_in, is_here, SameHeld, SameNodes, Joins};
+    ghost use Rattle.hdfs_replicas.specs.Replicas.{IsGiven, SameReplica};
 
     /// So many datanodes that hold nothing.
     pub fn new(alloc: Global, count: u32) -> Result<Datanodes, NoMemory>
@@ -124,6 +125,27 @@ impl Datanodes {
             self.hold_on(alloc, uuid.as_str(), block, bytes.clone()?)?;
         }
         Ok(())
+    }
+
+    /// Gives a datanode the bytes that another one holds of a block, and disturbs all links there. There is no memory for them on one
+    /// that isn't there.
+    pub(crate) fn give_to(
+        &mut self,
+        alloc: Global,
+        uuid: &str,
+        block: u64,
+        bytes: Bytes,
+    ) -> Result<(), NoMemory>
+        ensures given { OnOk result (IsGiven bytes (replica_at self.new uuid.now block)) }
+        ensures others { (d : List ℕ) (b : ℕ) → is_here uuid.now block d b ≡ false
+            → SameReplica (replica_at self.old d b) (replica_at self.new d b) }
+        ensures err { OnErr result (SameHeld self.old self.new) }
+        ensures rest { SameNodes self.old self.new }
+    {
+        match self.by_uuid.get_mut(uuid) {
+            Some(node) => node.give(alloc, block, bytes),
+            None => Err(NoMemory),
+        }
     }
 
     /// Whether the first datanode may hold bytes of a block.

@@ -1,5 +1,5 @@
 //! What the datanodes of a pipeline do together.
-ghost use Rattle.std.specs.Prelude.{◌≡◌, ◌==◌, ◌&&◌, ℕ, true, List, map, OnOk, IfOk, if◌then◌else◌};
+ghost use Rattle.std.specs.Prelude.{◌≡◌, ◌==◌, ◌&&◌, ℕ, true, false, List, map, OnOk, IfOk, if◌then◌else◌};
 ghost use Rattle.hdfs_model.specs.Sending.{put};
 
 use crate::datanodes::Datanodes;
@@ -10,7 +10,8 @@ use hdfs_wire::NoMemory;
 use std::alloc::Global;
 
 impl Datanodes {
-    ghost use Rattle.hdfs_replicas.specs.Nodes.{held_in, whole_in, undisturbed_in, is_named, is_on, SameHeld, SameNodes};
+    ghost use Rattle.hdfs_replicas.specs.Nodes.{replica_at, held_in, whole_in, undisturbed_in, is_named, is_on, SameHeld, SameNodes};
+    ghost use Rattle.hdfs_replicas.specs.Replicas.{IsGiven, MayBeGiven, SameReplica};
 
     /// Notes a link that is opened on a block at each of its datanodes, and answers what each of them holds of that.
     pub fn enter_all(
@@ -69,5 +70,30 @@ impl Datanodes {
         for node in locs {
             self.take(node.id.datanode_uuid.as_str(), block, link);
         }
+    }
+
+    /// Gives what a datanode holds of a block to these others, which share the bytes, and disturbs all links there. A source that
+    /// isn't there holds nothing, and there is no memory for bytes on a target that isn't there. After want of memory some of the
+    /// targets may have them.
+    pub fn give(
+        &mut self,
+        alloc: Global,
+        source: &str,
+        targets: &[DatanodeInfo],
+        block: u64,
+    ) -> Result<(), NoMemory>
+        ensures given { OnOk result ((d : List ℕ) → is_named targets.now d ≡ true
+            → IsGiven (held_in self.old source.now block) (replica_at self.new d block)) }
+        ensures some { (d : List ℕ) → MayBeGiven (held_in self.old source.now block) (replica_at self.old d block)
+            (replica_at self.new d block) }
+        ensures others { (d : List ℕ) (b : ℕ) → is_on targets.now block d b ≡ false
+            → SameReplica (replica_at self.old d b) (replica_at self.new d b) }
+        ensures rest { SameNodes self.old self.new }
+    {
+        let bytes = self.read(alloc, source, block)?;
+        for node in targets {
+            self.give_to(alloc, node.id.datanode_uuid.as_str(), block, bytes.clone()?)?;
+        }
+        Ok(())
     }
 }

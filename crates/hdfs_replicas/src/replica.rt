@@ -75,6 +75,15 @@ impl Replica {
         self.taken = 0;
     }
 
+    /// Holds these bytes, which come from another datanode, from now on. It disturbs all links.
+    pub(crate) fn give(&mut self, bytes: Bytes)
+        ensures bytes { bytes_of self.new ≡ bytes }
+        ensures links { (link : ℕ) → is_undisturbed self.new link ≡ false }
+    {
+        self.hold(bytes);
+        self.undisturbed.clear();
+    }
+
     /// Its bytes without a copy of them, where they were read since the last piece came.
     pub(crate) fn read(&mut self, alloc: Global) -> Result<Bytes, NoMemory>
         ensures value { IfOk result (λ bytes. bytes ≡ bytes_of self.old) }
