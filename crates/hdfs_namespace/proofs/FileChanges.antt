@@ -15,7 +15,7 @@ use Rattle.hdfs_model.specs.Effects.{HasBlock, blocks_at, of_length, with_block,
 use Rattle.hdfs_model.specs.Files.{IsTree}
 use Rattle.hdfs_model.specs.Picture.{entry_kind, kinds_in}
 use Rattle.hdfs_model.proofs.Loads.{and_parts}
-use Rattle.hdfs_namespace.specs.Adding.{CanTake, with_more, with_stamp}
+use Rattle.hdfs_namespace.specs.Adding.{CanTake, with_more}
 use Rattle.hdfs_namespace.specs.Memory.{is_kth, is_kth_at, is_length, is_sized, plus_length, total, IsBare}
 use Rattle.hdfs_namespace.specs.Soundness.{kth_test, kth_parts}
 use Rattle.hdfs_namespace.proofs.Apart.{apart_with, kth_absent, kth_one, total-push}
@@ -197,24 +197,31 @@ pub total_alike : (t t' : ℕ → Option BlockEntry) → ((b : ℕ) → option_m
 total_alike t t' same [] = refl
 total_alike t t' same (id ∷ ids) = plus_alike (t id) (t' id) (total t' ids) (same id) ∙ ap (plus_length (t id)) (total_alike t t' same ids)
 
--- a block with another stamp
-module _ (table table' : ℕ → Option BlockEntry) (id stamp : ℕ) (entry : BlockEntry) (is : table id ≡ Some entry) (now : (b : ℕ) → table' b ≡ with_block table id (with_stamp entry stamp) b) where
-  pub stamp_length : (b : ℕ) → option_map (λ e. e.length) (table' b) ≡ option_map (λ e. e.length) (table b)
-  stamp_length b = ap (option_map (λ e. e.length)) (now b) ∙ by_test (eqb id b) (eqb-true id b)
+-- where all lengths stay, what is sized stays so
+pub sized_alike : (t t' : ℕ → Option BlockEntry) → ((b : ℕ) → option_map (λ e. e.length) (t' b) ≡ option_map (λ e. e.length) (t b)) → (o : Option Entry) → is_sized t o ≡ true → is_sized t' o ≡ true
+sized_alike t t' same None is = refl
+sized_alike t t' same (Some entries.Dir) is = refl
+sized_alike t t' same (Some (entries.File file)) is = ap is_length (total_alike t t' same file.blocks) ∙ is
+
+-- a block of the same length with another stamp, or on other datanodes
+module _ (table table' : ℕ → Option BlockEntry) (id : ℕ) (entry entry' : BlockEntry) (same_length : entry'.length ≡ entry.length) (is : table id ≡ Some entry)
+    (now : (b : ℕ) → table' b ≡ with_block table id entry' b) where
+  pub relisted_length : (b : ℕ) → option_map (λ e. e.length) (table' b) ≡ option_map (λ e. e.length) (table b)
+  relisted_length b = ap (option_map (λ e. e.length)) (now b) ∙ by_test (eqb id b) (eqb-true id b)
     where
-      by_test : (c : Bool) → (c ≡ true → id ≡ b) → option_map (λ e. e.length) (cond c (Some (with_stamp entry stamp)) (table b)) ≡ option_map (λ e. e.length) (table b)
-      by_test true same = ap (option_map (λ e. e.length)) (sym is ∙ ap table (same refl))
+      by_test : (c : Bool) → (c ≡ true → id ≡ b) → option_map (λ e. e.length) (cond c (Some entry') (table b)) ≡ option_map (λ e. e.length) (table b)
+      by_test true same = ap Some same_length ∙ ap (option_map (λ e. e.length)) (sym is ∙ ap table (same refl))
       by_test false same = refl
 
-  pub stamp_other : (b : ℕ) → (id ≡ b → ⊥) → table' b ≡ table b
-  stamp_other b apart = now b ∙ by_test (eqb id b) (eqb-true id b)
+  pub relisted_other : (b : ℕ) → (id ≡ b → ⊥) → table' b ≡ table b
+  relisted_other b apart = now b ∙ by_test (eqb id b) (eqb-true id b)
     where
-      by_test : (c : Bool) → (c ≡ true → id ≡ b) → cond c (Some (with_stamp entry stamp)) (table b) ≡ table b
+      by_test : (c : Bool) → (c ≡ true → id ≡ b) → cond c (Some entry') (table b) ≡ table b
       by_test true same = absurd (apart (same refl))
       by_test false same = refl
 
-  pub stamp_none : (b : ℕ) → is_none (table b) ≡ true → is_none (table' b) ≡ true
-  stamp_none b none = ap is_none (stamp_other b (λ same. false≢true (sym (ap is_none (sym (ap table same) ∙ is)) ∙ none))) ∙ none
+  pub relisted_none : (b : ℕ) → is_none (table b) ≡ true → is_none (table' b) ≡ true
+  relisted_none b none = ap is_none (relisted_other b (λ same. false≢true (sym (ap is_none (sym (ap table same) ∙ is)) ∙ none))) ∙ none
 
 -- a block that a list contains is its kth
 pub kth_contained : (ids : List ℕ) (id : ℕ) → Contains ids id → (k : ℕ) × (is_kth ids k id ≡ true)

@@ -19,7 +19,7 @@ use Rattle.hdfs_namespace.specs.Memory.{is_bare, is_kth, is_kth_at, is_length, i
 use Rattle.hdfs_namespace.specs.Soundness.{kth_test, kth_parts, total_first}
 use Rattle.hdfs_namespace.specs.Totals.{is_counted, is_total, with_total}
 use Rattle.hdfs_namespace.proofs.Apart.{no_kth}
-use Rattle.hdfs_namespace.proofs.FileChanges.{apart_own, kth_contained}
+use Rattle.hdfs_namespace.proofs.FileChanges.{apart_own, kth_contained, total_alike}
 use Rattle.hdfs_namespace.proofs.Naming.{Sound, look, bare_names}
 use Rattle.hdfs_namespace.proofs.NewFiles.{kth_first, kth_later, total_same}
 use Rattle.hdfs_namespace.proofs.Sizing.{total_kept}
@@ -47,6 +47,12 @@ counted_kept t t' stays (Some entries.Dir) kept is = refl
 counted_kept t t' stays (Some (entries.File file)) kept is =
     let was = total_kept_is (total t file.blocks) kept is in
     total_test (total t' file.blocks) kept was.0 (total_kept t t' stays file.blocks was.0 was.1) was.2
+
+-- it stays so where all lengths stay
+pub counted_alike : (t t' : ℕ → Option BlockEntry) → ((b : ℕ) → option_map (λ e. e.length) (t' b) ≡ option_map (λ e. e.length) (t b)) → (o : Option Entry) (kept : Option ℕ) → is_counted t o kept ≡ true → is_counted t' o kept ≡ true
+counted_alike t t' same None kept is = refl
+counted_alike t t' same (Some entries.Dir) kept is = refl
+counted_alike t t' same (Some (entries.File file)) kept is = ap (λ (sums : Option ℕ). is_total sums kept) (total_alike t t' same file.blocks) ∙ is
 
 -- where a file stands its total is kept
 pub kept_at : (names : List ℕ → Option Entry) (table : ℕ → Option BlockEntry) (totals : List ℕ → Option ℕ) → ((q : List ℕ) → is_counted table (names q) (totals q) ≡ true)

@@ -1,5 +1,5 @@
 -- How blocks and files come into a cluster in memory.
-use Rattle.std.specs.Prelude.{◌≡◌, ◌≢◌, ◌<◌, ℕ, Bool, true, false, List, [], ◌∷◌, ◌++◌, length, slice_index_or, All, Contains, Option, Some, None, unwrap_or, if◌then◌else◌}
+use Rattle.std.specs.Prelude.{◌≡◌, ◌≢◌, ◌<◌, ◌==◌, ℕ, Bool, true, false, List, [], ◌∷◌, ◌++◌, length, filter, slice_index_or, Contains, Option, Some, None, unwrap_or, if◌then◌else◌}
 use Rattle.std.specs.List.{list_any}
 use Rattle.std.specs.Str.{bytes_eq}
 use Rattle.hdfs_model.specs.declared.picture.Entry.{Entry}
@@ -119,9 +119,21 @@ pub record AddsLast (old : Space) (path : List ℕ) (file : FileEntry) (previous
   pub replicated : 0 < file.attributes.replication
   pub adds : AddsBehind old path previous new block
 
--- a block with another generation stamp
-abbrev pub with_stamp : BlockEntry → ℕ → BlockEntry
-with_stamp entry stamp = record { length = entry.length; stamp = stamp; nodes = entry.nodes }
+-- a block of the same length with this generation stamp, on these datanodes
+abbrev pub with_pipeline : BlockEntry → ℕ → List (List ℕ) → BlockEntry
+with_pipeline entry stamp nodes = record { length = entry.length; stamp = stamp; nodes = nodes }
+
+-- whether a datanode holds a block of so many bytes whole
+abbrev pub holds_whole : (List ℕ → ℕ → List ℕ) → ℕ → ℕ → List ℕ → Bool
+holds_whole held id count node = length (held node id) == count
+
+-- exactly those of a block's datanodes that hold it whole, in their order
+abbrev pub whole_nodes : (List ℕ → ℕ → List ℕ) → ℕ → BlockEntry → List (List ℕ)
+whole_nodes held id entry = filter (holds_whole held id entry.length) entry.nodes
+
+-- a block with another generation stamp, listed on exactly those of its datanodes that hold it whole
+abbrev pub with_whole : (List ℕ → ℕ → List ℕ) → ℕ → BlockEntry → ℕ → BlockEntry
+with_whole held id entry stamp = with_pipeline entry stamp (whole_nodes held id entry)
 
 -- the block is one of the file at a path
 pub record HasOne (names : List ℕ → Option Entry) (path : List ℕ) (id : ℕ) : Type 0 where
@@ -129,17 +141,17 @@ pub record HasOne (names : List ℕ → Option Entry) (path : List ℕ) (id : �
   pub is : names path ≡ Some (entries.File file)
   pub has : Contains file.blocks id
 
--- The file at a path is opened, and its block has a greater stamp. All of its datanodes hold it whole.
+-- The file at a path is opened, and its block has a greater stamp. From then on it is listed on exactly those of its datanodes
+-- that hold it whole, and these are the ones that the answer names.
 pub record Reopened (old : Space) (path : List ℕ) (id : ℕ) (new : Space) (block : LocatedBlock) : Type 0 where
   pub entry : BlockEntry
   pub is : old.table id ≡ Some entry
-  pub answered : IsEntry block id (with_stamp entry block.b.generation_stamp)
+  pub answered : IsEntry block id (with_whole old.held id entry block.b.generation_stamp)
   pub same_length : block.b.num_bytes ≡ entry.length
   pub greater : entry.stamp < block.b.generation_stamp
-  pub whole : All (λ node. length (old.held node id) ≡ entry.length) entry.nodes
   pub opened : (file : FileEntry) → old.names path ≡ Some (entries.File file) → (q : List ℕ)
       → new.names q ≡ with_entry old.names path (with_open file true) q
-  pub listed : (b : ℕ) → new.table b ≡ with_block old.table id (with_stamp entry block.b.generation_stamp) b
+  pub listed : (b : ℕ) → new.table b ≡ with_block old.table id (with_whole old.held id entry block.b.generation_stamp) b
 
 -- a file is opened: one without blocks, or one with its last block
 abbrev pub OpensAgain : Space → List ℕ → FileEntry → Space → Option LocatedBlock → Type 0

@@ -42,10 +42,14 @@ abbrev pub IsLocated : Answer → Type 0
 IsLocated (answers.GetBlockLocations None) = ⊥
 IsLocated answer = Unit {0}
 
--- a block that no open file has is named, or none where there is one
+-- a block is named that isn't listed, or that no open file has, or none where there is one
 abbrev pub IsStray : Picture → Ask → Type 0
 IsStray p (asks.AddBlock src client previous excludes file_id) = IsOwn p (asks.AddBlock src client previous excludes file_id)
 IsStray p (asks.Complete src client last file_id) = IsOwn p (asks.Complete src client last file_id)
+IsStray p (asks.UpdateBlockForPipeline block client) = IsOwn p (asks.UpdateBlockForPipeline block client)
+IsStray p (asks.GetAdditionalDatanode src block existing excludes count client ids) =
+    IsOwn p (asks.GetAdditionalDatanode src block existing excludes count client ids)
+IsStray p (asks.UpdatePipeline client block block' nodes ids) = IsOwn p (asks.UpdatePipeline client block block' nodes ids)
 IsStray p ask = ⊥
 
 -- An active namenode's exception stands for a refusal, or is a file that isn't found where a writer strays.

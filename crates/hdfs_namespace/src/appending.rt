@@ -1,58 +1,44 @@
 //! How a file is opened to be gone on with in a cluster in memory.
-ghost use Rattle.std.specs.Prelude.{◌≡◌, ◌<◌, ℕ, true, false, List, length, All, Some, None, IfOk, IfErr, IfSome, OnOk, OnErr, MatchResult};
+ghost use Rattle.std.specs.Prelude.{◌≡◌, ℕ, true, List, Some, None, IfOk, IfErr, IfSome, OnOk, OnErr, MatchResult};
 ghost use Rattle.std.specs.BTreeMap.{get_by_text};
 ghost use Rattle.hdfs_model.specs.declared.picture.Entry.TheVariants as entries;
-ghost use Rattle.hdfs_model.specs.declared.picture.BlockEntry.{BlockEntry};
 ghost use Rattle.hdfs_model.specs.declared.picture.FileEntry.{FileEntry};
-ghost use Rattle.hdfs_model.specs.Effects.{HasStatus, with_block, with_entry};
+ghost use Rattle.hdfs_model.specs.Effects.{HasStatus, with_entry};
 ghost use Rattle.hdfs_model.specs.Namenode.{IsToWrite, StandsForAny};
 ghost use Rattle.hdfs_model.specs.Picture.{kinds_in};
 ghost use Rattle.hdfs_model.specs.Refusals.{append_refusal};
-ghost use Rattle.hdfs_namespace.specs.Adding.{HasOne, OpensAgain, Reopened, with_open, with_stamp};
+ghost use Rattle.hdfs_namespace.specs.Adding.{HasOne, OpensAgain, Reopened, whole_nodes, with_open};
 ghost use Rattle.hdfs_namespace.specs.Spaces.{space_of};
 ghost use Rattle.hdfs_namespace.specs.Answering.{StandsForWritten};
-ghost use Rattle.hdfs_namespace.specs.Memory.{table_of};
 ghost use Rattle.hdfs_replicas.specs.Nodes.{held_in, SameHeld, SameNodes};
 
-use crate::blocks::{last_id, set_open};
+use crate::blocks::{last_id, set_open, set_pipeline};
 use crate::creating::{BEING_CREATED, status};
 use crate::namenode::{NOT_FOUND, PARENT_NOT_DIRECTORY, block_to_write, exception};
 use crate::namespace::Namespace;
 use hdfs_model::{Appended, AskFault, BlockEntry, Entry, FileEntry, LocatedBlock};
 use hdfs_replicas::Datanodes;
-use hdfs_wire::NoMemory;
+use hdfs_wire::{List, NoMemory, Text};
 use std::alloc::Global;
-use std::collections::BTreeMap;
 
-/// Whether each datanode that is listed for a block holds it whole.
-fn is_whole(
+/// The uuids of the datanodes that are listed for a block and hold it whole, in their order.
+fn whole_nodes(
     alloc: Global,
     nodes: &mut Datanodes,
     id: u64,
     entry: &BlockEntry,
-) -> Result<bool, NoMemory>
-    ensures whole { IfOk result (λ whole. whole ≡ true
-        → All (λ node. length (held_in nodes.old node id) ≡ entry.now.length) entry.now.nodes) }
+) -> Result<List<Text>, NoMemory>
+    ensures whole { IfOk result (λ whole. whole ≡ whole_nodes (held_in nodes.old) id entry.now) }
     ensures same { SameHeld nodes.old nodes.new }
     ensures rest { SameNodes nodes.old nodes.new }
 {
+    let mut whole = List::new(alloc);
     for uuid in entry.nodes.as_slice() {
-        let bytes = nodes.read(alloc, uuid.as_str(), id)?;
-        if bytes.as_slice().len() as u64 != entry.length {
-            return Ok(false);
+        if nodes.count_held(alloc, uuid.as_str(), id)? == entry.length {
+            whole.push(uuid.copy(alloc)?)?;
         }
     }
-    Ok(true)
-}
-
-/// Gives a block a generation stamp.
-fn set_stamp(table: &mut BTreeMap<u64, BlockEntry>, id: u64, stamp: u64)
-    ensures { (entry : BlockEntry) → table_of table.old.entries id ≡ Some entry
-        → (b : ℕ) → table_of table.new.entries b ≡ with_block (table_of table.old.entries) id (with_stamp entry stamp) b }
-{
-    if let Some(entry) = table.get_mut(&id) {
-        entry.stamp = stamp;
-    }
+    Ok(whole)
 }
 
 impl Namespace {
@@ -92,7 +78,8 @@ impl Namespace {
         set_open(&mut self.names, src, true);
     }
 
-    /// Opens the file at a path and gives its block a greater stamp, where the datanodes that are listed for it hold it whole.
+    /// Opens the file at a path and gives its block a greater stamp. From then on only those of its datanodes are listed for it
+    /// that hold it whole, and there is no memory where none of them does.
     fn reopen(
         &mut self,
         alloc: Global,
@@ -110,21 +97,19 @@ impl Namespace {
         let Some(entry) = self.table.get(&id) else {
             return Err(NoMemory);
         };
-        if !is_whole(alloc, nodes, id, entry)? {
-            return Err(NoMemory);
-        }
-        let Some(above) = entry.stamp.checked_add(1) else {
+        let Some(stamp) = self.stamp_above(entry.stamp) else {
             return Err(NoMemory);
         };
-        let stamp = self.next_stamp.max(above);
-        let Some(next_stamp) = stamp.checked_add(1) else {
-            return Err(NoMemory);
+        let whole = whole_nodes(alloc, nodes, id, entry)?;
+        let reopened = BlockEntry {
+            length: entry.length,
+            stamp,
+            nodes: whole,
         };
-        let mut block = block_to_write(alloc, id, entry)?;
-        block.b.generation_stamp = stamp;
-        set_stamp(&mut self.table, id, stamp);
+        let block = block_to_write(alloc, id, &reopened)?;
+        set_pipeline(&mut self.table, id, stamp, reopened.nodes);
         set_open(&mut self.names, src, true);
-        self.next_stamp = next_stamp;
+        self.next_stamp = stamp + 1;
         Ok(block)
     }
 

@@ -1,15 +1,15 @@
 //! What a writer names of the blocks of a file in memory.
-ghost use Rattle.std.specs.Prelude.{◌≡◌, ◌↔◌, ◌<◌, ◌≤◌, ℕ, length, slice_index_or, true, List, [], ◌∷◌, ◌++◌, Option, Some, IsTrue, MatchOption, OnOk, OnErr};
+ghost use Rattle.std.specs.Prelude.{◌≡◌, ◌↔◌, ◌<◌, ◌≤◌, ℕ, length, slice_index_or, true, List, [], ◌∷◌, ◌++◌, Contains, Option, Some, IsTrue, MatchOption, OnOk, OnErr};
 ghost use Rattle.std.specs.BTreeMap.{get_by_text};
 ghost use Rattle.hdfs_model.specs.declared.picture.BlockEntry.{BlockEntry};
 ghost use Rattle.hdfs_model.specs.declared.picture.Entry.TheVariants as entries;
 ghost use Rattle.hdfs_model.specs.declared.picture.FileEntry.{FileEntry};
-ghost use Rattle.hdfs_model.specs.Effects.{HasBlock, IsLast, IsRetried, with_entry, with_length};
+ghost use Rattle.hdfs_model.specs.Effects.{HasBlock, IsLast, IsRetried, with_block, with_entry, with_length};
 ghost use Rattle.hdfs_namespace.specs.Memory.{table_of};
-ghost use Rattle.hdfs_namespace.specs.Adding.{with_open, with_more};
+ghost use Rattle.hdfs_namespace.specs.Adding.{with_more, with_open, with_pipeline};
 
 use hdfs_model::{Block, BlockEntry, Entry};
-use hdfs_wire::NoMemory;
+use hdfs_wire::{List, NoMemory, Text};
 use std::collections::BTreeMap;
 
 /// Whether a file ends with the named block.
@@ -25,14 +25,24 @@ pub(crate) fn is_last(ids: &[u64], named: &Option<Block>) -> bool
     }
 }
 
-/// Whether a file has the named block; it needs none to be named. The last block is looked at first, since a writer names
-/// that.
+/// Whether a block is one of these. The last one is looked at first, since a writer names that.
+pub(crate) fn has_id(ids: &[u64], id: u64) -> bool
+    ensures { IsTrue result ↔ Contains ids.now id }
+{
+    let is_last = match ids.last() {
+        None => false,
+        Some(last) => *last == id,
+    };
+    is_last || ids.contains(&id)
+}
+
+/// Whether a file has the named block; it needs none to be named.
 pub(crate) fn has_block(ids: &[u64], named: &Option<Block>) -> bool
     ensures { IsTrue result ↔ HasBlock ids.now named.now }
 {
     match named {
         None => true,
-        Some(block) => is_last(ids, named) || ids.contains(&block.block_id),
+        Some(block) => has_id(ids, block.block_id),
     }
 }
 
@@ -57,6 +67,22 @@ pub(crate) fn set_length(table: &mut BTreeMap<u64, BlockEntry>, named: &Option<B
                 entry.length = block.num_bytes;
             }
         }
+    }
+}
+
+/// Gives a block a generation stamp and other datanodes.
+pub(crate) fn set_pipeline(
+    table: &mut BTreeMap<u64, BlockEntry>,
+    id: u64,
+    stamp: u64,
+    nodes: List<Text>,
+)
+    ensures { (entry : BlockEntry) → table_of table.old.entries id ≡ Some entry
+        → (b : ℕ) → table_of table.new.entries b ≡ with_block (table_of table.old.entries) id (with_pipeline entry stamp nodes) b }
+{
+    if let Some(entry) = table.get_mut(&id) {
+        entry.stamp = stamp;
+        entry.nodes = nodes;
     }
 }
 

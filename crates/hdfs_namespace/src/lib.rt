@@ -8,6 +8,7 @@ mod closing;
 mod creating;
 mod namenode;
 mod namespace;
+mod pipelines;
 mod totals;
 
 pub use namenode::{STANDBY, exception, last_answer};

@@ -32,7 +32,7 @@ pub(crate) const PARENT_NOT_DIRECTORY: &str = "org.apache.hadoop.fs.ParentNotDir
 const DISK: u32 = 1;
 
 /// How many locations a block has at most that is to be written.
-const MAX_LOCATIONS: usize = 256;
+pub(crate) const MAX_LOCATIONS: usize = 256;
 
 /// The port on which datanodes give their blocks.
 const TRANSFER_PORT: u32 = 9866;
@@ -62,7 +62,8 @@ pub fn exception(alloc: Global, class: &str) -> Result<AskFault, NoMemory>
     })
 }
 
-fn info(alloc: Global, uuid: &Text) -> Result<DatanodeInfo, NoMemory>
+/// The datanode with this uuid.
+pub(crate) fn info(alloc: Global, uuid: &Text) -> Result<DatanodeInfo, NoMemory>
     ensures { IfOk result (λ info. info.id.datanode_uuid ≡ uuid.now) }
 {
     Ok(DatanodeInfo {
@@ -111,6 +112,33 @@ fn storages(alloc: Global, count: usize) -> Result<(List<u32>, List<Text>), NoMe
     Ok((List::from_vec(types), List::from_vec(ids)))
 }
 
+/// A block on these datanodes, at this offset of its file.
+pub(crate) fn block_on(
+    alloc: Global,
+    b: Block,
+    offset: u64,
+    locs: Vec<DatanodeInfo>,
+) -> Result<LocatedBlock, NoMemory>
+    ensures block { IfOk result (λ block. block.b ≡ b) }
+    ensures offset { IfOk result (λ block. block.offset ≡ offset) }
+    ensures locs { IfOk result (λ block. block.locs ≡ locs.items) }
+    ensures types { IfOk result (λ block. length block.storage_types ≡ length locs.items) }
+    ensures ids { IfOk result (λ block. length block.storage_ids ≡ length locs.items) }
+{
+    let (storage_types, storage_ids) = storages(alloc, locs.len())?;
+    Ok(LocatedBlock {
+        b,
+        offset,
+        locs: List::from_vec(locs),
+        corrupt: false,
+        block_token: no_token(alloc),
+        storage_types,
+        storage_ids,
+        block_indices: None,
+        block_tokens: List::new(alloc),
+    })
+}
+
 pub(crate) fn located_block(
     alloc: Global,
     id: u64,
@@ -122,24 +150,13 @@ pub(crate) fn located_block(
     ensures types { IfOk result (λ block. length block.storage_types ≡ length entry.now.nodes) }
     ensures ids { IfOk result (λ block. length block.storage_ids ≡ length entry.now.nodes) }
 {
-    let nodes = entry.nodes.as_slice();
-    let (storage_types, storage_ids) = storages(alloc, nodes.len())?;
-    Ok(LocatedBlock {
-        b: Block {
-            pool_id: Text::new(alloc),
-            block_id: id,
-            generation_stamp: entry.stamp,
-            num_bytes: entry.length,
-        },
-        offset,
-        locs: List::from_vec(infos(alloc, nodes)?),
-        corrupt: false,
-        block_token: no_token(alloc),
-        storage_types,
-        storage_ids,
-        block_indices: None,
-        block_tokens: List::new(alloc),
-    })
+    let b = Block {
+        pool_id: Text::new(alloc),
+        block_id: id,
+        generation_stamp: entry.stamp,
+        num_bytes: entry.length,
+    };
+    block_on(alloc, b, offset, infos(alloc, entry.nodes.as_slice())?)
 }
 
 /// A block that is to be written. There is no memory for one that has no location, or too many, or too many bytes.

@@ -1,5 +1,5 @@
 //! The names and the blocks of a cluster in memory.
-ghost use Rattle.std.specs.Prelude.{◌≡◌, ◌≤◌, ◌+◌, ◌^◌, ◌<◌, ℕ, List, [], ◌∷◌, true, false, Some, None, is_none, string_bytes, OnOk, OnErr, IfOk};
+ghost use Rattle.std.specs.Prelude.{◌≡◌, ◌≤◌, ◌+◌, ◌^◌, ◌<◌, ℕ, List, [], ◌∷◌, true, false, Some, None, is_none, string_bytes, OnOk, OnErr, IfOk, IfSome};
 ghost use Rattle.std.specs.BTreeMap.{get_by_text};
 ghost use Rattle.hdfs_model.specs.declared.picture.Entry.TheVariants as entries;
 ghost use Rattle.hdfs_model.specs.Effects.{blocks_at};
@@ -93,6 +93,16 @@ impl Namespace {
         ensures { result ≡ accepts (get_by_text self.now.names) path.now attributes.now count }
     {
         self.is_free(path) && attributes.in_limits(count)
+    }
+
+    /// A generation stamp above this one, and no less than the next one. One more fits behind it.
+    pub(crate) fn stamp_above(&self, stamp: u64) -> Option<u64>
+        ensures above { IfSome result (λ new. stamp < new) }
+        ensures next { IfSome result (λ new. self.now.next_stamp ≤ new) }
+        ensures fits { IfSome result (λ new. new + 1 < 2 ^ 64) }
+    {
+        let new = self.next_stamp.max(stamp.checked_add(1)?);
+        if new == u64::MAX { None } else { Some(new) }
     }
 
     /// Lists a new block on these datanodes, and answers its id.
