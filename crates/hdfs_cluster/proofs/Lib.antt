@@ -22,5 +22,6 @@ pub mod Slices
 pub mod Stills
 pub mod Taking
 pub mod Telling
+pub mod Transferring
 pub mod Writing
 pub mod Written

@@ -1,6 +1,5 @@
 -- What the active namenode answers to the opening of a file.
 use Rattle.std.proofs.Common.{◌≡◌, inl, inr, ℕ, List, [], ◌∷◌, ◌++◌, length, Option, Some, None, Ok, Err, IfSome, refl, sym, ◌∙◌, ap, subst}
-use Rattle.std.proofs.lemmas.List.Elements.{All-contains_itself}
 use Rattle.std.specs.BTreeMap.{get_by_text}
 use Rattle.std.specs.List.{All, Contains}
 use Rattle.slab.specs.Slab as slab
@@ -24,12 +23,13 @@ use Rattle.hdfs_model.specs.Sending.{uuids}
 use Rattle.hdfs_namespace.specs.declared.namespace.Namespace.{Namespace}
 use Rattle.hdfs_replicas.specs.declared.datanodes.Datanodes.{Datanodes}
 use Rattle.hdfs_cluster.specs.declared.mem_link.MemLink.{MemLink}
-use Rattle.hdfs_namespace.specs.Adding.{OpensAgain}
+use Rattle.hdfs_namespace.specs.Adding.{OpensAgain, whole_nodes}
 use Rattle.hdfs_namespace.specs.Spaces.{space_of}
 use Rattle.hdfs_namespace.specs.Answering.{Answers, StandsForWritten}
 use Rattle.hdfs_namespace.specs.Memory.{table_of}
 use Rattle.hdfs_cluster.specs.MemShown.{picture_at}
 use Rattle.hdfs_replicas.specs.Nodes.{held_in, SameHeld}
+use Rattle.hdfs_namespace.proofs.Answering.{whole_held, whole_listed}
 use Rattle.hdfs_cluster.proofs.Places.{place_same}
 
 abbrev new_entry : ℕ → ℕ → List (List ℕ) → BlockEntry
@@ -66,12 +66,12 @@ module _ (space space' : Namespace) (nodes nodes' : Datanodes) (settings : MemSe
       let id = h.0 in
       let r = h.3 in
       let entry = r.entry in
-      let named : uuids block.locs ≡ entry.nodes = r.answered.nodes in
+      let named : uuids block.locs ≡ whole_nodes (held_in nodes) id entry = r.answered.nodes in
       let stamp = block.b.generation_stamp in (
         h.1.0,
         id,
         entry,
-        record { length = entry.length; stamp = stamp; nodes = entry.nodes },
+        record { length = entry.length; stamp = stamp; nodes = whole_nodes (held_in nodes) id entry },
         h.1.1 ∙ ap (λ (n : ℕ). h.1.0 ++ n ∷ []) h.2,
         record {
           is = r.is;
@@ -79,8 +79,8 @@ module _ (space space' : Namespace) (nodes nodes' : Datanodes) (settings : MemSe
           same_length = r.same_length;
           stamp = r.greater;
           some = shape.some;
-          listed = subst (All (Contains entry.nodes)) (sym named) (All-contains_itself entry.nodes);
-          whole = subst (All (λ node. length (held_in nodes node id) ≡ entry.length)) (sym named) r.whole;
+          listed = subst (All (Contains entry.nodes)) (sym named) (whole_listed (held_in nodes) id entry);
+          whole = subst (All (λ node. length (held_in nodes node id) ≡ entry.length)) (sym named) (whole_held (held_in nodes) id entry);
           now = ap (λ (ns : List (List ℕ)). new_entry entry.length stamp ns) (sym named);
         },
         changes_space _ _ (r.opened file is) r.listed,

@@ -51,6 +51,10 @@ module _ (space space' : Namespace) (nodes : Datanodes) (settings : MemSettings)
   pub same_space : SameSpace space space' → SamePicture p q
   same_space same = record { rest = record { files = record { names = same.0; table = λ id. ap (λ t. table_of t.entries id) same.1; held = λ node id. refl; defaults = refl }; reads = λ link. refl; writes = λ link. refl }; active = refl }
 
+  -- the names and the table are the same
+  pub same_parts : (space'.names ≡ space.names) × (space'.table ≡ space.table) → SamePicture p q
+  same_parts same = same_space (λ path. ap (λ names. get_by_text names path) same.0, same.1)
+
   pub changes_space : (named : List ℕ → Option Entry) (listed : ℕ → Option BlockEntry) → ((path : List ℕ) → get_by_text space'.names path ≡ named path) → ((id : ℕ) → table_of space'.table.entries id ≡ listed id) → Changes p q named listed
   changes_space named listed names table = record { names = names; table = table; bytes = record { held = λ node id. refl; defaults = refl; reads = λ link. refl; writes = λ link. refl } }
 

@@ -20,7 +20,7 @@ use Rattle.hdfs_faults.specs.Plans.{calls_of, has_series, is_bad}
 use Rattle.hdfs_faults.specs.Series.{Series, SetUps, kind_of, opens_of, packet_kind_of, plans, reads_of, sends_to, uuid_of}
 use Rattle.hdfs_cluster.specs.declared.mem_cluster.MemCluster.{MemCluster}
 use Rattle.hdfs_namespace.specs.Answering.{Answers}
-use Rattle.hdfs_cluster.specs.Failures.{failure_of, is_broken, is_counted, is_refused, planned_failure}
+use Rattle.hdfs_cluster.specs.Failures.{failure_of, is_broken, is_counted, is_refused, planned_failure, planned_transfer_failure}
 use Rattle.hdfs_cluster.specs.Coming.{ComesTo}
 use Rattle.hdfs_cluster.specs.Telling.{TellsAll}
 use Rattle.hdfs_cluster.specs.MemShown.{HasNode, HasNodesOf, nodes_of, picture_of, shown_of}
@@ -127,6 +127,15 @@ pub record AsksSetUp (old : MemCluster) (result : Result ℕ LinkFault) (new : M
   pub exact : CanCount old SetUps → is_counted result ≡ true → failure_of result ≡ planned_failure (next_kind_of old)
   pub bad : IfOk result (λ link. CanCount old SetUps → is_bad_at new link ≡ is_bad_ack (next_kind_of old))
   pub others : (link : ℕ) → IsSome ((shown_of old).writes link) → is_bad_at new link ≡ is_bad_at old link
+  pub links : (shown_of new).counts.links ≡ (shown_of old).counts.links + one_if (is_counted result && is_some (failure_of result))
+  pub nodes : (d : List ℕ) → (shown_of new).counts.nodes d ≡ (shown_of old).counts.nodes d
+
+-- A transfer was asked for. It has the next number of the set-ups, and fails exactly as a line plans that number to: then the
+-- links' count rises by one. No count of a datanode rises, and the same acknowledgements are bad.
+pub record AsksTransfer (old : MemCluster) (result : Result (Unit {0}) LinkFault) (new : MemCluster) : Type 0 where
+  pub call : CountsCall old SetUps (is_counted result) new
+  pub exact : CanCount old SetUps → is_counted result ≡ true → failure_of result ≡ planned_transfer_failure (next_kind_of old)
+  pub bad : (link : ℕ) → is_bad_at new link ≡ is_bad_at old link
   pub links : (shown_of new).counts.links ≡ (shown_of old).counts.links + one_if (is_counted result && is_some (failure_of result))
   pub nodes : (d : List ℕ) → (shown_of new).counts.nodes d ≡ (shown_of old).counts.nodes d
 

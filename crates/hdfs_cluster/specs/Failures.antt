@@ -37,3 +37,10 @@ planned_failure None = None
 planned_failure (Some link_kinds.Broken) = Some link_faults.Broken
 planned_failure (Some link_kinds.Refused) = Some link_faults.Refused
 planned_failure (Some link_kinds.BadAck) = None
+
+-- how a transfer fails that is planned so; no acknowledgement of it comes to be bad, and where that is planned the connection breaks
+abbrev pub planned_transfer_failure : Option LinkKind → Option LinkFault
+planned_transfer_failure None = None
+planned_transfer_failure (Some link_kinds.Broken) = Some link_faults.Broken
+planned_transfer_failure (Some link_kinds.Refused) = Some link_faults.Refused
+planned_transfer_failure (Some link_kinds.BadAck) = Some link_faults.Broken

@@ -6,6 +6,7 @@ pub mod Laws
 pub mod Lines
 pub mod Links
 pub mod MemShown
+pub mod Responding
 pub mod Shortening
 pub mod Slices
 pub mod Starting

@@ -1,16 +1,20 @@
 //! The calls of the cluster in memory.
-ghost use Rattle.std.specs.Prelude.{◌≡◌, false, IfOk, IfErr, IfSome, IsSome, OnOk, OnErr};
+ghost use Rattle.std.specs.Prelude.{◌≡◌, ◌≢◌, false, IfOk, IfErr, IfSome, IsSome, OnOk, OnErr};
 ghost use Rattle.hdfs_model.specs.Picture.{SamePicture};
 ghost use Rattle.hdfs_model.specs.Pipes.{IsSetup, WriteOpened, WriteNotOpened, FollowsOn, Sent, NotSent, IsAwaited, Acknowledged, NotAcknowledged, WriteEnded};
 ghost use Rattle.hdfs_model.specs.Shown.{Opened, NotOpened, Given, NotGiven, Ended};
-ghost use Rattle.hdfs_cluster.specs.Failures.{planned_failure};
+ghost use Rattle.hdfs_model.specs.Transferring.{IsTransfer, Transferred, NotTransferred};
+ghost use Rattle.hdfs_model.specs.declared.asks.LinkFault.TheVariants as link_faults;
+ghost use Rattle.hdfs_cluster.specs.Failures.{planned_failure, planned_transfer_failure};
 
 use crate::mem_cluster::MemCluster;
 use crate::mem_link::MemLink;
 use crate::read_link::MemRead;
 use crate::responding::respond;
 use crate::write_link::MemWrite;
-use hdfs_model::{Answer, Ask, AskFault, Cluster, LastAnswer, LinkFault, LinkKind, ReadAsk, Setup};
+use hdfs_model::{
+    Answer, Ask, AskFault, Cluster, LastAnswer, LinkFault, LinkKind, ReadAsk, Setup, Transfer,
+};
 use hdfs_namespace::last_answer;
 use hdfs_wire::{Ack, ChecksumInfo, NoMemory, ReadPacket, WritePacket};
 
@@ -26,8 +30,20 @@ fn failure(kind: Option<LinkKind>) -> Option<LinkFault>
     }
 }
 
+/// How a transfer fails that is planned so. No acknowledgement of it comes to be bad: the connection breaks.
+fn transfer_failure(kind: Option<LinkKind>) -> Option<LinkFault>
+    ensures { result ≡ planned_transfer_failure kind }
+{
+    match kind {
+        Some(LinkKind::Broken) => Some(LinkFault::Broken),
+        Some(LinkKind::Refused) => Some(LinkFault::Refused),
+        Some(LinkKind::BadAck) => Some(LinkFault::Broken),
+        None => None,
+    }
+}
+
 impl Cluster for MemCluster {
-    ghost use Rattle.hdfs_cluster.specs.Counting.{MemServes, CountsNothing, BeginsWithChunk, AsksOpening, AsksPacket, AsksSend, AsksSetUp, AsksAck};
+    ghost use Rattle.hdfs_cluster.specs.Counting.{MemServes, CountsNothing, BeginsWithChunk, AsksOpening, AsksPacket, AsksSend, AsksSetUp, AsksAck, AsksTransfer};
     ghost use Rattle.hdfs_cluster.specs.MemShown.{shown_of, picture_of};
     ghost use Rattle.hdfs_cluster.specs.Laws.{active_law, sound_law, writes_law};
 
@@ -186,6 +202,28 @@ impl Cluster for MemCluster {
     {
         self.faults.end(link);
         let _gone = self.links.try_remove(link as usize);
+    }
+
+    /// There is no memory for a block on a datanode that isn't there.
+    fn transfer(&mut self, transfer: &Transfer) -> Result<(), LinkFault>
+        requires { IsTransfer transfer.now }
+        ensures ok { OnOk result (Transferred (shown_of self.old) transfer.now (shown_of self.new)) }
+        ensures err { IfErr result (λ fault. NotTransferred (shown_of self.old) transfer.now fault (shown_of self.new)) }
+
+        // A fault line acts at exactly its transfer.
+        ensures asks { AsksTransfer self.old result self.new }
+        ensures kept { IfErr result (λ fault. fault ≢ link_faults.NoMemory → SamePicture (picture_of self.old) (picture_of self.new)) }
+    {
+        if let Some(fault) = transfer_failure(self.faults.next_set_up()) {
+            self.faults.transfer();
+            return Err(fault);
+        }
+        let source = transfer.source.id.datanode_uuid.as_str();
+        let targets = transfer.targets.as_slice();
+        self.nodes
+            .give(self.alloc, source, targets, transfer.block.block_id)?;
+        self.faults.transfer();
+        Ok(())
     }
 
     ghost ends_row = { λ old new link ended. ended };

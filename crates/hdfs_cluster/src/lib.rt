@@ -21,6 +21,6 @@ pub use hdfs_model::{
     Command, DatanodeId, DatanodeInfo, Entry, Fault, FaultLine, FileEntry, FileStatusMsg,
     HdfsError, LastAnswer, Line, LinkFault, LinkKind, LocatedBlock, LocatedBlocks, MemSettings,
     OpenRead, OpenWrite, ReadAsk, ReadKind, ReadPlace, Reply, ServerDefaults, Settings, Setup,
-    Stage, Store, Token, TransferFault, is_path, nearest_ancestor, parent_of,
+    Stage, Store, Token, Transfer, TransferFault, is_path, nearest_ancestor, parent_of,
 };
 pub use mem_cluster::MemCluster;

@@ -8,22 +8,27 @@ use hdfs_wire::{List, Text};
 use std::alloc::Global;
 use std::test::Fail;
 
-fn asked(cluster: &mut MemCluster, ask: &Ask) -> Result<Result<Answer, AskFault>, Fail> {
+pub(crate) fn asked(cluster: &mut MemCluster, ask: Ask) -> Result<Result<Answer, AskFault>, Fail> {
     if cluster.namenodes() == 0 {
         return Err(Fail::from("there is a namenode"));
     }
-    Ok(cluster.ask(0, ask))
+    Ok(cluster.ask(0, &ask))
 }
 
 /// The class of the exception that is answered.
-fn class(cluster: &mut MemCluster, ask: &Ask) -> Result<Text, Fail> {
+fn class(cluster: &mut MemCluster, ask: Ask) -> Result<Text, Fail> {
     match asked(cluster, ask)? {
         Err(AskFault::Exception { class, .. }) => Ok(class),
         _ => Err(Fail::from("an exception is answered")),
     }
 }
 
-fn create(alloc: Global, path: &str, create_flag: u32, create_parent: bool) -> Result<Ask, Fail> {
+pub(crate) fn create(
+    alloc: Global,
+    path: &str,
+    create_flag: u32,
+    create_parent: bool,
+) -> Result<Ask, Fail> {
     Ok(Ask::Create {
         src: Text::from_str(alloc, path)?,
         masked: 0o640,
@@ -35,7 +40,7 @@ fn create(alloc: Global, path: &str, create_flag: u32, create_parent: bool) -> R
     })
 }
 
-fn created(cluster: &mut MemCluster, ask: &Ask) -> Result<FileStatusMsg, Fail> {
+pub(crate) fn created(cluster: &mut MemCluster, ask: Ask) -> Result<FileStatusMsg, Fail> {
     match asked(cluster, ask)? {
         Ok(Answer::Create(Some(status))) => Ok(status),
         _ => Err(Fail::from("the file is created")),
@@ -50,7 +55,7 @@ fn append(alloc: Global, path: &str) -> Result<Ask, Fail> {
     })
 }
 
-fn appended(cluster: &mut MemCluster, ask: &Ask) -> Result<Appended, Fail> {
+fn appended(cluster: &mut MemCluster, ask: Ask) -> Result<Appended, Fail> {
     match asked(cluster, ask)? {
         Ok(Answer::Append(appended)) => Ok(appended),
         _ => Err(Fail::from("the file is opened")),
@@ -66,7 +71,7 @@ fn named(alloc: Global, id: u64, length: u64) -> Option<Block> {
     })
 }
 
-fn add(alloc: Global, path: &str, previous: Option<Block>) -> Result<Ask, Fail> {
+pub(crate) fn add(alloc: Global, path: &str, previous: Option<Block>) -> Result<Ask, Fail> {
     Ok(Ask::AddBlock {
         src: Text::from_str(alloc, path)?,
         client_name: Text::new(alloc),
@@ -76,7 +81,7 @@ fn add(alloc: Global, path: &str, previous: Option<Block>) -> Result<Ask, Fail> 
     })
 }
 
-fn added(cluster: &mut MemCluster, ask: &Ask) -> Result<LocatedBlock, Fail> {
+pub(crate) fn added(cluster: &mut MemCluster, ask: Ask) -> Result<LocatedBlock, Fail> {
     match asked(cluster, ask)? {
         Ok(Answer::AddBlock(block)) => Ok(block),
         _ => Err(Fail::from("a block is added")),
@@ -92,7 +97,7 @@ fn complete(alloc: Global, path: &str, last: Option<Block>) -> Result<Ask, Fail>
     })
 }
 
-fn completed(cluster: &mut MemCluster, ask: &Ask) -> Result<bool, Fail> {
+fn completed(cluster: &mut MemCluster, ask: Ask) -> Result<bool, Fail> {
     match asked(cluster, ask)? {
         Ok(Answer::Complete(done)) => Ok(done),
         _ => Err(Fail::from("the file is completed")),
@@ -109,7 +114,7 @@ pub(crate) fn located(
         offset: 0,
         length: 100,
     };
-    match asked(cluster, &ask)? {
+    match asked(cluster, ask)? {
         Ok(Answer::GetBlockLocations(Some(found))) => Ok(found),
         _ => Err(Fail::from("the file is located")),
     }
@@ -119,7 +124,7 @@ pub(crate) fn located(
 fn a_file_is_written_in_two_blocks(rt: HostRuntime) -> Result<(), Fail> {
     let alloc = rt.alloc();
     let mut cluster = MemCluster::new(alloc, MemSettings::of_scripts())?;
-    let status = created(&mut cluster, &create(alloc, "/d/f", 1, true)?)?;
+    let status = created(&mut cluster, create(alloc, "/d/f", 1, true)?)?;
     assert_eq!(rt;
         (status.file_type, status.file_id, status.permission),
         (2, Some(1), 0o640)
@@ -128,15 +133,16 @@ fn a_file_is_written_in_two_blocks(rt: HostRuntime) -> Result<(), Fail> {
 
     // The first block, which is given again while it is empty.
     for _ in 0..2 {
-        let first = added(&mut cluster, &add(alloc, "/d/f", None)?)?;
+        let first = added(&mut cluster, add(alloc, "/d/f", None)?)?;
         assert_eq!(rt; (first.b.block_id, first.b.generation_stamp), (256, 1000));
     }
     written(alloc, &mut cluster, 256)?;
-    let second = added(&mut cluster, &add(alloc, "/d/f", named(alloc, 256, 7))?)?;
+    let second = added(&mut cluster, add(alloc, "/d/f", named(alloc, 256, 7))?)?;
     assert_eq!(rt; (second.b.block_id, second.b.generation_stamp), (512, 1001));
-    let ask = complete(alloc, "/d/f", named(alloc, 512, 0))?;
-    assert!(rt; completed(&mut cluster, &ask)?);
-    assert!(rt; completed(&mut cluster, &ask)?);
+    for _ in 0..2 {
+        let closing = complete(alloc, "/d/f", named(alloc, 512, 0))?;
+        assert!(rt; completed(&mut cluster, closing)?);
+    }
     let found = located(alloc, &mut cluster, "/d/f")?;
     assert_eq!(rt; (found.file_length, found.blocks.as_slice().len()), (7, 2));
     assert_eq!(rt;
@@ -150,12 +156,12 @@ fn a_file_is_written_in_two_blocks(rt: HostRuntime) -> Result<(), Fail> {
 fn a_file_is_gone_on_with(rt: HostRuntime) -> Result<(), Fail> {
     let alloc = rt.alloc();
     let mut cluster = MemCluster::new(alloc, MemSettings::of_scripts())?;
-    let _status = created(&mut cluster, &create(alloc, "/f", 1, false)?)?;
-    let _first = added(&mut cluster, &add(alloc, "/f", None)?)?;
+    let _status = created(&mut cluster, create(alloc, "/f", 1, false)?)?;
+    let _first = added(&mut cluster, add(alloc, "/f", None)?)?;
     written(alloc, &mut cluster, 256)?;
     let closing = complete(alloc, "/f", named(alloc, 256, 7))?;
-    assert!(rt; completed(&mut cluster, &closing)?);
-    let Appended { block, stat: _ } = appended(&mut cluster, &append(alloc, "/f")?)?;
+    assert!(rt; completed(&mut cluster, closing)?);
+    let Appended { block, stat: _ } = appended(&mut cluster, append(alloc, "/f")?)?;
     let Some(block) = block else {
         return Err(Fail::from("the file has a block"));
     };
@@ -168,11 +174,11 @@ fn a_file_is_gone_on_with(rt: HostRuntime) -> Result<(), Fail> {
         (256, 7, 1001)
     );
     assert_eq!(rt;
-        class(&mut cluster, &append(alloc, "/f")?)?.as_str(),
+        class(&mut cluster, append(alloc, "/f")?)?.as_str(),
         "org.apache.hadoop.hdfs.protocol.AlreadyBeingCreatedException"
     );
-    let _over = created(&mut cluster, &create(alloc, "/f", 3, false)?)?;
-    let next = added(&mut cluster, &add(alloc, "/f", None)?)?;
+    let _over = created(&mut cluster, create(alloc, "/f", 3, false)?)?;
+    let next = added(&mut cluster, add(alloc, "/f", None)?)?;
     assert_eq!(rt; next.b.block_id, 512);
     Ok(())
 }
@@ -202,37 +208,44 @@ const APPENDS: [(&str, &str); 3] = [
 ];
 
 /// A cluster with an open file and a closed one.
-fn with_two_files(alloc: Global) -> Result<MemCluster, Fail> {
+pub(crate) fn with_two_files(alloc: Global) -> Result<MemCluster, Fail> {
     let mut cluster = MemCluster::new(alloc, MemSettings::of_scripts())?;
-    let open = created(&mut cluster, &create(alloc, "/d/open", 1, true)?)?;
-    let closed = created(&mut cluster, &create(alloc, "/d/closed", 1, false)?)?;
+    let open = created(&mut cluster, create(alloc, "/d/open", 1, true)?)?;
+    let closed = created(&mut cluster, create(alloc, "/d/closed", 1, false)?)?;
     match (open.file_id, closed.file_id) {
         (Some(1), Some(2)) => {}
         _ => return Err(Fail::from("files are numbered from 1 on")),
     }
-    if !completed(&mut cluster, &complete(alloc, "/d/closed", None)?)? {
+    if !completed(&mut cluster, complete(alloc, "/d/closed", None)?)? {
         return Err(Fail::from("a file without a block is closed"));
     }
     Ok(cluster)
 }
 
 #[test]
-fn creates_and_appends_are_refused(rt: HostRuntime) -> Result<(), Fail> {
+fn creates_are_refused(rt: HostRuntime) -> Result<(), Fail> {
     let alloc = rt.alloc();
     let mut cluster = with_two_files(alloc)?;
     for (path, flags, parents, wanted) in &CREATES {
-        let given = class(&mut cluster, &create(alloc, path, *flags, *parents)?)?;
+        let given = class(&mut cluster, create(alloc, path, *flags, *parents)?)?;
         assert_eq!(rt; given.as_str(), *wanted, "create {path}");
     }
+    Ok(())
+}
+
+#[test]
+fn appends_are_refused(rt: HostRuntime) -> Result<(), Fail> {
+    let alloc = rt.alloc();
+    let mut cluster = with_two_files(alloc)?;
     for (path, wanted) in &APPENDS {
-        let given = class(&mut cluster, &append(alloc, path)?)?;
+        let given = class(&mut cluster, append(alloc, path)?)?;
         assert_eq!(rt; given.as_str(), *wanted, "append {path}");
     }
     Ok(())
 }
 
 /// Whether an ask finds no file.
-fn strays(cluster: &mut MemCluster, ask: &Ask) -> Result<bool, Fail> {
+pub(crate) fn strays(cluster: &mut MemCluster, ask: Ask) -> Result<bool, Fail> {
     Ok(class(cluster, ask)?.as_str() == NOT_FOUND)
 }
 
@@ -240,8 +253,8 @@ fn strays(cluster: &mut MemCluster, ask: &Ask) -> Result<bool, Fail> {
 fn blocks_that_stray_find_no_file(rt: HostRuntime) -> Result<(), Fail> {
     let alloc = rt.alloc();
     let mut cluster = with_two_files(alloc)?;
-    assert!(rt; strays(&mut cluster, &add(alloc, "/d/closed", None)?)?);
-    assert!(rt; strays(&mut cluster, &add(alloc, "/d/open", named(alloc, 9, 1))?)?);
+    assert!(rt; strays(&mut cluster, add(alloc, "/d/closed", None)?)?);
+    assert!(rt; strays(&mut cluster, add(alloc, "/d/open", named(alloc, 9, 1))?)?);
     Ok(())
 }
 
@@ -249,11 +262,11 @@ fn blocks_that_stray_find_no_file(rt: HostRuntime) -> Result<(), Fail> {
 fn closes_that_stray_find_no_file(rt: HostRuntime) -> Result<(), Fail> {
     let alloc = rt.alloc();
     let mut cluster = with_two_files(alloc)?;
-    assert!(rt; strays(&mut cluster, &complete(alloc, "/e", None)?)?);
+    assert!(rt; strays(&mut cluster, complete(alloc, "/e", None)?)?);
     assert!(rt;
         strays(
             &mut cluster,
-            &complete(alloc, "/d/open", named(alloc, 9, 1))?
+            complete(alloc, "/d/open", named(alloc, 9, 1))?
         )?
     );
     Ok(())
@@ -262,7 +275,7 @@ fn closes_that_stray_find_no_file(rt: HostRuntime) -> Result<(), Fail> {
 #[test]
 fn defaults_are_answered(rt: HostRuntime) -> Result<(), Fail> {
     let mut cluster = MemCluster::new(rt.alloc(), MemSettings::of_scripts())?;
-    let defaults = asked(&mut cluster, &Ask::GetServerDefaults)?;
+    let defaults = asked(&mut cluster, Ask::GetServerDefaults)?;
     assert!(rt; matches!(defaults, Ok(Answer::GetServerDefaults(found)) if found.replication == 3));
     Ok(())
 }

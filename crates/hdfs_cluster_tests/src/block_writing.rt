@@ -23,14 +23,14 @@ fn node(alloc: Global, uuid: &str) -> Result<DatanodeId, Fail> {
     })
 }
 
-fn info(alloc: Global, uuid: &str) -> Result<DatanodeInfo, Fail> {
+pub(crate) fn info(alloc: Global, uuid: &str) -> Result<DatanodeInfo, Fail> {
     Ok(DatanodeInfo {
         id: node(alloc, uuid)?,
         location: Text::new(alloc),
     })
 }
 
-fn token(alloc: Global) -> Token {
+pub(crate) fn token(alloc: Global) -> Token {
     Token {
         identifier: Blob::new(alloc),
         password: Blob::new(alloc),
@@ -39,7 +39,7 @@ fn token(alloc: Global) -> Token {
     }
 }
 
-fn block(alloc: Global, id: u64) -> Block {
+pub(crate) fn block(alloc: Global, id: u64) -> Block {
     Block {
         pool_id: Text::new(alloc),
         block_id: id,

@@ -2,6 +2,8 @@
 #![tactic(auto)]
 
 #[cfg(test)]
+mod another_pipeline;
+#[cfg(test)]
 mod answers;
 #[cfg(test)]
 mod block_writing;
@@ -13,3 +15,5 @@ mod loading;
 mod planning;
 #[cfg(test)]
 mod short_replicas;
+#[cfg(test)]
+mod transferring;

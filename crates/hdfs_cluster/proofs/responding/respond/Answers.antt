@@ -10,8 +10,8 @@ use Rattle.hdfs_model.specs.Picture.{kinds_in}
 use Rattle.hdfs_namespace.specs.Answering.{Answers, LocatesFile, StandsForRefusal}
 use Rattle.hdfs_namespace.specs.Memory.{table_of}
 use Rattle.hdfs_cluster.specs.MemShown.{picture_at}
-use Rattle.hdfs_namespace.proofs.Answering.{answers_found, answers_excused, same_picture, shaped_found}
-use Rattle.hdfs_cluster.proofs.Written.{answers_added, answers_not_added, answers_created, answers_not_created, answers_completed, answers_not_completed}
+use Rattle.hdfs_namespace.proofs.Answering.{answers_found, answers_excused, answers_stamped, answers_not_stamped, same_picture, shaped_found}
+use Rattle.hdfs_cluster.proofs.Written.{answers_added, answers_not_added, answers_completed, answers_not_completed, same_parts}
 use Rattle.hdfs_cluster.proofs.Opening.{answers_appended, answers_not_appended}
 use Rattle.hdfs_cluster.proofs.responding.respond.Goals as goal
 
@@ -40,27 +40,6 @@ returns-in_ok-found-in-GetBlockLocations-clause-shape c =
     let found = c.in_ok-found-in-GetBlockLocations.found in
     let h = c.in_ok-found-in-GetBlockLocations.ensures in
     subst (λ (ask : Ask). IsShaped ask (answers.GetBlockLocations (Some found))) (sym e.is) (shaped_found e.src e.offset e.length found h.length h.follow)
-
-pub returns-in_err-status-in-Create-clause-answers : goal.returns-in_err-status-in-Create-clause-answers
-returns-in_err-status-in-Create-clause-answers c = λ links.
-    let config = c.args.config.now in
-    let e = c.in-Create in
-    let r = err_from_is_err_and c.from_residual-in_err-status-in-Create.result c.from_residual-in_err-status-in-Create.ensures.1 in
-    let fault = c.in_err-status-in-Create.field-0.0 in
-    let h = c.in_err-status-in-Create.ensures in
-    let q = picture_at c.create.new.self c.args.nodes.now config.settings links in
-    rw (r.1, r.2) (subst (λ (ask : Ask). Answers (picture_at c.args.space.now c.args.nodes.now config.settings links) c.args.i ask (Err fault) q) (sym e.is)
-    (answers_not_created c.args.space.now c.create.new.self c.args.nodes.now config.settings links c.args.i c.if-i-config.false c.as_str-in-Create.result.now e.src c.as_str-in-Create.ensures e.masked e.client_name e.create_flag e.create_parent e.replication e.block_size fault h.excused h.err))
-
-pub returns-in_ok-status-in-Create-clause-answers : goal.returns-in_ok-status-in-Create-clause-answers
-returns-in_ok-status-in-Create-clause-answers c = λ links.
-    let config = c.args.config.now in
-    let e = c.in-Create in
-    let h = c.in_ok-status-in-Create.ensures in
-    let status = c.in_ok-status-in-Create.status in
-    let q = picture_at c.create.new.self c.args.nodes.now config.settings links in
-    subst (λ (ask : Ask). Answers (picture_at c.args.space.now c.args.nodes.now config.settings links) c.args.i ask (Ok (answers.Create (Some status))) q) (sym e.is)
-    (answers_created c.args.space.now c.create.new.self c.args.nodes.now config.settings links c.args.i c.if-i-config.false c.as_str-in-Create.result.now e.src c.as_str-in-Create.ensures e.masked e.client_name e.create_flag e.create_parent e.replication e.block_size status h.status h.allowed h.names h.table)
 
 pub returns-in_err-complete-in-Complete-clause-answers : goal.returns-in_err-complete-in-Complete-clause-answers
 returns-in_err-complete-in-Complete-clause-answers c = λ links.
@@ -101,23 +80,46 @@ returns-in_ok-block-in-AddBlock-clause-answers c = λ links.
     subst (λ (ask : Ask). Answers (picture_at c.args.space.now c.args.nodes.now config.settings links) c.args.i ask (Ok (answers.AddBlock block)) q) (sym e.is)
     (answers_added c.args.space.now c.extend.new.self c.args.nodes.now config.settings links c.args.i c.if-i-config.false c.as_str-in-AddBlock.result.now e.src c.as_str-in-AddBlock.ensures e.client_name e.previous e.excludes e.file_id block c.in_ok-block-in-AddBlock.ensures.added)
 
-pub returns-in_err-appended-in-Append-clause-answers : goal.returns-in_err-appended-in-Append-clause-answers
-returns-in_err-appended-in-Append-clause-answers c = λ links.
+pub returns-in_err-append-in-Append-clause-answers : goal.returns-in_err-append-in-Append-clause-answers
+returns-in_err-append-in-Append-clause-answers c = λ links.
     let config = c.args.config.now in
     let e = c.in-Append in
-    let r = err_from_is_err_and c.from_residual-in_err-appended-in-Append.result c.from_residual-in_err-appended-in-Append.ensures.1 in
-    let fault = c.in_err-appended-in-Append.field-0.0 in
-    let h = c.in_err-appended-in-Append.ensures in
+    let r = err_from_is_err_and c.from_residual-in_err-append-in-Append.result c.from_residual-in_err-append-in-Append.ensures.1 in
+    let fault = c.in_err-append-in-Append.field-0.0 in
+    let h = c.in_err-append-in-Append.ensures in
     let q = picture_at c.append.new.self c.append.new.nodes config.settings links in
     rw (r.1, r.2) (subst (λ (ask : Ask). Answers (picture_at c.args.space.now c.args.nodes.now config.settings links) c.args.i ask (Err fault) q) (sym e.is)
     (answers_not_appended c.args.space.now c.append.new.self c.args.nodes.now c.append.new.nodes config.settings links c.append.ensures.same c.args.i c.if-i-config.false c.as_str-in-Append.result.now e.src c.as_str-in-Append.ensures e.client_name e.flag fault h.excused h.err))
 
-pub returns-in_ok-appended-in-Append-clause-answers : goal.returns-in_ok-appended-in-Append-clause-answers
-returns-in_ok-appended-in-Append-clause-answers c = λ links.
+pub returns-in_ok-append-in-Append-clause-answers : goal.returns-in_ok-append-in-Append-clause-answers
+returns-in_ok-append-in-Append-clause-answers c = λ links.
     let config = c.args.config.now in
     let e = c.in-Append in
-    let h = c.in_ok-appended-in-Append.ensures in
-    let appended = c.in_ok-appended-in-Append.appended in
+    let h = c.in_ok-append-in-Append.ensures in
+    let appended = c.in_ok-append-in-Append.field-0 in
     let q = picture_at c.append.new.self c.append.new.nodes config.settings links in
     subst (λ (ask : Ask). Answers (picture_at c.args.space.now c.args.nodes.now config.settings links) c.args.i ask (Ok (answers.Append appended)) q) (sym e.is)
     (answers_appended c.args.space.now c.append.new.self c.args.nodes.now c.append.new.nodes config.settings links c.append.ensures.same c.args.i c.if-i-config.false c.as_str-in-Append.result.now e.src c.as_str-in-Append.ensures e.client_name e.flag appended h.allowed h.opened h.shape)
+
+pub returns-in_err-block-in-UpdateBlockForPipeline-clause-answers : goal.returns-in_err-block-in-UpdateBlockForPipeline-clause-answers
+returns-in_err-block-in-UpdateBlockForPipeline-clause-answers c = λ links.
+    let config = c.args.config.now in
+    let e = c.in-UpdateBlockForPipeline in
+    let r = err_from_is_err_and c.from_residual-in_err-block-in-UpdateBlockForPipeline.result c.from_residual-in_err-block-in-UpdateBlockForPipeline.ensures.1 in
+    let fault = c.in_err-block-in-UpdateBlockForPipeline.field-0.0 in
+    let p = picture_at c.args.space.now c.args.nodes.now config.settings links in
+    let q = picture_at c.update_block_for_pipeline.new.self c.args.nodes.now config.settings links in
+    let same = same_parts c.args.space.now c.update_block_for_pipeline.new.self c.args.nodes.now config.settings links c.update_block_for_pipeline.ensures.same in
+    rw (r.1, r.2) (subst (λ (ask : Ask). Answers p c.args.i ask (Err fault) q) (sym e.is)
+    (answers_not_stamped p q c.args.i c.if-i-config.false e.block e.client_name fault c.in_err-block-in-UpdateBlockForPipeline.ensures.stray same))
+
+pub returns-in_ok-block-in-UpdateBlockForPipeline-clause-answers : goal.returns-in_ok-block-in-UpdateBlockForPipeline-clause-answers
+returns-in_ok-block-in-UpdateBlockForPipeline-clause-answers c = λ links.
+    let config = c.args.config.now in
+    let e = c.in-UpdateBlockForPipeline in
+    let block = c.in_ok-block-in-UpdateBlockForPipeline.block in
+    let p = picture_at c.args.space.now c.args.nodes.now config.settings links in
+    let q = picture_at c.update_block_for_pipeline.new.self c.args.nodes.now config.settings links in
+    let same = same_parts c.args.space.now c.update_block_for_pipeline.new.self c.args.nodes.now config.settings links c.update_block_for_pipeline.ensures.same in
+    subst (λ (ask : Ask). Answers p c.args.i ask (Ok (answers.UpdateBlockForPipeline block)) q) (sym e.is)
+    (answers_stamped p q c.args.i c.if-i-config.false e.block e.client_name block c.in_ok-block-in-UpdateBlockForPipeline.ensures.stamp same)
