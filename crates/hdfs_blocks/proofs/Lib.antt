@@ -12,6 +12,8 @@ pub mod Locations
 pub mod OnlyBlocks
 pub mod Prefixes
 pub mod Ranges
+pub mod Rebuilding
+pub mod Recovering
 pub mod Starting
 pub mod Taking
 mod GivingUp

@@ -4,5 +4,6 @@ pub mod Connecting
 pub mod Going
 pub mod Piped
 pub mod Reader
+pub mod Rebuilding
 pub mod Writers
 pub mod Writes
