@@ -52,6 +52,9 @@ files_of risen p q i src offset length (Ok (answers.GetServerDefaults defaults))
 files_of risen p q i src offset length (Ok (answers.Create status)) closed h = ⊎_elim (λ row. absurd row) (λ own. absurd (closed own.0)) h.2
 files_of risen p q i src offset length (Ok (answers.Append appended)) closed h = ⊎_elim (λ row. absurd row) (λ own. absurd (closed own.0)) h.2
 files_of risen p q i src offset length (Ok (answers.AddBlock block)) closed h = ⊎_elim (λ row. absurd row) (λ own. absurd (closed own.0)) h.2
+files_of risen p q i src offset length (Ok (answers.UpdateBlockForPipeline block)) closed h = ⊎_elim (λ row. absurd row) (λ own. absurd (closed own.0)) h.2
+files_of risen p q i src offset length (Ok (answers.GetAdditionalDatanode block)) closed h = ⊎_elim (λ row. absurd row) (λ own. absurd (closed own.0)) h.2
+files_of risen p q i src offset length (Ok answers.UpdatePipeline) closed h = ⊎_elim (λ row. absurd row) (λ own. absurd (closed own.0)) h.2
 files_of risen p q i src offset length (Ok (answers.Complete true)) closed h = ⊎_elim (λ row. absurd row) (λ own. absurd (closed own.0)) h.2
 files_of risen p q i src offset length (Ok (answers.Complete false)) closed h = ⊎_elim (λ own. absurd (closed own.2.0)) (λ rose. done_same p q src offset length closed rose.1) h
 files_of risen p q i src offset length (Err faults.NoMemory) closed h = done_same p q src offset length closed h.1

@@ -85,6 +85,9 @@ module _ (path client : List ℕ) (options : WriteOptions) (replication block_si
     may_be_made q (inr (inl (answers.GetServerDefaults defaults, shaped, row))) = absurd row
     may_be_made q (inr (inl (answers.Append appended, shaped, row))) = absurd row
     may_be_made q (inr (inl (answers.Complete done, shaped, row))) = absurd row
+    may_be_made q (inr (inl (answers.UpdateBlockForPipeline block, shaped, row))) = absurd row
+    may_be_made q (inr (inl (answers.GetAdditionalDatanode block, shaped, row))) = absurd row
+    may_be_made q (inr (inl (answers.UpdatePipeline, shaped, row))) = absurd row
     may_be_made q (inr (inr own)) = absurd own.0
 
     -- a file that was answered to be created is
@@ -159,6 +162,9 @@ module _ (path client : List ℕ) (flag : ℕ) where
     may_be_reopened q (inr (inl (answers.GetServerDefaults defaults, shaped, row))) = absurd row
     may_be_reopened q (inr (inl (answers.Create status, shaped, row))) = absurd row
     may_be_reopened q (inr (inl (answers.Complete done, shaped, row))) = absurd row
+    may_be_reopened q (inr (inl (answers.UpdateBlockForPipeline block, shaped, row))) = absurd row
+    may_be_reopened q (inr (inl (answers.GetAdditionalDatanode block, shaped, row))) = absurd row
+    may_be_reopened q (inr (inl (answers.UpdatePipeline, shaped, row))) = absurd row
     may_be_reopened q (inr (inr own)) = absurd own.0
 
     -- a file that was answered to be opened is

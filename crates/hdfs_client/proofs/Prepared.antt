@@ -41,6 +41,9 @@ defaults_leave risen p q (Ok (answers.GetServerDefaults defaults)) h = ⊎_elim 
 defaults_leave risen p q (Ok (answers.Create status)) h = ⊎_elim (λ row. absurd row) (λ own. absurd own.0) h.2
 defaults_leave risen p q (Ok (answers.Append appended)) h = ⊎_elim (λ row. absurd row) (λ own. absurd own.0) h.2
 defaults_leave risen p q (Ok (answers.AddBlock block)) h = ⊎_elim (λ row. absurd row) (λ own. absurd own.0) h.2
+defaults_leave risen p q (Ok (answers.UpdateBlockForPipeline block)) h = ⊎_elim (λ row. absurd row) (λ own. absurd own.0) h.2
+defaults_leave risen p q (Ok (answers.GetAdditionalDatanode block)) h = ⊎_elim (λ row. absurd row) (λ own. absurd own.0) h.2
+defaults_leave risen p q (Ok answers.UpdatePipeline) h = ⊎_elim (λ row. absurd row) (λ own. absurd own.0) h.2
 defaults_leave risen p q (Err faults.NoMemory) h = done_leaves p q h.1
 defaults_leave risen p q (Err (faults.Exception class message)) h =
     ⊎_elim (λ standby. standby.2.rest) (λ rest. ⊎_elim (λ refused. absurd refused.1) (λ more. ⊎_elim (λ own. absurd own.2.0) (λ rose. done_leaves p q rose.1) more) rest) h

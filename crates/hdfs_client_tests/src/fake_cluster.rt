@@ -6,7 +6,7 @@ ghost use Rattle.hdfs_client_tests.specs.Blocks.{IsPair};
 use bytes::Bytes;
 use hdfs_model::{
     Answer, Ask, AskFault, Block, Cluster, DatanodeId, DatanodeInfo, LastAnswer, LinkFault,
-    LocatedBlock, LocatedBlocks, OpenRead, OpenWrite, ReadAsk, Setup, Token,
+    LocatedBlock, LocatedBlocks, OpenRead, OpenWrite, ReadAsk, Setup, Token, Transfer,
 };
 use hdfs_wire::{
     Ack, Blob, ChecksumInfo, List, NoMemory, PacketHeader, ReadPacket, Text, WritePacket,
@@ -322,6 +322,11 @@ impl Cluster for FakeCluster {
 
     fn end_write(&mut self, link: u64) {
         let _ended = self.writes.try_remove(link as usize);
+    }
+
+    /// It gives no block to another datanode.
+    fn transfer(&mut self, _transfer: &Transfer) -> Result<(), LinkFault> {
+        Err(LinkFault::NoMemory)
     }
 
     ghost sound = { nothing_shown };

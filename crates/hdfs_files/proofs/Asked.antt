@@ -46,6 +46,9 @@ module _ (s t : Shown) (i : ℕ) (src client : List ℕ) (previous : Option Bloc
   may_be_added q (inr (inl (answers.GetServerDefaults defaults, shaped, row))) = absurd row
   may_be_added q (inr (inl (answers.Create status, shaped, row))) = absurd row
   may_be_added q (inr (inl (answers.Append appended, shaped, row))) = absurd row
+  may_be_added q (inr (inl (answers.UpdateBlockForPipeline block, shaped, row))) = absurd row
+  may_be_added q (inr (inl (answers.GetAdditionalDatanode block, shaped, row))) = absurd row
+  may_be_added q (inr (inl (answers.UpdatePipeline, shaped, row))) = absurd row
   may_be_added q (inr (inl (answers.Complete done, shaped, row))) = absurd row
   may_be_added q (inr (inr own)) = absurd (own.0 file is still has)
 
@@ -86,6 +89,9 @@ module _ (s t : Shown) (i : ℕ) (src client : List ℕ) (last : Option Block) (
   may_be_completed q (inr (inl (answers.GetServerDefaults defaults, shaped, row))) = absurd row
   may_be_completed q (inr (inl (answers.Create status, shaped, row))) = absurd row
   may_be_completed q (inr (inl (answers.Append appended, shaped, row))) = absurd row
+  may_be_completed q (inr (inl (answers.UpdateBlockForPipeline block, shaped, row))) = absurd row
+  may_be_completed q (inr (inl (answers.GetAdditionalDatanode block, shaped, row))) = absurd row
+  may_be_completed q (inr (inl (answers.UpdatePipeline, shaped, row))) = absurd row
   may_be_completed q (inr (inr own)) = absurd (own.0 file is ends)
 
   -- false comes only where the namenode's count has risen, and the file may be closed all the same

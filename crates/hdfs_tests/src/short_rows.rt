@@ -4,7 +4,7 @@ use hdfs_checking::{answer, expected, plain_answer, refused};
 use std::test::Fail;
 
 /// Scripts, what is written, and the status.
-const READS: [(&str, &str, u8); 5] = [
+const READS: [(&str, &str, u8); 6] = [
     (
         "file /a 644 2 8 0001020304050607\nshort /a 0 0 4\ndo read /a 0 8\n",
         "ok bytes 0001020304050607\n",
@@ -23,6 +23,11 @@ const READS: [(&str, &str, u8); 5] = [
     (
         "file /a 644 2 4 0001020304050607\nshort /a 0 0 0\nshort /a 1 1 3\ndo read /a 0 8\n",
         "ok bytes 0001020304050607\n",
+        0,
+    ),
+    (
+        "file /a 644 2 8 0001020304\nshort /a 0 0 2\ndo append /a\ndo write /a 0506\ndo close /a\ndo read /a 0 7\n",
+        "ok appended\nok written 2\nok closed\nok bytes 00010203040506\n",
         0,
     ),
     (
