@@ -1,5 +1,5 @@
--- What the operations on vectors of 64 bytes hold at each lane.
-use Rattle.std.proofs.Common.{[], map, ◌++◌, Bor, ◌≡◌, ℕ, ◌+◌, ◌*◌, ◌/◌, ◌%◌, ◌^◌, ◌<◌, ◌≤◌, List, length, get_or, replicate, inl, inr, subst, ◌-◌, refl, sym, ap, ◌∙◌, arith, w8, Fits}
+-- What the operations on vectors of 32 bytes hold at each lane.
+use Rattle.std.proofs.Common.{[], map, Bor, ◌≡◌, ℕ, ◌+◌, ◌*◌, ◌/◌, ◌%◌, ◌^◌, ◌<◌, ◌≤◌, List, length, get_or, replicate, inl, inr, subst, ◌-◌, refl, sym, ap, ◌∙◌, arith, w8, Fits}
 use Rattle.std.specs.Prelude.{bit_and, bit_xor}
 use Rattle.std.specs.Simd.Lanes.{zip2, Each1}
 use Rattle.std.proofs.lemmas.Nat.{and_mask}
@@ -19,36 +19,36 @@ use Rattle.std.proofs.Math.ListN.{get_or-map}
 use Rattle.std.proofs.lemmas.List.{length-map}
 
 -- an operator on two vectors
-pub lanes-zip2 : (f : ℕ → ℕ → ℕ) (a b : List ℕ) → length a ≡ 64 → length b ≡ 64 → HasLanes (zip2 f a b) (λ k. f (get_or a k 0) (get_or b k 0))
+pub lanes-zip2 : (f : ℕ → ℕ → ℕ) (a b : List ℕ) → length a ≡ 32 → length b ≡ 32 → HasLanes (zip2 f a b) (λ k. f (get_or a k 0) (get_or b k 0))
 lanes-zip2 f a b p q = record {
   long = length-zip2 f a b (p ∙ sym q) ∙ p;
   each = λ k l. get_or-zip2 f a b k 0 0 0 (omega arith) (omega arith);
 }
 
 -- an operator on a vector and a splat
-lanes-splat : (f : ℕ → ℕ → ℕ) (a : List ℕ) (x : ℕ) → length a ≡ 64 → HasLanes (zip2 f a (replicate 64 x)) (λ k. f (get_or a k 0) x)
+lanes-splat : (f : ℕ → ℕ → ℕ) (a : List ℕ) (x : ℕ) → length a ≡ 32 → HasLanes (zip2 f a (replicate 32 x)) (λ k. f (get_or a k 0) x)
 lanes-splat f a x p =
-    let h = lanes-zip2 f a (replicate 64 x) p refl in
-    record { long = h.long; each = λ k l. h.each k l ∙ ap (f (get_or a k 0)) (get_or-replicate 64 k x 0 l) }
+    let h = lanes-zip2 f a (replicate 32 x) p refl in
+    record { long = h.long; each = λ k l. h.each k l ∙ ap (f (get_or a k 0)) (get_or-replicate 32 k x 0 l) }
 
 -- the low half of each byte, and the high half
-pub lanes-low : (v : List ℕ) → length v ≡ 64 → HasLanes (zip2 bit_and v (replicate 64 15)) (λ k. get_or v k 0 % 16)
+pub lanes-low : (v : List ℕ) → length v ≡ 32 → HasLanes (zip2 bit_and v (replicate 32 15)) (λ k. get_or v k 0 % 16)
 lanes-low v long =
     let h = lanes-splat bit_and v 15 long in
     record { long = h.long; each = λ k l. h.each k l ∙ and_mask (get_or v k 0) 4 }
 
-pub lanes-high : (v : List ℕ) → length v ≡ 64 → HasLanes (zip2 (λ a b. a / 2 ^ b) v (replicate 64 4)) (λ k. get_or v k 0 / 16)
+pub lanes-high : (v : List ℕ) → length v ≡ 32 → HasLanes (zip2 (λ a b. a / 2 ^ b) v (replicate 32 4)) (λ k. get_or v k 0 / 16)
 lanes-high v long = lanes-splat (λ a b. a / 2 ^ b) v 4 long
 
-pub high-lt : (v : List ℕ) → length v ≡ 64 → Each1 (Fits w8) v → (k : ℕ) → k < 64 → get_or v k 0 / 16 < 16
+pub high-lt : (v : List ℕ) → length v ≡ 32 → Each1 (Fits w8) v → (k : ℕ) → k < 32 → get_or v k 0 / 16 < 16
 high-lt v long fits k l = omega (arith, (Each1-get_or (Fits w8) v k 0 (omega arith) fits).fits)
 
-module _ (js : List ℕ) (f : ℕ → ℕ) (h : HasLanes js f) (small : (k : ℕ) → k < 64 → f k < 16) where
+module _ (js : List ℕ) (f : ℕ → ℕ) (h : HasLanes js f) (small : (k : ℕ) → k < 32 → f k < 16) where
   -- positions below 16 may be looked up
-  pub positions_fit : SwzOk w8 16 64 0 js
+  pub positions_fit : SwzOk w8 16 32 0 js
   positions_fit =
       let long = h.long in
-      SwzOk-from_below w8 16 4 64 0 js refl (omega arith) (Each1-from_get_or (λ j. j < 16) js 0 (λ i l. omega (arith, h.each i (omega arith), small i (omega arith))))
+      SwzOk-from_below w8 16 2 32 0 js refl (omega arith) (Each1-from_get_or (λ j. j < 16) js 0 (λ i l. omega (arith, h.each i (omega arith), small i (omega arith))))
 
   looked_up_in_halves : (table : List ℕ) → HasLanes (swz_l w8 16 table 0 js) (λ k. get_or table (16 * (k / 16) + f k) 0)
   looked_up_in_halves table =
@@ -77,11 +77,11 @@ sum_byte c x y left right =
     sym (sum-value (element x) (gf256.product c (element y)) ∙ ap (bit_xor (x % 256)) (product-value c (element y))
     ∙ ap (λ (n : ℕ). bit_xor n (product c.value (y % 256))) (mod-eq_of_lt left) ∙ ap (λ (n : ℕ). bit_xor x (product c.value n)) (mod-eq_of_lt right))
 
--- after a vector of sums from i on, 64 more bytes are added up
-pub added_vector : (c : GF256) (input base old front products : List ℕ) (i : ℕ) → AddedBelow c input base old i → i + 64 ≤ length old
+-- after a vector of sums from i on, 32 more bytes are added up
+pub added_vector : (c : GF256) (input base old front products : List ℕ) (i : ℕ) → AddedBelow c input base old i → i + 32 ≤ length old
     → ((k : ℕ) → get_or old k 0 < 256) → ((k : ℕ) → get_or input k 0 < 256)
     → HasLanes front (λ k. get_or old (i + k) 0) → HasLanes products (λ k. product c.value (get_or input (i + k) 0))
-    → AddedBelow c input base (put_chunk i old (zip2 bit_xor front products)) (i + 64)
+    → AddedBelow c input base (put_chunk i old (zip2 bit_xor front products)) (i + 32)
 added_vector c input base old front products i h room old_bytes bytes fronts times =
     let sums = lanes-zip2 bit_xor front products fronts.long times.long in
     let long = sums.long in
@@ -93,7 +93,7 @@ added_vector c input base old front products i h room old_bytes bytes fronts tim
         | inr le ↦
             let j = k - i in
             let at : i + j ≡ k = omega arith in
-            let within : j < 64 = omega arith in
+            let within : j < 32 = omega arith in
             let P : ℕ → Type 0 = λ n. get_or (put_chunk i old ys) n 0 ≡ added_at c input base n in
             subst P at (
             get_or-put_chunk_at i old ys j 0 (omega arith) (omega arith) ∙ sums.each j within
@@ -106,9 +106,9 @@ added_vector c input base old front products i h room old_bytes bytes fronts tim
 
 module _ (m : List (List GF256)) (shards : List (List ℕ)) (r i : ℕ) where
   -- no term yet
-  pub combined_lanes_none : HasLanes (replicate 64 0) (λ k. (combined_below m shards r 0 (i + k)).value)
+  pub combined_lanes_none : HasLanes (replicate 32 0) (λ k. (combined_below m shards r 0 (i + k)).value)
   unfolding total
-  combined_lanes_none = record { long = refl; each = λ k l. get_or-replicate 64 k 0 0 l }
+  combined_lanes_none = record { long = refl; each = λ k l. get_or-replicate 32 k 0 0 l }
 
   -- one term more
   pub combined_lanes_more : (n : ℕ) (sums products input : List ℕ) → ((k : ℕ) → get_or input k 0 < 256) → input ≡ get_or shards n []
@@ -131,8 +131,8 @@ module _ (m : List (List GF256)) (shards : List (List ℕ)) (r i : ℕ) where
       }
 
 -- a vector of bytes more, written behind the first ones
-pub first_vector : (m : List (List GF256)) (shards : List (List ℕ)) (r n i : ℕ) (bytes ys : List ℕ) → i + 64 ≤ length bytes → AreFirst m shards r n i bytes
-    → HasLanes ys (λ k. (combined_below m shards r n (i + k)).value) → AreFirst m shards r n (i + 64) (put_chunk i bytes ys)
+pub first_vector : (m : List (List GF256)) (shards : List (List ℕ)) (r n i : ℕ) (bytes ys : List ℕ) → i + 32 ≤ length bytes → AreFirst m shards r n i bytes
+    → HasLanes ys (λ k. (combined_below m shards r n (i + k)).value) → AreFirst m shards r n (i + 32) (put_chunk i bytes ys)
 first_vector m shards r n i bytes ys room h lanes =
     let long = lanes.long in
     record {
@@ -141,7 +141,7 @@ first_vector m shards r n i bytes ys room h lanes =
         | inr le ↦
             let k = q - i in
             let at : i + k ≡ q = omega arith in
-            let within : k < 64 = omega arith in
+            let within : k < 32 = omega arith in
             let P : ℕ → Type 0 = λ p. get_or (put_chunk i bytes ys) p 0 ≡ (combined_below m shards r n p).value in
             subst P at (get_or-put_chunk_at i bytes ys k 0 (omega arith) (omega arith) ∙ lanes.each k within)
       ];

@@ -1,19 +1,19 @@
--- Vectors of 64 bytes, lane by lane. No public clause cites this module.
+-- Vectors of 32 bytes, lane by lane. No public clause cites this module.
 use Rattle.std.specs.Prelude.{◌≡◌, ℕ, ◌%◌, ◌<◌, List, [], length, slice_index, slice_index_or}
 use Rattle.hdfs_field.specs.declared.gf256.GF256.{GF256}
 use Rattle.hdfs_field.specs.Elements.{product, gf256}
 use Rattle.hdfs_field.specs.Matrices.{entry}
 
--- v has 64 lanes, and lane k holds f k
+-- v has 32 lanes, and lane k holds f k
 pub record HasLanes (v : List ℕ) (f : ℕ → ℕ) : Type 0 where
-  pub long : length v ≡ 64
-  pub each : (k : ℕ) → k < 64 → slice_index v k ≡ f k
+  pub long : length v ≡ 32
+  pub each : (k : ℕ) → k < 32 → slice_index v k ≡ f k
 
 -- the products of c with the first sixteen elements
 abbrev pub AreEntries : ℕ → List ℕ → Type 0
 AreEntries c table = (i : ℕ) → i < 16 → slice_index table i ≡ product c i
 
--- the products of c with the first sixteen elements, four times over
+-- the products of c with the first sixteen elements, twice over
 abbrev pub AreProducts : ℕ → List ℕ → Type 0
 AreProducts c table = HasLanes table (λ k. product c (k % 16))
 

@@ -1,5 +1,5 @@
 //! A multiple of a slice of bytes, added to another slice. A byte is the sum of its two halves, so its product with an element is the
-//! sum of two products, which are looked up in two tables of sixteen, in vectors of 64 bytes.
+//! sum of two products, which are looked up in two tables of sixteen, in vectors of 32 bytes.
 
 ghost use Rattle.std.specs.Prelude.{List, [], map, slice_index_or, ◌≡◌, ℕ, ◌+◌, ◌%◌, ◌/◌, ◌<◌, ◌≤◌, length, slice_index};
 ghost use Rattle.hdfs_field.specs.declared.gf256.GF256.{GF256};
@@ -12,7 +12,7 @@ use crate::gf256::residues::{product, shifted};
 use std::simd::prelude::*;
 
 /// The bytes of a vector.
-pub(crate) const LANES: usize = 64;
+pub(crate) const LANES: usize = 32;
 
 /// The products of an element with the first sixteen elements.
 fn products(c: u8) -> [u8; 16]
@@ -26,37 +26,36 @@ fn products(c: u8) -> [u8; 16]
     table
 }
 
-/// The same table four times over.
+/// The same table twice over.
 #[inline(always)]
-fn four_times(table: u8x16) -> u8x64
+fn twice(table: u8x16) -> u8x32
     ensures { (c : ℕ) → AreEntries c table → AreProducts c result }
 {
     table.swizzle([
         0, 1, 2, 3, 4, 5, 6, 7, 8, 9, 10, 11, 12, 13, 14, 15, 0, 1, 2, 3, 4, 5, 6, 7, 8, 9, 10, 11,
-        12, 13, 14, 15, 0, 1, 2, 3, 4, 5, 6, 7, 8, 9, 10, 11, 12, 13, 14, 15, 0, 1, 2, 3, 4, 5, 6,
-        7, 8, 9, 10, 11, 12, 13, 14, 15,
+        12, 13, 14, 15,
     ])
 }
 
 /// The entries of a table at the low half of each byte.
 #[inline(always)]
-fn at_low_halves(table: u8x64, bytes: u8x64) -> u8x64
+fn at_low_halves(table: u8x32, bytes: u8x32) -> u8x32
     ensures { (entry : ℕ → ℕ) → HasLanes table (λ k. entry (k % 16)) → HasLanes result (λ k. entry (slice_index bytes k % 16)) }
 {
-    table.swizzle_dyn_within::<16>(bytes & u8x64::splat(15))
+    table.swizzle_dyn_within::<16>(bytes & u8x32::splat(15))
 }
 
 /// The entries of a table at the high half of each byte.
 #[inline(always)]
-fn at_high_halves(table: u8x64, bytes: u8x64) -> u8x64
+fn at_high_halves(table: u8x32, bytes: u8x32) -> u8x32
     ensures { (entry : ℕ → ℕ) → HasLanes table (λ k. entry (k % 16)) → HasLanes result (λ k. entry (slice_index bytes k / 16)) }
 {
-    table.swizzle_dyn_within::<16>(bytes >> u8x64::splat(4))
+    table.swizzle_dyn_within::<16>(bytes >> u8x32::splat(4))
 }
 
 /// The product of an element with each byte, by its products with the low and the high halves.
 #[inline(always)]
-fn times(low: u8x64, high: u8x64, bytes: u8x64) -> u8x64
+fn times(low: u8x32, high: u8x32, bytes: u8x32) -> u8x32
     ensures { (c : ℕ) → c < 256 → AreProducts c low → AreProducts (product c 16) high
         → HasLanes result (λ k. product c (slice_index bytes k)) }
 {
@@ -75,17 +74,17 @@ pub(crate) fn tables(c: u8) -> (u8x16, u8x16)
 
 /// The bytes from `i` on, as many as a vector has.
 #[inline(always)]
-fn load(bytes: &[u8], i: usize) -> u8x64
+fn load(bytes: &[u8], i: usize) -> u8x32
     requires { i + LANES ≤ length bytes.now }
     ensures lanes { HasLanes result (λ k. slice_index bytes.now (i + k)) }
     ensures bytes { (k : ℕ) → slice_index bytes.now k < 256 }
 {
-    u8x64::from_slice(&bytes[i..])
+    u8x32::from_slice(&bytes[i..])
 }
 
 /// Writes a vector over the bytes from `i` on.
 #[inline(always)]
-pub(crate) fn store(out: &mut [u8], i: usize, vector: u8x64)
+pub(crate) fn store(out: &mut [u8], i: usize, vector: u8x32)
     requires { i + LANES ≤ length out.old }
     ensures long { length out.new ≡ length out.old }
     ensures first { (m : List (List GF256)) (shards : List (List ℕ)) (r n : ℕ) → AreFirst m shards r n i out.old
@@ -96,7 +95,7 @@ pub(crate) fn store(out: &mut [u8], i: usize, vector: u8x64)
 
 /// Adds the products of the bytes from `i` on, as many as a vector has.
 #[inline(always)]
-fn add_vector(out: &mut [u8], input: &[u8], i: usize, low: u8x64, high: u8x64)
+fn add_vector(out: &mut [u8], input: &[u8], i: usize, low: u8x32, high: u8x32)
     requires out { i + LANES ≤ length out.old }
     requires input { i + LANES ≤ length input.now }
     ensures { (c : GF256) (base : List ℕ) → AreProducts c.value low → AreProducts (product c.value 16) high
@@ -113,8 +112,8 @@ pub fn mul_add(out: &mut [u8], input: &[u8], c: GF256)
     ensures { IsAdded c input.now out.old out.new }
 {
     let (low, high) = tables(c.value);
-    let low = four_times(low);
-    let high = four_times(high);
+    let low = twice(low);
+    let high = twice(high);
     let mut i = 0;
     'vectors: while i + LANES <= out.len() {
         add_vector(out, input, i, low, high);
@@ -127,16 +126,16 @@ pub fn mul_add(out: &mut [u8], input: &[u8], c: GF256)
 
 /// Row `r` of a matrix, by its tables, times the slices at the places from `i` on, as many as a vector has.
 #[inline(always)]
-pub(crate) fn combined_vector(tables: &[(u8x16, u8x16)], inputs: &[&[u8]], i: usize) -> u8x64
+pub(crate) fn combined_vector(tables: &[(u8x16, u8x16)], inputs: &[&[u8]], i: usize) -> u8x32
     requires count { length tables.now ≡ length inputs.now }
     requires room { (c : ℕ) → c < length inputs.now → i + LANES ≤ length (slice_index_or (map (λ p. p.now) inputs.now) c []) }
     ensures { (m : List (List GF256)) (r : ℕ) → AreRowTables m r (length inputs.now) tables.now
         → HasLanes result (λ k. (combined_below m (map (λ p. p.now) inputs.now) r (length inputs.now) (i + k)).value) }
 {
-    let mut sum = u8x64::splat(0);
+    let mut sum = u8x32::splat(0);
     for c in 0..inputs.len() {
         let (low, high) = tables[c];
-        sum = sum ^ times(four_times(low), four_times(high), load(inputs[c], i));
+        sum = sum ^ times(twice(low), twice(high), load(inputs[c], i));
     }
     sum
 }
@@ -149,7 +148,7 @@ pub(crate) fn combined_vectors(
     others: &[(u8x16, u8x16)],
     inputs: &[&[u8]],
     i: usize,
-) -> (u8x64, u8x64)
+) -> (u8x32, u8x32)
     requires count { length tables.now ≡ length inputs.now }
     requires others { length others.now ≡ length inputs.now }
     requires room { (c : ℕ) → c < length inputs.now → i + LANES ≤ length (slice_index_or (map (λ p. p.now) inputs.now) c []) }
@@ -158,14 +157,14 @@ pub(crate) fn combined_vectors(
     ensures second { (m : List (List GF256)) (r : ℕ) → AreRowTables m r (length inputs.now) others.now
         → HasLanes result.1 (λ k. (combined_below m (map (λ p. p.now) inputs.now) r (length inputs.now) (i + k)).value) }
 {
-    let mut first = u8x64::splat(0);
-    let mut second = u8x64::splat(0);
+    let mut first = u8x32::splat(0);
+    let mut second = u8x32::splat(0);
     for c in 0..inputs.len() {
         let bytes = load(inputs[c], i);
         let (low, high) = tables[c];
         let (other_low, other_high) = others[c];
-        first = first ^ times(four_times(low), four_times(high), bytes);
-        second = second ^ times(four_times(other_low), four_times(other_high), bytes);
+        first = first ^ times(twice(low), twice(high), bytes);
+        second = second ^ times(twice(other_low), twice(other_high), bytes);
     }
     (first, second)
 }

@@ -8,7 +8,7 @@ use Rattle.hdfs_field.proofs.LaneLemmas.{combined_lanes_none, combined_lanes_mor
 use Rattle.hdfs_field.proofs.kernel.combined_vector.Goals as goal
 
 pub load-requires : goal.load-requires
-load-requires c = subst (λ (s : List ℕ). c.args.i + 64 ≤ length s) (slice_at c.args.inputs.now c.loop-c.c) (c.requires.room c.loop-c.c c.loop-c-test.true)
+load-requires c = subst (λ (s : List ℕ). c.args.i + 32 ≤ length s) (slice_at c.args.inputs.now c.loop-c.c) (c.requires.room c.loop-c.c c.loop-c-test.true)
 
 pub loop-c-init : goal.loop-c-init
 loop-c-init c = λ m r tables. combined_lanes_none m (map (λ p. p.now) c.args.inputs.now) r c.args.i
@@ -17,7 +17,7 @@ pub loop-c-preserved : goal.loop-c-preserved
 loop-c-preserved c = λ m r tables.
     let e = entry gf256 m r c.loop-c.c in
     let lt = c.loop-c-test.true in
-    let times = c.times-sum.ensures e.value e.in_range (c.four_times.ensures e.value (tables.low c.loop-c.c lt)) (c.four_times-in-loop-c.ensures (product e.value 16) (tables.high c.loop-c.c lt)) in
+    let times = c.times-sum.ensures e.value e.in_range (c.twice.ensures e.value (tables.low c.loop-c.c lt)) (c.twice-in-loop-c.ensures (product e.value 16) (tables.high c.loop-c.c lt)) in
     let read = c.load.ensures.lanes in
     let input = (get_or c.args.inputs.now c.loop-c.c (record { ref_ptr = (0, 0); now = [] })).now in
     let products : HasLanes c.times-sum.result (λ k. product e.value (get_or input (c.args.i + k) 0))

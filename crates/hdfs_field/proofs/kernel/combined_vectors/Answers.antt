@@ -7,7 +7,7 @@ use Rattle.hdfs_field.proofs.LaneLemmas.{combined_lanes_none, combined_lanes_mor
 use Rattle.hdfs_field.proofs.kernel.combined_vectors.Goals as goal
 
 pub load-bytes-requires : goal.load-bytes-requires
-load-bytes-requires c = subst (λ (s : List ℕ). c.args.i + 64 ≤ length s) (slice_at c.args.inputs.now c.loop-c.c) (c.requires.room c.loop-c.c c.loop-c-test.true)
+load-bytes-requires c = subst (λ (s : List ℕ). c.args.i + 32 ≤ length s) (slice_at c.args.inputs.now c.loop-c.c) (c.requires.room c.loop-c.c c.loop-c-test.true)
 
 pub loop-c-init : goal.loop-c-init
 loop-c-init c = record {
@@ -24,14 +24,14 @@ loop-c-preserved c =
     record {
       first = λ m r tables.
           let e = entry gf256 m r c.loop-c.c in
-          let times = c.times-first.ensures e.value e.in_range (c.four_times.ensures e.value (tables.low c.loop-c.c lt)) (c.four_times-in-loop-c.ensures (product e.value 16) (tables.high c.loop-c.c lt)) in
+          let times = c.times-first.ensures e.value e.in_range (c.twice.ensures e.value (tables.low c.loop-c.c lt)) (c.twice-in-loop-c.ensures (product e.value 16) (tables.high c.loop-c.c lt)) in
           let products : HasLanes c.times-first.result (λ k. product e.value (get_or input (c.args.i + k) 0))
           = record { long = times.long; each = λ k l. times.each k l ∙ ap (product e.value) (read.each k l) } in
           combined_lanes_more m shards r c.args.i c.loop-c.c c.loop-c.first c.times-first.result input c.load-bytes.ensures.bytes
           (sym (slice_at c.args.inputs.now c.loop-c.c)) (c.loop-c.invariant.first m r tables) products;
       second = λ m r tables.
           let e = entry gf256 m r c.loop-c.c in
-          let times = c.times-second.ensures e.value e.in_range (c.four_times-in-loop-c-2.ensures e.value (tables.low c.loop-c.c lt)) (c.four_times-in-loop-c-3.ensures (product e.value 16) (tables.high c.loop-c.c lt)) in
+          let times = c.times-second.ensures e.value e.in_range (c.twice-in-loop-c-2.ensures e.value (tables.low c.loop-c.c lt)) (c.twice-in-loop-c-3.ensures (product e.value 16) (tables.high c.loop-c.c lt)) in
           let products : HasLanes c.times-second.result (λ k. product e.value (get_or input (c.args.i + k) 0))
           = record { long = times.long; each = λ k l. times.each k l ∙ ap (product e.value) (read.each k l) } in
           combined_lanes_more m shards r c.args.i c.loop-c.c c.loop-c.second c.times-second.result input c.load-bytes.ensures.bytes

@@ -9,7 +9,7 @@ vectors-init c = record { within = omega arith; added = added_none c.args.c c.ar
 pub vectors-preserved : goal.vectors-preserved
 vectors-preserved c = record {
   within = omega arith;
-  added = c.add_vector.ensures c.args.c c.args.out.now (c.four_times-low.ensures c.args.c.value c.tables.ensures.low) (c.four_times-high.ensures (product c.args.c.value 16) c.tables.ensures.high) c.vectors.invariant.added;
+  added = c.add_vector.ensures c.args.c c.args.out.now (c.twice-low.ensures c.args.c.value c.tables.ensures.low) (c.twice-high.ensures (product c.args.c.value 16) c.tables.ensures.high) c.vectors.invariant.added;
 }
 
 pub bytes-preserved : goal.bytes-preserved

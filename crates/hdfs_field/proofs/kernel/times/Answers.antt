@@ -11,7 +11,7 @@ returns c = λ e small low high.
     let lows = c.at_low_halves.ensures (product e) low in
     let highs = c.at_high_halves.ensures (product (product e 16)) high in
     let both = lanes-zip2 bit_xor c.at_low_halves.result c.at_high_halves.result lows.long highs.long in
-    let long : length c.args.bytes ≡ 64 = c.fits-bytes.0 in
+    let long : length c.args.bytes ≡ 32 = c.fits-bytes.0 in
     record {
       long = both.long;
       each = λ k l.

@@ -21,6 +21,6 @@ vectors-preserved c =
     record {
       within = omega arith;
       long = ap length whole ∙ c.store.ensures.long ∙ ap length value ∙ c.vectors.invariant.long;
-      first = subst (AreFirst m shards c.args.r n (c.vectors.i + 64)) (sym whole)
+      first = subst (AreFirst m shards c.args.r n (c.vectors.i + 32)) (sym whole)
           (c.store.ensures.first m shards c.args.r n (subst (AreFirst m shards c.args.r n c.vectors.i) (sym value) c.vectors.invariant.first) lanes);
     }

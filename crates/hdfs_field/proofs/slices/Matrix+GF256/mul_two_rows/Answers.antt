@@ -28,9 +28,9 @@ vectors-preserved c =
     record {
       within = omega arith;
       long = ap length whole ∙ c.store.ensures.long ∙ ap length value ∙ c.vectors.invariant.long;
-      first = subst (AreFirst m shards c.args.r n (c.vectors.i + 64)) (sym whole)
+      first = subst (AreFirst m shards c.args.r n (c.vectors.i + 32)) (sym whole)
           (c.store.ensures.first m shards c.args.r n (subst (AreFirst m shards c.args.r n c.vectors.i) (sym value) c.vectors.invariant.first) lanes);
       other_long = ap length other_whole ∙ c.store-in-vectors.ensures.long ∙ ap length other_value ∙ c.vectors.invariant.other_long;
-      second = subst (AreFirst m shards c.args.next n (c.vectors.i + 64)) (sym other_whole)
+      second = subst (AreFirst m shards c.args.next n (c.vectors.i + 32)) (sym other_whole)
           (c.store-in-vectors.ensures.first m shards c.args.next n (subst (AreFirst m shards c.args.next n c.vectors.i) (sym other_value) c.vectors.invariant.second) other_lanes);
     }
