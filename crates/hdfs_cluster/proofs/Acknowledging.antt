@@ -32,6 +32,7 @@ use Rattle.hdfs_cluster.specs.MemShown.{picture_at, counts_of}
 use Rattle.hdfs_cluster.specs.Telling.{failures}
 use Rattle.hdfs_cluster.specs.Writes.{told_at, told_of, place_at, place_of, disturbed_at}
 use Rattle.hdfs_cluster.proofs.Places.{slot_stays, no_read, no_read_place}
+use Rattle.hdfs_cluster.proofs.Counting.{falls_beside}
 use Rattle.hdfs_cluster.proofs.Stills.{shown_at}
 use Rattle.hdfs_cluster.proofs.Telling.{failed_status}
 
@@ -61,12 +62,12 @@ pub awaited_on : (o : MemLink) (write : OpenWrite) → write_told (Some o) ≡ S
 awaited_on (links.Write v) write is some = awaited v write (write_told (Some (links.Write v))) refl is some
 awaited_on (links.Read v) write is some = absurd (cc)
 
-module _ (space : Namespace) (settings : MemSettings) (last : LastAnswer) (loaded : List Line) (faults faults' : FaultPlan) (fall : NeverFall (counts_of faults) (counts_of faults')) (nodes : Datanodes) (s s' : Slab MemLink) (link : ℕ) (slot : Option MemLink) (there : IsSome (write_told (slab.get s link))) (updates : Updates s s' link slot) (told_none : read_told slot ≡ None) (place_none : read_place slot ≡ None) where
+module _ (space : Namespace) (settings : MemSettings) (last : LastAnswer) (failures : ℕ) (loaded : List Line) (faults faults' : FaultPlan) (fall : NeverFall (counts_of faults) (counts_of faults')) (nodes : Datanodes) (s s' : Slab MemLink) (link : ℕ) (slot : Option MemLink) (there : IsSome (write_told (slab.get s link))) (updates : Updates s s' link slot) (told_none : read_told slot ≡ None) (place_none : read_place slot ≡ None) where
   abbrev old : Shown
-  old = shown_at space settings last loaded faults nodes s
+  old = shown_at space settings last failures loaded faults nodes s
 
   abbrev new : Shown
-  new = shown_at space settings last loaded faults' nodes s'
+  new = shown_at space settings last failures loaded faults' nodes s'
 
   abbrev p : Picture
   p = picture_at space nodes settings s
@@ -85,7 +86,7 @@ module _ (space : Namespace) (settings : MemSettings) (last : LastAnswer) (loade
   quiet_link : WritesLink link old new
   quiet_link = record {
     only = record {
-      later = record { counts = fall; namenodes = refl; loaded = refl };
+      later = record { counts = falls_beside settings failures faults faults' fall; namenodes = refl; loaded = refl };
       last = refl;
       calls = λ i. refl;
       reads = slot_stays (λ l. read_told) s s' link (slab.get s link) slot refl updates (told_none ∙ sym (no_read (slab.get s link) there));
@@ -261,24 +262,24 @@ module _ (link : ℕ) (ack : Ack) (faults faults' : FaultPlan) (v w : MemWrite) 
       at_least zero apart = absurd (apart refl)
       at_least (suc n) apart = omega arith
 
-module _ (space : Namespace) (settings : MemSettings) (last : LastAnswer) (loaded : List Line) (faults faults' : FaultPlan) (nodes : Datanodes) (s s' : Slab MemLink) (link : ℕ) (ack : Ack) where
+module _ (space : Namespace) (settings : MemSettings) (last : LastAnswer) (failures : ℕ) (loaded : List Line) (faults faults' : FaultPlan) (nodes : Datanodes) (s s' : Slab MemLink) (link : ℕ) (ack : Ack) where
   by_bad : (v w : MemWrite) → slab.get s link ≡ Some (links.Write v) → Updates s s' link (Some (links.Write w)) → (h : AckedOn link ack faults faults' v w) → v.acknowledged < length v.sent.items
-      → (b : Bool) → h.bad ≡ b → Acknowledged (shown_at space settings last loaded faults nodes s) link ack (shown_at space settings last loaded faults' nodes s')
+      → (b : Bool) → h.bad ≡ b → Acknowledged (shown_at space settings last failures loaded faults nodes s) link ack (shown_at space settings last failures loaded faults' nodes s')
   by_bad v w was updates h due false is =
       let d : Outgoing = one_of v.sent.items (omega arith) in
       let taken = h.seqno.taken is in
-      acknowledged_due space settings last loaded faults faults' (acked_falls link ack faults faults' v w h) nodes s s' link (Some (links.Write w)) (ap is_some (ap write_told was)) updates refl refl
+      acknowledged_due space settings last failures loaded faults faults' (acked_falls link ack faults faults' v w h) nodes s s' link (Some (links.Write w)) (ap is_some (ap write_told was)) updates refl refl
       v w ack d was refl h.seqno.setup h.seqno.base h.seqno.sent h.responses due (acked_replies link ack faults faults' v w h) (acked_failed link ack faults faults' v w h) (taken.0 d) taken.1
   by_bad v w was updates h due true is =
       let d : Outgoing = one_of v.sent.items (omega arith) in
       let left = h.seqno.left is in
       let rose : Rose (link_faults_of faults) (link_faults_of faults') = omega (arith, acked_links link ack faults faults' v w h, ap one_if is) in
-      acknowledged_bad space settings last loaded faults faults' (acked_falls link ack faults faults' v w h) nodes s s' link (Some (links.Write w)) (ap is_some (ap write_told was)) updates refl refl
+      acknowledged_bad space settings last failures loaded faults faults' (acked_falls link ack faults faults' v w h) nodes s s' link (Some (links.Write w)) (ap is_some (ap write_told was)) updates refl refl
       v w ack d was refl h.seqno.setup h.seqno.base h.seqno.sent h.responses due (acked_replies link ack faults faults' v w h) (acked_failed link ack faults faults' v w h) left.0 left.1 rose
 
   -- an acknowledgement came on a slot
   pub acknowledged_on : (o o' : MemLink) → slab.get s link ≡ Some o → Updates s s' link (Some o') → OnWrites (AckedOn link ack faults faults') o o' → ((v : MemWrite) → o ≡ links.Write v → v.acknowledged < length v.sent.items)
-      → Acknowledged (shown_at space settings last loaded faults nodes s) link ack (shown_at space settings last loaded faults' nodes s')
+      → Acknowledged (shown_at space settings last failures loaded faults nodes s) link ack (shown_at space settings last failures loaded faults' nodes s')
   acknowledged_on (links.Write v) (links.Write w) was updates h waits = by_bad v w was updates h (waits v refl) h.bad refl
   acknowledged_on (links.Write v) (links.Read w) was updates h waits = absurd h
   acknowledged_on (links.Read v) (links.Read w) was updates h waits = absurd h

@@ -40,7 +40,7 @@ use Rattle.hdfs_replicas.specs.Nodes.{SameNodes, node_at}
 use Rattle.hdfs_cluster.specs.Telling.{TellsAll, times}
 use Rattle.hdfs_cluster.specs.Writes.{told_of}
 use Rattle.hdfs_cluster.proofs.Acknowledging.{acked_falls, acked_links, acked_nodes, acked_replies, one_of, rest_due}
-use Rattle.hdfs_cluster.proofs.Counting.{at_once, calls_node, calls_nothing, falls_counts, falls_same, nodes_stay, one_more}
+use Rattle.hdfs_cluster.proofs.Counting.{SameCalls, at_once, calls_node, calls_nothing, falls_counts, falls_same, nodes_stay, one_more}
 use Rattle.hdfs_cluster.proofs.Earlier.{written_earlier}
 
 -- what a packet that was sent counts, whether it broke or not
@@ -240,9 +240,9 @@ asks_ack_on m m' link ack (links.Read v) (links.Read w) was h rest waits = absur
 asks_ack_on m m' link ack (links.Read v) (links.Write w) was h rest waits = absurd h
 
 -- a link was ended
-pub counts_end : (m m' : MemCluster) (link : ℕ) → Forgets m.faults link m'.faults → slab.Updates m.links m'.links link None → m'.nodes ≡ m.nodes → CountsNothing m m'
-counts_end m m' link forgets updates same = record {
-  counts = record { calls = λ i. refl; links = forgets.faults; nodes = forgets.nodes };
+pub counts_end : (m m' : MemCluster) (link : ℕ) → Forgets m.faults link m'.faults → slab.Updates m.links m'.links link None → m'.nodes ≡ m.nodes → SameCalls m m' → CountsNothing m m'
+counts_end m m' link forgets updates same asked = record {
+  counts = record { calls = asked; links = forgets.faults; nodes = forgets.nodes };
   calls = forgets.calls;
   bad = λ l shown. still_bad (is_bad m.faults l) (eqb link l) (is_bad m'.faults l) (forgets.left l)
       (other_link link l (λ equal. false≢true (sym (ap is_some (ap (λ (k : ℕ). write_told (slab.get m'.links k)) equal ∙ ap write_told updates.changed)) ∙ shown)));

@@ -7,6 +7,7 @@ use Rattle.hdfs_model.specs.declared.asks.LinkFault.{LinkFault}
 use Rattle.hdfs_model.specs.declared.store.FaultLine.{FaultLine}
 use Rattle.hdfs_model.specs.declared.store.LinkKind.{LinkKind}
 use Rattle.hdfs_model.specs.declared.store.LinkKind.TheVariants as link_kinds
+use Rattle.hdfs_model.specs.declared.mem_settings.MemSettings.{MemSettings}
 use Rattle.hdfs_model.specs.Counts.{NeverFall, Rose}
 use Rattle.hdfs_faults.specs.declared.fault_plan.FaultPlan.{FaultPlan}
 use Rattle.hdfs_faults.specs.declared.node_plan.NodeCall.{NodeCall}
@@ -19,11 +20,15 @@ use Rattle.hdfs_cluster.specs.declared.mem_cluster.MemCluster.{MemCluster}
 use Rattle.hdfs_cluster.specs.Counting.{CallsNode, CountsNothing}
 use Rattle.hdfs_cluster.specs.Failures.{planned_failure}
 use Rattle.hdfs_cluster.specs.Lines.{line_of}
-use Rattle.hdfs_cluster.specs.MemShown.{HasNodesOf, counts_of, shown_of}
+use Rattle.hdfs_cluster.specs.MemShown.{HasNodesOf, counts_at, counts_of, shown_of}
 use Rattle.hdfs_replicas.specs.Nodes.{SameNodes}
 
 pub falls_refl : (plan : FaultPlan) → NeverFall (counts_of plan) (counts_of plan)
 falls_refl plan = record { calls = λ i. omega arith; links = omega arith; nodes = λ d. omega arith }
+
+-- beside the counts of the namenodes, which stay
+pub falls_beside : (settings : MemSettings) (calls : ℕ) (old new : FaultPlan) → NeverFall (counts_of old) (counts_of new) → NeverFall (counts_at settings calls old) (counts_at settings calls new)
+falls_beside settings calls old new fall = record { calls = λ i. omega arith; links = fall.links; nodes = fall.nodes }
 
 -- a call of a datanode
 pub falls_counts : (old new : FaultPlan) (series : Series) (fails : Bool) → Counts old series fails new → NeverFall (counts_of old) (counts_of new)
@@ -83,10 +88,14 @@ rose_set_up old mid new link kind fault forgets sets is =
     let once : is_at_once kind ≡ true = sym (at_once kind) ∙ ap is_some is in
     omega (arith, sets.faults, forgets.faults, ap one_if once)
 
+-- no namenode has failed
+abbrev pub SameCalls : MemCluster → MemCluster → Type 0
+SameCalls m m' = (i : ℕ) → (shown_of m').counts.calls i ≡ (shown_of m).counts.calls i
+
 -- nothing was counted
-pub counts_nothing : (m m' : MemCluster) → SameNodes m.nodes m'.nodes → m'.faults ≡ m.faults → CountsNothing m m'
-counts_nothing m m' rest same = record {
-  counts = record { calls = λ i. refl; links = ap link_faults_of same; nodes = λ d. ap (λ (p : FaultPlan). node_faults_of p d) same };
+pub counts_nothing : (m m' : MemCluster) → SameNodes m.nodes m'.nodes → m'.faults ≡ m.faults → SameCalls m m' → CountsNothing m m'
+counts_nothing m m' rest same asked = record {
+  counts = record { calls = asked; links = ap link_faults_of same; nodes = λ d. ap (λ (p : FaultPlan). node_faults_of p d) same };
   calls = λ s. ap (λ (p : FaultPlan). calls_of p s) same;
   bad = λ link shown. ap (λ (p : FaultPlan). is_bad p link) same;
   there = λ d has. record { there = rest.there d ∙ has.there; counted = ap (λ (p : FaultPlan). has_node p d) same ∙ has.counted };

@@ -35,7 +35,7 @@ use Rattle.hdfs_cluster.specs.MemShown.{counts_of, picture_at}
 use Rattle.hdfs_cluster.specs.Slices.{crc32c_for, place_for, told_for}
 use Rattle.hdfs_replicas.specs.Nodes.{held_in, SameHeld}
 use Rattle.hdfs_replicas.proofs.Pipelines.{same_held_refl}
-use Rattle.hdfs_cluster.proofs.Counting.{falls_counts, falls_refl, falls_same, own_count, rose_counts}
+use Rattle.hdfs_cluster.proofs.Counting.{falls_beside, falls_counts, falls_refl, falls_same, own_count, rose_counts}
 use Rattle.hdfs_cluster.proofs.Earlier.{changed_earlier, later_earlier, told_earlier}
 use Rattle.hdfs_cluster.proofs.Places.{slot_stays, no_write, no_write_place}
 use Rattle.hdfs_cluster.proofs.AskingReads.{counted_packet}
@@ -43,21 +43,21 @@ use Rattle.hdfs_cluster.proofs.Slices.{comes_checked, comes_slice, comes_told}
 use Rattle.hdfs_cluster.proofs.Stills.{shown_at, still_later, still_files, still_place, links_from_read, not_given}
 
 -- a read was opened
-pub opened_read : (space : Namespace) (settings : MemSettings) (last : LastAnswer) (loaded : List Line) (faults faults' : FaultPlan) (nodes nodes' : Datanodes) (s s' : Slab MemLink) (link : ℕ) (v : MemRead) (ask : ReadAsk)
+pub opened_read : (space : Namespace) (settings : MemSettings) (last : LastAnswer) (failures : ℕ) (loaded : List Line) (faults faults' : FaultPlan) (nodes nodes' : Datanodes) (s s' : Slab MemLink) (link : ℕ) (v : MemRead) (ask : ReadAsk)
     → NeverFall (counts_of faults) (counts_of faults') → SameHeld nodes nodes' → slab.get s link ≡ None → Updates s s' link (Some (links.Read v)) → v.told ≡ told_for ask (node_faults_of faults ask.node.datanode_uuid) v.chunk
     → (base : List ℕ) → v.place ≡ place_for ask base v.place.place → base ≡ held_in nodes ask.node.datanode_uuid ask.block.block_id → v.place.place ≤ ask.offset
-    → Opened (shown_at space settings last loaded faults nodes s) ask link (shown_at space settings last loaded faults' nodes' s')
-opened_read space settings last loaded faults faults' nodes nodes' s s' link v ask fall held vacant updates told base is holds behind =
+    → Opened (shown_at space settings last failures loaded faults nodes s) ask link (shown_at space settings last failures loaded faults' nodes' s')
+opened_read space settings last failures loaded faults faults' nodes nodes' s s' link v ask fall held vacant updates told base is holds behind =
     let rest : ReadsAt link (picture_at space nodes settings s) (picture_at space nodes' settings s') =
     record {
-      files = still_files space settings last loaded faults faults' fall nodes nodes' s s' held;
+      files = still_files space settings last failures loaded faults faults' fall nodes nodes' s s' held;
       active = refl;
       others = λ l apart. ap read_place (updates.others l apart);
-      writes = λ l. still_place space settings last loaded faults faults' fall nodes nodes' s s' held l (slab.get s' l) ∙ slot_stays (write_place nodes) s s' link None (Some (links.Read v)) vacant updates refl l;
+      writes = λ l. still_place space settings last failures loaded faults faults' fall nodes nodes' s s' held l (slab.get s' l) ∙ slot_stays (write_place nodes) s s' link None (Some (links.Read v)) vacant updates refl l;
     } in
     record {
       reading = record {
-        later = still_later space settings last loaded faults faults' fall nodes nodes' s s';
+        later = still_later space settings last failures loaded faults faults' fall nodes nodes' s s';
         last = refl;
         others = λ l apart. ap read_told (updates.others l apart);
         writes = slot_stays (λ l. write_told) s s' link None (Some (links.Read v)) vacant updates refl;
@@ -70,10 +70,10 @@ opened_read space settings last loaded faults faults' nodes nodes' s s' link v a
     }
 
 -- one was refused
-pub refused_read : (space : Namespace) (settings : MemSettings) (last : LastAnswer) (loaded : List Line) (faults faults' : FaultPlan) (nodes : Datanodes) (s : Slab MemLink) (kept : Option ℕ) (ask : ReadAsk) → Counts faults (opens_of ask.node.datanode_uuid) true faults'
-    → NotOpened (shown_at space settings last loaded faults nodes s) kept ask link_faults.Refused (shown_at space settings last loaded faults' nodes s)
-refused_read space settings last loaded faults faults' nodes s kept ask counts = record {
-  later = record { counts = falls_counts faults faults' (opens_of ask.node.datanode_uuid) true counts; namenodes = refl; loaded = refl };
+pub refused_read : (space : Namespace) (settings : MemSettings) (last : LastAnswer) (failures : ℕ) (loaded : List Line) (faults faults' : FaultPlan) (nodes : Datanodes) (s : Slab MemLink) (kept : Option ℕ) (ask : ReadAsk) → Counts faults (opens_of ask.node.datanode_uuid) true faults'
+    → NotOpened (shown_at space settings last failures loaded faults nodes s) kept ask link_faults.Refused (shown_at space settings last failures loaded faults' nodes s)
+refused_read space settings last failures loaded faults faults' nodes s kept ask counts = record {
+  later = record { counts = falls_beside settings failures faults faults' (falls_counts faults faults' (opens_of ask.node.datanode_uuid) true counts); namenodes = refl; loaded = refl };
   last = refl;
   reads = λ l. refl;
   writes = λ l. refl;
@@ -82,9 +82,9 @@ refused_read space settings last loaded faults faults' nodes s kept ask counts =
 }
 
 -- a read was ended
-pub ended_read : (space : Namespace) (settings : MemSettings) (last : LastAnswer) (loaded : List Line) (faults : FaultPlan) (nodes : Datanodes) (s s' : Slab MemLink) (link : ℕ)
-    → IsSome (read_told (slab.get s link)) → Updates s s' link None → Ended (shown_at space settings last loaded faults nodes s) link (shown_at space settings last loaded faults nodes s')
-ended_read space settings last loaded faults nodes s s' link there updates =
+pub ended_read : (space : Namespace) (settings : MemSettings) (last : LastAnswer) (failures : ℕ) (loaded : List Line) (faults : FaultPlan) (nodes : Datanodes) (s s' : Slab MemLink) (link : ℕ)
+    → IsSome (read_told (slab.get s link)) → Updates s s' link None → Ended (shown_at space settings last failures loaded faults nodes s) link (shown_at space settings last failures loaded faults nodes s')
+ended_read space settings last failures loaded faults nodes s s' link there updates =
     let rest : ReadsAt link (picture_at space nodes settings s) (picture_at space nodes settings s') =
     record {
       files = record { names = λ path. refl; table = λ id. refl; held = λ node id. refl; defaults = refl };
@@ -94,7 +94,7 @@ ended_read space settings last loaded faults nodes s s' link there updates =
     } in
     record {
       reading = record {
-        later = record { counts = falls_refl faults; namenodes = refl; loaded = refl };
+        later = record { counts = falls_beside settings failures faults faults (falls_refl faults); namenodes = refl; loaded = refl };
         last = refl;
         others = λ l apart. ap read_told (updates.others l apart);
         writes = slot_stays (λ l. write_told) s s' link (slab.get s link) None refl updates (sym (no_write (slab.get s link) there));
@@ -104,13 +104,13 @@ ended_read space settings last loaded faults nodes s s' link there updates =
       closes = record { rest = rest; gone = ap read_place updates.changed };
     }
 
-module _ (space : Namespace) (settings : MemSettings) (last : LastAnswer) (loaded : List Line) (faults faults' : FaultPlan) (nodes : Datanodes) (s s' : Slab MemLink) (link : ℕ) (v w : MemRead)
+module _ (space : Namespace) (settings : MemSettings) (last : LastAnswer) (failures : ℕ) (loaded : List Line) (faults faults' : FaultPlan) (nodes : Datanodes) (s s' : Slab MemLink) (link : ℕ) (v w : MemRead)
     (was : slab.get s link ≡ Some (links.Read v)) (updates : Updates s s' link (Some (links.Read w))) (earlier : AreEarlier s faults) where
   abbrev old : Shown
-  old = shown_at space settings last loaded faults nodes s
+  old = shown_at space settings last failures loaded faults nodes s
 
   abbrev new : Shown
-  new = shown_at space settings last loaded faults' nodes s'
+  new = shown_at space settings last failures loaded faults' nodes s'
 
   abbrev p : Picture
   p = picture_at space nodes settings s
@@ -166,7 +166,7 @@ module _ (space : Namespace) (settings : MemSettings) (last : LastAnswer) (loade
     gave : Given old link packet new
     gave = record {
       reading = record {
-        later = record { counts = falls_counts faults faults' (reads_of (node_of v)) (is_some kind) counts; namenodes = refl; loaded = refl };
+        later = record { counts = falls_beside settings failures faults faults' (falls_counts faults faults' (reads_of (node_of v)) (is_some kind) counts); namenodes = refl; loaded = refl };
         last = refl;
         others = λ l apart. told_stays l;
         writes = slot_stays (λ l. write_told) s s' link (Some (links.Read v)) (Some (links.Read w)) was updates refl;
@@ -182,7 +182,7 @@ module _ (space : Namespace) (settings : MemSettings) (last : LastAnswer) (loade
   module _ (fault : LinkFault) (same : SameRead v w) (fall : NeverFall (counts_of faults) (counts_of faults')) where
     gave_none : fault ≢ link_faults.Refused → (fault ≡ link_faults.Broken → Rose (node_faults_of faults (node_of v)) (node_faults_of faults' (node_of v))) → NotGiven old link fault new
     gave_none not_refused cause =
-        not_given space settings last loaded faults faults' fall nodes nodes s s' (same_held_refl nodes) (links_from_read s s' link v w was updates same.told same.place) link fault not_refused
+        not_given space settings last failures loaded faults faults' fall nodes nodes s s' (same_held_refl nodes) (links_from_read s s' link v w was updates same.told same.place) link fault not_refused
         (λ broken. subst (λ (o : Option OpenRead). IfSome o (λ read. Rose (old.counts.nodes read.ask.node.datanode_uuid) (new.counts.nodes read.ask.node.datanode_uuid))) (sym (ap read_told was)) (cause broken))
 
   pub gives_packet : (result : Result ReadPacket LinkFault) → GivesOn faults faults' v w result → IfOk result (λ packet. Given old link packet new)

@@ -6,6 +6,7 @@ pub mod Counting
 pub mod Cutting
 pub mod Deciding
 pub mod Earlier
+pub mod Failing
 pub mod Giving
 pub mod Lying
 pub mod NewLying

@@ -53,11 +53,11 @@ loads_at space space' nodes nodes' settings s kept links = record {
 }
 
 -- the names and the lines stay, the blocks are kept, and no count rose
-pub nothing_loaded : (space space' : Namespace) (settings : MemSettings) (last : LastAnswer) (items items' : List Kept) (faults : FaultPlan) (nodes nodes' : Datanodes) (s : Slab MemLink) → items' ≡ items → space'.names.entries ≡ space.names.entries
+pub nothing_loaded : (space space' : Namespace) (settings : MemSettings) (last : LastAnswer) (failures : ℕ) (items items' : List Kept) (faults : FaultPlan) (nodes nodes' : Datanodes) (s : Slab MemLink) → items' ≡ items → space'.names.entries ≡ space.names.entries
     → KeepsBlocks (table_of space.table.entries) (table_of space'.table.entries) (held_in nodes) (held_in nodes')
     → ((d : List ℕ) (b link : ℕ) → undisturbed_in nodes' d b link ≡ undisturbed_in nodes d b link)
-    → LoadsNothing (shown_at space settings last (map line_of items) faults nodes s) (shown_at space' settings last (map line_of items') faults nodes' s)
-nothing_loaded space space' settings last items items' faults nodes nodes' s lines names kept links = record {
+    → LoadsNothing (shown_at space settings last failures (map line_of items) faults nodes s) (shown_at space' settings last failures (map line_of items') faults nodes' s)
+nothing_loaded space space' settings last failures items items' faults nodes nodes' s lines names kept links = record {
   rest = record { counts = record { calls = λ i. refl; links = refl; nodes = λ d. refl }; last = refl; namenodes = refl; reads = λ link. refl; writes = λ link. refl };
   lines = ap (λ (xs : List Kept). loaded_at settings (map line_of xs)) lines;
   picture = loads_at space space' nodes nodes' settings s kept links;

@@ -26,9 +26,9 @@ use Rattle.hdfs_cluster.proofs.Places.{place_same}
 use Rattle.hdfs_cluster.proofs.ShortCuts.{agrees_short, cuts_at}
 use Rattle.hdfs_cluster.proofs.Stills.{shown_at}
 
-module _ (space : Namespace) (settings : MemSettings) (last : LastAnswer) (items items' : List Kept) (faults : FaultPlan) (nodes nodes' : Datanodes) (s : Slab MemLink) where
+module _ (space : Namespace) (settings : MemSettings) (last : LastAnswer) (failures : ℕ) (items items' : List Kept) (faults : FaultPlan) (nodes nodes' : Datanodes) (s : Slab MemLink) where
   -- nothing is seen to change
-  pub shown_same : items' ≡ items → SameHeld nodes nodes' → SameShown (shown_at space settings last (map line_of items) faults nodes s) (shown_at space settings last (map line_of items') faults nodes' s)
+  pub shown_same : items' ≡ items → SameHeld nodes nodes' → SameShown (shown_at space settings last failures (map line_of items) faults nodes s) (shown_at space settings last failures (map line_of items') faults nodes' s)
   shown_same lines same = record {
     rest = record { counts = record { calls = λ i. refl; links = refl; nodes = λ d. refl }; last = refl; namenodes = refl; reads = λ link. refl; writes = λ link. refl };
     lines = ap (λ (xs : List Kept). loaded_at settings (map line_of xs)) lines;
@@ -43,13 +43,13 @@ module _ (space : Namespace) (settings : MemSettings) (last : LastAnswer) (items
   }
 
   -- nor of what is asked for a line that was not loaded
-  pub not_short : items' ≡ items → SameHeld nodes nodes' → LoadsNothing (shown_at space settings last (map line_of items) faults nodes s) (shown_at space settings last (map line_of items') faults nodes' s)
+  pub not_short : items' ≡ items → SameHeld nodes nodes' → LoadsNothing (shown_at space settings last failures (map line_of items) faults nodes s) (shown_at space settings last failures (map line_of items') faults nodes' s)
   not_short lines same =
-      nothing_loaded space space settings last items items' faults nodes nodes' s lines refl (record { table = λ id entry is. is; held = λ id entry is node. (same node id).bytes }) (λ d b link. (same d b).links link)
+      nothing_loaded space space settings last failures items items' faults nodes nodes' s lines refl (record { table = λ id entry is. is; held = λ id entry is node. (same node id).bytes }) (λ d b link. (same d b).links link)
 
   -- the replica is cut with its line
   pub loads_short : (path : List ℕ) (k node len id : ℕ) (uuid : List ℕ) → items' ≡ items ++ keeps.Short path k node len ∷ [] → IsShort (space_of space nodes) path k node len id uuid → CutsReplica nodes uuid id len nodes'
-      → Loads (shown_at space settings last (map line_of items) faults nodes s) (lines.Short path k node len) (shown_at space settings last (map line_of items') faults nodes' s)
+      → Loads (shown_at space settings last failures (map line_of items) faults nodes s) (lines.Short path k node len) (shown_at space settings last failures (map line_of items') faults nodes' s)
   loads_short path k node len id uuid more short cuts =
       let p = picture_at space nodes settings s in
       let q = picture_at space nodes' settings s in
@@ -62,6 +62,6 @@ module _ (space : Namespace) (settings : MemSettings) (last : LastAnswer) (items
         picture = cuts_at space nodes nodes' settings s uuid id len cuts;
         files = λ state was. agrees_short p q id len uuid cuts.held short.entry short.listed node short.can (λ b. refl) (λ path. refl) state.files was;
         replicas = λ state was lie.
-            loaded_more (shown_at space settings last (map line_of items') faults nodes' s) q state.files settings.nodes (loaded ++ lines.Short path k node len ∷ []) refl more_lines refl
+            loaded_more (shown_at space settings last failures (map line_of items') faults nodes' s) q state.files settings.nodes (loaded ++ lines.Short path k node len ∷ []) refl more_lines refl
             (lie_short settings.nodes loaded p q path k node len id uuid (sound_from p space.sized space.apart) short cuts.held (λ b. refl) (λ x. refl) state.files (lie p refl));
       }

@@ -25,16 +25,17 @@ use Rattle.hdfs_cluster.specs.declared.mem_link.MemLink.TheVariants as links
 use Rattle.hdfs_cluster.specs.declared.read_link.MemRead.{MemRead}
 use Rattle.hdfs_cluster.specs.declared.write_link.MemWrite.{MemWrite}
 use Rattle.hdfs_cluster.specs.Links.{read_told, read_place, write_told, write_place, OnWrites, UnsentOn, UnackedOn, first_uuid}
-use Rattle.hdfs_cluster.specs.MemShown.{picture_at, loaded_at, counts_of}
+use Rattle.hdfs_cluster.specs.MemShown.{picture_at, loaded_at, counts_of, counts_at}
 use Rattle.hdfs_cluster.specs.Writes.{place_of, told_of}
 use Rattle.hdfs_replicas.specs.Nodes.{SameHeld}
+use Rattle.hdfs_cluster.proofs.Counting.{falls_beside}
 use Rattle.hdfs_cluster.proofs.Places.{slot_stays, place_same, told_kept, place_kept}
 
 -- what a cluster with these parts shows
-abbrev pub shown_at : Namespace → MemSettings → LastAnswer → List Line → FaultPlan → Datanodes → Slab MemLink → Shown
-shown_at space settings last loaded faults nodes s = record {
+abbrev pub shown_at : Namespace → MemSettings → LastAnswer → ℕ → List Line → FaultPlan → Datanodes → Slab MemLink → Shown
+shown_at space settings last failures loaded faults nodes s = record {
   picture = Some (picture_at space nodes settings s);
-  counts = counts_of faults;
+  counts = counts_at settings failures faults;
   last = last;
   namenodes = settings.namenodes;
   reads = λ link. read_told (slab.get s link);
@@ -90,12 +91,12 @@ links_unacked s s' link (links.Write v) (links.Read w) was updates h = absurd h
 links_unacked s s' link (links.Read v) (links.Read w) was updates h = absurd h
 links_unacked s s' link (links.Read v) (links.Write w) was updates h = absurd h
 
-module _ (space : Namespace) (settings : MemSettings) (last : LastAnswer) (loaded : List Line) (faults faults' : FaultPlan) (fall : NeverFall (counts_of faults) (counts_of faults')) (nodes nodes' : Datanodes) (s s' : Slab MemLink) where
+module _ (space : Namespace) (settings : MemSettings) (last : LastAnswer) (failures : ℕ) (loaded : List Line) (faults faults' : FaultPlan) (fall : NeverFall (counts_of faults) (counts_of faults')) (nodes nodes' : Datanodes) (s s' : Slab MemLink) where
   abbrev old : Shown
-  old = shown_at space settings last loaded faults nodes s
+  old = shown_at space settings last failures loaded faults nodes s
 
   abbrev new : Shown
-  new = shown_at space settings last loaded faults' nodes' s'
+  new = shown_at space settings last failures loaded faults' nodes' s'
 
   abbrev p : Picture
   p = picture_at space nodes settings s
@@ -104,7 +105,7 @@ module _ (space : Namespace) (settings : MemSettings) (last : LastAnswer) (loade
   q = picture_at space nodes' settings s'
 
   pub still_later : Later old new
-  still_later = record { counts = fall; namenodes = refl; loaded = refl }
+  still_later = record { counts = falls_beside settings failures faults faults' fall; namenodes = refl; loaded = refl }
 
   module _ (held : SameHeld nodes nodes') where
     pub still_files : SameFiles p q

@@ -103,13 +103,13 @@ not_on locs block d b apart = by_tests (is_named locs d) (eqb block b) (contains
     by_tests false t named same = refl
 
 -- The datanodes after a transfer, over which links and names stay as they are. Which datanodes it names is known by equations.
-module _ (space : Namespace) (settings : MemSettings) (last : LastAnswer) (loaded : List Line) (faults faults' : FaultPlan) (fall : NeverFall (counts_of faults) (counts_of faults')) (nodes nodes' : Datanodes) (s : Slab MemLink) (transfer : Transfer) (source : List ℕ) (targets : List DatanodeInfo) (is_source : source ≡ transfer.source.id.datanode_uuid) (is_targets : targets ≡ transfer.targets)
+module _ (space : Namespace) (settings : MemSettings) (last : LastAnswer) (failures : ℕ) (loaded : List Line) (faults faults' : FaultPlan) (fall : NeverFall (counts_of faults) (counts_of faults')) (nodes nodes' : Datanodes) (s : Slab MemLink) (transfer : Transfer) (source : List ℕ) (targets : List DatanodeInfo) (is_source : source ≡ transfer.source.id.datanode_uuid) (is_targets : targets ≡ transfer.targets)
     (others : (d : List ℕ) (b : ℕ) → is_on targets transfer.block.block_id d b ≡ false → SameReplica (replica_at nodes d b) (replica_at nodes' d b)) where
   abbrev old : Shown
-  old = shown_at space settings last loaded faults nodes s
+  old = shown_at space settings last failures loaded faults nodes s
 
   abbrev new : Shown
-  new = shown_at space settings last loaded faults' nodes' s
+  new = shown_at space settings last failures loaded faults' nodes' s
 
   abbrev p : Picture
   p = picture_at space nodes settings s
@@ -122,7 +122,7 @@ module _ (space : Namespace) (settings : MemSettings) (last : LastAnswer) (loade
 
   -- what was asked of namenodes and the read links stay
   only_writes : OnlyWrites old new
-  only_writes = record { later = still_later space settings last loaded faults faults' fall nodes nodes' s s; last = refl; calls = λ i. refl; reads = λ l. refl; places = λ l is. refl }
+  only_writes = record { later = still_later space settings last failures loaded faults faults' fall nodes nodes' s s; last = refl; calls = λ i. refl; reads = λ l. refl; places = λ l is. refl }
 
   -- the other replicas stay
   apart_stays : (d : List ℕ) (b : ℕ) → (block ≡ b → Contains (uuids transfer.targets) d → ⊥) → SameReplica (replica_at nodes d b) (replica_at nodes' d b)

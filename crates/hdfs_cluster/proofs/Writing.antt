@@ -78,13 +78,13 @@ other_link false true u' link other apart is = ap not is
 other_link false false u' link other apart is = ap not is
 
 -- No pipeline was set up. What its datanodes note of the link is not seen, since it is vacant.
-pub not_opened_write : (space : Namespace) (settings : MemSettings) (last : LastAnswer) (loaded : List Line) (faults faults' : FaultPlan) (nodes nodes' : Datanodes) (s s' : Slab MemLink) (link : ℕ) (setup : Setup) (fault : LinkFault)
+pub not_opened_write : (space : Namespace) (settings : MemSettings) (last : LastAnswer) (failures : ℕ) (loaded : List Line) (faults faults' : FaultPlan) (nodes nodes' : Datanodes) (s s' : Slab MemLink) (link : ℕ) (setup : Setup) (fault : LinkFault)
     → NeverFall (counts_of faults) (counts_of faults') → slab.get s link ≡ None → ((l : ℕ) → slab.get s' l ≡ slab.get s l)
     → ((d : List ℕ) (b other : ℕ) → (link ≡ other → ⊥) → undisturbed_in nodes' d b other ≡ undisturbed_in nodes d b other) → ((d : List ℕ) (b : ℕ) → held_in nodes' d b ≡ held_in nodes d b)
     → (fault ≢ link_faults.NoMemory → Rose (link_faults_of faults) (link_faults_of faults'))
-    → WriteNotOpened (shown_at space settings last loaded faults nodes s) setup fault (shown_at space settings last loaded faults' nodes' s')
-not_opened_write space settings last loaded faults faults' nodes nodes' s s' link setup fault fall vacant slots others bytes rose = record {
-  only = record { later = still_later space settings last loaded faults faults' fall nodes nodes' s s'; last = refl; calls = λ i. refl; reads = λ l. ap read_told (slots l); places = λ l is. ap read_place (slots l) };
+    → WriteNotOpened (shown_at space settings last failures loaded faults nodes s) setup fault (shown_at space settings last failures loaded faults' nodes' s')
+not_opened_write space settings last failures loaded faults faults' nodes nodes' s s' link setup fault fall vacant slots others bytes rose = record {
+  only = record { later = still_later space settings last failures loaded faults faults' fall nodes nodes' s s'; last = refl; calls = λ i. refl; reads = λ l. ap read_told (slots l); places = λ l is. ap read_place (slots l) };
   writes = λ l. ap write_told (slots l);
   picture = record {
     rest = record {
@@ -100,12 +100,12 @@ not_opened_write space settings last loaded faults faults' nodes nodes' s s' lin
   cause = rose;
 }
 
-module _ (space : Namespace) (settings : MemSettings) (last : LastAnswer) (loaded : List Line) (faults faults' : FaultPlan) (fall : NeverFall (counts_of faults) (counts_of faults')) (nodes nodes' : Datanodes) (s s' : Slab MemLink) (link : ℕ) (w : MemWrite) (updates : Updates s s' link (Some (links.Write w))) where
+module _ (space : Namespace) (settings : MemSettings) (last : LastAnswer) (failures : ℕ) (loaded : List Line) (faults faults' : FaultPlan) (fall : NeverFall (counts_of faults) (counts_of faults')) (nodes nodes' : Datanodes) (s s' : Slab MemLink) (link : ℕ) (w : MemWrite) (updates : Updates s s' link (Some (links.Write w))) where
   abbrev old : Shown
-  old = shown_at space settings last loaded faults nodes s
+  old = shown_at space settings last failures loaded faults nodes s
 
   abbrev new : Shown
-  new = shown_at space settings last loaded faults' nodes' s'
+  new = shown_at space settings last failures loaded faults' nodes' s'
 
   abbrev p : Picture
   p = picture_at space nodes settings s
@@ -114,7 +114,7 @@ module _ (space : Namespace) (settings : MemSettings) (last : LastAnswer) (loade
   q = picture_at space nodes' settings s'
 
   later : Later old new
-  later = still_later space settings last loaded faults faults' fall nodes nodes' s s'
+  later = still_later space settings last failures loaded faults faults' fall nodes nodes' s s'
 
   module _ (setup : Setup) (vacant : slab.get s link ≡ None) (is_setup : w.setup ≡ setup) (none_sent : w.sent.items ≡ []) (none_came : w.responses.items ≡ []) (none : w.acknowledged ≡ 0)
       (base : w.base.items ≡ map (λ node. held_in nodes node.id.datanode_uuid setup.block.block_id) setup.locs)
@@ -330,25 +330,25 @@ module _ (space : Namespace) (settings : MemSettings) (last : LastAnswer) (loade
     }
 
 -- the same of a slot
-pub sent_on : (space : Namespace) (settings : MemSettings) (last : LastAnswer) (loaded : List Line) (faults faults' : FaultPlan) (nodes nodes' : Datanodes) (s s' : Slab MemLink) (link : ℕ) (packet : Outgoing) (o o' : MemLink)
+pub sent_on : (space : Namespace) (settings : MemSettings) (last : LastAnswer) (failures : ℕ) (loaded : List Line) (faults faults' : FaultPlan) (nodes nodes' : Datanodes) (s s' : Slab MemLink) (link : ℕ) (packet : Outgoing) (o o' : MemLink)
     → slab.get s link ≡ Some o → Updates s s' link (Some o') → OnWrites (λ v w. SendsOn link packet false (among nodes faults v) (among nodes' faults' w)) o o'
-    → Sent (shown_at space settings last loaded faults nodes s) link packet (shown_at space settings last loaded faults' nodes' s')
-sent_on space settings last loaded faults faults' nodes nodes' s s' link packet (links.Write v) (links.Write w) was updates h =
-    sent_packet space settings last loaded faults faults' (falls_counts faults faults' (sends_to (first_uuid v)) false h.1) nodes nodes' s s' link w updates v packet was h.0.same h.0.sent h.0.puts
-sent_on space settings last loaded faults faults' nodes nodes' s s' link packet (links.Write v) (links.Read w) was updates h = absurd h
-sent_on space settings last loaded faults faults' nodes nodes' s s' link packet (links.Read v) (links.Read w) was updates h = absurd h
-sent_on space settings last loaded faults faults' nodes nodes' s s' link packet (links.Read v) (links.Write w) was updates h = absurd h
+    → Sent (shown_at space settings last failures loaded faults nodes s) link packet (shown_at space settings last failures loaded faults' nodes' s')
+sent_on space settings last failures loaded faults faults' nodes nodes' s s' link packet (links.Write v) (links.Write w) was updates h =
+    sent_packet space settings last failures loaded faults faults' (falls_counts faults faults' (sends_to (first_uuid v)) false h.1) nodes nodes' s s' link w updates v packet was h.0.same h.0.sent h.0.puts
+sent_on space settings last failures loaded faults faults' nodes nodes' s s' link packet (links.Write v) (links.Read w) was updates h = absurd h
+sent_on space settings last failures loaded faults faults' nodes nodes' s s' link packet (links.Read v) (links.Read w) was updates h = absurd h
+sent_on space settings last failures loaded faults faults' nodes nodes' s s' link packet (links.Read v) (links.Write w) was updates h = absurd h
 
 -- the connection broke in place of a packet of a slot
-pub broke_on : (space : Namespace) (settings : MemSettings) (last : LastAnswer) (loaded : List Line) (faults faults' : FaultPlan) (nodes nodes' : Datanodes) (s s' : Slab MemLink) (link : ℕ) (packet : Outgoing) (o o' : MemLink)
+pub broke_on : (space : Namespace) (settings : MemSettings) (last : LastAnswer) (failures : ℕ) (loaded : List Line) (faults faults' : FaultPlan) (nodes nodes' : Datanodes) (s s' : Slab MemLink) (link : ℕ) (packet : Outgoing) (o o' : MemLink)
     → slab.get s link ≡ Some o → Updates s s' link (Some o') → OnWrites (λ v w. SendsOn link packet true (among nodes faults v) (among nodes' faults' w)) o o'
-    → NotSent (shown_at space settings last loaded faults nodes s) link packet link_faults.Broken (shown_at space settings last loaded faults' nodes' s')
-broke_on space settings last loaded faults faults' nodes nodes' s s' link packet (links.Write v) (links.Write w) was updates h =
-    broke_off_sent space settings last loaded faults faults' (falls_counts faults faults' (sends_to (first_uuid v)) true h.1) nodes nodes' s s' h.0.held
+    → NotSent (shown_at space settings last failures loaded faults nodes s) link packet link_faults.Broken (shown_at space settings last failures loaded faults' nodes' s')
+broke_on space settings last failures loaded faults faults' nodes nodes' s s' link packet (links.Write v) (links.Write w) was updates h =
+    broke_off_sent space settings last failures loaded faults faults' (falls_counts faults faults' (sends_to (first_uuid v)) true h.1) nodes nodes' s s' h.0.held
     (links_from_write s s' link v w was updates h.0.same.setup h.0.same.base h.0.sent h.0.same.responses h.0.same.acknowledged) link packet v was (rose_counts faults faults' calls.Send (first_uuid v) h.1)
-broke_on space settings last loaded faults faults' nodes nodes' s s' link packet (links.Write v) (links.Read w) was updates h = absurd h
-broke_on space settings last loaded faults faults' nodes nodes' s s' link packet (links.Read v) (links.Read w) was updates h = absurd h
-broke_on space settings last loaded faults faults' nodes nodes' s s' link packet (links.Read v) (links.Write w) was updates h = absurd h
+broke_on space settings last failures loaded faults faults' nodes nodes' s s' link packet (links.Write v) (links.Read w) was updates h = absurd h
+broke_on space settings last failures loaded faults faults' nodes nodes' s s' link packet (links.Read v) (links.Read w) was updates h = absurd h
+broke_on space settings last failures loaded faults faults' nodes nodes' s s' link packet (links.Read v) (links.Write w) was updates h = absurd h
 
 -- then no packet was sent
 pub broke_unsent : (link : ℕ) (packet : Outgoing) (nodes nodes' : Datanodes) (faults faults' : FaultPlan) (o o' : MemLink) → OnWrites (λ v w. SendsOn link packet true (among nodes faults v) (among nodes' faults' w)) o o' → OnWrites (UnsentOn nodes nodes') o o'

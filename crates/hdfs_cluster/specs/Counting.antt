@@ -22,6 +22,7 @@ use Rattle.hdfs_cluster.specs.declared.mem_cluster.MemCluster.{MemCluster}
 use Rattle.hdfs_namespace.specs.Answering.{Answers}
 use Rattle.hdfs_cluster.specs.Failures.{failure_of, is_broken, is_counted, is_refused, planned_failure, planned_transfer_failure}
 use Rattle.hdfs_cluster.specs.Coming.{ComesTo}
+use Rattle.hdfs_cluster.specs.Responding.{Fails, failed_after, is_failure}
 use Rattle.hdfs_cluster.specs.Telling.{TellsAll}
 use Rattle.hdfs_cluster.specs.MemShown.{HasNode, HasNodesOf, nodes_of, picture_of, shown_of}
 
@@ -55,11 +56,23 @@ pub record CountsNothing (old new : MemCluster) : Type 0 where
   pub bad : (link : ℕ) → IsSome ((shown_of new).writes link) → is_bad_at new link ≡ is_bad_at old link
   pub there : HasNodesOf old new
 
--- What an ask does, exactly: it is served, nothing is counted, and the answer is that of the picture.
+-- The count of the namenode that was asked rises by one where it has failed, and no other count does. No call was counted, and the
+-- datanodes are still there. What is open afterwards has the same bad acknowledgements to come.
+pub record CountsAsk (old : MemCluster) (i : ℕ) (failed : Bool) (new : MemCluster) : Type 0 where
+  pub own : (shown_of new).counts.calls i ≡ failed_after failed ((shown_of old).counts.calls i)
+  pub others : (j : ℕ) → j ≢ i → (shown_of new).counts.calls j ≡ (shown_of old).counts.calls j
+  pub links : (shown_of new).counts.links ≡ (shown_of old).counts.links
+  pub nodes : (d : List ℕ) → (shown_of new).counts.nodes d ≡ (shown_of old).counts.nodes d
+  pub calls : (s : Series) → calls_at new s ≡ calls_at old s
+  pub bad : (link : ℕ) → IsSome ((shown_of new).writes link) → is_bad_at new link ≡ is_bad_at old link
+  pub there : HasNodesOf old new
+
+-- What an ask does, exactly: it is served, and the answer is that of the picture; or the namenode has failed, and then its count rises.
 pub record MemServes (old : MemCluster) (i : ℕ) (ask : Ask) (result : Result Answer AskFault) (new : MemCluster) : Type 0 where
   pub served : Served (shown_of old) i ask result (shown_of new)
-  pub counted : CountsNothing old new
-  pub answers : Answers (picture_of old) i ask result (picture_of new)
+  pub counted : CountsAsk old i (is_failure result) new
+  pub answers : is_failure result ≡ false → Answers (picture_of old) i ask result (picture_of new)
+  pub fails : is_failure result ≡ true → Fails (shown_of old).loaded.lines (nodes_of old) (picture_of old) i ask result (picture_of new)
 
 -- One call of a series was counted, where there was memory for it. No other call was, and the datanodes are still there.
 pub record CountsCall (old : MemCluster) (series : Series) (counted : Bool) (new : MemCluster) : Type 0 where

@@ -1,5 +1,5 @@
 -- What the cluster in memory shows.
-use Rattle.std.specs.Prelude.{◌≡◌, ℕ, ◌<◌, Bool, true, not, ◌&&◌, List, length, slice_index, map, Some, is_some}
+use Rattle.std.specs.Prelude.{◌≡◌, ℕ, ◌<◌, ◌==◌, Bool, true, not, ◌&&◌, List, length, slice_index, map, Some, is_some, if◌then◌else◌}
 use Rattle.std.specs.BTreeMap.{get_by_text}
 use Rattle.slab.specs.Slab as slab
 use Rattle.slab.specs.Slab.{Slab}
@@ -41,15 +41,23 @@ loaded_at settings lines = record { settings = Some settings; lines = lines }
 abbrev pub picture_of : MemCluster → Picture
 picture_of m = picture_at m.space m.nodes m.config.settings m.links
 
--- No count of a namenode ever rises. Those of the links and of the datanodes are those of the plan.
+-- the counts of the links and of the datanodes are those of the plan
 abbrev pub counts_of : FaultPlan → FaultCounts
 counts_of plan = record { calls = λ i. 0; links = link_faults_of plan; nodes = λ d. node_faults_of plan d }
+
+-- how often each namenode has failed: only the active one does
+abbrev pub failed_calls : MemSettings → ℕ → ℕ → ℕ
+failed_calls settings calls i = if i == settings.active then calls else 0
+
+-- the same with those of the namenodes
+abbrev pub counts_at : MemSettings → ℕ → FaultPlan → FaultCounts
+counts_at settings calls plan = record (counts_of plan) { calls = failed_calls settings calls }
 
 -- what the cluster in memory shows: always its picture too
 abbrev pub shown_of : MemCluster → Shown
 shown_of m = record {
   picture = Some (picture_of m);
-  counts = counts_of m.faults;
+  counts = counts_at m.config.settings m.calls m.faults;
   last = m.last;
   namenodes = m.config.settings.namenodes;
   reads = λ link. read_told (slab.get m.links link);

@@ -1,15 +1,24 @@
--- What the active namenode of a cluster in memory answers to an ask of one kind.
-use Rattle.std.specs.Prelude.{◌≡◌, ℕ, Result}
+-- What a namenode of a cluster in memory responds, and when it fails.
+use Rattle.std.specs.Prelude.{◌≡◌, ◌⊎◌, ℕ, Bool, true, false, List, [], Result, Ok, Err, codes, if◌then◌else◌}
+use Rattle.std.specs.List.{list_any}
+use Rattle.std.specs.Str.{bytes_eq}
 use Rattle.slab.specs.Slab.{Slab}
 use Rattle.hdfs_model.specs.declared.asks.Ask.{Ask}
 use Rattle.hdfs_model.specs.declared.asks.Ask.TheVariants as asks
 use Rattle.hdfs_model.specs.declared.asks.Answer.{Answer}
 use Rattle.hdfs_model.specs.declared.asks.AskFault.{AskFault}
+use Rattle.hdfs_model.specs.declared.asks.AskFault.TheVariants as faults
 use Rattle.hdfs_model.specs.declared.mem_settings.MemSettings.{MemSettings}
+use Rattle.hdfs_model.specs.declared.store.Line.{Line}
+use Rattle.hdfs_model.specs.Effects.{IsBeingWritten}
+use Rattle.hdfs_model.specs.Picture.{Picture, SamePicture}
+use Rattle.hdfs_faults.specs.Calls.{after_one}
+use Rattle.hdfs_faults.specs.Series.{is_fault}
 use Rattle.hdfs_namespace.specs.declared.namespace.Namespace.{Namespace}
 use Rattle.hdfs_replicas.specs.declared.datanodes.Datanodes.{Datanodes}
 use Rattle.hdfs_cluster.specs.declared.mem_link.MemLink.{MemLink}
 use Rattle.hdfs_namespace.specs.Answering.{Answers}
+use Rattle.hdfs_namespace.specs.Pipelines.{AreBarred, is_barred}
 use Rattle.hdfs_cluster.specs.MemShown.{picture_at}
 
 -- a new file is asked for
@@ -32,3 +41,47 @@ IsUpdatePipeline ask = ⊥
 abbrev pub AnswersHere : Namespace → Ask → Result Answer AskFault → Namespace → Type 0
 AnswersHere old ask result new = (nodes : Datanodes) (settings : MemSettings) (links : Slab MemLink) (i : ℕ) → i ≡ settings.active
     → Answers (picture_at old nodes settings links) i ask result (picture_at new nodes settings links)
+
+-- the class of the exception of a namenode that finds no datanode
+abbrev pub io_exception : List ℕ
+io_exception = codes "java.io.IOException"
+
+-- whether this is the answer of a namenode that has failed
+abbrev pub is_failure : Result Answer AskFault → Bool
+is_failure (Ok answer) = false
+is_failure (Err faults.NoMemory) = false
+is_failure (Err (faults.Exception class message)) = bytes_eq class io_exception
+
+-- how often a namenode has failed, once it has failed again or not
+abbrev pub failed_after : Bool → ℕ → ℕ
+failed_after failed calls = if failed then after_one calls else calls
+
+-- Want of memory, or the exception of a namenode that finds no datanode, which has no message. That comes once a fault was loaded.
+abbrev pub StandsForNone : List Line → AskFault → Type 0
+StandsForNone loaded faults.NoMemory = Unit {0}
+StandsForNone loaded (faults.Exception class message) = (list_any is_fault loaded ≡ true) × (class ≡ io_exception) × (message ≡ [])
+
+-- a datanode more is asked for, of a block of an open file, and each of so many datanodes is existing or excluded
+abbrev pub LacksDatanode : ℕ → Picture → Ask → Type 0
+LacksDatanode count p (asks.GetAdditionalDatanode src block existing excludes number client ids) =
+    IsBeingWritten p src block × AreBarred (is_barred existing excludes) count
+LacksDatanode count p ask = ⊥
+
+-- The active namenode fails: it finds none of so many datanodes, and answers an exception. Nothing changes.
+pub record Fails (loaded : List Line) (count : ℕ) (p : Picture) (i : ℕ) (ask : Ask) (result : Result Answer AskFault) (q : Picture)
+    : Type 0 where
+  pub here : i ≡ p.active
+  pub lacks : LacksDatanode count p ask
+  pub planned : list_any is_fault loaded ≡ true
+  pub is : result ≡ Err (faults.Exception io_exception [])
+  pub same : SamePicture p q
+
+-- a namenode answers, or the active one fails
+abbrev pub Responds : List Line → ℕ → Picture → ℕ → Ask → Result Answer AskFault → Picture → Type 0
+Responds loaded count p i ask result q = Answers p i ask result q ⊎ Fails loaded count p i ask result q
+
+-- the same of the active namenode, whatever the datanodes hold and whichever links are open
+abbrev pub RespondsHere : List Line → ℕ → Namespace → Ask → Result Answer AskFault → Type 0
+RespondsHere loaded count space ask result =
+    (nodes : Datanodes) (settings : MemSettings) (links : Slab MemLink) (i : ℕ) → i ≡ settings.active
+    → Responds loaded count (picture_at space nodes settings links) i ask result (picture_at space nodes settings links)

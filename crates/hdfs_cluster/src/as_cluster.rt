@@ -10,7 +10,7 @@ ghost use Rattle.hdfs_cluster.specs.Failures.{planned_failure, planned_transfer_
 use crate::mem_cluster::MemCluster;
 use crate::mem_link::MemLink;
 use crate::read_link::MemRead;
-use crate::responding::respond;
+use crate::responding::{failures_after, respond};
 use crate::write_link::MemWrite;
 use hdfs_model::{
     Answer, Ask, AskFault, Cluster, LastAnswer, LinkFault, LinkKind, ReadAsk, Setup, Transfer,
@@ -63,6 +63,7 @@ impl Cluster for MemCluster {
         let result = respond(
             self.alloc,
             &self.config,
+            self.loaded.as_slice(),
             &mut self.space,
             &mut self.nodes,
             i,
@@ -70,6 +71,7 @@ impl Cluster for MemCluster {
         );
         match last_answer(self.alloc, &result) {
             Ok(last) => {
+                self.calls = failures_after(self.calls, &result);
                 self.last = last;
                 result
             }

@@ -2,7 +2,9 @@
 ghost use Rattle.std.specs.Prelude.{◌≡◌, ◌<◌, ◌≤◌, ℕ, List as Items, length, slice_index, IfOk};
 ghost use Rattle.hdfs_faults.specs.Plans.{node_faults_of};
 ghost use Rattle.hdfs_faults.specs.Series.{link_fault_count, node_fault_count, uuid_of};
+ghost use Rattle.hdfs_cluster.specs.MemShown.{failed_calls};
 
+use crate::config::Config;
 use crate::mem_cluster::MemCluster;
 use hdfs_faults::FaultPlan;
 use hdfs_replicas::uuid;
@@ -18,12 +20,14 @@ pub struct Counts {
     pub nodes: List<u64>,
 }
 
-/// So many zeros.
-fn zeros(alloc: Global, count: u32) -> Result<List<u64>, NoMemory>
-    ensures len { IfOk result (λ zeros. length zeros ≡ count) }
-    ensures zero { IfOk result (λ zeros. (k : ℕ) → slice_index zeros k ≡ 0) }
+/// How often each namenode has failed: the active one so often, and no other one.
+fn all_calls(alloc: Global, config: &Config, calls: u64) -> Result<List<u64>, NoMemory>
+    ensures len { IfOk result (λ all. length all ≡ config.now.settings.namenodes) }
+    ensures each { IfOk result (λ all. (i : ℕ) → slice_index all i ≡ failed_calls config.now.settings calls i) }
 {
-    Ok(List::from_vec(vec![in alloc; 0; count as usize]?))
+    let mut all = vec![in alloc; 0; config.settings.namenodes as usize]?;
+    all[config.settings.active as usize] = calls;
+    Ok(List::from_vec(all))
 }
 
 /// How often each of the first so many datanodes has failed.
@@ -39,17 +43,19 @@ fn all_faults(alloc: Global, faults: &FaultPlan, count: u32) -> Result<List<u64>
 }
 
 impl MemCluster {
+    ghost use Rattle.hdfs_cluster.specs.Lines.{NeedsFault};
     ghost use Rattle.hdfs_cluster.specs.MemShown.{shown_of, Sees};
 
     /// How often each object has failed. Neither a datanode nor the links have failed more often than faults were loaded for
-    /// them.
+    /// them, and no namenode has failed before a fault was loaded.
     pub fn seen(&self) -> Result<Counts, NoMemory>
         ensures sees { IfOk result (Sees self.now) }
         ensures planned { (d : Items ℕ) → (shown_of self.now).counts.nodes d ≤ node_fault_count (shown_of self.now).loaded.lines d }
+        ensures planned_calls { (i : ℕ) → NeedsFault (shown_of self.now).loaded.lines ((shown_of self.now).counts.calls i) }
         ensures planned_links { (shown_of self.now).counts.links ≤ link_fault_count (shown_of self.now).loaded.lines }
     {
         Ok(Counts {
-            calls: zeros(self.alloc, self.config.settings.namenodes)?,
+            calls: all_calls(self.alloc, &self.config, self.calls)?,
             links: self.faults.link_faults(),
             nodes: all_faults(self.alloc, &self.faults, self.nodes.count)?,
         })

@@ -4,7 +4,7 @@ ghost use Rattle.hdfs_model.specs.Files.{empty_state};
 ghost use Rattle.hdfs_model.specs.Loading.{AreValid};
 ghost use Rattle.hdfs_model.specs.Sessions.{Fits};
 ghost use Rattle.hdfs_faults.specs.Following.{Follows};
-ghost use Rattle.hdfs_cluster.specs.Lines.{line_of};
+ghost use Rattle.hdfs_cluster.specs.Lines.{line_of, NeedsFault};
 ghost use Rattle.hdfs_cluster.specs.Links.{AreEarlier};
 
 use crate::config::Config;
@@ -18,13 +18,14 @@ use hdfs_wire::NoMemory;
 use slab::Slab;
 use std::alloc::Global;
 
-/// A cluster in memory: files, the datanodes that hold their blocks, the open links, and which calls fail by the lines that
-/// were loaded.
+/// A cluster in memory: files, the datanodes that hold their blocks, the open links, how often the active namenode has failed, and
+/// which calls fail by the lines that were loaded.
 #[derive(Drop)]
 pub struct MemCluster {
     pub(crate) alloc: Global,
     pub(crate) config: Config,
     pub(crate) last: LastAnswer,
+    pub(crate) calls: u64,
     pub(crate) space: Namespace,
     pub(crate) nodes: Datanodes,
     pub(crate) links: Slab<MemLink>,
@@ -33,6 +34,7 @@ pub struct MemCluster {
     ghost follows: { Follows faults (map line_of loaded.items) },
     ghost earlier: { AreEarlier links faults },
     ghost counted: { nodes.count ≡ config.settings.nodes },
+    ghost unfailed: { NeedsFault (map line_of loaded.items) calls },
 }
 
 impl MemCluster {
@@ -53,6 +55,7 @@ impl MemCluster {
             alloc,
             config: Config::new(settings),
             last: LastAnswer::Fine,
+            calls: 0,
             space: Namespace::new(alloc)?,
             nodes: Datanodes::new(alloc, settings.nodes)?,
             links: Slab::new(alloc),

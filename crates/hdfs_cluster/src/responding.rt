@@ -1,21 +1,74 @@
 //! How the namenodes of a cluster in memory respond to what is asked.
-ghost use Rattle.std.specs.Prelude.{◌≡◌, IfOk};
+ghost use Rattle.std.specs.Prelude.{◌≡◌, ◌≤◌, ℕ, map, IfOk};
+ghost use Rattle.std.specs.List.{list_any};
 ghost use Rattle.hdfs_model.specs.Namenode.{IsShaped};
 ghost use Rattle.slab.specs.Slab.{Slab};
 ghost use Rattle.hdfs_cluster.specs.declared.mem_link.MemLink.{MemLink};
-ghost use Rattle.hdfs_namespace.specs.Answering.{Answers};
+ghost use Rattle.hdfs_faults.specs.Series.{is_fault};
+ghost use Rattle.hdfs_cluster.specs.Lines.{line_of};
 ghost use Rattle.hdfs_cluster.specs.MemShown.{picture_at};
-ghost use Rattle.hdfs_cluster.specs.Responding.{AnswersHere, IsCreate, IsGetAdditionalDatanode, IsUpdatePipeline};
+ghost use Rattle.hdfs_cluster.specs.Responding.{AnswersHere, IsCreate, IsGetAdditionalDatanode, IsUpdatePipeline, Responds, RespondsHere, StandsForNone, failed_after, is_failure};
 ghost use Rattle.hdfs_replicas.specs.Nodes.{SameNodes};
 
 use crate::config::Config;
+use crate::loaded::Kept;
 use hdfs_model::{Answer, Ask, AskFault, Attributes};
 use hdfs_namespace::{Namespace, STANDBY, exception};
 use hdfs_replicas::Datanodes;
+use hdfs_wire::NoMemory;
 use std::alloc::Global;
 
 /// The flag by which an older file is overwritten.
 const OVERWRITE: u32 = 3;
+
+/// The class of the exception of a namenode that finds no datanode.
+const IO_EXCEPTION: &str = "java.io.IOException";
+
+/// Whether a line is a fault.
+fn is_fault_line(line: &Kept) -> bool
+    ensures { result ≡ is_fault (line_of line.now) }
+{
+    match line {
+        Kept::Dir { .. } | Kept::File { .. } | Kept::Short { .. } => false,
+        Kept::Fault(_) => true,
+    }
+}
+
+/// Whether one of the lines is a fault.
+fn has_fault(lines: &[Kept]) -> bool
+    ensures { result ≡ list_any is_fault (map line_of lines.now) }
+{
+    for line in lines {
+        if is_fault_line(line) {
+            return true;
+        }
+    }
+    false
+}
+
+/// What is answered where no datanode is left: what HDFS does, once a fault was loaded. Before that no count rises, and there is no
+/// memory for it.
+fn no_datanode(alloc: Global, loaded: &[Kept]) -> Result<AskFault, NoMemory>
+    ensures { IfOk result (StandsForNone (map line_of loaded.now)) }
+{
+    if !has_fault(loaded) {
+        return Ok(AskFault::NoMemory);
+    }
+    exception(alloc, IO_EXCEPTION)
+}
+
+/// How often a namenode has failed, once this was its answer.
+pub(crate) fn failures_after(calls: u64, answer: &Result<Answer, AskFault>) -> u64
+    ensures after { result ≡ failed_after (is_failure answer.now) calls }
+    ensures more { calls ≤ result }
+{
+    match answer {
+        Err(AskFault::Exception { class, .. }) if class.as_str() == IO_EXCEPTION => {
+            calls.saturating_add(1)
+        }
+        _ => calls,
+    }
+}
 
 /// What the active namenode answers to an ask of `create`.
 fn create(alloc: Global, space: &mut Namespace, ask: &Ask) -> Result<Answer, AskFault>
@@ -45,15 +98,16 @@ fn create(alloc: Global, space: &mut Namespace, ask: &Ask) -> Result<Answer, Ask
     Ok(Answer::Create(Some(status)))
 }
 
-/// What the active namenode answers to an ask of `getAdditionalDatanode`.
+/// What the active namenode responds to an ask of `getAdditionalDatanode`.
 fn additional_datanode(
     alloc: Global,
+    loaded: &[Kept],
     space: &Namespace,
     nodes: &Datanodes,
     ask: &Ask,
 ) -> Result<Answer, AskFault>
     requires { IsGetAdditionalDatanode ask.now }
-    ensures answers { AnswersHere space.now ask.now result space.now }
+    ensures responds { RespondsHere (map line_of loaded.now) nodes.now.count space.now ask.now result }
     ensures shape { IfOk result (IsShaped ask.now) }
 {
     let Ask::GetAdditionalDatanode {
@@ -70,8 +124,7 @@ fn additional_datanode(
     let excludes = excludes.as_slice();
     match space.additional_datanode(alloc, nodes, src.as_str(), block, existing, excludes)? {
         Some(block) => Ok(Answer::GetAdditionalDatanode(block)),
-        // No datanode is left. HDFS answers an exception, which only a namenode whose count rises may answer here.
-        None => Err(AskFault::NoMemory),
+        None => Err(no_datanode(alloc, loaded)?),
     }
 }
 
@@ -94,16 +147,18 @@ fn update_pipeline(alloc: Global, space: &mut Namespace, ask: &Ask) -> Result<An
     Ok(Answer::UpdatePipeline)
 }
 
-/// What namenode `i` answers, and what that does.
+/// What namenode `i` responds, and what that does.
 pub(crate) fn respond(
     alloc: Global,
     config: &Config,
+    loaded: &[Kept],
     space: &mut Namespace,
     nodes: &mut Datanodes,
     i: u32,
     ask: &Ask,
 ) -> Result<Answer, AskFault>
-    ensures answers { (links : Slab MemLink) → Answers (picture_at space.old nodes.old config.now.settings links) i ask.now result
+    ensures responds { (links : Slab MemLink) → Responds (map line_of loaded.now) nodes.old.count
+        (picture_at space.old nodes.old config.now.settings links) i ask.now result
         (picture_at space.new nodes.new config.now.settings links) }
     ensures shape { IfOk result (IsShaped ask.now) }
     ensures rest { SameNodes nodes.old nodes.new }
@@ -131,7 +186,7 @@ pub(crate) fn respond(
             let block = space.update_block_for_pipeline(alloc, block)?;
             Ok(Answer::UpdateBlockForPipeline(block))
         }
-        Ask::GetAdditionalDatanode { .. } => additional_datanode(alloc, space, nodes, ask),
+        Ask::GetAdditionalDatanode { .. } => additional_datanode(alloc, loaded, space, nodes, ask),
         Ask::UpdatePipeline { .. } => update_pipeline(alloc, space, ask),
     }
 }

@@ -8,11 +8,11 @@ ghost use Rattle.hdfs_cluster.specs.MemShown.{shown_of};
 use hdfs_cluster::{
     Block, Cluster, DatanodeId, DatanodeInfo, MemCluster, MemSettings, ReadAsk, Setup, Stage, Token,
 };
-use hdfs_wire::{Ack, Blob, List, Text, WritePacket};
+use hdfs_wire::{Ack, Blob, List, NoMemory, Text, WritePacket};
 use std::alloc::Global;
 use std::test::Fail;
 
-fn node(alloc: Global, uuid: &str) -> Result<DatanodeId, Fail> {
+pub(crate) fn node(alloc: Global, uuid: &str) -> Result<DatanodeId, NoMemory> {
     Ok(DatanodeId {
         ip_addr: Text::new(alloc),
         host_name: Text::new(alloc),
@@ -23,7 +23,7 @@ fn node(alloc: Global, uuid: &str) -> Result<DatanodeId, Fail> {
     })
 }
 
-pub(crate) fn info(alloc: Global, uuid: &str) -> Result<DatanodeInfo, Fail> {
+pub(crate) fn info(alloc: Global, uuid: &str) -> Result<DatanodeInfo, NoMemory> {
     Ok(DatanodeInfo {
         id: node(alloc, uuid)?,
         location: Text::new(alloc),

@@ -1,5 +1,5 @@
 //! A store is prepared and loaded, and its pipelines fail as the lines say.
-use crate::answers::located;
+use crate::asking::Client;
 use crate::block_writing::{packet, put, setup};
 use hdfs_cluster::{
     Attributes, Cluster, FaultLine, Line, LinkFault, LinkKind, MemCluster, MemSettings, Store,
@@ -9,9 +9,9 @@ use std::alloc::Global;
 use std::test::Fail;
 
 /// The lengths of the blocks of a file.
-fn lengths(alloc: Global, cluster: &mut MemCluster, path: &str) -> Result<Vec<u64>, Fail> {
-    let found = located(alloc, cluster, path)?;
-    let mut lengths = Vec::new(alloc);
+fn lengths(client: &mut Client, path: &str) -> Result<Vec<u64>, Fail> {
+    let found = client.locate(path)?;
+    let mut lengths = Vec::new(client.alloc);
     for block in found.blocks.as_slice() {
         lengths.push(block.b.num_bytes)?;
     }
@@ -37,11 +37,12 @@ fn a_prepared_store_takes_a_directory_and_cuts_a_file(rt: HostRuntime) -> Result
         },
         bytes: Blob::from_vec(vec![in alloc; 0, 1, 2, 3, 4, 5, 6, 7, 8, 9]?),
     })?;
+    assert_eq!(rt; cluster.seen()?.nodes.as_slice().len(), 5);
+    let mut client = Client::over(alloc, cluster)?;
     assert_eq!(rt;
-        lengths(alloc, &mut cluster, "/d/f")?.as_slice(),
+        lengths(&mut client, "/d/f")?.as_slice(),
         [4, 4, 2].as_slice()
     );
-    assert_eq!(rt; cluster.seen()?.nodes.as_slice().len(), 5);
     Ok(())
 }
 

@@ -6,6 +6,8 @@ mod another_pipeline;
 #[cfg(test)]
 mod answers;
 #[cfg(test)]
+mod asking;
+#[cfg(test)]
 mod block_writing;
 #[cfg(test)]
 mod failing_links;

@@ -4,9 +4,10 @@ ghost use Rattle.hdfs_cluster.specs.MemShown.{shown_of};
 
 use bytes::Bytes;
 use hdfs_cluster::{
-    Answer, Ask, Attributes, Cluster, FaultLine, Line, LinkFault, LocatedBlocks, MemCluster,
-    MemSettings, ReadAsk, ReadKind, ServerDefaults, Store,
+    Attributes, Cluster, FaultLine, Line, LinkFault, LocatedBlocks, MemCluster, MemSettings,
+    ReadAsk, ReadKind, ServerDefaults, Store,
 };
+use hdfs_namenode::NamenodeProtocol;
 use hdfs_wire::{Blob, Text};
 use std::alloc::Global;
 use std::test::Fail;
@@ -52,15 +53,9 @@ fn loaded(alloc: Global) -> Result<MemCluster, Fail>
 fn located(alloc: Global, cluster: &mut MemCluster) -> Result<LocatedBlocks, Fail>
     requires { (shown_of cluster.old).namenodes ≡ 1 }
 {
-    let ask = Ask::GetBlockLocations {
-        src: Text::from_str(alloc, "/a")?,
-        offset: 0,
-        length: 10,
-    };
-    match cluster.ask(0, &ask) {
-        Ok(Answer::GetBlockLocations(Some(found))) => Ok(found),
-        _ => Err(Fail::from("the file is located")),
-    }
+    let namenode = NamenodeProtocol::new(alloc, [0; 16])?;
+    let found = namenode.get_block_locations(cluster, "/a", 0, 10)?;
+    Ok(found.ok_or("the file is located")?)
 }
 
 /// A read of two bytes of its block.

@@ -16,8 +16,9 @@ use Rattle.hdfs_model.specs.declared.mem_settings.MemSettings.{MemSettings}
 use Rattle.hdfs_cluster.specs.declared.mem_cluster.MemCluster.{MemCluster}
 use Rattle.hdfs_cluster.specs.MemShown.{shown_of}
 use Rattle.hdfs_cluster.proofs.Counting.{links_planned, nodes_planned}
+use Rattle.hdfs_cluster.proofs.Failing.{calls_planned}
 use Rattle.hdfs_cluster.specs.Starting.{Starts}
-use Rattle.hdfs_faults.specs.Series.{link_fault_count, node_fault_count}
+use Rattle.hdfs_faults.specs.Series.{is_fault as is_fault_line, link_fault_count, node_fault_count}
 use Rattle.hdfs_script.specs.Scripts.{Script, is_fault, script}
 use Rattle.hdfs_script.specs.Texts.{fault_text}
 use Rattle.hdfs_streams.specs.Streams.{SourceShown, SinkShown, Wrote}
@@ -40,7 +41,7 @@ known_new source sink old bytes told new = record { told = told; one = λ held. 
 
 -- a cluster in memory fails only where a fault was loaded for it
 pub planned_faults : (m : MemCluster) → FailsAsPlanned (shown_of m)
-planned_faults m = record { calls = λ i. refl; links = links_planned m; nodes = nodes_planned m }
+planned_faults m = record { calls = calls_planned m; links = links_planned m; nodes = nodes_planned m }
 
 -- a cluster that was made for a script
 pub new_from-Starts : (settings : MemSettings) (store : Shown) → Starts settings store → Fits store empty_state → IsNew store
@@ -136,6 +137,13 @@ node_fault_of_none d (lines.Dir path ∷ rest) none = node_fault_of_none d rest 
 node_fault_of_none d (lines.File path attributes bytes ∷ rest) none = node_fault_of_none d rest none
 node_fault_of_none d (lines.Short path block node len ∷ rest) none = node_fault_of_none d rest none
 
+no_fault : (rest : List Line) → list_any is_fault rest ≡ false → list_any is_fault_line rest ≡ false
+no_fault [] none = refl
+no_fault (lines.Fault fault ∷ rest) none = absurd (cc)
+no_fault (lines.Dir path ∷ rest) none = no_fault rest none
+no_fault (lines.File path attributes bytes ∷ rest) none = no_fault rest none
+no_fault (lines.Short path block node len ∷ rest) none = no_fault rest none
+
 link_fault_of_none : (rest : List Line) → list_any is_fault rest ≡ false → link_fault_count rest ≡ 0
 link_fault_of_none [] none = refl
 link_fault_of_none (lines.Fault fault ∷ rest) none = absurd (cc)
@@ -159,7 +167,7 @@ unfailed_new : (old new : Shown) (parsed : Script) → IsNew old → FailsAsPlan
 unfailed_new old new parsed is_new planned lines faultless =
     let loaded = lines_new old new parsed is_new lines in
     record {
-      calls = planned.calls;
+      calls = λ i. planned.calls i (ap (list_any is_fault_line) loaded ∙ no_fault parsed.lines faultless);
       links = omega (arith, planned.links, ap link_fault_count loaded, link_fault_of_none parsed.lines faultless);
       nodes = λ d. omega (arith, planned.nodes d, ap (λ ls. node_fault_count ls d) loaded, node_fault_of_none d parsed.lines faultless);
     }

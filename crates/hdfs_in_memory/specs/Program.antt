@@ -13,6 +13,7 @@ use Rattle.hdfs_model.specs.Sessions.{Fits, AreLimited}
 use Rattle.hdfs_model.specs.Shown.{Shown}
 use Rattle.hdfs_model.specs.Steps.{World}
 use Rattle.hdfs_faults.specs.Series.{link_fault_count, node_fault_count}
+use Rattle.hdfs_cluster.specs.Lines.{NeedsFault}
 use Rattle.hdfs_script.specs.Scripts.{Script, is_fault, script, session_settings}
 use Rattle.hdfs_script.specs.Texts.{replies_text, fault_text, refusal_text}
 use Rattle.hdfs_streams.specs.Streams.{SourceShown, SinkShown, Wrote}
@@ -41,9 +42,10 @@ pub record IsNew (store : Shown) : Type 0 where
   pub no_line : store.loaded.lines ≡ []
   pub unfailed : IsUnfailed store.counts
 
--- no count has risen but as often as fault lines were loaded for it
+-- No count of the links or of a datanode has risen but as often as fault lines were loaded for it, and none of a namenode before one
+-- was loaded.
 pub record FailsAsPlanned (store : Shown) : Type 0 where
-  pub calls : (i : ℕ) → store.counts.calls i ≡ 0
+  pub calls : (i : ℕ) → NeedsFault store.loaded.lines (store.counts.calls i)
   pub links : store.counts.links ≤ link_fault_count store.loaded.lines
   pub nodes : (d : List ℕ) → store.counts.nodes d ≤ node_fault_count store.loaded.lines d
 

@@ -24,6 +24,7 @@ invariant_of-self c =
     let o = c.in-Some.open.now in
     record {
       counted = m.counted;
+      unfailed = m.unfailed;
       follows = acks_follow_on _ c.args.link c.ack.result m.faults c.ack.new.faults (map line_of m.loaded.items) o c.ack.new.self c.ack.ensures.ok c.ack.ensures.err m.follows;
       earlier = acks_earlier UnackedOn m.links c.args.link c.ack.result m.faults c.ack.new.faults o c.ack.new.self c.ack.ensures.ok c.ack.ensures.err (sym c.in-Some.ensures.value) m.earlier;
     }
@@ -36,11 +37,11 @@ returns-in_err-ack-clause-err c =
     let s' = with_value m.links c.args.link o' in
     let was : slab.get m.links c.args.link ≡ Some o = sym c.in-Some.ensures.value in
     let p = err_from_is_err_and c.from_residual.result c.from_residual.ensures.1 in
-    rw (p.1, p.2) (not_acknowledged m.space m.config.settings m.last (map line_of m.loaded.items) m.faults c.ack.new.faults (falls_same m.faults c.ack.new.faults c.in_err-ack.ensures.err.1) m.nodes m.nodes m.links s' (same_held_refl m.nodes)
+    rw (p.1, p.2) (not_acknowledged m.space m.config.settings m.last m.calls (map line_of m.loaded.items) m.faults c.ack.new.faults (falls_same m.faults c.ack.new.faults c.in_err-ack.ensures.err.1) m.nodes m.nodes m.links s' (same_held_refl m.nodes)
     (links_unacked m.links s' c.args.link o o' was (updates_with m.links c.args.link o o' was) c.in_err-ack.ensures.err.0) link_faults.NoMemory refl c.args.link)
 
 pub returns-in_err-ack-clause-counted : goal.returns-in_err-ack-clause-counted
-returns-in_err-ack-clause-counted c = on_err c.from_residual.result (counts_nothing c.args.self.now _ (same_nodes_refl c.args.self.now.nodes) c.in_err-ack.ensures.err.1)
+returns-in_err-ack-clause-counted c = on_err c.from_residual.result (counts_nothing c.args.self.now _ (same_nodes_refl c.args.self.now.nodes) c.in_err-ack.ensures.err.1 (λ i. refl))
 
 pub returns-clause-ok : goal.returns-clause-ok
 returns-clause-ok c =
@@ -48,7 +49,7 @@ returns-clause-ok c =
     let o = c.in-Some.open.now in
     let o' = c.ack.new.self in
     let was : slab.get m.links c.args.link ≡ Some o = sym c.in-Some.ensures.value in
-    acknowledged_on m.space m.config.settings m.last (map line_of m.loaded.items) m.faults c.ack.new.faults m.nodes m.links (with_value m.links c.args.link o') c.args.link c.in_ok-ack.field-0 o o' was (updates_with m.links c.args.link o o' was) c.in_ok-ack.ensures.ok
+    acknowledged_on m.space m.config.settings m.last m.calls (map line_of m.loaded.items) m.faults c.ack.new.faults m.nodes m.links (with_value m.links c.args.link o') c.args.link c.in_ok-ack.field-0 o o' was (updates_with m.links c.args.link o o' was) c.in_ok-ack.ensures.ok
     (λ v is. awaited v c.requires.0 (write_told (slab.get m.links c.args.link)) (ap write_told (was ∙ ap Some is)) c.requires.1 c.requires.2)
 
 pub returns-clause-asks : goal.returns-clause-asks

@@ -14,6 +14,7 @@ invariant_of-self c =
     let faults' = c.end.new.self in
     record {
       counted = m.counted;
+      unfailed = m.unfailed;
       follows = end_follows m.faults faults' (map line_of m.loaded.items) c.args.link c.end.ensures m.follows;
       earlier = changed_earlier m.links c.try_remove-gone.new.self faults' c.args.link None c.try_remove-gone.ensures.updates (λ read is. absurd (cc))
           (later_earlier m.links m.faults faults' (falls_end m.faults faults' c.args.link c.end.ensures) m.earlier);
@@ -22,12 +23,12 @@ invariant_of-self c =
 pub returns-clause-ends : goal.returns-clause-ends
 returns-clause-ends c =
     let m = c.args.self.now in
-    ended_write m.space m.config.settings m.last (map line_of m.loaded.items) m.faults c.end.new.self (falls_end m.faults c.end.new.self c.args.link c.end.ensures) m.nodes m.links c.try_remove-gone.new.self c.args.link None c.requires c.try_remove-gone.ensures.updates refl refl refl refl
+    ended_write m.space m.config.settings m.last m.calls (map line_of m.loaded.items) m.faults c.end.new.self (falls_end m.faults c.end.new.self c.args.link c.end.ensures) m.nodes m.links c.try_remove-gone.new.self c.args.link None c.requires c.try_remove-gone.ensures.updates refl refl refl refl
 
 pub returns-clause-ended : goal.returns-clause-ended
 returns-clause-ended c =
     let m = c.args.self.now in
-    ended_write m.space m.config.settings m.last (map line_of m.loaded.items) m.faults c.end.new.self (falls_end m.faults c.end.new.self c.args.link c.end.ensures) m.nodes m.links c.try_remove-gone.new.self c.args.link None c.requires c.try_remove-gone.ensures.updates refl refl refl refl
+    ended_write m.space m.config.settings m.last m.calls (map line_of m.loaded.items) m.faults c.end.new.self (falls_end m.faults c.end.new.self c.args.link c.end.ensures) m.nodes m.links c.try_remove-gone.new.self c.args.link None c.requires c.try_remove-gone.ensures.updates refl refl refl refl
 
 pub returns-clause-counted : goal.returns-clause-counted
-returns-clause-counted c = counts_end c.args.self.now _ c.args.link c.end.ensures c.try_remove-gone.ensures.updates refl
+returns-clause-counted c = counts_end c.args.self.now _ c.args.link c.end.ensures c.try_remove-gone.ensures.updates refl (λ i. refl)

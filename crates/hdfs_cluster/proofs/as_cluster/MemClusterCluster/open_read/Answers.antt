@@ -23,7 +23,7 @@ pub returns-then-refuses-clause-err : goal.returns-then-refuses-clause-err
 returns-then-refuses-clause-err c =
     let m = c.args.self.now in
     let d = c.args.ask.now.node.datanode_uuid in
-    refused_read m.space m.config.settings m.last (map line_of m.loaded.items) m.faults c.open.new.self m.nodes m.links c.args._kept c.args.ask.now
+    refused_read m.space m.config.settings m.last m.calls (map line_of m.loaded.items) m.faults c.open.new.self m.nodes m.links c.args._kept c.args.ask.now
     (counted_opening m.faults c.open.new.self c.as_str-uuid.result.now d c.refuses.result c.open.result true c.as_str-uuid.ensures c.refuses.ensures c.if-refuses.true c.open.ensures)
 
 pub returns-then-refuses-clause-asks : goal.returns-then-refuses-clause-asks
@@ -36,13 +36,13 @@ returns-then-refuses-clause-asks c =
 pub invariant_of-self-in-Break-branch-3 : goal.invariant_of-self-in-Break-branch-3
 invariant_of-self-in-Break-branch-3 c =
     let m = c.args.self.now in
-    record { counted = c.read.ensures.rest.count ∙ m.counted; follows = m.follows; earlier = same_earlier m.links c.insert.new.self m.faults (λ l. ap (λ s. slab.get s l) c.in_err-link.ensures.err) m.earlier }
+    record { counted = c.read.ensures.rest.count ∙ m.counted; unfailed = m.unfailed; follows = m.follows; earlier = same_earlier m.links c.insert.new.self m.faults (λ l. ap (λ s. slab.get s l) c.in_err-link.ensures.err) m.earlier }
 
 pub returns-in_err-link-clause-err : goal.returns-in_err-link-clause-err
 returns-in_err-link-clause-err c =
     let m = c.args.self.now in
     let p = err_from_is_err_and c.from_residual-in_err-link.result c.from_residual-in_err-link.ensures.1 in
-    rw (p.1, p.2) (not_opened m.space m.config.settings m.last (map line_of m.loaded.items) m.faults m.faults (falls_refl m.faults) m.nodes c.read.new.self m.links c.insert.new.self c.read.ensures.same
+    rw (p.1, p.2) (not_opened m.space m.config.settings m.last m.calls (map line_of m.loaded.items) m.faults m.faults (falls_refl m.faults) m.nodes c.read.new.self m.links c.insert.new.self c.read.ensures.same
     (links_from_slots m.links c.insert.new.self (λ l. ap (λ s. slab.get s l) c.in_err-link.ensures.err)) link_faults.NoMemory refl c.args._kept c.args.ask.now)
 
 pub returns-in_err-link-clause-asks : goal.returns-in_err-link-clause-asks
@@ -60,6 +60,7 @@ invariant_of-self-2 c =
     let told = subst (λ (n : ℕ). v.told ≡ told_for c.args.ask.now n v.chunk) (c.node_faults-before.ensures ∙ ap (node_faults_of m.faults) c.as_str-uuid.ensures) c.in_ok-read.ensures.told in
     record {
       counted = c.read.ensures.rest.count ∙ m.counted;
+      unfailed = m.unfailed;
       follows = counts_follows m.faults faults' (map line_of m.loaded.items) (opens_of u) c.open-3.result c.open-3.ensures m.follows;
       earlier = later_earlier c.insert.new.self m.faults faults' (falls_counts m.faults faults' (opens_of u) c.open-3.result c.open-3.ensures)
           (changed_earlier m.links c.insert.new.self m.faults c.in_ok-link.link (Some (links.Read v)) c.in_ok-link.ensures.updates (opened_earlier m.faults c.args.ask.now v told) m.earlier);
@@ -73,7 +74,7 @@ returns-clause-ok c =
     let v = c.in_ok-read.read in
     let told = subst (λ (n : ℕ). v.told ≡ told_for c.args.ask.now n v.chunk) (c.node_faults-before.ensures ∙ ap (node_faults_of m.faults) c.as_str-uuid.ensures) c.in_ok-read.ensures.told in
     let holds = c.in_ok-base.ensures.bytes ∙ ap (λ (d : List ℕ). held_in m.nodes d c.args.ask.now.block.block_id) c.as_str-uuid.ensures in
-    opened_read m.space m.config.settings m.last (map line_of m.loaded.items) m.faults faults' m.nodes c.read.new.self m.links c.insert.new.self c.in_ok-link.link v c.args.ask.now
+    opened_read m.space m.config.settings m.last m.calls (map line_of m.loaded.items) m.faults faults' m.nodes c.read.new.self m.links c.insert.new.self c.in_ok-link.link v c.args.ask.now
     (falls_counts m.faults faults' (opens_of u) c.open-3.result c.open-3.ensures) c.read.ensures.same c.in_ok-link.ensures.was_vacant c.in_ok-link.ensures.updates told c.in_ok-base.base c.in_ok-read.ensures.place holds c.in_ok-read.ensures.behind
 
 pub returns-clause-asks : goal.returns-clause-asks

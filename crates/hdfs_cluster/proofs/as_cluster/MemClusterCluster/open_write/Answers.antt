@@ -23,7 +23,7 @@ pub returns-in_err-base-clause-err : goal.returns-in_err-base-clause-err
 returns-in_err-base-clause-err c =
     let m = c.args.self.now in
     let p = err_from_is_err_and c.from_residual.result c.from_residual.ensures.1 in
-    rw (p.1, p.2) (not_opened_write m.space m.config.settings m.last (map line_of m.loaded.items) m.faults m.faults m.nodes c.enter_all.new.self m.links m.links c.vacant_key-key.result c.args.setup link_faults.NoMemory
+    rw (p.1, p.2) (not_opened_write m.space m.config.settings m.last m.calls (map line_of m.loaded.items) m.faults m.faults m.nodes c.enter_all.new.self m.links m.links c.vacant_key-key.result c.args.setup link_faults.NoMemory
     (falls_refl m.faults) c.vacant_key-key.ensures.vacant (λ l. refl) c.enter_all.ensures.others c.enter_all.ensures.bytes (λ apart. absurd (apart refl)))
 
 pub returns-in_err-base-clause-asks : goal.returns-in_err-base-clause-asks
@@ -35,7 +35,7 @@ pub returns-in_err-reserve-clause-err : goal.returns-in_err-reserve-clause-err
 returns-in_err-reserve-clause-err c =
     let m = c.args.self.now in
     let p = err_from_is_err_and c.from_residual-in_err-reserve.result c.from_residual-in_err-reserve.ensures.1 in
-    rw (p.1, p.2) (not_opened_write m.space m.config.settings m.last (map line_of m.loaded.items) m.faults m.faults m.nodes c.enter_all.new.self m.links c.reserve.new.self c.vacant_key-key.result c.args.setup link_faults.NoMemory
+    rw (p.1, p.2) (not_opened_write m.space m.config.settings m.last m.calls (map line_of m.loaded.items) m.faults m.faults m.nodes c.enter_all.new.self m.links c.reserve.new.self c.vacant_key-key.result c.args.setup link_faults.NoMemory
     (falls_refl m.faults) c.vacant_key-key.ensures.vacant (λ l. ap (λ s. slab.get s l) c.reserve.ensures.rest_kept) c.enter_all.ensures.others c.enter_all.ensures.bytes (λ apart. absurd (apart refl)))
 
 pub returns-in_err-reserve-clause-asks : goal.returns-in_err-reserve-clause-asks
@@ -49,6 +49,7 @@ invariant_of-self-in-Break-branch-3 c =
     let fall = falls_trans m.faults c.end.new.self c.set_up.new.self (falls_end m.faults c.end.new.self c.vacant_key-key.result c.end.ensures) (falls_same_plan c.end.new.self c.set_up.new.self c.in_err-kind.ensures.err) in
     record {
       counted = c.enter_all.ensures.rest.count ∙ m.counted;
+      unfailed = m.unfailed;
       follows = same_follows c.end.new.self c.set_up.new.self (map line_of m.loaded.items) c.in_err-kind.ensures.err (end_follows m.faults c.end.new.self (map line_of m.loaded.items) c.vacant_key-key.result c.end.ensures m.follows);
       earlier = same_earlier m.links c.reserve.new.self c.set_up.new.self (λ l. ap (λ s. slab.get s l) c.reserve.ensures.rest_kept) (later_earlier m.links m.faults c.set_up.new.self fall m.earlier);
     }
@@ -58,7 +59,7 @@ returns-in_err-kind-clause-err c =
     let m = c.args.self.now in
     let p = err_from_is_err_and c.from_residual-in_err-kind.result c.from_residual-in_err-kind.ensures.1 in
     let fall = falls_trans m.faults c.end.new.self c.set_up.new.self (falls_end m.faults c.end.new.self c.vacant_key-key.result c.end.ensures) (falls_same_plan c.end.new.self c.set_up.new.self c.in_err-kind.ensures.err) in
-    rw (p.1, p.2) (not_opened_write m.space m.config.settings m.last (map line_of m.loaded.items) m.faults c.set_up.new.self m.nodes c.enter_all.new.self m.links c.reserve.new.self c.vacant_key-key.result c.args.setup link_faults.NoMemory
+    rw (p.1, p.2) (not_opened_write m.space m.config.settings m.last m.calls (map line_of m.loaded.items) m.faults c.set_up.new.self m.nodes c.enter_all.new.self m.links c.reserve.new.self c.vacant_key-key.result c.args.setup link_faults.NoMemory
     fall c.vacant_key-key.ensures.vacant (λ l. ap (λ s. slab.get s l) c.reserve.ensures.rest_kept) c.enter_all.ensures.others c.enter_all.ensures.bytes (λ apart. absurd (apart refl)))
 
 pub returns-in_err-kind-clause-asks : goal.returns-in_err-kind-clause-asks
@@ -72,6 +73,7 @@ invariant_of-self-in-Some-1 c =
     let fall = falls_trans m.faults c.end.new.self c.set_up.new.self (falls_end m.faults c.end.new.self c.vacant_key-key.result c.end.ensures) (falls_set_up c.end.new.self c.set_up.new.self c.vacant_key-key.result c.in_ok-kind.kind c.in_ok-kind.ensures.ok) in
     record {
       counted = c.enter_all.ensures.rest.count ∙ m.counted;
+      unfailed = m.unfailed;
       follows = set_up_follows c.end.new.self c.set_up.new.self (map line_of m.loaded.items) c.vacant_key-key.result c.in_ok-kind.kind c.in_ok-kind.ensures.ok (end_follows m.faults c.end.new.self (map line_of m.loaded.items) c.vacant_key-key.result c.end.ensures m.follows);
       earlier = same_earlier m.links c.reserve.new.self c.set_up.new.self (λ l. ap (λ s. slab.get s l) c.reserve.ensures.rest_kept) (later_earlier m.links m.faults c.set_up.new.self fall m.earlier);
     }
@@ -80,7 +82,7 @@ pub returns-in-Some-clause-err : goal.returns-in-Some-clause-err
 returns-in-Some-clause-err c =
     let m = c.args.self.now in
     let fall = falls_trans m.faults c.end.new.self c.set_up.new.self (falls_end m.faults c.end.new.self c.vacant_key-key.result c.end.ensures) (falls_set_up c.end.new.self c.set_up.new.self c.vacant_key-key.result c.in_ok-kind.kind c.in_ok-kind.ensures.ok) in
-    not_opened_write m.space m.config.settings m.last (map line_of m.loaded.items) m.faults c.set_up.new.self m.nodes c.enter_all.new.self m.links c.reserve.new.self c.vacant_key-key.result c.args.setup c.in-Some.fault
+    not_opened_write m.space m.config.settings m.last m.calls (map line_of m.loaded.items) m.faults c.set_up.new.self m.nodes c.enter_all.new.self m.links c.reserve.new.self c.vacant_key-key.result c.args.setup c.in-Some.fault
     fall c.vacant_key-key.ensures.vacant (λ l. ap (λ s. slab.get s l) c.reserve.ensures.rest_kept) c.enter_all.ensures.others c.enter_all.ensures.bytes
     (λ apart. rose_set_up m.faults c.end.new.self c.set_up.new.self c.vacant_key-key.result c.in_ok-kind.kind c.in-Some.fault c.end.ensures c.in_ok-kind.ensures.ok (sym c.in-Some.ensures))
 
@@ -95,6 +97,7 @@ invariant_of-self-2 c =
     let fall = falls_trans m.faults c.end.new.self c.set_up.new.self (falls_end m.faults c.end.new.self c.vacant_key-key.result c.end.ensures) (falls_set_up c.end.new.self c.set_up.new.self c.vacant_key-key.result c.in_ok-kind.kind c.in_ok-kind.ensures.ok) in
     record {
       counted = c.enter_all.ensures.rest.count ∙ m.counted;
+      unfailed = m.unfailed;
       follows = set_up_follows c.end.new.self c.set_up.new.self (map line_of m.loaded.items) c.vacant_key-key.result c.in_ok-kind.kind c.in_ok-kind.ensures.ok (end_follows m.faults c.end.new.self (map line_of m.loaded.items) c.vacant_key-key.result c.end.ensures m.follows);
       earlier = changed_earlier c.reserve.new.self c.insert_reserved.new.self c.set_up.new.self c.insert_reserved.result (Some (links.Write c.new-write.result)) c.insert_reserved.ensures.updates (λ read is. absurd (cc))
           (same_earlier m.links c.reserve.new.self c.set_up.new.self (λ l. ap (λ s. slab.get s l) c.reserve.ensures.rest_kept) (later_earlier m.links m.faults c.set_up.new.self fall m.earlier));
@@ -111,8 +114,8 @@ returns-clause-ok c =
     let fall = falls_trans m.faults c.end.new.self faults' (falls_end m.faults c.end.new.self key c.end.ensures) (falls_set_up c.end.new.self faults' key c.in_ok-kind.kind c.in_ok-kind.ensures.ok) in
     let reserved : Updates c.reserve.new.self c.insert_reserved.new.self key (Some (links.Write w)) = subst (λ (l : ℕ). Updates c.reserve.new.self c.insert_reserved.new.self l (Some (links.Write w))) (sym same) c.insert_reserved.ensures.updates in
     let updates : Updates m.links c.insert_reserved.new.self key (Some (links.Write w)) = record { changed = reserved.changed; others = λ l apart. reserved.others l apart ∙ ap (λ s. slab.get s l) c.reserve.ensures.rest_kept } in
-    subst (λ (l : ℕ). WriteOpened (shown_at m.space m.config.settings m.last (map line_of m.loaded.items) m.faults m.nodes m.links) c.args.setup l (shown_at m.space m.config.settings m.last (map line_of m.loaded.items) faults' nodes' c.insert_reserved.new.self)) same
-    (opened_write m.space m.config.settings m.last (map line_of m.loaded.items) m.faults faults' fall m.nodes nodes' m.links c.insert_reserved.new.self key w updates
+    subst (λ (l : ℕ). WriteOpened (shown_at m.space m.config.settings m.last m.calls (map line_of m.loaded.items) m.faults m.nodes m.links) c.args.setup l (shown_at m.space m.config.settings m.last m.calls (map line_of m.loaded.items) faults' nodes' c.insert_reserved.new.self)) same
+    (opened_write m.space m.config.settings m.last m.calls (map line_of m.loaded.items) m.faults faults' fall m.nodes nodes' m.links c.insert_reserved.new.self key w updates
     c.args.setup c.vacant_key-key.ensures.vacant c.new-write.ensures.setup c.new-write.ensures.sent c.new-write.ensures.responses c.new-write.ensures.acknowledged
     (c.new-write.ensures.base ∙ c.in_ok-base.ensures.base ∙ ap (λ (xs : List DatanodeInfo). map (λ node. held_in m.nodes node.id.datanode_uuid c.args.setup.block.block_id) xs) c.as_slice-locs.ensures)
     (λ d named. c.in_ok-base.ensures.entered d (ap (λ (xs : List DatanodeInfo). is_named xs d) c.as_slice-locs.ensures ∙ named)) c.enter_all.ensures.others c.enter_all.ensures.bytes)

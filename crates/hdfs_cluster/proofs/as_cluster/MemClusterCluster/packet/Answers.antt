@@ -26,8 +26,9 @@ invariant_of-self c =
     let r = both_reads (λ v w. GivesOn m.faults c.give.new.faults v w c.give.result) o o' c.give.ensures in
     record {
       counted = m.counted;
+      unfailed = m.unfailed;
       follows = gives_follow m.faults c.give.new.faults (map line_of m.loaded.items) r.0 r.1 c.give.result r.4 m.follows;
-      earlier = gives_earlier m.space m.config.settings m.last (map line_of m.loaded.items) m.faults c.give.new.faults m.nodes m.links (with_value m.links c.args.link o') c.args.link r.0 r.1 (was ∙ ap Some r.2)
+      earlier = gives_earlier m.space m.config.settings m.last m.calls (map line_of m.loaded.items) m.faults c.give.new.faults m.nodes m.links (with_value m.links c.args.link o') c.args.link r.0 r.1 (was ∙ ap Some r.2)
           (subst (λ (x : MemLink). Updates m.links (with_value m.links c.args.link o') c.args.link (Some x)) r.3 (updates_with m.links c.args.link o o' was)) m.earlier c.give.result r.4;
     }
 
@@ -38,7 +39,7 @@ returns-clause-ok c =
     let o' = c.give.new.self in
     let was : slab.get m.links c.args.link ≡ Some o = sym c.in-Some.ensures.value in
     let r = both_reads (λ v w. GivesOn m.faults c.give.new.faults v w c.give.result) o o' c.give.ensures in
-    gives_packet m.space m.config.settings m.last (map line_of m.loaded.items) m.faults c.give.new.faults m.nodes m.links (with_value m.links c.args.link o') c.args.link r.0 r.1 (was ∙ ap Some r.2)
+    gives_packet m.space m.config.settings m.last m.calls (map line_of m.loaded.items) m.faults c.give.new.faults m.nodes m.links (with_value m.links c.args.link o') c.args.link r.0 r.1 (was ∙ ap Some r.2)
     (subst (λ (x : MemLink). Updates m.links (with_value m.links c.args.link o') c.args.link (Some x)) r.3 (updates_with m.links c.args.link o o' was)) m.earlier c.give.result r.4
 
 pub returns-clause-err : goal.returns-clause-err
@@ -48,7 +49,7 @@ returns-clause-err c =
     let o' = c.give.new.self in
     let was : slab.get m.links c.args.link ≡ Some o = sym c.in-Some.ensures.value in
     let r = both_reads (λ v w. GivesOn m.faults c.give.new.faults v w c.give.result) o o' c.give.ensures in
-    gives_none m.space m.config.settings m.last (map line_of m.loaded.items) m.faults c.give.new.faults m.nodes m.links (with_value m.links c.args.link o') c.args.link r.0 r.1 (was ∙ ap Some r.2)
+    gives_none m.space m.config.settings m.last m.calls (map line_of m.loaded.items) m.faults c.give.new.faults m.nodes m.links (with_value m.links c.args.link o') c.args.link r.0 r.1 (was ∙ ap Some r.2)
     (subst (λ (x : MemLink). Updates m.links (with_value m.links c.args.link o') c.args.link (Some x)) r.3 (updates_with m.links c.args.link o o' was)) m.earlier c.give.result r.4
 
 pub returns-clause-asks : goal.returns-clause-asks

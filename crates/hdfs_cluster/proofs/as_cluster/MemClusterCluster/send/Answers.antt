@@ -23,6 +23,7 @@ invariant_of-self c =
     let o = c.in-Some.open.now in
     record {
       counted = c.send.ensures.rest.count ∙ m.counted;
+      unfailed = m.unfailed;
       follows = sends_follow_on _ c.args.link c.args.packet.now c.send.result m.nodes c.send.new.nodes m.faults c.send.new.faults (map line_of m.loaded.items) o c.send.new.self c.send.ensures.ok c.send.ensures.err m.follows;
       earlier = sends_earlier (UnsentOn m.nodes c.send.new.nodes) m.links c.args.link c.args.packet.now c.send.result m.nodes c.send.new.nodes m.faults c.send.new.faults o c.send.new.self c.send.ensures.ok c.send.ensures.err (sym c.in-Some.ensures.value) m.earlier;
     }
@@ -36,7 +37,7 @@ returns-in_err-send-clause-err c =
     let was : slab.get m.links c.args.link ≡ Some o = sym c.in-Some.ensures.value in
     let unsent = links_unsent m.nodes c.send.new.nodes m.links s' c.args.link o o' was (updates_with m.links c.args.link o o' was) c.in_err-send.ensures.err.0 in
     let p = err_from_is_err_and c.from_residual.result c.from_residual.ensures.1 in
-    rw (p.1, p.2) (not_sent m.space m.config.settings m.last (map line_of m.loaded.items) m.faults c.send.new.faults (falls_same m.faults c.send.new.faults c.in_err-send.ensures.err.1) m.nodes c.send.new.nodes m.links s' unsent.1 unsent.0 link_faults.NoMemory refl c.args.link c.args.packet.now)
+    rw (p.1, p.2) (not_sent m.space m.config.settings m.last m.calls (map line_of m.loaded.items) m.faults c.send.new.faults (falls_same m.faults c.send.new.faults c.in_err-send.ensures.err.1) m.nodes c.send.new.nodes m.links s' unsent.1 unsent.0 link_faults.NoMemory refl c.args.link c.args.packet.now)
 
 pub returns-in_err-send-clause-asks : goal.returns-in_err-send-clause-asks
 returns-in_err-send-clause-asks c =
@@ -52,7 +53,7 @@ returns-in_err-send-clause-unsent c =
     let s' = with_value m.links c.args.link o' in
     let was : slab.get m.links c.args.link ≡ Some o = sym c.in-Some.ensures.value in
     let unsent = links_unsent m.nodes c.send.new.nodes m.links s' c.args.link o o' was (updates_with m.links c.args.link o o' was) c.in_err-send.ensures.err.0 in
-    on_err c.from_residual.result (still_picture m.space m.config.settings m.last (map line_of m.loaded.items) m.faults c.send.new.faults (falls_same m.faults c.send.new.faults c.in_err-send.ensures.err.1) m.nodes c.send.new.nodes m.links s' unsent.1 unsent.0)
+    on_err c.from_residual.result (still_picture m.space m.config.settings m.last m.calls (map line_of m.loaded.items) m.faults c.send.new.faults (falls_same m.faults c.send.new.faults c.in_err-send.ensures.err.1) m.nodes c.send.new.nodes m.links s' unsent.1 unsent.0)
 
 pub returns-then-branch-clause-unsent : goal.returns-then-branch-clause-unsent
 returns-then-branch-clause-unsent c =
@@ -63,7 +64,7 @@ returns-then-branch-clause-unsent c =
     let was : slab.get m.links c.args.link ≡ Some o = sym c.in-Some.ensures.value in
     let broke = subst (λ (b : Bool). OnWrites (λ v w. SendsOn c.args.link c.args.packet.now b (among m.nodes m.faults v) (among c.send.new.nodes c.send.new.faults w)) o o') c.if-branch.true c.in_ok-send.ensures.ok in
     let unsent = links_unsent m.nodes c.send.new.nodes m.links s' c.args.link o o' was (updates_with m.links c.args.link o o' was) (broke_unsent c.args.link c.args.packet.now m.nodes c.send.new.nodes m.faults c.send.new.faults o o' broke) in
-    still_picture m.space m.config.settings m.last (map line_of m.loaded.items) m.faults m.faults (falls_refl m.faults) m.nodes c.send.new.nodes m.links s' unsent.1 unsent.0
+    still_picture m.space m.config.settings m.last m.calls (map line_of m.loaded.items) m.faults m.faults (falls_refl m.faults) m.nodes c.send.new.nodes m.links s' unsent.1 unsent.0
 
 pub returns-then-branch-clause-err : goal.returns-then-branch-clause-err
 returns-then-branch-clause-err c =
@@ -72,7 +73,7 @@ returns-then-branch-clause-err c =
     let o' = c.send.new.self in
     let was : slab.get m.links c.args.link ≡ Some o = sym c.in-Some.ensures.value in
     let broke = subst (λ (b : Bool). OnWrites (λ v w. SendsOn c.args.link c.args.packet.now b (among m.nodes m.faults v) (among c.send.new.nodes c.send.new.faults w)) o o') c.if-branch.true c.in_ok-send.ensures.ok in
-    broke_on m.space m.config.settings m.last (map line_of m.loaded.items) m.faults c.send.new.faults m.nodes c.send.new.nodes m.links (with_value m.links c.args.link o') c.args.link c.args.packet.now o o' was (updates_with m.links c.args.link o o' was) broke
+    broke_on m.space m.config.settings m.last m.calls (map line_of m.loaded.items) m.faults c.send.new.faults m.nodes c.send.new.nodes m.links (with_value m.links c.args.link o') c.args.link c.args.packet.now o o' was (updates_with m.links c.args.link o o' was) broke
 
 pub returns-then-branch-clause-asks : goal.returns-then-branch-clause-asks
 returns-then-branch-clause-asks c =
@@ -86,7 +87,7 @@ returns-clause-ok c =
     let o' = c.send.new.self in
     let was : slab.get m.links c.args.link ≡ Some o = sym c.in-Some.ensures.value in
     let sent = subst (λ (b : Bool). OnWrites (λ v w. SendsOn c.args.link c.args.packet.now b (among m.nodes m.faults v) (among c.send.new.nodes c.send.new.faults w)) o o') c.if-branch.false c.in_ok-send.ensures.ok in
-    sent_on m.space m.config.settings m.last (map line_of m.loaded.items) m.faults c.send.new.faults m.nodes c.send.new.nodes m.links (with_value m.links c.args.link o') c.args.link c.args.packet.now o o' was (updates_with m.links c.args.link o o' was) sent
+    sent_on m.space m.config.settings m.last m.calls (map line_of m.loaded.items) m.faults c.send.new.faults m.nodes c.send.new.nodes m.links (with_value m.links c.args.link o') c.args.link c.args.packet.now o o' was (updates_with m.links c.args.link o o' was) sent
 
 pub returns-clause-asks : goal.returns-clause-asks
 returns-clause-asks c =

@@ -17,6 +17,7 @@ use Rattle.hdfs_replicas.specs.Nodes.{node_at, undisturbed_in, Joins}
 use Rattle.hdfs_replicas.specs.Replicas.{held_by, undisturbed_by}
 use Rattle.hdfs_cluster.proofs.Counting.{falls_adds}
 use Rattle.hdfs_cluster.proofs.Earlier.{later_earlier}
+use Rattle.hdfs_cluster.proofs.Failing.{fresh_calls}
 use Rattle.hdfs_cluster.proofs.NothingLoaded.{on_err}
 use Rattle.hdfs_cluster.proofs.Places.{place_same}
 use Rattle.hdfs_cluster.proofs.as_store.MemClusterStore.prepare.Goals as goal
@@ -35,19 +36,19 @@ pub invariant_of-self : goal.invariant_of-self
 invariant_of-self c =
     let m = c.args.self.now in
     let adds = c.add_nodes.ensures.rest in
-    record { counted = m.counted; follows = follows_more m c.add_nodes.new.self c.requires.fresh adds; earlier = later_earlier m.links m.faults c.add_nodes.new.self (falls_adds m.faults c.add_nodes.new.self adds) m.earlier }
+    record { counted = m.counted; unfailed = m.unfailed; follows = follows_more m c.add_nodes.new.self c.requires.fresh adds; earlier = later_earlier m.links m.faults c.add_nodes.new.self (falls_adds m.faults c.add_nodes.new.self adds) m.earlier }
 
 pub invariant_of-self-in-Break-branch-2 : goal.invariant_of-self-in-Break-branch-2
 invariant_of-self-in-Break-branch-2 c =
     let m = c.args.self.now in
     let adds = c.add_nodes.ensures.rest in
-    record { counted = c.in_err-grow.ensures.err ∙ m.counted; follows = follows_more m c.add_nodes.new.self c.requires.fresh adds; earlier = later_earlier m.links m.faults c.add_nodes.new.self (falls_adds m.faults c.add_nodes.new.self adds) m.earlier }
+    record { counted = c.in_err-grow.ensures.err ∙ m.counted; unfailed = m.unfailed; follows = follows_more m c.add_nodes.new.self c.requires.fresh adds; earlier = later_earlier m.links m.faults c.add_nodes.new.self (falls_adds m.faults c.add_nodes.new.self adds) m.earlier }
 
 pub invariant_of-self-2 : goal.invariant_of-self-2
 invariant_of-self-2 c =
     let m = c.args.self.now in
     let adds = c.add_nodes.ensures.rest in
-    record { counted = c.in_ok-grow.ensures.count ∙ sym (ap (λ (s : MemSettings). s.nodes) c.new-self.ensures); follows = follows_more m c.add_nodes.new.self c.requires.fresh adds; earlier = later_earlier m.links m.faults c.add_nodes.new.self (falls_adds m.faults c.add_nodes.new.self adds) m.earlier }
+    record { counted = c.in_ok-grow.ensures.count ∙ sym (ap (λ (s : MemSettings). s.nodes) c.new-self.ensures); unfailed = m.unfailed; follows = follows_more m c.add_nodes.new.self c.requires.fresh adds; earlier = later_earlier m.links m.faults c.add_nodes.new.self (falls_adds m.faults c.add_nodes.new.self adds) m.earlier }
 
 pub returns-in_err-add_nodes-clause-err : goal.returns-in_err-add_nodes-clause-err
 returns-in_err-add_nodes-clause-err c =
@@ -89,7 +90,7 @@ returns-clause-ok c =
     let joins = c.grow.ensures.joins in
     let adds = c.add_nodes.ensures.rest in
     record {
-      counts = record { calls = λ i. refl; links = adds.links.faults; nodes = adds.nodes };
+      counts = record { calls = fresh_calls c.args.self.now c.requires.fresh c.new-self.result.settings; links = adds.links.faults; nodes = adds.nodes };
       last = refl;
       namenodes = ap (λ (s : MemSettings). s.namenodes) c.new-self.ensures;
       reads = λ link. refl;
@@ -116,7 +117,7 @@ pub returns-clause-counted : goal.returns-clause-counted
 returns-clause-counted c =
     let adds = c.add_nodes.ensures.rest in
     record {
-      counts = record { calls = λ i. refl; links = adds.links.faults; nodes = adds.nodes };
+      counts = record { calls = fresh_calls c.args.self.now c.requires.fresh c.new-self.result.settings; links = adds.links.faults; nodes = adds.nodes };
       calls = adds.calls;
       bad = λ link shown. adds.links.bad link;
       there = λ d has. record { there = (c.grow.ensures.joins d).there has.there; counted = adds.there d has.counted };

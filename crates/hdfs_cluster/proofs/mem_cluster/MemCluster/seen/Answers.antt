@@ -1,12 +1,13 @@
 -- Objects fail only where faults were loaded for them.
 use Rattle.hdfs_cluster.proofs.Counting.{links_planned, nodes_planned}
+use Rattle.hdfs_cluster.proofs.Failing.{calls_planned}
 use Rattle.hdfs_cluster.proofs.mem_cluster.MemCluster.seen.Goals as goal
 
-pub returns-in_err-zeros-clause-planned : goal.returns-in_err-zeros-clause-planned
-returns-in_err-zeros-clause-planned c = nodes_planned c.args.self.now
+pub returns-in_err-all_calls-clause-planned : goal.returns-in_err-all_calls-clause-planned
+returns-in_err-all_calls-clause-planned c = nodes_planned c.args.self.now
 
-pub returns-in_err-zeros-clause-planned_links : goal.returns-in_err-zeros-clause-planned_links
-returns-in_err-zeros-clause-planned_links c = links_planned c.args.self.now
+pub returns-in_err-all_calls-clause-planned_links : goal.returns-in_err-all_calls-clause-planned_links
+returns-in_err-all_calls-clause-planned_links c = links_planned c.args.self.now
 
 pub returns-in_err-all_faults-clause-planned : goal.returns-in_err-all_faults-clause-planned
 returns-in_err-all_faults-clause-planned c = nodes_planned c.args.self.now
@@ -19,3 +20,12 @@ returns-clause-planned c = nodes_planned c.args.self.now
 
 pub returns-clause-planned_links : goal.returns-clause-planned_links
 returns-clause-planned_links c = links_planned c.args.self.now
+
+pub returns-in_err-all_calls-clause-planned_calls : goal.returns-in_err-all_calls-clause-planned_calls
+returns-in_err-all_calls-clause-planned_calls c = calls_planned c.args.self.now
+
+pub returns-in_err-all_faults-clause-planned_calls : goal.returns-in_err-all_faults-clause-planned_calls
+returns-in_err-all_faults-clause-planned_calls c = calls_planned c.args.self.now
+
+pub returns-clause-planned_calls : goal.returns-clause-planned_calls
+returns-clause-planned_calls c = calls_planned c.args.self.now

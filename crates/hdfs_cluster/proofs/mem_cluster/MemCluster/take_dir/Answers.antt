@@ -15,6 +15,7 @@ use Rattle.hdfs_cluster.specs.declared.loaded.Kept.{Kept}
 use Rattle.hdfs_cluster.specs.declared.loaded.Kept.TheVariants as keeps
 use Rattle.hdfs_cluster.specs.Lines.{line_of}
 use Rattle.hdfs_faults.proofs.Following.{other_follows}
+use Rattle.hdfs_cluster.proofs.Failing.{unfailed_push}
 use Rattle.hdfs_cluster.proofs.Agreeing.{agrees_with_new}
 use Rattle.hdfs_cluster.proofs.Cutting.{keeps_refl}
 use Rattle.hdfs_cluster.proofs.Lying.{lie_dir}
@@ -29,7 +30,7 @@ returns-in_err-add_dir-clause-err c =
     let table = table_of m.space.table.entries in
     let kept = subst (λ t. KeepsBlocks table (table_of t.entries) (held_in m.nodes) (held_in m.nodes)) (sym c.add_dir.ensures.table) (keeps_refl table (held_in m.nodes)) in
     on_err c.from_residual-in_err-add_dir.result
-    (nothing_loaded m.space c.add_dir.new.self m.config.settings m.last m.loaded.items c.reserve.new.self.items m.faults m.nodes m.nodes m.links c.reserve.ensures.items c.in_err-add_dir.ensures.err.0 kept (λ d b link. refl))
+    (nothing_loaded m.space c.add_dir.new.self m.config.settings m.last m.calls m.loaded.items c.reserve.new.self.items m.faults m.nodes m.nodes m.links c.reserve.ensures.items c.in_err-add_dir.ensures.err.0 kept (λ d b link. refl))
 
 pub returns-clause-loads : goal.returns-clause-loads
 returns-clause-loads c =
@@ -53,7 +54,7 @@ returns-clause-loads c =
           (let p = picture_at m.space m.nodes m.config.settings m.links in
           let loaded = map line_of m.loaded.items in
           let names = subst (λ (path : List ℕ). Names (get_by_text m.space.names) (get_by_text space'.names) path entries.Dir) name c.in_ok-add_dir.ensures.ok in
-          loaded_more (shown_at space' m.config.settings m.last (map line_of c.push_reserved.new.self.items) m.faults m.nodes m.links) p' (with_new state c.args.path Dir).files m.config.settings.nodes (loaded ++ line_of kept ∷ []) refl
+          loaded_more (shown_at space' m.config.settings m.last m.calls (map line_of c.push_reserved.new.self.items) m.faults m.nodes m.links) p' (with_new state c.args.path Dir).files m.config.settings.nodes (loaded ++ line_of kept ∷ []) refl
           (ap (map line_of) items ∙ map-append line_of m.loaded.items (kept ∷ [])) refl (lie_dir m.config.settings.nodes loaded p p' blocks state c.args.path names (lie p refl)));
     }
 
@@ -62,4 +63,4 @@ invariant_of-self-2 c =
     let m = c.args.self.now in
     let kept = keeps.Dir c.args.path in
     let items : c.push_reserved.new.self.items ≡ m.loaded.items ++ kept ∷ [] = c.push_reserved.ensures.items ∙ ap (λ (xs : List Kept). xs ++ kept ∷ []) c.reserve.ensures.items in
-    record { counted = m.counted; earlier = m.earlier; follows = follows_push m.faults m.loaded.items c.push_reserved.new.self.items kept items (other_follows m.faults (map line_of m.loaded.items) (line_of kept) refl m.follows) }
+    record { counted = m.counted; unfailed = unfailed_push m.loaded.items c.push_reserved.new.self.items kept m.calls items m.unfailed; earlier = m.earlier; follows = follows_push m.faults m.loaded.items c.push_reserved.new.self.items kept items (other_follows m.faults (map line_of m.loaded.items) (line_of kept) refl m.follows) }

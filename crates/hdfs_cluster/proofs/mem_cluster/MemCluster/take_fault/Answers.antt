@@ -7,6 +7,7 @@ use Rattle.hdfs_cluster.specs.declared.loaded.Kept.{Kept}
 use Rattle.hdfs_cluster.specs.declared.loaded.Kept.TheVariants as keeps
 use Rattle.hdfs_cluster.specs.Lines.{line_of}
 use Rattle.hdfs_cluster.specs.MemShown.{loaded_at, picture_at}
+use Rattle.hdfs_cluster.proofs.Failing.{unfailed_push, unfailed_same}
 use Rattle.hdfs_cluster.proofs.Counting.{falls_fault}
 use Rattle.hdfs_cluster.proofs.Earlier.{later_earlier}
 use Rattle.hdfs_cluster.proofs.Cutting.{keeps_refl}
@@ -19,7 +20,7 @@ use Rattle.hdfs_cluster.proofs.mem_cluster.MemCluster.take_fault.Goals as goal
 pub invariant_of-self : goal.invariant_of-self
 invariant_of-self c =
     let m = c.args.self.now in
-    record { counted = m.counted; earlier = m.earlier; follows = subst (λ (xs : List Kept). Follows m.faults (map line_of xs)) (sym c.reserve.ensures.items) m.follows }
+    record { counted = m.counted; unfailed = unfailed_same m.loaded.items c.reserve.new.self.items m.calls c.reserve.ensures.items m.unfailed; earlier = m.earlier; follows = subst (λ (xs : List Kept). Follows m.faults (map line_of xs)) (sym c.reserve.ensures.items) m.follows }
 
 pub invariant_of-self-2 : goal.invariant_of-self-2
 invariant_of-self-2 c =
@@ -28,6 +29,7 @@ invariant_of-self-2 c =
     let items : c.push_reserved.new.self.items ≡ m.loaded.items ++ kept ∷ [] = c.push_reserved.ensures.items ∙ ap (λ (xs : List Kept). xs ++ kept ∷ []) c.reserve.ensures.items in
     record {
       counted = m.counted;
+      unfailed = unfailed_push m.loaded.items c.push_reserved.new.self.items kept m.calls items m.unfailed;
       follows = follows_push c.plan.new.self m.loaded.items c.push_reserved.new.self.items kept items (plan_follows m.faults c.plan.new.self (map line_of m.loaded.items) c.args.fault c.in_ok-plan.ensures.ok m.follows);
       earlier = later_earlier m.links m.faults c.plan.new.self (falls_fault m.faults c.plan.new.self c.args.fault c.in_ok-plan.ensures.ok) m.earlier;
     }
@@ -47,7 +49,7 @@ returns-clause-loads c =
       replicas = λ state was lie.
           (let p = picture_at m.space m.nodes m.config.settings m.links in
           let loaded = map line_of m.loaded.items in
-          loaded_more (shown_at m.space m.config.settings m.last (map line_of c.push_reserved.new.self.items) c.plan.new.self m.nodes m.links) p state.files m.config.settings.nodes (loaded ++ line_of kept ∷ []) refl
+          loaded_more (shown_at m.space m.config.settings m.last m.calls (map line_of c.push_reserved.new.self.items) c.plan.new.self m.nodes m.links) p state.files m.config.settings.nodes (loaded ++ line_of kept ∷ []) refl
           (ap (map line_of) items ∙ map-append line_of m.loaded.items (kept ∷ [])) refl
           (lie_fault m.config.settings.nodes loaded p p (keeps_refl p.table p.held) state.files c.args.fault (λ x. refl) (lie p refl)));
     }

@@ -19,6 +19,7 @@ use Rattle.hdfs_cluster.specs.declared.loaded.Kept.{Kept}
 use Rattle.hdfs_cluster.specs.declared.loaded.Kept.TheVariants as keeps
 use Rattle.hdfs_cluster.specs.Lines.{line_of}
 use Rattle.hdfs_faults.proofs.Following.{other_follows}
+use Rattle.hdfs_cluster.proofs.Failing.{unfailed_push}
 use Rattle.hdfs_cluster.proofs.NothingLoaded.{follows_push, on_err, loads_at, nothing_loaded}
 use Rattle.hdfs_cluster.proofs.Lying.{lie_file}
 use Rattle.hdfs_cluster.proofs.NewLying.{loaded_more, new_lies}
@@ -45,7 +46,7 @@ pub returns-in_err-store_file-clause-err : goal.returns-in_err-store_file-clause
 returns-in_err-store_file-clause-err c =
     let m = c.args.self.now in
     on_err c.from_residual-in_err-store_file.result
-    (nothing_loaded m.space c.store_file.new.space m.config.settings m.last m.loaded.items c.reserve.new.self.items m.faults m.nodes c.store_file.new.nodes m.links c.reserve.ensures.items c.in_err-store_file.ensures.err
+    (nothing_loaded m.space c.store_file.new.space m.config.settings m.last m.calls m.loaded.items c.reserve.new.self.items m.faults m.nodes c.store_file.new.nodes m.links c.reserve.ensures.items c.in_err-store_file.ensures.err
     c.store_file.ensures.kept
     c.store_file.ensures.links)
 
@@ -81,7 +82,7 @@ returns-clause-loads c =
           let few : count < 2 ^ 64 = omega (arith, m.config.few_nodes) in
           let numbers = accepted_numbers old_names c.args.path c.args.attributes (length c.args.bytes) c.requires in
           let here = new_lies count few loaded q c.args.path c.args.attributes c.args.bytes stored.0 numbers.0 named cut in
-          loaded_more (shown_at c.store_file.new.space m.config.settings m.last (map line_of c.push_reserved.new.self.items) m.faults c.store_file.new.nodes m.links) q
+          loaded_more (shown_at c.store_file.new.space m.config.settings m.last m.calls (map line_of c.push_reserved.new.self.items) m.faults c.store_file.new.nodes m.links) q
           (with_file state c.args.path (record { bytes = c.args.bytes; attributes = c.args.attributes })).files count (loaded ++ lines.File c.args.path c.args.attributes c.args.bytes ∷ []) refl
           (ap (map line_of) items ∙ map-append line_of m.loaded.items (kept ∷ []) ∙ ap (λ (bytes : List ℕ). loaded ++ lines.File c.args.path c.args.attributes bytes ∷ []) told) refl
           (lie_file count loaded p q c.store_file.ensures.kept state c.args.path c.args.attributes c.args.bytes stored.0 names here (lie p refl)));
@@ -108,4 +109,4 @@ invariant_of-self-2 c =
     let m = c.args.self.now in
     let kept = keeps.File c.args.path c.args.attributes c.in_ok-bytes.bytes in
     let items : c.push_reserved.new.self.items ≡ m.loaded.items ++ kept ∷ [] = c.push_reserved.ensures.items ∙ ap (λ (xs : List Kept). xs ++ kept ∷ []) c.reserve.ensures.items in
-    record { counted = c.store_file.ensures.rest.count ∙ m.counted; earlier = m.earlier; follows = follows_push m.faults m.loaded.items c.push_reserved.new.self.items kept items (other_follows m.faults (map line_of m.loaded.items) (line_of kept) refl m.follows) }
+    record { counted = c.store_file.ensures.rest.count ∙ m.counted; unfailed = unfailed_push m.loaded.items c.push_reserved.new.self.items kept m.calls items m.unfailed; earlier = m.earlier; follows = follows_push m.faults m.loaded.items c.push_reserved.new.self.items kept items (other_follows m.faults (map line_of m.loaded.items) (line_of kept) refl m.follows) }
