@@ -1,6 +1,5 @@
-pub mod Attempts
-pub mod Between
-pub mod Plans
-pub mod Replacing
-pub mod Resuming
-pub mod Trying
+-- What a writer of a block is, and what its calls do.
+pub mod OpenPipelines
+pub mod BlockWriters
+pub mod Written
+pub mod Pushing

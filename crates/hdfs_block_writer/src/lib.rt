@@ -1,11 +1,10 @@
-//! Writers of blocks: how a block gets another pipeline once one has failed.
+//! Writers of blocks: bytes go into packets, packets down a pipeline of datanodes, and the pipeline is rebuilt where some of them fail.
 #![tactic(auto)]
 
-mod attempts;
-mod block_plan;
-mod recovery;
-mod replacing;
-mod replay;
+mod block_writer;
+mod packing;
+mod pushing;
+mod set_up;
 
-pub use attempts::rebuild;
-pub use block_plan::{BlockPlan, RebuildFault, RebuildSettings, Rebuilt, nodes_without};
+pub use block_writer::BlockWriter;
+pub use hdfs_recovery::{BlockPlan, RebuildSettings, WriteFault};

@@ -1,0 +1,224 @@
+-- What comes of an ask for a datanode more, and of the transfer to it.
+use Rattle.std.proofs.Common.{◌≡◌, ◌≢◌, ◌⊎◌, inl, inr, ⊎_elim, ℕ, ◌≤◌, true, List, Some, refl, ◌∙◌, ap, subst, arith}
+use Rattle.std.proofs.lemmas.List.Elements.{All-from_recursion}
+use Rattle.std.specs.List.{Contains}
+use Rattle.std.specs.Prelude.{Result, Ok, Err}
+use Rattle.hdfs_model.specs.declared.asks.Answer.{Answer}
+use Rattle.hdfs_model.specs.declared.asks.Answer.TheVariants as answers
+use Rattle.hdfs_model.specs.declared.asks.Ask.{Ask}
+use Rattle.hdfs_model.specs.declared.asks.Ask.TheVariants as asks
+use Rattle.hdfs_model.specs.declared.asks.AskFault.{AskFault}
+use Rattle.hdfs_model.specs.declared.asks.LinkFault.{LinkFault}
+use Rattle.hdfs_model.specs.declared.asks.LinkFault.TheVariants as links
+use Rattle.hdfs_model.specs.declared.errors.HdfsError.{HdfsError}
+use Rattle.hdfs_model.specs.declared.errors.HdfsError.TheVariants as errors
+use Rattle.hdfs_model.specs.declared.messages.Block.{Block}
+use Rattle.hdfs_model.specs.declared.messages.DatanodeInfo.{DatanodeInfo}
+use Rattle.hdfs_model.specs.declared.messages.LocatedBlock.{LocatedBlock}
+use Rattle.hdfs_model.specs.declared.messages.Transfer.{Transfer}
+use Rattle.hdfs_model.specs.Counts.{Rose}
+use Rattle.hdfs_model.specs.Effects.{AddsOneOf}
+use Rattle.hdfs_model.specs.Namenode.{IsToWrite, Row, ServesTold}
+use Rattle.hdfs_model.specs.Picture.{Picture, SameButActive}
+use Rattle.hdfs_model.specs.Pipes.{OnlyWrites}
+use Rattle.hdfs_model.specs.Shown.{Later, Served, Shown}
+use Rattle.hdfs_model.specs.Transferring.{GivesAll, GivesSome, NotTransferred, Transferred}
+use Rattle.hdfs_model.specs.Writing.{OnlyBlock}
+use Rattle.hdfs_model.specs.Sending.{uuids}
+use Rattle.hdfs_model.proofs.Frames.{rose_since, same_picture_refl, told_after}
+use Rattle.hdfs_names.specs.Shown.{shown as policy_of}
+use Rattle.hdfs_namenode.specs.Asked.{AskedOnce}
+use Rattle.hdfs_recovery.specs.declared.block_plan.BlockPlan.{BlockPlan}
+use Rattle.hdfs_recovery.specs.declared.block_plan.WriteFault.TheVariants as faults
+use Rattle.hdfs_recovery.specs.declared.block_plan.RebuildSettings.{RebuildSettings}
+use Rattle.hdfs_recovery.specs.Between.{HelpFailed, KeepsLinks, OnlyBlockOf, SameActive, WaitsOn}
+use Rattle.hdfs_recovery.specs.Plans.{IsDue, Known, Waits}
+use Rattle.hdfs_recovery.specs.Replacing.{AddsNode, AddsNone, AreApart, Completes, GivesToAdded, fault_of_none, fault_of_transfer, with_nodes}
+use Rattle.hdfs_recovery.proofs.Adding.{all_in, each_apart, only_given, waits_added, waits_without}
+use Rattle.hdfs_recovery.proofs.Asks.{asked_error, asked_links, asked_ok, asked_told}
+use Rattle.hdfs_recovery.proofs.Stepping.{only_block_of_trans, only_block_of-same, same_active_trans, waits_on_refl, waits_same}
+
+-- a transfer changes no link
+pub transfer_links : (old new : Shown) → OnlyWrites old new → ((link : ℕ) → new.writes link ≡ old.writes link) → KeepsLinks old new
+transfer_links old new only writes =
+    record { later = only.later; reads = record { links = only.reads; places = only.places }; writes = writes }
+
+none_fault : (error : HdfsError) → error ≢ errors.NoMemory → fault_of_none error ≡ faults.NoReplacement
+none_fault errors.NoMemory apart = absurd (apart refl)
+none_fault error apart = refl
+
+-- One ask for a datanode more.
+module _ {C : Type 0} (shown : C → Shown) (serves : C → ℕ → Ask → Result Answer AskFault → C → Type 0)
+    (rows : (old new : C) (i : ℕ) (ask : Ask) (result : Result Answer AskFault) → serves old i ask result new
+    → Served (shown old) i ask result (shown new))
+    (plan : BlockPlan) (excludes : List DatanodeInfo) (count : ℕ) (client : List ℕ) (ids : List (List ℕ)) (old mid : C) where
+  abbrev ask : Ask
+  ask = asks.GetAdditionalDatanode plan.src plan.block.b plan.block.locs excludes count client ids
+
+  -- the ask with the parts that its caller names
+  pub asked_so : (src : List ℕ) (existing : List DatanodeInfo) (outcome : Result Answer HdfsError) → src ≡ plan.src
+      → existing ≡ plan.block.locs
+      → AskedOnce serves (asks.GetAdditionalDatanode src plan.block.b existing excludes count client ids) old outcome mid
+      → AskedOnce serves ask old outcome mid
+  asked_so src existing outcome same same_nodes asked =
+      subst (λ (nodes : List DatanodeInfo). AskedOnce serves (asks.GetAdditionalDatanode plan.src plan.block.b nodes excludes count client ids) old outcome mid)
+      same_nodes
+      (subst (λ (path : List ℕ). AskedOnce serves (asks.GetAdditionalDatanode path plan.block.b existing excludes count client ids) old outcome mid)
+      same asked)
+
+  row_same : (p q : Picture) (answer : Answer) → Row p ask answer q → SameButActive p q
+  row_same p q (answers.GetAdditionalDatanode located) row = row.2
+  row_same p q (answers.GetBlockLocations found) row = absurd row
+  row_same p q (answers.GetServerDefaults defaults) row = absurd row
+  row_same p q (answers.Create status) row = absurd row
+  row_same p q (answers.Append appended) row = absurd row
+  row_same p q (answers.AddBlock block) row = absurd row
+  row_same p q (answers.Complete done) row = absurd row
+  row_same p q (answers.UpdateBlockForPipeline block) row = absurd row
+  row_same p q answers.UpdatePipeline row = absurd row
+
+  -- Whatever comes of it, the block waits as before.
+  pub waits_asked : (outcome : Result Answer HdfsError) → AskedOnce serves ask old outcome mid → WaitsOn plan (shown old) plan (shown mid)
+  waits_asked outcome asked p known is w =
+      let x = asked_told shown serves rows ask old mid SameButActive p is (λ own. own w.file) (λ q same. same) (λ q answer row. row_same p q answer row)
+      (same_picture_refl p).rest outcome asked in (
+        x.0,
+        x.1,
+        waits_same p x.0 plan known x.2 w,
+        x.2.files.table plan.block.b.block_id,
+        only_block_of-same plan.block.b.block_id p x.0 x.2,
+        x.3,
+      )
+
+  -- why none was answered
+  pub none_prepared : (outcome : Result Answer HdfsError) → AskedOnce serves ask old outcome mid
+      → AddsNone plan (shown old) faults.NoMemory (shown mid)
+  none_prepared outcome asked = record { cause = inl refl; waits = waits_asked outcome asked }
+
+  pub none_answered : (error : HdfsError) → AskedOnce serves ask old (Err error) mid
+      → AddsNone plan (shown old) (fault_of_none error) (shown mid)
+  none_answered error asked = record {
+    cause = ⊎_elim
+        (λ memory. inl (ap fault_of_none memory))
+        (λ other. inr (
+          none_fault error other.0,
+          inr (λ p known is w active. other.2 p is (λ own. own w.file) (λ class none. none) active),
+        ))
+        (asked_error shown serves rows ask old mid error asked);
+    waits = waits_asked (Err error) asked;
+  }
+
+  -- A datanode was answered: over a told picture it is none of the others, nor of those that are left out.
+  module _ (located : LocatedBlock) (asked : AskedOnce serves ask old (Ok (answers.GetAdditionalDatanode located)) mid) where
+    answered : (p : Picture) (known : Known) → (shown old).picture ≡ Some p → Waits p plan known
+        → (q : Picture) × ((shown mid).picture ≡ Some q) × AddsOneOf plan.block.locs excludes located.locs × SameButActive p q
+        × SameActive (shown old) p (shown mid) q
+    answered p known is w =
+        let served = (asked_ok shown serves rows ask old mid (answers.GetAdditionalDatanode located) asked).0 in
+        let x = told_after (λ p q. ServesTold (Rose ((shown old).counts.calls 0) ((shown mid).counts.calls 0)) p 0 ask (Ok (answers.GetAdditionalDatanode located)) q)
+        (shown old).picture (shown mid).picture p served.picture is in
+        ⊎_elim
+        (λ row. (x.0, x.1, row.1, row.2, x.2.1))
+        (λ own. absurd (own.0 w.file))
+        x.2.2
+
+    pub apart : AreApart plan (shown old) excludes located.locs
+    apart p known is w = let x = answered p known is w in each_apart plan.block.locs excludes located.locs x.2
+
+    -- Then it is given the block, or it isn't.
+    module _ (new : Shown) (name : List ℕ) (transfer : Transfer) (gives : GivesToAdded plan located name transfer) where
+      only_both : (p q r : Picture) → SameButActive p q → OnlyBlock transfer.block.block_id (uuids transfer.targets) q r
+          → OnlyBlockOf plan.block.b.block_id p r
+      only_both p q r same only =
+          only_block_of_trans plan.block.b.block_id p q r (only_block_of-same plan.block.b.block_id p q same)
+          (only_given transfer q r plan.block.b.block_id (ap (λ (b : Block). b.block_id) gives.block) only)
+
+      active_both : Later (shown mid) new → (p q r : Picture) → SameActive (shown old) p (shown mid) q → r.active ≡ q.active
+          → SameActive (shown old) p new r
+      active_both later p q r first then =
+          same_active_trans (shown old) (shown mid) new p q r
+          (asked_links shown serves rows ask old mid (Ok (answers.GetAdditionalDatanode located)) asked).later later first (inl then)
+
+      pub waits_with : Transferred (shown mid) transfer new → WaitsOn plan (shown old) (with_nodes plan located) new
+      waits_with given p known is w =
+          let x = answered p known is w in
+          let y = told_after (GivesAll transfer) (shown mid).picture new.picture x.0 given.gives x.1 in
+          let only = y.2.only in (
+            y.0,
+            y.1,
+            waits_added plan excludes located name transfer x.2 gives x.0 known (waits_same p x.0 plan known x.3 w) y.0 y.2,
+            only.records.table plan.block.b.block_id ∙ x.3.files.table plan.block.b.block_id,
+            only_both p x.0 y.0 x.3 only,
+            active_both given.only.later p x.0 y.0 x.4 only.records.active,
+          )
+
+      pub none_given : (fault : LinkFault) → NotTransferred (shown mid) transfer fault new
+          → AddsNone plan (shown old) (fault_of_transfer fault) new
+      none_given fault given = record {
+        cause = why fault given.cause;
+        waits = λ p known is w.
+            (let x = answered p known is w in
+            let y = told_after (GivesSome transfer) (shown mid).picture new.picture x.0 given.gives x.1 in
+            let only = y.2.only in (
+              y.0,
+              y.1,
+              waits_without plan excludes located name transfer x.2 gives x.0 known (waits_same p x.0 plan known x.3 w) y.0 y.2,
+              only.records.table plan.block.b.block_id ∙ x.3.files.table plan.block.b.block_id,
+              only_both p x.0 y.0 x.3 only,
+              active_both given.only.later p x.0 y.0 x.4 only.records.active,
+            ));
+      }
+        where
+          before : (shown old).counts.links ≤ (shown mid).counts.links
+          before = (asked_links shown serves rows ask old mid (Ok (answers.GetAdditionalDatanode located)) asked).later.counts.links
+
+          failed : Rose (shown mid).counts.links new.counts.links → HelpFailed plan (shown old) new
+          failed rose =
+              inl (rose_since (shown old).counts.links (shown mid).counts.links new.counts.links new.counts.links before rose (omega arith))
+
+          why : (fault : LinkFault) → (fault ≢ links.NoMemory → Rose (shown mid).counts.links new.counts.links)
+              → (fault_of_transfer fault ≡ faults.NoMemory)
+              ⊎ ((fault_of_transfer fault ≡ faults.NoReplacement) × HelpFailed plan (shown old) new)
+          why links.NoMemory cause = inl refl
+          why links.Broken cause = inr (refl, failed (cause (λ same. absurd (cc))))
+          why links.Refused cause = inr (refl, failed (cause (λ same. absurd (cc))))
+
+-- Each of the datanodes is one of them.
+each_there : (plan : BlockPlan) (old : Shown) (excluded : List DatanodeInfo) → AreApart plan old excluded plan.block.locs
+each_there plan old excluded p known is w =
+    All-from_recursion (λ node. Contains (uuids plan.block.locs) node ⊎ (Contains (uuids excluded) node → ⊥)) (uuids plan.block.locs)
+    (all_in plan.block.locs (λ node. Contains (uuids plan.block.locs) node ⊎ (Contains (uuids excluded) node → ⊥)) (λ name there. inl there))
+
+-- How the datanodes of a plan are gone on with.
+module _ (plan : BlockPlan) (settings : RebuildSettings) (excluded : List DatanodeInfo) (block : IsToWrite plan.block) (a : Shown) where
+  pub completes_as_is : (IsDue plan settings plan.block.locs → ⊥) → Completes plan settings excluded a plan a
+  completes_as_is none = record {
+    how = inl (none, refl);
+    block = block;
+    apart = each_there plan a excluded;
+    waits = waits_on_refl plan a;
+  }
+
+  pub completes_with : (located : LocatedBlock) (b : Shown) → IsDue plan settings plan.block.locs → AddsNode plan excluded a located b
+      → Completes plan settings excluded a (with_nodes plan located) b
+  completes_with located b due adds = record {
+    how = inr (inr (due, (located, adds.one, refl)));
+    block = record {
+      some = adds.shape.some;
+      few = adds.shape.few;
+      types = adds.shape.types;
+      ids = adds.shape.ids;
+      below = block.below;
+    };
+    apart = adds.apart;
+    waits = adds.waits;
+  }
+
+  pub completes_without : (b : Shown) → IsDue plan settings plan.block.locs → (policy_of settings.replace).1 ≡ true
+      → AddsNone plan a faults.NoReplacement b → Completes plan settings excluded a plan b
+  completes_without b due best none = record {
+    how = ⊎_elim (λ memory. absurd (cc)) (λ failed. inr (inl (due, best, refl, failed.1))) none.cause;
+    block = block;
+    apart = each_there plan a excluded;
+    waits = none.waits;
+  }

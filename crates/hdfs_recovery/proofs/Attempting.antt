@@ -1,0 +1,373 @@
+-- What comes of a pipeline that is set up to go on with a block.
+use Rattle.std.proofs.Common.{◌≡◌, inl, inr, ⊎_elim, ℕ, ℤ, ◌≤◌, List, [], ◌++◌, length, Some, None, refl, sym, ◌∙◌, ap, subst, arith}
+use Rattle.std.specs.Prelude.{map}
+use Rattle.std.specs.List.{slice_index_or}
+use Rattle.std.proofs.lemmas.List.{append-nil, get_or_default}
+use Rattle.hdfs_wire.specs.Outgoing.{Outgoing}
+use Rattle.hdfs_model.specs.declared.errors.HdfsError.{HdfsError}
+use Rattle.hdfs_model.specs.declared.messages.Block.{Block}
+use Rattle.hdfs_model.specs.declared.picture.BlockEntry.{BlockEntry}
+use Rattle.hdfs_model.specs.declared.picture.OpenWrite.{OpenWrite}
+use Rattle.hdfs_model.specs.Counts.{Rose}
+use Rattle.hdfs_model.specs.Effects.{NamesPipeline}
+use Rattle.hdfs_model.specs.Namenode.{IsToWrite}
+use Rattle.hdfs_model.specs.Picture.{Picture, SamePicture}
+use Rattle.hdfs_model.specs.Pipes.{WriteEnded}
+use Rattle.hdfs_model.specs.Sending.{WritePlace, uuids}
+use Rattle.hdfs_model.specs.Shown.{Shown, Later}
+use Rattle.hdfs_model.specs.Writing.{Releases}
+use Rattle.hdfs_model.proofs.Frames.{later_refl, later_trans, rose_since, told_after}
+use Rattle.hdfs_pipeline.specs.Cores.{IsCore}
+use Rattle.hdfs_pipeline.specs.Driving.{Settles, StopsShort}
+use Rattle.hdfs_pipeline.specs.Places.{ArePlaces}
+use Rattle.hdfs_pipeline.specs.Pipelines.{Bad, Failed, Pipeline, empty_pipeline}
+use Rattle.hdfs_blocks.specs.Carrying.{AreSlices, LinkCarries, LinkGoesOn}
+use Rattle.hdfs_blocks.specs.Rebuilding.{BlockHolds, IsListed}
+use Rattle.hdfs_blocks.proofs.Rebuilding.{block_further, block_waits}
+use Rattle.hdfs_recovery.specs.declared.attempts.Fallen.{Fallen}
+use Rattle.hdfs_recovery.specs.declared.block_plan.BlockPlan.{BlockPlan}
+use Rattle.hdfs_recovery.specs.declared.block_plan.WriteFault.{WriteFault}
+use Rattle.hdfs_recovery.specs.declared.block_plan.WriteFault.TheVariants as faults
+use Rattle.hdfs_recovery.specs.declared.replay.SentAgain.{SentAgain}
+use Rattle.hdfs_recovery.specs.Between.{KeepsLinks, NamenodeFailed, OnlyBlockOf, SameActive, Touches}
+use Rattle.hdfs_recovery.specs.Plans.{IsRecovery, Known, Waits}
+use Rattle.hdfs_recovery.specs.Resuming.{NamesNot, NamesSo, Reopens, ReopensNot, SendsAgain}
+use Rattle.hdfs_recovery.specs.Trying.{Collects, CollectsNot, FallsAgain, HaveFailed, ResumedNot, StandsAgain, course_of}
+use Rattle.hdfs_recovery.proofs.Ending.{Drifts, LinkOnly, keeps_links_by, link_only_trans, link_only_of-ended, link_only_of-keeps, link_only_of-on, link_only_of-opened}
+use Rattle.hdfs_recovery.proofs.Resuming.{opened_goes, opened_empty, opened_window, opened_nodes, opened_picture, opened_told, opened_carries, opened_lists, opened_only, opened_active, opened_settles, sent_picture, sent_told, sent_only, sent_active, sent_place, sent_at, sent_block, sent_settled, sent_entry, sent_holds, sent_carries, named_holds, named_carries, may_be_named_only, may_be_named_writes, released_only, some_is}
+use Rattle.hdfs_recovery.proofs.Stepping.{only_block_of_refl, only_block_of-named, only_block_of-only, only_block_of-same, only_block_of_trans, same_active_trans, written_still}
+
+-- A link was set up, packets were sent again on it, and the namenode was asked something.
+module _ (plan : BlockPlan) (block : Block) (least : ℕ) (client : List ℕ) (window : ℕ) (replay : List Outgoing) (link : ℕ) (core : Pipeline)
+    (a b m n : Shown) (sent : SentAgain) (to_write : IsToWrite plan.block) (same : block.block_id ≡ plan.block.b.block_id)
+    (windows : (1 ≤ window) × (window ≤ 1000)) (empty : core ≡ empty_pipeline window (length plan.block.locs))
+    (reopens : Reopens block plan least client a link b) (sends : SendsAgain link replay core b sent m) (links : KeepsLinks m n) where
+  abbrev id : ℕ
+  id = plan.block.b.block_id
+
+  abbrev nodes : List (List ℕ)
+  nodes = uuids plan.block.locs
+
+  abbrev new_write : OpenWrite
+  new_write = record { setup = reopens.setup; end = None; waiting = [] }
+
+  until_sent : LinkOnly link a m
+  until_sent =
+      link_only_trans link a b m (link_only_of-opened link reopens.setup a b reopens.opened) (link_only_of-on link b m sends.drove.on)
+
+  pub until_asked : LinkOnly link a n
+  until_asked = link_only_trans link a m n until_sent (link_only_of-keeps link m n links)
+
+  -- what rose on the link has risen since the set-up was asked for
+  rose_sent : (x y z : Shown → ℕ) → x a ≤ x b → x m ≤ x n → Rose (x b) (x m) → Rose (x a) (x n)
+  rose_sent x y z before after rose = rose_since (x a) (x b) (x m) (x n) before rose after
+
+  pub bad_rose : (seqno : ℤ) → sent.core.end ≡ Some (Bad seqno) → Rose a.counts.links n.counts.links
+  bad_rose seqno bad =
+      rose_since a.counts.links b.counts.links m.counts.links n.counts.links reopens.opened.only.later.counts.links
+      (sends.drove.cause.bad seqno
+      (opened_goes plan block least client window link core a b to_write windows empty reopens).going bad)
+      links.later.counts.links
+
+  pub have_failed : (places : List ℕ) → sent.core.end ≡ Some (Failed places) → HaveFailed plan places a n
+  have_failed places failed k d lt =
+      let node = slice_index_or nodes (slice_index_or places k d) [] in
+      let rose : Rose (b.counts.nodes node) (m.counts.nodes node) =
+      subst
+      (λ (ns : List (List ℕ)). let at = slice_index_or ns (slice_index_or places k d) [] in Rose (b.counts.nodes at) (m.counts.nodes at))
+      (opened_nodes plan block least client window link core a b to_write windows empty reopens new_write reopens.opened.opened)
+      (sends.drove.cause.failed new_write places reopens.opened.opened
+      (opened_goes plan block least client window link core a b to_write windows empty reopens).going failed k d lt) in
+      rose_since (a.counts.nodes node) (b.counts.nodes node) (m.counts.nodes node) (n.counts.nodes node)
+      (reopens.opened.only.later.counts.nodes node) rose (links.later.counts.nodes node)
+
+  -- the pipeline has as many datanodes as the plan
+  pub sent_nodes : sent.core.nodes ≡ length plan.block.locs
+  sent_nodes = sends.drove.goes.nodes ∙ ap (λ (c : Pipeline). c.nodes) empty
+
+  -- Over a told picture in which the block waits.
+  module _ (p : Picture) (known : Known) (told : a.picture ≡ Some p) (w : Waits p plan known) where
+    abbrev p1 : Picture
+    p1 = opened_picture plan block least client window link core a b to_write windows empty reopens same p known told w
+
+    abbrev t1 : b.picture ≡ Some p1
+    t1 = opened_told plan block least client window link core a b to_write windows empty reopens same p known told w
+
+    abbrev c1 : LinkCarries p1 link id nodes known.safe [] known.bytes
+    c1 = opened_carries plan block least client window link core a b to_write windows empty reopens same p known told w
+
+    abbrev l1 : IsListed p1 id known.listed known.bytes
+    l1 = opened_lists plan block least client window link core a b to_write windows empty reopens same p known told w
+
+    abbrev e1 : core.pushed ≡ []
+    e1 = opened_empty plan block least client window link core a b to_write windows empty reopens
+
+    abbrev s1 : Settles c1.on.place core 0
+    s1 = opened_settles plan block least client window link core a b to_write windows empty reopens same p known told w
+
+    abbrev p2 : Picture
+    p2 = sent_picture plan link replay core b m sent sends e1 p1 known t1 c1 l1 to_write.some s1
+
+    t2 : m.picture ≡ Some p2
+    t2 = sent_told plan link replay core b m sent sends e1 p1 known t1 c1 l1 to_write.some s1
+
+    abbrev place2 : WritePlace
+    place2 = sent_place plan link replay core b m sent sends e1 p1 known t1 c1 l1 to_write.some s1
+
+    at2 : p2.writes link ≡ Some place2
+    at2 = sent_at plan link replay core b m sent sends e1 p1 known t1 c1 l1 to_write.some s1
+
+    block2 : place2.block ≡ id
+    block2 = sent_block plan link replay core b m sent sends e1 p1 known t1 c1 l1 to_write.some s1
+
+    settled2 : Settles place2 sent.core 0
+    settled2 = sent_settled plan link replay core b m sent sends e1 p1 known t1 c1 l1 to_write.some s1
+
+    o2 : OnlyBlockOf id p p2
+    o2 =
+        only_block_of_trans id p p1 p2
+        (opened_only plan block least client window link core a b to_write windows empty reopens same p known told w)
+        (sent_only plan link replay core b m sent sends e1 p1 known t1 c1 l1 to_write.some s1)
+
+    a2 : p2.active ≡ p.active
+    a2 =
+        sent_active plan link replay core b m sent sends e1 p1 known t1 c1 l1 to_write.some s1
+        ∙ opened_active plan block least client window link core a b to_write windows empty reopens same p known told w
+
+    abbrev entry2 : BlockEntry
+    entry2 = l1.entry
+
+    -- the block table has the block by each of its names
+    is2 : p2.table block.block_id ≡ Some entry2
+    is2 =
+        subst (λ (i : ℕ). p2.table i ≡ Some entry2) (sym same)
+        (sent_entry plan link replay core b m sent sends e1 p1 known t1 c1 l1 to_write.some s1)
+
+    h2 : AreSlices known.bytes known.safe replay → BlockHolds p2 id link known.listed nodes known.safe known.bytes
+    h2 slices = sent_holds plan link replay core b m sent sends e1 p1 known t1 c1 l1 to_write.some s1 slices
+
+    c2 : AreSlices known.bytes known.safe replay → sent.core.end ≡ None → LinkCarries p2 link id nodes known.safe replay known.bytes
+    c2 slices going = sent_carries plan link replay core b m sent sends e1 p1 known t1 c1 l1 to_write.some s1 slices going
+
+    -- what an ask came to, whatever that was, and the end of the link behind responses alone
+    module _ (q : Picture) (to_q : OnlyBlockOf id p2 q) (active : SameActive m p2 n q) (at : q.writes link ≡ Some place2) (x z : Shown) where
+      module _ (told_x : (r : Picture) × (place : WritePlace) × (x.picture ≡ Some r) × (r.writes link ≡ Some place) × OnlyBlockOf id q r
+          × (r.active ≡ q.active) × (place.block ≡ id)) (gone : WriteEnded x link z) (later : Later n x) where
+        pub closed : (r : Picture) × (z.picture ≡ Some r) × OnlyBlockOf id p r × SameActive a p z r
+        closed =
+            let e = told_after (Releases link) x.picture z.picture told_x.0 gone.released told_x.2 in
+            let later_z = later_trans n x z later gone.writes.only.later in (
+              e.0,
+              e.1,
+              only_block_of_trans id p p2 e.0 o2
+                  (only_block_of_trans id p2 q e.0 to_q
+                  (only_block_of_trans id q told_x.0 e.0 told_x.4 (released_only id link told_x.0 e.0 told_x.1 told_x.3 told_x.6 e.2))),
+              same_active_trans a m z p p2 e.0 until_sent.later (later_trans m n z links.later later_z) (inl a2)
+                  (same_active_trans m n z p2 q e.0 links.later later_z active (inl (e.2.0.records.active ∙ told_x.5))),
+            )
+
+  -- the pipeline was named
+  module _ (names : NamesSo (NamesPipeline block plan.block.b (map (λ node. node.id) plan.block.locs)) block m n) (is_core : IsCore sent.core) where
+    -- It goes on, and stands.
+    pub stands_again : sent.core.end ≡ None
+        → StandsAgain (course_of plan block least client window replay) a (record { plan = plan; core = sent.core; link = link }) n
+    stands_again going =
+        let still = sends.drove.on.still_open new_write reopens.opened.opened in
+        record {
+          plan = refl;
+          later = until_asked.later;
+          reads = until_asked.reads;
+          fresh = reopens.opened.fresh;
+          others = until_asked.others;
+          opened = (
+            still.0,
+            links.writes link ∙ still.1,
+            subst (IsRecovery block plan least client) (sym still.2) reopens.is,
+          );
+          going = record {
+            drives = (sends.drove.drives.0, links.writes link ∙ sends.drove.drives.1, sends.drove.drives.2);
+            is_core = is_core;
+            going = going;
+          };
+          window =
+              sends.drove.goes.window
+              ∙ opened_window plan block least client window link core a b to_write windows empty reopens;
+          pushed = sym (sends.pushed ∙ ap (λ (xs : List Outgoing). sent.core.pushed ++ xs) (sends.all going) ∙ append-nil sent.core.pushed);
+          goes_on = λ packet start follow.
+              let f = sends.goes_on going packet start follow in
+              (f.0, links.writes link ∙ f.1, f.2);
+          told = λ p known told w slices.
+              let r = p2 p known told w in
+              let q = names r (entry2 p known told w) (t2 p known told w) (is2 p known told w) in (
+                q.0,
+                q.1,
+                named_carries plan block same link r q.0 known q.2 (h2 p known told w slices) replay (c2 p known told w slices going),
+                (named_holds plan block same link r q.0 known q.2 (h2 p known told w slices)).lists,
+                only_block_of_trans id p r q.0 (o2 p known told w)
+                    (only_block_of-named id block plan.block.b (map (λ node. node.id) plan.block.locs) r q.0 same q.2),
+                same_active_trans a m n p r q.0 until_sent.later links.later (inl (a2 p known told w)) q.3,
+              );
+        }
+
+    -- Its link was ended, once it had ended itself.
+    module _ (x z : Shown) (drifts : Drifts link sent.core n x) (gone : WriteEnded x link z) where
+      until_ended : LinkOnly link a z
+      until_ended =
+          link_only_trans link a n z until_asked
+          (link_only_trans link n x z (link_only_of-on link n x drifts.on) (link_only_of-ended link x z gone))
+
+      fallen_links : KeepsLinks a z
+      fallen_links = keeps_links_by link a z until_ended reopens.opened.fresh.write gone.ended
+
+      later_end : Later n z
+      later_end = later_trans n x z drifts.on.only.later gone.writes.only.later
+
+      fallen_touches : Touches plan a z
+      fallen_touches p known told w =
+          let r = p2 p known told w in
+          let q = names r (entry2 p known told w) (t2 p known told w) (is2 p known told w) in
+          let at = q.2.changes.bytes.writes link ∙ at2 p known told w in
+          let d = drifts.told q.0 (place2 p known told w) 0 q.1 at (settled2 p known told w) in
+          closed p known told w q.0
+          (only_block_of-named id block plan.block.b (map (λ node. node.id) plan.block.locs) r q.0 same q.2) q.3 at x z (
+            d.0,
+            d.1,
+            d.2,
+            d.3,
+            subst (λ (i : ℕ). OnlyBlockOf i q.0 d.0) (block2 p known told w)
+                (only_block_of-only (place2 p known told w).block (place2 p known told w).nodes q.0 d.0 d.4.only),
+            d.4.only.records.active,
+            d.4.moves.block ∙ block2 p known told w,
+          )
+          gone drifts.on.only.later
+
+      -- the block waits with the datanodes of the plan, which are listed
+      waits_again : (p : Picture) (known : Known) → a.picture ≡ Some p → Waits p plan known → AreSlices known.bytes known.safe replay
+          → (q : Picture) × (z.picture ≡ Some q) × Waits q plan (record known { listed = nodes })
+          × OnlyBlockOf id p q × SameActive a p z q
+      waits_again p known told w slices =
+          let r = p2 p known told w in
+          let q = names r (entry2 p known told w) (t2 p known told w) (is2 p known told w) in
+          let h3 = named_holds plan block same link r q.0 known q.2 (h2 p known told w slices) in
+          let at = q.2.changes.bytes.writes link ∙ at2 p known told w in
+          let s3 : Settles h3.on.place sent.core 0 = subst (λ (place : WritePlace). Settles place sent.core 0)
+          (some_is (place2 p known told w) h3.on.place (sym at ∙ h3.on.told)) (settled2 p known told w) in
+          let d = drifts.told q.0 h3.on.place 0 q.1 h3.on.told s3 in
+          let further : LinkGoesOn q.0 d.0 link h3.on.place = record { later = d.1; at = d.3; moves = d.4.moves; held = d.4.stays; only = d.4.only; more = []; sent = d.5 } in
+          let h4 = block_further q.0 d.0 id link nodes nodes known.safe known.bytes h3 further tt in
+          let e = told_after (Releases link) x.picture z.picture d.0 gone.released d.2 in
+          let t = fallen_touches p known told w in
+          let o : OnlyBlockOf id p e.0 = subst (OnlyBlockOf id p) (some_is t.0 e.0 (sym t.1 ∙ e.1)) t.2 in (
+            e.0,
+            e.1,
+            record {
+              file = written_still p e.0 plan.src plan.block.b plan.block.b o.names refl w.file;
+              block =
+                  block_waits d.0 e.0 id link nodes nodes known.safe known.bytes h4 e.2 nodes
+                  (λ k node lt. (k, lt, get_or_default nodes k (slice_index_or nodes k node) node lt));
+            },
+            o,
+            subst (SameActive a p z) (some_is t.0 e.0 (sym t.1 ∙ e.1)) t.3,
+          )
+
+      pub falls_again : (fallen : Fallen) → Collects plan sent fallen → FallsAgain (course_of plan block least client window replay) a fallen z
+      falls_again fallen collects = record {
+        plan = collects.same_plan;
+        places = subst (λ (k : ℕ). ArePlaces k fallen.failed) sent_nodes (is_core.failed fallen.failed collects.failed);
+        failed = λ k d lt.
+            let node = slice_index_or nodes (slice_index_or fallen.failed k d) [] in
+            rose_since (a.counts.nodes node) (a.counts.nodes node) (n.counts.nodes node) (z.counts.nodes node) (omega arith)
+            (have_failed fallen.failed collects.failed k d lt) (later_end.counts.nodes node);
+        replay = collects.replay ∙ sym sends.pushed;
+        links = fallen_links;
+        told = waits_again;
+      }
+
+      pub collects_not : (fault : WriteFault) → CollectsNot sent fault → ResumedNot plan a fault z
+      collects_not fault none = record {
+        links = fallen_links;
+        cause = ⊎_elim
+            (λ memory. inl (inl memory))
+            (λ bad. inr (
+              inr (inr (bad.0, bad.1)),
+              rose_since a.counts.links a.counts.links n.counts.links z.counts.links (omega arith) (bad_rose bad.0 bad.2) later_end.counts.links,
+            ))
+            none;
+        touches = fallen_touches;
+      }
+
+  -- It wasn't, and the link was ended.
+  module _ (fault : WriteFault) (z : Shown) (not : NamesNot block plan m fault n) (gone : WriteEnded n link z) where
+    unnamed_failed : (error : HdfsError) → fault ≡ faults.Namenode error
+        → ((p : Picture) (entry : BlockEntry) → m.picture ≡ Some p → p.table block.block_id ≡ Some entry → p.active ≡ 0
+        → Rose (m.counts.calls 0) (n.counts.calls 0)) → NamenodeFailed plan a z
+    unnamed_failed error is rose p known told w active =
+        rose_since (a.counts.calls 0) (m.counts.calls 0) (n.counts.calls 0) (z.counts.calls 0) (until_sent.later.counts.calls 0)
+        (rose (p2 p known told w) (entry2 p known told w) (t2 p known told w) (is2 p known told w) (a2 p known told w ∙ active))
+        (gone.writes.only.later.counts.calls 0)
+
+    pub names_not : ResumedNot plan a fault z
+    names_not = record {
+      links =
+          keeps_links_by link a z (link_only_trans link a n z until_asked (link_only_of-ended link n z gone)) reopens.opened.fresh.write
+          gone.ended;
+      cause = inl (⊎_elim
+          (λ memory. inl memory)
+          (λ asked. inr (
+            asked.0,
+            asked.1,
+            asked.2,
+            (asked.3.0, asked.3.1, gone.writes.only.last ∙ asked.3.2),
+            unnamed_failed asked.0 asked.1 asked.4,
+          ))
+          not.cause);
+      touches = λ p known told w.
+          let r = p2 p known told w in
+          let q = not.may r (entry2 p known told w) (t2 p known told w) (is2 p known told w) in
+          let at = may_be_named_writes plan block r q.0 link q.2 ∙ at2 p known told w in
+          closed p known told w q.0 (may_be_named_only plan block r q.0 same q.2) q.3 at n z
+          (q.0, place2 p known told w, q.1, at, only_block_of_refl id q.0, refl, block2 p known told w) gone (later_refl n);
+    }
+
+-- Memory was wanting while the packets were sent again, and the link was ended.
+module _ (plan : BlockPlan) (block : Block) (least : ℕ) (client : List ℕ) (window : ℕ) (replay : List Outgoing) (link : ℕ) (core : Pipeline)
+    (a b n z : Shown) (to_write : IsToWrite plan.block) (same : block.block_id ≡ plan.block.b.block_id)
+    (windows : (1 ≤ window) × (window ≤ 1000)) (empty : core ≡ empty_pipeline window (length plan.block.locs))
+    (reopens : Reopens block plan least client a link b) (stops : StopsShort link replay core b n) (gone : WriteEnded n link z) where
+  pub stops_short : ResumedNot plan a faults.NoMemory z
+  stops_short = record {
+    links =
+        keeps_links_by link a z
+        (link_only_trans link a b z (link_only_of-opened link reopens.setup a b reopens.opened)
+        (link_only_trans link b n z (link_only_of-on link b n stops.on) (link_only_of-ended link n z gone)))
+        reopens.opened.fresh.write gone.ended;
+    cause = inl (inl refl);
+    touches = λ p known told w.
+        let p1 = opened_picture plan block least client window link core a b to_write windows empty reopens same p known told w in
+        let c1 = opened_carries plan block least client window link core a b to_write windows empty reopens same p known told w in
+        let d = stops.told p1 c1.on.place 0
+        (opened_told plan block least client window link core a b to_write windows empty reopens same p known told w) c1.on.told
+        (opened_settles plan block least client window link core a b to_write windows empty reopens same p known told w) in
+        let e = told_after (Releases link) n.picture z.picture d.0 gone.released d.2 in
+        let id = plan.block.b.block_id in (
+          e.0,
+          e.1,
+          only_block_of_trans id p p1 e.0
+              (opened_only plan block least client window link core a b to_write windows empty reopens same p known told w)
+              (only_block_of_trans id p1 d.0 e.0
+              (subst (λ (i : ℕ). OnlyBlockOf i p1 d.0) c1.on.block (only_block_of-only c1.on.place.block c1.on.place.nodes p1 d.0 d.4.only))
+              (released_only id link d.0 e.0 d.1 d.3 (d.4.moves.block ∙ c1.on.block) e.2)),
+          inl (e.2.0.records.active ∙ d.4.only.records.active
+              ∙ opened_active plan block least client window link core a b to_write windows empty reopens same p known told w),
+        );
+  }
+
+-- No link was set up.
+pub reopens_not : (plan : BlockPlan) (a : Shown) (fault : WriteFault) (b : Shown) → ReopensNot a fault b → ResumedNot plan a fault b
+reopens_not plan a fault b none = record {
+  links = none.links;
+  cause = ⊎_elim (λ memory. inl (inl memory)) (λ links. inr (⊎_elim (λ link. inl link) (λ setup. inr (inl setup)) links.0, links.1)) none.cause;
+  touches = λ p known told w.
+      let x = told_after SamePicture a.picture b.picture p none.picture told in
+      (x.0, x.1, only_block_of-same plan.block.b.block_id p x.0 x.2.rest, inl x.2.active);
+}

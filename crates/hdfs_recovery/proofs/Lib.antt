@@ -1,0 +1,15 @@
+pub mod Added
+pub mod Adding
+pub mod Asks
+pub mod Attempting
+pub mod Choosing
+pub mod Ending
+pub mod Leaving
+pub mod Repeating
+pub mod Replaying
+pub mod Restamping
+pub mod Resumed
+pub mod Resuming
+pub mod Stepping
+pub mod Tried
+pub mod Trying

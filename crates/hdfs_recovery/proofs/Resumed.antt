@@ -1,0 +1,67 @@
+-- What comes of the steps by which a pipeline is set up to go on with a block.
+use Rattle.std.proofs.Common.{◌≡◌, inl, inr, ℕ, ◌≤◌, List, length, None, sym, subst}
+use Rattle.hdfs_wire.specs.Outgoing.{Outgoing}
+use Rattle.hdfs_model.specs.declared.messages.Block.{Block}
+use Rattle.hdfs_model.specs.Namenode.{IsToWrite}
+use Rattle.hdfs_model.specs.Pipes.{WriteEnded}
+use Rattle.hdfs_model.specs.Shown.{Shown}
+use Rattle.hdfs_pipeline.specs.Cores.{IsCore}
+use Rattle.hdfs_pipeline.specs.Pipelines.{Pipeline, empty_pipeline}
+use Rattle.hdfs_recovery.specs.declared.attempts.Attempt.TheVariants as attempts
+use Rattle.hdfs_recovery.specs.declared.attempts.Fallen.{Fallen}
+use Rattle.hdfs_recovery.specs.declared.block_plan.BlockPlan.{BlockPlan}
+use Rattle.hdfs_recovery.specs.declared.block_plan.WriteFault.{WriteFault}
+use Rattle.hdfs_recovery.specs.declared.replay.SentAgain.{SentAgain}
+use Rattle.hdfs_recovery.specs.Resuming.{Reopens, SendsAndNames, SendsOrNamesNot}
+use Rattle.hdfs_recovery.specs.Trying.{Collects, CollectsNot, Resumed, ResumedNot, course_of}
+use Rattle.hdfs_recovery.proofs.Attempting.{stands_again, falls_again, collects_not, names_not, stops_short}
+use Rattle.hdfs_recovery.proofs.Ending.{Drifts}
+
+-- A link that was set up in a name was set up in one that is the same.
+pub reopened_as : (block : Block) (plan : BlockPlan) (least : ℕ) (x y : List ℕ) (a : Shown) (link : ℕ) (b : Shown) → x ≡ y
+    → Reopens block plan least x a link b → Reopens block plan least y a link b
+reopened_as block plan least x y a link b same reopens = subst (λ (name : List ℕ). Reopens block plan least name a link b) same reopens
+
+-- Packets that were sent again for a block were so for one that is the same.
+pub sent_for : (link : ℕ) (replay : List Outgoing) (core : Pipeline) (x y : Block) (plan : BlockPlan) (b : Shown) (sent : SentAgain) (n : Shown)
+    → x ≡ y → SendsAndNames link replay core x plan b sent n → SendsAndNames link replay core y plan b sent n
+sent_for link replay core x y plan b sent n same sends = subst (λ (name : Block). SendsAndNames link replay core name plan b sent n) same sends
+
+pub unsent_for : (link : ℕ) (replay : List Outgoing) (core : Pipeline) (x y : Block) (plan : BlockPlan) (b : Shown) (fault : WriteFault)
+    (n : Shown) → x ≡ y → SendsOrNamesNot link replay core x plan b fault n → SendsOrNamesNot link replay core y plan b fault n
+unsent_for link replay core x y plan b fault n same none = subst (λ (name : Block). SendsOrNamesNot link replay core name plan b fault n) same none
+
+module _ (plan : BlockPlan) (block : Block) (least : ℕ) (client : List ℕ) (window : ℕ) (replay : List Outgoing) (link : ℕ) (core : Pipeline)
+    (a b : Shown) (to_write : IsToWrite plan.block) (same : block.block_id ≡ plan.block.b.block_id)
+    (windows : (1 ≤ window) × (window ≤ 1000)) (empty : core ≡ empty_pipeline window (length plan.block.locs))
+    (reopens : Reopens block plan least client a link b) where
+  -- the packets were sent, and the pipeline was named
+  module _ (sent : SentAgain) (n : Shown) (s : SendsAndNames link replay core block plan b sent n) (is_core : IsCore sent.core) where
+    pub resumed_stands : sent.core.end ≡ None
+        → Resumed (course_of plan block least client window replay) a (attempts.Stands (record { plan = plan; core = sent.core; link = link })) n
+    resumed_stands going =
+        stands_again plan block least client window replay link core a b s.between n sent to_write same windows empty reopens s.sends s.links
+        s.names is_core going
+
+    module _ (z : Shown) (before : Shown) where
+      pub resumed_fell : Drifts link sent.core n before → WriteEnded before link z → (fallen : Fallen) → Collects plan sent fallen
+          → Resumed (course_of plan block least client window replay) a (attempts.Fell fallen) z
+      resumed_fell drifts gone fallen collects =
+          falls_again plan block least client window replay link core a b s.between n sent to_write same windows empty reopens s.sends s.links
+          s.names is_core before z drifts gone fallen collects
+
+      pub resumed_none : Drifts link sent.core n before → WriteEnded before link z → (fault : WriteFault) → CollectsNot sent fault
+          → ResumedNot plan a fault z
+      resumed_none drifts gone fault none =
+          collects_not plan block least client window replay link core a b s.between n sent to_write same windows empty reopens s.sends s.links
+          s.names is_core before z drifts gone fault none
+
+  -- they weren't, or it wasn't, and the link was ended
+  pub resumed_unsent : (fault : WriteFault) (n z : Shown) → SendsOrNamesNot link replay core block plan b fault n → WriteEnded n link z
+      → ResumedNot plan a fault z
+  resumed_unsent fault n z (inl (memory, stops)) gone =
+      subst (λ (f : WriteFault). ResumedNot plan a f z) (sym memory)
+      (stops_short plan block least client window replay link core a b n z to_write same windows empty reopens stops gone)
+  resumed_unsent fault n z (inr (sent, between, sends, links, not)) gone =
+      names_not plan block least client window replay link core a b between n sent to_write same windows empty reopens sends links
+      fault z not gone

@@ -1,0 +1,68 @@
+-- What comes of the steps of one attempt to rebuild a pipeline, by what each step says.
+use Rattle.std.proofs.Common.{◌≡◌, ℕ, ◌+◌, ◌-◌, List, subst}
+use Rattle.std.specs.Prelude.{Result, Ok, Err, IfOk, IfErr}
+use Rattle.hdfs_wire.specs.Outgoing.{Outgoing}
+use Rattle.hdfs_model.specs.declared.messages.Block.{Block}
+use Rattle.hdfs_model.specs.declared.messages.DatanodeInfo.{DatanodeInfo}
+use Rattle.hdfs_model.specs.Shown.{Shown}
+use Rattle.hdfs_blocks.specs.Carrying.{total}
+use Rattle.hdfs_recovery.specs.declared.attempts.Attempt.{Attempt}
+use Rattle.hdfs_recovery.specs.declared.block_plan.BlockPlan.{BlockPlan}
+use Rattle.hdfs_recovery.specs.declared.block_plan.WriteFault.{WriteFault}
+use Rattle.hdfs_recovery.specs.declared.block_plan.RebuildSettings.{RebuildSettings}
+use Rattle.hdfs_recovery.specs.Attempts.{Attempted, GaveNone, standing, task_of}
+use Rattle.hdfs_recovery.specs.Between.{KeepsLinks}
+use Rattle.hdfs_recovery.specs.Plans.{nodes_at}
+use Rattle.hdfs_recovery.specs.Replacing.{Completes, CompletesNot}
+use Rattle.hdfs_recovery.specs.Resuming.{Restamps, RestampsNot}
+use Rattle.hdfs_recovery.specs.Trying.{LeavesOut, Resumed, ResumedNot, course_of}
+use Rattle.hdfs_recovery.proofs.Leaving.{left_plan}
+use Rattle.hdfs_recovery.proofs.Trying.{attempted, complete_gave_none, restamp_gave_none, resume_gave_none}
+
+pub ok_by : {T E : Type 0} (P Q : T → Type 0) (r : Result T E) → ((x : T) → P x → Q x) → IfOk r P → IfOk r Q
+ok_by P Q (Ok x) h is = h x is
+ok_by P Q (Err e) h is = tt
+
+pub err_by : {T E : Type 0} (P Q : E → Type 0) (r : Result T E) → ((e : E) → P e → Q e) → IfErr r P → IfErr r Q
+err_by P Q (Ok x) h is = tt
+err_by P Q (Err e) h is = h e is
+
+module _ (plan0 plan1 : BlockPlan) (settings : RebuildSettings) (failed : List ℕ) (client : List ℕ) (replay : List Outgoing) (unsent : ℕ)
+    (a m : Shown) (leaves : LeavesOut plan0 settings failed plan1) (stays : KeepsLinks a m) where
+  -- the pipeline hasn't the datanodes that are due
+  pub incomplete : (fault : WriteFault) → CompletesNot plan1 settings a fault m
+      → GaveNone (task_of settings client replay unsent) (standing plan0 failed a) fault m
+  incomplete fault not =
+      complete_gave_none plan0 settings failed a m client replay unsent fault stays
+      (subst (λ (p : BlockPlan). CompletesNot p settings a fault m) leaves.is not)
+
+  module _ (plan2 : BlockPlan) (excluded : List DatanodeInfo) (those : excluded ≡ nodes_at plan0.block.locs failed)
+      (completes : Completes plan1 settings excluded a plan2 m) where
+    complete_left : Completes (left_plan plan0 failed) settings (nodes_at plan0.block.locs failed) a plan2 m
+    complete_left =
+        subst (λ (nodes : List DatanodeInfo). Completes (left_plan plan0 failed) settings nodes a plan2 m) those
+        (subst (λ (p : BlockPlan). Completes p settings excluded a plan2 m) leaves.is completes)
+
+    module _ (n : Shown) (keeps : KeepsLinks m n) where
+      -- the block has no greater stamp
+      pub unstamped : (fault : WriteFault) → RestampsNot plan2 m fault n
+          → GaveNone (task_of settings client replay unsent) (standing plan0 failed a) fault n
+      unstamped fault not = restamp_gave_none plan0 plan2 settings failed a m n client replay unsent fault stays complete_left keeps not
+
+      module _ (plan3 : BlockPlan) (restamps : Restamps plan2 m plan3 n) (z : Shown) where
+        -- the pipeline stands, or has fallen
+        pub tried : (block : Block) (least : ℕ) → block ≡ plan0.block.b → least ≡ plan0.block.b.num_bytes - (total replay + unsent)
+            → (attempt : Attempt) → Resumed (course_of plan3 block least client settings.window replay) n attempt z
+            → Attempted (task_of settings client replay unsent) (standing plan0 failed a) attempt z
+        tried block least same few attempt resumed =
+            attempted plan0 plan2 plan3 settings failed a m n leaves.within stays complete_left keeps restamps client replay unsent z attempt
+            (subst (λ (b : Block). Resumed (course_of plan3 b (plan0.block.b.num_bytes - (total replay + unsent)) client settings.window replay) n attempt z)
+            same
+            (subst (λ (k : ℕ). Resumed (course_of plan3 block k client settings.window replay) n attempt z) few resumed))
+
+        -- or none does
+        pub untried : (fault : WriteFault) → ResumedNot plan3 n fault z
+            → GaveNone (task_of settings client replay unsent) (standing plan0 failed a) fault z
+        untried fault not =
+            resume_gave_none plan0 plan2 plan3 settings failed a m n leaves.within stays complete_left keeps restamps client replay unsent z
+            fault not

@@ -1,0 +1,91 @@
+-- The goals of resume.
+use Rattle.std.proofs.Common.{rules, ◌≡◌, None, IsSome}
+use Rattle.std.proofs.lemmas.Result.{err_from_is_err_and}
+use Rattle.hdfs_namenode.specs.Clients.{name_of}
+use Rattle.hdfs_recovery.proofs.Attempting.{reopens_not}
+use Rattle.hdfs_recovery.proofs.Ending.{falls}
+use Rattle.hdfs_recovery.proofs.Replaying.{never_done}
+use Rattle.hdfs_recovery.proofs.Resumed.{reopened_as, sent_for, unsent_for, resumed_stands, resumed_fell, resumed_none, resumed_unsent}
+use Rattle.hdfs_recovery.proofs.Resuming.{opened_goes, opened_empty}
+use Rattle.hdfs_recovery.proofs.attempts.resume.Goals as goal
+
+pub returns-in_err-core-clause-err : goal.returns-in_err-core-clause-err
+returns-in_err-core-clause-err g c =
+    let p = err_from_is_err_and c.from_residual-in_err-core.result c.from_residual-in_err-core.ensures.1 in
+    rw (p.1, p.2)
+    (reopens_not c.args.plan (g.C.Cluster.shown c.args.cluster.now) c.in_err-core.field-0.0 (g.C.Cluster.shown c.reopen.new.cluster)
+    c.in_err-core.ensures.err)
+
+pub collect-requires-clause-ended : goal.collect-requires-clause-ended
+collect-requires-clause-ended g c =
+    let a = g.C.Cluster.shown c.args.cluster.now in
+    let b = g.C.Cluster.shown c.reopen.new.cluster in
+    let sent = c.in-Ok.ensures.ok in
+    let has : IsSome c.in-Ok.sent.core.end = search rules in (
+      has,
+      never_done c.in_ok-core.link c.in-Ok.sent.core.pushed c.in_ok-core.core c.in-Ok.sent.core b sent.between sent.sends.drove
+          (opened_goes c.args.plan c.args.block c.args.least (name_of c.args.namenode.now) c.args.window c.in_ok-core.link c.in_ok-core.core a b
+          c.requires.block.0 (c.requires.packets.0, c.requires.packets.1) c.in_ok-core.ensures.core (reopened_as c.args.block c.args.plan c.args.least c.client_name-client.result.now (name_of c.args.namenode.now)
+          (g.C.Cluster.shown c.args.cluster.now) c.in_ok-core.link (g.C.Cluster.shown c.reopen.new.cluster) c.client_name-client.ensures
+          c.in_ok-core.ensures.opened)).going
+          (opened_empty c.args.plan c.args.block c.args.least (name_of c.args.namenode.now) c.args.window c.in_ok-core.link c.in_ok-core.core a b
+          c.requires.block.0 (c.requires.packets.0, c.requires.packets.1) c.in_ok-core.ensures.core (reopened_as c.args.block c.args.plan c.args.least c.client_name-client.result.now (name_of c.args.namenode.now)
+          (g.C.Cluster.shown c.args.cluster.now) c.in_ok-core.link (g.C.Cluster.shown c.reopen.new.cluster) c.client_name-client.ensures
+          c.in_ok-core.ensures.opened)),
+    )
+
+pub returns-in_err-fallen-in-Ok-clause-err : goal.returns-in_err-fallen-in-Ok-clause-err
+returns-in_err-fallen-in-Ok-clause-err g c =
+    let p = err_from_is_err_and c.from_residual-in_err-fallen-in-Ok.result c.from_residual-in_err-fallen-in-Ok.ensures.1 in
+    let n = g.C.Cluster.shown c.replay_and_name.new.cluster in
+    let f = falls g.C.Cluster.shown g.C.Cluster.ends g.met.C.Cluster.ends_row c.in_ok-core.link c.in-Ok.sent.core c.replay_and_name.new.cluster
+    c.collect.new.cluster c.collect.ensures.ended in
+    rw (p.1, p.2)
+    (resumed_none c.args.plan c.args.block c.args.least (name_of c.args.namenode.now) c.args.window c.args.replay c.in_ok-core.link
+    c.in_ok-core.core (g.C.Cluster.shown c.args.cluster.now) (g.C.Cluster.shown c.reopen.new.cluster) c.requires.block.0 c.requires.block.1
+    (c.requires.packets.0, c.requires.packets.1) c.in_ok-core.ensures.core (reopened_as c.args.block c.args.plan c.args.least c.client_name-client.result.now (name_of c.args.namenode.now)
+    (g.C.Cluster.shown c.args.cluster.now) c.in_ok-core.link (g.C.Cluster.shown c.reopen.new.cluster) c.client_name-client.ensures
+    c.in_ok-core.ensures.opened) c.in-Ok.sent n (sent_for c.in_ok-core.link c.args.replay c.in_ok-core.core c.in_ok-name.name c.args.block c.args.plan
+    (g.C.Cluster.shown c.reopen.new.cluster) c.in-Ok.sent (g.C.Cluster.shown c.replay_and_name.new.cluster) c.in_ok-name.ensures
+    c.in-Ok.ensures.ok)
+    c.has_ended.ensures.core (g.C.Cluster.shown c.collect.new.cluster) f.0 f.1 f.2 c.in_err-fallen-in-Ok.field-0.0
+    c.in_err-fallen-in-Ok.ensures.err)
+
+pub returns-in-Ok-clause-ok : goal.returns-in-Ok-clause-ok
+returns-in-Ok-clause-ok g c =
+    let n = g.C.Cluster.shown c.replay_and_name.new.cluster in
+    let f = falls g.C.Cluster.shown g.C.Cluster.ends g.met.C.Cluster.ends_row c.in_ok-core.link c.in-Ok.sent.core c.replay_and_name.new.cluster
+    c.collect.new.cluster c.collect.ensures.ended in
+    resumed_fell c.args.plan c.args.block c.args.least (name_of c.args.namenode.now) c.args.window c.args.replay c.in_ok-core.link
+    c.in_ok-core.core (g.C.Cluster.shown c.args.cluster.now) (g.C.Cluster.shown c.reopen.new.cluster) c.requires.block.0 c.requires.block.1
+    (c.requires.packets.0, c.requires.packets.1) c.in_ok-core.ensures.core (reopened_as c.args.block c.args.plan c.args.least c.client_name-client.result.now (name_of c.args.namenode.now)
+    (g.C.Cluster.shown c.args.cluster.now) c.in_ok-core.link (g.C.Cluster.shown c.reopen.new.cluster) c.client_name-client.ensures
+    c.in_ok-core.ensures.opened) c.in-Ok.sent n (sent_for c.in_ok-core.link c.args.replay c.in_ok-core.core c.in_ok-name.name c.args.block c.args.plan
+    (g.C.Cluster.shown c.reopen.new.cluster) c.in-Ok.sent (g.C.Cluster.shown c.replay_and_name.new.cluster) c.in_ok-name.ensures
+    c.in-Ok.ensures.ok)
+    c.has_ended.ensures.core (g.C.Cluster.shown c.collect.new.cluster) f.0 f.1 f.2 c.in_ok-fallen-in-Ok.fallen
+    c.in_ok-fallen-in-Ok.ensures.fallen
+
+pub returns-in-Ok-2-clause-ok : goal.returns-in-Ok-2-clause-ok
+returns-in-Ok-2-clause-ok g c =
+    let going : c.in-Ok.sent.core.end ≡ None = search rules in
+    resumed_stands c.args.plan c.args.block c.args.least (name_of c.args.namenode.now) c.args.window c.args.replay c.in_ok-core.link
+    c.in_ok-core.core (g.C.Cluster.shown c.args.cluster.now) (g.C.Cluster.shown c.reopen.new.cluster) c.requires.block.0 c.requires.block.1
+    (c.requires.packets.0, c.requires.packets.1) c.in_ok-core.ensures.core (reopened_as c.args.block c.args.plan c.args.least c.client_name-client.result.now (name_of c.args.namenode.now)
+    (g.C.Cluster.shown c.args.cluster.now) c.in_ok-core.link (g.C.Cluster.shown c.reopen.new.cluster) c.client_name-client.ensures
+    c.in_ok-core.ensures.opened) c.in-Ok.sent
+    (g.C.Cluster.shown c.replay_and_name.new.cluster) (sent_for c.in_ok-core.link c.args.replay c.in_ok-core.core c.in_ok-name.name c.args.block c.args.plan
+    (g.C.Cluster.shown c.reopen.new.cluster) c.in-Ok.sent (g.C.Cluster.shown c.replay_and_name.new.cluster) c.in_ok-name.ensures
+    c.in-Ok.ensures.ok) c.in-Ok.ensures.ok.sends.is_core going
+
+pub returns-clause-err : goal.returns-clause-err
+returns-clause-err g c =
+    resumed_unsent c.args.plan c.args.block c.args.least (name_of c.args.namenode.now) c.args.window c.args.replay c.in_ok-core.link
+    c.in_ok-core.core (g.C.Cluster.shown c.args.cluster.now) (g.C.Cluster.shown c.reopen.new.cluster) c.requires.block.0 c.requires.block.1
+    (c.requires.packets.0, c.requires.packets.1) c.in_ok-core.ensures.core (reopened_as c.args.block c.args.plan c.args.least c.client_name-client.result.now (name_of c.args.namenode.now)
+    (g.C.Cluster.shown c.args.cluster.now) c.in_ok-core.link (g.C.Cluster.shown c.reopen.new.cluster) c.client_name-client.ensures
+    c.in_ok-core.ensures.opened) c.in-Err.fault
+    (g.C.Cluster.shown c.replay_and_name.new.cluster) _ (unsent_for c.in_ok-core.link c.args.replay c.in_ok-core.core c.in_ok-name.name c.args.block c.args.plan
+    (g.C.Cluster.shown c.reopen.new.cluster) c.in-Err.fault (g.C.Cluster.shown c.replay_and_name.new.cluster) c.in_ok-name.ensures
+    c.in-Err.ensures.err)
+    (search rules)

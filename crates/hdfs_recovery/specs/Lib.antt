@@ -1,0 +1,6 @@
+pub mod Attempts
+pub mod Between
+pub mod Plans
+pub mod Replacing
+pub mod Resuming
+pub mod Trying

@@ -1,0 +1,121 @@
+-- A block that is being written: the datanodes of its pipeline without those that failed, and what stays of it.
+use Rattle.std.specs.Prelude.{◌≡◌, ◌⊎◌, ℕ, ◌+◌, ◌≤◌, ◌==◌, not, false, List, [], ◌∷◌, length, Option, Some, None, if◌then◌else◌, slice_get}
+use Rattle.std.specs.List.{list_any}
+use Rattle.hdfs_wire.specs.Outgoing.{Outgoing}
+use Rattle.hdfs_model.specs.declared.messages.DatanodeInfo.{DatanodeInfo}
+use Rattle.hdfs_model.specs.declared.messages.LocatedBlock.{LocatedBlock}
+use Rattle.hdfs_model.specs.declared.messages.Block.{Block}
+use Rattle.hdfs_model.specs.declared.messages.Setup.{Setup}
+use Rattle.hdfs_model.specs.declared.messages.Stage.TheVariants as stages
+use Rattle.hdfs_model.specs.Effects.{HasOneMore, IsBeingWritten}
+use Rattle.hdfs_model.specs.Namenode.{IsToWrite}
+use Rattle.hdfs_model.specs.Picture.{Picture}
+use Rattle.hdfs_model.specs.Sending.{uuids}
+use Rattle.hdfs_names.specs.Replacements.{ShouldReplace}
+use Rattle.hdfs_names.specs.Shown.{shown as policy_of}
+use Rattle.hdfs_pipeline.specs.Driving.{IsNotLast}
+use Rattle.hdfs_pipeline.specs.Places.{ArePlaces}
+use Rattle.hdfs_recovery.specs.declared.block_plan.BlockPlan.{BlockPlan}
+use Rattle.hdfs_recovery.specs.declared.block_plan.RebuildSettings.{RebuildSettings}
+use Rattle.hdfs_blocks.specs.Carrying.{FollowFrom, total}
+use Rattle.hdfs_blocks.specs.Rebuilding.{BlockWaits}
+
+-- the items but those at some places, where the first item has this one
+abbrev pub without : {T : Type 0} → ℕ → List ℕ → List T → List T
+without at places [] = []
+without at places (item ∷ items) =
+    if list_any (λ place. place == at) places then without (at + 1) places items else item ∷ without (at + 1) places items
+
+-- the block without the datanodes at some places, and their storages
+abbrev pub block_without : List ℕ → LocatedBlock → LocatedBlock
+block_without places block = record block {
+  locs = without 0 places block.locs;
+  storage_types = without 0 places block.storage_types;
+  storage_ids = without 0 places block.storage_ids;
+}
+
+-- the item, where there is one, before others
+abbrev pub one_before : {T : Type 0} → Option T → List T → List T
+one_before None items = items
+one_before (Some item) items = item ∷ items
+
+-- the datanodes at some places
+abbrev pub nodes_at : List DatanodeInfo → List ℕ → List DatanodeInfo
+nodes_at nodes [] = []
+nodes_at nodes (place ∷ places) = one_before (slice_get nodes place) (nodes_at nodes places)
+
+-- the packets before the last one aren't the last of their block
+abbrev pub NoneEndsBefore : List Outgoing → Type 0
+NoneEndsBefore [] = Unit {0}
+NoneEndsBefore (packet ∷ []) = Unit {0}
+NoneEndsBefore (packet ∷ next ∷ packets) = IsNotLast packet × NoneEndsBefore (next ∷ packets)
+
+-- Packets that can be sent again on a new pipeline: it has room for them, and they follow one another.
+pub record IsReplay (window : ℕ) (packets : List Outgoing) : Type 0 where
+  pub few : length packets ≤ window
+  pub start : ℕ
+  pub follow : FollowFrom start packets
+  pub ends : NoneEndsBefore packets
+
+-- A pipeline can be rebuilt after its datanodes at these places have failed: the packets are to be sent again, and behind them the
+-- block has so many bytes that weren't sent.
+pub record CanRebuild (plan : BlockPlan) (settings : RebuildSettings) (failed : List ℕ) (replay : List Outgoing) (unsent : ℕ) : Type 0 where
+  pub block : IsToWrite plan.block
+  pub places : ArePlaces (length plan.block.locs) failed
+  pub rebuilds : plan.rebuilds ≤ settings.rebuild_limit
+  pub window : (1 ≤ settings.window) × (settings.window ≤ 1000)
+  pub packets : IsReplay settings.window replay
+  pub few : total replay + unsent ≤ plan.block.b.num_bytes
+
+-- what stays of a plan: all but its pipeline, its block's generation stamp, and how often it was rebuilt
+pub record KeepsPlan (plan plan' : BlockPlan) : Type 0 where
+  pub src : plan'.src ≡ plan.src
+  pub pool : plan'.block.b.pool_id ≡ plan.block.b.pool_id
+  pub id : plan'.block.b.block_id ≡ plan.block.b.block_id
+  pub length : plan'.block.b.num_bytes ≡ plan.block.b.num_bytes
+  pub replication : plan'.replication ≡ plan.replication
+  pub created : plan'.created ≡ plan.created
+  pub chunk : plan'.chunk ≡ plan.chunk
+
+-- a datanode more is due, where these are left
+abbrev pub IsDue : BlockPlan → RebuildSettings → List DatanodeInfo → Type 0
+IsDue plan settings left = ShouldReplace (policy_of settings.replace).0 plan.replication (length left) (not plan.created) false
+
+-- The next pipeline: those that are left of the last one, or one more among them where that is due.
+abbrev pub IsNextPipeline : BlockPlan → RebuildSettings → List ℕ → List DatanodeInfo → Type 0
+IsNextPipeline plan settings failed nodes =
+    (nodes ≡ without 0 failed plan.block.locs)
+    ⊎ (IsDue plan settings (without 0 failed plan.block.locs) × HasOneMore (without 0 failed plan.block.locs) nodes)
+
+-- The plan of the next pipeline: it is rebuilt once more.
+pub record IsNextPlan (plan : BlockPlan) (settings : RebuildSettings) (failed : List ℕ) (plan' : BlockPlan) : Type 0 where
+  pub keeps : KeepsPlan plan plan'
+  pub block : IsToWrite plan'.block
+  pub nodes : IsNextPipeline plan settings failed plan'.block.locs
+  pub once : plan'.rebuilds ≡ plan.rebuilds + 1
+  pub within : plan'.rebuilds ≤ settings.rebuild_limit
+
+-- The set-up of a pipeline that goes on with a block, which has this name so far: its datanodes are those of the plan, the block gets
+-- the plan's generation stamp, and has at least so many bytes, and at most those that it has so far.
+pub record IsRecovery (block : Block) (plan : BlockPlan) (safe : ℕ) (client : List ℕ) (setup : Setup) : Type 0 where
+  pub stage : setup.stage ≡ stages.Recovery
+  pub block_name : setup.block ≡ block
+  pub nodes : setup.locs ≡ plan.block.locs
+  pub types : setup.storage_types ≡ plan.block.storage_types
+  pub ids : setup.storage_ids ≡ plan.block.storage_ids
+  pub stamp : setup.stamp ≡ plan.block.b.generation_stamp
+  pub least : setup.min_bytes ≡ safe
+  pub most : setup.max_bytes ≡ plan.block.b.num_bytes
+  pub chunk : setup.chunk ≡ plan.chunk
+  pub named_so : setup.client ≡ client
+
+-- what is known of a block while it is written: the datanodes that are listed for it, how many of its bytes are safe, and its bytes
+pub record Known : Type 0 where
+  pub listed : List (List ℕ)
+  pub safe : ℕ
+  pub bytes : List ℕ
+
+-- The block is one of the open file at the plan's path, and waits for a pipeline: each datanode of the plan holds all bytes that are safe.
+pub record Waits (p : Picture) (plan : BlockPlan) (known : Known) : Type 0 where
+  pub file : IsBeingWritten p plan.src plan.block.b
+  pub block : BlockWaits p plan.block.b.block_id known.listed (uuids plan.block.locs) known.safe known.bytes

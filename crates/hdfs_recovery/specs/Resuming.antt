@@ -1,0 +1,109 @@
+-- A pipeline is set up to go on with a block, and packets are sent again on it.
+use Rattle.std.specs.Prelude.{◌≡◌, ◌≢◌, ◌⊎◌, ℕ, ◌<◌, List, [], ◌∷◌, ◌++◌, map, Some, None}
+use Rattle.hdfs_wire.specs.Outgoing.{Outgoing}
+use Rattle.hdfs_model.specs.declared.errors.HdfsError.{HdfsError}
+use Rattle.hdfs_model.specs.declared.errors.HdfsError.TheVariants as errors
+use Rattle.hdfs_model.specs.declared.messages.Block.{Block}
+use Rattle.hdfs_model.specs.declared.messages.Setup.{Setup}
+use Rattle.hdfs_model.specs.declared.messages.Token.{Token}
+use Rattle.hdfs_model.specs.declared.picture.BlockEntry.{BlockEntry}
+use Rattle.hdfs_model.specs.Counts.{Rose}
+use Rattle.hdfs_model.specs.Effects.{NamesPipeline}
+use Rattle.hdfs_model.specs.Picture.{Picture, SameButActive, SamePicture, Told}
+use Rattle.hdfs_model.specs.Pipes.{FollowsOn, WriteOpened}
+use Rattle.hdfs_model.specs.Shown.{Shown}
+use Rattle.hdfs_pipeline.specs.Cores.{IsCore}
+use Rattle.hdfs_pipeline.specs.Driving.{Drove, StopsShort}
+use Rattle.hdfs_pipeline.specs.Pipelines.{Pipeline}
+use Rattle.hdfs_recovery.specs.declared.block_plan.BlockPlan.{BlockPlan}
+use Rattle.hdfs_recovery.specs.declared.block_plan.WriteFault.{WriteFault}
+use Rattle.hdfs_recovery.specs.declared.block_plan.WriteFault.TheVariants as faults
+use Rattle.hdfs_recovery.specs.declared.replay.SentAgain.{SentAgain}
+use Rattle.hdfs_recovery.specs.Between.{IsLastError, KeepsLinks, NamenodeFailed, SameActive, WaitsOn}
+use Rattle.hdfs_blocks.specs.Carrying.{FollowFrom}
+use Rattle.hdfs_recovery.specs.Plans.{IsRecovery}
+
+-- what it is for a rebuild that a namenode gave no answer
+abbrev pub fault_of_ask : HdfsError → WriteFault
+fault_of_ask errors.NoMemory = faults.NoMemory
+fault_of_ask error = faults.Namenode error
+
+-- the plan with another generation stamp and token for its block
+abbrev pub with_stamp : BlockPlan → ℕ → Token → BlockPlan
+with_stamp plan stamp token = record plan {
+  block = record plan.block { b = record plan.block.b { generation_stamp = stamp }; block_token = token };
+}
+
+-- The block has a generation stamp for its next pipeline, a greater one than the block table has. It waits as before.
+pub record Restamps (plan : BlockPlan) (old : Shown) (plan' : BlockPlan) (new : Shown) : Type 0 where
+  pub stamp : ℕ
+  pub token : Token
+  pub is : plan' ≡ with_stamp plan stamp token
+  pub newer : (p : Picture) (entry : BlockEntry) → old.picture ≡ Some p → p.table plan.block.b.block_id ≡ Some entry → entry.stamp < stamp
+  pub waits : WaitsOn plan old plan' new
+
+-- why a namenode gave no answer
+abbrev pub AskFails : BlockPlan → Shown → WriteFault → Shown → Type 0
+AskFails plan old fault new = (fault ≡ faults.NoMemory)
+    ⊎ ((error : HdfsError) × (fault ≡ faults.Namenode error) × (error ≢ errors.NoMemory) × IsLastError error new
+    × NamenodeFailed plan old new)
+
+-- There was none, and the block waits as before.
+pub record RestampsNot (plan : BlockPlan) (old : Shown) (fault : WriteFault) (new : Shown) : Type 0 where
+  pub cause : AskFails plan old fault new
+  pub waits : WaitsOn plan old plan new
+
+-- A link was set up to go on with the block, which has this name so far, and at least so many bytes.
+pub record Reopens (block : Block) (plan : BlockPlan) (safe : ℕ) (client : List ℕ) (old : Shown) (link : ℕ) (new : Shown) : Type 0 where
+  pub setup : Setup
+  pub is : IsRecovery block plan safe client setup
+  pub opened : WriteOpened old setup link new
+
+-- None was, for want of memory, or since the links have failed. Nothing else changed.
+pub record ReopensNot (old : Shown) (fault : WriteFault) (new : Shown) : Type 0 where
+  pub cause : (fault ≡ faults.NoMemory)
+      ⊎ (((fault ≡ faults.Link) ⊎ (fault ≡ faults.Setup)) × Rose old.counts.links new.counts.links)
+  pub links : KeepsLinks old new
+  pub picture : Told SamePicture old.picture new.picture
+
+-- The packets were sent on a fresh link, in order: all of them, or the pipeline has ended at one of them, and the others weren't sent.
+-- No acknowledgement was read.
+pub record SendsAgain (link : ℕ) (replay : List Outgoing) (core : Pipeline) (old : Shown) (sent : SentAgain) (new : Shown) : Type 0 where
+  pub pushed : replay ≡ sent.core.pushed ++ sent.rest
+  pub drove : Drove link sent.core.pushed core old sent.core new
+  pub is_core : IsCore sent.core
+  pub all : sent.core.end ≡ None → sent.rest ≡ []
+  pub goes_on : sent.core.end ≡ None → (packet : Outgoing) (start : ℕ) → FollowFrom start (replay ++ packet ∷ [])
+      → FollowsOn new link packet
+
+-- what an ask to name a pipeline did to a picture, in which the block is listed
+abbrev pub MayBeNamed : Block → BlockPlan → Picture → Picture → Type 0
+MayBeNamed block plan p q =
+    SameButActive p q ⊎ NamesPipeline block plan.block.b (map (λ node. node.id) plan.block.locs) p q
+
+-- over a told picture, in which the block is listed, this came of an ask to name its pipeline
+abbrev pub NamesSo : (Picture → Picture → Type 0) → Block → Shown → Shown → Type 0
+NamesSo P block old new = (p : Picture) (entry : BlockEntry) → old.picture ≡ Some p → p.table block.block_id ≡ Some entry
+    → (q : Picture) × (new.picture ≡ Some q) × P p q × SameActive old p new q
+
+-- The datanodes of the plan are those of the block's pipeline in the block table, or that ask was left without an answer.
+pub record NamesNot (block : Block) (plan : BlockPlan) (old : Shown) (fault : WriteFault) (new : Shown) : Type 0 where
+  pub may : NamesSo (MayBeNamed block plan) block old new
+  pub cause : (fault ≡ faults.NoMemory) ⊎ ((error : HdfsError) × (fault ≡ faults.Namenode error) × (error ≢ errors.NoMemory)
+      × IsLastError error new × ((p : Picture) (entry : BlockEntry) → old.picture ≡ Some p → p.table block.block_id ≡ Some entry → p.active ≡ 0
+      → Rose (old.counts.calls 0) (new.counts.calls 0)))
+
+-- The packets were sent again, and then the pipeline was named.
+pub record SendsAndNames (link : ℕ) (replay : List Outgoing) (core : Pipeline) (block : Block) (plan : BlockPlan) (old : Shown)
+    (sent : SentAgain) (new : Shown) : Type 0 where
+  pub between : Shown
+  pub sends : SendsAgain link replay core old sent between
+  pub links : KeepsLinks between new
+  pub names : NamesSo (NamesPipeline block plan.block.b (map (λ node. node.id) plan.block.locs)) block between new
+
+-- Memory was wanting while they were sent, or the pipeline wasn't named.
+abbrev pub SendsOrNamesNot : ℕ → List Outgoing → Pipeline → Block → BlockPlan → Shown → WriteFault → Shown → Type 0
+SendsOrNamesNot link replay core block plan old fault new =
+    ((fault ≡ faults.NoMemory) × StopsShort link replay core old new)
+    ⊎ ((sent : SentAgain) × (between : Shown) × SendsAgain link replay core old sent between × KeepsLinks between new
+    × NamesNot block plan between fault new)

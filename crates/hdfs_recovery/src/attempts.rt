@@ -1,0 +1,272 @@
+//! Rebuilds a pipeline after datanodes of it have failed.
+
+ghost use Rattle.std.specs.Prelude.{◌≡◌, ◌<◌, ◌≤◌, ◌^◌, [], Some, None, IsSome, IfOk, IfErr};
+ghost use Rattle.hdfs_model.specs.declared.picture.OpenWrite.{OpenWrite};
+ghost use Rattle.hdfs_model.specs.Namenode.{IsToWrite};
+ghost use Rattle.hdfs_namenode.specs.Clients.{name_of};
+ghost use Rattle.hdfs_pipeline.specs.Driving.{Drives, IsGoing};
+ghost use Rattle.hdfs_pipeline.specs.Pipelines.{Done};
+ghost use Rattle.hdfs_blocks.specs.Carrying.{total};
+ghost use Rattle.hdfs_recovery.specs.Attempts.{task_of, standing, Attempted, GaveNone, RebuiltAfter, GaveNoneAfter};
+ghost use Rattle.hdfs_recovery.specs.Plans.{CanRebuild, IsReplay};
+ghost use Rattle.hdfs_recovery.specs.Resuming.{SendsAndNames, SendsOrNamesNot};
+ghost use Rattle.hdfs_recovery.specs.Trying.{LeavesOut, LeavesNone, Resumed, ResumedNot, FallsFrom, Collects, CollectsNot, course_of};
+
+use crate::block_plan::{
+    BlockPipeline, BlockPlan, RebuildSettings, WriteFault, copy_at, nodes_without,
+};
+use crate::recovery::{name_pipeline, reopen, restamp};
+use crate::replacing::complete;
+use crate::replay::{SentAgain, send_again};
+use hdfs_model::{Block, Cluster};
+use hdfs_namenode::NamenodeProtocol;
+use hdfs_pipeline::{PipelineCore, PipelineEnd, drive_end};
+use hdfs_wire::{List, WritePacket};
+use std::alloc::Global;
+
+/// A pipeline of which datanodes failed while packets were sent again on it.
+#[derive(Drop)]
+pub(crate) struct Fallen {
+    pub(crate) plan: BlockPlan,
+    pub(crate) failed: List<u32>,
+    pub(crate) replay: List<WritePacket>,
+}
+
+/// What came of an attempt.
+#[derive(Drop)]
+pub(crate) enum Attempt {
+    Stands(BlockPipeline),
+    Fell(Fallen),
+}
+
+/// How many bytes packets have together.
+fn total(packets: &[WritePacket]) -> u64
+    requires { total packets.now < 2 ^ 64 }
+    ensures { result ≡ total packets.now }
+{
+    let mut sum = 0;
+    for packet in packets {
+        sum += packet.payload().len() as u64;
+    }
+    sum
+}
+
+/// The plan without the datanodes that have failed, rebuilt once more.
+fn leave_out(
+    alloc: Global,
+    plan: BlockPlan,
+    settings: &RebuildSettings,
+    failed: &[u32],
+) -> Result<BlockPlan, WriteFault>
+    requires rebuilds { plan.rebuilds ≤ settings.now.rebuild_limit }
+    requires block { IsToWrite plan.block }
+    ensures ok { IfOk result (LeavesOut plan settings.now failed.now) }
+    ensures err { IfErr result (LeavesNone plan settings.now failed.now) }
+{
+    if plan.rebuilds == settings.rebuild_limit {
+        return Err(WriteFault::RebuildLimit {
+            rebuilds: plan.rebuilds,
+        });
+    }
+    let block = nodes_without(alloc, plan.block, failed)?;
+    if block.locs.as_slice().is_empty() {
+        return Err(WriteFault::AllNodes);
+    }
+    Ok(BlockPlan {
+        block,
+        rebuilds: plan.rebuilds + 1,
+        ..plan
+    })
+}
+
+/// Sends the packets again on a link that was just set up, and names its pipeline.
+fn replay_and_name<C: Cluster>(
+    alloc: Global,
+    cluster: &mut C,
+    namenode: &NamenodeProtocol,
+    plan: &BlockPlan,
+    block: &Block,
+    core: PipelineCore,
+    link: u64,
+    replay: List<WritePacket>,
+) -> Result<SentAgain, WriteFault>
+    requires namenodes { 0 < (C.shown cluster.old).namenodes }
+    requires same { block.now.block_id ≡ plan.now.block.b.block_id }
+    requires going { IsGoing (C.shown cluster.old) link core }
+    requires none { core.pushed ≡ [] }
+    requires packets { IsReplay core.window replay }
+    requires fresh { (write : OpenWrite) → (C.shown cluster.old).writes link ≡ Some write → write.end ≡ None }
+    ensures ok { IfOk result (λ sent. SendsAndNames link replay core block.now plan.now (C.shown cluster.old) sent (C.shown cluster.new)) }
+    ensures err { IfErr result (λ fault.
+        SendsOrNamesNot link replay core block.now plan.now (C.shown cluster.old) fault (C.shown cluster.new)) }
+{
+    let sent = send_again(alloc, cluster, core, link, replay)?;
+    name_pipeline(alloc, cluster, namenode, plan, block)?;
+    Ok(sent)
+}
+
+/// A pipeline has ended while packets were sent again on it. Its link is ended, and all packets come back in order.
+fn collect<C: Cluster>(
+    cluster: &mut C,
+    plan: BlockPlan,
+    link: u64,
+    sent: SentAgain,
+) -> Result<Fallen, WriteFault>
+    requires drives { Drives (C.shown cluster.old) link sent.core }
+    requires ended { IsSome sent.core.end × (sent.core.end ≡ Some Done → ⊥) }
+    ensures ended { FallsFrom C.shown C.ends link sent.core cluster.old cluster.new }
+    ensures fallen { IfOk result (Collects plan sent) }
+    ensures err { IfErr result (CollectsNot sent) }
+{
+    let SentAgain { core, rest } = sent;
+    match drive_end(core, cluster, link)? {
+        PipelineEnd::Recover { failed, mut replay } => {
+            for packet in rest.into_vec() {
+                replay.push(packet)?;
+            }
+            Ok(Fallen {
+                plan,
+                failed,
+                replay,
+            })
+        }
+        PipelineEnd::Bad { seqno } => Err(WriteFault::BadAck { seqno }),
+        PipelineEnd::Success => unreachable!(),
+    }
+}
+
+/// Sets the pipeline of the plan up, sends the packets again on it, and names it. The block has this name so far, and at least `least`
+/// bytes.
+fn resume<C: Cluster>(
+    alloc: Global,
+    cluster: &mut C,
+    namenode: &NamenodeProtocol,
+    plan: BlockPlan,
+    block: Block,
+    window: u32,
+    least: u64,
+    replay: List<WritePacket>,
+) -> Result<Attempt, WriteFault>
+    requires namenodes { 0 < (C.shown cluster.old).namenodes }
+    requires block { IsToWrite plan.block × (block.block_id ≡ plan.block.b.block_id) }
+    requires packets { (1 ≤ window) × (window ≤ 1000) × IsReplay window replay }
+    ensures ok { IfOk result (λ attempt. Resumed (course_of plan block least (name_of namenode.now) window replay)
+        (C.shown cluster.old) attempt (C.shown cluster.new)) }
+    ensures err { IfErr result (λ fault. ResumedNot plan (C.shown cluster.old) fault (C.shown cluster.new)) }
+{
+    let name = block.copy(alloc)?;
+    let client = namenode.client_name();
+    let (core, link) = reopen(alloc, cluster, &plan, block, window, least, client)?;
+    match replay_and_name(alloc, cluster, namenode, &plan, &name, core, link, replay) {
+        Ok(sent) if sent.core.has_ended() => {
+            let fallen = collect(cluster, plan, link, sent)?;
+            Ok(Attempt::Fell(fallen))
+        }
+        Ok(sent) => {
+            let core = sent.core;
+            Ok(Attempt::Stands(BlockPipeline { plan, core, link }))
+        }
+        Err(fault) => {
+            cluster.end_write(link);
+            Err(fault)
+        }
+    }
+}
+
+/// Rebuilds the pipeline once.
+fn try_once<C: Cluster>(
+    alloc: Global,
+    cluster: &mut C,
+    namenode: &NamenodeProtocol,
+    plan: BlockPlan,
+    settings: &RebuildSettings,
+    failed: &[u32],
+    replay: List<WritePacket>,
+    unsent: u64,
+) -> Result<Attempt, WriteFault>
+    requires namenodes { 0 < (C.shown cluster.old).namenodes }
+    requires can { CanRebuild plan settings.now failed.now replay unsent }
+    ensures ok { IfOk result (λ attempt. Attempted (task_of settings.now (name_of namenode.now) replay unsent)
+        (standing plan failed.now (C.shown cluster.old)) attempt (C.shown cluster.new)) }
+    ensures err { IfErr result (λ fault. GaveNone (task_of settings.now (name_of namenode.now) replay unsent)
+        (standing plan failed.now (C.shown cluster.old)) fault (C.shown cluster.new)) }
+{
+    let excluded = copy_at(alloc, plan.block.locs.as_slice(), failed)?;
+    let block = plan.block.b.copy(alloc)?;
+    let least = block.num_bytes - (total(replay.as_slice()) + unsent);
+    let plan = leave_out(alloc, plan, settings, failed)?;
+    let plan = complete(
+        alloc,
+        cluster,
+        namenode,
+        plan,
+        settings,
+        excluded.as_slice(),
+    )?;
+    let plan = restamp(cluster, namenode, plan)?;
+    resume(
+        alloc,
+        cluster,
+        namenode,
+        plan,
+        block,
+        settings.window,
+        least,
+        replay,
+    )
+}
+
+/// Rebuilds the pipeline of a block after the datanodes at some of its places, counted from 0, have failed (upstream's block writer does
+/// where a pipeline fails). They are left out; where one is due, a datanode is asked for and is given the block; the block gets a
+/// greater generation stamp; a pipeline is set up; the packets `replay`, which aren't acknowledged, are sent again in order; and the
+/// pipeline is named. Where datanodes of it fail meanwhile, it is rebuilt again. Behind `replay` the block has `unsent` bytes that
+/// weren't sent.
+///
+/// The link of the failed pipeline has been ended before.
+///
+/// Errors: `RebuildLimit` where it was rebuilt as often as it may be; `AllNodes` where no datanode is left; `NoReplacement` where one was
+/// due, none came or it wasn't given the block, and writes don't go on with best effort; `Link` and `Setup` where the set-up broke or
+/// was refused; `BadAck` after an acknowledgement that was none that was due; `Namenode` with the error of a namenode; `NoMemory`.
+pub fn rebuild<C: Cluster>(
+    alloc: Global,
+    cluster: &mut C,
+    namenode: &NamenodeProtocol,
+    plan: BlockPlan,
+    settings: &RebuildSettings,
+    failed: List<u32>,
+    replay: List<WritePacket>,
+    unsent: u64,
+) -> Result<BlockPipeline, WriteFault>
+    requires namenodes { 0 < (C.shown cluster.old).namenodes }
+    requires can { CanRebuild plan settings.now failed replay unsent }
+    ensures ok { IfOk result (λ rebuilt. RebuiltAfter (task_of settings.now (name_of namenode.now) replay unsent)
+        (standing plan failed (C.shown cluster.old)) rebuilt (C.shown cluster.new)) }
+    ensures err { IfErr result (λ fault. GaveNoneAfter (task_of settings.now (name_of namenode.now) replay unsent)
+        (standing plan failed (C.shown cluster.old)) fault (C.shown cluster.new)) }
+{
+    let mut fallen = Fallen {
+        plan,
+        failed,
+        replay,
+    };
+    loop {
+        let Fallen {
+            plan,
+            failed,
+            replay,
+        } = fallen;
+        match try_once(
+            alloc,
+            cluster,
+            namenode,
+            plan,
+            settings,
+            failed.as_slice(),
+            replay,
+            unsent,
+        )? {
+            Attempt::Stands(rebuilt) => return Ok(rebuilt),
+            Attempt::Fell(next) => fallen = next,
+        }
+    }
+}
