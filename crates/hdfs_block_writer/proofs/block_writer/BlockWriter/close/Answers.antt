@@ -1,0 +1,26 @@
+-- The goals of BlockWriter::close.
+use Rattle.std.proofs.Common.{[]}
+use Rattle.hdfs_block_writer.specs.Written.{Closes, GaveUp}
+use Rattle.hdfs_block_writer.proofs.Closed.{closes_after}
+use Rattle.hdfs_recovery.proofs.Tried.{err_by, ok_by}
+use Rattle.hdfs_block_writer.proofs.Wrote.{gave_up_after}
+use Rattle.hdfs_block_writer.proofs.block_writer.BlockWriter.close.Goals as goal
+
+pub flush-requires-clause-holds : goal.flush-requires-clause-holds
+flush-requires-clause-holds g c = λ pipe is. let h = c.requires.stands pipe is in (h.0, h.1)
+
+pub returns-in-Ok-clause-closed : goal.returns-in-Ok-clause-closed
+returns-in-Ok-clause-closed g c =
+    let a = g.C.Cluster.shown c.args.cluster.now in
+    let b = g.C.Cluster.shown c.flush.new.cluster in
+    let z = g.C.Cluster.shown c.end.new.cluster in
+    ok_by (λ block. Closes b c.flush.new.self block z) (λ block. Closes a c.args.self block z) c.end.result
+    (λ block closed. closes_after a b z c.args.self c.flush.new.self block c.in-Ok.ensures.wrote closed) c.end.ensures.closed
+
+pub returns-in-Ok-clause-err : goal.returns-in-Ok-clause-err
+returns-in-Ok-clause-err g c =
+    let a = g.C.Cluster.shown c.args.cluster.now in
+    let b = g.C.Cluster.shown c.flush.new.cluster in
+    let z = g.C.Cluster.shown c.end.new.cluster in
+    err_by (λ fault. GaveUp b c.flush.new.self fault z) (λ fault. GaveUp a c.args.self fault z) c.end.result
+    (λ fault gave. gave_up_after a b c.args.self c.flush.new.self [] c.in-Ok.ensures.wrote z fault gave) c.end.ensures.err

@@ -1,0 +1,76 @@
+-- The goals of BlockWriter::flush.
+use Rattle.std.proofs.Common.{rules, ◌≡◌, ◌+◌, ◌-◌, ◌≤◌, Some, None, length, arith, ap, refl}
+use Rattle.hdfs_blocks.specs.Carrying.{total}
+use Rattle.hdfs_blocks.specs.Writers.{filling_of}
+use Rattle.hdfs_block_writer.proofs.Sent.{can_push, holds_same, holds_sent, not_pushed, stays_full, wrote_sent}
+use Rattle.hdfs_block_writer.proofs.block_writer.BlockWriter.flush.Goals as goal
+
+pub returns-in_default-clause-holds : goal.returns-in_default-clause-holds
+returns-in_default-clause-holds g c =
+    let same : c.args.self.now.packet ≡ c.take.new.self = search rules in
+    holds_same (g.C.Cluster.shown c.args.cluster.now) c.args.self.now c.take.new.self same c.requires.holds
+
+pub returns-in_default-clause-full : goal.returns-in_default-clause-full
+returns-in_default-clause-full g c = λ one two packet is_one is_two is_packet.
+    let none : c.args.self.now.packet ≡ None = search rules in
+    absurd (cc (none, is_packet))
+
+pub push-requires-clause-can : goal.push-requires-clause-can
+push-requires-clause-can g c =
+    let w = c.args.self.now in
+    let piped : w.pipe ≡ Some c.in-Some-take.pipe = search rules in
+    let is : w.packet ≡ Some c.in-Some.packet = search rules in
+    let held = c.requires.holds c.in-Some-take.pipe piped in
+    let filling = held.0.packet c.in-Some.packet is in
+    can_push (g.C.Cluster.shown c.args.cluster.now) w c.in-Some-take.pipe c.in-Some.packet held.0 held.1 filling.next.begins
+    (omega (arith, held.0.filled, ap (λ o. length (filling_of o)) is))
+
+pub overflow_add-self : goal.overflow_add-self
+overflow_add-self g c =
+    let piped : c.args.self.now.pipe ≡ Some c.in-Some-take.pipe = search rules in
+    let kept = (c.requires.holds c.in-Some-take.pipe piped).0 in
+    omega (arith, kept.counted, kept.within.0, kept.within.1)
+
+pub returns-in-Ok-clause-holds : goal.returns-in-Ok-clause-holds
+returns-in-Ok-clause-holds g c =
+    let w = c.args.self.now in
+    let piped : w.pipe ≡ Some c.in-Some-take.pipe = search rules in
+    let is : w.packet ≡ Some c.in-Some.packet = search rules in
+    let held = c.requires.holds c.in-Some-take.pipe piped in
+    holds_sent w (record w { pipe = Some c.in-Ok.pipe; packet = c.take.new.self; seqno = w.seqno + 1 }) c.in-Some-take.pipe c.in-Ok.pipe
+    c.in-Some.packet (g.C.Cluster.shown c.args.cluster.now) (g.C.Cluster.shown c.push.new.cluster) held.0 held.1 is c.in-Ok.ensures.ok
+    (record { settings = refl; block_size = refl; chunk = refl; packet_size = refl }) refl refl c.take.ensures.after refl
+
+pub returns-in-Ok-clause-full : goal.returns-in-Ok-clause-full
+returns-in-Ok-clause-full g c =
+    let w = c.args.self.now in
+    let piped : w.pipe ≡ Some c.in-Some-take.pipe = search rules in
+    let is : w.packet ≡ Some c.in-Some.packet = search rules in
+    let held = c.requires.holds c.in-Some-take.pipe piped in
+    stays_full w (record w { pipe = Some c.in-Ok.pipe; packet = c.take.new.self; seqno = w.seqno + 1 }) c.in-Some-take.pipe c.in-Ok.pipe
+    c.in-Some.packet (g.C.Cluster.shown c.args.cluster.now) (g.C.Cluster.shown c.push.new.cluster) held.0 held.1 is c.in-Ok.ensures.ok
+    (record { settings = refl; block_size = refl; chunk = refl; packet_size = refl }) refl refl c.take.ensures.after refl piped
+
+pub returns-in-Ok-clause-wrote : goal.returns-in-Ok-clause-wrote
+returns-in-Ok-clause-wrote g c =
+    let w = c.args.self.now in
+    let piped : w.pipe ≡ Some c.in-Some-take.pipe = search rules in
+    let is : w.packet ≡ Some c.in-Some.packet = search rules in
+    let held = c.requires.holds c.in-Some-take.pipe piped in
+    wrote_sent w (record w { pipe = Some c.in-Ok.pipe; packet = c.take.new.self; seqno = w.seqno + 1 }) c.in-Some-take.pipe c.in-Ok.pipe
+    c.in-Some.packet (g.C.Cluster.shown c.args.cluster.now) (g.C.Cluster.shown c.push.new.cluster) held.0 held.1 is c.in-Ok.ensures.ok
+    (record { settings = refl; block_size = refl; chunk = refl; packet_size = refl }) refl refl c.take.ensures.after refl piped
+
+pub returns-in-Err-clause-err : goal.returns-in-Err-clause-err
+returns-in-Err-clause-err g c =
+    let w = c.args.self.now in
+    let piped : w.pipe ≡ Some c.in-Some-take.pipe = search rules in
+    let is : w.packet ≡ Some c.in-Some.packet = search rules in
+    let held = c.requires.holds c.in-Some-take.pipe piped in
+    record {
+      failed = c.take-2.ensures.after;
+      keeps = record { settings = refl; block_size = refl; chunk = refl; packet_size = refl };
+      gave_up = not_pushed w c.in-Some-take.pipe c.in-Some.packet piped held.0.filled (omega (arith, held.1.starts))
+          (ap filling_of is) (held.0.packet c.in-Some.packet is).next.begins
+          (g.C.Cluster.shown c.args.cluster.now) (g.C.Cluster.shown c.push.new.cluster) c.in-Err.fault c.in-Err.ensures.err;
+    }

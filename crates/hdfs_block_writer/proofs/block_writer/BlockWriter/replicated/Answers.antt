@@ -1,0 +1,43 @@
+-- The goals of BlockWriter::replicated.
+use Rattle.std.proofs.Common.{◌≡◌, Some, None, List, ℕ, refl, subst}
+use Rattle.hdfs_model.specs.Pipes.{WriteOpened}
+use Rattle.hdfs_namenode.specs.Clients.{name_of}
+use Rattle.hdfs_blocks.specs.Writes.{setup_of}
+use Rattle.hdfs_block_writer.specs.declared.block_writer.BlockWriter.{BlockWriter}
+use Rattle.hdfs_block_writer.proofs.Opened.{new_begins, new_stands}
+use Rattle.hdfs_block_writer.proofs.block_writer.BlockWriter.replicated.Goals as goal
+
+pub returns-clause-stands : goal.returns-clause-stands
+returns-clause-stands g c =
+    let w : BlockWriter = record {
+      alloc = c.args.alloc;
+      settings = c.args.settings.now;
+      block_size = c.args.block_size;
+      chunk = c.args.plan.chunk;
+      packet_size = c.args.packet_size;
+      pipe = Some (record { plan = c.args.plan; core = c.in_ok-core.core; link = c.in_ok-core.link });
+      packet = None;
+      length = c.args.plan.block.b.num_bytes;
+      seqno = 0;
+    } in
+    new_stands c.args.plan c.args.settings.now c.in_ok-core.link c.client_name-client.result.now w c.in_ok-core.core
+    (g.C.Cluster.shown c.args.cluster.now) (g.C.Cluster.shown c.open.new.cluster) c.requires.plan.0 c.requires.plan.1
+    (c.requires.sizes.1, c.requires.sizes.2) c.in_ok-core.ensures.core c.in_ok-core.ensures.opened refl refl refl refl c.requires.sizes.0 refl
+    c.requires.size
+
+pub returns-clause-begins : goal.returns-clause-begins
+returns-clause-begins g c =
+    let w : BlockWriter = record {
+      alloc = c.args.alloc;
+      settings = c.args.settings.now;
+      block_size = c.args.block_size;
+      chunk = c.args.plan.chunk;
+      packet_size = c.args.packet_size;
+      pipe = Some (record { plan = c.args.plan; core = c.in_ok-core.core; link = c.in_ok-core.link });
+      packet = None;
+      length = c.args.plan.block.b.num_bytes;
+      seqno = 0;
+    } in
+    new_begins c.args.plan c.args.settings.now c.in_ok-core.link c.client_name-client.result.now w c.in_ok-core.core
+    (g.C.Cluster.shown c.args.cluster.now) (g.C.Cluster.shown c.open.new.cluster) c.requires.plan.0 c.requires.plan.1
+    (c.requires.sizes.1, c.requires.sizes.2) c.in_ok-core.ensures.core c.in_ok-core.ensures.opened refl refl refl refl

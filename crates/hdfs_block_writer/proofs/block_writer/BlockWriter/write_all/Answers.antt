@@ -1,0 +1,42 @@
+-- The goals of BlockWriter::write_all.
+use Rattle.std.proofs.Common.{ℕ, List, [], ◌++◌, ◌<◌, length, take, refl, sym, ◌∙◌, ap, subst, arith}
+use Rattle.std.proofs.lemmas.List.{length-drop, take_rest, length-take-le}
+use Rattle.hdfs_block_writer.proofs.Wrote.{wrote_refl, wrote_trans, fails_after, some_after, pieces_join}
+use Rattle.hdfs_block_writer.proofs.block_writer.BlockWriter.write_all.Goals as goal
+
+pub pieces-init : goal.pieces-init
+pieces-init g c = record {
+  namenodes = c.requires.namenodes;
+  stands = c.requires.stands;
+  some = c.requires.open;
+  room = c.requires.room;
+  told = ([], refl, wrote_refl (g.C.Cluster.shown c.args.cluster.now) c.args.self.now);
+}
+
+pub pieces-preserved : goal.pieces-preserved
+pieces-preserved g c =
+    let s = g.C.Cluster.shown c.args.cluster.now in
+    let t = g.C.Cluster.shown c.pieces.cluster in
+    let u = g.C.Cluster.shown c.write_piece.new.cluster in
+    let before = c.pieces.invariant in
+    let now = c.in-Ok.ensures in
+    let n = c.in-Ok.taken in
+    let rest = c.pieces.rest.now in
+    let told = before.told in
+    record {
+      namenodes = subst (λ (k : ℕ). 0 < k) (sym now.wrote.own.later.namenodes) before.namenodes;
+      stands = now.stands;
+      some = some_after t u c.pieces.self c.write_piece.new.self (take n rest) now.wrote before.some;
+      room = omega (arith, before.room, now.count.1, now.wrote.length, now.wrote.keeps.block_size, length-take-le n rest now.count.1, length-drop n rest, ap length (take_rest rest n));
+      told = (
+        told.0 ++ take n rest,
+        pieces_join c.args.bytes.now rest told.0 n told.1 ∙ ap (λ (l : List ℕ). told.0 ++ take n rest ++ l) (sym (take_rest rest n)),
+        wrote_trans s t c.args.self.now c.pieces.self told.0 told.2 u c.write_piece.new.self (take n rest) now.wrote,
+      );
+    }
+
+pub returns-in-Err-clause-err : goal.returns-in-Err-clause-err
+returns-in-Err-clause-err g c =
+    let told = c.pieces.invariant.told in
+    fails_after (g.C.Cluster.shown c.args.cluster.now) (g.C.Cluster.shown c.pieces.cluster) c.args.self.now c.pieces.self told.0 told.2
+    (g.C.Cluster.shown c.write_piece.new.cluster) c.write_piece.new.self c.in-Err.fault c.in-Err.ensures.err

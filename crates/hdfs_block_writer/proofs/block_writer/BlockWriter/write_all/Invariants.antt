@@ -1,0 +1,17 @@
+-- How far the bytes were taken.
+use Rattle.std.proofs.Common.{◌≡◌, ℕ, ◌+◌, ◌<◌, ◌≤◌, List, ◌++◌, length, IsSome}
+use Rattle.hdfs_block_writer.specs.BlockWriters.{Stands}
+use Rattle.hdfs_block_writer.specs.Written.{Wrote}
+use Rattle.hdfs_block_writer.proofs.block_writer.BlockWriter.write_all.Given as goal
+
+abbrev pub invariant-pieces : goal.invariant-pieces
+invariant-pieces g l = record {
+  namenodes : 0 < (g.C.Cluster.shown l.cluster).namenodes;
+  stands : Stands (g.C.Cluster.shown l.cluster) l.self;
+  some : IsSome l.self.pipe;
+  room : l.self.length + length l.rest ≤ l.self.block_size;
+  told : (done : List ℕ) × (l.fn.bytes ≡ done ++ l.rest) × Wrote (g.C.Cluster.shown l.fn.cluster) l.fn.self done (g.C.Cluster.shown l.cluster) l.self;
+}
+
+abbrev pub decreases-pieces : goal.decreases-pieces
+decreases-pieces g l = length l.rest

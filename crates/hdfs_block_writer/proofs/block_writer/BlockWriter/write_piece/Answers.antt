@@ -1,0 +1,53 @@
+-- The goals of BlockWriter::write_piece.
+use Rattle.std.proofs.Common.{[], take, sym, ◌∙◌, subst}
+use Rattle.std.proofs.lemmas.List.{append-nil}
+use Rattle.std.specs.Prelude.{ℕ, List}
+use Rattle.hdfs_block_writer.specs.Written.{Wrote}
+use Rattle.hdfs_block_writer.proofs.Sent.{pipe_of, holds_filled, is_open}
+use Rattle.hdfs_block_writer.proofs.Wrote.{ended_fails, fill_wrote, wrote_trans, fails_after}
+use Rattle.hdfs_block_writer.proofs.block_writer.BlockWriter.write_piece.Goals as goal
+
+pub fill-requires-clause-kept : goal.fill-requires-clause-kept
+fill-requires-clause-kept g c = let pipe = pipe_of c.args.self.now c.requires.open in (c.requires.stands pipe.0 pipe.1).0
+
+pub fill-requires-clause-space : goal.fill-requires-clause-space
+fill-requires-clause-space g c = let pipe = pipe_of c.args.self.now c.requires.open in (c.requires.stands pipe.0 pipe.1).2
+
+pub fail-requires : goal.fail-requires
+fail-requires g c = λ pipe is.
+    is_open c.args.self.now.settings (g.C.Cluster.shown c.args.cluster.now) pipe []
+    (c.requires.stands pipe (sym c.in-Err.ensures.same.0 ∙ is)).1.standing
+
+pub returns-in-Err-clause-err : goal.returns-in-Err-clause-err
+returns-in-Err-clause-err g c =
+    ended_fails c.args.self.now c.fill.new.self c.fail.new.self (g.C.Cluster.shown c.args.cluster.now) (g.C.Cluster.shown c.fail.new.cluster)
+    c.in-Err.ensures.same.0 c.in-Err.ensures.same.1 c.fail.ensures.failed c.fail.ensures.ended
+
+pub flush_full-requires-clause-holds : goal.flush_full-requires-clause-holds
+flush_full-requires-clause-holds g c =
+    holds_filled (g.C.Cluster.shown c.args.cluster.now) c.args.self.now c.fill.new.self (take c.in-Ok.count c.args.bytes.now)
+    c.requires.stands c.in-Ok.ensures.kept c.in-Ok.ensures.fills
+
+pub flush_full-requires-clause-full : goal.flush_full-requires-clause-full
+flush_full-requires-clause-full g c = λ pipe is. (c.requires.stands pipe (sym c.in-Ok.ensures.fills.pipe ∙ is)).3
+
+pub returns-in-Ok-flush_full-clause-wrote : goal.returns-in-Ok-flush_full-clause-wrote
+returns-in-Ok-flush_full-clause-wrote g c =
+    let a = g.C.Cluster.shown c.args.cluster.now in
+    let b = g.C.Cluster.shown c.flush_full.new.cluster in
+    let w = c.args.self.now in
+    let more = take c.in-Ok.count c.args.bytes.now in
+    let pipe = pipe_of w c.requires.open in
+    let filled = fill_wrote a w c.fill.new.self more (c.requires.stands pipe.0 pipe.1).0.filled c.in-Ok.ensures.fills in
+    subst (λ (bytes : List ℕ). Wrote a w bytes b c.flush_full.new.self) (append-nil more)
+    (wrote_trans a a w c.fill.new.self more filled b c.flush_full.new.self [] c.in-Ok-flush_full.ensures.wrote)
+
+pub returns-in-Err-flush_full-clause-err : goal.returns-in-Err-flush_full-clause-err
+returns-in-Err-flush_full-clause-err g c =
+    let a = g.C.Cluster.shown c.args.cluster.now in
+    let w = c.args.self.now in
+    let more = take c.in-Ok.count c.args.bytes.now in
+    let pipe = pipe_of w c.requires.open in
+    let filled = fill_wrote a w c.fill.new.self more (c.requires.stands pipe.0 pipe.1).0.filled c.in-Ok.ensures.fills in
+    fails_after a a w c.fill.new.self more filled (g.C.Cluster.shown c.flush_full.new.cluster) c.flush_full.new.self
+    c.in-Err-flush_full.fault c.in-Err-flush_full.ensures.err

@@ -1,0 +1,62 @@
+-- The goals of finish.
+use Rattle.std.proofs.Common.{◌≡◌, ◌<◌, ℕ, [], sym, subst}
+use Rattle.std.proofs.lemmas.Result.{err_from_is_err_and}
+use Rattle.hdfs_block_writer.specs.declared.pushing.Settled.{Settled}
+use Rattle.hdfs_block_writer.specs.Pushing.{Settles}
+use Rattle.hdfs_block_writer.proofs.PushingOn.{few_still, fewer_waits, finished_then, first_wait, not_finished, waits_again}
+use Rattle.hdfs_block_writer.proofs.pushing.finish.Goals as goal
+
+pub loop-plan-init : goal.loop-plan-init
+loop-plan-init g c = record {
+  namenodes = c.requires.namenodes;
+  waits = first_wait c.args.settings.now (g.C.Cluster.shown c.args.cluster.now) c.args.pipe c.requires.standing c.requires.ending;
+}
+
+pub finish_once-requires-clause-namenodes : goal.finish_once-requires-clause-namenodes
+finish_once-requires-clause-namenodes g c = c.loop-plan.invariant.namenodes
+
+pub finish_once-requires-clause-standing : goal.finish_once-requires-clause-standing
+finish_once-requires-clause-standing g c = c.loop-plan.invariant.waits.continues.standing
+
+pub finish_once-requires-clause-ending : goal.finish_once-requires-clause-ending
+finish_once-requires-clause-ending g c = c.loop-plan.invariant.waits.ending
+
+pub finish_once-requires-clause-few : goal.finish_once-requires-clause-few
+finish_once-requires-clause-few g c = (
+  few_still c.args.settings.now (g.C.Cluster.shown c.args.cluster.now) c.args.pipe c.args.length (g.C.Cluster.shown c.loop-plan.cluster)
+      c.loop-plan.pipe c.loop-plan.invariant.waits c.requires.few.0,
+  c.requires.few.1,
+)
+
+pub returns-in_err-plan-clause-err : goal.returns-in_err-plan-clause-err
+returns-in_err-plan-clause-err g c =
+    let p = err_from_is_err_and c.from_residual.result c.from_residual.ensures.1 in
+    rw (p.1, p.2)
+    (not_finished c.args.settings.now (g.C.Cluster.shown c.args.cluster.now) c.args.pipe (g.C.Cluster.shown c.loop-plan.cluster)
+    (g.C.Cluster.shown c.finish_once.new.cluster) c.loop-plan.pipe c.loop-plan.invariant.waits c.in_err-plan.field-0.0
+    (c.in_err-plan.ensures.err []))
+
+pub returns-in-Done-clause-finishes : goal.returns-in-Done-clause-finishes
+returns-in-Done-clause-finishes g c =
+    finished_then c.args.settings.now (g.C.Cluster.shown c.args.cluster.now) c.args.pipe (g.C.Cluster.shown c.loop-plan.cluster)
+    (g.C.Cluster.shown c.finish_once.new.cluster) c.loop-plan.pipe c.loop-plan.invariant.waits c.in-Done.plan
+    (subst (λ (s : Settled). Settles c.args.settings.now (g.C.Cluster.shown c.loop-plan.cluster) c.loop-plan.pipe s
+    (g.C.Cluster.shown c.finish_once.new.cluster)) c.in-Done.is c.in_ok-plan.ensures.ok)
+
+pub loop-plan-smaller : goal.loop-plan-smaller
+loop-plan-smaller g c =
+    let r = subst (λ (s : Settled). Settles c.args.settings.now (g.C.Cluster.shown c.loop-plan.cluster) c.loop-plan.pipe s
+    (g.C.Cluster.shown c.finish_once.new.cluster)) c.in-Rebuilt.is c.in_ok-plan.ensures.ok in
+    fewer_waits c.args.settings.now (g.C.Cluster.shown c.args.cluster.now) c.args.pipe (g.C.Cluster.shown c.loop-plan.cluster)
+    (g.C.Cluster.shown c.finish_once.new.cluster) c.loop-plan.pipe c.loop-plan.invariant.waits c.in-Rebuilt.rebuilt r.0
+
+pub loop-plan-preserved : goal.loop-plan-preserved
+loop-plan-preserved g c =
+    let r = subst (λ (s : Settled). Settles c.args.settings.now (g.C.Cluster.shown c.loop-plan.cluster) c.loop-plan.pipe s
+    (g.C.Cluster.shown c.finish_once.new.cluster)) c.in-Rebuilt.is c.in_ok-plan.ensures.ok in
+    let w = waits_again c.args.settings.now (g.C.Cluster.shown c.args.cluster.now) c.args.pipe (g.C.Cluster.shown c.loop-plan.cluster)
+    (g.C.Cluster.shown c.finish_once.new.cluster) c.loop-plan.pipe c.loop-plan.invariant.waits c.in-Rebuilt.rebuilt r.0 r.1 in
+    record {
+      namenodes = subst (λ (n : ℕ). 0 < n) (sym w.continues.own.later.namenodes) c.requires.namenodes;
+      waits = w;
+    }

@@ -1,0 +1,13 @@
+-- The pipeline goes on, and its last packet was pushed last.
+use Rattle.std.proofs.Common.{◌<◌, ◌-◌}
+use Rattle.hdfs_block_writer.proofs.PushingOn.{WaitsAgain}
+use Rattle.hdfs_block_writer.proofs.pushing.finish.Given as goal
+
+abbrev pub invariant-loop-plan : goal.invariant-loop-plan
+invariant-loop-plan g l = record {
+  namenodes : 0 < (g.C.Cluster.shown l.cluster).namenodes;
+  waits : WaitsAgain l.settings (g.C.Cluster.shown l.fn.cluster) l.fn.pipe (g.C.Cluster.shown l.cluster) l.pipe;
+}
+
+abbrev pub decreases-loop-plan : goal.decreases-loop-plan
+decreases-loop-plan g l = l.settings.rebuild_limit - l.pipe.plan.rebuilds

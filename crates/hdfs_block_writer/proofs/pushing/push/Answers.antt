@@ -1,0 +1,73 @@
+-- The goals of push.
+use Rattle.std.proofs.Common.{◌≡◌, ◌<◌, ℕ, Option, Some, None, refl, sym, ◌∙◌, ap, subst}
+use Rattle.std.proofs.lemmas.Result.{err_from_is_err_and}
+use Rattle.hdfs_wire.specs.Outgoing.{Outgoing}
+use Rattle.hdfs_block_writer.specs.Pushing.{CanPush, PushesNot, PushesOnce}
+use Rattle.hdfs_block_writer.proofs.PushingOn.{PushedSoFar, TriesAgain, first_try, fewer_turns, not_again, namenodes_still, still_more, tried_again, turns_left}
+use Rattle.hdfs_block_writer.proofs.pushing.push.Goals as goal
+
+pub loop-packet-init : goal.loop-packet-init
+loop-packet-init g c = record {
+  namenodes = c.requires.namenodes;
+  so_far = (refl, first_try c.args.settings.now (g.C.Cluster.shown c.args.cluster.now) c.args.pipe c.args.length c.args.packet c.requires.can);
+}
+
+pub returns-in_default-clause-ok : goal.returns-in_default-clause-ok
+returns-in_default-clause-ok g c =
+    subst
+    (λ (back : Option Outgoing). PushedSoFar c.args.settings.now (g.C.Cluster.shown c.args.cluster.now) c.args.pipe c.args.length c.args.packet
+    back (g.C.Cluster.shown c.loop-packet.cluster) c.loop-packet.pushed.pipe)
+    c.in_default.is c.loop-packet.invariant.so_far
+
+pub push_once-requires-clause-namenodes : goal.push_once-requires-clause-namenodes
+push_once-requires-clause-namenodes g c = c.loop-packet.invariant.namenodes
+
+pub push_once-requires-clause-can : goal.push_once-requires-clause-can
+push_once-requires-clause-can g c =
+    let t = still_more c.args.settings.now (g.C.Cluster.shown c.args.cluster.now) c.args.pipe c.args.length c.args.packet
+    (g.C.Cluster.shown c.loop-packet.cluster) c.loop-packet.pushed.pipe c.loop-packet.pushed.back c.in-Some.packet c.in-Some.is
+    c.loop-packet.invariant.so_far in
+    subst (CanPush c.args.settings.now (g.C.Cluster.shown c.loop-packet.cluster) c.loop-packet.pushed.pipe c.args.length) (sym t.0) t.1.can
+
+pub returns-in_err-pushed-clause-err : goal.returns-in_err-pushed-clause-err
+returns-in_err-pushed-clause-err g c =
+    let p = err_from_is_err_and c.from_residual.result c.from_residual.ensures.1 in
+    let t = still_more c.args.settings.now (g.C.Cluster.shown c.args.cluster.now) c.args.pipe c.args.length c.args.packet
+    (g.C.Cluster.shown c.loop-packet.cluster) c.loop-packet.pushed.pipe c.loop-packet.pushed.back c.in-Some.packet c.in-Some.is
+    c.loop-packet.invariant.so_far in
+    rw (p.1, p.2)
+    (not_again c.args.settings.now (g.C.Cluster.shown c.args.cluster.now) c.args.pipe c.args.length c.args.packet
+    (g.C.Cluster.shown c.loop-packet.cluster) (g.C.Cluster.shown c.push_once.new.cluster) c.loop-packet.pushed.pipe t.1
+    c.in_err-pushed.field-0.0
+    (subst (λ (x : Outgoing). PushesNot c.args.settings.now (g.C.Cluster.shown c.loop-packet.cluster) c.loop-packet.pushed.pipe x
+    c.in_err-pushed.field-0.0 (g.C.Cluster.shown c.push_once.new.cluster)) t.0 c.in_err-pushed.ensures.err))
+
+pub loop-packet-smaller : goal.loop-packet-smaller
+loop-packet-smaller g c =
+    let t = still_more c.args.settings.now (g.C.Cluster.shown c.args.cluster.now) c.args.pipe c.args.length c.args.packet
+    (g.C.Cluster.shown c.loop-packet.cluster) c.loop-packet.pushed.pipe c.loop-packet.pushed.back c.in-Some.packet c.in-Some.is
+    c.loop-packet.invariant.so_far in
+    subst (λ (back : Option Outgoing). turns_left c.args.settings.now c.in_ok-pushed.pushed.back c.in_ok-pushed.pushed.pipe
+    < turns_left c.args.settings.now back c.loop-packet.pushed.pipe)
+    (ap (λ (x : Outgoing). Some x) (sym t.0) ∙ sym c.in-Some.is)
+    (fewer_turns c.args.settings.now (g.C.Cluster.shown c.args.cluster.now) c.args.pipe c.args.length c.args.packet
+    (g.C.Cluster.shown c.loop-packet.cluster) (g.C.Cluster.shown c.push_once.new.cluster) c.loop-packet.pushed.pipe t.1
+    c.in_ok-pushed.pushed.back c.in_ok-pushed.pushed.pipe
+    (subst (λ (x : Outgoing). PushesOnce c.args.settings.now (g.C.Cluster.shown c.loop-packet.cluster) c.loop-packet.pushed.pipe x
+    c.in_ok-pushed.pushed (g.C.Cluster.shown c.push_once.new.cluster)) t.0 c.in_ok-pushed.ensures.ok))
+
+pub loop-packet-preserved : goal.loop-packet-preserved
+loop-packet-preserved g c =
+    let t = still_more c.args.settings.now (g.C.Cluster.shown c.args.cluster.now) c.args.pipe c.args.length c.args.packet
+    (g.C.Cluster.shown c.loop-packet.cluster) c.loop-packet.pushed.pipe c.loop-packet.pushed.back c.in-Some.packet c.in-Some.is
+    c.loop-packet.invariant.so_far in
+    let next = tried_again c.args.settings.now (g.C.Cluster.shown c.args.cluster.now) c.args.pipe c.args.length c.args.packet
+    (g.C.Cluster.shown c.loop-packet.cluster) (g.C.Cluster.shown c.push_once.new.cluster) c.loop-packet.pushed.pipe t.1
+    c.in_ok-pushed.pushed.back c.in_ok-pushed.pushed.pipe
+    (subst (λ (x : Outgoing). PushesOnce c.args.settings.now (g.C.Cluster.shown c.loop-packet.cluster) c.loop-packet.pushed.pipe x
+    c.in_ok-pushed.pushed (g.C.Cluster.shown c.push_once.new.cluster)) t.0 c.in_ok-pushed.ensures.ok) in
+    record {
+      namenodes = namenodes_still c.args.settings.now (g.C.Cluster.shown c.args.cluster.now) c.args.pipe c.args.length c.args.packet
+          c.in_ok-pushed.pushed.back (g.C.Cluster.shown c.push_once.new.cluster) c.in_ok-pushed.pushed.pipe next c.requires.namenodes;
+      so_far = next;
+    }

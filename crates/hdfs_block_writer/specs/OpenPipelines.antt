@@ -1,0 +1,154 @@
+-- An open pipeline of a block, which goes on as it was, or is rebuilt where datanodes of it fail.
+use Rattle.std.specs.Prelude.{◌≡◌, ◌≢◌, ◌⊎◌, ℕ, pos, ◌+◌, ◌<◌, ◌≤◌, true, false, List, [], ◌++◌, length as len, take, drop, All, Any, Option, Some, None, IsSome}
+use Rattle.hdfs_wire.specs.Outgoing.{Outgoing}
+use Rattle.hdfs_model.specs.declared.errors.HdfsError.{HdfsError}
+use Rattle.hdfs_model.specs.declared.errors.HdfsError.TheVariants as errors
+use Rattle.hdfs_model.specs.declared.picture.BlockEntry.{BlockEntry}
+use Rattle.hdfs_model.specs.declared.picture.OpenWrite.{OpenWrite}
+use Rattle.hdfs_model.specs.Causes.{SomeNodeRose}
+use Rattle.hdfs_model.specs.Counts.{Rose}
+use Rattle.hdfs_model.specs.Effects.{IsBeingWritten}
+use Rattle.hdfs_model.specs.Namenode.{IsToWrite}
+use Rattle.hdfs_model.specs.Picture.{Picture}
+use Rattle.hdfs_model.specs.Sending.{uuids}
+use Rattle.hdfs_model.specs.Shown.{Shown, Later, SameReads}
+use Rattle.hdfs_names.specs.Shown.{shown as policy_of}
+use Rattle.hdfs_pipeline.specs.Cores.{IsCore}
+use Rattle.hdfs_pipeline.specs.Driving.{Drives, Settles}
+use Rattle.hdfs_blocks.specs.Carrying.{AreSlices, FollowFrom, HoldsWhole, LinkHolds, total}
+use Rattle.hdfs_blocks.specs.Rebuilding.{IsListed}
+use Rattle.hdfs_recovery.specs.declared.block_plan.BlockPipeline.{BlockPipeline}
+use Rattle.hdfs_recovery.specs.declared.block_plan.BlockPlan.{BlockPlan}
+use Rattle.hdfs_recovery.specs.declared.block_plan.RebuildSettings.{RebuildSettings}
+use Rattle.hdfs_recovery.specs.declared.block_plan.WriteFault.{WriteFault}
+use Rattle.hdfs_recovery.specs.declared.block_plan.WriteFault.TheVariants as faults
+use Rattle.hdfs_recovery.specs.Between.{IsLastError, OnlyBlockOf, SameActive}
+use Rattle.hdfs_recovery.specs.Plans.{NoneEndsBefore}
+
+-- the id of a pipeline's block
+abbrev pub id_of : BlockPipeline → ℕ
+id_of pipe = pipe.plan.block.b.block_id
+
+-- the datanodes of a pipeline, by their uuids
+abbrev pub nodes_of : BlockPipeline → List (List ℕ)
+nodes_of pipe = uuids pipe.plan.block.locs
+
+-- A pipeline over its link, whether it goes on or has ended: it can be rebuilt, the link was set up with its datanodes, and its packets
+-- follow one another, with `more` that are to come behind them.
+pub record IsStanding (settings : RebuildSettings) (shown : Shown) (pipe : BlockPipeline) (more : List Outgoing) : Type 0 where
+  pub drives : Drives shown pipe.link pipe.core
+  pub is_core : IsCore pipe.core
+  pub block : IsToWrite pipe.plan.block
+  pub set_up : (write : OpenWrite) → shown.writes pipe.link ≡ Some write → write.setup.locs ≡ pipe.plan.block.locs
+  pub many : len pipe.plan.block.locs ≡ pipe.core.nodes
+  pub rebuilds : pipe.plan.rebuilds ≤ settings.rebuild_limit
+  pub window : pipe.core.window ≡ settings.window
+  pub first : ℕ
+  pub follow : FollowFrom first (pipe.core.pushed ++ more)
+  pub ends : NoneEndsBefore (pipe.core.pushed ++ more)
+
+-- What a block has over a pipeline, whatever fails. It is one of the open file at the plan's path, and the block table lists the datanodes
+-- of the pipeline. Each of them holds a prefix of these bytes, and in it the first `safe` ones, which are acknowledged. The packets of the
+-- pipeline are the next ones, with `more` that are to come behind them.
+pub record Has (p : Picture) (pipe : BlockPipeline) (more : List Outgoing) (safe : ℕ) (bytes : List ℕ) : Type 0 where
+  pub file : IsBeingWritten p pipe.plan.src pipe.plan.block.b
+  pub on : LinkHolds p pipe.link (id_of pipe) (nodes_of pipe) safe bytes
+  pub lists : IsListed p (id_of pipe) (nodes_of pipe) bytes
+  pub settles : Settles on.place pipe.core on.settled
+  pub slices : AreSlices bytes safe (pipe.core.pushed ++ more)
+
+-- the picture has a block over this pipeline, where these packets are to come still
+abbrev pub IsOver : BlockPipeline → List Outgoing → Picture → Type 0
+IsOver pipe more p = (safe : ℕ) × (bytes : List ℕ) × Has p pipe more safe bytes
+
+-- Calls on the cluster in the name of one writer: no count fell, read links stay, and so do the write links that were open and aren't its
+-- own; none is left open but its own, which it had before or wasn't open.
+pub record OnlyOwnLink (old : Shown) (before : Option ℕ) (new : Shown) (after : Option ℕ) : Type 0 where
+  pub later : Later old new
+  pub reads : SameReads old new
+  pub others : (link : ℕ) → IsSome (old.writes link) → before ≢ Some link → new.writes link ≡ old.writes link
+  pub none : (link : ℕ) → (old.writes link ≡ None) ⊎ (before ≡ Some link) → after ≢ Some link → new.writes link ≡ None
+  pub fresh : (link : ℕ) → after ≡ Some link → (before ≡ Some link) ⊎ (old.writes link ≡ None)
+
+-- what stays of a plan, however often its pipeline is rebuilt
+pub record KeepsBlock (plan plan' : BlockPlan) : Type 0 where
+  pub src : plan'.src ≡ plan.src
+  pub pool : plan'.block.b.pool_id ≡ plan.block.b.pool_id
+  pub id : plan'.block.b.block_id ≡ plan.block.b.block_id
+  pub replication : plan'.replication ≡ plan.replication
+  pub created : plan'.created ≡ plan.created
+  pub chunk : plan'.chunk ≡ plan.chunk
+
+-- nothing changed but this block, and another namenode is active only where the count of the first one rose
+abbrev pub ChangesBlock : ℕ → Shown → Picture → Shown → Picture → Type 0
+ChangesBlock id old p new q = OnlyBlockOf id p q × SameActive old p new q
+
+-- it wasn't rebuilt and stands over the same link, or it was rebuilt, and a datanode has failed before
+abbrev pub IsSteady : Shown → BlockPipeline → Shown → BlockPipeline → Type 0
+IsSteady old pipe new pipe' =
+    ((pipe'.plan ≡ pipe.plan) × (pipe'.link ≡ pipe.link))
+    ⊎ ((pipe.plan.rebuilds < pipe'.plan.rebuilds) × SomeNodeRose old.counts new)
+
+-- A pipeline goes on, as it was or rebuilt: the first packets of it, so many, are acknowledged, and others came behind the rest. `more`
+-- are to come still. Over a told picture the same bytes are the block's, and the acknowledged ones are safe too.
+pub record Continues (settings : RebuildSettings) (old : Shown) (pipe : BlockPipeline) (acknowledged : ℕ) (came more : List Outgoing)
+    (new : Shown) (pipe' : BlockPipeline) : Type 0 where
+  pub own : OnlyOwnLink old (Some pipe.link) new (Some pipe'.link)
+  pub keeps : KeepsBlock pipe.plan pipe'.plan
+  pub steady : IsSteady old pipe new pipe'
+  pub few : acknowledged ≤ len pipe.core.pushed
+  pub pushed : pipe'.core.pushed ≡ drop acknowledged pipe.core.pushed ++ came
+  pub standing : IsStanding settings new pipe' more
+  pub told : (p : Picture) (safe : ℕ) (bytes : List ℕ) → old.picture ≡ Some p → Has p pipe (came ++ more) safe bytes
+      → (q : Picture) × (new.picture ≡ Some q) × Has q pipe' more (safe + total (take acknowledged pipe.core.pushed)) bytes
+      × ChangesBlock (id_of pipe) old p new q
+
+-- over a told picture of which this holds, where the first namenode is active: its count rose
+abbrev pub NamenodeFails : (Picture → Type 0) → Shown → Shown → Type 0
+NamenodeFails W old new = (p : Picture) → old.picture ≡ Some p → W p → p.active ≡ 0 → Rose (old.counts.calls 0) (new.counts.calls 0)
+
+-- over a told picture of which this holds: some datanodes are listed for the block, and each of these has failed
+abbrev pub AllListedFail : (Picture → Type 0) → ℕ → Shown → Shown → Type 0
+AllListedFail W id old new = (p : Picture) → old.picture ≡ Some p → W p
+    → (q : Picture) × (entry : BlockEntry) × (new.picture ≡ Some q) × (q.table id ≡ Some entry) × (0 < len entry.nodes)
+    × All (λ node. Rose (old.counts.nodes node) (new.counts.nodes node)) entry.nodes
+
+-- over a told picture of which this holds: a datanode that is listed for the block has failed
+abbrev pub ListedFails : (Picture → Type 0) → ℕ → Shown → Shown → Type 0
+ListedFails W id old new = (p : Picture) → old.picture ≡ Some p → W p
+    → (q : Picture) × (entry : BlockEntry) × (new.picture ≡ Some q) × (q.table id ≡ Some entry)
+    × Any (λ node. Rose (old.counts.nodes node) (new.counts.nodes node)) entry.nodes
+
+-- Why a block is given up, which is so in a told picture. Want of memory alone is free.
+abbrev pub HasCause : RebuildSettings → (Picture → Type 0) → ℕ → Shown → WriteFault → Shown → Type 0
+HasCause settings W id old faults.NoMemory new = Unit {0}
+HasCause settings W id old faults.Failed new = ⊥
+HasCause settings W id old faults.Link new = SomeNodeRose old.counts new × Rose old.counts.links new.counts.links
+HasCause settings W id old faults.Setup new = SomeNodeRose old.counts new × Rose old.counts.links new.counts.links
+HasCause settings W id old (faults.BadAck seqno) new = Rose old.counts.links new.counts.links
+HasCause settings W id old faults.AllNodes new = SomeNodeRose old.counts new × AllListedFail W id old new
+HasCause settings W id old faults.NoReplacement new =
+    ((policy_of settings.replace).1 ≡ false) × SomeNodeRose old.counts new
+    × (Rose old.counts.links new.counts.links ⊎ NamenodeFails W old new) × ListedFails W id old new
+HasCause settings W id old (faults.RebuildLimit rebuilds) new =
+    (rebuilds ≡ settings.rebuild_limit) × SomeNodeRose old.counts new × ListedFails W id old new
+HasCause settings W id old (faults.Namenode error) new =
+    (error ≢ errors.NoMemory) × IsLastError error new × SomeNodeRose old.counts new × NamenodeFails W old new
+
+-- A block that is so in a told picture was given up for this cause: no link of its writer is left open, and nothing changed but the block.
+pub record GivesUp (settings : RebuildSettings) (W : Picture → Type 0) (id link : ℕ) (old : Shown) (fault : WriteFault) (new : Shown)
+    : Type 0 where
+  pub own : OnlyOwnLink old (Some link) new None
+  pub cause : HasCause settings W id old fault new
+  pub touches : (p : Picture) → old.picture ≡ Some p → W p → (q : Picture) × (new.picture ≡ Some q) × ChangesBlock id old p new q
+
+-- All packets of a pipeline are acknowledged, and its link is ended. Over a told picture each of its datanodes, which are listed, holds
+-- the block whole, where no bytes are behind its packets.
+pub record Finishes (settings : RebuildSettings) (old : Shown) (pipe : BlockPipeline) (new : Shown) (plan' : BlockPlan) : Type 0 where
+  pub own : OnlyOwnLink old (Some pipe.link) new None
+  pub keeps : KeepsBlock pipe.plan plan'
+  pub within : plan'.rebuilds ≤ settings.rebuild_limit
+  pub steady : (plan' ≡ pipe.plan) ⊎ ((pipe.plan.rebuilds < plan'.rebuilds) × SomeNodeRose old.counts new)
+  pub told : (p : Picture) (safe : ℕ) (bytes : List ℕ) → old.picture ≡ Some p → Has p pipe [] safe bytes
+      → safe + total pipe.core.pushed ≡ len bytes → (q : Picture) × (new.picture ≡ Some q)
+      × HoldsWhole q (id_of pipe) (len bytes) (uuids plan'.block.locs) bytes × ChangesBlock (id_of pipe) old p new q

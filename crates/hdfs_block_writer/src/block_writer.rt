@@ -1,0 +1,355 @@
+//! Writes a block, packet by packet.
+
+ghost use Rattle.std.specs.Prelude.{◌≡◌, ◌<◌, ◌≤◌, ◌+◌, ◌-◌, ◌^◌, ◌↔◌, [], length, take, min, None, Some, Err, IsSome, IsTrue, IfOk, IfErr, OnOk};
+ghost use Rattle.hdfs_recovery.specs.declared.block_plan.WriteFault.TheVariants as faults;
+
+use crate::pushing::{finish, push};
+use crate::set_up::open;
+use hdfs_model::{Block, Cluster};
+use hdfs_namenode::NamenodeProtocol;
+use hdfs_recovery::{BlockPipeline, BlockPlan, RebuildSettings, WriteFault};
+use hdfs_wire::WritePacket;
+use std::alloc::Global;
+
+/// Writes a block: its bytes go into packets, and a packet that is full goes down the pipeline. Where datanodes of that fail, it is
+/// rebuilt.
+#[derive(Drop)]
+pub struct BlockWriter {
+    pub(crate) alloc: Global,
+    pub(crate) settings: RebuildSettings,
+    pub(crate) block_size: u64,
+    pub(crate) chunk: u32,
+    pub(crate) packet_size: u32,
+    // none once the writer has failed
+    pub(crate) pipe: Option<BlockPipeline>,
+    pub(crate) packet: Option<WritePacket>,
+    pub(crate) length: u64,
+    // that of the next packet
+    pub(crate) seqno: u64,
+}
+
+/// The name of a plan's block, with so many bytes.
+fn named(plan: BlockPlan, length: u64) -> Block
+    ensures { result ≡ record plan.block.b { num_bytes = length } }
+{
+    let located = plan.block;
+    Block {
+        num_bytes: length,
+        ..located.b
+    }
+}
+
+impl BlockWriter {
+    ghost use Rattle.hdfs_model.specs.Namenode.{IsToWrite};
+    ghost use Rattle.hdfs_model.specs.Pipes.{WriteEnded};
+    ghost use Rattle.hdfs_namenode.specs.Clients.{name_of};
+    ghost use Rattle.hdfs_blocks.specs.Writes.{setup_of};
+    ghost use Rattle.hdfs_recovery.specs.declared.block_plan.BlockPipeline.{BlockPipeline};
+    ghost use Rattle.hdfs_wire.specs.Outgoing.{ArePacketSizes};
+    ghost use Rattle.hdfs_block_writer.specs.BlockWriters.{length_of, size_of, HasFailed, SendsFull, Holds, Stands};
+    ghost use Rattle.hdfs_block_writer.specs.Written.{IsNew, OpensLink, OpensNone, BeginsWhole, Keeps, Wrote, StaysFull, GaveUp, Fails, Ends, Closes, LetsGo};
+
+    /// Opens the pipeline of a block, which goes on behind the bytes that the block has. `packet_size` is the most bytes that a packet has
+    /// with its header and checksums; 0 stands for one chunk. `settings` say how many packets wait for their acknowledgement, and how the
+    /// pipeline is rebuilt.
+    ///
+    /// Errors: `Link` and `Setup` where the set-up broke or was refused; `NoMemory`.
+    pub fn replicated<C: Cluster>(
+        alloc: Global,
+        cluster: &mut C,
+        namenode: &NamenodeProtocol,
+        plan: BlockPlan,
+        settings: &RebuildSettings,
+        block_size: u64,
+        packet_size: u32,
+    ) -> Result<BlockWriter, WriteFault>
+        requires plan { IsToWrite plan.block × (plan.rebuilds ≤ settings.now.rebuild_limit) }
+        requires sizes { ArePacketSizes plan.chunk packet_size × (1 ≤ settings.now.window) × (settings.now.window ≤ 1000) }
+        requires size { (plan.block.b.num_bytes ≤ block_size) × (block_size < 2 ^ 63) }
+        ensures stands { IfOk result (λ writer. Stands (C.shown cluster.new) writer) }
+        ensures new { IfOk result (λ writer. IsNew plan settings.now block_size packet_size writer) }
+        ensures opened { IfOk result (λ writer. OpensLink (C.shown cluster.old)
+            (setup_of plan.block plan.chunk (name_of namenode.now)) writer (C.shown cluster.new)) }
+        ensures begins { IfOk result (λ writer. BeginsWhole (C.shown cluster.old) plan writer (C.shown cluster.new)) }
+        ensures err { IfErr result (λ fault. OpensNone (C.shown cluster.old)
+            (setup_of plan.block plan.chunk (name_of namenode.now)) fault (C.shown cluster.new)) }
+    {
+        let client = namenode.client_name();
+        let (core, link) = open(alloc, cluster, &plan, settings.window, client)?;
+        let length = plan.block.b.num_bytes;
+        let chunk = plan.chunk;
+        Ok(BlockWriter {
+            alloc,
+            settings: *settings,
+            block_size,
+            chunk,
+            packet_size,
+            pipe: Some(BlockPipeline { plan, core, link }),
+            packet: None,
+            length,
+            seqno: 0,
+        })
+    }
+
+    /// Ends the link, and has failed from now on.
+    fn fail<C: Cluster>(&mut self, cluster: &mut C)
+        requires { (pipe : BlockPipeline) → self.old.pipe ≡ Some pipe → IsSome ((C.shown cluster.old).writes pipe.link) }
+        ensures failed { self.new ≡ record self.old { pipe = None; packet = None } }
+        ensures ended { (pipe : BlockPipeline) → self.old.pipe ≡ Some pipe
+            → WriteEnded (C.shown cluster.old) pipe.link (C.shown cluster.new) }
+        ensures still { HasFailed self.old → cluster.new ≡ cluster.old }
+    {
+        self.packet = None;
+        let Some(pipe) = self.pipe.take() else {
+            return;
+        };
+        cluster.end_write(pipe.link);
+    }
+
+    /// Sends the packet, where there is one.
+    fn flush<C: Cluster>(
+        &mut self,
+        cluster: &mut C,
+        namenode: &NamenodeProtocol,
+    ) -> Result<(), WriteFault>
+        requires namenodes { 0 < (C.shown cluster.old).namenodes }
+        requires holds { Holds (C.shown cluster.old) self.old }
+        requires open { IsSome self.old.pipe }
+        ensures holds { OnOk result (Holds (C.shown cluster.new) self.new) }
+        ensures empty { OnOk result (self.new.packet ≡ None) }
+        ensures full { OnOk result (StaysFull self.old self.new) }
+        ensures wrote { OnOk result (Wrote (C.shown cluster.old) self.old [] (C.shown cluster.new) self.new) }
+        ensures err { IfErr result (λ fault. Fails (C.shown cluster.old) self.old fault (C.shown cluster.new) self.new) }
+    {
+        let Some(packet) = self.packet.take() else {
+            return Ok(());
+        };
+        let Some(pipe) = self.pipe.take() else {
+            return Err(WriteFault::Failed);
+        };
+        match push(
+            self.alloc,
+            cluster,
+            namenode,
+            &self.settings,
+            pipe,
+            self.length,
+            packet,
+        ) {
+            Ok(pipe) => {
+                self.pipe = Some(pipe);
+                self.seqno += 1;
+                Ok(())
+            }
+            Err(fault) => Err(fault),
+        }
+    }
+
+    /// Sends the packet where it has no room left.
+    fn flush_full<C: Cluster>(
+        &mut self,
+        cluster: &mut C,
+        namenode: &NamenodeProtocol,
+    ) -> Result<(), WriteFault>
+        requires namenodes { 0 < (C.shown cluster.old).namenodes }
+        requires holds { Holds (C.shown cluster.old) self.old }
+        requires open { IsSome self.old.pipe }
+        requires full { SendsFull self.old }
+        ensures stands { OnOk result (Stands (C.shown cluster.new) self.new) }
+        ensures wrote { OnOk result (Wrote (C.shown cluster.old) self.old [] (C.shown cluster.new) self.new) }
+        ensures err { IfErr result (λ fault. Fails (C.shown cluster.old) self.old fault (C.shown cluster.new) self.new) }
+    {
+        if self.has_full_packet() {
+            match self.flush(cluster, namenode) {
+                Ok(()) => Ok(()),
+                Err(fault) => Err(fault),
+            }
+        } else {
+            Ok(())
+        }
+    }
+
+    /// Takes some of the bytes, at least one, and says how many.
+    fn write_piece<C: Cluster>(
+        &mut self,
+        cluster: &mut C,
+        namenode: &NamenodeProtocol,
+        bytes: &[u8],
+    ) -> Result<usize, WriteFault>
+        requires namenodes { 0 < (C.shown cluster.old).namenodes }
+        requires stands { Stands (C.shown cluster.old) self.old }
+        requires open { IsSome self.old.pipe }
+        requires room { (self.old.length + length bytes.now ≤ self.old.block_size) × (0 < length bytes.now) }
+        ensures count { IfOk result (λ n. (0 < n) × (n ≤ length bytes.now)) }
+        ensures stands { OnOk result (Stands (C.shown cluster.new) self.new) }
+        ensures wrote { IfOk result (λ n. Wrote (C.shown cluster.old) self.old (take n bytes.now) (C.shown cluster.new) self.new) }
+        ensures err { IfErr result (λ fault. Fails (C.shown cluster.old) self.old fault (C.shown cluster.new) self.new) }
+    {
+        let count = match self.fill(bytes) {
+            Ok(count) => count,
+            Err(_) => {
+                self.fail(cluster);
+                return Err(WriteFault::NoMemory);
+            }
+        };
+        match self.flush_full(cluster, namenode) {
+            Ok(()) => Ok(count),
+            Err(fault) => Err(fault),
+        }
+    }
+
+    /// Takes the bytes, all of which the block has room for.
+    fn write_all<C: Cluster>(
+        &mut self,
+        cluster: &mut C,
+        namenode: &NamenodeProtocol,
+        bytes: &[u8],
+    ) -> Result<(), WriteFault>
+        requires namenodes { 0 < (C.shown cluster.old).namenodes }
+        requires stands { Stands (C.shown cluster.old) self.old }
+        requires open { IsSome self.old.pipe }
+        requires room { self.old.length + length bytes.now ≤ self.old.block_size }
+        ensures stands { OnOk result (Stands (C.shown cluster.new) self.new) }
+        ensures wrote { OnOk result (Wrote (C.shown cluster.old) self.old bytes.now (C.shown cluster.new) self.new) }
+        ensures err { IfErr result (λ fault. Fails (C.shown cluster.old) self.old fault (C.shown cluster.new) self.new) }
+    {
+        let mut rest = bytes;
+        'pieces: while !rest.is_empty() {
+            match self.write_piece(cluster, namenode, rest) {
+                Ok(taken) => rest = &rest[taken..],
+                Err(fault) => return Err(fault),
+            }
+        }
+        Ok(())
+    }
+
+    /// Takes as many of the bytes as the block has room for, and says how many. A packet that is full is sent at once. Where datanodes of
+    /// the pipeline fail it is rebuilt.
+    ///
+    /// Errors: `Failed` after an earlier error; those of a rebuild; `BadAck` after an acknowledgement that was none that was due;
+    /// `NoMemory`. After an error no link of the writer is left open, and it has failed for good.
+    pub fn write<C: Cluster>(
+        &mut self,
+        cluster: &mut C,
+        namenode: &NamenodeProtocol,
+        bytes: &[u8],
+    ) -> Result<usize, WriteFault>
+        requires namenodes { 0 < (C.shown cluster.old).namenodes }
+        requires stands { Stands (C.shown cluster.old) self.old }
+        ensures stands { Stands (C.shown cluster.new) self.new }
+        ensures count { IfOk result (λ n. n ≡ min (length bytes.now) (size_of self.old - length_of self.old)) }
+        ensures err { IfErr result (λ fault. Fails (C.shown cluster.old) self.old fault (C.shown cluster.new) self.new) }
+        ensures failed { HasFailed self.old
+            → (result ≡ Err faults.Failed) × (self.new ≡ self.old) × (cluster.new ≡ cluster.old) }
+
+        // Over a told picture these bytes are carried too, whatever datanodes fail, and nothing changes but the block.
+        ensures wrote { IfOk result (λ n. Wrote (C.shown cluster.old) self.old (take n bytes.now) (C.shown cluster.new) self.new) }
+    {
+        if self.has_failed() {
+            return Err(WriteFault::Failed);
+        }
+        let room = (self.block_size - self.length) as usize;
+        let taken = bytes.len().min(room);
+        match self.write_all(cluster, namenode, &bytes[..taken]) {
+            Ok(()) => Ok(taken),
+            Err(fault) => Err(fault),
+        }
+    }
+
+    /// Sends the last packet, waits until all are acknowledged, and ends the link.
+    fn end<C: Cluster>(
+        &mut self,
+        cluster: &mut C,
+        namenode: &NamenodeProtocol,
+    ) -> Result<Block, WriteFault>
+        requires namenodes { 0 < (C.shown cluster.old).namenodes }
+        requires holds { Holds (C.shown cluster.old) self.old }
+        requires open { IsSome self.old.pipe }
+        requires none { self.old.packet ≡ None }
+        ensures closed { IfOk result (λ block. Closes (C.shown cluster.old) self.old block (C.shown cluster.new)) }
+        ensures err { IfErr result (λ fault. GaveUp (C.shown cluster.old) self.old fault (C.shown cluster.new)) }
+    {
+        let packet = match self.last_packet() {
+            Ok(packet) => packet,
+            Err(_) => {
+                self.fail(cluster);
+                return Err(WriteFault::NoMemory);
+            }
+        };
+        let Some(pipe) = self.pipe.take() else {
+            return Err(WriteFault::Failed);
+        };
+        let length = self.length;
+        let pushed = push(
+            self.alloc,
+            cluster,
+            namenode,
+            &self.settings,
+            pipe,
+            length,
+            packet,
+        );
+        let pipe = match pushed {
+            Ok(pipe) => pipe,
+            Err(fault) => return Err(fault),
+        };
+        match finish(self.alloc, cluster, namenode, &self.settings, pipe, length) {
+            Ok(plan) => Ok(named(plan, length)),
+            Err(fault) => Err(fault),
+        }
+    }
+
+    /// Sends what is left, waits until all packets are acknowledged, and answers the block's name with its length and the generation stamp
+    /// of its last pipeline. The link is ended, whatever comes.
+    ///
+    /// Errors: those of `write`.
+    pub fn close<C: Cluster>(
+        mut self,
+        cluster: &mut C,
+        namenode: &NamenodeProtocol,
+    ) -> Result<Block, WriteFault>
+        requires namenodes { 0 < (C.shown cluster.old).namenodes }
+        requires stands { Stands (C.shown cluster.old) self }
+        ensures closed { IfOk result (λ block. Closes (C.shown cluster.old) self block (C.shown cluster.new)) }
+        ensures err { IfErr result (λ fault. GaveUp (C.shown cluster.old) self fault (C.shown cluster.new)) }
+        ensures failed { HasFailed self → (result ≡ Err faults.Failed) × (cluster.new ≡ cluster.old) }
+    {
+        if self.pipe.is_none() {
+            return Err(WriteFault::Failed);
+        }
+        match self.flush(cluster, namenode) {
+            Ok(()) => self.end(cluster, namenode),
+            Err(fault) => Err(fault),
+        }
+    }
+
+    /// Gives the block up: the link is ended, and nothing else happens.
+    pub fn abandon<C: Cluster>(mut self, cluster: &mut C)
+        requires { Stands (C.shown cluster.old) self }
+        ensures gone { LetsGo (C.shown cluster.old) self (C.shown cluster.new) }
+        ensures failed { HasFailed self → cluster.new ≡ cluster.old }
+    {
+        self.fail(cluster);
+    }
+
+    /// Whether the writer has failed.
+    pub fn has_failed(&self) -> bool
+        ensures { IsTrue result ↔ HasFailed self.now }
+    {
+        self.pipe.is_none()
+    }
+
+    /// Whether the block has room for no other byte.
+    pub fn is_full(&self) -> bool
+        ensures { IsTrue result ↔ (length_of self.now ≡ size_of self.now) }
+    {
+        self.length == self.block_size
+    }
+
+    /// How many bytes the block has so far.
+    pub fn length(&self) -> u64
+        ensures { result ≡ length_of self.now }
+    {
+        self.length
+    }
+}
