@@ -1,6 +1,7 @@
 -- Where nothing failed and the numbers are in their limits, an error of a command is that of its refusal, or want of memory.
 use Rattle.std.proofs.Common.{◌≡◌, ⊎_elim, inl, inr, ℕ, ◌<◌, Bool, true, false, ◌&&◌, List, refl, sym, ◌∙◌, subst}
 use Rattle.std.proofs.lemmas.Bool.{false≢true}
+use Rattle.std.specs.Prelude.{[], slice_index_or}
 use Rattle.hdfs_model.specs.declared.commands.Command.{Command}
 use Rattle.hdfs_model.specs.declared.commands.Command.TheVariants as commands
 use Rattle.hdfs_model.specs.declared.errors.ArgFault.TheVariants as args
@@ -52,7 +53,9 @@ module _ (world : World) (state : State) (command : Command) (old new : Shown) (
   cause_completes (errors.IOError io_faults.Link) h = absurd (none.links h.1)
   cause_completes (errors.DataTransferError (transfer.Read byte)) h = absurd (found byte h.1)
   cause_completes (errors.DataTransferError transfer.Setup) h = absurd (none.links h.1)
-  cause_completes (errors.DataTransferError transfer.AllNodes) h = (let f = h.1.failed in absurd (none.nodes f.1 f.4))
+  cause_completes (errors.DataTransferError transfer.AllNodes) h = absurd (none.nodes (slice_index_or h.1.entry.nodes 0 []) (h.1.so.1 0 [] h.1.so.0))
+  cause_completes (errors.DataTransferError transfer.NoReplacement) h = (let f = h.3.so in absurd (none.nodes f.1 f.4))
+  cause_completes (errors.DataTransferError (transfer.RebuildLimit rebuilds)) h = (let f = h.2.so in absurd (none.nodes f.1 f.4))
   cause_completes (errors.DataTransferError (transfer.BadAck seqno)) h = absurd (none.links h.1)
   cause_completes (errors.InvalidPath text) h = at_refusal BadPath (errors.InvalidPath text) h (inr tt)
   cause_completes (errors.InvalidArgument args.State) h = at_refusal WrongState (errors.InvalidArgument args.State) h (inr tt)

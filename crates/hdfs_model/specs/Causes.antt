@@ -1,5 +1,5 @@
 -- Why a command fails: for each error what holds where it is answered.
-use Rattle.std.specs.Prelude.{◌≡◌, ◌⊎◌, ℕ, ◌+◌, ◌<◌, ◌≤◌, true, false, List, [], ◌∷◌, ◌++◌, length, Any, Option, Some, slice_index_or}
+use Rattle.std.specs.Prelude.{◌≡◌, ◌⊎◌, ℕ, ◌+◌, ◌<◌, ◌≤◌, true, false, List, [], ◌∷◌, ◌++◌, length, All, Any, Option, Some, slice_index_or}
 use Rattle.hdfs_model.specs.declared.picture.LastAnswer.TheVariants as last_answers
 use Rattle.hdfs_model.specs.declared.picture.BlockEntry.{BlockEntry}
 use Rattle.hdfs_model.specs.declared.picture.Entry.TheVariants as entries
@@ -58,8 +58,8 @@ abbrev pub CommandLost : FaultCounts → Shown → List ℕ → Command → ℕ 
 CommandLost old new path (commands.Read text offset len) byte = FileLost old new path offset (offset + len) byte
 CommandLost old new path command byte = ⊥
 
--- a datanode that is listed for the last block of the file at a path has failed, in a picture that is told
-pub record PipelineFailed (old : FaultCounts) (new : Shown) (path : List ℕ) : Type 0 where
+-- what is so of the last block of the file at a path, in a picture that is told
+pub record OfLastBlock (new : Shown) (path : List ℕ) (IsSo : BlockEntry → Type 0) : Type 0 where
   pub picture : Picture
   pub told : new.picture ≡ Some picture
   pub file : FileEntry
@@ -69,7 +69,16 @@ pub record PipelineFailed (old : FaultCounts) (new : Shown) (path : List ℕ) : 
   pub last : file.blocks ≡ front ++ id ∷ []
   pub entry : BlockEntry
   pub is : picture.table id ≡ Some entry
-  pub failed : Any (λ node. Rose (old.nodes node) (new.counts.nodes node)) entry.nodes
+  pub so : IsSo entry
+
+-- a datanode that is listed for that block has failed
+abbrev pub SomeListedFailed : FaultCounts → Shown → List ℕ → Type 0
+SomeListedFailed old new path = OfLastBlock new path (λ entry. Any (λ node. Rose (old.nodes node) (new.counts.nodes node)) entry.nodes)
+
+-- each datanode that is listed for it has failed, and there is one
+abbrev pub PipelineFailed : FaultCounts → Shown → List ℕ → Type 0
+PipelineFailed old new path =
+    OfLastBlock new path (λ entry. (0 < length entry.nodes) × All (λ node. Rose (old.nodes node) (new.counts.nodes node)) entry.nodes)
 
 -- the step does what the command asks
 abbrev pub IsDone : Outcome → Type 0
@@ -145,6 +154,8 @@ Tells command old new (errors.IOError io_faults.Link) = Sends command × Rose ol
 Tells command old new (errors.DataTransferError (transfer.Read byte)) = (offset : ℕ) × (len : ℕ) × Asks command offset len × (0 < len)
 Tells command old new (errors.DataTransferError transfer.Setup) = Sends command × Rose old.counts.links new.counts.links
 Tells command old new (errors.DataTransferError transfer.AllNodes) = Sends command × SomeNodeRose old.counts new
+Tells command old new (errors.DataTransferError transfer.NoReplacement) = Sends command × SomeNodeRose old.counts new
+Tells command old new (errors.DataTransferError (transfer.RebuildLimit rebuilds)) = Sends command × SomeNodeRose old.counts new
 Tells command old new (errors.DataTransferError (transfer.BadAck seqno)) = Sends command × Rose old.counts.links new.counts.links
 Tells command old new (errors.InvalidPath text) = text ≡ path_of command
 Tells command old new (errors.InvalidArgument args.State) = Unit {0}
@@ -178,6 +189,11 @@ Cause world state command old new (errors.DataTransferError transfer.Setup) =
     IsDone (step world state command) × Rose old.counts.links new.counts.links
 Cause world state command old new (errors.DataTransferError transfer.AllNodes) =
     IsDone (step world state command) × PipelineFailed old.counts new (target_of world command)
+Cause world state command old new (errors.DataTransferError transfer.NoReplacement) =
+    IsDone (step world state command) × (world.best_effort ≡ false) × (Rose old.counts.links new.counts.links ⊎ CallsRose old.counts new)
+    × SomeListedFailed old.counts new (target_of world command)
+Cause world state command old new (errors.DataTransferError (transfer.RebuildLimit rebuilds)) =
+    IsDone (step world state command) × (rebuilds ≡ world.rebuild_limit) × SomeListedFailed old.counts new (target_of world command)
 Cause world state command old new (errors.DataTransferError (transfer.BadAck seqno)) =
     IsDone (step world state command) × Rose old.counts.links new.counts.links
 Cause world state command old new (errors.InvalidPath text) = step world state command ≡ Refused BadPath

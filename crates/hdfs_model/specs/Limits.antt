@@ -53,9 +53,13 @@ abbrev pub begins_with_slash : List ℕ → Bool
 begins_with_slash [] = false
 begins_with_slash (c ∷ rest) = c == 47
 
--- the settings of a session are in their limits: its home begins with a slash, and its window is from 1 to 1,000
+-- a number is from 1 to 1,000
+abbrev pub is_small : ℕ → Bool
+is_small n = nat_le 1 n && nat_le n 1000
+
+-- the settings of a session are in their limits: its home begins with a slash, and its limit of rebuilds and its window are from 1 to 1,000
 abbrev pub are_settings : Settings → Bool
-are_settings settings = begins_with_slash settings.home && nat_le 1 settings.window && nat_le settings.window 1000
+are_settings settings = begins_with_slash settings.home && is_small settings.rebuild_limit && is_small settings.window
 
 -- The numbers that a command brings or uses are in their limits: the options and the defaults where it creates, the defaults
 -- where it appends.

@@ -26,9 +26,18 @@ abbrev pub defaults_of : Option Picture → ServerDefaults
 defaults_of None = record { block_size = 0; bytes_per_checksum = 0; write_packet_size = 0; replication = 0; encrypt_data_transfer = false }
 defaults_of (Some picture) = picture.defaults
 
--- the world of a session with these settings
+-- the world of a session with these settings, and of a cluster with these defaults
+abbrev pub world_with : Settings → ServerDefaults → World
+world_with settings defaults = record {
+  home = settings.home;
+  defaults = defaults;
+  rebuild_limit = settings.rebuild_limit;
+  best_effort = settings.replace.best_effort;
+}
+
+-- the same over a cluster that shows this
 abbrev pub world_of : Settings → Shown → World
-world_of settings shown = record { home = settings.home; defaults = defaults_of shown.picture }
+world_of settings shown = world_with settings (defaults_of shown.picture)
 
 -- The cluster tells its picture, which agrees with the files of the state.
 pub record Fits (shown : Shown) (state : State) : Type 0 where

@@ -17,10 +17,13 @@ pub data Outcome : Type 0 where
   Refused : Refusal → Outcome
   Done : Reply → State → Outcome
 
--- what a step takes beside the state: the directory under which relative paths stand, and the cluster's defaults
+-- What a step takes beside the state: the directory under which relative paths stand, and the cluster's defaults. Causes name two
+-- settings more, which no step uses: how often a block's pipeline is rebuilt at most, and whether writes go on in best effort.
 pub record World : Type 0 where
   pub home : List ℕ
   pub defaults : ServerDefaults
+  pub rebuild_limit : ℕ
+  pub best_effort : Bool
 
 -- the content of a file, closed or open
 abbrev pub content_of : Option Node → Option Content

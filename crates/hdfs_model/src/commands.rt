@@ -3,26 +3,36 @@ ghost use Rattle.std.specs.Prelude.{◌≡◌, Some, None, true, false};
 ghost use Rattle.hdfs_model.specs.Limits.{are_options, are_settings};
 
 use crate::limits::{is_block_size, is_permission, is_replication};
+use hdfs_names::ReplaceDatanodeOnFailure;
 use hdfs_wire::{Blob, Text};
 
-/// What a session is run with. `home` is the directory under which relative paths stand, `client` are the sixteen bytes of the
-/// client's name, and of a block at most `window` packets wait for their acknowledgement, from 1 to 1,000.
+/// What a session is run with. `home` is the directory under which relative paths stand, and `client` are the sixteen bytes of the
+/// client's name. `replace` says when a datanode is added to a pipeline in the place of one that failed. The pipeline of a block is
+/// rebuilt at most `rebuild_limit` times, and at most `window` packets of it wait for their acknowledgement, each from 1 to 1,000.
 #[derive(Debug, Drop)]
 pub struct Settings {
     pub home: Text,
     pub client: [u8; 16],
+    pub replace: ReplaceDatanodeOnFailure,
+    pub rebuild_limit: u32,
     pub window: u32,
 }
+
+/// How often the pipeline of a block may be rebuilt at most.
+const MAX_REBUILDS: u32 = 1_000;
 
 /// How many packets of a block may wait at most.
 const MAX_WINDOW: u32 = 1_000;
 
 impl Settings {
-    /// Whether the settings are in their limits: the home begins with a slash, and the window is from 1 to 1,000.
+    /// Whether the settings are in their limits: the home begins with a slash, and the limit of rebuilds and the window are from 1 to
+    /// 1,000.
     pub fn are_limited(&self) -> bool
         ensures { result ≡ are_settings self.now }
     {
         self.home.as_str().as_bytes().first() == Some(&b'/')
+            && self.rebuild_limit >= 1
+            && self.rebuild_limit <= MAX_REBUILDS
             && self.window >= 1
             && self.window <= MAX_WINDOW
     }

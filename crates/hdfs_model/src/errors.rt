@@ -24,9 +24,15 @@ pub enum TransferFault {
     /// A datanode refused to have a pipeline set up.
     #[error("the pipeline was refused")]
     Setup,
-    /// Datanodes of a pipeline have failed.
+    /// Each datanode of a pipeline has failed.
     #[error("the pipeline has failed")]
     AllNodes,
+    /// A datanode was to be added to a pipeline in the place of one that failed, and none could be.
+    #[error("no datanode could be added to the pipeline")]
+    NoReplacement,
+    /// The pipeline of a block has failed, and was rebuilt as often as the session's settings say.
+    #[error("the pipeline has failed, and was rebuilt {rebuilds} times")]
+    RebuildLimit { rebuilds: u32 },
     /// An acknowledgement of this packet came that wasn't due.
     #[error("a bad acknowledgement of packet {seqno}")]
     BadAck { seqno: i64 },
@@ -109,6 +115,8 @@ impl TransferFault {
             TransferFault::Read { .. } => "Read",
             TransferFault::Setup => "Setup",
             TransferFault::AllNodes => "AllNodes",
+            TransferFault::NoReplacement => "NoReplacement",
+            TransferFault::RebuildLimit { .. } => "RebuildLimit",
             TransferFault::BadAck { .. } => "BadAck",
         }
     }

@@ -1,5 +1,5 @@
 -- What the plain program answers, in the words of the fold.
-use Rattle.std.specs.Prelude.{◌≡◌, List, Option, Some, None}
+use Rattle.std.specs.Prelude.{◌≡◌, false, List, Option, Some, None}
 use Rattle.hdfs_model.specs.declared.commands.Reply.{Reply}
 use Rattle.hdfs_model.specs.Files.{State, NotDirectory, Missing, NotFile}
 use Rattle.hdfs_model.specs.Steps.{World, Refusal, BadPath, WrongState, Exists, Lacks, BadRange, Outcome, Refused, Done}
@@ -15,7 +15,7 @@ use Rattle.hdfs_plain.specs.Plain.{Holds}
 
 -- the world that a plain one stands for
 abbrev pub world_of : PlainWorld → World
-world_of plain = record { home = plain.home; defaults = plain.defaults }
+world_of plain = record { home = plain.home; defaults = plain.defaults; rebuild_limit = 0; best_effort = false }
 
 -- the refusal that a plain one stands for
 abbrev pub refusal_of : PlainRefusal → Refusal
