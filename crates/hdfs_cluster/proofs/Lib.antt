@@ -15,6 +15,7 @@ pub mod Numbered
 pub mod Opening
 pub mod Packets
 pub mod Places
+pub mod Placing
 pub mod Puts
 pub mod Serving
 pub mod ShortCuts

@@ -26,15 +26,15 @@ pub lowest_length : (n : ℕ) → length (lowest n) ≡ n
 lowest_length zero = refl
 lowest_length (suc n) = omega (arith, lowest_length n, length-append (lowest n) (uuid_of n ∷ []))
 
-pub lowest_at : (n d : ℕ) → d < n → get_or (lowest n) d [] ≡ uuid_of d
-lowest_at zero d below = absurd (omega (arith, below))
-lowest_at (suc n) d below =
+pub lowest_at : (n d : ℕ) (none : List ℕ) → d < n → get_or (lowest n) d none ≡ uuid_of d
+lowest_at zero d none below = absurd (omega (arith, below))
+lowest_at (suc n) d none below =
     ⊎_elim
-    (λ same. (let zero_behind : d - n ≡ 0 = omega (arith, same) in get_or-append_right (lowest n) (uuid_of n ∷ []) n d [] (lowest_length n) (omega (arith, same)) ∙ ap (λ (i : ℕ). get_or (uuid_of n ∷ []) i []) zero_behind ∙ ap uuid_of (sym same)))
-    (λ apart. get_or_append_left (lowest n) (uuid_of n ∷ []) [] d (omega (arith, below, apart, lowest_length n)) ∙ lowest_at n d (omega (arith, below, apart)))
+    (λ same. (let zero_behind : d - n ≡ 0 = omega (arith, same) in get_or-append_right (lowest n) (uuid_of n ∷ []) n d none (lowest_length n) (omega (arith, same)) ∙ ap (λ (i : ℕ). get_or (uuid_of n ∷ []) i none) zero_behind ∙ ap uuid_of (sym same)))
+    (λ apart. get_or_append_left (lowest n) (uuid_of n ∷ []) none d (omega (arith, below, apart, lowest_length n)) ∙ lowest_at n d none (omega (arith, below, apart)))
     (cases_eq d n)
 
-uuid_injective : (d e : ℕ) → d < 2 ^ 64 → e < 2 ^ 64 → uuid_of d ≡ uuid_of e → d ≡ e
+pub uuid_injective : (d e : ℕ) → d < 2 ^ 64 → e < 2 ^ 64 → uuid_of d ≡ uuid_of e → d ≡ e
 uuid_injective d e low below is = decimal_injective d e low below (append_cancel_left (codes "dn") (decimal d) (decimal e) is)
 
 module _ (table : ℕ → Option BlockEntry) (held : List ℕ → ℕ → List ℕ) (nodes : List (List ℕ)) (size : ℕ) where
@@ -77,7 +77,7 @@ module _ (count : ℕ) (few : count < 2 ^ 64) (loaded : List Line) (q : Picture)
   new_replicas : (k id : ℕ) → HoldsPiece q.table q.held (lowest n) size id (drop (k * size) bytes) → HasReplicas count more q path content k id
   new_replicas k id piece =
       let long : length piece.entry.nodes ≡ n = ap length piece.on ∙ lowest_length n in
-      let node : (d : ℕ) → d < length piece.entry.nodes → get_or piece.entry.nodes d [] ≡ uuid_of d = λ d below. ap (λ (l : List (List ℕ)). get_or l d []) piece.on ∙ lowest_at n d (omega (arith, below, long)) in
+      let node : (d : ℕ) → d < length piece.entry.nodes → get_or piece.entry.nodes d [] ≡ uuid_of d = λ d below. ap (λ (l : List (List ℕ)). get_or l d []) piece.on ∙ lowest_at n d [] (omega (arith, below, long)) in
       record {
         entry = piece.entry;
         listed = piece.listed;

@@ -1,5 +1,5 @@
 -- What the active namenode answers to a writer.
-use Rattle.std.proofs.Common.{◌≡◌, ◌⊎◌, ⊎_elim, inl, inr, ℕ, ◌<◌, ◌≤◌, Bool, true, false, cond, List, [], ◌∷◌, length, Option, Some, None, Ok, Err, refl, sym, ap, subst, arith}
+use Rattle.std.proofs.Common.{◌≡◌, ◌⊎◌, ⊎_elim, inl, inr, ℕ, ◌<◌, ◌≤◌, Bool, true, false, cond, List, [], length, Option, Some, None, Ok, Err, refl, sym, ap, subst, arith}
 use Rattle.std.specs.BTreeMap.{get_by_text}
 use Rattle.slab.specs.Slab.{Slab}
 use Rattle.hdfs_model.specs.declared.asks.Ask.TheVariants as asks
@@ -23,23 +23,20 @@ use Rattle.hdfs_namespace.specs.declared.namespace.Namespace.{Namespace}
 use Rattle.hdfs_replicas.specs.declared.datanodes.Datanodes.{Datanodes}
 use Rattle.hdfs_cluster.specs.declared.mem_link.MemLink.{MemLink}
 use Rattle.hdfs_namespace.specs.Answering.{Answers, StandsForStray, StandsForWritten}
-use Rattle.hdfs_namespace.specs.Adding.{AddsLast, GivesLast, with_open}
+use Rattle.hdfs_namespace.specs.Adding.{AddsLast, GivesLast, places, with_open}
 use Rattle.hdfs_namespace.specs.Spaces.{space_of}
 use Rattle.hdfs_namespace.specs.Memory.{table_of}
-use Rattle.hdfs_replicas.specs.Uuids.{first_node}
+use Rattle.hdfs_replicas.specs.Uuids.{lowest}
 use Rattle.hdfs_replicas.specs.Nodes.{held_in}
-use Rattle.std.proofs.lemmas.List.Elements.{All-cons, All-nil}
 use Rattle.std.specs.List.{All, IsDistinct}
 use Rattle.std.specs.Str.{bytes_eq}
 use Rattle.hdfs_cluster.specs.MemShown.{picture_at}
+use Rattle.hdfs_cluster.proofs.NewLying.{lowest_length}
+use Rattle.hdfs_cluster.proofs.Placing.{lowest_distinct}
 
 -- the names and the table stay
 abbrev pub SameSpace : Namespace → Namespace → Type 0
 SameSpace space space' = ((path : List ℕ) → get_by_text space'.names path ≡ get_by_text space.names path) × (space'.table ≡ space.table)
-
-distinct_one : (node : List ℕ) → IsDistinct bytes_eq (node ∷ [])
-unfolding IsDistinct
-distinct_one node = (tt, tt)
 
 module _ (space space' : Namespace) (nodes : Datanodes) (settings : MemSettings) (links : Slab MemLink) where
   abbrev p : Picture
@@ -66,22 +63,25 @@ module _ (space space' : Namespace) (nodes : Datanodes) (settings : MemSettings)
   gives_last src file previous block h = record { id = h.id; retried = h.retried; answered = h.answered; changes = changes_space _ _ h.same h.listed }
 
   adds_last : (src : List ℕ) (file : FileEntry) (previous : Option Block) (block : LocatedBlock) → get_by_text space.names src ≡ Some (entries.File file)
-      → AddsLast (space_of space nodes) src file previous (space_of space' nodes) block → AddsNew src file previous block p q
-  adds_last src file previous block is h = record {
-    id = h.adds.id;
-    entry = h.adds.entry;
-    first = h.first;
-    fresh = record {
-      absent = h.adds.absent;
-      empty = h.adds.empty;
-      some = subst (λ (ns : List (List ℕ)). 0 < length ns) (sym h.adds.on) (omega arith);
-      few = subst (λ (ns : List (List ℕ)). length ns ≤ file.attributes.replication) (sym h.adds.on) (omega (arith, h.replicated));
-      apart = subst (IsDistinct bytes_eq) (sym h.adds.on) (distinct_one first_node);
-      bare = subst (All (λ node. held_in nodes node h.adds.id ≡ [])) (sym h.adds.on) (All-cons (λ node. held_in nodes node h.adds.id ≡ []) first_node [] h.adds.bare (All-nil (λ node. held_in nodes node h.adds.id ≡ [])));
-    };
-    answered = h.adds.answered;
-    changes = changes_space _ _ (h.adds.behind file is) h.adds.listed;
-  }
+      → AddsLast (space_of space nodes) nodes.count src file previous (space_of space' nodes) block → AddsNew src file previous block p q
+  adds_last src file previous block is h =
+      let n = places file.attributes.replication nodes.count in
+      let long : length (lowest n) ≡ n = lowest_length n in
+      record {
+        id = h.adds.id;
+        entry = h.adds.entry;
+        first = h.first;
+        fresh = record {
+          absent = h.adds.absent;
+          empty = h.adds.empty;
+          some = subst (λ (ns : List (List ℕ)). 0 < length ns) (sym h.adds.on) (omega (arith, long, h.replicated, nodes.some));
+          few = subst (λ (ns : List (List ℕ)). length ns ≤ file.attributes.replication) (sym h.adds.on) (omega (arith, long));
+          apart = subst (IsDistinct bytes_eq) (sym h.adds.on) (lowest_distinct n (omega arith));
+          bare = subst (All (λ node. held_in nodes node h.adds.id ≡ [])) (sym h.adds.on) h.adds.bare;
+        };
+        answered = h.adds.answered;
+        changes = changes_space _ _ (h.adds.behind file is) h.adds.listed;
+      }
 
   module _ (i : ℕ) (here : i ≡ settings.active) (text src : List ℕ) (is : text ≡ src) where
     pub answers_created : (masked : ℕ) (client : List ℕ) (flag : ℕ) (parents : Bool) (replication block_size : ℕ) (status : FileStatusMsg)
@@ -124,7 +124,7 @@ module _ (space space' : Namespace) (nodes : Datanodes) (settings : MemSettings)
 
     pub answers_added : (client : List ℕ) (previous : Option Block) (excludes : List DatanodeInfo) (file_id : Option ℕ) (block : LocatedBlock) → (file : FileEntry) × (get_by_text space.names text ≡ Some (entries.File file))
         × (GivesLast (space_of space nodes) file previous (space_of space' nodes) block
-        ⊎ AddsLast (space_of space nodes) text file previous (space_of space' nodes) block)
+        ⊎ AddsLast (space_of space nodes) nodes.count text file previous (space_of space' nodes) block)
         → Answers p i (asks.AddBlock src client previous excludes file_id) (Ok (answers.AddBlock block)) q
     answers_added client previous excludes file_id block done =
         subst (λ (s : List ℕ). Answers p i (asks.AddBlock s client previous excludes file_id) (Ok (answers.AddBlock block)) q) is

@@ -1,10 +1,8 @@
 //! What a namenode in memory answers to a writer that asks for another pipeline.
 use crate::answers::{NOT_FOUND, with_two_files};
-use crate::asking::{Client, fails_with, lacks_memory};
+use crate::asking::{Client, are_on, fails_with, lacks_memory};
 use crate::block_writing::info;
-use hdfs_cluster::{
-    DatanodeInfo, FaultLine, HdfsError, Line, LinkKind, LocatedBlock, ReadKind, Store,
-};
+use hdfs_cluster::{FaultLine, HdfsError, Line, LinkKind, LocatedBlock, ReadKind, Store};
 use std::alloc::Global;
 use std::test::Fail;
 
@@ -16,15 +14,6 @@ fn with_a_block(alloc: Global) -> Result<Client, Fail> {
     Ok(client)
 }
 
-/// Whether these are the datanodes with these uuids, in order.
-fn are_on(locs: &[DatanodeInfo], uuids: &[&str]) -> bool {
-    locs.len() == uuids.len()
-        && locs
-            .iter()
-            .zip(uuids)
-            .all(|(node, uuid)| node.id.datanode_uuid.as_str() == *uuid)
-}
-
 #[test]
 fn a_block_gets_a_greater_stamp(rt: HostRuntime) -> Result<(), Fail> {
     let mut client = with_a_block(rt.alloc())?;
@@ -34,7 +23,7 @@ fn a_block_gets_a_greater_stamp(rt: HostRuntime) -> Result<(), Fail> {
     Ok(())
 }
 
-/// Whether the block on the first datanode gets the wanted one as its second, where another one is excluded.
+/// Whether a block of which the first datanode is left gets the wanted one as its second, where another one is excluded.
 fn adds(client: &mut Client, excluded: &str, wanted: &str) -> Result<bool, Fail> {
     let excludes = [info(client.alloc, excluded)?];
     let block = client.one_more("/f", 256, &excludes)?;

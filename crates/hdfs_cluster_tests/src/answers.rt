@@ -1,7 +1,7 @@
 //! What a namenode in memory answers to a writer.
-use crate::asking::{Client, fails_with, named};
+use crate::asking::{Client, are_on, fails_with, named};
 use crate::block_writing::{read_back, written};
-use hdfs_cluster::Store;
+use hdfs_cluster::{MemCluster, MemSettings, Store};
 use std::alloc::Global;
 use std::test::Fail;
 
@@ -26,6 +26,39 @@ fn a_file_is_created(rt: HostRuntime) -> Result<(), Fail> {
     // The first block is given again while it is empty.
     for _ in 0..2 {
         assert_eq!(rt; client.add_block("/d/f", None)?, (256, 1000));
+    }
+    Ok(())
+}
+
+/// How many datanodes there are, and on which a new block of three replicas is put.
+const PLACES: [(u32, &[&str]); 4] = [
+    (1, &["dn0"]),
+    (2, &["dn0", "dn1"]),
+    (3, &["dn0", "dn1", "dn2"]),
+    (5, &["dn0", "dn1", "dn2"]),
+];
+
+/// Whether the first block of a new file is put on these datanodes, of so many.
+fn is_put_on(alloc: Global, nodes: u32, uuids: &[&str]) -> Result<bool, Fail> {
+    let mut settings = MemSettings::of_scripts();
+    settings.nodes = nodes;
+    if !settings.are_valid() {
+        return Err(Fail::from("there is a datanode"));
+    }
+    let mut client = Client::over(alloc, MemCluster::new(alloc, settings)?)?;
+    let _status = client.create("/f", 1, false)?;
+    let _block = client.add_block("/f", None)?;
+    let found = client.locate("/f")?;
+    let [block] = found.blocks.as_slice() else {
+        return Err(Fail::from("the file has one block"));
+    };
+    Ok(are_on(block.locs.as_slice(), uuids))
+}
+
+#[test]
+fn a_new_block_is_put_on_the_lowest_datanodes(rt: HostRuntime) -> Result<(), Fail> {
+    for (nodes, uuids) in &PLACES {
+        assert!(rt; is_put_on(rt.alloc(), *nodes, uuids)?, "{nodes}");
     }
     Ok(())
 }

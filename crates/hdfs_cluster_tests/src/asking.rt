@@ -115,7 +115,7 @@ impl Client {
         Ok((stamped.b.block_id, stamped.b.generation_stamp))
     }
 
-    /// One datanode more for a block on the first one, which is none of the excluded ones.
+    /// One datanode more for a block of which the first one is left; it is none of the excluded ones.
     pub(crate) fn one_more(
         &mut self,
         path: &str,
@@ -202,6 +202,15 @@ pub(crate) fn fails_with<T: Drop>(outcome: Result<T, HdfsError>, wanted: &str) -
 /// Whether there is no memory for a call.
 pub(crate) fn lacks_memory<T: Drop>(outcome: Result<T, HdfsError>) -> bool {
     matches!(&outcome, Err(HdfsError::NoMemory))
+}
+
+/// Whether these are the datanodes with these uuids, in order.
+pub(crate) fn are_on(locs: &[DatanodeInfo], uuids: &[&str]) -> bool {
+    locs.len() == uuids.len()
+        && locs
+            .iter()
+            .zip(uuids)
+            .all(|(node, uuid)| node.id.datanode_uuid.as_str() == *uuid)
 }
 
 /// A block with this name, and so many bytes.

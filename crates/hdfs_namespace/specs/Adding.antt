@@ -1,6 +1,6 @@
 -- How blocks and files come into a cluster in memory.
-use Rattle.std.specs.Prelude.{◌≡◌, ◌≢◌, ◌<◌, ◌==◌, ℕ, Bool, true, false, List, [], ◌∷◌, ◌++◌, length, filter, slice_index_or, Contains, Option, Some, None, unwrap_or, if◌then◌else◌}
-use Rattle.std.specs.List.{list_any}
+use Rattle.std.specs.Prelude.{◌≡◌, ◌≢◌, ◌<◌, ◌==◌, ℕ, Bool, true, false, List, [], ◌∷◌, ◌++◌, length, min, filter, slice_index_or, Contains, Option, Some, None, unwrap_or, if◌then◌else◌}
+use Rattle.std.specs.List.{All, list_any}
 use Rattle.std.specs.Str.{bytes_eq}
 use Rattle.hdfs_model.specs.declared.picture.Entry.{Entry}
 use Rattle.hdfs_model.specs.declared.picture.Entry.TheVariants as entries
@@ -12,7 +12,7 @@ use Rattle.hdfs_model.specs.Effects.{HasBlock, IsEntry, IsLast, IsRetried, with_
 use Rattle.hdfs_model.specs.Paths.{is_path, ancestors, parent_of}
 use Rattle.hdfs_model.specs.Picture.{Picture}
 use Rattle.hdfs_namespace.specs.Memory.{total, is_length, is_dir, is_kth, is_kth_at}
-use Rattle.hdfs_replicas.specs.Uuids.{first_node}
+use Rattle.hdfs_replicas.specs.Uuids.{lowest}
 
 -- a file can stand at the path: it is new, and its parent is a directory
 pub record IsPlace (names : List ℕ → Option Entry) (path : List ℕ) : Type 0 where
@@ -92,14 +92,18 @@ pub record Space : Type 0 where
   pub table : ℕ → Option BlockEntry
   pub held : List ℕ → ℕ → List ℕ
 
--- A new block is listed on the first datanode, which holds nothing of it, behind the others of the file at a path.
-pub record AddsBehind (old : Space) (path : List ℕ) (previous : Option Block) (new : Space) (block : LocatedBlock) : Type 0 where
+-- on how many of so many datanodes a block of this replication is put
+abbrev pub places : ℕ → ℕ → ℕ
+places replication count = min (min replication 256) count
+
+-- A new block is listed on these datanodes, each of which holds nothing of it, behind the others of the file at a path.
+pub record AddsBehind (old : Space) (path : List ℕ) (previous : Option Block) (nodes : List (List ℕ)) (new : Space) (block : LocatedBlock) : Type 0 where
   pub id : ℕ
   pub entry : BlockEntry
   pub absent : old.table id ≡ None
   pub empty : entry.length ≡ 0
-  pub on : entry.nodes ≡ first_node ∷ []
-  pub bare : old.held first_node id ≡ []
+  pub on : entry.nodes ≡ nodes
+  pub bare : All (λ node. old.held node id ≡ []) nodes
   pub answered : IsEntry block id entry
   pub behind : (file : FileEntry) → old.names path ≡ Some (entries.File file) → (q : List ℕ)
       → new.names q ≡ with_entry old.names path (with_more file id) q
@@ -113,11 +117,12 @@ pub record GivesLast (old : Space) (file : FileEntry) (previous : Option Block) 
   pub same : (q : List ℕ) → new.names q ≡ old.names q
   pub listed : (b : ℕ) → new.table b ≡ with_length old.table previous b
 
--- The file has a new block, and no empty one that it could be given again.
-pub record AddsLast (old : Space) (path : List ℕ) (file : FileEntry) (previous : Option Block) (new : Space) (block : LocatedBlock) : Type 0 where
+-- The file has a new block, and no empty one that it could be given again. Of so many datanodes it is on the lowest-numbered
+-- ones, as many as the file's replication, or as there are, or as an answer can name.
+pub record AddsLast (old : Space) (count : ℕ) (path : List ℕ) (file : FileEntry) (previous : Option Block) (new : Space) (block : LocatedBlock) : Type 0 where
   pub first : (last : ℕ) → IsRetried old.table file.blocks previous last → ⊥
   pub replicated : 0 < file.attributes.replication
-  pub adds : AddsBehind old path previous new block
+  pub adds : AddsBehind old path previous (lowest (places file.attributes.replication count)) new block
 
 -- a block of the same length with this generation stamp, on these datanodes
 abbrev pub with_pipeline : BlockEntry → ℕ → List (List ℕ) → BlockEntry

@@ -1,34 +1,34 @@
 //! How a block is added to a file in a cluster in memory.
-ghost use Rattle.std.specs.Prelude.{◌≡◌, ◌+◌, ◌<◌, ◌≤◌, ◌⊎◌, ℕ, true, List, [], ◌∷◌, Option, Some, None, IfOk, IfErr, IfSome, OnOk, OnErr};
+ghost use Rattle.std.specs.Prelude.{◌≡◌, ◌+◌, ◌<◌, ◌≤◌, ◌⊎◌, ℕ, true, List, [], Option, Some, None, All, IfOk, IfErr, IfSome, OnOk, OnErr};
 ghost use Rattle.std.specs.BTreeMap.{get_by_text};
 ghost use Rattle.hdfs_model.specs.declared.picture.Entry.TheVariants as entries;
 ghost use Rattle.hdfs_model.specs.declared.picture.BlockEntry.{BlockEntry};
 ghost use Rattle.hdfs_model.specs.declared.picture.FileEntry.{FileEntry};
 ghost use Rattle.hdfs_model.specs.Effects.{HasBlock, IsEntry, with_block, with_entry, with_length};
 ghost use Rattle.hdfs_model.specs.Namenode.{IsToWrite};
-ghost use Rattle.hdfs_namespace.specs.Adding.{AddsBehind, AddsLast, CanTake, GivesLast, with_more};
+ghost use Rattle.hdfs_namespace.specs.Adding.{AddsBehind, AddsLast, CanTake, GivesLast, places, with_more};
 ghost use Rattle.hdfs_namespace.specs.Spaces.{space_of};
 ghost use Rattle.hdfs_namespace.specs.Answering.{StandsForStray};
 ghost use Rattle.hdfs_namespace.specs.Memory.{table_of};
-ghost use Rattle.hdfs_replicas.specs.Uuids.{first_node};
+ghost use Rattle.hdfs_replicas.specs.Uuids.{lowest};
 ghost use Rattle.hdfs_replicas.specs.Nodes.{held_in};
 
 use crate::blocks::{has_block, push_id, retried, set_length};
-use crate::namenode::{NOT_FOUND, block_to_write, exception};
-use crate::namespace::{FIRST_BLOCK, Namespace, first_nodes};
+use crate::namenode::{MAX_LOCATIONS, NOT_FOUND, block_to_write, exception};
+use crate::namespace::{FIRST_BLOCK, Namespace};
 use crate::totals::set_total;
 use hdfs_model::{AskFault, Block, BlockEntry, LocatedBlock};
 use hdfs_replicas::Datanodes;
-use hdfs_wire::NoMemory;
+use hdfs_wire::{NoMemory, Text};
 use std::alloc::Global;
 
 impl Namespace {
-    /// The next id under which no block is listed and the first datanode holds nothing.
-    fn free_id(&self, nodes: &Datanodes) -> Option<u64>
-        ensures { IfSome result (λ id. (self.now.next_block ≤ id) × (held_in nodes.now first_node id ≡ [])) }
+    /// The next id under which no block is listed and these datanodes hold nothing.
+    fn free_id(&self, nodes: &Datanodes, uuids: &[Text]) -> Option<u64>
+        ensures { IfSome result (λ id. (self.now.next_block ≤ id) × All (λ node. held_in nodes.now node id ≡ []) uuids.now) }
     {
         let mut id = self.next_block;
-        while nodes.may_hold(id) {
+        while nodes.may_hold_any(uuids, id) {
             id = id.checked_add(FIRST_BLOCK)?;
         }
         Some(id)
@@ -71,22 +71,25 @@ impl Namespace {
         }
     }
 
-    /// Adds a new block to the file at a path.
+    /// Adds a new block to the file at a path, on the lowest-numbered datanodes.
     fn add_behind(
         &mut self,
         alloc: Global,
         nodes: &Datanodes,
         src: &str,
         previous: &Option<Block>,
+        replication: u32,
         sum: u64,
     ) -> Result<LocatedBlock, NoMemory>
         requires { CanTake (get_by_text self.old.names) (table_of self.old.table.entries) src.now previous.now sum }
-        ensures added { IfOk result (AddsBehind (space_of self.old nodes.now) src.now previous.now (space_of self.new nodes.now)) }
+        ensures added { IfOk result (AddsBehind (space_of self.old nodes.now) src.now previous.now
+            (lowest (places replication nodes.now.count)) (space_of self.new nodes.now)) }
         ensures shape { IfOk result (λ block. IsToWrite block × (block.b.num_bytes ≡ 0)) }
         ensures err { OnErr result (((q : List ℕ) → get_by_text self.new.names q ≡ get_by_text self.old.names q)
             × ((b : ℕ) → table_of self.new.table.entries b ≡ table_of self.old.table.entries b)) }
     {
-        let Some(id) = self.free_id(nodes) else {
+        let on = nodes.lowest(alloc, replication.min(MAX_LOCATIONS as u32))?;
+        let Some(id) = self.free_id(nodes, on.as_slice()) else {
             return Err(NoMemory);
         };
         let stamp = self.next_stamp;
@@ -96,7 +99,7 @@ impl Namespace {
         let entry = BlockEntry {
             length: 0,
             stamp,
-            nodes: first_nodes(alloc)?,
+            nodes: on,
         };
         let block = block_to_write(alloc, id, &entry)?;
         self.list_behind(src, previous, sum, id, entry)?;
@@ -141,7 +144,7 @@ impl Namespace {
     ) -> Result<LocatedBlock, AskFault>
         ensures added { IfOk result (λ block. (file : FileEntry) × (get_by_text self.old.names src.now ≡ Some (entries.File file))
             × (GivesLast (space_of self.old nodes.now) file previous.now (space_of self.new nodes.now) block
-            ⊎ AddsLast (space_of self.old nodes.now) src.now file previous.now (space_of self.new nodes.now) block)) }
+            ⊎ AddsLast (space_of self.old nodes.now) nodes.now.count src.now file previous.now (space_of self.new nodes.now) block)) }
         ensures shape { IfOk result (λ block. IsToWrite block × (block.b.num_bytes ≡ 0)) }
         ensures stray { IfErr result (StandsForStray ((file : FileEntry) → get_by_text self.old.names src.now ≡ Some (entries.File file)
             → file.is_open ≡ true → HasBlock file.blocks previous.now → ⊥)) }
@@ -158,7 +161,8 @@ impl Namespace {
         if !has_block(ids, previous) {
             return Err(exception(alloc, NOT_FOUND)?);
         }
-        if file.attributes.replication == 0 {
+        let replication = file.attributes.replication;
+        if replication == 0 {
             return Err(AskFault::NoMemory);
         }
         let Some(sum) = self.sum_with(src, previous) else {
@@ -166,7 +170,7 @@ impl Namespace {
         };
         match retried(&self.table, ids, previous) {
             Some(id) => Ok(self.give_again(alloc, src, previous, sum, id)?),
-            None => Ok(self.add_behind(alloc, nodes, src, previous, sum)?),
+            None => Ok(self.add_behind(alloc, nodes, src, previous, replication, sum)?),
         }
     }
 }

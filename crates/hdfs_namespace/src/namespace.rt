@@ -1,11 +1,10 @@
 //! The names and the blocks of a cluster in memory.
-ghost use Rattle.std.specs.Prelude.{◌≡◌, ◌≤◌, ◌+◌, ◌^◌, ◌<◌, ℕ, List, [], ◌∷◌, true, false, Some, None, is_none, string_bytes, OnOk, OnErr, IfOk, IfSome};
+ghost use Rattle.std.specs.Prelude.{◌≡◌, ◌≤◌, ◌+◌, ◌^◌, ◌<◌, ℕ, List, true, false, Some, None, is_none, string_bytes, OnOk, OnErr, IfOk, IfSome};
 ghost use Rattle.std.specs.BTreeMap.{get_by_text};
 ghost use Rattle.hdfs_model.specs.declared.picture.Entry.TheVariants as entries;
 ghost use Rattle.hdfs_model.specs.Effects.{blocks_at};
 ghost use Rattle.hdfs_model.specs.Paths.{root};
 ghost use Rattle.hdfs_namespace.specs.Memory.{table_of, total, is_length, is_sized, is_dir, is_placed, is_free_at, accepts, AreApart, IsBare};
-ghost use Rattle.hdfs_replicas.specs.Uuids.{first_node};
 ghost use Rattle.hdfs_namespace.specs.Adding.{IsPlace, AddsBlock, AreNew, Keeps, Names};
 ghost use Rattle.hdfs_namespace.specs.Totals.{is_counted};
 
@@ -41,15 +40,6 @@ pub(crate) const FIRST_BLOCK: u64 = 256;
 const FIRST_STAMP: u64 = 1000;
 
 const FIRST_FILE: u64 = 1;
-
-/// The list with the uuid of the datanode on which blocks are written.
-pub(crate) fn first_nodes(alloc: Global) -> Result<List<Text>, NoMemory>
-    ensures { IfOk result (λ nodes. nodes ≡ first_node ∷ []) }
-{
-    let mut nodes = List::new(alloc);
-    nodes.push(Text::from_str(alloc, "dn0")?)?;
-    Ok(nodes)
-}
 
 impl Namespace {
     /// The root alone.

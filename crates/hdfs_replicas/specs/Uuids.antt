@@ -2,7 +2,7 @@
 use Rattle.std.specs.Prelude.{ℕ, zero, suc, List, [], ◌∷◌, ◌++◌, codes}
 use Rattle.hdfs_faults.specs.Series.{uuid_of}
 
--- the uuid of the datanode on which blocks are written
+-- the uuid of the datanode that is always there
 abbrev pub first_node : List ℕ
 first_node = codes "dn0"
 

@@ -23,8 +23,6 @@ pub struct Datanodes {
     ghost numbered: { (k : ℕ) → k < count → is_some (get_by_text by_uuid (uuid_of k)) ≡ true },
 }
 
-const FIRST_NODE: &str = "dn0";
-
 /// The uuid of a datanode by its number.
 pub fn uuid(alloc: Global, number: u32) -> Result<String, NoMemory>
     ensures { IfOk result (λ text. string_bytes text ≡ uuid_of number) }
@@ -148,14 +146,26 @@ impl Datanodes {
         }
     }
 
-    /// Whether the first datanode may hold bytes of a block.
-    pub fn may_hold(&self, block: u64) -> bool
-        ensures { result ≡ false → held_in self.now first_node block ≡ [] }
+    /// Whether a datanode may hold bytes of a block.
+    fn may_hold(&self, uuid: &str, block: u64) -> bool
+        ensures { result ≡ false → held_in self.now uuid.now block ≡ [] }
     {
-        match self.by_uuid.get(FIRST_NODE) {
+        match self.by_uuid.get(uuid) {
             Some(node) => node.blocks.contains_key(&block),
             None => false,
         }
+    }
+
+    /// Whether one of these datanodes may hold bytes of a block.
+    pub fn may_hold_any(&self, uuids: &[Text], block: u64) -> bool
+        ensures { result ≡ false → All (λ node. held_in self.now node block ≡ []) uuids.now }
+    {
+        for uuid in uuids {
+            if self.may_hold(uuid.as_str(), block) {
+                return true;
+            }
+        }
+        false
     }
 
     /// Takes memory for a piece of a block, of which nothing is seen before it is taken. There is none on a datanode that

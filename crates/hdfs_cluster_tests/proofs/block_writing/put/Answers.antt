@@ -1,5 +1,5 @@
 -- A packet that was sent waits, and its acknowledgement leaves the end where it is.
-use Rattle.std.proofs.Common.{ℤ, ◌∷◌, [], arith, length-append}
+use Rattle.std.proofs.Common.{◌∷◌, [], arith, length-append}
 use Rattle.hdfs_model.specs.Sending.{seqno_of}
 use Rattle.hdfs_cluster_tests.proofs.block_writing.put.Goals as goal
 

@@ -29,7 +29,7 @@ returns-in_ok-add_behind-in-None-clause-added c =
       c.in-Some.ensures,
       inr (record {
         first = λ last again. c.in-None.ensures last (subst (λ (ids : List ℕ). IsRetried table ids c.args.previous.now last) (sym c.as_slice-ids.ensures) again);
-        replicated = omega (arith, c.if-file-eq0.false);
+        replicated = omega (arith, c.if-replication-eq0.false);
         adds = c.in_ok-add_behind-in-None.ensures.added;
       }),
     )
