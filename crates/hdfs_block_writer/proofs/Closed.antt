@@ -1,16 +1,15 @@
 -- A writer's last packet is pushed, and its pipeline is waited for.
-use Rattle.std.proofs.Common.{◌≡◌, ◌⊎◌, ℕ, pos, ◌+◌, ◌<◌, ◌≤◌, ◌^◌, List, [], ◌∷◌, ◌++◌, length, take, drop, Option, Some, None, refl, sym, ◌∙◌, ap, subst, arith}
+use Rattle.std.proofs.Common.{◌≡◌, ◌⊎◌, ℕ, ◌+◌, ◌<◌, ◌≤◌, ◌^◌, List, [], ◌∷◌, ◌++◌, length, take, drop, Option, Some, None, sym, ◌∙◌, ap, subst, arith}
 use Rattle.std.proofs.lemmas.List.{append-nil}
 use Rattle.std.proofs.lemmas.List.Elements.{All-drop}
 use Rattle.hdfs_wire.specs.Outgoing.{Outgoing}
 use Rattle.hdfs_model.specs.declared.messages.Block.{Block}
-use Rattle.hdfs_model.specs.Causes.{SomeNodeRose}
 use Rattle.hdfs_model.specs.Picture.{Picture}
 use Rattle.hdfs_model.specs.Sending.{uuids}
 use Rattle.hdfs_model.specs.Shown.{Shown}
 use Rattle.hdfs_pipeline.specs.Driving.{IsNotLast}
 use Rattle.hdfs_blocks.specs.Carrying.{HoldsWhole, total}
-use Rattle.hdfs_blocks.specs.Writers.{filling_of}
+use Rattle.hdfs_block_writer.specs.Packing.{filling_of}
 use Rattle.hdfs_blocks.proofs.Prefixes.{total_cut, total_join}
 use Rattle.hdfs_recovery.specs.declared.block_plan.BlockPipeline.{BlockPipeline}
 use Rattle.hdfs_recovery.specs.declared.block_plan.BlockPlan.{BlockPlan}
@@ -18,18 +17,17 @@ use Rattle.hdfs_recovery.specs.declared.block_plan.RebuildSettings.{RebuildSetti
 use Rattle.hdfs_recovery.specs.declared.block_plan.WriteFault.{WriteFault}
 use Rattle.hdfs_block_writer.specs.declared.block_writer.BlockWriter.{BlockWriter}
 use Rattle.hdfs_block_writer.specs.BlockWriters.{Carries, GoesOver, IsKept, link_in, link_of, safe_of, start_of}
-use Rattle.hdfs_block_writer.specs.OpenPipelines.{ChangesBlock, Finishes, GivesUp, IsOver, KeepsBlock, OnlyOwnLink, id_of}
+use Rattle.hdfs_block_writer.specs.OpenPipelines.{ChangesBlock, Finishes, GivesUp, IsOver, KeepsBlock, OnlyOwnLink, RebuiltOnFailures, id_of}
 use Rattle.hdfs_block_writer.specs.Pushing.{CanPush, FinishesNot, IsEnding, Pushes, PushesNot}
 use Rattle.hdfs_block_writer.specs.Written.{Closes, EndsBlock, Ends, GaveUp, IsCarrying, Wrote}
-use Rattle.hdfs_block_writer.proofs.GoingOn.{changes_trans, gives_up_since, keeps_block_trans, steady_end}
+use Rattle.hdfs_block_writer.proofs.GoingOn.{changes_trans, gives_up_since, keeps_block_trans, since_steady, steady_end}
 use Rattle.hdfs_block_writer.proofs.OwnLinks.{own_link_trans}
 use Rattle.hdfs_block_writer.proofs.Sent.{can_push, not_pushed, over_then}
 use Rattle.hdfs_block_writer.proofs.Wrote.{pipe_is, same_id}
 
 -- what stays of a plan, which is that of before or was rebuilt
 abbrev KeepsAll : Shown → BlockPipeline → BlockPlan → Shown → Type 0
-KeepsAll a pipe plan z =
-    KeepsBlock pipe.plan plan × ((plan ≡ pipe.plan) ⊎ ((pipe.plan.rebuilds < plan.rebuilds) × SomeNodeRose a.counts z))
+KeepsAll a pipe plan z = KeepsBlock pipe.plan plan × ((plan ≡ pipe.plan) ⊎ RebuiltOnFailures a pipe.plan z plan)
 
 -- The packet that ends the block of a writer, which has sent all others.
 module _ (w : BlockWriter) (pipe : BlockPipeline) (packet : Outgoing) (a : Shown) (is : w.pipe ≡ Some pipe) (none : w.packet ≡ None)
@@ -81,9 +79,10 @@ module _ (w : BlockWriter) (pipe : BlockPipeline) (packet : Outgoing) (a : Shown
       -- it isn't acknowledged
       pub not_finished : (fault : WriteFault) → FinishesNot w.settings b pipe' fault z → GaveUp a w fault z
       not_finished fault not other there =
-          subst (λ (y : BlockPipeline). GivesUp w.settings (IsCarrying w) (id_of y) y.link a fault z) (pipe_is pipe other (sym is ∙ there))
-          (gives_up_since w.settings (IsCarrying w) (IsOver pipe' []) (id_of pipe) pipe.link pipe'.link a b z pushed.continues.own over_now fault
-          (subst (λ (i : ℕ). GivesUp w.settings (IsOver pipe' []) i pipe'.link b fault z) pushed.continues.keeps.id not))
+          subst (λ (y : BlockPipeline). GivesUp w.settings y.plan.rebuilds (IsCarrying w) (id_of y) y.link a fault z) (pipe_is pipe other (sym is ∙ there))
+          (gives_up_since w.settings pipe.plan.rebuilds pipe'.plan.rebuilds (IsCarrying w) (IsOver pipe' []) (id_of pipe) pipe.link pipe'.link a b z
+          (since_steady a b pipe pipe' pushed.continues.own.later pushed.continues.steady) pushed.continues.own over_now fault
+          (subst (λ (i : ℕ). GivesUp w.settings pipe'.plan.rebuilds (IsOver pipe' []) i pipe'.link b fault z) pushed.continues.keeps.id not))
 
       -- All are acknowledged.
       module _ (plan : BlockPlan) (f : Finishes w.settings b pipe' z plan) where

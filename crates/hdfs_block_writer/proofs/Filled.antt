@@ -3,7 +3,7 @@ use Rattle.std.proofs.Common.{◌≡◌, ℕ, pos, ◌+◌, ◌-◌, ◌<◌, �
 use Rattle.std.proofs.lemmas.List.{length-append}
 use Rattle.hdfs_wire.specs.Outgoing.{Outgoing}
 use Rattle.hdfs_block_writer.specs.declared.block_writer.BlockWriter.{BlockWriter}
-use Rattle.hdfs_blocks.specs.Writers.{IsNext, filling_of}
+use Rattle.hdfs_block_writer.specs.Packing.{IsNext, filling_of}
 use Rattle.hdfs_block_writer.specs.BlockWriters.{IsFilling, IsKept, start_of}
 
 -- a packet that took bytes is the next one still

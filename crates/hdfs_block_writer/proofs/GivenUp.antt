@@ -1,5 +1,5 @@
 -- A pipeline of which datanodes have failed isn't rebuilt, and its block is given up.
-use Rattle.std.proofs.Common.{◌≡◌, ◌⊎◌, inl, inr, ⊎_elim, ℕ, ℤ, zero, suc, ◌+◌, ◌^◌, ◌<◌, Bool, true, false, cond, ◌==◌, List, [], ◌∷◌, ◌++◌, length, Some, None, refl, sym, ◌∙◌, ap, subst, arith}
+use Rattle.std.proofs.Common.{◌≡◌, ◌⊎◌, inl, inr, ⊎_elim, ℕ, ℤ, zero, suc, ◌+◌, ◌-◌, ◌^◌, ◌<◌, Bool, true, false, cond, ◌==◌, List, [], ◌∷◌, ◌++◌, length, Some, None, refl, sym, ◌∙◌, ap, subst, arith}
 use Rattle.std.proofs.lemmas.Bool.{eqb-true}
 use Rattle.std.proofs.lemmas.List.{get_or_default, length-map}
 use Rattle.std.proofs.lemmas.List.Folds.{Any-from_list_any}
@@ -20,10 +20,11 @@ use Rattle.hdfs_recovery.specs.declared.block_plan.WriteFault.{WriteFault}
 use Rattle.hdfs_recovery.specs.declared.block_plan.WriteFault.TheVariants as faults
 use Rattle.hdfs_recovery.specs.Attempts.{GaveNone, GaveNoneAfter, HasRebuildCause, Standing}
 use Rattle.hdfs_recovery.specs.Between.{KeepsEntry, KeepsLinks, NamenodeFailed}
-use Rattle.hdfs_block_writer.specs.OpenPipelines.{AllListedFail, GivesUp, HasCause, IsOver, ListedFails, NamenodeFails, id_of}
+use Rattle.hdfs_block_writer.specs.OpenPipelines.{AllListedFail, GivesUp, HasCause, IsOver, ListedFails, NamenodeFails, NodesFailTimes, id_of}
 use Rattle.hdfs_recovery.specs.Plans.{without}
 use Rattle.hdfs_block_writer.specs.Pushing.{FallsFor}
 use Rattle.hdfs_recovery.specs.Trying.{HaveFailed}
+use Rattle.hdfs_block_writer.proofs.Failures.{fails_until}
 use Rattle.hdfs_block_writer.proofs.LettingGo.{gone_active, gone_only, gone_picture, gone_told, known_of, own_none, stopped_only, until_gone, until_stopped}
 use Rattle.hdfs_block_writer.proofs.Missing.{MissedSince}
 use Rattle.hdfs_block_writer.proofs.Rebuilt.{FallsOff, before, changes_behind, missed_since, safe_then, some_rose, task, then_active, then_picture, then_told, then_waits, until}
@@ -148,8 +149,14 @@ module _ (settings : RebuildSettings) (client : List ℕ) (a : Shown) (pipe : Bl
       same_entry : new ≡ then.shown → KeepsEntry then.plan then.shown new
       same_entry same p known told w = (p, ap (λ (s : Shown). s.picture) same ∙ told, refl)
 
+      -- Datanodes have failed once more than the pipeline could be rebuilt.
+      fail_times : then.plan.rebuilds ≡ settings.rebuild_limit → NodesFailTimes (suc (settings.rebuild_limit - pipe.plan.rebuilds)) a new
+      fail_times limit =
+          subst (λ (n : ℕ). NodesFailTimes (suc n) a new) (omega (arith, limit, chain.rebuilds))
+          (fails_until (suc chain.times) a then.shown new chain.fails none.links.later)
+
       cause : (f : WriteFault) → HasRebuildCause (task settings client a pipe came last z m failed fell bytes unsent below) then f new
-          → HasCause settings (IsOver pipe (came ++ more)) (id_of pipe) a f new
+          → HasCause settings pipe.plan.rebuilds (IsOver pipe (came ++ more)) (id_of pipe) a f new
       cause faults.NoMemory why = tt
       cause faults.Failed why = absurd why
       cause faults.Link why = (node_rose, links_rose why)
@@ -158,10 +165,10 @@ module _ (settings : RebuildSettings) (client : List ℕ) (a : Shown) (pipe : Bl
       cause faults.AllNodes why = (node_rose, all_listed why.0 why.1)
       cause faults.NoReplacement why =
           (why.1, node_rose, ⊎_elim (λ links. inl (links_rose links)) (λ namenode. inr (namenode_fails namenode)) why.2, some_listed why.3)
-      cause (faults.RebuildLimit rebuilds) why = (why.0 ∙ why.1, node_rose, some_listed (same_entry why.2))
+      cause (faults.RebuildLimit rebuilds) why = (why.0 ∙ why.1, fail_times why.1, some_listed (same_entry why.2))
       cause (faults.Namenode error) why = (why.0, why.1, node_rose, namenode_fails why.2)
 
-      pub gives_up : GivesUp settings (IsOver pipe (came ++ more)) (id_of pipe) pipe.link a fault new
+      pub gives_up : GivesUp settings pipe.plan.rebuilds (IsOver pipe (came ++ more)) (id_of pipe) pipe.link a fault new
       gives_up = record {
         own =
             own_none pipe.link a m new (until settings client a pipe came last z m failed fell bytes unsent below) fell.gone.ended links_now;

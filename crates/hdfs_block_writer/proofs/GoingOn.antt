@@ -1,17 +1,17 @@
 -- A pipeline goes on for a while, and is given up then.
-use Rattle.std.proofs.Common.{◌≡◌, ◌≢◌, ◌⊎◌, inl, inr, ⊎_elim, ℕ, ◌<◌, ◌≤◌, List, Option, Some, None, refl, sym, ◌∙◌, ap, subst, arith}
-use Rattle.std.specs.List.{All, slice_index_or}
-use Rattle.hdfs_model.specs.Causes.{SomeNodeRose}
+use Rattle.std.proofs.Common.{◌≡◌, ◌⊎◌, inl, inr, ⊎_elim, ℕ, suc, ◌+◌, ◌-◌, ◌≤◌, Some, None, refl, ◌∙◌, ap, arith}
+use Rattle.std.specs.List.{slice_index_or}
 use Rattle.hdfs_model.specs.Counts.{Rose}
 use Rattle.hdfs_model.specs.Picture.{Picture}
 use Rattle.hdfs_model.specs.Shown.{Shown, Later}
-use Rattle.hdfs_model.proofs.Frames.{rose_since}
+use Rattle.hdfs_model.proofs.Frames.{later_refl, rose_since}
 use Rattle.hdfs_recovery.specs.declared.block_plan.BlockPipeline.{BlockPipeline}
 use Rattle.hdfs_recovery.specs.declared.block_plan.BlockPlan.{BlockPlan}
 use Rattle.hdfs_recovery.specs.declared.block_plan.RebuildSettings.{RebuildSettings}
 use Rattle.hdfs_recovery.specs.declared.block_plan.WriteFault.{WriteFault}
 use Rattle.hdfs_recovery.specs.declared.block_plan.WriteFault.TheVariants as faults
-use Rattle.hdfs_block_writer.specs.OpenPipelines.{AllListedFail, ChangesBlock, GivesUp, HasCause, IsSteady, KeepsBlock, ListedFails, NamenodeFails, OnlyOwnLink}
+use Rattle.hdfs_block_writer.specs.OpenPipelines.{AllListedFail, ChangesBlock, GivesUp, HasCause, IsSteady, KeepsBlock, ListedFails, NamenodeFails, NodesFailTimes, OnlyOwnLink, RebuiltOnFailures}
+use Rattle.hdfs_block_writer.proofs.Failures.{fails_enough, fails_join, fails_since, fails_until, some_rose_since}
 use Rattle.hdfs_block_writer.proofs.OwnLinks.{own_link_refl, own_link_trans}
 use Rattle.hdfs_recovery.proofs.Stepping.{only_block_of_refl, only_block_of_trans, same_active_refl, same_active_trans}
 
@@ -36,46 +36,60 @@ keeps_block_trans x y z f g = record {
   chunk = g.chunk ∙ f.chunk;
 }
 
--- a datanode has failed since before
-pub some_rose_since : (a b c : Shown) → Later a b → SomeNodeRose b.counts c → SomeNodeRose a.counts c
-some_rose_since a b c later some =
-    (some.0, rose_since (a.counts.nodes some.0) (b.counts.nodes some.0) (c.counts.nodes some.0) (c.counts.nodes some.0) (later.counts.nodes some.0) some.1 (omega arith))
+-- a pipeline stays, and is rebuilt then
+same_rebuilt : (a b c : Shown) (x y z : BlockPlan) → Later a b → y ≡ x → RebuiltOnFailures b y c z → RebuiltOnFailures a x c z
+same_rebuilt a b c x y z first same (times, some, more, fails) =
+    (times, some, omega (arith, more, ap (λ (p : BlockPlan). p.rebuilds) same), fails_since times a b c first fails)
 
--- or before, and since then too
-pub some_rose_until : (a b c : Shown) → Later b c → SomeNodeRose a.counts b → SomeNodeRose a.counts c
-some_rose_until a b c later some =
-    (some.0, rose_since (a.counts.nodes some.0) (a.counts.nodes some.0) (b.counts.nodes some.0) (c.counts.nodes some.0) (omega arith) some.1 (later.counts.nodes some.0))
+-- it is rebuilt, and stays then
+rebuilt_same : (a b c : Shown) (x y z : BlockPlan) → Later b c → RebuiltOnFailures a x b y → z ≡ y → RebuiltOnFailures a x c z
+rebuilt_same a b c x y z then (times, some, more, fails) same =
+    (times, some, omega (arith, more, ap (λ (p : BlockPlan). p.rebuilds) same), fails_until times a b c fails then)
+
+-- it is rebuilt, and again then
+rebuilt_trans : (a b c : Shown) (x y z : BlockPlan) → RebuiltOnFailures a x b y → RebuiltOnFailures b y c z → RebuiltOnFailures a x c z
+rebuilt_trans a b c x y z (m, some, more, fails) (n, some', more', fails') =
+    (n + m, omega (arith, some), omega (arith, more, more'), fails_join m n a b c fails fails')
 
 pub steady_trans : (a b c : Shown) (x y z : BlockPipeline) → Later a b → Later b c → IsSteady a x b y → IsSteady b y c z → IsSteady a x c z
 steady_trans a b c x y z first then one two = ⊎_elim
     (λ same. ⊎_elim
     (λ still. inl (still.0 ∙ same.0, still.1 ∙ same.1))
-    (λ again. inr (omega (arith, again.0, ap (λ (p : BlockPlan). p.rebuilds) same.0), some_rose_since a b c first again.1))
+    (λ again. inr (same_rebuilt a b c x.plan y.plan z.plan first same.0 again))
     two)
     (λ rebuilt. ⊎_elim
-    (λ still. inr (omega (arith, rebuilt.0, ap (λ (p : BlockPlan). p.rebuilds) still.0), some_rose_until a b c then rebuilt.1))
-    (λ again. inr (omega (arith, rebuilt.0, again.0), some_rose_until a b c then rebuilt.1))
+    (λ still. inr (rebuilt_same a b c x.plan y.plan z.plan then rebuilt still.0))
+    (λ again. inr (rebuilt_trans a b c x.plan y.plan z.plan rebuilt again))
     two)
     one
 
 -- the same of the plan of a pipeline that was ended then
 pub steady_end : (a b c : Shown) (x y : BlockPipeline) (plan : BlockPlan) → Later a b → Later b c → IsSteady a x b y
-    → (plan ≡ y.plan) ⊎ ((y.plan.rebuilds < plan.rebuilds) × SomeNodeRose b.counts c)
-    → (plan ≡ x.plan) ⊎ ((x.plan.rebuilds < plan.rebuilds) × SomeNodeRose a.counts c)
+    → (plan ≡ y.plan) ⊎ RebuiltOnFailures b y.plan c plan → (plan ≡ x.plan) ⊎ RebuiltOnFailures a x.plan c plan
 steady_end a b c x y plan first then one two = ⊎_elim
     (λ same. ⊎_elim
     (λ still. inl (still ∙ same.0))
-    (λ again. inr (omega (arith, again.0, ap (λ (p : BlockPlan). p.rebuilds) same.0), some_rose_since a b c first again.1))
+    (λ again. inr (same_rebuilt a b c x.plan y.plan plan first same.0 again))
     two)
     (λ rebuilt. ⊎_elim
-    (λ still. inr (omega (arith, rebuilt.0, ap (λ (p : BlockPlan). p.rebuilds) still), some_rose_until a b c then rebuilt.1))
-    (λ again. inr (omega (arith, rebuilt.0, again.0), some_rose_until a b c then rebuilt.1))
+    (λ still. inr (rebuilt_same a b c x.plan y.plan plan then rebuilt still))
+    (λ again. inr (rebuilt_trans a b c x.plan y.plan plan rebuilt again))
     two)
     one
 
+-- a pipeline was rebuilt so often, and then so often, once for each time that datanodes have failed
+abbrev pub RebuiltSince : ℕ → Shown → ℕ → Shown → Type 0
+RebuiltSince rebuilt old rebuilt' new = (times : ℕ) × (rebuilt' ≡ rebuilt + times) × NodesFailTimes times old new
+
+pub since_steady : (a b : Shown) (x y : BlockPipeline) → Later a b → IsSteady a x b y → RebuiltSince x.plan.rebuilds a y.plan.rebuilds b
+since_steady a b x y later steady = ⊎_elim
+    (λ same. (0, omega (arith, ap (λ (p : BlockPlan). p.rebuilds) same.0), later))
+    (λ again. (again.0, again.2, again.3))
+    steady
+
 -- The block went on from a to b, and was given up then.
-module _ (settings : RebuildSettings) (W V : Picture → Type 0) (id link link' : ℕ) (a b c : Shown)
-    (own : OnlyOwnLink a (Some link) b (Some link'))
+module _ (settings : RebuildSettings) (rebuilt rebuilt' : ℕ) (W V : Picture → Type 0) (id link link' : ℕ) (a b c : Shown)
+    (often : RebuiltSince rebuilt a rebuilt' b) (own : OnlyOwnLink a (Some link) b (Some link'))
     (on : (p : Picture) → a.picture ≡ Some p → W p → (q : Picture) × (b.picture ≡ Some q) × V q × ChangesBlock id a p b q) where
   rose_here : (x : Shown → ℕ) → x a ≤ x b → Rose (x b) (x c) → Rose (x a) (x c)
   rose_here x before rose = rose_since (x a) (x b) (x c) (x c) before rose (omega arith)
@@ -113,7 +127,8 @@ module _ (settings : RebuildSettings) (W V : Picture → Type 0) (id link link' 
         (y.4.0, node, y.4.2, y.4.3, rose_here (λ s. s.counts.nodes node) (own.later.counts.nodes node) y.4.4),
       )
 
-  cause_since : Later b c → (fault : WriteFault) → HasCause settings V id b fault c → HasCause settings W id a fault c
+  cause_since : Later b c → (fault : WriteFault) → HasCause settings rebuilt' V id b fault c
+      → HasCause settings rebuilt W id a fault c
   cause_since later faults.NoMemory cause = tt
   cause_since later faults.Failed cause = cause
   cause_since later faults.Link cause =
@@ -128,11 +143,16 @@ module _ (settings : RebuildSettings) (W V : Picture → Type 0) (id link link' 
     ⊎_elim (λ links. inl (rose_here (λ s. s.counts.links) own.later.counts.links links)) (λ namenode. inr (namenode_since later namenode)) cause.2,
     listed_since cause.3,
   )
-  cause_since later (faults.RebuildLimit rebuilds) cause = (cause.0, some_rose_since a b c own.later cause.1, listed_since cause.2)
+  cause_since later (faults.RebuildLimit rebuilds) cause = (
+    cause.0,
+    fails_enough (suc (settings.rebuild_limit - rebuilt)) often.0 (suc (settings.rebuild_limit - rebuilt')) a b c often.2 cause.1
+        (omega (arith, often.1)),
+    listed_since cause.2,
+  )
   cause_since later (faults.Namenode error) cause =
       (cause.0, cause.1, some_rose_since a b c own.later cause.2, namenode_since later cause.3)
 
-  pub gives_up_since : (fault : WriteFault) → GivesUp settings V id link' b fault c → GivesUp settings W id link a fault c
+  pub gives_up_since : (fault : WriteFault) → GivesUp settings rebuilt' V id link' b fault c → GivesUp settings rebuilt W id link a fault c
   gives_up_since fault g = record {
     own = own_link_trans a b c (Some link) (Some link') None own g.own;
     cause = cause_since g.own.later fault g.cause;
@@ -143,7 +163,8 @@ module _ (settings : RebuildSettings) (W V : Picture → Type 0) (id link link' 
   }
 
 -- what holds of a block that is so, holds of one that is so in another way
-pub gives_up_by : (settings : RebuildSettings) (W V : Picture → Type 0) (id link : ℕ) (a c : Shown) (fault : WriteFault)
-    → ((p : Picture) → W p → V p) → GivesUp settings V id link a fault c → GivesUp settings W id link a fault c
-gives_up_by settings W V id link a c fault by g =
-    gives_up_since settings W V id link link a a c (own_link_refl a (Some link)) (λ p told w. (p, told, by p w, changes_refl id a p)) fault g
+pub gives_up_by : (settings : RebuildSettings) (rebuilt : ℕ) (W V : Picture → Type 0) (id link : ℕ) (a c : Shown) (fault : WriteFault)
+    → ((p : Picture) → W p → V p) → GivesUp settings rebuilt V id link a fault c → GivesUp settings rebuilt W id link a fault c
+gives_up_by settings rebuilt W V id link a c fault by g =
+    gives_up_since settings rebuilt rebuilt W V id link link a a c (0, omega arith, later_refl a) (own_link_refl a (Some link))
+    (λ p told w. (p, told, by p w, changes_refl id a p)) fault g

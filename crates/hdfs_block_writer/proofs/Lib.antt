@@ -1,6 +1,7 @@
 pub mod Closed
 pub mod Driven
 pub mod EndedRebuilt
+pub mod Failures
 pub mod Filled
 pub mod Finished
 pub mod GivenUp

@@ -1,11 +1,12 @@
 -- Attempts to rebuild a pipeline have failed, one behind another.
-use Rattle.std.proofs.Common.{◌≡◌, inl, ℕ, zero, suc, ◌≤◌, List, [], length, Some, refl, sym, ◌∙◌, subst, arith}
+use Rattle.std.proofs.Common.{◌≡◌, inl, ℕ, zero, suc, ◌+◌, List, [], length, Some, refl, sym, ◌∙◌, subst, arith}
 use Rattle.std.specs.List.{slice_index_or}
+use Rattle.hdfs_model.specs.Causes.{SomeNodeRose}
 use Rattle.hdfs_model.specs.Namenode.{IsToWrite}
 use Rattle.hdfs_model.specs.Picture.{Picture}
 use Rattle.hdfs_model.specs.Sending.{uuids}
 use Rattle.hdfs_model.specs.Shown.{Shown, Later}
-use Rattle.hdfs_model.proofs.Frames.{later_trans, rose_since}
+use Rattle.hdfs_model.proofs.Frames.{later_refl, later_trans, rose_since}
 use Rattle.hdfs_pipeline.specs.Places.{ArePlaces}
 use Rattle.hdfs_blocks.specs.Carrying.{AreSlices}
 use Rattle.hdfs_recovery.specs.declared.block_plan.BlockPlan.{BlockPlan}
@@ -13,6 +14,7 @@ use Rattle.hdfs_recovery.specs.Attempts.{Missed, MissedTimes, Standing, Task}
 use Rattle.hdfs_recovery.specs.Between.{KeepsLinks, OnlyBlockOf, SameActive}
 use Rattle.hdfs_recovery.specs.Plans.{KeepsPlan, Waits}
 use Rattle.hdfs_recovery.specs.Trying.{HaveFailed}
+use Rattle.hdfs_block_writer.specs.OpenPipelines.{NodesFailTimes}
 use Rattle.hdfs_block_writer.proofs.LettingGo.{known_of}
 use Rattle.hdfs_recovery.proofs.Stepping.{keeps_links_refl, keeps_links_trans, only_block_of_refl, only_block_of_trans, same_active_trans}
 
@@ -30,14 +32,22 @@ keeps_plan_trans x y z f g = record {
   chunk = g.chunk ∙ f.chunk;
 }
 
--- What came of some attempts, since this was shown: the links stay, each failed datanode of the last pipeline has failed, and over a
--- told picture the block waits with the datanodes of this pipeline, which are listed.
+-- some datanode of a pipeline has, where there is a failed place
+some_failed : (a b : Shown) (plan : BlockPlan) (places : List ℕ) → ArePlaces (length plan.block.locs) places → HaveFailed plan places a b
+    → SomeNodeRose a.counts b
+some_failed a b plan places are have = (slice_index_or (uuids plan.block.locs) (slice_index_or places 0 0) [], have 0 0 are.some)
+
+-- What came of some attempts, since this was shown: the links stay, datanodes have failed once before and once with each attempt, each
+-- failed datanode of the last pipeline has failed, and over a told picture the block waits with the datanodes of this pipeline, which are
+-- listed.
 pub record MissedSince (a : Shown) (task : Task) (before last : Standing) : Type 0 where
   pub later : Later a last.shown
   pub links : KeepsLinks before.shown last.shown
   pub keeps : KeepsPlan before.plan last.plan
   pub block : IsToWrite last.plan.block
-  pub rebuilds : before.plan.rebuilds ≤ last.plan.rebuilds
+  pub times : ℕ
+  pub rebuilds : last.plan.rebuilds ≡ before.plan.rebuilds + times
+  pub fails : NodesFailTimes (suc times) a last.shown
   pub places : ArePlaces (length last.plan.block.locs) last.failed
   pub failed : HaveFailed last.plan last.failed a last.shown
   pub told : (p : Picture) (safe : ℕ) (bytes : List ℕ) → before.shown.picture ≡ Some p
@@ -54,7 +64,9 @@ none_missed a task before later block places failed = record {
   links = keeps_links_refl before.shown;
   keeps = keeps_plan_refl before.plan;
   block = block;
+  times = 0;
   rebuilds = omega arith;
+  fails = (a, later_refl a, later, some_failed a before.shown before.plan before.failed places failed);
   places = places;
   failed = failed;
   told = λ p safe bytes is waits slices. (p, is, waits, only_block_of_refl before.plan.block.b.block_id p, inl refl);
@@ -72,7 +84,9 @@ one_missed a task before between after f g =
           (record { later = g.begins.later; reads = g.begins.reads; writes = g.writes });
       keeps = keeps_plan_trans before.plan between.plan after.plan f.keeps g.begins.next.keeps;
       block = g.begins.next.block;
+      times = suc f.times;
       rebuilds = omega (arith, f.rebuilds, g.begins.next.once);
+      fails = (between.shown, f.fails, g.begins.later, some_failed between.shown after.shown after.plan after.failed g.places g.failed);
       places = g.places;
       failed = λ k d lt.
           let node = slice_index_or (uuids after.plan.block.locs) (slice_index_or after.failed k d) [] in

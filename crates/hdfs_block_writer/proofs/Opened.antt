@@ -1,12 +1,9 @@
 -- A writer is opened, and is let go.
-use Rattle.std.proofs.Common.{◌≡◌, inl, inr, ℕ, pos, ◌<◌, ◌≤◌, ◌^◌, List, [], length, drop, Option, Some, None, refl, sym, ◌∙◌, ap, subst, arith}
+use Rattle.std.proofs.Common.{◌≡◌, ℕ, ◌<◌, ◌≤◌, ◌^◌, List, [], length, drop, Option, Some, None, refl, sym, ◌∙◌, ap, subst, arith}
 use Rattle.std.proofs.lemmas.List.{append-nil, drop_all, length-map}
-use Rattle.hdfs_wire.specs.Outgoing.{Outgoing, ArePacketSizes}
-use Rattle.hdfs_model.specs.declared.asks.LinkFault.{LinkFault}
+use Rattle.hdfs_wire.specs.Outgoing.{ArePacketSizes}
 use Rattle.hdfs_model.specs.declared.picture.OpenWrite.{OpenWrite}
-use Rattle.hdfs_model.specs.Effects.{IsBeingWritten}
 use Rattle.hdfs_model.specs.Namenode.{IsToWrite}
-use Rattle.hdfs_model.specs.Picture.{Picture}
 use Rattle.hdfs_model.specs.Pipes.{WriteEnded, WriteOpened}
 use Rattle.hdfs_model.specs.Sending.{uuids}
 use Rattle.hdfs_model.specs.Shown.{Shown}
@@ -14,9 +11,7 @@ use Rattle.hdfs_model.specs.Writing.{Releases, Starts}
 use Rattle.hdfs_model.proofs.Frames.{told_after}
 use Rattle.hdfs_pipeline.specs.Cores.{IsCore}
 use Rattle.hdfs_pipeline.specs.Pipelines.{Pipeline, empty_pipeline}
-use Rattle.hdfs_blocks.specs.Carrying.{HoldsWhole}
-use Rattle.hdfs_blocks.specs.Writers.{filling_of}
-use Rattle.hdfs_blocks.specs.Writes.{setup_of}
+use Rattle.hdfs_block_writer.specs.Packing.{filling_of, setup_of}
 use Rattle.hdfs_blocks.proofs.Beginning.{carries_begins}
 use Rattle.hdfs_blocks.proofs.OnlyBlocks.{only_block_from-Releases, only_block_same}
 use Rattle.hdfs_blocks.proofs.Rebuilding.{holds_of}
@@ -24,9 +19,9 @@ use Rattle.hdfs_recovery.specs.declared.block_plan.BlockPipeline.{BlockPipeline}
 use Rattle.hdfs_recovery.specs.declared.block_plan.BlockPlan.{BlockPlan}
 use Rattle.hdfs_recovery.specs.declared.block_plan.RebuildSettings.{RebuildSettings}
 use Rattle.hdfs_block_writer.specs.declared.block_writer.BlockWriter.{BlockWriter}
-use Rattle.hdfs_block_writer.specs.BlockWriters.{AreFull, Carries, GoesOver, Stands, link_in, link_of, safe_of, start_of}
+use Rattle.hdfs_block_writer.specs.BlockWriters.{AreFull, GoesOver, Stands, link_in, link_of, safe_of, start_of}
 use Rattle.hdfs_block_writer.specs.OpenPipelines.{Has, IsStanding, OnlyOwnLink, id_of, nodes_of}
-use Rattle.hdfs_block_writer.specs.Written.{BeginsWhole, IsNew, LetsGo, OpensLink}
+use Rattle.hdfs_block_writer.specs.Written.{BeginsWhole, LetsGo, OpensLink}
 use Rattle.hdfs_block_writer.proofs.OwnLinks.{own_link_refl}
 use Rattle.hdfs_recovery.proofs.Stepping.{written_still}
 use Rattle.hdfs_block_writer.proofs.Wrote.{gave_up_ended, pipe_is}

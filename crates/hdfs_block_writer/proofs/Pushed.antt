@@ -1,9 +1,8 @@
 -- A packet is pushed on a pipeline that goes on, and pipelines go on from each other.
-use Rattle.std.proofs.Common.{◌≡◌, inl, inr, ℕ, pos, ◌+◌, ◌<◌, ◌≤◌, List, [], ◌∷◌, ◌++◌, length, take, drop, Option, Some, None, IsSome, refl, sym, ◌∙◌, ap, subst, arith, append_assoc}
-use Rattle.std.proofs.lemmas.List.{append-nil, drop-drop, length-append, length-drop}
+use Rattle.std.proofs.Common.{◌≡◌, inl, inr, ℕ, pos, ◌+◌, List, [], ◌∷◌, ◌++◌, length, take, drop, Option, Some, None, refl, sym, ◌∙◌, ap, subst, arith, append_assoc}
+use Rattle.std.proofs.lemmas.List.{append-nil, drop-drop, length-drop}
 use Rattle.hdfs_wire.specs.Outgoing.{Outgoing}
-use Rattle.hdfs_model.specs.Picture.{Picture}
-use Rattle.hdfs_model.specs.Pipes.{BeginsAt, FollowsOn, WriteEnded}
+use Rattle.hdfs_model.specs.Pipes.{BeginsAt, WriteEnded}
 use Rattle.hdfs_model.specs.Sending.{offset_of, end_of as packet_end}
 use Rattle.hdfs_model.specs.Shown.{Shown}
 use Rattle.hdfs_model.specs.Writing.{Releases}
@@ -12,14 +11,13 @@ use Rattle.hdfs_pipeline.specs.Cores.{IsCore}
 use Rattle.hdfs_pipeline.specs.Driving.{Drove, EndsWith, IsGivenBack, StopsShort, taken_in}
 use Rattle.hdfs_pipeline.specs.Pipelines.{Pipeline}
 use Rattle.hdfs_blocks.specs.Carrying.{FollowFrom, total}
-use Rattle.hdfs_blocks.proofs.Prefixes.{total_join}
 use Rattle.hdfs_recovery.specs.declared.block_plan.BlockPipeline.{BlockPipeline}
 use Rattle.hdfs_recovery.specs.declared.block_plan.RebuildSettings.{RebuildSettings}
 use Rattle.hdfs_recovery.specs.declared.block_plan.WriteFault.TheVariants as faults
 use Rattle.hdfs_recovery.specs.Between.{OnlyBlockOf}
 use Rattle.hdfs_recovery.proofs.Resuming.{released_only}
 use Rattle.hdfs_recovery.proofs.Stepping.{only_block_of-only, only_block_of_trans}
-use Rattle.hdfs_block_writer.specs.OpenPipelines.{ChangesBlock, Continues, Has, IsOver, IsStanding, id_of}
+use Rattle.hdfs_block_writer.specs.OpenPipelines.{ChangesBlock, Continues, Has, id_of}
 use Rattle.hdfs_block_writer.specs.Pushing.{CanPush, GoesOnBehind, Pushes, PushesNot, PushesOrNot, with_core}
 use Rattle.hdfs_block_writer.proofs.Driven.{has_drove, total_take}
 use Rattle.hdfs_block_writer.proofs.GoingOn.{changes_trans, keeps_block_refl, keeps_block_trans, steady_trans}

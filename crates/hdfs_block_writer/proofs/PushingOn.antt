@@ -1,10 +1,9 @@
 -- A packet is pushed again and again, and a pipeline is waited for again and again, as often as it is rebuilt.
-use Rattle.std.proofs.Common.{◌≡◌, ◌⊎◌, inl, inr, ⊎_elim, ℕ, ◌+◌, ◌-◌, ◌*◌, ◌^◌, ◌<◌, ◌≤◌, List, [], ◌∷◌, ◌++◌, length, take, drop, Option, Some, None, refl, sym, ◌∙◌, ap, subst, arith}
+use Rattle.std.proofs.Common.{◌≡◌, inl, ⊎_elim, ℕ, ◌+◌, ◌-◌, ◌*◌, ◌<◌, ◌≤◌, List, [], ◌∷◌, length, take, drop, Option, Some, None, refl, sym, ◌∙◌, ap, subst, arith}
 use Rattle.std.specs.List.{All}
 use Rattle.std.proofs.lemmas.List.{append-nil, drop-append-le, length-append, length-drop}
 use Rattle.std.proofs.lemmas.List.Elements.{All-drop}
 use Rattle.hdfs_wire.specs.Outgoing.{Outgoing}
-use Rattle.hdfs_model.specs.Picture.{Picture}
 use Rattle.hdfs_model.specs.Shown.{Shown}
 use Rattle.hdfs_pipeline.specs.Driving.{EndsInLast, IsNotLast}
 use Rattle.hdfs_blocks.specs.Carrying.{HoldsWhole, total}
@@ -13,11 +12,10 @@ use Rattle.hdfs_recovery.specs.declared.block_plan.BlockPipeline.{BlockPipeline}
 use Rattle.hdfs_recovery.specs.declared.block_plan.BlockPlan.{BlockPlan}
 use Rattle.hdfs_recovery.specs.declared.block_plan.RebuildSettings.{RebuildSettings}
 use Rattle.hdfs_recovery.specs.declared.block_plan.WriteFault.{WriteFault}
-use Rattle.hdfs_block_writer.specs.declared.pushing.PushedOnce.{PushedOnce}
 use Rattle.hdfs_model.specs.Sending.{uuids}
 use Rattle.hdfs_block_writer.specs.OpenPipelines.{ChangesBlock, Continues, Finishes, GivesUp, Has, IsOver, IsStanding, IsSteady, id_of}
-use Rattle.hdfs_block_writer.specs.Pushing.{CanPush, FinishesNot, IsEnding, IsRebuilt, Pushes, PushesNot, PushesOnce, PushesOrNot}
-use Rattle.hdfs_block_writer.proofs.GoingOn.{changes_refl, changes_trans, gives_up_since, keeps_block_refl, keeps_block_trans, steady_end}
+use Rattle.hdfs_block_writer.specs.Pushing.{CanPush, FinishesNot, IsEnding, IsRebuilt, Pushes, PushesNot, PushesOrNot}
+use Rattle.hdfs_block_writer.proofs.GoingOn.{changes_refl, changes_trans, gives_up_since, keeps_block_refl, keeps_block_trans, since_steady, steady_end}
 use Rattle.hdfs_block_writer.proofs.OwnLinks.{own_link_refl, own_link_trans}
 use Rattle.hdfs_block_writer.proofs.Pushed.{continues_trans}
 
@@ -36,20 +34,21 @@ continues_refl settings a pipe more standing = record {
 
 -- what went on was given up then
 pub gives_up_behind : (settings : RebuildSettings) (a b c : Shown) (x y : BlockPipeline) (n : ℕ) (more : List Outgoing) (fault : WriteFault)
-    → Continues settings a x n [] more b y → GivesUp settings (IsOver y more) (id_of y) y.link b fault c
-    → GivesUp settings (IsOver x more) (id_of x) x.link a fault c
+    → Continues settings a x n [] more b y → GivesUp settings y.plan.rebuilds (IsOver y more) (id_of y) y.link b fault c
+    → GivesUp settings x.plan.rebuilds (IsOver x more) (id_of x) x.link a fault c
 gives_up_behind settings a b c x y n more fault f g =
-    gives_up_since settings (IsOver x more) (IsOver y more) (id_of x) x.link y.link a b c f.own
+    gives_up_since settings x.plan.rebuilds y.plan.rebuilds (IsOver x more) (IsOver y more) (id_of x) x.link y.link a b c
+    (since_steady a b x y f.own.later f.steady) f.own
     (λ p told w.
     let m = f.told p w.0 w.1 told w.2 in
     (m.0, m.1, (w.0 + total (take n x.core.pushed), w.1, m.2), m.3))
-    fault (subst (λ (i : ℕ). GivesUp settings (IsOver y more) i y.link b fault c) f.keeps.id g)
+    fault (subst (λ (i : ℕ). GivesUp settings y.plan.rebuilds (IsOver y more) i y.link b fault c) f.keeps.id g)
 
 -- it was rebuilt as often or more often
 pub rebuilds_grow : (a b : Shown) (x y : BlockPipeline) → IsSteady a x b y → x.plan.rebuilds ≤ y.plan.rebuilds
 rebuilds_grow a b x y steady = ⊎_elim
     (λ same. omega (arith, ap (λ (p : BlockPlan). p.rebuilds) same.0))
-    (λ again. omega (arith, again.0))
+    (λ again. omega (arith, again.2))
     steady
 
 -- The packet isn't pushed yet: the pipeline goes on since the first try, and it can be pushed.

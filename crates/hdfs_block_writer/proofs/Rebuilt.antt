@@ -1,5 +1,5 @@
 -- A pipeline of which datanodes have failed is rebuilt, and its block goes on.
-use Rattle.std.proofs.Common.{◌≡◌, inl, inr, ℕ, ◌+◌, ◌^◌, ◌<◌, List, [], ◌∷◌, ◌++◌, length, take, drop, Some, None, refl, sym, ◌∙◌, ap, subst, arith}
+use Rattle.std.proofs.Common.{◌≡◌, inl, inr, ℕ, suc, ◌+◌, ◌^◌, ◌<◌, List, [], ◌∷◌, ◌++◌, length, take, drop, Some, None, refl, sym, ◌∙◌, ap, subst, arith}
 use Rattle.std.proofs.lemmas.List.{append-nil, length-map}
 use Rattle.std.specs.List.{slice_index_or}
 use Rattle.hdfs_wire.specs.Outgoing.{Outgoing}
@@ -30,6 +30,7 @@ use Rattle.hdfs_recovery.specs.Plans.{KeepsPlan, Waits}
 use Rattle.hdfs_block_writer.specs.Pushing.{IsRebuilt}
 use Rattle.hdfs_recovery.specs.Trying.{HaveFailed}
 use Rattle.hdfs_recovery.proofs.Ending.{LinkOnly}
+use Rattle.hdfs_block_writer.proofs.Failures.{fails_until}
 use Rattle.hdfs_block_writer.proofs.LettingGo.{gone_active, gone_only, gone_picture, gone_slices, gone_told, gone_waits, known_of, long_plan, now_safe, own_fresh, until_gone}
 use Rattle.hdfs_block_writer.proofs.Missing.{MissedSince, keeps_plan_trans, none_missed, times_missed}
 use Rattle.hdfs_recovery.proofs.Resuming.{some_is}
@@ -141,9 +142,6 @@ module _ (settings : RebuildSettings) (client : List ℕ) (a : Shown) (pipe : Bl
     pushed_now : pipe'.core.pushed ≡ drop fell.drove.acknowledged pipe.core.pushed ++ came
     pushed_now = ok.pushed ∙ fell.drove.goes.pushed
 
-    later_then : Later m new
-    later_then = later_trans m then.shown new chain.links.later ok.begins.later
-
     own : OnlyOwnLink a (Some pipe.link) new (Some pipe'.link)
     own =
         own_fresh pipe.link a m then.shown until fell.gone.ended chain.links pipe'.link new
@@ -236,7 +234,13 @@ module _ (settings : RebuildSettings) (client : List ℕ) (a : Shown) (pipe : Bl
       continues = λ more s. record {
         own = own;
         keeps = keeps_block_long pipe.plan bytes pipe'.plan keeps;
-        steady = inr (again, some_rose new later_then);
+        steady =
+            inr (
+              suc chain.times,
+              omega arith,
+              omega (arith, chain.rebuilds, ok.begins.next.once),
+              fails_until (suc chain.times) a then.shown new chain.fails ok.begins.later,
+            );
         few = fell.drove.goes.few;
         pushed = pushed_now;
         standing = stands more s;

@@ -1,16 +1,15 @@
 -- A writer whose packet was pushed.
-use Rattle.std.proofs.Common.{◌≡◌, ◌≢◌, ℕ, zero, suc, pos, ◌+◌, ◌-◌, ◌<◌, ◌≤◌, List, [], ◌∷◌, ◌++◌, length, take, drop, Option, Some, None, IsSome, refl, sym, ◌∙◌, ap, subst, arith, append_assoc, take-append-drop}
+use Rattle.std.proofs.Common.{◌≡◌, ◌≢◌, ℕ, zero, suc, pos, ◌+◌, ◌<◌, ◌≤◌, List, [], ◌∷◌, ◌++◌, length, take, drop, Option, Some, None, IsSome, refl, sym, ◌∙◌, ap, subst, arith, append_assoc, take-append-drop}
 use Rattle.std.specs.Prelude.{All}
 use Rattle.std.proofs.lemmas.List.{append-nil, length-append, length-drop}
 use Rattle.std.proofs.lemmas.List.Elements.{All-append, All-from_recursion, All-drop}
 use Rattle.hdfs_wire.specs.Outgoing.{Outgoing, ArePacketSizes}
 use Rattle.hdfs_model.specs.Picture.{Picture}
-use Rattle.hdfs_model.specs.Pipes.{FollowsOn}
 use Rattle.hdfs_model.specs.Shown.{Shown}
 use Rattle.hdfs_pipeline.specs.Driving.{IsNotLast}
 use Rattle.hdfs_blocks.specs.Carrying.{AreSlices, FollowFrom, joined, total}
-use Rattle.hdfs_blocks.specs.Writers.{AreNext, IsNext, filling_of}
-use Rattle.hdfs_blocks.proofs.Prefixes.{joined_behind, joined_join, length-joined, slices_from-joined, slices_join, total_cut, total_join}
+use Rattle.hdfs_block_writer.specs.Packing.{AreNext, IsNext, filling_of}
+use Rattle.hdfs_blocks.proofs.Prefixes.{joined_behind, joined_join, slices_from-joined, slices_join, total_cut, total_join}
 use Rattle.hdfs_recovery.specs.declared.block_plan.BlockPipeline.{BlockPipeline}
 use Rattle.hdfs_recovery.specs.declared.block_plan.RebuildSettings.{RebuildSettings}
 use Rattle.hdfs_recovery.specs.declared.block_plan.WriteFault.{WriteFault}
@@ -130,8 +129,8 @@ module _ (w : BlockWriter) (pipe : BlockPipeline) (packet : Outgoing) (is : w.pi
   -- Where the packet isn't pushed, the writer's block is given up.
   pub not_pushed : (a b : Shown) (fault : WriteFault) → PushesNot w.settings a pipe packet fault b → GaveUp a w fault b
   not_pushed a b fault not other there =
-      subst (λ (y : BlockPipeline). GivesUp w.settings (IsCarrying w) (id_of y) y.link a fault b) (pipe_is pipe other (sym is ∙ there))
-      (gives_up_by w.settings (IsCarrying w) (IsOver pipe (packet ∷ [])) (id_of pipe) pipe.link a b fault
+      subst (λ (y : BlockPipeline). GivesUp w.settings y.plan.rebuilds (IsCarrying w) (id_of y) y.link a fault b) (pipe_is pipe other (sym is ∙ there))
+      (gives_up_by w.settings pipe.plan.rebuilds (IsCarrying w) (IsOver pipe (packet ∷ [])) (id_of pipe) pipe.link a b fault
       (λ p c. (safe_of w pipe, c.0, over_then p c.0 c.1)) not)
 
 module _ (w w' : BlockWriter) (pipe pipe' : BlockPipeline) (packet : Outgoing) (a b : Shown) (kept : IsKept w) (over : GoesOver a pipe w)

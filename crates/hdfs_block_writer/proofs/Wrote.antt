@@ -1,5 +1,5 @@
 -- Calls of a writer of a block, one after another.
-use Rattle.std.proofs.Common.{◌≡◌, ℕ, ◌+◌, ◌-◌, ◌≤◌, List, [], ◌++◌, length, take, drop, Option, Some, None, IsSome, inl, refl, sym, ◌∙◌, ap, subst, arith, append_assoc, take-append-drop}
+use Rattle.std.proofs.Common.{◌≡◌, ℕ, ◌-◌, ◌≤◌, List, [], ◌++◌, length, take, drop, Option, Some, None, IsSome, inl, refl, sym, ◌∙◌, ap, subst, arith, append_assoc, take-append-drop}
 use Rattle.std.proofs.lemmas.List.{append-nil, drop-append-le, length-append}
 use Rattle.std.specs.List.{slice_index_or}
 use Rattle.hdfs_model.specs.Picture.{Picture}
@@ -8,19 +8,18 @@ use Rattle.hdfs_model.specs.Shown.{Shown}
 use Rattle.hdfs_model.specs.Writing.{Releases}
 use Rattle.hdfs_model.proofs.Frames.{told_after}
 use Rattle.hdfs_blocks.specs.Carrying.{joined, total}
-use Rattle.hdfs_blocks.specs.Writers.{filling_of}
+use Rattle.hdfs_block_writer.specs.Packing.{filling_of}
 use Rattle.hdfs_blocks.proofs.Links.{holds_longer}
 use Rattle.hdfs_blocks.proofs.Prefixes.{prefix_longer, prefix_short, slices_longer}
 use Rattle.hdfs_recovery.specs.declared.block_plan.BlockPipeline.{BlockPipeline}
-use Rattle.hdfs_recovery.specs.declared.block_plan.BlockPlan.{BlockPlan}
 use Rattle.hdfs_recovery.specs.declared.block_plan.RebuildSettings.{RebuildSettings}
 use Rattle.hdfs_recovery.specs.declared.block_plan.WriteFault.{WriteFault}
 use Rattle.hdfs_recovery.specs.declared.block_plan.WriteFault.TheVariants as faults
 use Rattle.hdfs_block_writer.specs.declared.block_writer.BlockWriter.{BlockWriter}
 use Rattle.hdfs_block_writer.specs.BlockWriters.{Carries, link_in, link_of, safe_of, start_of}
 use Rattle.hdfs_block_writer.specs.OpenPipelines.{ChangesBlock, GivesUp, Has, OnlyOwnLink, id_of, nodes_of}
-use Rattle.hdfs_block_writer.specs.Written.{Fails, Fills, GaveUp, IsCarrying, Keeps, PipelineStays, Wrote}
-use Rattle.hdfs_block_writer.proofs.GoingOn.{changes_refl, changes_trans, gives_up_since, keeps_block_refl, keeps_block_trans, steady_trans}
+use Rattle.hdfs_block_writer.specs.Written.{Fails, Fills, GaveUp, IsCarrying, Keeps, Wrote}
+use Rattle.hdfs_block_writer.proofs.GoingOn.{changes_refl, changes_trans, gives_up_since, keeps_block_refl, keeps_block_trans, since_steady, steady_trans}
 use Rattle.hdfs_block_writer.proofs.OwnLinks.{own_link_ended, own_link_refl, own_link_trans}
 use Rattle.hdfs_recovery.proofs.Resuming.{released_only}
 
@@ -95,10 +94,11 @@ module _ (a b : Shown) (w x : BlockWriter) (one : List ℕ) (f : Wrote a w one b
         let own : OnlyOwnLink a (Some pipe.link) b (Some s.0.link) =
         subst (λ (o : Option ℕ). OnlyOwnLink a o b (Some s.0.link)) (ap link_in is)
         (subst (λ (o : Option ℕ). OnlyOwnLink a (link_of w) b o) (ap link_in s.1) f.own) in
-        gives_up_since w.settings (IsCarrying w) (IsCarrying x) (id_of pipe) pipe.link s.0.link a b c own
+        gives_up_since w.settings pipe.plan.rebuilds s.0.plan.rebuilds (IsCarrying w) (IsCarrying x) (id_of pipe) pipe.link s.0.link a b c
+        (since_steady a b pipe s.0 f.own.later s.3) own
         (λ p told carried. carries_then p told pipe is carried) fault
-        (subst (λ (k : RebuildSettings). GivesUp k (IsCarrying x) (id_of pipe) s.0.link b fault c) f.keeps.settings
-        (subst (λ (i : ℕ). GivesUp x.settings (IsCarrying x) i s.0.link b fault c) s.2.id u))
+        (subst (λ (k : RebuildSettings). GivesUp k s.0.plan.rebuilds (IsCarrying x) (id_of pipe) s.0.link b fault c) f.keeps.settings
+        (subst (λ (i : ℕ). GivesUp x.settings s.0.plan.rebuilds (IsCarrying x) i s.0.link b fault c) s.2.id u))
 
     pub fails_after : (y : BlockWriter) (fault : WriteFault) → Fails b x fault c y → Fails a w fault c y
     fails_after y fault g = record { failed = g.failed; keeps = keeps_trans w x y f.keeps g.keeps; gave_up = gave_up_after fault g.gave_up }

@@ -6,7 +6,7 @@ use Rattle.hdfs_model.specs.Pipes.{FollowsOn}
 use Rattle.hdfs_model.specs.Shown.{Shown}
 use Rattle.hdfs_pipeline.specs.Driving.{IsNotLast}
 use Rattle.hdfs_blocks.specs.Carrying.{joined, total}
-use Rattle.hdfs_blocks.specs.Writers.{AreNext, IsNext, chunk_from, filling_of, size_from}
+use Rattle.hdfs_block_writer.specs.Packing.{AreNext, IsNext, chunk_from, filling_of, size_from}
 use Rattle.hdfs_recovery.specs.declared.block_plan.BlockPipeline.{BlockPipeline}
 use Rattle.hdfs_block_writer.specs.declared.block_writer.BlockWriter.{BlockWriter}
 use Rattle.hdfs_block_writer.specs.OpenPipelines.{Has, IsStanding}

@@ -1,7 +1,6 @@
 -- An open pipeline of a block, which goes on as it was, or is rebuilt where datanodes of it fail.
-use Rattle.std.specs.Prelude.{◌≡◌, ◌≢◌, ◌⊎◌, ℕ, pos, ◌+◌, ◌<◌, ◌≤◌, true, false, List, [], ◌++◌, length as len, take, drop, All, Any, Option, Some, None, IsSome}
+use Rattle.std.specs.Prelude.{◌≡◌, ◌≢◌, ◌⊎◌, ℕ, zero, suc, ◌+◌, ◌-◌, ◌<◌, ◌≤◌, false, List, [], ◌++◌, length as len, take, drop, All, Any, Option, Some, None, IsSome}
 use Rattle.hdfs_wire.specs.Outgoing.{Outgoing}
-use Rattle.hdfs_model.specs.declared.errors.HdfsError.{HdfsError}
 use Rattle.hdfs_model.specs.declared.errors.HdfsError.TheVariants as errors
 use Rattle.hdfs_model.specs.declared.picture.BlockEntry.{BlockEntry}
 use Rattle.hdfs_model.specs.declared.picture.OpenWrite.{OpenWrite}
@@ -83,11 +82,21 @@ pub record KeepsBlock (plan plan' : BlockPlan) : Type 0 where
 abbrev pub ChangesBlock : ℕ → Shown → Picture → Shown → Picture → Type 0
 ChangesBlock id old p new q = OnlyBlockOf id p q × SameActive old p new q
 
--- it wasn't rebuilt and stands over the same link, or it was rebuilt, and a datanode has failed before
+-- datanodes have failed so many times, one time behind another
+abbrev pub NodesFailTimes : ℕ → Shown → Shown → Type 0
+NodesFailTimes zero old new = Later old new
+NodesFailTimes (suc times) old new =
+    (between : Shown) × NodesFailTimes times old between × Later between new × SomeNodeRose between.counts new
+
+-- a block's pipeline was rebuilt, once for each time that datanodes have failed, one time behind another
+abbrev pub RebuiltOnFailures : Shown → BlockPlan → Shown → BlockPlan → Type 0
+RebuiltOnFailures old plan new plan' =
+    (times : ℕ) × (0 < times) × (plan'.rebuilds ≡ plan.rebuilds + times) × NodesFailTimes times old new
+
+-- it wasn't rebuilt and stands over the same link, or it was rebuilt, no more often than datanodes have failed
 abbrev pub IsSteady : Shown → BlockPipeline → Shown → BlockPipeline → Type 0
 IsSteady old pipe new pipe' =
-    ((pipe'.plan ≡ pipe.plan) × (pipe'.link ≡ pipe.link))
-    ⊎ ((pipe.plan.rebuilds < pipe'.plan.rebuilds) × SomeNodeRose old.counts new)
+    ((pipe'.plan ≡ pipe.plan) × (pipe'.link ≡ pipe.link)) ⊎ RebuiltOnFailures old pipe.plan new pipe'.plan
 
 -- A pipeline goes on, as it was or rebuilt: the first packets of it, so many, are acknowledged, and others came behind the rest. `more`
 -- are to come still. Over a told picture the same bytes are the block's, and the acknowledged ones are safe too.
@@ -119,27 +128,28 @@ ListedFails W id old new = (p : Picture) → old.picture ≡ Some p → W p
     → (q : Picture) × (entry : BlockEntry) × (new.picture ≡ Some q) × (q.table id ≡ Some entry)
     × Any (λ node. Rose (old.counts.nodes node) (new.counts.nodes node)) entry.nodes
 
--- Why a block is given up, which is so in a told picture. Want of memory alone is free.
-abbrev pub HasCause : RebuildSettings → (Picture → Type 0) → ℕ → Shown → WriteFault → Shown → Type 0
-HasCause settings W id old faults.NoMemory new = Unit {0}
-HasCause settings W id old faults.Failed new = ⊥
-HasCause settings W id old faults.Link new = SomeNodeRose old.counts new × Rose old.counts.links new.counts.links
-HasCause settings W id old faults.Setup new = SomeNodeRose old.counts new × Rose old.counts.links new.counts.links
-HasCause settings W id old (faults.BadAck seqno) new = Rose old.counts.links new.counts.links
-HasCause settings W id old faults.AllNodes new = SomeNodeRose old.counts new × AllListedFail W id old new
-HasCause settings W id old faults.NoReplacement new =
+-- Why a block is given up, which is so in a told picture, and whose pipeline was rebuilt so often before. Want of memory alone is free.
+-- Its pipeline has been rebuilt as often as it may be only where datanodes have failed once more than it could be rebuilt still.
+abbrev pub HasCause : RebuildSettings → ℕ → (Picture → Type 0) → ℕ → Shown → WriteFault → Shown → Type 0
+HasCause settings rebuilt W id old faults.NoMemory new = Unit {0}
+HasCause settings rebuilt W id old faults.Failed new = ⊥
+HasCause settings rebuilt W id old faults.Link new = SomeNodeRose old.counts new × Rose old.counts.links new.counts.links
+HasCause settings rebuilt W id old faults.Setup new = SomeNodeRose old.counts new × Rose old.counts.links new.counts.links
+HasCause settings rebuilt W id old (faults.BadAck seqno) new = Rose old.counts.links new.counts.links
+HasCause settings rebuilt W id old faults.AllNodes new = SomeNodeRose old.counts new × AllListedFail W id old new
+HasCause settings rebuilt W id old faults.NoReplacement new =
     ((policy_of settings.replace).1 ≡ false) × SomeNodeRose old.counts new
     × (Rose old.counts.links new.counts.links ⊎ NamenodeFails W old new) × ListedFails W id old new
-HasCause settings W id old (faults.RebuildLimit rebuilds) new =
-    (rebuilds ≡ settings.rebuild_limit) × SomeNodeRose old.counts new × ListedFails W id old new
-HasCause settings W id old (faults.Namenode error) new =
+HasCause settings rebuilt W id old (faults.RebuildLimit rebuilds) new =
+    (rebuilds ≡ settings.rebuild_limit) × NodesFailTimes (suc (settings.rebuild_limit - rebuilt)) old new × ListedFails W id old new
+HasCause settings rebuilt W id old (faults.Namenode error) new =
     (error ≢ errors.NoMemory) × IsLastError error new × SomeNodeRose old.counts new × NamenodeFails W old new
 
 -- A block that is so in a told picture was given up for this cause: no link of its writer is left open, and nothing changed but the block.
-pub record GivesUp (settings : RebuildSettings) (W : Picture → Type 0) (id link : ℕ) (old : Shown) (fault : WriteFault) (new : Shown)
-    : Type 0 where
+pub record GivesUp (settings : RebuildSettings) (rebuilt : ℕ) (W : Picture → Type 0) (id link : ℕ) (old : Shown) (fault : WriteFault)
+    (new : Shown) : Type 0 where
   pub own : OnlyOwnLink old (Some link) new None
-  pub cause : HasCause settings W id old fault new
+  pub cause : HasCause settings rebuilt W id old fault new
   pub touches : (p : Picture) → old.picture ≡ Some p → W p → (q : Picture) × (new.picture ≡ Some q) × ChangesBlock id old p new q
 
 -- All packets of a pipeline are acknowledged, and its link is ended. Over a told picture each of its datanodes, which are listed, holds
@@ -148,7 +158,7 @@ pub record Finishes (settings : RebuildSettings) (old : Shown) (pipe : BlockPipe
   pub own : OnlyOwnLink old (Some pipe.link) new None
   pub keeps : KeepsBlock pipe.plan plan'
   pub within : plan'.rebuilds ≤ settings.rebuild_limit
-  pub steady : (plan' ≡ pipe.plan) ⊎ ((pipe.plan.rebuilds < plan'.rebuilds) × SomeNodeRose old.counts new)
+  pub steady : (plan' ≡ pipe.plan) ⊎ RebuiltOnFailures old pipe.plan new plan'
   pub told : (p : Picture) (safe : ℕ) (bytes : List ℕ) → old.picture ≡ Some p → Has p pipe [] safe bytes
       → safe + total pipe.core.pushed ≡ len bytes → (q : Picture) × (new.picture ≡ Some q)
       × HoldsWhole q (id_of pipe) (len bytes) (uuids plan'.block.locs) bytes × ChangesBlock (id_of pipe) old p new q

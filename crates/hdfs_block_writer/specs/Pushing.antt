@@ -45,7 +45,7 @@ pub record IsRebuilt (settings : RebuildSettings) (old : Shown) (pipe : BlockPip
 -- it was given up, for whichever packets were to come behind these
 abbrev pub FallsFor : RebuildSettings → Shown → BlockPipeline → List Outgoing → WriteFault → Shown → Type 0
 FallsFor settings old pipe came fault new =
-    (more : List Outgoing) → GivesUp settings (IsOver pipe (came ++ more)) (id_of pipe) pipe.link old fault new
+    (more : List Outgoing) → GivesUp settings pipe.plan.rebuilds (IsOver pipe (came ++ more)) (id_of pipe) pipe.link old fault new
 
 -- a pipeline that had ended was rebuilt, as is said from when it went on
 abbrev pub RebuildsEnded : RebuildSettings → Shown → BlockPipeline → Shown → BlockPipeline → Type 0
@@ -93,11 +93,12 @@ PushesOnce settings old pipe packet pushed new = PushesOrNot settings old pipe p
 
 -- the pipeline was given up, and the packet with it
 abbrev pub PushesNot : RebuildSettings → Shown → BlockPipeline → Outgoing → WriteFault → Shown → Type 0
-PushesNot settings old pipe packet fault new = GivesUp settings (IsOver pipe (packet ∷ [])) (id_of pipe) pipe.link old fault new
+PushesNot settings old pipe packet fault new =
+    GivesUp settings pipe.plan.rebuilds (IsOver pipe (packet ∷ [])) (id_of pipe) pipe.link old fault new
 
 -- it was given up, and no packet was to come
 abbrev pub FinishesNot : RebuildSettings → Shown → BlockPipeline → WriteFault → Shown → Type 0
-FinishesNot settings old pipe fault new = GivesUp settings (IsOver pipe []) (id_of pipe) pipe.link old fault new
+FinishesNot settings old pipe fault new = GivesUp settings pipe.plan.rebuilds (IsOver pipe []) (id_of pipe) pipe.link old fault new
 
 -- the pipeline goes on, and the last packet of the block was pushed last
 abbrev pub IsEnding : BlockPipeline → Type 0

@@ -1,11 +1,10 @@
 -- What the calls of a writer of one block do.
-use Rattle.std.specs.Prelude.{◌≡◌, ◌⊎◌, ℕ, pos, ◌+◌, ◌<◌, ◌≤◌, true, List, [], ◌++◌, length, Option, Some, None}
+use Rattle.std.specs.Prelude.{◌≡◌, ◌⊎◌, ℕ, pos, ◌+◌, ◌≤◌, true, List, [], ◌++◌, length, Some, None}
 use Rattle.hdfs_wire.specs.Outgoing.{Outgoing}
 use Rattle.hdfs_model.specs.declared.asks.LinkFault.{LinkFault}
 use Rattle.hdfs_model.specs.declared.asks.LinkFault.TheVariants as links
 use Rattle.hdfs_model.specs.declared.messages.Block.{Block}
 use Rattle.hdfs_model.specs.declared.messages.Setup.{Setup}
-use Rattle.hdfs_model.specs.Causes.{SomeNodeRose}
 use Rattle.hdfs_model.specs.Effects.{IsBeingWritten}
 use Rattle.hdfs_model.specs.Picture.{Picture}
 use Rattle.hdfs_model.specs.Pipes.{WriteEnded, WriteNotOpened, WriteOpened}
@@ -13,8 +12,7 @@ use Rattle.hdfs_model.specs.Sending.{uuids}
 use Rattle.hdfs_model.specs.Shown.{Shown}
 use Rattle.hdfs_model.specs.Writing.{OnlyBlock}
 use Rattle.hdfs_blocks.specs.Carrying.{HoldsWhole}
-use Rattle.hdfs_blocks.specs.Writers.{filling_of}
-use Rattle.hdfs_blocks.specs.Writes.{setup_of}
+use Rattle.hdfs_block_writer.specs.Packing.{filling_of}
 use Rattle.hdfs_recovery.specs.declared.block_plan.BlockPipeline.{BlockPipeline}
 use Rattle.hdfs_recovery.specs.declared.block_plan.BlockPlan.{BlockPlan}
 use Rattle.hdfs_recovery.specs.declared.block_plan.RebuildSettings.{RebuildSettings}
@@ -22,7 +20,7 @@ use Rattle.hdfs_recovery.specs.declared.block_plan.WriteFault.{WriteFault}
 use Rattle.hdfs_recovery.specs.declared.block_plan.WriteFault.TheVariants as faults
 use Rattle.hdfs_block_writer.specs.declared.block_writer.BlockWriter.{BlockWriter}
 use Rattle.hdfs_block_writer.specs.BlockWriters.{AreFull, Carries, HasFailed, length_of, link_of, size_of, start_of}
-use Rattle.hdfs_block_writer.specs.OpenPipelines.{ChangesBlock, GivesUp, IsSteady, KeepsBlock, OnlyOwnLink, id_of, nodes_of}
+use Rattle.hdfs_block_writer.specs.OpenPipelines.{ChangesBlock, GivesUp, IsSteady, KeepsBlock, OnlyOwnLink, RebuiltOnFailures, id_of, nodes_of}
 
 -- A new writer of this block, whose first packet has the seqno 0, with what it was asked to write with.
 pub record IsNew (wanted : BlockPlan) (settings : RebuildSettings) (size bytes_per_packet : ℕ) (writer : BlockWriter) : Type 0 where
@@ -72,7 +70,7 @@ abbrev pub CarriesMore : Shown → BlockWriter → List ℕ → Shown → BlockW
 CarriesMore old writer more new writer' = (p : Picture) (bytes : List ℕ) → old.picture ≡ Some p → (c : Carries p writer bytes)
     → (q : Picture) × (new.picture ≡ Some q) × Carries q writer' (bytes ++ more) × ChangesBlock (id_of c.pipe) old p new q
 
--- its pipeline is that of before, over the same link, or it was rebuilt after a datanode had failed
+-- its pipeline is that of before, over the same link, or it was rebuilt, no more often than datanodes have failed
 abbrev pub PipelineStays : Shown → BlockWriter → Shown → BlockWriter → Type 0
 PipelineStays old writer new writer' = (pipe : BlockPipeline) → writer.pipe ≡ Some pipe
     → (pipe' : BlockPipeline) × (writer'.pipe ≡ Some pipe') × KeepsBlock pipe.plan pipe'.plan × IsSteady old pipe new pipe'
@@ -92,7 +90,7 @@ IsCarrying writer p = (bytes : List ℕ) × Carries p writer bytes
 -- The writer's block was given up for this cause, and no link of it is left open.
 abbrev pub GaveUp : Shown → BlockWriter → WriteFault → Shown → Type 0
 GaveUp old writer fault new = (pipe : BlockPipeline) → writer.pipe ≡ Some pipe
-    → GivesUp writer.settings (IsCarrying writer) (id_of pipe) pipe.link old fault new
+    → GivesUp writer.settings pipe.plan.rebuilds (IsCarrying writer) (id_of pipe) pipe.link old fault new
 
 -- A call has failed, and so has the writer for good.
 pub record Fails (old : Shown) (writer : BlockWriter) (fault : WriteFault) (new : Shown) (writer' : BlockWriter) : Type 0 where
@@ -106,13 +104,13 @@ EndsWhole old writer plan new = (p : Picture) (bytes : List ℕ) → old.picture
     → (q : Picture) × (new.picture ≡ Some q) × HoldsWhole q (id_of c.pipe) (length_of writer) (uuids plan.block.locs) bytes
     × ChangesBlock (id_of c.pipe) old p new q
 
--- The writer's link is ended, and over a told picture the block is written. Its last pipeline is that of before, or it was rebuilt after
--- a datanode had failed, and not more often than it may be.
+-- The writer's link is ended, and over a told picture the block is written. Its last pipeline is that of before, or it was rebuilt, no
+-- more often than datanodes have failed, and than it may be.
 pub record Ends (old : Shown) (writer : BlockWriter) (plan : BlockPlan) (new : Shown) : Type 0 where
   pub own : OnlyOwnLink old (link_of writer) new None
   pub within : plan.rebuilds ≤ writer.settings.rebuild_limit
-  pub keeps : (pipe : BlockPipeline) → writer.pipe ≡ Some pipe → KeepsBlock pipe.plan plan
-      × ((plan ≡ pipe.plan) ⊎ ((pipe.plan.rebuilds < plan.rebuilds) × SomeNodeRose old.counts new))
+  pub keeps : (pipe : BlockPipeline) → writer.pipe ≡ Some pipe
+      → KeepsBlock pipe.plan plan × ((plan ≡ pipe.plan) ⊎ RebuiltOnFailures old pipe.plan new plan)
   pub whole : EndsWhole old writer plan new
 
 -- the block is closed, and this is its name, with the length and the generation stamp that it has

@@ -43,7 +43,7 @@ impl BlockWriter {
     ghost use Rattle.hdfs_model.specs.Namenode.{IsToWrite};
     ghost use Rattle.hdfs_model.specs.Pipes.{WriteEnded};
     ghost use Rattle.hdfs_namenode.specs.Clients.{name_of};
-    ghost use Rattle.hdfs_blocks.specs.Writes.{setup_of};
+    ghost use Rattle.hdfs_block_writer.specs.Packing.{setup_of};
     ghost use Rattle.hdfs_recovery.specs.declared.block_plan.BlockPipeline.{BlockPipeline};
     ghost use Rattle.hdfs_wire.specs.Outgoing.{ArePacketSizes};
     ghost use Rattle.hdfs_block_writer.specs.BlockWriters.{length_of, size_of, HasFailed, SendsFull, Holds, Stands};

@@ -6,7 +6,7 @@ use crate::block_writer::BlockWriter;
 use hdfs_wire::{NoMemory, WritePacket};
 
 impl BlockWriter {
-    ghost use Rattle.hdfs_blocks.specs.Writers.{filling_of, chunk_from, size_from, IsNext};
+    ghost use Rattle.hdfs_block_writer.specs.Packing.{filling_of, chunk_from, size_from, IsNext};
     ghost use Rattle.hdfs_block_writer.specs.BlockWriters.{start_of, packet_from, IsKept, HasRoom};
     ghost use Rattle.hdfs_block_writer.specs.Written.{Keeps, Fills, EndsBlock};
     ghost use Rattle.hdfs_wire.specs.Outgoing.{Outgoing, ArePacketSizes};

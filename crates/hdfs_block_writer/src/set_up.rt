@@ -4,7 +4,7 @@ ghost use Rattle.std.specs.Prelude.{◌≡◌, ◌≤◌, length, IfOk, IfErr};
 ghost use Rattle.hdfs_model.specs.Namenode.{IsToWrite};
 ghost use Rattle.hdfs_model.specs.Pipes.{WriteOpened};
 ghost use Rattle.hdfs_pipeline.specs.Pipelines.{empty_pipeline};
-ghost use Rattle.hdfs_blocks.specs.Writes.{setup_of};
+ghost use Rattle.hdfs_block_writer.specs.Packing.{setup_of};
 ghost use Rattle.hdfs_block_writer.specs.Written.{OpensNone};
 
 use hdfs_model::{Cluster, LinkFault, Setup, Stage, copy_nodes, copy_texts};

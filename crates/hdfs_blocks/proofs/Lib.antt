@@ -1,6 +1,5 @@
 pub mod Awaiting
 pub mod Beginning
-pub mod Carried
 pub mod Connected
 pub mod Further
 pub mod Going
@@ -16,12 +15,3 @@ pub mod Rebuilding
 pub mod Recovering
 pub mod Starting
 pub mod Taking
-mod GivingUp
-mod Finishing
-mod Flushing
-mod Filling
-mod Flushed
-pub mod Wrote
-mod Closing
-mod Opening
-pub mod Beside

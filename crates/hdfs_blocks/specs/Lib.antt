@@ -2,8 +2,5 @@ pub mod Blocks
 pub mod Carrying
 pub mod Connecting
 pub mod Going
-pub mod Piped
 pub mod Reader
 pub mod Rebuilding
-pub mod Writers
-pub mod Writes

@@ -1,17 +1,10 @@
-//! Readers and writers of blocks.
+//! Readers of blocks, and what a writer of a block has to do with its bytes.
 #![tactic(auto)]
 
 mod block_read;
-mod block_writer;
 mod connecting;
 mod given_up;
 mod packets;
-mod packing;
-mod pipe;
-mod pipe_failure;
-mod set_up;
 
 pub use block_read::BlockRead;
-pub use block_writer::BlockWriter;
 pub use given_up::GivenUp;
-pub use pipe::WriteFault;

@@ -1,5 +1,5 @@
 -- The goals of finish.
-use Rattle.std.proofs.Common.{◌≡◌, ◌<◌, ℕ, [], sym, subst}
+use Rattle.std.proofs.Common.{◌<◌, ℕ, [], sym, subst}
 use Rattle.std.proofs.lemmas.Result.{err_from_is_err_and}
 use Rattle.hdfs_block_writer.specs.declared.pushing.Settled.{Settled}
 use Rattle.hdfs_block_writer.specs.Pushing.{Settles}

@@ -1,9 +1,9 @@
 -- The goals of push.
-use Rattle.std.proofs.Common.{◌≡◌, ◌<◌, ℕ, Option, Some, None, refl, sym, ◌∙◌, ap, subst}
+use Rattle.std.proofs.Common.{◌<◌, Option, Some, refl, sym, ◌∙◌, ap, subst}
 use Rattle.std.proofs.lemmas.Result.{err_from_is_err_and}
 use Rattle.hdfs_wire.specs.Outgoing.{Outgoing}
 use Rattle.hdfs_block_writer.specs.Pushing.{CanPush, PushesNot, PushesOnce}
-use Rattle.hdfs_block_writer.proofs.PushingOn.{PushedSoFar, TriesAgain, first_try, fewer_turns, not_again, namenodes_still, still_more, tried_again, turns_left}
+use Rattle.hdfs_block_writer.proofs.PushingOn.{PushedSoFar, first_try, fewer_turns, not_again, namenodes_still, still_more, tried_again, turns_left}
 use Rattle.hdfs_block_writer.proofs.pushing.push.Goals as goal
 
 pub loop-packet-init : goal.loop-packet-init

@@ -1,7 +1,6 @@
 -- The goals of BlockWriter::flush.
-use Rattle.std.proofs.Common.{rules, ◌≡◌, ◌+◌, ◌-◌, ◌≤◌, Some, None, length, arith, ap, refl}
-use Rattle.hdfs_blocks.specs.Carrying.{total}
-use Rattle.hdfs_blocks.specs.Writers.{filling_of}
+use Rattle.std.proofs.Common.{rules, ◌≡◌, ◌+◌, Some, None, length, arith, ap, refl}
+use Rattle.hdfs_block_writer.specs.Packing.{filling_of}
 use Rattle.hdfs_block_writer.proofs.Sent.{can_push, holds_same, holds_sent, not_pushed, stays_full, wrote_sent}
 use Rattle.hdfs_block_writer.proofs.block_writer.BlockWriter.flush.Goals as goal
 

@@ -1,8 +1,5 @@
 -- The goals of BlockWriter::replicated.
-use Rattle.std.proofs.Common.{◌≡◌, Some, None, List, ℕ, refl, subst}
-use Rattle.hdfs_model.specs.Pipes.{WriteOpened}
-use Rattle.hdfs_namenode.specs.Clients.{name_of}
-use Rattle.hdfs_blocks.specs.Writes.{setup_of}
+use Rattle.std.proofs.Common.{Some, None, refl}
 use Rattle.hdfs_block_writer.specs.declared.block_writer.BlockWriter.{BlockWriter}
 use Rattle.hdfs_block_writer.proofs.Opened.{new_begins, new_stands}
 use Rattle.hdfs_block_writer.proofs.block_writer.BlockWriter.replicated.Goals as goal
