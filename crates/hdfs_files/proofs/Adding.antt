@@ -86,8 +86,8 @@ module _ (p q : Picture) (sound : IsSound p) (path : List ℕ) (file : FileEntry
   }
 
   -- what its writer carries, by the block that was answered
-  pub grown_carries : TailCarries q grown_file.blocks (Finished found.b.block_id 0) bytes
-  grown_carries = subst (λ (i : ℕ). TailCarries q grown_file.blocks (Finished i 0) bytes) (sym added.answered.same_id) ([], grown_front, (added.entry.nodes, new_whole))
+  pub grown_carries : TailCarries q path grown_file.blocks (Finished found.b.block_id 0) bytes
+  grown_carries = subst (λ (i : ℕ). TailCarries q path grown_file.blocks (Finished i 0) bytes) (sym added.answered.same_id) ([], grown_front, (added.entry.nodes, new_whole))
 
   -- the datanodes that are answered hold the new block, which is listed on them
   pub new_located : HoldsWhole q found.b.block_id 0 (uuids found.locs) []
@@ -110,17 +110,17 @@ module _ (p q : Picture) (sound : IsSound p) (path : List ℕ) (file : FileEntry
 
 -- a block behind the last one, and the end of a file
 module _ (p q : Picture) (sound : IsSound p) (path : List ℕ) (file : FileEntry) (is : IsFileAt p path file) (id n : ℕ) (bytes : List ℕ) (block : Block) (named : block.block_id ≡ id) (length_named : block.num_bytes ≡ n)
-    (tail : TailCarries p file.blocks (Finished id n) bytes) where
+    (tail : TailCarries p path file.blocks (Finished id n) bytes) where
   abbrev whole : HoldsWhole p id n tail.2.0 tail.0
   whole = tail.2.1
 
   apart_front : (other : ℕ) → Contains tail.1.front other → other ≢ id
   apart_front other there = not_twice p sound path file is tail.1.front id tail.1.ends other there
 
-  length_other : (other : ℕ) → other ≢ id → with_length p.table (Some block) other ≡ p.table other
+  pub length_other : (other : ℕ) → other ≢ id → with_length p.table (Some block) other ≡ p.table other
   length_other other apart = ⊎_elim (λ here. absurd (apart (sym here.0 ∙ named))) (λ away. away.1) (at_id block.block_id other (option_map (of_length block.num_bytes) (p.table other)) (p.table other))
 
-  length_own : with_length p.table (Some block) id ≡ Some (of_length n whole.entry)
+  pub length_own : with_length p.table (Some block) id ≡ Some (of_length n whole.entry)
   length_own = ⊎_elim
       (λ here. here.1 ∙ ap (option_map (of_length block.num_bytes)) whole.is ∙ ap (λ (k : ℕ). Some (of_length k whole.entry)) length_named)
       (λ away. absurd (away.0 named))

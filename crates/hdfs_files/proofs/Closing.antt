@@ -13,6 +13,7 @@ use Rattle.hdfs_model.specs.declared.errors.HdfsError.TheVariants as errors
 use Rattle.hdfs_model.specs.declared.messages.Block.{Block}
 use Rattle.hdfs_model.specs.declared.picture.LastAnswer.TheVariants as last_answers
 use Rattle.hdfs_model.specs.Causes.{CallsRose}
+use Rattle.hdfs_model.specs.Effects.{blocks_at}
 use Rattle.hdfs_model.specs.Picture.{Picture}
 use Rattle.hdfs_model.specs.Shown.{Shown, Served}
 use Rattle.hdfs_model.specs.Files.{File}
@@ -20,17 +21,19 @@ use Rattle.hdfs_model.specs.Namenode.{last_of}
 use Rattle.hdfs_model.specs.Sound.{IsSound}
 use Rattle.hdfs_model.specs.Stores.{AgreesAt}
 use Rattle.hdfs_model.proofs.Frames.{rose_since}
-use Rattle.hdfs_blocks.specs.declared.block_writer.BlockWriter.{BlockWriter}
+use Rattle.hdfs_block_writer.specs.declared.block_writer.BlockWriter.{BlockWriter}
 use Rattle.hdfs_namenode.specs.Asked.{AskedOnce, as_answer, error_of as asked_error}
 use Rattle.hdfs_files.specs.declared.file_writer.FileWriter.{FileWriter}
 use Rattle.hdfs_files.specs.OnlyFiles.{OnlyFile}
 use Rattle.hdfs_files.specs.Tails.{FileCarries}
-use Rattle.hdfs_files.specs.Writers.{tail_done, tail_by, tail_of, IsBetweenBlocks, link_of, link_by, OnlyOwnLink, Closed, FailsToClose}
+use Rattle.hdfs_files.specs.WholeBlocks.{ClosesWhole}
+use Rattle.hdfs_files.specs.Writers.{blocks_in, tail_done, tail_by, tail_of, IsBetweenBlocks, link_of, link_by, OnlyOwnLink, Closed, FailsToClose}
 use Rattle.hdfs_files.proofs.Completing.{IsAsked, says_closed, says_not, says_nothing, says_rose}
 use Rattle.hdfs_files.proofs.Growing.{closed_agrees}
 use Rattle.hdfs_files.proofs.Joining.{tells_since, tells_close}
 use Rattle.hdfs_files.proofs.Moving.{own_link_refl, own_link_trans, own_link_served, only_file_refl}
-use Rattle.hdfs_files.proofs.Steps.{Shows, as_done, tells_exception, exception_cause}
+use Rattle.hdfs_files.proofs.Steps.{Shows, as_done}
+use Rattle.hdfs_files.proofs.Telling.{tells_exception, exception_cause}
 
 -- So many answers were false, each of which says that the namenode has failed; and the file is closed, or not yet.
 pub record Asking (tries : ℕ) (a : Shown) (w : FileWriter) (b : Shown) : Type 0 where
@@ -99,12 +102,20 @@ module _ (a b : Shown) (w : FileWriter) (between : IsBetweenBlocks w) (sound : S
       where
         closes_by : (p : Picture) (bytes : List ℕ) → a.picture ≡ Some p → (g : Option BlockWriter) (o : Option LocatedBlock) → g ≡ None → o ≡ None → (carried : FileCarries p w.path (tail_by g o w.last) bytes)
             → (q : Picture) × (c.picture ≡ Some q) × OnlyFile w.path p q × AgreesAt q (q.names w.path) (Some (File (record { bytes = bytes; attributes = carried.file.attributes })))
+            × ClosesWhole w.sizes.block_size p (blocks_in p w) (tail_by g o w.last) q (blocks_in q w)
         closes_by p bytes told (Some block) o is done carried = absurd (cc is)
         closes_by p bytes told None (Some located) is done carried = absurd (cc done)
         closes_by p bytes told None None is done carried =
             let f = asking.told p bytes told carried in
-            let says = says_closed p w.path bytes w.last carried.file b c 0 client w.file_id f.0 f.1 (sound f.0 f.1) f.2 served in
-            (says.0, says.1, says.2.only, closed_agrees p says.0 w.path bytes w.last carried.file says.2)
+            let says = says_closed p w.path bytes w.last carried.file b c 0 client w.file_id f.0 f.1 (sound f.0 f.1) f.2 served in (
+              says.0,
+              says.1,
+              says.2.only,
+              closed_agrees p says.0 w.path bytes w.last carried.file says.2,
+              subst (λ (l : List ℕ). ClosesWhole w.sizes.block_size p l (tail_done w.last) says.0 (blocks_in says.0 w)) (sym (ap blocks_at carried.named))
+                  (subst (ClosesWhole w.sizes.block_size p carried.file.blocks (tail_done w.last) says.0) (sym (ap blocks_at says.2.named))
+                  (says.2.done w.sizes.block_size)),
+            )
 
     -- there was no answer
     pub asked_fault : (fault : AskFault) → 0 < b.namenodes → ((p : Picture) → b.picture ≡ Some p → p.active < b.namenodes) → Served b 0 (asks.Complete w.path client w.last w.file_id) (Err fault) c → FailsToClose a w (asked_error fault) c
@@ -116,7 +127,7 @@ module _ (a b : Shown) (w : FileWriter) (between : IsBetweenBlocks w) (sound : S
           (let c' = known p bytes told carried in
           let f = asking.told p bytes told c' in
           says_nothing p w.path bytes w.last c'.file b c 0 client w.file_id f.0 f.1 (sound f.0 f.1) fault f.2 served);
-      cause = λ p bytes told size carried. exception_cause w.path a c fault (λ class message same.
+      cause = λ p bytes told size carried. exception_cause w.sizes.rebuilding w.path a c fault (λ class message same.
           (let c' = known p bytes told carried in
           let f = asking.told p bytes told c' in
           let first : 0 ≡ f.0.active = omega (arith, active f.0 f.1, asking.size, size) in
@@ -131,7 +142,7 @@ asks_first a w = record {
   size = refl;
   own = own_link_refl a None;
   last = inl refl;
-  told = λ p bytes told c. (p, told, inl (record { only = only_file_refl w.path p; carried = c; same = refl }), inl refl);
+  told = λ p bytes told c. (p, told, inl (record { kept = λ id. (refl, λ node. refl); only = only_file_refl w.path p; carried = c; same = refl }), inl refl);
 }
 
 -- the ask by what its parts are

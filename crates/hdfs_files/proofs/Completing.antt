@@ -16,12 +16,14 @@ use Rattle.hdfs_model.specs.Sound.{IsSound}
 use Rattle.hdfs_blocks.specs.Carrying.{HoldsWhole}
 use Rattle.hdfs_files.specs.OnlyFiles.{KeepsBlocks, OnlyFile}
 use Rattle.hdfs_files.specs.Tails.{StoresFront, FileCarries}
+use Rattle.hdfs_files.specs.WholeBlocks.{ClosesWhole}
 use Rattle.hdfs_files.specs.Writers.{tail_done}
 use Rattle.hdfs_files.proofs.Asked.{completed, not_completed, not_answered, complete_rose}
 use Rattle.hdfs_files.proofs.Growing.{IsClosedAs, closes, last_of_carried}
 use Rattle.hdfs_files.proofs.Moving.{only_file_trans}
 use Rattle.hdfs_files.proofs.Storing.{block_stays, stores_keeps}
 use Rattle.hdfs_files.proofs.Touching.{only_file_active}
+use Rattle.hdfs_files.proofs.WholeBlocks.{IsKept, stays_kept, closes_trans, closes_kept}
 
 keeps_same : (p q : Picture) (ids : List ℕ) → SameFiles p q → KeepsBlocks p q ids
 keeps_same p q ids same id there = (same.table id, λ node. same.held node id)
@@ -54,8 +56,9 @@ unfolding carries_same
 same_file_kept p q path None bytes same c = refl
 same_file_kept p q path (Some block) bytes same c = refl
 
--- the file is still being written
+-- the file is still being written, and no block has changed
 pub record IsStill (p : Picture) (path bytes : List ℕ) (last : Option Block) (file : FileEntry) (q : Picture) : Type 0 where
+  pub kept : (id : ℕ) → IsKept p q id
   pub only : OnlyFile path p q
   pub carried : FileCarries q path (tail_done last) bytes
   pub same : carried.file ≡ file
@@ -75,11 +78,24 @@ only_unchanged path q r changes = record {
   defaults = changes.bytes.defaults;
 }
 
+-- a close of what stayed until then
+closes_from : (p q r : Picture) (blocks : List ℕ) (last : Option Block) → ((id : ℕ) → IsKept p q id) → (size : ℕ)
+    → ClosesWhole size q blocks (tail_done last) r blocks → ClosesWhole size p blocks (tail_done last) r blocks
+closes_from p q r blocks last kept size closed =
+    closes_trans size p q r blocks blocks blocks (tail_done last) (tail_done last) (λ within. within)
+    (stays_kept size p q blocks blocks (tail_done last) refl (λ k lt. kept (slice_index_or blocks k 0))) closed
+
 module _ (p : Picture) (path bytes : List ℕ) (last : Option Block) (file : FileEntry) (q r : Picture) (sound : IsSound q) where
   from_still : (still : IsStill p path bytes last file q) → Completes path still.carried.file last q r → IsClosedAs p path bytes last file r
   from_still still done =
       let closed = closes q r sound path last bytes still.carried done in
-      subst (λ (f : FileEntry). IsClosedAs p path bytes last f r) still.same (record { only = only_file_trans path p q r still.only closed.only; ends = closed.ends; named = closed.named; stores = closed.stores })
+      subst (λ (f : FileEntry). IsClosedAs p path bytes last f r) still.same (record {
+        only = only_file_trans path p q r still.only closed.only;
+        ends = closed.ends;
+        named = closed.named;
+        stores = closed.stores;
+        done = λ size. closes_from p q r still.carried.file.blocks last still.kept size (closed.done size);
+      })
 
   from_closed : IsClosedAs p path bytes last file q → Completes path (record file { is_open = false }) last q r → IsClosedAs p path bytes last file r
   from_closed closed done =
@@ -88,10 +104,12 @@ module _ (p : Picture) (path bytes : List ℕ) (last : Option Block) (file : Fil
         ends = closed.ends;
         named = changes.names path ∙ closed.named;
         stores = stores_keeps q r file.blocks bytes (λ id there. (changes.table id, λ node. changes.bytes.held node id)) closed.stores;
+        done = λ size. closes_kept size p q r file.blocks file.blocks (tail_done last) (λ id. (changes.table id, λ node. changes.bytes.held node id)) (closed.done size);
       }
 
   still_active : SameButActive q r → IsStill p path bytes last file q → IsStill p path bytes last file r
   still_active same still = record {
+    kept = λ id. (same.files.table id ∙ (still.kept id).0, λ node. same.files.held node id ∙ (still.kept id).1 node);
     only = only_file_trans path p q r still.only (only_file_active path q r same);
     carried = carries_same q r path last bytes same.files still.carried;
     same = same_file_kept q r path last bytes same.files still.carried ∙ still.same;
@@ -103,6 +121,7 @@ module _ (p : Picture) (path bytes : List ℕ) (last : Option Block) (file : Fil
     ends = closed.ends;
     named = same.files.names path ∙ closed.named;
     stores = stores_keeps q r file.blocks bytes (keeps_same q r file.blocks same.files) closed.stores;
+    done = λ size. closes_kept size p q r file.blocks file.blocks (tail_done last) (λ id. (same.files.table id, λ node. same.files.held node id)) (closed.done size);
   }
 
 module _ (p : Picture) (path bytes : List ℕ) (last : Option Block) (file : FileEntry) (s t : Shown) (i : ℕ) (client : List ℕ) (id : Option ℕ) (q : Picture) (told : s.picture ≡ Some q) (sound : IsSound q) where

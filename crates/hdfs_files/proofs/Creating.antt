@@ -55,6 +55,7 @@ created_others p q sound path made creates other tail bytes apart c = record {
   file = c.file;
   named = created_name p q sound path made creates other apart c.file c.named;
   being_written = c.being_written;
-  carries = tail_stays p q c.file (created_keeps p q sound path made creates other apart c.file c.named)
+  carries = tail_stays p q other c.file (created_name p q sound path made creates other apart c.file c.named ∙ sym c.named)
+      (created_keeps p q sound path made creates other apart c.file c.named)
       (λ link place told there. creates.changes.bytes.writes link ∙ told) tail bytes c.carries;
 }

@@ -5,8 +5,8 @@ use Rattle.std.proofs.lemmas.List.{length-append}
 use Rattle.hdfs_model.specs.declared.messages.Block.{Block}
 use Rattle.hdfs_model.specs.declared.messages.LocatedBlock.{LocatedBlock}
 use Rattle.hdfs_model.specs.Picture.{Picture}
-use Rattle.hdfs_blocks.specs.Writers.{block_so_far}
-use Rattle.hdfs_blocks.specs.declared.block_writer.BlockWriter.{BlockWriter}
+use Rattle.hdfs_block_writer.specs.BlockWriters.{length_of}
+use Rattle.hdfs_block_writer.specs.declared.block_writer.BlockWriter.{BlockWriter}
 use Rattle.hdfs_files.specs.declared.file_writer.FileWriter.{FileWriter}
 use Rattle.hdfs_files.specs.Tails.{Tail, Reopened, Going, tail_length, IsFull, taken_up, FillsBlocks, TailCarries}
 use Rattle.hdfs_files.specs.Writers.{tail_done, tail_opened, tail_by, tail_of, IsBetweenBlocks}
@@ -66,13 +66,13 @@ next_taken size n n' t t' some longer full empty =
     omega (arith, one, full, empty)
 
 -- an empty block was begun behind full ones, or is the first of its file
-pub fills_grown : (p : Picture) (size : ℕ) (blocks blocks' : List ℕ) (last : Option Block) (bytes : List ℕ) (tail' : Tail)
-    → TailCarries p blocks (tail_done last) bytes → IsFull size (tail_done last) → length blocks' ≡ length blocks + 1 → tail_length tail' ≡ 0
+pub fills_grown : (p : Picture) (path : List ℕ) (size : ℕ) (blocks blocks' : List ℕ) (last : Option Block) (bytes : List ℕ) (tail' : Tail)
+    → TailCarries p path blocks (tail_done last) bytes → IsFull size (tail_done last) → length blocks' ≡ length blocks + 1 → tail_length tail' ≡ 0
     → FillsBlocks size blocks (tail_done last) [] blocks' tail'
-fills_grown p size blocks blocks' None bytes tail' c full longer empty within =
+fills_grown p path size blocks blocks' None bytes tail' c full longer empty within =
     let taken = first_taken size (length blocks) (length blocks') (tail_length tail') (ap length c.0) longer empty in
     (omega (arith, empty), omega (arith, taken))
-fills_grown p size blocks blocks' (Some block) bytes tail' c full longer empty within =
+fills_grown p path size blocks blocks' (Some block) bytes tail' c full longer empty within =
     let some : 0 < length blocks = omega (arith, ap length c.1.ends, length-append c.1.front (block.block_id ∷ [])) in
     let just : block.num_bytes ≡ size = omega (arith, full, within) in
     let taken = next_taken size (length blocks) (length blocks') block.num_bytes (tail_length tail') some longer just empty in
@@ -84,8 +84,9 @@ pub settled_full : (size : ℕ) (w w' : FileWriter) (found : LocatedBlock) → w
 settled_full size w w' found none reopened between last full =
     subst (IsFull size) (sym (tail_between w' between ∙ ap tail_done last)) (subst (IsFull size) (tail_reopened w found none reopened) full)
 
--- so is one that was ended
-pub ended_full : (size : ℕ) (w w' : FileWriter) (block : BlockWriter) → w.going ≡ Some block → IsBetweenBlocks w'
-    → w'.last ≡ Some (block_so_far block) → IsFull size (tail_of w) → IsFull size (tail_of w')
-ended_full size w w' block going between last full =
-    subst (IsFull size) (sym (tail_between w' between ∙ ap tail_done last)) (subst (IsFull size) (tail_going w block going) full)
+-- so is one that was ended, and has this name
+pub ended_full : (size : ℕ) (w w' : FileWriter) (block : BlockWriter) (named : Block) → w.going ≡ Some block → IsBetweenBlocks w'
+    → w'.last ≡ Some named → named.num_bytes ≡ length_of block → IsFull size (tail_of w) → IsFull size (tail_of w')
+ended_full size w w' block named going between last long full =
+    subst (IsFull size) (sym (tail_between w' between ∙ ap tail_done last))
+    (subst (λ (n : ℕ). size ≤ n) (sym long) (subst (IsFull size) (tail_going w block going) full))

@@ -19,10 +19,12 @@ use Rattle.hdfs_model.specs.Stores.{AgreesAt, StoresBlocks}
 use Rattle.hdfs_blocks.specs.Carrying.{HoldsWhole}
 use Rattle.hdfs_files.specs.OnlyFiles.{OnlyFile, SameFile}
 use Rattle.hdfs_files.specs.Tails.{Bare, StoresFront, FileCarries}
+use Rattle.hdfs_files.specs.WholeBlocks.{ClosesWhole}
 use Rattle.hdfs_files.specs.Writers.{tail_done}
 use Rattle.hdfs_files.proofs.Adding as adding
 use Rattle.hdfs_files.proofs.Placing.{at_path}
 use Rattle.hdfs_files.proofs.Touching as touching
+use Rattle.hdfs_files.proofs.WholeBlocks.{closes_none, all_closed}
 
 -- the file is open, its blocks but the last, which is this new one, store its bytes, and the datanodes that are named hold the
 -- new one, which is empty
@@ -81,12 +83,13 @@ grows p q sound path (Some block) bytes c found adds =
       same = touching.same_file_added p q path c.file c.named (Some block) lengths found new;
     }
 
--- a closed file as it was written, and all else as it was
+-- a closed file as it was written, with its blocks whole, and all else as it was
 pub record IsClosedAs (p : Picture) (path bytes : List ℕ) (last : Option Block) (file : FileEntry) (q : Picture) : Type 0 where
   pub only : OnlyFile path p q
   pub ends : IsLast file.blocks last
   pub named : IsFileAt q path (record file { is_open = false })
   pub stores : StoresBlocks q file.blocks bytes
+  pub done : (size : ℕ) → ClosesWhole size p file.blocks (tail_done last) q file.blocks
 
 -- it agrees with a file of its attributes and bytes
 pub closed_agrees : (p q : Picture) (path bytes : List ℕ) (last : Option Block) (file : FileEntry) → IsClosedAs p path bytes last file q → AgreesAt q (q.names path) (Some (File (record { bytes = bytes; attributes = file.attributes })))
@@ -101,6 +104,7 @@ closes p q sound path None bytes c done =
       ends = done.0;
       named = adding.named_after p q path (record c.file { is_open = false }) (with_length p.table None) changes;
       stores = adding.first_stored p q sound path c.file c.named c.carries.0 bytes c.carries.1 (λ other there. changes.table other);
+      done = λ size. closes_none size p q c.file.blocks (tail_done None) c.carries.0;
     }
 closes p q sound path (Some block) bytes c done =
     let changes : Changes p q (with_entry p.names path (record c.file { is_open = false })) (with_length p.table (Some block)) = subst (λ (b : Bool). ClosesIf b path c.file (Some block) p q) c.being_written done.1 in record {
@@ -108,6 +112,7 @@ closes p q sound path (Some block) bytes c done =
       ends = done.0;
       named = adding.named_after p q path (record c.file { is_open = false }) (with_length p.table (Some block)) changes;
       stores = adding.all_stored p q sound path c.file c.named block.block_id block.num_bytes bytes block refl refl c.carries (λ other there. changes.table other) changes.bytes.held;
+      done = all_closed p q sound path c.file c.named block bytes c.carries (λ other there. changes.table other) changes.bytes.held;
     }
 
 -- a file that was just created has no block and no bytes

@@ -1,26 +1,34 @@
 -- How the calls of a writer of a file join.
-use Rattle.std.proofs.Common.{◌≡◌, ℕ, List, [], ◌++◌, Some, None, refl, sym, ◌∙◌, ap, subst, arith, append_assoc}
+use Rattle.std.proofs.Common.{◌≡◌, ◌⊎◌, inl, inr, ℕ, ◌<◌, List, [], ◌++◌, length, Some, None, refl, sym, ◌∙◌, ap, subst, arith, append_assoc}
 use Rattle.std.proofs.lemmas.List.{append-nil}
+use Rattle.std.specs.Prelude.{All, Any, slice_index_or}
 use Rattle.hdfs_model.specs.declared.attributes.Attributes.{Attributes}
 use Rattle.hdfs_model.specs.declared.errors.HdfsError.{HdfsError}
 use Rattle.hdfs_model.specs.declared.errors.HdfsError.TheVariants as errors
 use Rattle.hdfs_model.specs.declared.errors.IoFault.TheVariants as io_faults
 use Rattle.hdfs_model.specs.declared.errors.TransferFault.TheVariants as transfer
+use Rattle.hdfs_model.specs.declared.picture.BlockEntry.{BlockEntry}
 use Rattle.hdfs_model.specs.declared.picture.FileEntry.{FileEntry}
-use Rattle.hdfs_model.specs.Causes.{CallsRose, PipelineFailed}
+use Rattle.hdfs_model.specs.Causes.{CallsRose, OfLastBlock, PipelineFailed, SomeListedFailed}
+use Rattle.hdfs_model.specs.Counts.{Rose}
+use Rattle.hdfs_model.specs.Effects.{blocks_at}
 use Rattle.hdfs_model.specs.Files.{File}
 use Rattle.hdfs_model.specs.Picture.{Picture}
 use Rattle.hdfs_model.specs.Shown.{Shown, Later}
 use Rattle.hdfs_model.specs.Sound.{IsFileAt}
 use Rattle.hdfs_model.specs.Stores.{AgreesAt}
 use Rattle.hdfs_model.proofs.Frames.{rose_since}
+use Rattle.hdfs_recovery.specs.declared.block_plan.RebuildSettings.{RebuildSettings}
 use Rattle.hdfs_files.specs.declared.file_writer.FileWriter.{FileWriter}
+use Rattle.hdfs_files.specs.declared.sizes.WriteSizes.{WriteSizes}
 use Rattle.hdfs_files.specs.Failing.{TellsWrite, TellsClose, CauseOfWrite}
 use Rattle.hdfs_files.specs.OnlyFiles.{OnlyFile}
 use Rattle.hdfs_files.specs.Tails.{FileCarries}
-use Rattle.hdfs_files.specs.Writers.{link_of, tail_of, Keeps, Wrote, Fails, FailsToClose, Closed, HasCause}
+use Rattle.hdfs_files.specs.WholeBlocks.{ClosesWhole}
+use Rattle.hdfs_files.specs.Writers.{blocks_in, link_of, tail_of, Keeps, Wrote, Fails, FailsToClose, Closed, HasCause}
 use Rattle.hdfs_files.proofs.Moving.{own_link_refl, own_link_trans, only_file_trans}
 use Rattle.hdfs_files.proofs.Steps.{carries_nothing, carries_trans, touches_behind}
+use Rattle.hdfs_files.proofs.WholeBlocks.{closes_trans}
 
 pub keeps_refl : (w : FileWriter) → Keeps w w
 keeps_refl w = record { path = refl; file_id = refl; sizes = refl }
@@ -37,8 +45,13 @@ wrote_trans a b c w x y one two first then = record {
   own = own_link_trans a b c (link_of w) (link_of x) (link_of y) first.own then.own;
   carries = λ p bytes told carried.
       (let both = carries_trans a b c w x y one two first.keeps.path first.keeps.sizes first.carries then.carries p bytes told carried in
-      (both.0, both.1, subst (FileCarries both.0 w.path (tail_of y)) (append_assoc bytes one two) both.2, both.3, both.4, both.5));
+      (both.0, both.1, subst (FileCarries both.0 w.path (tail_of y)) (append_assoc bytes one two) both.2, both.3, both.4, both.5, both.6));
 }
+
+-- a datanode has failed since an earlier call
+node_since : (a b c : Shown) → Later a b → (node : List ℕ) → Rose (b.counts.nodes node) (c.counts.nodes node) → Rose (a.counts.nodes node) (c.counts.nodes node)
+node_since a b c later node rose =
+    rose_since (a.counts.nodes node) (b.counts.nodes node) (c.counts.nodes node) (c.counts.nodes node) (later.counts.nodes node) rose (omega arith)
 
 pub tells_since : (a b c : Shown) (e : HdfsError) → Later a b → Later b c → TellsWrite b c e → TellsWrite a c e
 tells_since a b c errors.NoMemory later after h = tt
@@ -46,7 +59,9 @@ tells_since a b c errors.Failed later after h = absurd h
 tells_since a b c (errors.IOError io_faults.Link) later after h = rose_since a.counts.links b.counts.links c.counts.links c.counts.links later.counts.links h (omega arith)
 tells_since a b c (errors.DataTransferError (transfer.Read byte)) later after h = absurd h
 tells_since a b c (errors.DataTransferError transfer.Setup) later after h = rose_since a.counts.links b.counts.links c.counts.links c.counts.links later.counts.links h (omega arith)
-tells_since a b c (errors.DataTransferError transfer.AllNodes) later after h = (h.0, rose_since (a.counts.nodes h.0) (b.counts.nodes h.0) (c.counts.nodes h.0) (c.counts.nodes h.0) (later.counts.nodes h.0) h.1 (omega arith))
+tells_since a b c (errors.DataTransferError transfer.AllNodes) later after h = (h.0, node_since a b c later h.0 h.1)
+tells_since a b c (errors.DataTransferError transfer.NoReplacement) later after h = (h.0, node_since a b c later h.0 h.1)
+tells_since a b c (errors.DataTransferError (transfer.RebuildLimit rebuilds)) later after h = (h.0, node_since a b c later h.0 h.1)
 tells_since a b c (errors.DataTransferError (transfer.BadAck seqno)) later after h = rose_since a.counts.links b.counts.links c.counts.links c.counts.links later.counts.links h (omega arith)
 tells_since a b c (errors.InvalidPath text) later after h = absurd h
 tells_since a b c (errors.InvalidArgument fault) later after h = absurd h
@@ -83,8 +98,10 @@ close_since path a b c (errors.RPCError class message) later after h = tells_sin
 calls_since : (a b c : Shown) → Later a b → CallsRose b.counts c → CallsRose a.counts c
 calls_since a b c later h = (h.0, h.1, rose_since (a.counts.calls h.0) (b.counts.calls h.0) (c.counts.calls h.0) (c.counts.calls h.0) (later.counts.calls h.0) h.2 (omega arith))
 
-failed_since : (path : List ℕ) (a b c : Shown) → Later a b → PipelineFailed b.counts c path → PipelineFailed a.counts c path
-failed_since path a b c later h = record {
+-- what is so of the last block of a file follows from what else is
+pub of_last_since : (c : Shown) (path : List ℕ) (P Q : BlockEntry → Type 0) → ((entry : BlockEntry) → P entry → Q entry) → OfLastBlock c path P
+    → OfLastBlock c path Q
+of_last_since c path P Q follows h = record {
   picture = h.picture;
   told = h.told;
   file = h.file;
@@ -94,33 +111,51 @@ failed_since path a b c later h = record {
   last = h.last;
   entry = h.entry;
   is = h.is;
-  failed =
-      let any = h.failed in
-      let node = any.1 in
-      (any.0, node, any.2, any.3, rose_since (a.counts.nodes node) (b.counts.nodes node) (c.counts.nodes node) (c.counts.nodes node) (later.counts.nodes node) any.4 (omega arith));
+  so = follows h.entry h.so;
 }
 
-pub cause_since : (path : List ℕ) (a b c : Shown) (e : HdfsError) → Later a b → CauseOfWrite path b c e → CauseOfWrite path a c e
-cause_since path a b c errors.NoMemory later h = tt
-cause_since path a b c errors.Failed later h = tt
-cause_since path a b c (errors.IOError fault) later h = tt
-cause_since path a b c (errors.DataTransferError (transfer.Read byte)) later h = tt
-cause_since path a b c (errors.DataTransferError transfer.Setup) later h = tt
-cause_since path a b c (errors.DataTransferError transfer.AllNodes) later h = failed_since path a b c later h
-cause_since path a b c (errors.DataTransferError (transfer.BadAck seqno)) later h = tt
-cause_since path a b c (errors.InvalidPath text) later h = tt
-cause_since path a b c (errors.InvalidArgument fault) later h = tt
-cause_since path a b c (errors.AlreadyExists message) later h = calls_since a b c later h
-cause_since path a b c (errors.OperationFailed name) later h = calls_since a b c later h
-cause_since path a b c (errors.FileNotFound name) later h = tt
-cause_since path a b c (errors.RPCError class message) later h = calls_since a b c later h
+some_since : (path : List ℕ) (a b c : Shown) → Later a b → SomeListedFailed b.counts c path → SomeListedFailed a.counts c path
+some_since path a b c later =
+    of_last_since c path (λ entry. Any (λ node. Rose (b.counts.nodes node) (c.counts.nodes node)) entry.nodes)
+    (λ entry. Any (λ node. Rose (a.counts.nodes node) (c.counts.nodes node)) entry.nodes)
+    (λ entry any. (any.0, any.1, any.2, any.3, node_since a b c later any.1 any.4))
+
+all_since : (path : List ℕ) (a b c : Shown) → Later a b → PipelineFailed b.counts c path → PipelineFailed a.counts c path
+all_since path a b c later =
+    of_last_since c path (λ entry. (0 < length entry.nodes) × All (λ node. Rose (b.counts.nodes node) (c.counts.nodes node)) entry.nodes)
+    (λ entry. (0 < length entry.nodes) × All (λ node. Rose (a.counts.nodes node) (c.counts.nodes node)) entry.nodes)
+    (λ entry all. (all.0, λ k d lt. node_since a b c later (slice_index_or entry.nodes k d) (all.1 k d lt)))
+
+help_since : (a b c : Shown) → Later a b → Rose b.counts.links c.counts.links ⊎ CallsRose b.counts c → Rose a.counts.links c.counts.links ⊎ CallsRose a.counts c
+help_since a b c later (inl links) = inl (rose_since a.counts.links b.counts.links c.counts.links c.counts.links later.counts.links links (omega arith))
+help_since a b c later (inr calls) = inr (calls_since a b c later calls)
+
+pub cause_since : (settings : RebuildSettings) (path : List ℕ) (a b c : Shown) (e : HdfsError) → Later a b → CauseOfWrite settings path b c e
+    → CauseOfWrite settings path a c e
+cause_since settings path a b c errors.NoMemory later h = tt
+cause_since settings path a b c errors.Failed later h = tt
+cause_since settings path a b c (errors.IOError fault) later h = tt
+cause_since settings path a b c (errors.DataTransferError (transfer.Read byte)) later h = tt
+cause_since settings path a b c (errors.DataTransferError transfer.Setup) later h = tt
+cause_since settings path a b c (errors.DataTransferError transfer.AllNodes) later h = all_since path a b c later h
+cause_since settings path a b c (errors.DataTransferError transfer.NoReplacement) later h = (h.0, help_since a b c later h.1, some_since path a b c later h.2)
+cause_since settings path a b c (errors.DataTransferError (transfer.RebuildLimit rebuilds)) later h = (h.0, some_since path a b c later h.1)
+cause_since settings path a b c (errors.DataTransferError (transfer.BadAck seqno)) later h = tt
+cause_since settings path a b c (errors.InvalidPath text) later h = tt
+cause_since settings path a b c (errors.InvalidArgument fault) later h = tt
+cause_since settings path a b c (errors.AlreadyExists message) later h = calls_since a b c later h
+cause_since settings path a b c (errors.OperationFailed name) later h = calls_since a b c later h
+cause_since settings path a b c (errors.FileNotFound name) later h = tt
+cause_since settings path a b c (errors.RPCError class message) later h = calls_since a b c later h
 
 has_cause_behind : (a b c : Shown) (w x : FileWriter) (one : List ℕ) (e : HdfsError) → Wrote a w one b x → HasCause b x e c → HasCause a w e c
 has_cause_behind a b c w x one e first then p bytes told size carried =
     let f = first.carries p bytes told carried in
     let carried' = subst (λ (path : List ℕ). FileCarries f.0 path (tail_of x) (bytes ++ one)) (sym first.keeps.path) f.2 in
-    cause_since w.path a b c e first.own.later
-    (subst (λ (path : List ℕ). CauseOfWrite path b c e) first.keeps.path (then f.0 (bytes ++ one) f.1 (first.own.later.namenodes ∙ size) carried'))
+    cause_since w.sizes.rebuilding w.path a b c e first.own.later
+    (subst (λ (s : WriteSizes). CauseOfWrite s.rebuilding w.path b c e) first.keeps.sizes
+    (subst (λ (path : List ℕ). CauseOfWrite x.sizes.rebuilding path b c e) first.keeps.path
+    (then f.0 (bytes ++ one) f.1 (first.own.later.namenodes ∙ size) carried')))
 
 -- a call that fails behind others
 pub fails_after : (a b c : Shown) (w x : FileWriter) (one : List ℕ) (e : HdfsError) → Wrote a w one b x → Fails b x e c → Fails a w e c
@@ -147,6 +182,14 @@ attributes_same q path file mine blocks one two =
     let same : record file { blocks = blocks } ≡ mine = cc (one, two) in
     sym (ap (λ (f : FileEntry). f.attributes) same)
 
+-- blocks are closed as they are for another writer of the same file
+closes_as : (p q : Picture) (w x : FileWriter) → x.path ≡ w.path → x.sizes ≡ w.sizes
+    → ClosesWhole x.sizes.block_size p (blocks_in p x) (tail_of x) q (blocks_in q x)
+    → ClosesWhole w.sizes.block_size p (blocks_in p w) (tail_of x) q (blocks_in q w)
+closes_as p q w x same sizes closed =
+    subst (λ (path : List ℕ). ClosesWhole w.sizes.block_size p (blocks_at (p.names path)) (tail_of x) q (blocks_at (q.names path))) same
+    (subst (λ (s : WriteSizes). ClosesWhole s.block_size p (blocks_in p x) (tail_of x) q (blocks_in q x)) sizes closed)
+
 -- a close behind the end of the last block
 pub closed_after : (a b c : Shown) (w x : FileWriter) → Wrote a w [] b x → Closed b x c → Closed a w c
 closed_after a b c w x first then = record {
@@ -164,5 +207,7 @@ closed_after a b c w x first then = record {
         only_file_trans w.path p q t.0 f.3 (subst (λ (path : List ℕ). OnlyFile path q t.0) first.keeps.path t.2),
         subst (λ (at : Attributes). AgreesAt t.0 (t.0.names w.path) (Some (File (record { bytes = bytes; attributes = at })))) kept
             (subst (λ (path : List ℕ). AgreesAt t.0 (t.0.names path) (Some (File (record { bytes = bytes; attributes = carried'.file.attributes })))) first.keeps.path t.3),
+        closes_trans w.sizes.block_size p q t.0 (blocks_in p w) (blocks_in q w) (blocks_in t.0 w) (tail_of w) (tail_of x) (λ within. (f.5 within).0) f.6
+            (closes_as q t.0 w x first.keeps.path first.keeps.sizes t.4),
       ));
 }

@@ -3,8 +3,10 @@ pub mod Moving
 pub mod Others
 pub mod Placing
 pub mod Storing
+pub mod Telling
 pub mod Touching
 pub mod Asked
+pub mod Beside
 pub mod Blocks
 pub mod Growing
 pub mod Filling
@@ -15,3 +17,4 @@ pub mod Closing
 pub mod Standing
 pub mod Reopening
 pub mod Creating
+pub mod WholeBlocks

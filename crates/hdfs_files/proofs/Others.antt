@@ -13,13 +13,13 @@ use Rattle.hdfs_model.specs.Sound.{IsSound, IsFileAt, IsBlockAt}
 use Rattle.hdfs_model.specs.Stores.{AgreesAt}
 use Rattle.hdfs_model.specs.Sending.{WritePlace, uuids}
 use Rattle.hdfs_blocks.specs.Carrying.{HoldsWhole}
-use Rattle.hdfs_blocks.specs.Writers.{block_of, view_of}
-use Rattle.hdfs_blocks.proofs.Beside.{still_stands}
-use Rattle.hdfs_blocks.proofs.Carried.{carries_stays}
+use Rattle.hdfs_block_writer.specs.BlockWriters.{safe_of}
+use Rattle.hdfs_block_writer.specs.OpenPipelines.{id_of}
 use Rattle.hdfs_files.specs.declared.file_writer.FileWriter.{FileWriter}
 use Rattle.hdfs_files.specs.OnlyFiles.{KeepsBlocks, OnlyFile}
 use Rattle.hdfs_files.specs.Tails.{Tail, Bare, Finished, Reopened, Going, StoresFront, TailCarries, FileCarries}
 use Rattle.hdfs_files.specs.Writers.{link_by, link_of, Stands}
+use Rattle.hdfs_files.proofs.Beside.{still_stands, has_stays}
 use Rattle.hdfs_files.proofs.Placing.{contains_last, contains_left}
 use Rattle.hdfs_files.proofs.Storing.{block_stays, stores_keeps}
 
@@ -45,8 +45,8 @@ elsewhere p sound path other file apart is id there here = by_entry (p.names pat
     by_entry (Some entries.Dir) named h = absurd (omega (arith, h.1))
     by_entry (Some (entries.File mine)) named h = apart_blocks p sound path other mine file id apart named is h there
 
--- a file whose blocks stay, and the write links that have them, is carried as it was
-module _ (p q : Picture) (file : FileEntry) (keeps : KeepsBlocks p q file.blocks)
+-- a file whose name and blocks stay, and the write links that have them, is carried as it was
+module _ (p q : Picture) (path : List ℕ) (file : FileEntry) (same_name : q.names path ≡ p.names path) (keeps : KeepsBlocks p q file.blocks)
     (writes : (link : ℕ) (place : WritePlace) → p.writes link ≡ Some place → Contains file.blocks place.block → q.writes link ≡ Some place) where
   front_stays : (last : ℕ) (bytes rest : List ℕ) → StoresFront p file.blocks last bytes rest → StoresFront q file.blocks last bytes rest
   front_stays last bytes rest s = record {
@@ -70,22 +70,29 @@ module _ (p q : Picture) (file : FileEntry) (keeps : KeepsBlocks p q file.blocks
   is_last : (last : ℕ) (bytes rest : List ℕ) → StoresFront p file.blocks last bytes rest → Contains file.blocks last
   is_last last bytes rest s = subst (λ (l : List ℕ). Contains l last) (sym s.ends) (contains_last s.front last)
 
-  pub tail_stays : (tail : Tail) (bytes : List ℕ) → TailCarries p file.blocks tail bytes → TailCarries q file.blocks tail bytes
+  pub tail_stays : (tail : Tail) (bytes : List ℕ) → TailCarries p path file.blocks tail bytes → TailCarries q path file.blocks tail bytes
   tail_stays Bare bytes t = t
   tail_stays (Finished id n) bytes t = (t.0, front_stays id bytes t.0 t.1, (t.2.0, whole_stays id n t.2.0 t.0 (is_last id bytes t.0 t.1) t.2.1))
   tail_stays (Reopened located) bytes t =
       let id = located.b.block_id in
       (t.0, front_stays id bytes t.0 t.1, whole_stays id located.b.num_bytes (uuids located.locs) t.0 (is_last id bytes t.0 t.1) t.2)
   tail_stays (Going writer) bytes t =
-      let id = (block_of writer).block_id in
-      let there = is_last id bytes t.0 t.1 in
-      let held = t.2.1 in
-      let view = view_of writer held.pipe t.2.0 in
-      let on = held.carries.linked.on in
-      let link = writes view.link on.place on.told (subst (Contains file.blocks) (sym on.block) there) in (
+      let held = t.1 in
+      let id = id_of held.pipe in
+      let there = is_last id bytes t.0 t.3 in
+      let on = held.has.on in
+      let link = writes held.pipe.link on.place on.told (subst (Contains file.blocks) (sym on.block) there) in
+      let named : q.names held.pipe.plan.src ≡ p.names held.pipe.plan.src = ap q.names t.2 ∙ same_name ∙ sym (ap p.names t.2) in (
         t.0,
-        front_stays id bytes t.0 t.1,
-        (t.2.0, record { pipe = held.pipe; is = held.is; many = held.many; carries = carries_stays p view t.0 held.carries q link (keeps id there).0 (keeps id there).1 }),
+        record {
+          pipe = held.pipe;
+          is = held.is;
+          counted = held.counted;
+          kept = held.kept;
+          has = has_stays p q held.pipe [] (safe_of writer held.pipe) t.0 held.has named link (keeps id there).0 (keeps id there).1;
+        },
+        t.2,
+        front_stays id bytes t.0 t.3,
       )
 
 module _ (path : List ℕ) (p q : Picture) (sound : IsSound p) (only : OnlyFile path p q) where
@@ -120,7 +127,7 @@ module _ (path : List ℕ) (p q : Picture) (sound : IsSound p) (only : OnlyFile 
     file = c.file;
     named = only.names other apart ∙ c.named;
     being_written = c.being_written;
-    carries = tail_stays p q c.file (others_keep other c.file apart c.named) (others_link other c.file apart c.named) tail bytes c.carries;
+    carries = tail_stays p q other c.file (only.names other apart) (others_keep other c.file apart c.named) (others_link other c.file apart c.named) tail bytes c.carries;
   }
 
 -- A writer stands still where its link stayed.
@@ -135,6 +142,7 @@ stands_beside a b w stays stands = record {
         size = going.size;
         chunk = going.chunk;
         packet_size = going.packet_size;
+        settings = going.settings;
       });
   is_open = stands.is_open;
   idle = stands.idle;

@@ -1,5 +1,5 @@
 -- How a writer of a file stands behind each step, and what the step has done.
-use Rattle.std.proofs.Common.{◌≡◌, ⊎_elim, ℕ, ◌<◌, ◌≤◌, min, true, false, List, [], Option, Some, None, IsSome, refl, sym, ◌∙◌, ap, subst, arith}
+use Rattle.std.proofs.Common.{◌≡◌, ⊎_elim, ℕ, ◌<◌, ◌≤◌, min, Bool, true, false, List, [], Option, Some, None, IsSome, refl, sym, ◌∙◌, ap, subst, arith}
 use Rattle.std.proofs.lemmas.Bool.{cases_lt, false≢true}
 use Rattle.std.specs.Prelude.{Ok, Err, IfSome}
 use Rattle.hdfs_model.specs.declared.asks.Answer.TheVariants as answers
@@ -12,25 +12,28 @@ use Rattle.hdfs_model.specs.declared.messages.LocatedBlock.{LocatedBlock}
 use Rattle.hdfs_model.specs.declared.messages.Setup.{Setup}
 use Rattle.hdfs_model.specs.Namenode.{last_of, IsToWrite}
 use Rattle.hdfs_model.specs.Picture.{Picture}
-use Rattle.hdfs_model.specs.Pipes.{WriteNotOpened, ShowsWrites}
+use Rattle.hdfs_model.specs.Pipes.{WriteNotOpened}
 use Rattle.hdfs_model.specs.Shown.{Shown, Served}
 use Rattle.hdfs_model.specs.Sound.{IsSound}
 use Rattle.hdfs_namenode.specs.Asked.{error_of as asked_error}
-use Rattle.hdfs_blocks.specs.Writers.{block_so_far, length_of, size_of, link_of as block_link, link_in, Stands as StandsItself}
-use Rattle.hdfs_blocks.specs.Writes.{Ends, GaveUp, LetsGo, Wrote as BlockWrote, IsNew, OpensLink, BeginsWhole, fault_of}
-use Rattle.hdfs_blocks.specs.declared.block_writer.BlockWriter.{BlockWriter}
-use Rattle.hdfs_blocks.specs.declared.pipe.Pipe.{Pipe}
-use Rattle.hdfs_blocks.specs.declared.pipe.WriteFault.{WriteFault}
+use Rattle.hdfs_recovery.specs.declared.block_plan.BlockPipeline.{BlockPipeline}
+use Rattle.hdfs_recovery.specs.declared.block_plan.RebuildSettings.{RebuildSettings}
+use Rattle.hdfs_recovery.specs.declared.block_plan.WriteFault.{WriteFault}
+use Rattle.hdfs_block_writer.specs.declared.block_writer.BlockWriter.{BlockWriter}
+use Rattle.hdfs_block_writer.specs.BlockWriters.{length_of, size_of, link_of as block_link, link_in, Stands as StandsItself}
+use Rattle.hdfs_block_writer.specs.OpenPipelines.{id_of}
+use Rattle.hdfs_block_writer.specs.Written.{Closes, GaveUp, IsCarrying, LetsGo, OpensNone, Wrote as BlockWrote, IsNew, OpensLink, BeginsWhole, fault_of}
 use Rattle.hdfs_files.specs.declared.file_writer.FileWriter.{FileWriter}
 use Rattle.hdfs_files.specs.declared.sizes.WriteSizes.{WriteSizes}
 use Rattle.hdfs_files.specs.Faults.{error_of}
 use Rattle.hdfs_files.specs.Tails.{IsFull}
-use Rattle.hdfs_files.specs.Writers.{AreLimited, ArePackets, AreSizes, link_of, link_by, tail_by, tail_of, Keeps, Stands, IsBetweenBlocks, HasRoom, BlockStands, OnlyOwnLink, Wrote, Fails}
+use Rattle.hdfs_files.specs.Writers.{AreLimited, ArePackets, AreSizes, plan_of, link_of, link_by, tail_by, tail_of, Keeps, Stands, IsBetweenBlocks, HasRoom, BlockStands, OnlyOwnLink, Wrote, Fails}
 use Rattle.hdfs_files.proofs.Asked.{add_rose}
 use Rattle.hdfs_files.proofs.Growing.{last_of_carried}
-use Rattle.hdfs_files.proofs.Moving.{own_link_refl, own_link_at, own_link_ended, own_link_served, own_link_opened, own_link_unopened, only_file_refl}
+use Rattle.hdfs_files.proofs.Moving.{own_link_refl, own_link_served, own_link_opened, own_link_unopened, only_file_refl}
 use Rattle.hdfs_files.proofs.Placing.{some_none}
-use Rattle.hdfs_files.proofs.Steps.{Shows, ended_carries, gave_up_touches, gave_up_tells, gave_up_failed, block_cause, unopened_cause, wrote_carries, added_carries, opened_carries, settled_carries, unopened_touches, unopened_tells, unanswered_touches, as_done, tells_exception, exception_cause}
+use Rattle.hdfs_files.proofs.Steps.{Shows, ended_carries, gave_up_touches, gave_up_cause, unopened_cause, wrote_carries, added_carries, opened_carries, settled_carries, unopened_touches, unopened_tells, unanswered_touches, as_done}
+use Rattle.hdfs_files.proofs.Telling.{tells_exception, tells_fault, exception_cause}
 
 -- there was no memory before anything was done
 pub starved_fails : (a : Shown) (w : FileWriter) → link_of w ≡ None → Fails a w errors.NoMemory a
@@ -41,40 +44,56 @@ starved_fails a w idle = record {
   cause = λ p bytes told size c. tt;
 }
 
+-- the writer of a block that hasn't failed has a pipeline
+has_pipe : (block : BlockWriter) → IsSome (block_link block) → (pipe : BlockPipeline) × (block.pipe ≡ Some pipe)
+has_pipe block some = by_pipe block.pipe refl some
+  where
+    by_pipe : (o : Option BlockPipeline) → block.pipe ≡ o → IsSome (link_in o) → (pipe : BlockPipeline) × (block.pipe ≡ Some pipe)
+    by_pipe None is there = absurd (false≢true there)
+    by_pipe (Some pipe) is there = (pipe, is)
+
 -- a block has no more bytes than it may have
 pub within_size : (shown : Shown) (block : BlockWriter) → StandsItself shown block → IsSome (block_link block) → length_of block ≤ size_of block
-within_size shown block stands some = by_pipe block.pipe refl some
-  where
-    by_pipe : (o : Option Pipe) → block.pipe ≡ o → IsSome (link_in o) → length_of block ≤ size_of block
-    by_pipe None is there = absurd (false≢true there)
-    by_pipe (Some pipe) is there = (stands pipe is).0.within.0
+within_size shown block stands some = (let pipe = has_pipe block some in (stands pipe.0 pipe.1).0.within.0)
 
-module _ (a b : Shown) (sound : Shows IsSound a) (w : FileWriter) (block : BlockWriter) (going : w.going ≡ Some block) where
+-- the writer of a block that took bytes has a pipeline still
+still_open : (a b : Shown) (block block' : BlockWriter) (more : List ℕ) → BlockWrote a block more b block' → IsSome (block_link block) → IsSome (block_link block')
+still_open a b block block' more wrote some =
+    let pipe = has_pipe block some in
+    subst IsSome (sym (ap link_in (wrote.stays pipe.0 pipe.1).1)) refl
+
+module _ (a b : Shown) (sound : Shows IsSound a) (sound' : Shows IsSound b) (w : FileWriter) (block : BlockWriter) (going : w.going ≡ Some block) where
   own_from : (x : Option ℕ) → OnlyOwnLink a (block_link block) b x → OnlyOwnLink a (link_of w) b x
   own_from x own = subst (λ (g : Option BlockWriter). OnlyOwnLink a (link_by g) b x) (sym going) own
 
   -- its block was ended
-  pub ended_wrote : (w' : FileWriter) → Keeps w w' → IsBetweenBlocks w' → w'.last ≡ Some (block_so_far block) → Ends a block b → Wrote a w [] b w'
-  ended_wrote w' keeps between last ends = record {
+  pub ended_wrote : (w' : FileWriter) → Keeps w w' → IsBetweenBlocks w' → (named : Block) → w'.last ≡ Some named → Closes a block named b → Wrote a w [] b w'
+  ended_wrote w' keeps between named last closes = record {
     keeps = keeps;
-    own = subst (λ (g : Option BlockWriter). OnlyOwnLink a (link_of w) b (link_by g)) (sym between.none) (own_from None (own_link_ended a b (block_link block) ends.at ends.ended));
-    carries = ended_carries a b sound w block going w' between last ends;
+    own = subst (λ (g : Option BlockWriter). OnlyOwnLink a (link_of w) b (link_by g)) (sym between.none) (own_from None closes.2.own);
+    carries = ended_carries a b sound sound' w block going w' between named last closes;
   }
 
   -- its block was given up
-  pub gave_up_fails : Shows (ShowsWrites a) a → BlockStands a w.sizes block → IsSome (block_link block) → (fault : WriteFault) → GaveUp a block fault b → Fails a w (error_of fault) b
-  gave_up_fails shows stands some fault gave = record {
-    own = own_from None (own_link_ended a b (block_link block) gave.at gave.ended);
-    tells = gave_up_tells a b sound w block going stands.stands some fault gave;
-    touches = gave_up_touches a b sound w block going fault gave;
-    cause = λ p bytes told size c. block_cause w.path a b fault (gave_up_failed a b sound w block going shows stands.stands some fault gave p bytes told c);
-  }
+  pub gave_up_fails : ((p : Picture) → a.picture ≡ Some p → p.active < a.namenodes) → IsSome (block_link block) → block.settings ≡ w.sizes.rebuilding
+      → (fault : WriteFault) → GaveUp a block fault b → Fails a w (error_of fault) b
+  gave_up_fails active some same fault gave =
+      let pipe = has_pipe block some in
+      let gives = gave pipe.0 pipe.1 in
+      record {
+        own = own_from None (subst (λ (x : Option ℕ). OnlyOwnLink a x b None) (sym (ap link_in pipe.1)) gives.own);
+        tells = tells_fault a b block.settings pipe.0.plan.rebuilds (IsCarrying block) (id_of pipe.0) fault gives.cause;
+        touches = gave_up_touches a b sound sound' w block going fault gave;
+        cause = λ p bytes told size c.
+            gave_up_cause a b sound sound' w block going same fault gave p bytes told (omega (arith, active p told, size))
+            (omega (arith, size, gives.own.later.namenodes)) c;
+      }
 
   -- its block is no longer than a block of the file
   more_within : (block' : BlockWriter) (more : List ℕ) → Stands a w → w.failed ≡ false → BlockWrote a block more b block'
       → StandsItself b block' → length_of block' ≤ w.sizes.block_size
   more_within block' more stands fine wrote itself =
-      let within = within_size b block' itself (subst IsSome (sym wrote.link) (stands.is_open fine block going)) in
+      let within = within_size b block' itself (still_open a b block block' more wrote (stands.is_open fine block going)) in
       omega (arith, within, wrote.keeps.block_size, (stands.going block going).size)
 
   -- more bytes went into its block
@@ -82,10 +101,8 @@ module _ (a b : Shown) (sound : Shows IsSound a) (w : FileWriter) (block : Block
       → w'.going ≡ Some block' → BlockWrote a block more b block' → StandsItself b block' → Wrote a w more b w'
   more_wrote w' block' more stands fine keeps going' wrote itself = record {
     keeps = keeps;
-    own = own_from (link_of w')
-        (subst (λ (g : Option BlockWriter). OnlyOwnLink a (block_link block) b (link_by g)) (sym going')
-        (subst (OnlyOwnLink a (block_link block) b) (sym wrote.link) (own_link_at a b (block_link block) wrote.at)));
-    carries = wrote_carries a b sound w block going w' block' more going' (more_within block' more stands fine wrote itself) wrote;
+    own = own_from (link_of w') (subst (λ (g : Option BlockWriter). OnlyOwnLink a (block_link block) b (link_by g)) (sym going') wrote.own);
+    carries = wrote_carries a b sound sound' w block going w' block' more going' (more_within block' more stands fine wrote itself) wrote;
   }
 
   pub more_stands : (w' : FileWriter) (block' : BlockWriter) (more : List ℕ) → Stands a w → w.failed ≡ false → w'.failed ≡ false → Keeps w w' → w'.going ≡ Some block' → w'.reopened ≡ w.reopened → BlockWrote a block more b block' → StandsItself b block' → Stands b w'
@@ -99,10 +116,11 @@ module _ (a b : Shown) (sound : Shows IsSound a) (w : FileWriter) (block : Block
           size = wrote.keeps.block_size ∙ (stands.going block going).size ∙ ap (λ (s : WriteSizes). s.block_size) (sym keeps.sizes);
           chunk = wrote.keeps.chunk ∙ (stands.going block going).chunk ∙ ap (λ (s : WriteSizes). s.chunk) (sym keeps.sizes);
           packet_size = wrote.keeps.packet_size ∙ (stands.going block going).packet_size ∙ ap (λ (s : WriteSizes). s.packet_size) (sym keeps.sizes);
+          settings = wrote.keeps.settings ∙ (stands.going block going).settings ∙ ap (λ (s : WriteSizes). s.rebuilding) (sym keeps.sizes);
         }));
     is_open = λ fine'' other is.
         (let same : block' ≡ other = cc (going', is) in
-        subst (λ (x : BlockWriter). IsSome (block_link x)) same (subst IsSome (sym wrote.link) (stands.is_open fine block going)));
+        subst (λ (x : BlockWriter). IsSome (block_link x)) same (still_open a b block block' more wrote (stands.is_open fine block going)));
     idle = λ failed. absurd (false≢true (sym fine' ∙ failed));
     reopened = subst (λ (o : Option LocatedBlock). IfSome o IsToWrite) (sym rest) stands.reopened;
     apart = λ some. (let none : w.going ≡ None = stands.apart (subst IsSome rest some) in absurd (cc (none, going)));
@@ -111,7 +129,7 @@ module _ (a b : Shown) (sound : Shows IsSound a) (w : FileWriter) (block : Block
 
   -- it was let go
   pub let_go_own : LetsGo a block b → OnlyOwnLink a (link_of w) b None
-  let_go_own gone = own_from None (own_link_ended a b (block_link block) gone.at gone.ended)
+  let_go_own gone = own_from None gone.own
 
 idle_own : (a x : Shown) (w : FileWriter) (y : Option ℕ) → w.going ≡ None → OnlyOwnLink a None x y → OnlyOwnLink a (link_of w) x y
 idle_own a x w y none own = subst (λ (g : Option BlockWriter). OnlyOwnLink a (link_by g) x y) (sym none) own
@@ -130,7 +148,7 @@ module _ (a m : Shown) (sound : Shows IsSound a) (w : FileWriter) (between : IsB
     own = idle_own a m w None between.none (own_link_served a m 0 (asks.AddBlock w.path client w.last [] w.file_id) (Err fault) None served);
     tells = tells_exception a m fault (λ class message same. served.last ∙ ap (λ (f : AskFault). last_of (Err f)) same);
     touches = unanswered_touches a m sound w between client fault served;
-    cause = λ p bytes told size c. exception_cause w.path a m fault (λ class message same.
+    cause = λ p bytes told size c. exception_cause w.sizes.rebuilding w.path a m fault (λ class message same.
         (let c' = as_done w between p w.path bytes c in
         let first : 0 ≡ p.active = omega (arith, active p told, size) in (
           0,
@@ -142,22 +160,31 @@ module _ (a m : Shown) (sound : Shows IsSound a) (w : FileWriter) (between : IsB
 
 -- a writer of a file that opens the pipeline of a block
 module _ (m b : Shown) (w : FileWriter) (found : LocatedBlock) (none : w.going ≡ None) (reopened : w.reopened ≡ Some found) where
-  pub opened_wrote : (w' : FileWriter) (block : BlockWriter) (size chunk packet window : ℕ) (setup : Setup) → Keeps w w' → w'.going ≡ Some block → IsNew found size chunk packet window block → OpensLink m setup block b → BeginsWhole m found block b → Wrote m w [] b w'
-  opened_wrote w' block size chunk packet window setup keeps going' new opens begins = record {
+  pub opened_wrote : (w' : FileWriter) (block : BlockWriter) (created : Bool) (settings : RebuildSettings) (size packet : ℕ) (setup : Setup) → Keeps w w' → w'.going ≡ Some block → IsNew (plan_of w found created) settings size packet block
+      → OpensLink m setup block b → BeginsWhole m (plan_of w found created) block b → Wrote m w [] b w'
+  opened_wrote w' block created settings size packet setup keeps going' new opens begins = record {
     keeps = keeps;
     own = idle_own m b w (link_of w') none
         (subst (λ (g : Option BlockWriter). OnlyOwnLink m None b (link_by g)) (sym going')
         (own_link_opened m b setup opens.0 (block_link block) opens.1 opens.2));
-    carries = opened_carries m b w found none reopened w' block size chunk packet window setup going' new opens begins;
+    carries = opened_carries m b w found none reopened w' block created settings size packet setup going' new opens begins;
   }
 
-  pub unopened_fails : (setup : Setup) (fault : LinkFault) → WriteNotOpened m setup fault b → Fails m w (error_of (fault_of fault)) b
-  unopened_fails setup fault not_opened = record {
+  not_opened_fails : (setup : Setup) (fault : LinkFault) → WriteNotOpened m setup fault b → Fails m w (error_of (fault_of fault)) b
+  not_opened_fails setup fault not_opened = record {
     own = idle_own m b w None none (own_link_unopened m b setup fault None not_opened);
     tells = unopened_tells m b w found none reopened setup fault not_opened;
     touches = unopened_touches m b w found none reopened setup fault not_opened;
-    cause = λ p bytes told size c. unopened_cause w.path m b fault;
+    cause = λ p bytes told size c. unopened_cause w.sizes.rebuilding w.path m b fault;
   }
+
+  pub unopened_fails : (setup : Setup) (fault : WriteFault) → OpensNone m setup fault b → Fails m w (error_of fault) b
+  unopened_fails setup fault opens = ⊎_elim
+      (λ starved.
+      subst (λ (f : WriteFault). Fails m w (error_of f) b) (sym starved.0)
+      (subst (λ (x : Shown). Fails m w errors.NoMemory x) (sym starved.1) (starved_fails m w (ap link_by none))))
+      (λ n. subst (λ (f : WriteFault). Fails m w (error_of f) b) (sym n.1) (not_opened_fails setup n.0 n.2))
+      opens
 
 -- a block that isn't gone on with is done
 pub settled_wrote : (a : Shown) (w w' : FileWriter) (found : LocatedBlock) → Keeps w w' → w.going ≡ None → w.reopened ≡ Some found → IsBetweenBlocks w' → w'.last ≡ Some found.b → Wrote a w [] a w'
@@ -168,18 +195,19 @@ settled_wrote a w w' found keeps none reopened between last = record {
 }
 
 -- a writer of a file whose block was begun
-pub begun_stands : (b m : Shown) (w w' : FileWriter) (block : BlockWriter) (found : LocatedBlock) (setup : Setup) → AreSizes w.sizes → w'.failed ≡ false → w'.sizes ≡ w.sizes → w'.going ≡ Some block → w'.reopened ≡ None
-    → StandsItself b block → IsNew found w.sizes.block_size w.sizes.chunk w.sizes.packet_size w.sizes.window block → OpensLink m setup block b → Stands b w'
-begun_stands b m w w' block found setup sizes fine same going done itself new opens = record {
+pub begun_stands : (b m : Shown) (w w' : FileWriter) (block : BlockWriter) (found : LocatedBlock) (created : Bool) (setup : Setup) → AreSizes w.sizes → w'.failed ≡ false → w'.sizes ≡ w.sizes → w'.going ≡ Some block → w'.reopened ≡ None
+    → StandsItself b block → IsNew (plan_of w found created) w.sizes.rebuilding w.sizes.block_size w.sizes.packet_size block → OpensLink m setup block b → Stands b w'
+begun_stands b m w w' block found created setup sizes fine same going done itself new opens = record {
   packets = subst (λ (s : WriteSizes). ArePackets s) (sym same) sizes.packets;
   going = λ other is.
       (let one : block ≡ other = cc (going, is) in
       subst (λ (x : BlockWriter). BlockStands b w'.sizes x) one (record {
         limited = subst (λ (s : WriteSizes). AreLimited s) (sym same) sizes.limited;
         stands = itself;
-        size = new.size ∙ ap (λ (s : WriteSizes). s.block_size) (sym same);
+        size = new.block_size ∙ ap (λ (s : WriteSizes). s.block_size) (sym same);
         chunk = new.chunk ∙ ap (λ (s : WriteSizes). s.chunk) (sym same);
         packet_size = new.packet_size ∙ ap (λ (s : WriteSizes). s.packet_size) (sym same);
+        settings = new.with ∙ ap (λ (s : WriteSizes). s.rebuilding) (sym same);
       }));
   is_open = λ fine' other is.
       (let one : block ≡ other = cc (going, is) in

@@ -1,56 +1,53 @@
 -- What each step of a writer of a file comes to.
-use Rattle.std.proofs.Common.{◌≡◌, ⊎_elim, ℕ, ◌+◌, ◌≤◌, Bool, true, false, List, [], ◌++◌, length, Option, Some, None, IsSome, refl, sym, ◌∙◌, ap, subst}
+use Rattle.std.proofs.Common.{◌≡◌, ⊎_elim, ℕ, ◌+◌, ◌<◌, ◌≤◌, Bool, List, [], ◌++◌, length, Option, Some, None, IsSome, refl, sym, ◌∙◌, ap, subst}
 use Rattle.std.proofs.lemmas.List.{append-nil}
-use Rattle.std.proofs.lemmas.Bool.{false≢true}
-use Rattle.std.specs.Prelude.{Any, Contains, Ok, Err, cond}
+use Rattle.std.specs.Prelude.{Contains, Ok, Err, slice_index_or}
 use Rattle.hdfs_model.specs.declared.asks.Answer.TheVariants as answers
 use Rattle.hdfs_model.specs.declared.asks.Ask.TheVariants as asks
 use Rattle.hdfs_model.specs.declared.asks.AskFault.{AskFault}
-use Rattle.hdfs_model.specs.declared.asks.AskFault.TheVariants as ask_faults
 use Rattle.hdfs_model.specs.declared.asks.LinkFault.{LinkFault}
 use Rattle.hdfs_model.specs.declared.asks.LinkFault.TheVariants as link_faults
-use Rattle.hdfs_model.specs.declared.errors.HdfsError.TheVariants as errors
 use Rattle.hdfs_model.specs.declared.messages.Block.{Block}
 use Rattle.hdfs_model.specs.declared.messages.LocatedBlock.{LocatedBlock}
 use Rattle.hdfs_model.specs.declared.messages.Setup.{Setup}
 use Rattle.hdfs_model.specs.declared.picture.Entry.{Entry}
-use Rattle.hdfs_model.specs.declared.picture.OpenWrite.{OpenWrite}
-use Rattle.hdfs_model.specs.declared.picture.LastAnswer.TheVariants as last_answers
-use Rattle.hdfs_model.specs.Causes.{CallsRose, PipelineFailed}
-use Rattle.hdfs_model.specs.Counts.{Rose}
-use Rattle.hdfs_model.specs.Effects.{blocks_at}
+use Rattle.hdfs_model.specs.Effects.{AddsBlock, blocks_at}
 use Rattle.hdfs_model.specs.Picture.{Picture, SamePicture}
-use Rattle.hdfs_model.specs.Pipes.{WriteNotOpened, ShowsWrites}
-use Rattle.hdfs_model.specs.Sending.{uuids, WritePlace}
+use Rattle.hdfs_model.specs.Pipes.{WriteNotOpened}
+use Rattle.hdfs_model.specs.Sending.{uuids}
 use Rattle.hdfs_model.specs.Shown.{Shown, Served}
 use Rattle.hdfs_model.specs.Sound.{IsSound}
 use Rattle.hdfs_model.specs.Writing.{Starts}
 use Rattle.hdfs_model.proofs.Frames.{told_after}
-use Rattle.hdfs_model.specs.Namenode.{is_taken}
-use Rattle.hdfs_namenode.specs.Asked.{error_of as asked_error}
 use Rattle.hdfs_blocks.specs.Carrying.{HoldsWhole}
-use Rattle.hdfs_blocks.specs.Piped.{HasCause as LinkCause}
-use Rattle.hdfs_blocks.specs.Writers.{block_of, length_of, block_so_far, link_of as block_link, link_in, Stands as BlockStands}
-use Rattle.hdfs_blocks.specs.Writes.{Ends, GaveUp, LetsGo, Wrote, IsNew, OpensLink, BeginsWhole, fault_of}
-use Rattle.hdfs_blocks.proofs.Wrote.{link_is}
-use Rattle.hdfs_blocks.specs.declared.block_writer.BlockWriter.{BlockWriter}
-use Rattle.hdfs_blocks.specs.declared.pipe.Pipe.{Pipe}
-use Rattle.hdfs_blocks.specs.declared.pipe.WriteFault.{WriteFault}
-use Rattle.hdfs_blocks.specs.declared.pipe.WriteFault.TheVariants as faults
+use Rattle.hdfs_recovery.specs.declared.block_plan.BlockPipeline.{BlockPipeline}
+use Rattle.hdfs_recovery.specs.declared.block_plan.BlockPlan.{BlockPlan}
+use Rattle.hdfs_recovery.specs.declared.block_plan.RebuildSettings.{RebuildSettings}
+use Rattle.hdfs_recovery.specs.declared.block_plan.WriteFault.{WriteFault}
+use Rattle.hdfs_recovery.proofs.Stepping.{only_block_of-only}
+use Rattle.hdfs_block_writer.specs.declared.block_writer.BlockWriter.{BlockWriter}
+use Rattle.hdfs_block_writer.specs.BlockWriters.{HasFailed, length_of}
+use Rattle.hdfs_block_writer.specs.OpenPipelines.{KeepsBlock, id_of, nodes_of}
+use Rattle.hdfs_block_writer.specs.Written.{Closes, GaveUp, IsCarrying, LetsGo, Wrote, IsNew, OpensLink, BeginsWhole, fault_of}
+use Rattle.hdfs_block_writer.proofs.Wrote.{pipe_is}
 use Rattle.hdfs_files.specs.declared.file_writer.FileWriter.{FileWriter}
 use Rattle.hdfs_files.specs.declared.sizes.WriteSizes.{WriteSizes}
 use Rattle.hdfs_files.specs.Failing.{TellsWrite, CauseOfWrite}
 use Rattle.hdfs_files.specs.Faults.{error_of}
 use Rattle.hdfs_files.specs.OnlyFiles.{OnlyFile, SameFile}
-use Rattle.hdfs_files.specs.Tails.{Tail, Reopened, Going, tail_length, IsFull, FillsBlocks, StoresFront, TailCarries, FileCarries}
-use Rattle.hdfs_files.specs.Writers.{blocks_in, tail_done, tail_by, tail_of, IsBetweenBlocks, CarriesMore, TouchesFile, LeavesFile}
+use Rattle.hdfs_files.specs.Tails.{Tail, Finished, Reopened, Going, tail_length, IsFull, FillsBlocks, StoresFront, TailCarries, FileCarries}
+use Rattle.hdfs_files.specs.WholeBlocks.{StaysWhole}
+use Rattle.hdfs_files.specs.Writers.{blocks_in, plan_of, tail_done, tail_by, tail_of, IsBetweenBlocks, CarriesMore, TouchesFile, LeavesFile}
 use Rattle.hdfs_files.proofs.Asked.{added, not_added}
-use Rattle.hdfs_files.proofs.Blocks.{touches_own, going_more, going_ended}
+use Rattle.hdfs_files.proofs.Blocks.{touches_own, going_more, going_ended, going_whole}
 use Rattle.hdfs_files.proofs.Completing.{front_same}
 use Rattle.hdfs_files.proofs.Filling.{tail_going, tail_reopened, tail_between, fills_same, fills_more, fills_trans, fills_grown}
 use Rattle.hdfs_files.proofs.Growing.{grows, last_of_carried}
 use Rattle.hdfs_files.proofs.Moving.{only_file_refl, only_file_trans, same_file_refl, same_file_trans}
+use Rattle.hdfs_files.proofs.Placing.{contains_last}
+use Rattle.hdfs_files.proofs.Telling.{fault_cause}
 use Rattle.hdfs_files.proofs.Touching.{only_file_active}
+use Rattle.hdfs_files.proofs.WholeBlocks.{stays_unchanged, stays_kept, stays_trans, stays_grown}
 
 -- a law of the picture that is shown
 abbrev pub Shows : (Picture → Type 0) → Shown → Type 0
@@ -65,44 +62,14 @@ carries_nothing a writer p bytes told c = (
   only_file_refl writer.path p,
   same_file_refl writer.path p,
   fills_same writer.sizes.block_size (blocks_in p writer) (blocks_in p writer) (tail_of writer) (tail_of writer) refl refl,
+  stays_unchanged writer.sizes.block_size p (blocks_in p writer) (tail_of writer),
 )
 
--- a block's writer that stands has an open link
-pub open_link : (shown : Shown) (block : BlockWriter) → BlockStands shown block → IsSome (block_link block) → (link : ℕ) × (block_link block ≡ Some link) × ((write : OpenWrite) × (shown.writes link ≡ Some write))
-open_link shown block stands some = by_pipe block.pipe refl some
-  where
-    by_pipe : (o : Option Pipe) → block.pipe ≡ o → IsSome (link_in o) → (link : ℕ) × (block_link block ≡ Some link) × ((write : OpenWrite) × (shown.writes link ≡ Some write))
-    by_pipe None is there = absurd (false≢true there)
-    by_pipe (Some pipe) is there =
-        let drives = (stands pipe is).1.goes.going.drives in
-        (pipe.link, ap link_in is, (drives.0, drives.1))
-
--- a fault of a block's writer is no exception of a namenode, and a pipeline fails for its cause
-pub block_cause : (path : List ℕ) (a b : Shown) (fault : WriteFault) → (fault ≡ faults.AllNodes → PipelineFailed a.counts b path)
-    → CauseOfWrite path a b (error_of fault)
-block_cause path a b faults.NoMemory failed = tt
-block_cause path a b faults.Failed failed = tt
-block_cause path a b faults.Link failed = tt
-block_cause path a b faults.Setup failed = tt
-block_cause path a b (faults.BadAck seqno) failed = tt
-block_cause path a b faults.AllNodes failed = failed refl
-
 -- no fault of a set-up is that of a pipeline
-pub unopened_cause : (path : List ℕ) (a b : Shown) (fault : LinkFault) → CauseOfWrite path a b (error_of (fault_of fault))
-unopened_cause path a b link_faults.NoMemory = tt
-unopened_cause path a b link_faults.Broken = tt
-unopened_cause path a b link_faults.Refused = tt
-
-tells_fault : (a b : Shown) (link : ℕ) (write : OpenWrite) → a.writes link ≡ Some write → (fault : WriteFault) → LinkCause link a fault b → TellsWrite a b (error_of fault)
-tells_fault a b link write open_at faults.NoMemory cause = tt
-tells_fault a b link write open_at faults.Failed cause = cause
-tells_fault a b link write open_at faults.Link cause = absurd cause
-tells_fault a b link write open_at faults.Setup cause = absurd cause
-tells_fault a b link write open_at (faults.BadAck seqno) cause = cause
-tells_fault a b link write open_at faults.AllNodes cause = (let rose = cause write open_at in (rose.1, rose.4))
-
-place_same : (writes : ℕ → Option WritePlace) (m n : ℕ) (v w : WritePlace) → m ≡ n → writes m ≡ Some v → writes n ≡ Some w → v ≡ w
-place_same writes m n v w same one two = let three : writes n ≡ Some v = ap writes (sym same) ∙ one in cc (two, three)
+pub unopened_cause : (settings : RebuildSettings) (path : List ℕ) (a b : Shown) (fault : LinkFault) → CauseOfWrite settings path a b (error_of (fault_of fault))
+unopened_cause settings path a b link_faults.NoMemory = tt
+unopened_cause settings path a b link_faults.Broken = tt
+unopened_cause settings path a b link_faults.Refused = tt
 
 -- what is carried between blocks
 pub as_done : (writer : FileWriter) → IsBetweenBlocks writer → (p : Picture) (path bytes : List ℕ) → FileCarries p path (tail_of writer) bytes → FileCarries p path (tail_done writer.last) bytes
@@ -115,87 +82,82 @@ from_done p path writer between bytes c =
     subst (λ (g : Option BlockWriter). FileCarries p path (tail_by g writer.reopened writer.last) bytes) (sym between.none)
     (subst (λ (o : Option LocatedBlock). FileCarries p path (tail_by None o writer.last) bytes) (sym between.done) c)
 
-module _ (a b : Shown) (sound : Shows IsSound a) (writer : FileWriter) (block : BlockWriter) (going : writer.going ≡ Some block) where
+module _ (a b : Shown) (sound : Shows IsSound a) (sound' : Shows IsSound b) (writer : FileWriter) (block : BlockWriter) (going : writer.going ≡ Some block) where
   as_going : (p : Picture) (bytes : List ℕ) → FileCarries p writer.path (tail_of writer) bytes → FileCarries p writer.path (Going block) bytes
   as_going p bytes c = subst (λ (g : Option BlockWriter). FileCarries p writer.path (tail_by g writer.reopened writer.last) bytes) going c
 
-  -- the block was ended
-  pub ended_carries : (writer' : FileWriter) → IsBetweenBlocks writer' → writer'.last ≡ Some (block_so_far block) → Ends a block b → CarriesMore a writer [] b writer'
-  ended_carries writer' between last ends p bytes told c =
+  -- the block was ended, and has this name
+  pub ended_carries : (writer' : FileWriter) → IsBetweenBlocks writer' → (named : Block) → writer'.last ≡ Some named → Closes a block named b → CarriesMore a writer [] b writer'
+  ended_carries writer' between named last closes p bytes told c =
       let c' = as_going p bytes c in
-      let whole = ends.whole p c'.carries.2.0 c'.carries.0 told c'.carries.2.1 in
-      let touches = touches_own p (sound p told) writer.path block bytes c' whole.0 c'.carries.2.0 whole.3 in (
+      let own = c'.carries.1 in
+      let ends = closes.2 in
+      let whole = ends.whole p c'.carries.0 told own in
+      let only = whole.3.0 in
+      let touches = touches_own p (sound p told) writer.path block bytes c' whole.0 (sound' whole.0 whole.1) only in
+      let same : named.block_id ≡ id_of own.pipe = ap (λ (x : Block). x.block_id) closes.1 ∙ (ends.keeps own.pipe own.is).0.id in
+      let long : named.num_bytes ≡ length_of block = ap (λ (x : Block). x.num_bytes) closes.1 in (
         whole.0,
         whole.1,
         subst (FileCarries whole.0 writer.path (tail_of writer')) (sym (append-nil bytes))
             (from_done whole.0 writer.path writer' between bytes
             (subst (λ (l : Option Block). FileCarries whole.0 writer.path (tail_done l) bytes) (sym last)
-            (going_ended p (sound p told) writer.path block bytes c' whole.0 (length_of block) whole.3 whole.2))),
+            (subst (λ (i : ℕ). FileCarries whole.0 writer.path (Finished i named.num_bytes) bytes) (sym same)
+            (subst (λ (n : ℕ). FileCarries whole.0 writer.path (Finished (id_of own.pipe) n) bytes) (sym long)
+            (going_ended p (sound p told) writer.path block bytes c' whole.0 (length_of block) (uuids closes.0.block.locs) only whole.2))))),
         touches.0,
         touches.1,
         fills_same writer.sizes.block_size (blocks_in p writer) (blocks_in whole.0 writer) (tail_of writer) (tail_of writer')
-            (ap blocks_at (whole.3.records.names writer.path))
-            (ap tail_length (tail_between writer' between ∙ ap tail_done last) ∙ sym (ap tail_length (tail_going writer block going))),
+            (ap blocks_at (only.names writer.path))
+            (ap tail_length (tail_between writer' between ∙ ap tail_done last) ∙ long ∙ sym (ap tail_length (tail_going writer block going))),
+        going_whole p (sound p told) writer.path block bytes c' whole.0 only writer.sizes.block_size (tail_of writer),
       )
 
   -- it was given up
   pub gave_up_touches : (fault : WriteFault) → GaveUp a block fault b → TouchesFile a writer b
   gave_up_touches fault gave p bytes told c =
       let c' = as_going p bytes c in
-      let only = gave.touches p c'.carries.2.0 c'.carries.0 told c'.carries.2.1 in
-      (only.0, only.1, (touches_own p (sound p told) writer.path block bytes c' only.0 c'.carries.2.0 only.2).0)
+      let own = c'.carries.1 in
+      let only = (gave own.pipe own.is).touches p told (c'.carries.0, own) in
+      (only.0, only.1, (touches_own p (sound p told) writer.path block bytes c' only.0 (sound' only.0 only.1) only.2.0).0)
 
-  pub gave_up_tells : BlockStands a block → IsSome (block_link block) → (fault : WriteFault) → GaveUp a block fault b → TellsWrite a b (error_of fault)
-  gave_up_tells stands some fault gave =
-      let link = open_link a block stands some in
-      tells_fault a b link.0 link.2.0 link.2.1 fault (gave.cause link.0 link.1)
-
-  -- where its pipeline has failed, a datanode has that is listed for the file's last block
-  pub gave_up_failed : Shows (ShowsWrites a) a → BlockStands a block → IsSome (block_link block) → (fault : WriteFault) → GaveUp a block fault b
-      → (p : Picture) (bytes : List ℕ) → a.picture ≡ Some p → FileCarries p writer.path (tail_of writer) bytes
-      → fault ≡ faults.AllNodes → PipelineFailed a.counts b writer.path
-  gave_up_failed shows stands some fault gave p bytes told c is =
+  -- and for its cause
+  pub gave_up_cause : block.settings ≡ writer.sizes.rebuilding → (fault : WriteFault) → GaveUp a block fault b → (p : Picture) (bytes : List ℕ)
+      → a.picture ≡ Some p → p.active ≡ 0 → 0 < b.namenodes → FileCarries p writer.path (tail_of writer) bytes
+      → CauseOfWrite writer.sizes.rebuilding writer.path a b (error_of fault)
+  gave_up_cause same fault gave p bytes told first some c =
       let c' = as_going p bytes c in
-      let held = c'.carries.2.1 in
-      let on = held.carries.linked.on in
-      let only = gave.touches p c'.carries.2.0 c'.carries.0 told held in
-      let id = (block_of block).block_id in
-      let link = open_link a block stands some in
-      let place = shows p told link.0 link.2.0 link.2.1 in
-      let same : link.0 ≡ held.pipe.link = link_is block held.pipe link.0 held.is link.1 in
-      let one : place.0 ≡ on.place = place_same p.writes link.0 held.pipe.link place.0 on.place same place.1 on.told in
-      let any = subst (λ (f : WriteFault). LinkCause link.0 a f b) is (gave.cause link.0 link.1) link.2.0 link.2.1 in
-      record {
-        picture = only.0;
-        told = only.1;
-        file = c'.file;
-        named = only.2.records.names writer.path ∙ c'.named;
-        front = c'.carries.1.front;
-        id = id;
-        last = c'.carries.1.ends;
-        entry = held.carries.entry;
-        is = only.2.records.table id ∙ held.carries.is;
-        failed = subst (Any (λ node. Rose (a.counts.nodes node) (b.counts.nodes node)))
-            (sym place.2.nodes ∙ ap (λ (w : WritePlace). w.nodes) one ∙ on.same_nodes ∙ sym held.carries.same_listed) any;
-      }
+      let own = c'.carries.1 in
+      let gives = gave own.pipe own.is in
+      let carrying : IsCarrying block p = (c'.carries.0, own) in
+      let only = gives.touches p told carrying in
+      subst (λ (r : RebuildSettings). CauseOfWrite r writer.path a b (error_of fault)) same
+      (fault_cause a b writer.path c'.file c'.carries.3.front (id_of own.pipe) c'.carries.3.ends only.0 only.1
+      (only.2.0.names writer.path ∙ c'.named) (IsCarrying block) p told carrying first some block.settings own.pipe.plan.rebuilds fault gives.cause)
 
   -- more bytes went into it
   pub wrote_carries : (writer' : FileWriter) (block' : BlockWriter) (more : List ℕ) → writer'.going ≡ Some block' → length_of block' ≤ writer.sizes.block_size → Wrote a block more b block' → CarriesMore a writer more b writer'
   wrote_carries writer' block' more going' within wrote p bytes told c =
       let c' = as_going p bytes c in
-      let on = wrote.carries p c'.carries.2.0 c'.carries.0 told c'.carries.2.1 in
-      let touches = touches_own p (sound p told) writer.path block bytes c' on.0 c'.carries.2.0 on.3 in (
+      let own = c'.carries.1 in
+      let on = wrote.carries p c'.carries.0 told own in
+      let only = on.3.0 in
+      let touches = touches_own p (sound p told) writer.path block bytes c' on.0 (sound' on.0 on.1) only in
+      let stays = wrote.stays own.pipe own.is in
+      let keeps : KeepsBlock own.pipe.plan on.2.pipe.plan =
+      subst (λ (x : BlockPipeline). KeepsBlock own.pipe.plan x.plan) (pipe_is stays.0 on.2.pipe (sym stays.1 ∙ on.2.is)) stays.2 in (
         on.0,
         on.1,
         subst (λ (g : Option BlockWriter). FileCarries on.0 writer.path (tail_by g writer'.reopened writer'.last) (bytes ++ more)) (sym going')
-            (going_more p (sound p told) writer.path block bytes c' on.0 block' more (ap (λ (x : Block). x.block_id) wrote.keeps.block) on.3 on.2),
+            (going_more p (sound p told) writer.path block bytes c' on.0 block' more on.2 keeps only),
         touches.0,
         touches.1,
         fills_more writer.sizes.block_size (blocks_in p writer) (blocks_in on.0 writer) (tail_of writer) (tail_of writer') more
-            (ap blocks_at (on.3.records.names writer.path))
+            (ap blocks_at (only.names writer.path))
             (ap tail_length (tail_going writer' block' going') ∙ wrote.length
             ∙ ap (λ (t : Tail). tail_length t + length more) (sym (tail_going writer block going)))
             (subst (λ (t : Tail). tail_length t ≤ writer.sizes.block_size) (sym (tail_going writer' block' going')) within),
+        going_whole p (sound p told) writer.path block bytes c' on.0 only writer.sizes.block_size (tail_of writer),
       )
 
 -- the blocks are filled as they are for another writer of the same file
@@ -206,10 +168,19 @@ fills_as p q w x y more same sizes fills =
     subst (λ (path : List ℕ). FillsBlocks w.sizes.block_size (blocks_at (p.names path)) (tail_of x) more (blocks_at (q.names path)) (tail_of y)) same
     (subst (λ (s : WriteSizes). FillsBlocks s.block_size (blocks_in p x) (tail_of x) more (blocks_in q x) (tail_of y)) sizes fills)
 
+-- so are they whole
+whole_as : (p q : Picture) (w x : FileWriter) → x.path ≡ w.path → x.sizes ≡ w.sizes
+    → StaysWhole x.sizes.block_size p (blocks_in p x) (tail_of x) q (blocks_in q x)
+    → StaysWhole w.sizes.block_size p (blocks_in p w) (tail_of x) q (blocks_in q w)
+whole_as p q w x same sizes stays =
+    subst (λ (path : List ℕ). StaysWhole w.sizes.block_size p (blocks_at (p.names path)) (tail_of x) q (blocks_at (q.names path))) same
+    (subst (λ (s : WriteSizes). StaysWhole s.block_size p (blocks_in p x) (tail_of x) q (blocks_in q x)) sizes stays)
+
 -- calls after one another
 pub carries_trans : (a b c : Shown) (w x y : FileWriter) (one two : List ℕ) → x.path ≡ w.path → x.sizes ≡ w.sizes → CarriesMore a w one b x → CarriesMore b x two c y → (p : Picture) (bytes : List ℕ) → a.picture ≡ Some p → FileCarries p w.path (tail_of w) bytes
     → (q : Picture) × (c.picture ≡ Some q) × FileCarries q w.path (tail_of y) ((bytes ++ one) ++ two) × OnlyFile w.path p q × SameFile w.path p q
     × FillsBlocks w.sizes.block_size (blocks_in p w) (tail_of w) (one ++ two) (blocks_in q w) (tail_of y)
+    × StaysWhole w.sizes.block_size p (blocks_in p w) (tail_of w) q (blocks_in q w)
 carries_trans a b c w x y one two same sizes first then p bytes told carried =
     let f = first p bytes told carried in
     let t = then f.0 (bytes ++ one) f.1 (subst (λ (path : List ℕ). FileCarries f.0 path (tail_of x) (bytes ++ one)) (sym same) f.2) in (
@@ -220,6 +191,8 @@ carries_trans a b c w x y one two same sizes first then p bytes told carried =
       same_file_trans w.path p f.0 t.0 f.4 (subst (λ (path : List ℕ). SameFile path f.0 t.0) same t.4),
       fills_trans w.sizes.block_size (blocks_in p w) (blocks_in f.0 w) (blocks_in t.0 w) (tail_of w) (tail_of x) (tail_of y) one two f.5
           (fills_as f.0 t.0 w x y two same sizes t.5),
+      stays_trans w.sizes.block_size p f.0 t.0 (blocks_in p w) (blocks_in f.0 w) (blocks_in t.0 w) (tail_of w) (tail_of x)
+          (λ within. (f.5 within).0) f.6 (whole_as f.0 t.0 w x same sizes t.6),
     )
 
 pub touches_behind : (a b c : Shown) (w x : FileWriter) (one : List ℕ) → x.path ≡ w.path → CarriesMore a w one b x → TouchesFile b x c → TouchesFile a w c
@@ -250,9 +223,18 @@ fills_behind : (p q : Picture) (w : FileWriter) → IsBetweenBlocks w → (bytes
 fills_behind p q w between bytes c size full found empty longer =
     let at : c.file.blocks ≡ blocks_in p w = sym (ap blocks_at c.named) in
     subst (λ (t : Tail). FillsBlocks size (blocks_in p w) t [] (blocks_in q w) (Reopened found)) (sym (tail_between w between))
-    (fills_grown p size (blocks_in p w) (blocks_in q w) w.last bytes (Reopened found)
-    (subst (λ (l : List ℕ). TailCarries p l (tail_done w.last) bytes) at c.carries)
+    (fills_grown p w.path size (blocks_in p w) (blocks_in q w) w.last bytes (Reopened found)
+    (subst (λ (l : List ℕ). TailCarries p w.path l (tail_done w.last) bytes) at c.carries)
     (subst (IsFull size) (tail_between w between) full) longer empty)
+
+-- and the blocks before it are whole
+whole_behind : (p q : Picture) → IsSound p → (w : FileWriter) → IsBetweenBlocks w → (bytes : List ℕ) (c : FileCarries p w.path (tail_done w.last) bytes)
+    (size : ℕ) → IsFull size (tail_of w) → (found : LocatedBlock) → AddsBlock w.path c.file w.last found p q
+    → StaysWhole size p (blocks_in p w) (tail_of w) q (blocks_in q w)
+whole_behind p q sound w between bytes c size full found adds =
+    subst (λ (l : List ℕ). StaysWhole size p l (tail_of w) q (blocks_in q w)) (sym (ap blocks_at c.named))
+    (subst (λ (t : Tail). StaysWhole size p c.file.blocks t q (blocks_in q w)) (sym (tail_between w between))
+    (stays_grown p q sound w.path w.last bytes c found adds size (subst (IsFull size) (tail_between w between) full)))
 
 module _ (a m : Shown) (sound : Shows IsSound a) (writer : FileWriter) (between : IsBetweenBlocks writer) (client : List ℕ) where
   -- a block was answered, which is to be written
@@ -272,6 +254,7 @@ module _ (a m : Shown) (sound : Shows IsSound a) (writer : FileWriter) (between 
         g.only,
         g.same,
         fills_behind p add.0 writer between bytes c' writer.sizes.block_size full found empty g.longer,
+        whole_behind p add.0 (sound p told) writer between bytes c' writer.sizes.block_size full found add.2,
       )
 
   -- no block was answered
@@ -290,15 +273,22 @@ module _ (m b : Shown) (writer : FileWriter) (found : LocatedBlock) (none : writ
       (subst (λ (g : Option BlockWriter). FileCarries p writer.path (tail_by g writer.reopened writer.last) bytes) none c)
 
   -- is gone on with
-  pub opened_carries : (writer' : FileWriter) (block : BlockWriter) (size chunk packet window : ℕ) (setup : Setup) → writer'.going ≡ Some block → IsNew found size chunk packet window block → OpensLink m setup block b → BeginsWhole m found block b → CarriesMore m writer [] b writer'
-  opened_carries writer' block size chunk packet window setup going' new opens begins p bytes told c =
+  pub opened_carries : (writer' : FileWriter) (block : BlockWriter) (created : Bool) (settings : RebuildSettings) (size packet : ℕ) (setup : Setup) → writer'.going ≡ Some block → IsNew (plan_of writer found created) settings size packet block
+      → OpensLink m setup block b → BeginsWhole m (plan_of writer found created) block b → CarriesMore m writer [] b writer'
+  opened_carries writer' block created settings size packet setup going' new opens begins p bytes told c =
       let c' = as_reopened p bytes c in
-      let on = begins p c'.carries.0 told c'.carries.2 in
+      let front = c'.carries.1 in
+      let mine : Contains c'.file.blocks found.b.block_id =
+      subst (λ (l : List ℕ). Contains l found.b.block_id) (sym front.ends) (contains_last front.front found.b.block_id) in
+      let on = begins p c'.carries.0 told (record { file = c'.file; named = c'.named; is_open = c'.being_written; has = mine }) c'.carries.2 in
       let r = on.0 in
       let after = told_after (Starts opens.0 setup) m.picture b.picture p opens.2.starts told in
       let starts : Starts opens.0 setup p r = subst (Starts opens.0 setup p) (some_same after.0 r b.picture after.1 on.1) after.2 in
-      let front : StoresFront r c'.file.blocks (block_of block).block_id bytes c'.carries.0 =
-      subst (λ (x : Block). StoresFront r c'.file.blocks x.block_id bytes c'.carries.0) (sym new.block) (front_same p r c'.file.blocks found.b.block_id bytes c'.carries.0 starts.files c'.carries.1) in (
+      let plan : on.2.pipe.plan ≡ plan_of writer found created =
+      ap (λ (x : BlockPipeline). x.plan) (pipe_is on.2.pipe new.pipe (sym on.2.is ∙ new.is)) ∙ new.plan in
+      let front' : StoresFront r c'.file.blocks (id_of on.2.pipe) bytes c'.carries.0 =
+      subst (λ (x : BlockPlan). StoresFront r c'.file.blocks x.block.b.block_id bytes c'.carries.0) (sym plan)
+      (front_same p r c'.file.blocks found.b.block_id bytes c'.carries.0 starts.files front) in (
         r,
         on.1,
         subst (FileCarries r writer.path (tail_of writer')) (sym (append-nil bytes))
@@ -306,7 +296,7 @@ module _ (m b : Shown) (writer : FileWriter) (found : LocatedBlock) (none : writ
               file = c'.file;
               named = starts.files.names writer.path ∙ c'.named;
               being_written = c'.being_written;
-              carries = (c'.carries.0, front, (uuids found.locs, on.2));
+              carries = (c'.carries.0, on.2, ap (λ (x : BlockPlan). x.src) plan, front');
             })),
         only_file_started writer.path p r opens.0 setup starts,
         λ file is. (file.blocks, starts.files.names writer.path ∙ is),
@@ -314,6 +304,8 @@ module _ (m b : Shown) (writer : FileWriter) (found : LocatedBlock) (none : writ
             (ap blocks_at (starts.files.names writer.path))
             (ap tail_length (tail_going writer' block going') ∙ new.length
             ∙ sym (ap tail_length (tail_reopened writer found none reopened))),
+        stays_kept writer.sizes.block_size p r (blocks_in p writer) (blocks_in r writer) (tail_of writer) (ap blocks_at (starts.files.names writer.path))
+            (λ k lt. (starts.files.table (slice_index_or (blocks_in p writer) k 0), λ node. starts.files.held node (slice_index_or (blocks_in p writer) k 0))),
       )
 
   -- its pipeline was not set up
@@ -346,32 +338,25 @@ settled_carries a writer writer' found none reopened between last p bytes told c
       fills_same writer.sizes.block_size (blocks_in p writer) (blocks_in p writer) (tail_of writer) (tail_of writer') refl
           (ap tail_length (tail_between writer' between ∙ ap tail_done last)
           ∙ sym (ap tail_length (tail_reopened writer found none reopened))),
+      stays_unchanged writer.sizes.block_size p (blocks_in p writer) (tail_of writer),
     )
 
--- an exception of a namenode, as it is told
-pub tells_exception : (a b : Shown) (fault : AskFault) → ((class message : List ℕ) → fault ≡ ask_faults.Exception class message → b.last ≡ last_answers.Exception class message) → TellsWrite a b (asked_error fault)
-tells_exception a b ask_faults.NoMemory last = tt
-tells_exception a b (ask_faults.Exception class message) last = by_class (is_taken class) refl
-  where
-    by_class : (t : Bool) → is_taken class ≡ t → TellsWrite a b (cond t (errors.AlreadyExists message) (errors.RPCError class message))
-    by_class true is = (class, is, last class message refl)
-    by_class false is = last class message refl
-
--- and where it has its cause
-pub exception_cause : (path : List ℕ) (a b : Shown) (fault : AskFault) → ((class message : List ℕ) → fault ≡ ask_faults.Exception class message → CallsRose a.counts b) → CauseOfWrite path a b (asked_error fault)
-exception_cause path a b ask_faults.NoMemory rose = tt
-exception_cause path a b (ask_faults.Exception class message) rose = by_class (is_taken class)
-  where
-    by_class : (t : Bool) → CauseOfWrite path a b (cond t (errors.AlreadyExists message) (errors.RPCError class message))
-    by_class true = rose class message refl
-    by_class false = rose class message refl
-
 -- a block's writer was let go
-pub let_go_leaves : (a b : Shown) → Shows IsSound a → (writer : FileWriter) (block : BlockWriter) → writer.going ≡ Some block → LetsGo a block b → LeavesFile a writer b
-let_go_leaves a b sound writer block going gone p bytes told c =
-    let c' = as_going a b sound writer block going p bytes c in
-    let only = gone.touches p c'.carries.2.0 c'.carries.0 told c'.carries.2.1 in
-    (only.0, only.1, (touches_own p (sound p told) writer.path block bytes c' only.0 c'.carries.2.0 only.2).0, only.2.records)
+pub let_go_leaves : (a b : Shown) → Shows IsSound a → Shows IsSound b → (writer : FileWriter) (block : BlockWriter) → writer.going ≡ Some block → LetsGo a block b → LeavesFile a writer b
+let_go_leaves a b sound sound' writer block going gone p bytes told c =
+    let c' = as_going a b sound sound' writer block going p bytes c in
+    let own = c'.carries.1 in
+    let only = gone.touches p c'.carries.0 told own in
+    let of = only_block_of-only (id_of own.pipe) (nodes_of own.pipe) p only.0 only.2 in
+    (only.0, only.1, (touches_own p (sound p told) writer.path block bytes c' only.0 (sound' only.0 only.1) of).0, only.2.records)
+
+-- and no namenode answered anything
+pub let_go_last : (a b : Shown) (block : BlockWriter) → LetsGo a block b → (HasFailed block → b ≡ a) → b.last ≡ a.last
+let_go_last a b block gone failed = by_pipe block.pipe refl
+  where
+    by_pipe : (o : Option BlockPipeline) → block.pipe ≡ o → b.last ≡ a.last
+    by_pipe None is = ap (λ (s : Shown). s.last) (failed is)
+    by_pipe (Some pipe) is = (gone.ended pipe is).writes.only.last
 
 -- nothing was done
 pub idle_leaves : (a : Shown) (writer : FileWriter) → LeavesFile a writer a

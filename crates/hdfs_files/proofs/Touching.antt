@@ -9,10 +9,11 @@ use Rattle.hdfs_model.specs.declared.picture.Entry.TheVariants as entries
 use Rattle.hdfs_model.specs.declared.picture.FileEntry.{FileEntry}
 use Rattle.hdfs_model.specs.Effects.{Changes, of_length, with_length, with_block, with_entry, blocks_at, AddsNew}
 use Rattle.hdfs_model.specs.Picture.{Picture, SameButActive}
-use Rattle.hdfs_model.specs.Sound.{IsFileAt}
-use Rattle.hdfs_model.specs.Writing.{OnlyBlock}
+use Rattle.hdfs_model.specs.Sound.{IsSound, IsFileAt}
+use Rattle.hdfs_recovery.specs.Between.{OnlyBlockOf}
 use Rattle.hdfs_files.specs.OnlyFiles.{OnlyFile, SameFile}
 use Rattle.hdfs_files.proofs.Adding.{named_after}
+use Rattle.hdfs_files.proofs.Others.{is_listed}
 use Rattle.hdfs_files.proofs.Placing.{at_path, at_id, some_none}
 
 at_file : (p : Picture) (path : List ℕ) (file : FileEntry) (id : ℕ) → IsFileAt p path file → Contains file.blocks id → Contains (blocks_at (p.names path)) id
@@ -22,22 +23,25 @@ of_file : (p : Picture) (path : List ℕ) (file : FileEntry) (id : ℕ) → IsFi
 of_file p path file id is there = subst (λ (e : Option Entry). Contains (blocks_at e) id) is there
 
 -- one block of the file
-pub only_file_block : (path : List ℕ) (file : FileEntry) (id : ℕ) (nodes : List (List ℕ)) (p q : Picture) → IsFileAt p path file → Contains file.blocks id → OnlyBlock id nodes p q → OnlyFile path p q
-only_file_block path file id nodes p q is there only = record {
-  names = λ other apart. only.records.names other;
-  blocks = λ other some away. (only.records.table other, λ node. only.held node other (λ same at. mine other away (sym same)));
-  writes = λ link place told some away. only.writes link place told (λ same. mine place.block away same);
-  grown = λ other at some. subst (λ (e : Option Entry). Contains (blocks_at e) other) (only.records.names path) at;
-  listed = λ other some. subst IsSome (sym (only.records.table other)) some;
-  reads = only.records.reads;
-  defaults = only.records.defaults;
+pub only_file_block : (path : List ℕ) (file : FileEntry) (id : ℕ) (p q : Picture) → IsSound q → IsFileAt p path file → Contains file.blocks id → OnlyBlockOf id p q → OnlyFile path p q
+only_file_block path file id p q sound is there only = record {
+  names = λ other apart. only.names other;
+  blocks = λ other some away. (only.table other (mine other away), λ node. only.held node other (mine other away));
+  writes = λ link place told some away. only.writes link place told (mine place.block away);
+  grown = λ other at some. subst (λ (e : Option Entry). Contains (blocks_at e) other) (only.names path) at;
+  listed = λ other some. ⊎_elim
+      (λ own. subst (λ (i : ℕ). IsSome (q.table i)) (sym own.0) (is_listed q sound path file id (only.names path ∙ is) there))
+      (λ apart. subst IsSome (sym (only.table other apart.0)) some)
+      (at_id other id (p.table other) (p.table other));
+  reads = only.reads;
+  defaults = only.defaults;
 }
   where
     mine : (other : ℕ) → (Contains (blocks_at (p.names path)) other → ⊥) → other ≢ id
     mine other away same = away (at_file p path file other is (subst (Contains file.blocks) (sym same) there))
 
-pub same_file_block : (path : List ℕ) (id : ℕ) (nodes : List (List ℕ)) (p q : Picture) → OnlyBlock id nodes p q → SameFile path p q
-same_file_block path id nodes p q only file is = (file.blocks, only.records.names path ∙ is)
+pub same_file_block : (path : List ℕ) (id : ℕ) (p q : Picture) → OnlyBlockOf id p q → SameFile path p q
+same_file_block path id p q only file is = (file.blocks, only.names path ∙ is)
 
 -- which namenode is active
 pub only_file_active : (path : List ℕ) (p q : Picture) → SameButActive p q → OnlyFile path p q

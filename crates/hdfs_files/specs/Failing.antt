@@ -1,13 +1,14 @@
 -- Why a writer of a file fails.
-use Rattle.std.specs.Prelude.{◌≡◌, ℕ, List}
+use Rattle.std.specs.Prelude.{◌≡◌, ◌⊎◌, ℕ, false, List}
 use Rattle.hdfs_model.specs.declared.errors.HdfsError.{HdfsError}
 use Rattle.hdfs_model.specs.declared.errors.HdfsError.TheVariants as errors
 use Rattle.hdfs_model.specs.declared.errors.IoFault.TheVariants as io_faults
 use Rattle.hdfs_model.specs.declared.errors.TransferFault.TheVariants as transfer
 use Rattle.hdfs_model.specs.declared.picture.LastAnswer.TheVariants as last_answers
-use Rattle.hdfs_model.specs.Causes.{CallsRose, IsTakenBy, PipelineFailed, SomeNodeRose}
+use Rattle.hdfs_model.specs.Causes.{CallsRose, IsTakenBy, PipelineFailed, SomeListedFailed, SomeNodeRose}
 use Rattle.hdfs_model.specs.Counts.{Rose}
 use Rattle.hdfs_model.specs.Shown.{Shown}
+use Rattle.hdfs_recovery.specs.declared.block_plan.RebuildSettings.{RebuildSettings}
 
 -- What holds of an error of a writer over any cluster, from what is shown before the call to what is shown once it has ended.
 abbrev pub TellsWrite : Shown → Shown → HdfsError → Type 0
@@ -15,6 +16,8 @@ TellsWrite old new errors.NoMemory = Unit {0}
 TellsWrite old new (errors.IOError io_faults.Link) = Rose old.counts.links new.counts.links
 TellsWrite old new (errors.DataTransferError transfer.Setup) = Rose old.counts.links new.counts.links
 TellsWrite old new (errors.DataTransferError transfer.AllNodes) = SomeNodeRose old.counts new
+TellsWrite old new (errors.DataTransferError transfer.NoReplacement) = SomeNodeRose old.counts new
+TellsWrite old new (errors.DataTransferError (transfer.RebuildLimit rebuilds)) = SomeNodeRose old.counts new
 TellsWrite old new (errors.DataTransferError (transfer.BadAck seqno)) = Rose old.counts.links new.counts.links
 TellsWrite old new (errors.AlreadyExists message) = IsTakenBy message new
 TellsWrite old new (errors.RPCError class message) = new.last ≡ last_answers.Exception class message
@@ -25,11 +28,18 @@ abbrev pub TellsClose : List ℕ → Shown → Shown → HdfsError → Type 0
 TellsClose path old new (errors.OperationFailed name) = (name ≡ path) × (new.last ≡ last_answers.Fine)
 TellsClose path old new error = TellsWrite old new error
 
--- The cause of an error of a writer that carries the file at this path: an exception, or false, of a namenode comes only where its
--- count has risen, and a pipeline fails only where a datanode has that is listed for the file's last block.
-abbrev pub CauseOfWrite : List ℕ → Shown → Shown → HdfsError → Type 0
-CauseOfWrite path old new (errors.DataTransferError transfer.AllNodes) = PipelineFailed old.counts new path
-CauseOfWrite path old new (errors.AlreadyExists message) = CallsRose old.counts new
-CauseOfWrite path old new (errors.RPCError class message) = CallsRose old.counts new
-CauseOfWrite path old new (errors.OperationFailed name) = CallsRose old.counts new
-CauseOfWrite path old new error = Unit {0}
+-- The cause of an error of a writer that carries the file at this path, and rebuilds pipelines so: an exception, or false, of a namenode
+-- comes only where its count has risen. A pipeline fails only where each datanode has that is listed for the file's last block. That
+-- none came for one that failed is told only without best effort, where the links or a namenode have failed too, and the limit of
+-- rebuilds is the one of the settings; both only where a listed datanode has failed.
+abbrev pub CauseOfWrite : RebuildSettings → List ℕ → Shown → Shown → HdfsError → Type 0
+CauseOfWrite settings path old new (errors.DataTransferError transfer.AllNodes) = PipelineFailed old.counts new path
+CauseOfWrite settings path old new (errors.DataTransferError transfer.NoReplacement) =
+    (settings.replace.best_effort ≡ false) × (Rose old.counts.links new.counts.links ⊎ CallsRose old.counts new)
+    × SomeListedFailed old.counts new path
+CauseOfWrite settings path old new (errors.DataTransferError (transfer.RebuildLimit rebuilds)) =
+    (rebuilds ≡ settings.rebuild_limit) × SomeListedFailed old.counts new path
+CauseOfWrite settings path old new (errors.AlreadyExists message) = CallsRose old.counts new
+CauseOfWrite settings path old new (errors.RPCError class message) = CallsRose old.counts new
+CauseOfWrite settings path old new (errors.OperationFailed name) = CallsRose old.counts new
+CauseOfWrite settings path old new error = Unit {0}

@@ -1,6 +1,6 @@
 -- What a fault of a writer of a block is for a writer of a file.
-use Rattle.hdfs_blocks.specs.declared.pipe.WriteFault.{WriteFault}
-use Rattle.hdfs_blocks.specs.declared.pipe.WriteFault.TheVariants as faults
+use Rattle.hdfs_recovery.specs.declared.block_plan.WriteFault.{WriteFault}
+use Rattle.hdfs_recovery.specs.declared.block_plan.WriteFault.TheVariants as faults
 use Rattle.hdfs_model.specs.declared.errors.HdfsError.{HdfsError}
 use Rattle.hdfs_model.specs.declared.errors.HdfsError.TheVariants as errors
 use Rattle.hdfs_model.specs.declared.errors.IoFault.TheVariants as io_faults
@@ -14,3 +14,6 @@ error_of faults.Link = errors.IOError io_faults.Link
 error_of faults.Setup = errors.DataTransferError transfer.Setup
 error_of (faults.BadAck seqno) = errors.DataTransferError (transfer.BadAck seqno)
 error_of faults.AllNodes = errors.DataTransferError transfer.AllNodes
+error_of faults.NoReplacement = errors.DataTransferError transfer.NoReplacement
+error_of (faults.RebuildLimit rebuilds) = errors.DataTransferError (transfer.RebuildLimit rebuilds)
+error_of (faults.Namenode error) = error

@@ -7,8 +7,9 @@ use Rattle.hdfs_model.specs.Sending.{uuids}
 use Rattle.hdfs_model.specs.Sound.{IsFileAt}
 use Rattle.hdfs_model.specs.Stores.{StoresBlocks}
 use Rattle.hdfs_blocks.specs.Carrying.{HoldsWhole}
-use Rattle.hdfs_blocks.specs.Writers.{block_of, length_of, Carries}
-use Rattle.hdfs_blocks.specs.declared.block_writer.BlockWriter.{BlockWriter}
+use Rattle.hdfs_block_writer.specs.BlockWriters.{Carries, length_of}
+use Rattle.hdfs_block_writer.specs.OpenPipelines.{id_of}
+use Rattle.hdfs_block_writer.specs.declared.block_writer.BlockWriter.{BlockWriter}
 
 -- How the last block of a file stands that is being written: the file has none; the last one has this id and length, and is
 -- held whole; the same of one that is to be gone on with, by the datanodes that are named for it; or it is being written by this
@@ -50,16 +51,16 @@ pub record StoresFront (p : Picture) (blocks : List ℕ) (last : ℕ) (bytes res
   pub cut : bytes ≡ before ++ rest
   pub stored : StoresBlocks p front before
 
--- The last block is as its writer has it. The length of a finished one is what the writer names next, which the block table may
--- not say yet.
-abbrev pub TailCarries : Picture → List ℕ → Tail → List ℕ → Type 0
-TailCarries p blocks Bare bytes = (blocks ≡ []) × (bytes ≡ [])
-TailCarries p blocks (Finished id length) bytes =
+-- The last block of the file at a path is as its writer has it. The length of a finished one is what the writer names next, which the
+-- block table may not say yet. One that is being written is written for this path.
+abbrev pub TailCarries : Picture → List ℕ → List ℕ → Tail → List ℕ → Type 0
+TailCarries p path blocks Bare bytes = (blocks ≡ []) × (bytes ≡ [])
+TailCarries p path blocks (Finished id length) bytes =
     (rest : List ℕ) × StoresFront p blocks id bytes rest × ((nodes : List (List ℕ)) × HoldsWhole p id length nodes rest)
-TailCarries p blocks (Reopened located) bytes =
+TailCarries p path blocks (Reopened located) bytes =
     (rest : List ℕ) × StoresFront p blocks located.b.block_id bytes rest × HoldsWhole p located.b.block_id located.b.num_bytes (uuids located.locs) rest
-TailCarries p blocks (Going writer) bytes =
-    (rest : List ℕ) × StoresFront p blocks (block_of writer).block_id bytes rest × ((nodes : List (List ℕ)) × Carries p nodes writer rest)
+TailCarries p path blocks (Going writer) bytes =
+    (rest : List ℕ) × (c : Carries p writer rest) × (c.pipe.plan.src ≡ path) × StoresFront p blocks (id_of c.pipe) bytes rest
 
 -- The writer of the file at a path carries these bytes: the file is open, the blocks before the last store the first of them,
 -- and the last block, or its writer, has the rest.
@@ -67,4 +68,4 @@ pub record FileCarries (p : Picture) (path : List ℕ) (tail : Tail) (bytes : Li
   pub file : FileEntry
   pub named : IsFileAt p path file
   pub being_written : file.is_open ≡ true
-  pub carries : TailCarries p file.blocks tail bytes
+  pub carries : TailCarries p path file.blocks tail bytes

@@ -1,5 +1,5 @@
 -- A writer of one file, as its callers see it.
-use Rattle.std.specs.Prelude.{◌≡◌, ◌≢◌, ◌⊎◌, ℕ, ◌^◌, ◌<◌, ◌≤◌, true, false, Bool, List, [], ◌++◌, Option, Some, None, IsSome, IfSome, Result, Err}
+use Rattle.std.specs.Prelude.{◌≡◌, ◌≢◌, ℕ, ◌^◌, ◌<◌, ◌≤◌, true, false, Bool, List, [], ◌++◌, Option, Some, None, IsSome, IfSome, Result, Err}
 use Rattle.hdfs_wire.specs.Outgoing.{ArePacketSizes}
 use Rattle.hdfs_model.specs.declared.messages.Block.{Block}
 use Rattle.hdfs_model.specs.declared.messages.LocatedBlock.{LocatedBlock}
@@ -10,14 +10,17 @@ use Rattle.hdfs_model.specs.Effects.{blocks_at}
 use Rattle.hdfs_model.specs.Files.{File}
 use Rattle.hdfs_model.specs.Namenode.{IsToWrite}
 use Rattle.hdfs_model.specs.Picture.{Picture}
-use Rattle.hdfs_model.specs.Shown.{Shown, Later, SameReads}
+use Rattle.hdfs_model.specs.Shown.{Shown}
 use Rattle.hdfs_model.specs.Stores.{AgreesAt}
 use Rattle.hdfs_model.specs.Writing.{SameRecords}
-use Rattle.hdfs_blocks.specs.Writers as blocks
-use Rattle.hdfs_blocks.specs.declared.block_writer.BlockWriter.{BlockWriter}
+use Rattle.hdfs_block_writer.specs.BlockWriters as blocks
+use Rattle.hdfs_block_writer.specs.OpenPipelines as pipelines
+use Rattle.hdfs_block_writer.specs.declared.block_writer.BlockWriter.{BlockWriter}
+use Rattle.hdfs_recovery.specs.declared.block_plan.BlockPlan.{BlockPlan}
 use Rattle.hdfs_files.specs.Failing.{TellsWrite, TellsClose, CauseOfWrite}
 use Rattle.hdfs_files.specs.OnlyFiles.{OnlyFile, SameFile}
 use Rattle.hdfs_files.specs.Tails.{Tail, Bare, Finished, Reopened, Going, FillsBlocks, FileCarries}
+use Rattle.hdfs_files.specs.WholeBlocks.{StaysWhole, ClosesWhole}
 use Rattle.hdfs_files.specs.declared.file_writer.FileWriter.{FileWriter}
 use Rattle.hdfs_files.specs.declared.sizes.WriteSizes.{WriteSizes}
 
@@ -27,10 +30,10 @@ pub record AreLimited (sizes : WriteSizes) : Type 0 where
   pub below : sizes.block_size < 2 ^ 63
   pub replication : (1 ≤ sizes.replication) × (sizes.replication ≤ 65535)
 
--- the sizes of packets, and a window from 1 to 1,000
+-- the sizes of packets, and a window of pipelines from 1 to 1,000
 pub record ArePackets (sizes : WriteSizes) : Type 0 where
   pub packet : ArePacketSizes sizes.chunk sizes.packet_size
-  pub window : (1 ≤ sizes.window) × (sizes.window ≤ 1000)
+  pub window : (1 ≤ sizes.rebuilding.window) × (sizes.rebuilding.window ≤ 1000)
 
 -- all of them
 pub record AreSizes (sizes : WriteSizes) : Type 0 where
@@ -72,6 +75,17 @@ tail_by (Some writer) reopened last = Going writer
 abbrev pub tail_of : FileWriter → Tail
 tail_of writer = tail_by writer.going writer.reopened writer.last
 
+-- what a writer of a block of its file keeps of that: whether the block was new
+abbrev pub plan_of : FileWriter → LocatedBlock → Bool → BlockPlan
+plan_of writer block new = record {
+  src = writer.path;
+  block = block;
+  replication = writer.sizes.replication;
+  created = new;
+  rebuilds = 0;
+  chunk = writer.sizes.chunk;
+}
+
 -- the blocks of its file
 abbrev pub blocks_in : Picture → FileWriter → List ℕ
 blocks_in p writer = blocks_at (p.names writer.path)
@@ -85,14 +99,15 @@ link_by (Some writer) = blocks.link_of writer
 abbrev pub link_of : FileWriter → Option ℕ
 link_of writer = link_by writer.going
 
--- The writer of a block stands as its last call left it. Its block has the size of the file's blocks, which is in its limits, and its
--- packets have the file's sizes of packets.
+-- The writer of a block stands as its last call left it. Its block has the size of the file's blocks, which is in its limits, its
+-- packets have the file's sizes of packets, and its pipeline is rebuilt as the file's are.
 pub record BlockStands (shown : Shown) (sizes : WriteSizes) (writer : BlockWriter) : Type 0 where
   pub limited : AreLimited sizes
   pub stands : blocks.Stands shown writer
   pub size : blocks.size_of writer ≡ sizes.block_size
   pub chunk : writer.chunk ≡ sizes.chunk
   pub packet_size : writer.packet_size ≡ sizes.packet_size
+  pub settings : writer.settings ≡ sizes.rebuilding
 
 -- What a writer of a file is between calls. Once it has failed it keeps no link. Until then a block of it is done only where the one
 -- behind it is being written.
@@ -142,23 +157,19 @@ pub record IsIdle {C : Type 0} (writer : FileWriter) (bytes : List ℕ) (old : C
   pub options : writer.failed ≡ false → (AreLimited writer.sizes → ⊥)
       → (result ≡ Err (errors.InvalidArgument args.Options)) × (link_of writer ≡ None) × (new ≡ old)
 
--- Calls on the cluster in the writer's name: read links stay, and so do the write links that were open and aren't its own; none
--- is left open but its own, which it had before or wasn't open.
-pub record OnlyOwnLink (old : Shown) (before : Option ℕ) (new : Shown) (after : Option ℕ) : Type 0 where
-  pub later : Later old new
-  pub reads : SameReads old new
-  pub others : (link : ℕ) → IsSome (old.writes link) → before ≢ Some link → new.writes link ≡ old.writes link
-  pub none : (link : ℕ) → (old.writes link ≡ None) ⊎ (before ≡ Some link) → after ≢ Some link → new.writes link ≡ None
-  pub fresh : (link : ℕ) → after ≡ Some link → (before ≡ Some link) ⊎ (old.writes link ≡ None)
+-- calls on the cluster in the writer's name, as those of a writer of a block
+abbrev pub OnlyOwnLink : Shown → Option ℕ → Shown → Option ℕ → Type 0
+OnlyOwnLink old before new after = pipelines.OnlyOwnLink old before new after
 
 -- Over a told picture: these bytes more are carried, nothing changed but the file, and no block was begun before the one before it
--- was full.
+-- was full. Blocks that are done stay whole and full, and each that was ended meanwhile is so.
 abbrev pub CarriesMore : Shown → FileWriter → List ℕ → Shown → FileWriter → Type 0
 CarriesMore old writer more new writer' =
     (p : Picture) (bytes : List ℕ) → old.picture ≡ Some p → FileCarries p writer.path (tail_of writer) bytes
     → (q : Picture) × (new.picture ≡ Some q) × FileCarries q writer.path (tail_of writer') (bytes ++ more)
     × OnlyFile writer.path p q × SameFile writer.path p q
     × FillsBlocks writer.sizes.block_size (blocks_in p writer) (tail_of writer) more (blocks_in q writer) (tail_of writer')
+    × StaysWhole writer.sizes.block_size p (blocks_in p writer) (tail_of writer) q (blocks_in q writer)
 
 -- over a told picture: whatever came of it, nothing changed but the file
 abbrev pub TouchesFile : Shown → FileWriter → Shown → Type 0
@@ -176,14 +187,16 @@ LeavesFile old writer new =
 abbrev pub HasCause : Shown → FileWriter → HdfsError → Shown → Type 0
 HasCause old writer error new =
     (p : Picture) (bytes : List ℕ) → old.picture ≡ Some p → old.namenodes ≡ 1 → FileCarries p writer.path (tail_of writer) bytes
-    → CauseOfWrite writer.path old new error
+    → CauseOfWrite writer.sizes.rebuilding writer.path old new error
 
--- over a told picture: a closed file stands at the path with the attributes and the bytes, and nothing changed but the file
+-- Over a told picture: a closed file stands at the path with the attributes and the bytes, and nothing changed but the file. Its blocks
+-- are whole, the last one too, where those that were done before are.
 abbrev pub Closes : Shown → FileWriter → Shown → Type 0
 Closes old writer new =
     (p : Picture) (bytes : List ℕ) → old.picture ≡ Some p → (carries : FileCarries p writer.path (tail_of writer) bytes)
     → (q : Picture) × (new.picture ≡ Some q) × OnlyFile writer.path p q
     × AgreesAt q (q.names writer.path) (Some (File (record { bytes = bytes; attributes = carries.file.attributes })))
+    × ClosesWhole writer.sizes.block_size p (blocks_in p writer) (tail_of writer) q (blocks_in q writer)
 
 -- These bytes were taken.
 pub record Wrote (old : Shown) (writer : FileWriter) (more : List ℕ) (new : Shown) (writer' : FileWriter) : Type 0 where

@@ -2,7 +2,7 @@
 ghost use Rattle.std.specs.Prelude.{◌≡◌};
 ghost use Rattle.hdfs_files.specs.Faults.{error_of};
 
-use hdfs_blocks::WriteFault;
+use hdfs_block_writer::WriteFault;
 use hdfs_model::{HdfsError, IoFault, TransferFault};
 
 /// The error that stands for a fault.
@@ -18,5 +18,10 @@ pub(crate) fn error_of(fault: WriteFault) -> HdfsError
             HdfsError::DataTransferError(TransferFault::BadAck { seqno })
         }
         WriteFault::AllNodes => HdfsError::DataTransferError(TransferFault::AllNodes),
+        WriteFault::NoReplacement => HdfsError::DataTransferError(TransferFault::NoReplacement),
+        WriteFault::RebuildLimit { rebuilds } => {
+            HdfsError::DataTransferError(TransferFault::RebuildLimit { rebuilds })
+        }
+        WriteFault::Namenode(error) => error,
     }
 }

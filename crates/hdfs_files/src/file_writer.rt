@@ -5,10 +5,10 @@ ghost use Rattle.hdfs_model.specs.declared.errors.HdfsError.TheVariants as error
 
 use crate::faults::error_of;
 use crate::sizes::WriteSizes;
-use hdfs_blocks::BlockWriter;
+use hdfs_block_writer::{BlockPlan, BlockWriter};
 use hdfs_model::{ArgFault, Block, Cluster, HdfsError, LocatedBlock};
 use hdfs_namenode::NamenodeProtocol;
-use hdfs_wire::Text;
+use hdfs_wire::{NoMemory, Text};
 use std::alloc::Global;
 
 /// How often a namenode is asked whether a file is closed (upstream's number).
@@ -34,7 +34,7 @@ pub struct FileWriter {
 impl FileWriter {
     ghost use Rattle.hdfs_files.specs.Tails.{Bare, IsFull};
     ghost use Rattle.hdfs_model.specs.Namenode.{IsToWrite};
-    ghost use Rattle.hdfs_files.specs.Writers.{AreLimited, ArePackets, AreSizes, path_of, file_id_of, sizes_of, has_failed, link_of, tail_of, tail_opened, IsAtWork, MayBegin, IsIdle, Stands, Keeps, IsBetweenBlocks, HasRoom, OnlyOwnLink, LeavesFile, Wrote, Closed, Fails, FailsToClose};
+    ghost use Rattle.hdfs_files.specs.Writers.{plan_of, AreLimited, ArePackets, AreSizes, path_of, file_id_of, sizes_of, has_failed, link_of, tail_of, tail_opened, IsAtWork, MayBegin, IsIdle, Stands, Keeps, IsBetweenBlocks, HasRoom, OnlyOwnLink, LeavesFile, Wrote, Closed, Fails, FailsToClose};
 
     /// A writer of a file that was just created at `path`, which has the size of blocks that `sizes` says. `file_id` is the id that
     /// the namenode told.
@@ -87,7 +87,12 @@ impl FileWriter {
     }
 
     /// Ends the block that is being written, or leaves the one that was to be gone on with.
-    fn finish_block<C: Cluster>(&mut self, cluster: &mut C) -> Result<(), HdfsError>
+    fn finish_block<C: Cluster>(
+        &mut self,
+        cluster: &mut C,
+        namenode: &NamenodeProtocol,
+    ) -> Result<(), HdfsError>
+        requires namenode { 0 < (C.shown cluster.old).namenodes }
         requires stands { Stands (C.shown cluster.old) self.old }
         requires fine { self.old.failed ≡ false }
         ensures fine { self.new.failed ≡ false }
@@ -106,7 +111,7 @@ impl FileWriter {
             None => {}
         }
         match self.going.take() {
-            Some(block) => match block.close(cluster) {
+            Some(block) => match block.close(cluster, namenode) {
                 Ok(block) => {
                     self.last = Some(block);
                     Ok(())
@@ -117,12 +122,27 @@ impl FileWriter {
         }
     }
 
-    /// Opens the pipeline of a block that has room for a byte.
+    /// What a writer of a block keeps of it: `created` where it is new.
+    fn plan(&self, block: LocatedBlock, created: bool) -> Result<BlockPlan, NoMemory>
+        ensures { IfOk result (λ plan. plan ≡ plan_of self.now block created) }
+    {
+        Ok(BlockPlan {
+            src: self.path.copy(self.alloc)?,
+            block,
+            replication: self.sizes.replication,
+            created,
+            rebuilds: 0,
+            chunk: self.sizes.chunk,
+        })
+    }
+
+    /// Opens the pipeline of a block that has room for a byte: `created` where it is new.
     fn open_block<C: Cluster>(
         &mut self,
         cluster: &mut C,
         namenode: &NamenodeProtocol,
         located: LocatedBlock,
+        created: bool,
     ) -> Result<(), HdfsError>
         requires begins { MayBegin self.old }
         requires block { IsToWrite located }
@@ -135,19 +155,18 @@ impl FileWriter {
         ensures err { IfErr result (λ error. Fails (C.shown cluster.old) (record self.old { reopened = Some located }) error
             (C.shown cluster.new)) }
     {
-        let client = match Text::from_str(self.alloc, namenode.client_name()) {
-            Ok(client) => client,
+        let plan = match self.plan(located, created) {
+            Ok(plan) => plan,
             Err(_) => return Err(HdfsError::NoMemory),
         };
         match BlockWriter::replicated(
             self.alloc,
             cluster,
-            located,
+            namenode,
+            plan,
+            &self.sizes.rebuilding,
             self.sizes.block_size,
-            self.sizes.chunk,
             self.sizes.packet_size,
-            self.sizes.window,
-            &client,
         ) {
             Ok(block) => {
                 self.going = Some(block);
@@ -182,7 +201,7 @@ impl FileWriter {
             Ok(located) => located,
             Err(error) => return Err(error),
         };
-        match self.open_block(cluster, namenode, located) {
+        match self.open_block(cluster, namenode, located, true) {
             Ok(()) => Ok(()),
             Err(error) => Err(error),
         }
@@ -222,14 +241,14 @@ impl FileWriter {
         }
         match self.take_reopened() {
             Some(located) => {
-                return match self.open_block(cluster, namenode, located) {
+                return match self.open_block(cluster, namenode, located, false) {
                     Ok(()) => Ok(()),
                     Err(error) => Err(error),
                 };
             }
             None => {}
         }
-        match self.finish_block(cluster) {
+        match self.finish_block(cluster, namenode) {
             Ok(()) => {}
             Err(error) => return Err(error),
         }
@@ -272,7 +291,7 @@ impl FileWriter {
         let Some(block) = &mut self.going else {
             unreachable!();
         };
-        match block.write(cluster, bytes) {
+        match block.write(cluster, namenode, bytes) {
             Ok(taken) => Ok(taken),
             Err(fault) => Err(error_of(fault)),
         }
@@ -282,9 +301,12 @@ impl FileWriter {
     /// that it has no room for. No bytes touch nothing of the cluster.
     ///
     /// Errors: `NoMemory`; `Failed` after an earlier error; `InvalidArgument(Options)` where the file's replication or block size is
-    /// out of its limits; `IOError(Link)` and `DataTransferError(Setup)` where a pipeline wasn't set
-    /// up, `DataTransferError(AllNodes)` where a datanode of it failed, `DataTransferError(BadAck)` where an acknowledgement wasn't due;
-    /// `RPCError` and `AlreadyExists` with a namenode's exception. After an error the writer has failed, and its link is ended.
+    /// out of its limits; `IOError(Link)` and `DataTransferError(Setup)` where a pipeline wasn't set up, a rebuilt one too;
+    /// `DataTransferError(AllNodes)` where each datanode of a pipeline has failed; `DataTransferError(NoReplacement)` where a datanode
+    /// was to be added in the place of one that failed, none could be, and the settings don't let a write go on without it;
+    /// `DataTransferError(RebuildLimit)` where a pipeline has failed that was rebuilt as often as the settings say;
+    /// `DataTransferError(BadAck)` where an acknowledgement wasn't due; `RPCError` and `AlreadyExists` with a namenode's exception.
+    /// After an error the writer has failed, and its link is ended.
     pub fn write<C: Cluster>(
         &mut self,
         cluster: &mut C,
@@ -300,7 +322,7 @@ impl FileWriter {
         ensures fails { (OnOk result (has_failed self.new ≡ false)) × (OnErr result (has_failed self.new ≡ true)) }
 
         // Over a told picture these bytes are carried too, nothing but the file changes, and no block is begun before the one before it
-        // is full.
+        // is full. Blocks that are done are whole on each datanode that is listed for them.
         ensures wrote { OnOk result (Wrote (C.shown cluster.old) self.old bytes.now (C.shown cluster.new) self.new) }
         ensures err { IfErr result (λ error. has_failed self.old ≡ false → AreLimited (sizes_of self.old)
             → Fails (C.shown cluster.old) self.old error (C.shown cluster.new)) }
@@ -398,15 +420,32 @@ impl FileWriter {
 
         ensures failed { has_failed self ≡ true → (result ≡ Err errors.Failed) × (cluster.new ≡ cluster.old) }
 
-        // Over a told picture the closed file has the bytes, and nothing but the file changes.
+        // Over a told picture the closed file has the bytes, its blocks are whole on each datanode that is listed for them, and nothing but
+        // the file changes.
         ensures closed { OnOk result (Closed (C.shown cluster.old) self (C.shown cluster.new)) }
         ensures err { IfErr result (λ error. has_failed self ≡ false
             → FailsToClose (C.shown cluster.old) self error (C.shown cluster.new)) }
     {
+        self.end(cluster, namenode)
+    }
+
+    /// Ends the block that is being written, and closes the file.
+    fn end<C: Cluster>(
+        &mut self,
+        cluster: &mut C,
+        namenode: &NamenodeProtocol,
+    ) -> Result<(), HdfsError>
+        requires namenode { 0 < (C.shown cluster.old).namenodes }
+        requires stands { Stands (C.shown cluster.old) self.old }
+        ensures failed { self.old.failed ≡ true → (result ≡ Err errors.Failed) × (cluster.new ≡ cluster.old) }
+        ensures closed { OnOk result (Closed (C.shown cluster.old) self.old (C.shown cluster.new)) }
+        ensures err { IfErr result (λ error. self.old.failed ≡ false
+            → FailsToClose (C.shown cluster.old) self.old error (C.shown cluster.new)) }
+    {
         if self.failed {
             return Err(HdfsError::Failed);
         }
-        match self.finish_block(cluster) {
+        match self.finish_block(cluster, namenode) {
             Ok(()) => {}
             Err(error) => return Err(error),
         }

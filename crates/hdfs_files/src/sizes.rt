@@ -1,15 +1,18 @@
 //! With what a file is written.
 ghost use Rattle.std.specs.Prelude.{◌↔◌, IsTrue};
 
+use hdfs_block_writer::RebuildSettings;
+
 /// The replication of a file; the size of its blocks, of the chunks that have a checksum together, and of packets, in bytes (a
-/// packet size of 0 stands for one chunk); and how many packets may wait for their acknowledgement.
-#[derive(Clone, Copy, Debug, PartialEq, Eq)]
+/// packet size of 0 stands for one chunk); and how the pipelines of its blocks are rebuilt, with how many packets may wait in them for
+/// their acknowledgement.
+#[derive(Clone, Copy, Debug)]
 pub struct WriteSizes {
     pub replication: u32,
     pub block_size: u64,
     pub chunk: u32,
     pub packet_size: u32,
-    pub window: u32,
+    pub rebuilding: RebuildSettings,
 }
 
 /// The greatest replication that a file is written with.

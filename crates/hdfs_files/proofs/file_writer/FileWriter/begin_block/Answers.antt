@@ -6,7 +6,7 @@ use Rattle.hdfs_model.specs.declared.asks.Ask.TheVariants as asks
 use Rattle.hdfs_model.specs.declared.errors.HdfsError.{HdfsError}
 use Rattle.hdfs_model.specs.declared.errors.HdfsError.TheVariants as errors
 use Rattle.hdfs_model.specs.Shown.{Shown}
-use Rattle.hdfs_blocks.specs.declared.block_writer.BlockWriter.{BlockWriter}
+use Rattle.hdfs_block_writer.specs.declared.block_writer.BlockWriter.{BlockWriter}
 use Rattle.hdfs_namenode.proofs.Answered.{served_answer, served_error}
 use Rattle.hdfs_files.specs.Writers.{link_by, Wrote, Fails}
 use Rattle.hdfs_files.proofs.Closing.{adding_as}

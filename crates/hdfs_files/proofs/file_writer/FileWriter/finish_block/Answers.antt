@@ -1,7 +1,8 @@
 -- The goals of FileWriter::finish_block.
 use Rattle.std.proofs.Common.{◌≡◌, [], Option, None, Some, IsSome, sym, subst, refl, ◌∙◌, ap}
-use Rattle.hdfs_blocks.specs.declared.block_writer.BlockWriter.{BlockWriter}
+use Rattle.hdfs_block_writer.specs.declared.block_writer.BlockWriter.{BlockWriter}
 use Rattle.hdfs_model.specs.declared.errors.HdfsError.{HdfsError}
+use Rattle.hdfs_model.specs.declared.messages.Block.{Block}
 use Rattle.hdfs_model.specs.declared.messages.LocatedBlock.{LocatedBlock}
 use Rattle.hdfs_files.specs.Tails.{IsFull}
 use Rattle.hdfs_files.specs.Writers.{tail_by, tail_of, Wrote, Fails}
@@ -44,8 +45,8 @@ returns-in-None-take-clause-wrote g c =
     subst (λ (o : Option LocatedBlock). Wrote s w [] s (record w { going = c.take-2.new.self; reopened = o })) reopened
     (subst (λ (o : Option BlockWriter). Wrote s w [] s (record w { going = o })) going (wrote_nothing s w))
 
-pub close-requires : goal.close-requires
-close-requires g c =
+pub close-requires-clause-stands : goal.close-requires-clause-stands
+close-requires-clause-stands g c =
     let going : c.args.self.now.going ≡ Some c.in-Some-take.block = sym c.take-2.ensures.value ∙ c.in-Some-take.is in
     (c.requires.stands.going c.in-Some-take.block going).stands
 
@@ -54,15 +55,16 @@ returns-in-Ok-clause-full g c =
     let w = c.args.self.now in
     let going : w.going ≡ Some c.in-Some-take.block = sym c.take-2.ensures.value ∙ c.in-Some-take.is in
     ended_full w.sizes.block_size w (record w { last = Some c.in-Ok.block; going = c.take-2.new.self; reopened = c.take.new.self })
-    c.in-Some-take.block going (record { none = c.take-2.ensures.after; done = c.take.ensures.after }) (ap Some c.in-Ok.ensures.closed.named)
+    c.in-Some-take.block c.in-Ok.block going (record { none = c.take-2.ensures.after; done = c.take.ensures.after }) refl
+    (ap (λ (b : Block). b.num_bytes) c.in-Ok.ensures.closed.1)
 
 pub returns-in-Ok-clause-wrote : goal.returns-in-Ok-clause-wrote
 returns-in-Ok-clause-wrote g c =
     let w = c.args.self.now in
     let going : w.going ≡ Some c.in-Some-take.block = sym c.take-2.ensures.value ∙ c.in-Some-take.is in
-    ended_wrote (g.C.Cluster.shown c.args.cluster.now) (g.C.Cluster.shown c.close.new.cluster) (g.met.C.Cluster.sound c.args.cluster.now) w c.in-Some-take.block going
+    ended_wrote (g.C.Cluster.shown c.args.cluster.now) (g.C.Cluster.shown c.close.new.cluster) (g.met.C.Cluster.sound c.args.cluster.now) (g.met.C.Cluster.sound c.close.new.cluster) w c.in-Some-take.block going
     (record w { last = Some c.in-Ok.block; going = c.take-2.new.self; reopened = c.take.new.self })
-    (record { path = refl; file_id = refl; sizes = refl }) (record { none = c.take-2.ensures.after; done = c.take.ensures.after }) (ap Some c.in-Ok.ensures.closed.named) c.in-Ok.ensures.closed.ends
+    (record { path = refl; file_id = refl; sizes = refl }) (record { none = c.take-2.ensures.after; done = c.take.ensures.after }) c.in-Ok.block refl c.in-Ok.ensures.closed
 
 pub returns-in-Err-clause-err : goal.returns-in-Err-clause-err
 returns-in-Err-clause-err g c =
@@ -72,4 +74,5 @@ returns-in-Err-clause-err g c =
     let block = c.in-Some-take.block in
     let going : w.going ≡ Some block = sym c.take-2.ensures.value ∙ c.in-Some-take.is in
     subst (λ (e : HdfsError). Fails s w e t) (sym c.error_of.ensures)
-    (gave_up_fails s t (g.met.C.Cluster.sound c.args.cluster.now) w block going (g.met.C.Cluster.shows_writes c.args.cluster.now) (c.requires.stands.going block going) (c.requires.stands.is_open c.requires.fine block going) c.in-Err.fault c.in-Err.ensures.err)
+    (gave_up_fails s t (g.met.C.Cluster.sound c.args.cluster.now) (g.met.C.Cluster.sound c.close.new.cluster) w block going (g.met.C.Cluster.active_below c.args.cluster.now) (c.requires.stands.is_open c.requires.fine block going)
+    (c.requires.stands.going block going).settings c.in-Err.fault c.in-Err.ensures.err)

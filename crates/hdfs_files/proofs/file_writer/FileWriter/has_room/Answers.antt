@@ -1,6 +1,6 @@
 use Rattle.std.proofs.Common.{◌≡◌, true, false, Bool, not, IsTrue, ap, refl, sym, ◌∙◌}
 use Rattle.std.proofs.lemmas.Bool.{false≢true}
-use Rattle.hdfs_blocks.specs.Writers.{length_of, size_of}
+use Rattle.hdfs_block_writer.specs.BlockWriters.{length_of, size_of}
 use Rattle.hdfs_files.proofs.file_writer.FileWriter.has_room.Goals as goal
 
 not_both : (b : Bool) → IsTrue (not b) → IsTrue b → ⊥

@@ -1,7 +1,7 @@
 -- The goals of FileWriter::write_all.
 use Rattle.std.proofs.Common.{◌≡◌, ◌<◌, ℕ, [], List, ◌++◌, length, take, sym, ◌∙◌, ap, refl, arith}
 use Rattle.std.proofs.lemmas.List.{take_rest, length-append}
-use Rattle.hdfs_blocks.proofs.Wrote.{pieces_join}
+use Rattle.hdfs_block_writer.proofs.Wrote.{pieces_join}
 use Rattle.hdfs_files.proofs.Joining.{wrote_nothing, wrote_trans, fails_after}
 use Rattle.hdfs_files.proofs.file_writer.FileWriter.write_all.Goals as goal
 

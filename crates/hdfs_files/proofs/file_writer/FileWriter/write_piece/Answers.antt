@@ -1,20 +1,23 @@
 -- The goals of FileWriter::write_piece.
 use Rattle.std.proofs.Common.{◌≡◌, [], ◌-◌, length, take, Some, refl, sym, subst, arith}
 use Rattle.hdfs_model.specs.declared.errors.HdfsError.{HdfsError}
-use Rattle.hdfs_blocks.specs.Writers.{length_of, size_of}
-use Rattle.hdfs_blocks.specs.declared.block_writer.BlockWriter.{BlockWriter}
+use Rattle.hdfs_block_writer.specs.BlockWriters.{length_of, size_of}
+use Rattle.hdfs_block_writer.specs.declared.block_writer.BlockWriter.{BlockWriter}
 use Rattle.hdfs_files.specs.Faults.{error_of}
 use Rattle.hdfs_files.specs.Writers.{Fails}
 use Rattle.hdfs_files.proofs.Joining.{wrote_trans, fails_after}
 use Rattle.hdfs_files.proofs.Standing.{more_stands, more_wrote, gave_up_fails, within_size, min_some}
 use Rattle.hdfs_files.proofs.file_writer.FileWriter.write_piece.Goals as goal
 
-pub write-requires : goal.write-requires
-write-requires g c = (c.in-Ok.ensures.stands.0.going c.in-Some.block c.in-Some.is).stands
+pub write-requires-clause-namenodes : goal.write-requires-clause-namenodes
+write-requires-clause-namenodes g c = omega (arith, c.requires.works.namenode, c.in-Ok.ensures.wrote.own.later.namenodes)
+
+pub write-requires-clause-stands : goal.write-requires-clause-stands
+write-requires-clause-stands g c = (c.in-Ok.ensures.stands.0.going c.in-Some.block c.in-Some.is).stands
 
 pub returns-in-Ok-write-clause-stands : goal.returns-in-Ok-write-clause-stands
 returns-in-Ok-write-clause-stands g c =
-    more_stands (g.C.Cluster.shown c.make_room.new.cluster) (g.C.Cluster.shown c.write.new.cluster) (g.met.C.Cluster.sound c.make_room.new.cluster) c.make_room.new.self c.in-Some.block c.in-Some.is
+    more_stands (g.C.Cluster.shown c.make_room.new.cluster) (g.C.Cluster.shown c.write.new.cluster) (g.met.C.Cluster.sound c.make_room.new.cluster) (g.met.C.Cluster.sound c.write.new.cluster) c.make_room.new.self c.in-Some.block c.in-Some.is
     (record c.make_room.new.self { going = Some c.write.new.self }) c.write.new.self (take c.in-Ok-write.taken c.args.bytes.now)
     c.in-Ok.ensures.stands.0 c.in-Ok.ensures.fine c.in-Ok.ensures.fine (record { path = refl; file_id = refl; sizes = refl }) refl refl c.in-Ok-write.ensures.wrote c.in-Ok-write.ensures.stands
 
@@ -35,7 +38,7 @@ returns-in-Ok-write-clause-wrote g c =
     let w' = record c.make_room.new.self { going = Some c.write.new.self } in
     let more = take c.in-Ok-write.taken c.args.bytes.now in
     wrote_trans s m t c.args.self.now c.make_room.new.self w' [] more c.in-Ok.ensures.wrote
-    (more_wrote m t (g.met.C.Cluster.sound c.make_room.new.cluster) c.make_room.new.self c.in-Some.block c.in-Some.is w' c.write.new.self more c.in-Ok.ensures.stands.0 c.in-Ok.ensures.fine
+    (more_wrote m t (g.met.C.Cluster.sound c.make_room.new.cluster) (g.met.C.Cluster.sound c.write.new.cluster) c.make_room.new.self c.in-Some.block c.in-Some.is w' c.write.new.self more c.in-Ok.ensures.stands.0 c.in-Ok.ensures.fine
     (record { path = refl; file_id = refl; sizes = refl }) refl c.in-Ok-write.ensures.wrote c.in-Ok-write.ensures.stands)
 
 pub returns-in-Err-write-clause-err : goal.returns-in-Err-write-clause-err
@@ -48,4 +51,5 @@ returns-in-Err-write-clause-err g c =
     let stands = c.in-Ok.ensures.stands.0 in
     subst (λ (e : HdfsError). Fails s c.args.self.now e t) (sym c.error_of.ensures)
     (fails_after s m t c.args.self.now w1 [] (error_of c.in-Err-write.fault) c.in-Ok.ensures.wrote
-    (gave_up_fails m t (g.met.C.Cluster.sound c.make_room.new.cluster) w1 block c.in-Some.is (g.met.C.Cluster.shows_writes c.make_room.new.cluster) (stands.going block c.in-Some.is) (stands.is_open c.in-Ok.ensures.fine block c.in-Some.is) c.in-Err-write.fault c.in-Err-write.ensures.err.gave_up))
+    (gave_up_fails m t (g.met.C.Cluster.sound c.make_room.new.cluster) (g.met.C.Cluster.sound c.write.new.cluster) w1 block c.in-Some.is (g.met.C.Cluster.active_below c.make_room.new.cluster) (stands.is_open c.in-Ok.ensures.fine block c.in-Some.is)
+    (stands.going block c.in-Some.is).settings c.in-Err-write.fault c.in-Err-write.ensures.err.gave_up))
