@@ -13,7 +13,7 @@ use Rattle.hdfs_model.specs.Anywhere.{IsReply}
 use Rattle.hdfs_model.specs.Causes.{Cause, CommandLost, Tells}
 use Rattle.hdfs_model.specs.Files.{State, Writing, Content}
 use Rattle.hdfs_model.specs.Picture.{Picture}
-use Rattle.hdfs_model.specs.Sessions.{Fits, SameOpened, IsLimited, defaults_of, does, spared, touched, is_before_asking, world_of}
+use Rattle.hdfs_model.specs.Sessions.{Fits, SameOpened, IsLimited, defaults_of, does, spared, touched, is_before_asking, world_of, world_with}
 use Rattle.hdfs_model.specs.Shown.{Shown, SamePlaces, SameReadPlaces, SameReads}
 use Rattle.hdfs_model.specs.Steps.{World, Outcome, Refusal, Refused, Done, is_opened, step, target_of, with_writing}
 use Rattle.hdfs_model.specs.Stores.{Agrees, AgreesAt, AgreesBut}
@@ -122,7 +122,7 @@ module _ (command : Command) (s t : Shown) (session session' : Session) (path : 
     same_world : world_at session' t ≡ world_at session s
     same_world =
         ap (λ (x : Settings). world_of x t) more.remembers.settings
-        ∙ ap (λ (x : ServerDefaults). (let w : World = record { home = session.settings.home; defaults = x } in w)) same_defaults
+        ∙ ap (λ (x : ServerDefaults). world_with session.settings x) same_defaults
 
     file_carried : (q : Picture) → t.picture ≡ Some q → (r : List ℕ) (other : FileWriter) → writer_of session' r ≡ Some other → CarriesFile q (with_writing state path (told state ready).content) r other
     file_carried q is r other has =

@@ -8,7 +8,7 @@ use Rattle.hdfs_model.specs.declared.messages.ServerDefaults.{ServerDefaults}
 use Rattle.hdfs_model.specs.Files.{State}
 use Rattle.hdfs_model.specs.Limits.{are_settings}
 use Rattle.hdfs_model.specs.Picture.{Picture}
-use Rattle.hdfs_model.specs.Sessions.{defaults_of, world_of}
+use Rattle.hdfs_model.specs.Sessions.{defaults_of, world_of, world_with}
 use Rattle.hdfs_model.specs.Shown.{Shown}
 use Rattle.hdfs_model.specs.Sound.{IsSound}
 use Rattle.hdfs_files.specs.OnlyFiles.{OnlyFile}
@@ -167,7 +167,7 @@ module _ (old new : Shown) (session session' : Session) (path : List ℕ) (was n
     pub same_world : settings_of session' ≡ settings_of session → world_at session' new ≡ world_at session old
     same_world same =
         ap (λ (x : Settings). world_of x new) same
-        ∙ ap (λ (d : ServerDefaults). record { home = (settings_of session).home; defaults = d }) (ap defaults_of told' ∙ only.defaults ∙ sym (ap defaults_of told))
+        ∙ ap (λ (d : ServerDefaults). world_with (settings_of session) d) (ap defaults_of told' ∙ only.defaults ∙ sym (ap defaults_of told))
 
     -- another writer carries its file
     other_carries : (other : List ℕ) (writer : FileWriter) → other ≢ path → CarriesFile p state other writer → CarriesFile q next other writer

@@ -35,7 +35,7 @@ module _ (old new : Shown) (session session' : Session) (name path : List ℕ) (
       (λ (x : List ℕ). (p : Picture) (bytes : List ℕ) → old.picture ≡ Some p → (carries : FileCarries p x (tail_of writer) bytes)
       → (q : Picture) × (new.picture ≡ Some q) × OnlyFile x p q × AgreesAt q (q.names x) (Some (File (record { bytes = bytes; attributes = carries.file.attributes }))))
       (stands.each path writer call.here).1
-      closes
+      (λ p bytes told carried. (let on = closes p bytes told carried in (on.0, on.1, on.2, on.3)))
 
   -- the other paths stay
   elsewhere : (state : State) (content : Content) (other : List ℕ) → other ≢ path → (closed_state state path content).files other ≡ state.files other

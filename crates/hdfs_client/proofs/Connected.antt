@@ -17,7 +17,7 @@ connected session cache = record session { connections = cache }
 
 sized_connected : (session : Session) (cache : ConnectionCache) (writer : FileWriter) → IsSized session writer → IsSized (connected session cache) writer
 sized_connected session cache writer h =
-    record { known = h.known; is_known = h.is_known; window = h.window; chunk = h.chunk; packet_size = h.packet_size }
+    record { known = h.known; is_known = h.is_known; rebuilding = h.rebuilding; chunk = h.chunk; packet_size = h.packet_size }
 
 stands_connected : (shown : Shown) (session : Session) (cache : ConnectionCache) → Stands shown session → Stands shown (connected session cache)
 stands_connected shown session cache h = record {

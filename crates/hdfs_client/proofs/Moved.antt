@@ -9,44 +9,29 @@ use Rattle.std.specs.Prelude.{String}
 use Rattle.std.specs.Str.{bytes_eq}
 use Rattle.hdfs_model.specs.Limits.{are_settings}
 use Rattle.hdfs_model.specs.Shown.{Shown}
-use Rattle.hdfs_blocks.specs.Writers as blocks
-use Rattle.hdfs_blocks.specs.declared.block_writer.BlockWriter.{BlockWriter}
 use Rattle.hdfs_files.specs.Writers as files
 use Rattle.hdfs_files.specs.declared.file_writer.FileWriter.{FileWriter}
+use Rattle.hdfs_files.proofs.Beside.{still_stands}
 use Rattle.hdfs_client.specs.Preparing.{Remembers}
 use Rattle.hdfs_client.specs.Session.{HasLink, IsSized, OnlyOwnLinks, Stands, writer_of, opened_of}
 use Rattle.hdfs_client.specs.declared.session.Session.{Session}
 use Rattle.hdfs_client.proofs.Sized.{named_still, sized_still}
 
 module _ (old new : Shown) (same : (link : ℕ) → new.writes link ≡ old.writes link) where
-  block_moved : (writer : BlockWriter) → blocks.Stands old writer → blocks.Stands new writer
-  block_moved writer stands pipe is =
-      let h = stands pipe is in
-      let over = h.1 in (
-        h.0,
-        record {
-          goes = record {
-            going = record { drives = (over.goes.going.drives.0, same pipe.link ∙ over.goes.going.drives.1, over.goes.going.drives.2); is_core = over.goes.going.is_core; going = over.goes.going.going };
-            more = over.goes.more;
-          };
-          next = λ write told. over.next write (sym (same pipe.link) ∙ told);
-          first = over.first;
-          seqno = over.seqno;
-          starts = over.starts;
-          counts = over.counts;
-          waits = over.waits;
-        },
-        h.2,
-        h.3,
-      )
-
   -- a writer of a file stands as it stood
   pub file_moved : (writer : FileWriter) → files.Stands old writer → files.Stands new writer
   file_moved writer stands = record {
     packets = stands.packets;
     going = λ block is.
         (let h = stands.going block is in
-        record { limited = h.limited; stands = block_moved block h.stands; size = h.size; chunk = h.chunk; packet_size = h.packet_size });
+        record {
+          limited = h.limited;
+          stands = still_stands old new block (λ link has. same link) h.stands;
+          size = h.size;
+          chunk = h.chunk;
+          packet_size = h.packet_size;
+          settings = h.settings;
+        });
     is_open = stands.is_open;
     idle = stands.idle;
     reopened = stands.reopened;

@@ -1,5 +1,6 @@
 -- What holds of an error holds still once the session's files are given up.
 use Rattle.std.proofs.Common.{◌≡◌, inl, inr, ⊎_elim, ℕ, ◌+◌, ◌<◌, List, [], ◌∷◌, length, Contains, get_or, Option, Some, sym, ◌∙◌, ap, subst, arith}
+use Rattle.std.specs.Prelude.{All, Any}
 use Rattle.hdfs_model.specs.declared.commands.Command.{Command}
 use Rattle.hdfs_model.specs.declared.commands.Command.TheVariants as commands
 use Rattle.hdfs_model.specs.declared.commands.Reply.{Reply}
@@ -9,7 +10,7 @@ use Rattle.hdfs_model.specs.declared.errors.HdfsError.TheVariants as errors
 use Rattle.hdfs_model.specs.declared.errors.IoFault.TheVariants as io_faults
 use Rattle.hdfs_model.specs.declared.errors.TransferFault.TheVariants as transfer
 use Rattle.hdfs_model.specs.declared.picture.BlockEntry.{BlockEntry}
-use Rattle.hdfs_model.specs.Causes.{LiesAt, FileLost, CommandLost, PipelineFailed, CallsRose, Cause, Tells}
+use Rattle.hdfs_model.specs.Causes.{LiesAt, FileLost, CommandLost, OfLastBlock, PipelineFailed, SomeListedFailed, CallsRose, Cause, Tells}
 use Rattle.hdfs_model.specs.Counts.{FaultCounts, NeverFall, NoneRose, Rose}
 use Rattle.hdfs_model.specs.Files.{State, Content, File}
 use Rattle.hdfs_model.specs.Sessions.{Avoids}
@@ -51,6 +52,8 @@ module _ (old u v : Shown) (later : Later u v) where
   tells_on last command (errors.DataTransferError (transfer.Read byte)) h = h
   tells_on last command (errors.DataTransferError transfer.Setup) h = (h.0, links_on h.1)
   tells_on last command (errors.DataTransferError transfer.AllNodes) h = (h.0, (h.1.0, node_on h.1.0 h.1.1))
+  tells_on last command (errors.DataTransferError transfer.NoReplacement) h = (h.0, (h.1.0, node_on h.1.0 h.1.1))
+  tells_on last command (errors.DataTransferError (transfer.RebuildLimit rebuilds)) h = (h.0, (h.1.0, node_on h.1.0 h.1.1))
   tells_on last command (errors.DataTransferError (transfer.BadAck seqno)) h = (h.0, links_on h.1)
   tells_on last command (errors.InvalidPath text) h = h
   tells_on last command (errors.InvalidArgument args.State) h = h
@@ -64,8 +67,8 @@ module _ (old u v : Shown) (later : Later u v) where
   tells_on last command (errors.RPCError class message) h = last ∙ h
 
   module _ (reads : SameReads u v) (state : State) (leaves : LeavesFiles u v state) where
-    pipeline_on : (path : List ℕ) → PipelineFailed old.counts u path → PipelineFailed old.counts v path
-    pipeline_on path h =
+    of_last_on : (path : List ℕ) (P Q : BlockEntry → Type 0) → ((entry : BlockEntry) → P entry → Q entry) → OfLastBlock u path P → OfLastBlock v path Q
+    of_last_on path P Q follows h =
         let after = told_after (SameReadPlaces u) u.picture v.picture h.picture reads.places h.told in
         let records = leaves.records h.picture after.0 h.told after.1 in
         record {
@@ -78,8 +81,20 @@ module _ (old u v : Shown) (later : Later u v) where
           last = h.last;
           entry = h.entry;
           is = records.table h.id ∙ h.is;
-          failed = (h.failed.0, h.failed.1, h.failed.2, h.failed.3, node_on h.failed.1 h.failed.4);
+          so = follows h.entry h.so;
         }
+
+    some_on : (path : List ℕ) → SomeListedFailed old.counts u path → SomeListedFailed old.counts v path
+    some_on path =
+        of_last_on path (λ entry. Any (λ node. Rose (old.counts.nodes node) (u.counts.nodes node)) entry.nodes)
+        (λ entry. Any (λ node. Rose (old.counts.nodes node) (v.counts.nodes node)) entry.nodes)
+        (λ entry any. (any.0, any.1, any.2, any.3, node_on any.1 any.4))
+
+    pipeline_on : (path : List ℕ) → PipelineFailed old.counts u path → PipelineFailed old.counts v path
+    pipeline_on path =
+        of_last_on path (λ entry. (0 < length entry.nodes) × All (λ node. Rose (old.counts.nodes node) (u.counts.nodes node)) entry.nodes)
+        (λ entry. (0 < length entry.nodes) × All (λ node. Rose (old.counts.nodes node) (v.counts.nodes node)) entry.nodes)
+        (λ entry all. (all.0, λ k d lt. node_on (get_or entry.nodes k d) (all.1 k d lt)))
 
     lost_on : (path : List ℕ) (content : Content) → state.files path ≡ Some (File content) → (from end byte : ℕ) → FileLost old.counts u path from end byte → FileLost old.counts v path from end byte
     lost_on path content closed from end byte h =
@@ -126,6 +141,9 @@ module _ (old u v : Shown) (later : Later u v) where
     cause_on w command avoids (errors.DataTransferError (transfer.Read byte)) h = (h.0, command_lost_on w command avoids h.0.0 h.0.1 h.0.2 byte h.1)
     cause_on w command avoids (errors.DataTransferError transfer.Setup) h = (h.0, links_on h.1)
     cause_on w command avoids (errors.DataTransferError transfer.AllNodes) h = (h.0, pipeline_on (target_of w command) h.1)
+    cause_on w command avoids (errors.DataTransferError transfer.NoReplacement) h =
+        (h.0, h.1, ⊎_elim (λ rose. inl (links_on rose)) (λ rose. inr (calls_on rose)) h.2, some_on (target_of w command) h.3)
+    cause_on w command avoids (errors.DataTransferError (transfer.RebuildLimit rebuilds)) h = (h.0, h.1, some_on (target_of w command) h.2)
     cause_on w command avoids (errors.DataTransferError (transfer.BadAck seqno)) h = (h.0, links_on h.1)
     cause_on w command avoids (errors.InvalidPath text) h = h
     cause_on w command avoids (errors.InvalidArgument args.State) h = h

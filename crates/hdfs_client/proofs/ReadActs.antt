@@ -12,7 +12,7 @@ use Rattle.hdfs_model.specs.Files.{State, Writing, Content}
 use Rattle.hdfs_model.specs.Headline.{Applied}
 use Rattle.hdfs_model.specs.Paths.{is_path, absolute}
 use Rattle.hdfs_model.specs.Picture.{Picture, SameFiles}
-use Rattle.hdfs_model.specs.Sessions.{defaults_of, is_misplaced, spared}
+use Rattle.hdfs_model.specs.Sessions.{defaults_of, is_misplaced, spared, world_with}
 use Rattle.hdfs_model.specs.Shown.{Shown, Later, SameLinks, SamePlaces, SameWrites}
 use Rattle.hdfs_model.specs.Steps.{World, Outcome, Done, is_opened, path_of, step, target_of}
 use Rattle.hdfs_model.specs.Stores.{Agrees}
@@ -108,7 +108,7 @@ module _ (old new : Shown) (session : Session) (name path : List ℕ) (offset le
     same_world files =
         let t = pictures files in
         let same : defaults_of new.picture ≡ defaults_of old.picture = ap defaults_of t.3 ∙ t.4.defaults ∙ sym (ap defaults_of t.1) in
-        ap (λ (d : ServerDefaults). record { home = (settings_of session).home; defaults = d }) same
+        ap (λ (d : ServerDefaults). world_with (settings_of session) d) same
 
     -- the session carries its files still
     carried_on : SameLinks old new → ((p : Picture) → old.picture ≡ Some p → IsClosed p path → (q : Picture) × (new.picture ≡ Some q) × SameFiles p q) → Carried new session state

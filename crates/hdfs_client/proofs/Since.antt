@@ -1,5 +1,6 @@
 -- What holds since a time holds since an earlier time.
-use Rattle.std.proofs.Common.{inl, inr, ⊎_elim, ℕ, ◌+◌, List, [], get_or, arith}
+use Rattle.std.proofs.Common.{inl, inr, ⊎_elim, ℕ, ◌+◌, ◌<◌, List, [], length, get_or, arith}
+use Rattle.std.specs.Prelude.{All, Any}
 use Rattle.hdfs_model.specs.declared.commands.Command.{Command}
 use Rattle.hdfs_model.specs.declared.commands.Command.TheVariants as commands
 use Rattle.hdfs_model.specs.declared.errors.ArgFault.TheVariants as args
@@ -7,12 +8,13 @@ use Rattle.hdfs_model.specs.declared.errors.HdfsError.{HdfsError}
 use Rattle.hdfs_model.specs.declared.errors.HdfsError.TheVariants as errors
 use Rattle.hdfs_model.specs.declared.errors.IoFault.TheVariants as io_faults
 use Rattle.hdfs_model.specs.declared.errors.TransferFault.TheVariants as transfer
-use Rattle.hdfs_model.specs.Causes.{FileLost, CommandLost, PipelineFailed, CallsRose, Cause, Tells}
+use Rattle.hdfs_model.specs.Causes.{FileLost, CommandLost, PipelineFailed, SomeListedFailed, CallsRose, Cause, Tells}
 use Rattle.hdfs_model.specs.Counts.{FaultCounts, NeverFall, NoneRose, Rose}
 use Rattle.hdfs_model.specs.Files.{State}
 use Rattle.hdfs_model.specs.Shown.{Shown}
 use Rattle.hdfs_model.specs.Steps.{World, target_of}
 use Rattle.hdfs_model.proofs.Frames.{rose_since}
+use Rattle.hdfs_files.proofs.Joining.{of_last_since}
 
 module _ (old middle new : Shown) (before : NeverFall old.counts middle.counts) where
   links_since : Rose middle.counts.links new.counts.links → Rose old.counts.links new.counts.links
@@ -52,19 +54,17 @@ module _ (old middle new : Shown) (before : NeverFall old.counts middle.counts) 
   command_lost_since path (commands.Write text bytes) byte h = h
   command_lost_since path (commands.Close text) byte h = h
 
+  some_since : (path : List ℕ) → SomeListedFailed middle.counts new path → SomeListedFailed old.counts new path
+  some_since path =
+      of_last_since new path (λ entry. Any (λ node. Rose (middle.counts.nodes node) (new.counts.nodes node)) entry.nodes)
+      (λ entry. Any (λ node. Rose (old.counts.nodes node) (new.counts.nodes node)) entry.nodes)
+      (λ entry any. (any.0, any.1, any.2, any.3, node_since any.1 any.4))
+
   pipeline_since : (path : List ℕ) → PipelineFailed middle.counts new path → PipelineFailed old.counts new path
-  pipeline_since path h = record {
-    picture = h.picture;
-    told = h.told;
-    file = h.file;
-    named = h.named;
-    front = h.front;
-    id = h.id;
-    last = h.last;
-    entry = h.entry;
-    is = h.is;
-    failed = (h.failed.0, h.failed.1, h.failed.2, h.failed.3, node_since h.failed.1 h.failed.4);
-  }
+  pipeline_since path =
+      of_last_since new path (λ entry. (0 < length entry.nodes) × All (λ node. Rose (middle.counts.nodes node) (new.counts.nodes node)) entry.nodes)
+      (λ entry. (0 < length entry.nodes) × All (λ node. Rose (old.counts.nodes node) (new.counts.nodes node)) entry.nodes)
+      (λ entry all. (all.0, λ k d lt. node_since (get_or entry.nodes k d) (all.1 k d lt)))
 
   -- a cause
   pub cause_since : (w : World) (state : State) (command : Command) (e : HdfsError) → Cause w state command middle new e → Cause w state command old new e
@@ -74,6 +74,9 @@ module _ (old middle new : Shown) (before : NeverFall old.counts middle.counts) 
   cause_since w state command (errors.DataTransferError (transfer.Read byte)) h = (h.0, command_lost_since (target_of w command) command byte h.1)
   cause_since w state command (errors.DataTransferError transfer.Setup) h = (h.0, links_since h.1)
   cause_since w state command (errors.DataTransferError transfer.AllNodes) h = (h.0, pipeline_since (target_of w command) h.1)
+  cause_since w state command (errors.DataTransferError transfer.NoReplacement) h =
+      (h.0, h.1, ⊎_elim (λ rose. inl (links_since rose)) (λ rose. inr (calls_since rose)) h.2, some_since (target_of w command) h.3)
+  cause_since w state command (errors.DataTransferError (transfer.RebuildLimit rebuilds)) h = (h.0, h.1, some_since (target_of w command) h.2)
   cause_since w state command (errors.DataTransferError (transfer.BadAck seqno)) h = (h.0, links_since h.1)
   cause_since w state command (errors.InvalidPath text) h = h
   cause_since w state command (errors.InvalidArgument args.State) h = h
@@ -94,6 +97,8 @@ module _ (old middle new : Shown) (before : NeverFall old.counts middle.counts) 
   tells_since command (errors.DataTransferError (transfer.Read byte)) h = h
   tells_since command (errors.DataTransferError transfer.Setup) h = (h.0, links_since h.1)
   tells_since command (errors.DataTransferError transfer.AllNodes) h = (h.0, (h.1.0, node_since h.1.0 h.1.1))
+  tells_since command (errors.DataTransferError transfer.NoReplacement) h = (h.0, (h.1.0, node_since h.1.0 h.1.1))
+  tells_since command (errors.DataTransferError (transfer.RebuildLimit rebuilds)) h = (h.0, (h.1.0, node_since h.1.0 h.1.1))
   tells_since command (errors.DataTransferError (transfer.BadAck seqno)) h = (h.0, links_since h.1)
   tells_since command (errors.InvalidPath text) h = h
   tells_since command (errors.InvalidArgument args.State) h = h

@@ -10,7 +10,7 @@ use Rattle.hdfs_files.specs.Writers.{sizes_of}
 use Rattle.hdfs_files.specs.declared.file_writer.FileWriter.{FileWriter}
 use Rattle.hdfs_files.specs.declared.sizes.WriteSizes.{WriteSizes}
 use Rattle.hdfs_client.specs.Preparing.{Remembers, sizes_by}
-use Rattle.hdfs_client.specs.Session.{IsSized, defaults_known}
+use Rattle.hdfs_client.specs.Session.{IsSized, defaults_known, rebuilding_by}
 use Rattle.hdfs_client.specs.declared.session.Session.{Session}
 
 -- a session that is left as it is remembers what it is run with
@@ -45,7 +45,7 @@ module _ (session session' : Session) (remembers : Remembers session session') w
   sized_still writer writer' same sized = record {
     known = sized.known;
     is_known = remembers.known sized.known sized.is_known;
-    window = ap (λ (s : WriteSizes). s.window) same ∙ sized.window ∙ ap (λ (s : Settings). s.window) (sym remembers.settings);
+    rebuilding = ap (λ (s : WriteSizes). s.rebuilding) same ∙ sized.rebuilding ∙ ap rebuilding_by (sym remembers.settings);
     chunk = ap (λ (s : WriteSizes). s.chunk) same ∙ sized.chunk;
     packet_size = ap (λ (s : WriteSizes). s.packet_size) same ∙ sized.packet_size;
   }
@@ -56,7 +56,7 @@ module _ (session session' : Session) (remembers : Remembers session session') w
   sized_by d writer replication block_size sizes knows = record {
     known = d;
     is_known = knows;
-    window = ap (λ (s : WriteSizes). s.window) sizes ∙ ap (λ (s : Settings). s.window) (sym remembers.settings);
+    rebuilding = ap (λ (s : WriteSizes). s.rebuilding) sizes ∙ ap rebuilding_by (sym remembers.settings);
     chunk = ap (λ (s : WriteSizes). s.chunk) sizes;
     packet_size = ap (λ (s : WriteSizes). s.packet_size) sizes;
   }

@@ -4,7 +4,7 @@ use Rattle.std.proofs.lemmas.Bool.Decides.{nat_tests}
 use Rattle.hdfs_wire.specs.Outgoing.{ArePacketSizes}
 use Rattle.hdfs_model.specs.declared.commands.WriteOptions.{WriteOptions}
 use Rattle.hdfs_model.specs.declared.messages.ServerDefaults.{ServerDefaults}
-use Rattle.hdfs_model.specs.Limits.{are_defaults, are_options, are_settings, are_sizes, begins_with_slash, if_given, is_block_size, is_permission, is_replication}
+use Rattle.hdfs_model.specs.Limits.{are_defaults, are_options, are_settings, are_sizes, begins_with_slash, if_given, is_block_size, is_permission, is_replication, is_small}
 use Rattle.hdfs_model.proofs.Loads.{and_parts}
 use Rattle.hdfs_files.specs.Writers.{ArePackets, AreSizes}
 use Rattle.hdfs_client.specs.Preparing.{sizes_by}
@@ -45,11 +45,12 @@ module _ (session : Session) (d : ServerDefaults) (settings : are_settings sessi
   -- of packets
   pub are_packets_by : (replication block_size : ℕ) → ArePackets (sizes_by session d replication block_size)
   are_packets_by replication block_size =
-      let window = and_parts (begins_with_slash session.settings.home && nat_le 1 session.settings.window) (nat_le session.settings.window 1000) settings in
-      let some = and_parts (begins_with_slash session.settings.home) (nat_le 1 session.settings.window) window.0 in
+      let w = session.settings.window in
+      let parts = and_parts (begins_with_slash session.settings.home && is_small session.settings.rebuild_limit) (is_small w) settings in
+      let both = and_parts (nat_le 1 w) (nat_le w 1000) parts.1 in
       record {
         packet = packet_sizes d.bytes_per_checksum d.write_packet_size (and_parts (is_replication d.replication && is_block_size d.block_size) (are_sizes d.bytes_per_checksum d.write_packet_size) defaults).1;
-        window = (le_from 1 session.settings.window some.1, le_from session.settings.window 1000 window.1);
+        window = (le_from 1 w both.0, le_from w 1000 both.1);
       }
 
   -- and of a file with these options

@@ -48,7 +48,7 @@ carries_active p q same r tail bytes c = record {
   file = c.file;
   named = same.files.names r ∙ c.named;
   being_written = c.being_written;
-  carries = tail_stays p q c.file (λ id there. (same.files.table id, λ node. same.files.held node id)) (λ link place told there. same.writes link ∙ told) tail bytes c.carries;
+  carries = tail_stays p q r c.file (same.files.names r) (λ id there. (same.files.table id, λ node. same.files.held node id)) (λ link place told there. same.writes link ∙ told) tail bytes c.carries;
 }
 
 begun_before : (p m q : Picture) (state : State) (path : List ℕ) (content : Content) (tail : Tail) → SameButActive p m → Begun m q state path content tail → Begun p q state path content tail

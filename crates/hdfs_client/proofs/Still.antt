@@ -6,7 +6,7 @@ use Rattle.hdfs_model.specs.Files.{State}
 use Rattle.hdfs_model.specs.Picture.{Picture, SameFiles}
 use Rattle.hdfs_model.specs.Sessions.{defaults_of}
 use Rattle.hdfs_model.specs.Shown.{Shown, SameWrites}
-use Rattle.hdfs_blocks.proofs.Beside.{still_stands}
+use Rattle.hdfs_files.proofs.Beside.{still_stands}
 use Rattle.hdfs_files.specs.Tails.{Tail, FileCarries}
 use Rattle.hdfs_files.specs.Writers as files
 use Rattle.hdfs_files.specs.declared.file_writer.FileWriter.{FileWriter}
@@ -27,6 +27,7 @@ writer_stands a b w stays s = record {
         size = g.size;
         chunk = g.chunk;
         packet_size = g.packet_size;
+        settings = g.settings;
       };
   is_open = s.is_open;
   idle = s.idle;
@@ -72,7 +73,7 @@ module _ (p q : Picture) (same : SameFiles p q) (writes : SameWrites p q) where
     file = c.file;
     named = same.names path ∙ c.named;
     being_written = c.being_written;
-    carries = tail_stays p q c.file (λ id there. (same.table id, λ node. same.held node id)) (λ link place is there. writes link ∙ is) tail bytes c.carries;
+    carries = tail_stays p q path c.file (same.names path) (λ id there. (same.table id, λ node. same.held node id)) (λ link place is there. writes link ∙ is) tail bytes c.carries;
   }
 
   pub carries_stays : (state : State) (path : List ℕ) (writer : FileWriter) → CarriesFile p state path writer → CarriesFile q state path writer

@@ -5,11 +5,12 @@ use Rattle.hdfs_model.specs.declared.errors.HdfsError.{HdfsError}
 use Rattle.hdfs_model.specs.declared.errors.HdfsError.TheVariants as errors
 use Rattle.hdfs_model.specs.declared.errors.IoFault.TheVariants as io_faults
 use Rattle.hdfs_model.specs.declared.errors.TransferFault.TheVariants as transfer
-use Rattle.hdfs_model.specs.Causes.{PipelineFailed, IsDone, Sends, Tells, IsEarly, Cause}
+use Rattle.hdfs_model.specs.Causes.{PipelineFailed, SomeListedFailed, IsDone, Sends, Tells, IsEarly, Cause}
 use Rattle.hdfs_model.specs.Files.{State}
 use Rattle.hdfs_model.specs.Sessions.{IsNotOwed, is_before_asking}
 use Rattle.hdfs_model.specs.Shown.{Shown}
 use Rattle.hdfs_model.specs.Steps.{World, step, target_of}
+use Rattle.hdfs_recovery.specs.declared.block_plan.RebuildSettings.{RebuildSettings}
 use Rattle.hdfs_files.specs.Failing.{TellsWrite, TellsClose, CauseOfWrite}
 
 -- a write fails only as a close may
@@ -59,6 +60,8 @@ module _ (path : List ℕ) (old new : Shown) where
     tells_sending (errors.IOError io_faults.Link) h = (sends, h)
     tells_sending (errors.DataTransferError transfer.Setup) h = (sends, h)
     tells_sending (errors.DataTransferError transfer.AllNodes) h = (sends, h)
+    tells_sending (errors.DataTransferError transfer.NoReplacement) h = (sends, h)
+    tells_sending (errors.DataTransferError (transfer.RebuildLimit rebuilds)) h = (sends, h)
     tells_sending (errors.DataTransferError (transfer.BadAck seqno)) h = (sends, h)
     tells_sending (errors.AlreadyExists message) h = h
     tells_sending (errors.RPCError class message) h = h
@@ -82,18 +85,24 @@ module _ (path : List ℕ) (old new : Shown) where
     not_early (errors.InvalidArgument fault) h early = h
     not_early (errors.FileNotFound name) h early = h
 
-    -- and it has its cause, where the step is done
-    pub cause_sending : (world : World) (state : State) → target_of world command ≡ path → IsDone (step world state command) → (error : HdfsError) → TellsClose path old new error → CauseOfWrite path old new error → Cause world state command old new error
-    cause_sending world state called done errors.NoMemory h cause = tt
-    cause_sending world state called done (errors.IOError io_faults.Link) h cause = (done, h)
-    cause_sending world state called done (errors.DataTransferError transfer.Setup) h cause = (done, h)
-    cause_sending world state called done (errors.DataTransferError transfer.AllNodes) h cause = (done, subst (PipelineFailed old.counts new) (sym called) cause)
-    cause_sending world state called done (errors.DataTransferError (transfer.BadAck seqno)) h cause = (done, h)
-    cause_sending world state called done (errors.AlreadyExists message) h cause = inr cause
-    cause_sending world state called done (errors.RPCError class message) h cause = inr cause
-    cause_sending world state called done (errors.OperationFailed name) h cause = (done, cause, h.0 ∙ sym called)
-    cause_sending world state called done errors.Failed h cause = absurd h
-    cause_sending world state called done (errors.DataTransferError (transfer.Read byte)) h cause = absurd h
-    cause_sending world state called done (errors.InvalidPath text) h cause = absurd h
-    cause_sending world state called done (errors.InvalidArgument fault) h cause = absurd h
-    cause_sending world state called done (errors.FileNotFound name) h cause = absurd h
+    -- and it has its cause, where the step is done, and pipelines are rebuilt as the world has it
+    module _ (world : World) (state : State) (called : target_of world command ≡ path) (done : IsDone (step world state command)) (settings : RebuildSettings)
+        (limit : settings.rebuild_limit ≡ world.rebuild_limit) (effort : settings.replace.best_effort ≡ world.best_effort) where
+      pub cause_sending : (error : HdfsError) → TellsClose path old new error → CauseOfWrite settings path old new error → Cause world state command old new error
+      cause_sending errors.NoMemory h cause = tt
+      cause_sending (errors.IOError io_faults.Link) h cause = (done, h)
+      cause_sending (errors.DataTransferError transfer.Setup) h cause = (done, h)
+      cause_sending (errors.DataTransferError transfer.AllNodes) h cause = (done, subst (PipelineFailed old.counts new) (sym called) cause)
+      cause_sending (errors.DataTransferError transfer.NoReplacement) h cause =
+          (done, sym effort ∙ cause.0, cause.1, subst (SomeListedFailed old.counts new) (sym called) cause.2)
+      cause_sending (errors.DataTransferError (transfer.RebuildLimit rebuilds)) h cause =
+          (done, cause.0 ∙ limit, subst (SomeListedFailed old.counts new) (sym called) cause.1)
+      cause_sending (errors.DataTransferError (transfer.BadAck seqno)) h cause = (done, h)
+      cause_sending (errors.AlreadyExists message) h cause = inr cause
+      cause_sending (errors.RPCError class message) h cause = inr cause
+      cause_sending (errors.OperationFailed name) h cause = (done, cause, h.0 ∙ sym called)
+      cause_sending errors.Failed h cause = absurd h
+      cause_sending (errors.DataTransferError (transfer.Read byte)) h cause = absurd h
+      cause_sending (errors.InvalidPath text) h cause = absurd h
+      cause_sending (errors.InvalidArgument fault) h cause = absurd h
+      cause_sending (errors.FileNotFound name) h cause = absurd h

@@ -14,7 +14,7 @@ use Rattle.hdfs_namenode.specs.Asked.{error_of}
 use Rattle.hdfs_namenode.specs.Clients.{name_of}
 use Rattle.hdfs_files.specs.declared.sizes.WriteSizes.{WriteSizes}
 use Rattle.hdfs_client.specs.Looking.{OnlyLooks}
-use Rattle.hdfs_client.specs.Session.{defaults_known, settings_of}
+use Rattle.hdfs_client.specs.Session.{defaults_known, rebuilding_by, settings_of}
 use Rattle.hdfs_client.specs.declared.session.Session.{Session}
 
 -- A session is run with what it was run with, asks in the name in which it asked, and knows the defaults that it knew.
@@ -59,5 +59,5 @@ sizes_by session defaults replication block_size = record {
   block_size = block_size;
   chunk = defaults.bytes_per_checksum;
   packet_size = defaults.write_packet_size;
-  window = (settings_of session).window;
+  rebuilding = rebuilding_by (settings_of session);
 }

@@ -20,6 +20,7 @@ use Rattle.hdfs_model.specs.declared.picture.FileEntry.{FileEntry}
 use Rattle.hdfs_namenode.specs.Clients as namenode
 use Rattle.hdfs_files.specs.Tails.{FileCarries}
 use Rattle.hdfs_files.specs.Writers as files
+use Rattle.hdfs_recovery.specs.declared.block_plan.RebuildSettings.{RebuildSettings}
 use Rattle.hdfs_files.specs.declared.file_writer.FileWriter.{FileWriter}
 use Rattle.hdfs_client.specs.declared.session.Session.{Session}
 
@@ -65,17 +66,22 @@ abbrev pub after : {T : Type 0} → Session → Result T HdfsError → Session
 after session (Ok value) = session
 after session (Err error) = record session { failed = true }
 
--- A writer has the session's window, and the sizes of packets of the cluster's defaults, which the session knows.
+-- how the pipelines of a session's files are rebuilt, by its settings
+abbrev pub rebuilding_by : Settings → RebuildSettings
+rebuilding_by settings = record { window = settings.window; rebuild_limit = settings.rebuild_limit; replace = settings.replace }
+
+-- A writer rebuilds pipelines as the session's settings say, and has the sizes of packets of the cluster's defaults, which the session
+-- knows.
 pub record IsSized (session : Session) (writer : FileWriter) : Type 0 where
   pub known : ServerDefaults
   pub is_known : defaults_known session ≡ Some known
-  pub window : (files.sizes_of writer).window ≡ session.settings.window
+  pub rebuilding : (files.sizes_of writer).rebuilding ≡ rebuilding_by session.settings
   pub chunk : (files.sizes_of writer).chunk ≡ known.bytes_per_checksum
   pub packet_size : (files.sizes_of writer).packet_size ≡ known.write_packet_size
 
 -- What a session is between calls: its settings are in their limits, each writer stands and is that of the file at its path, and
--- no two keep one link. As long as no command has failed, no writer has. It asks in the name of its client, and its writers write with
--- its window, and with the sizes of packets of the cluster's defaults.
+-- no two keep one link. As long as no command has failed, no writer has. It asks in the name of its client, and its writers rebuild
+-- pipelines as its settings say, with its window, and write with the sizes of packets of the cluster's defaults.
 pub record Stands (shown : Shown) (session : Session) : Type 0 where
   pub limited : are_settings session.settings ≡ true
   pub each : (path : List ℕ) (writer : FileWriter) → writer_of session path ≡ Some writer → files.Stands shown writer × (files.path_of writer ≡ path)

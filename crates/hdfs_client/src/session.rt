@@ -141,7 +141,10 @@ impl Session {
     /// | `RPCError` | for the same reason, or where a namenode has failed |
     /// | `DataTransferError(Read)` | where each datanode has failed that holds a block of the range whole; the offset is in that block |
     /// | `IOError(Link)`, `DataTransferError(Setup)` | where the link to the first datanode of a pipeline, or its set-up, has failed |
-    /// | `DataTransferError(AllNodes)`, `DataTransferError(BadAck)` | where a datanode of a pipeline, or its link, has failed |
+    /// | `DataTransferError(AllNodes)` | where each datanode of a pipeline has failed |
+    /// | `DataTransferError(NoReplacement)` | where a datanode of a pipeline has failed and none could be added in its place, since links or a namenode have failed too, and the settings have no best effort |
+    /// | `DataTransferError(RebuildLimit)` | where a datanode of a pipeline has failed that was rebuilt as often as the settings say |
+    /// | `DataTransferError(BadAck)` | where the link of a pipeline has failed |
     /// | `OperationFailed` | where a namenode has failed, and doesn't say that the file is closed |
     /// | `NoMemory` | for want of memory, at any time |
     pub fn apply<C: Cluster>(
@@ -198,6 +201,8 @@ fn copy_settings(alloc: Global, settings: &Settings) -> Result<Settings, HdfsErr
     Ok(Settings {
         home: settings.home.copy(alloc)?,
         client: settings.client,
+        replace: settings.replace,
+        rebuild_limit: settings.rebuild_limit,
         window: settings.window,
     })
 }

@@ -7,6 +7,7 @@ ghost use Rattle.hdfs_model.specs.Sessions.{IsNotOwed};
 use crate::session::Session;
 use hdfs_files::{FileWriter, WriteSizes};
 use hdfs_model::{Appended, ArgFault, Cluster, HdfsError, Reply, ServerDefaults, WriteOptions};
+use hdfs_recovery::RebuildSettings;
 use hdfs_wire::Text;
 
 /// The flag of a new file (upstream's `CREATE`).
@@ -46,7 +47,11 @@ impl Session {
             block_size,
             chunk: defaults.bytes_per_checksum,
             packet_size: defaults.write_packet_size,
-            window: self.settings.window,
+            rebuilding: RebuildSettings {
+                window: self.settings.window,
+                rebuild_limit: self.settings.rebuild_limit,
+                replace: self.settings.replace,
+            },
         }
     }
 

@@ -6,10 +6,12 @@ ghost use Rattle.hdfs_model.specs.Shown.{Shown};
 
 use crate::asking::run_one;
 use crate::making::cluster;
+use hdfs_block_writer::RebuildSettings;
 use hdfs_cluster::MemCluster;
 use hdfs_files::{FileWriter, WriteSizes};
 use hdfs_model::{Appended, Cluster, HdfsError, Reply};
 use hdfs_namenode::NamenodeProtocol;
+use hdfs_names::{Policy, ReplaceDatanodeOnFailure};
 use hdfs_wire::Text;
 use std::alloc::Global;
 use std::test::Fail;
@@ -24,7 +26,11 @@ fn sizes(block_size: u64) -> WriteSizes
         block_size,
         chunk: 4,
         packet_size: 41,
-        window: 2,
+        rebuilding: RebuildSettings {
+            window: 2,
+            rebuild_limit: 8,
+            replace: ReplaceDatanodeOnFailure::new(Policy::Default, false),
+        },
     }
 }
 
