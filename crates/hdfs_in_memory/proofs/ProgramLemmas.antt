@@ -1,5 +1,5 @@
 -- The program over a new cluster.
-use Rattle.std.proofs.Common.{sym, ◌≡◌, ◌∙◌, ap, refl, subst, inl, inr, ⊎_elim, ◌⊎◌, zero, suc, ℕ, ◌≤◌, Bool, true, false, if◌then◌else◌, List, [], ◌∷◌, ◌++◌, map, Some, None, Err, arith}
+use Rattle.std.proofs.Common.{sym, ◌≡◌, ◌∙◌, ap, refl, subst, inl, inr, ⊎_elim, ◌⊎◌, zero, suc, ℕ, ◌≤◌, Bool, true, false, if◌then◌else◌, List, [], ◌∷◌, ◌++◌, Some, None, arith}
 use Rattle.std.specs.List.{list_any}
 use Rattle.std.specs.Str.{bytes_eq}
 use Rattle.hdfs_model.specs.declared.errors.Fault.{Fault}
@@ -19,7 +19,7 @@ use Rattle.hdfs_cluster.proofs.Counting.{links_planned, nodes_planned}
 use Rattle.hdfs_cluster.proofs.Failing.{calls_planned}
 use Rattle.hdfs_cluster.specs.Starting.{Starts}
 use Rattle.hdfs_faults.specs.Series.{is_fault as is_fault_line, link_fault_count, node_fault_count}
-use Rattle.hdfs_script.specs.Scripts.{Script, is_fault, script}
+use Rattle.hdfs_script.specs.Scripts.{Script, is_fault}
 use Rattle.hdfs_script.specs.Texts.{fault_text}
 use Rattle.hdfs_streams.specs.Streams.{SourceShown, SinkShown, Wrote}
 use Rattle.hdfs_top.specs.declared.note.Note.{Note}

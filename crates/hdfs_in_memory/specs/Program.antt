@@ -9,7 +9,7 @@ use Rattle.hdfs_model.specs.Files.{State, empty_state}
 use Rattle.hdfs_model.specs.Folds.{Ends, fold}
 use Rattle.hdfs_model.specs.Headline.{Stopped}
 use Rattle.hdfs_model.specs.Loading.{with_lines}
-use Rattle.hdfs_model.specs.Sessions.{Fits, AreLimited}
+use Rattle.hdfs_model.specs.Sessions.{Fits, AreLimited, world_with}
 use Rattle.hdfs_model.specs.Shown.{Shown}
 use Rattle.hdfs_model.specs.Steps.{World}
 use Rattle.hdfs_faults.specs.Series.{link_fault_count, node_fault_count}
@@ -32,9 +32,9 @@ pub record IsUnfailed (counts : FaultCounts) : Type 0 where
   pub links : counts.links ≡ 0
   pub nodes : (d : List ℕ) → counts.nodes d ≡ 0
 
--- the world of a script over a new cluster in memory: its user's home, and the defaults that it sets
+-- the world of a script over a new cluster in memory: its session's settings, and the defaults that it sets
 abbrev pub memory_world : Script → World
-memory_world parsed = record { home = (session_settings parsed.settings).home; defaults = parsed.settings.cluster.defaults }
+memory_world parsed = world_with (session_settings parsed.settings) parsed.settings.cluster.defaults
 
 -- A store as it is made for a script: it holds the root alone, and has never failed.
 pub record IsNew (store : Shown) : Type 0 where

@@ -16,6 +16,12 @@ A script has lines for settings, then for directories and files to load, then fo
   set block BLOCK_SIZE                              the cluster's block size
   set chunk CHUNK                                   how many bytes have one checksum
   set packet PACKET                                 how many bytes a packet has at most
+  set replication REPLICATION                       the cluster's replication
+  set rebuilds REBUILDS                             how often the pipeline of a block is rebuilt at most
+  set window WINDOW                                 how many packets of a block wait for their acknowledgement at most
+  set policy POLICY                                 when a datanode is added in the place of one that failed: POLICY is
+                                                    DEFAULT, NEVER, ALWAYS or DISABLE
+  set besteffort BEST_EFFORT                        true: a write goes on where none could be added; else false
   dir PATH                                          a directory
   file PATH PERMISSION REPLICATION BLOCK_SIZE HEX   a file, its permission in octal digits and its bytes
   fault link NTH KIND                               the NTH pipeline fails: KIND is broken, refused or badack

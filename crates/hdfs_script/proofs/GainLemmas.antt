@@ -7,7 +7,7 @@ use Rattle.hdfs_script.specs.declared.entry.Parsed.{Parsed}
 use Rattle.hdfs_script.specs.declared.entry.ScriptSettings.{ScriptSettings}
 use Rattle.hdfs_script.specs.Parsing.{Gains, Parses, first_out, first_set, good_front, numbered_from, or_else}
 use Rattle.hdfs_script.specs.Scripts.{commands_of, entries_in, no_settings, settings_from}
-use Rattle.hdfs_script.proofs.SettingLemmas.{valid_settings}
+use Rattle.hdfs_script.proofs.SettingLemmas.{limited_settings, valid_settings}
 
 -- of an entry and those behind it, what is set
 settings-cons : (given : ScriptSettings) (entry : Entry) (rest : List Entry) → settings_from (settings_from given (entry ∷ [])) rest ≡ settings_from given (entry ∷ rest)
@@ -93,6 +93,7 @@ parses_from-Gains bytes a b bad settings sets lines commands gains is =
     record {
       settings = set;
       valid = valid_settings bytes b.settings set;
+      limited = limited_settings bytes b.settings set;
       sets = gains.sets ∙ ap (λ first. or_else first (first_set 1 (good_front 0 (entries_in bytes)))) sets;
       lines = gains.lines ∙ ap (λ xs. xs ++ numbered_from 1 (good_front 0 (entries_in bytes))) lines;
       commands = gains.commands ∙ ap (λ xs. xs ++ commands_of (good_front 0 (entries_in bytes))) commands;

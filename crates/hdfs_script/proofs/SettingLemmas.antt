@@ -9,18 +9,19 @@ use Rattle.hdfs_model.specs.declared.store.FaultLine.{FaultLine}
 use Rattle.hdfs_model.specs.declared.store.FaultLine.TheVariants as faults
 use Rattle.hdfs_model.specs.declared.store.LinkKind.{LinkKind}
 use Rattle.hdfs_model.specs.declared.store.ReadKind.{ReadKind}
-use Rattle.hdfs_model.specs.Limits.{is_block_size}
+use Rattle.hdfs_model.specs.Limits.{are_settings, is_block_size, is_replication, is_small}
 use Rattle.hdfs_model.specs.Loading.{AreValid}
+use Rattle.hdfs_names.specs.declared.replacement.Policy.{Policy}
 use Rattle.hdfs_script.specs.declared.entry.Entry.{Entry}
 use Rattle.hdfs_script.specs.declared.entry.Entry.TheVariants.{Blank, Sets, Loads, Runs, Bad}
 use Rattle.hdfs_script.specs.declared.entry.ScriptSettings.{ScriptSettings}
 use Rattle.hdfs_script.specs.declared.entry.Setting.{Setting}
 use Rattle.hdfs_script.specs.declared.entry.Setting.TheVariants as settings
-use Rattle.hdfs_script.specs.Commands.{create_entry, options_of, read_entry, write_entry}
-use Rattle.hdfs_script.specs.Entries.{ascii_entry, attributes_of, entry_of, fault_entry, file_entry, from_one, from_zero, link_entry, link_kind, node_entry, node_fault, read_fault, read_kind, read_of, set_entry, short_entry, short_of, three_words, words_entry}
+use Rattle.hdfs_script.specs.Commands.{create_entry, flag_of, options_of, read_entry, write_entry}
+use Rattle.hdfs_script.specs.Entries.{ascii_entry, attributes_of, best_effort_entry, cluster_entry, entry_of, fault_entry, file_entry, from_one, from_zero, link_entry, link_kind, node_entry, node_fault, policy_entry, policy_named, read_fault, read_kind, read_of, set_entry, short_entry, short_of, three_words, words_entry, writing_entry}
 use Rattle.hdfs_script.specs.Numbers.{hex_bytes, is_number, number, value_from}
 use Rattle.hdfs_script.specs.Parsing.{good_front}
-use Rattle.hdfs_script.specs.Scripts.{ends_bad, entries_in, line_entries, may_stand, no_settings, part_of, script_limit, settings_from, with_setting}
+use Rattle.hdfs_script.specs.Scripts.{ends_bad, entries_in, line_entries, may_stand, no_settings, part_of, script_limit, session_settings, settings_from, with_setting}
 use Rattle.hdfs_script.specs.Words.{is_word}
 
 -- a setting is in its limits
@@ -30,6 +31,11 @@ IsAllowed (settings.Nodes n) = (0 < n) × (n ≤ 64)
 IsAllowed (settings.Block n) = is_block_size n ≡ true
 IsAllowed (settings.Chunk n) = (0 < n) × (n ≤ 2 ^ 30)
 IsAllowed (settings.Packet n) = n < 2 ^ 31
+IsAllowed (settings.Replication n) = is_replication n ≡ true
+IsAllowed (settings.Rebuilds n) = is_small n ≡ true
+IsAllowed (settings.Window n) = is_small n ≡ true
+IsAllowed (settings.Policy policy) = Unit {0}
+IsAllowed (settings.BestEffort best_effort) = Unit {0}
 
 -- what an entry sets is in its limits
 abbrev SetsAllowed : Entry → Type 0
@@ -68,22 +74,54 @@ allowed_from_zero : (setting : ℕ → Setting) (limit : ℕ) → ((n : ℕ) →
 allowed_from_zero setting limit allowed None below = tt
 allowed_from_zero setting limit allowed (Some n) below = allowed n below
 
--- the limits of a block size
+-- the limits of a block size, of a replication, and of a small number
 block_size_allowed : (n : ℕ) → 0 < n → n < 2 ^ 63 → is_block_size n ≡ true
 block_size_allowed n some below = grind (arith, nat_tests)
 
--- a line that sets something
-allowed_set : (key value : List ℕ) → SetsAllowed (set_entry key value)
-allowed_set key value =
-    allowed_if (bytes_eq key (codes "user")) _ _ (allowed_if (nat_le 1 (length value) && list_all _ value) _ _ tt tt)
-    (allowed_if (bytes_eq key (codes "nodes")) _ _
+replication_allowed : (n : ℕ) → 0 < n → n < 65536 → is_replication n ≡ true
+replication_allowed n some below = grind (arith, nat_tests)
+
+small_allowed : (n : ℕ) → 0 < n → n < 1001 → is_small n ≡ true
+small_allowed n some below = grind (arith, nat_tests)
+
+-- a policy, and best effort
+allowed_policy : (found : Option Policy) → SetsAllowed (policy_entry found)
+allowed_policy None = tt
+allowed_policy (Some policy) = tt
+
+allowed_best_effort : (found : Option Bool) → SetsAllowed (best_effort_entry found)
+allowed_best_effort None = tt
+allowed_best_effort (Some best_effort) = tt
+
+-- a line that sets something of the session's writes,
+allowed_writing : (key value : List ℕ) → SetsAllowed (writing_entry key value)
+allowed_writing key value =
+    allowed_if (bytes_eq key (codes "rebuilds")) _ _
+    (allowed_from_one settings.Rebuilds 1001 small_allowed (number 10 1001 value) (number_below 10 1001 value))
+    (allowed_if (bytes_eq key (codes "window")) _ _
+    (allowed_from_one settings.Window 1001 small_allowed (number 10 1001 value) (number_below 10 1001 value))
+    (allowed_if (bytes_eq key (codes "policy")) _ _ (allowed_policy (policy_named value))
+    (allowed_if (bytes_eq key (codes "besteffort")) _ _ (allowed_best_effort (flag_of value)) tt)))
+
+-- or of the cluster,
+allowed_cluster : (key value : List ℕ) → SetsAllowed (cluster_entry key value)
+allowed_cluster key value =
+    allowed_if (bytes_eq key (codes "nodes")) _ _
     (allowed_from_one settings.Nodes 65 (λ n some below. (some, omega (arith, below))) (number 10 65 value) (number_below 10 65 value))
     (allowed_if (bytes_eq key (codes "block")) _ _
     (allowed_from_one settings.Block (2 ^ 63) block_size_allowed (number 10 (2 ^ 63) value) (number_below 10 (2 ^ 63) value))
     (allowed_if (bytes_eq key (codes "chunk")) _ _
     (allowed_from_one settings.Chunk (2 ^ 30 + 1) (λ n some below. (some, omega (arith, below))) (number 10 (2 ^ 30 + 1) value) (number_below 10 (2 ^ 30 + 1) value))
     (allowed_if (bytes_eq key (codes "packet")) _ _
-    (allowed_from_zero settings.Packet (2 ^ 31) (λ n below. below) (number 10 (2 ^ 31) value) (number_below 10 (2 ^ 31) value)) tt))))
+    (allowed_from_zero settings.Packet (2 ^ 31) (λ n below. below) (number 10 (2 ^ 31) value) (number_below 10 (2 ^ 31) value))
+    (allowed_if (bytes_eq key (codes "replication")) _ _
+    (allowed_from_one settings.Replication 65536 replication_allowed (number 10 65536 value) (number_below 10 65536 value))
+    (allowed_writing key value)))))
+
+-- or the user
+allowed_set : (key value : List ℕ) → SetsAllowed (set_entry key value)
+allowed_set key value =
+    allowed_if (bytes_eq key (codes "user")) _ _ (allowed_if (nat_le 1 (length value) && list_all _ value) _ _ tt tt) (allowed_cluster key value)
 
 -- The other lines set nothing: a fault,
 allowed_link : (nth : Option ℕ) (kind : Option LinkKind) → SetsAllowed (link_entry nth kind)
@@ -244,6 +282,21 @@ valid_with given (settings.Packet n) allowed valid = record {
   bound = valid.bound;
   packet = allowed;
 }
+valid_with given (settings.Replication n) allowed valid = record {
+  active = valid.active;
+  namenodes = valid.namenodes;
+  some = valid.some;
+  nodes = valid.nodes;
+  replication = allowed;
+  block_size = valid.block_size;
+  chunk = valid.chunk;
+  bound = valid.bound;
+  packet = valid.packet;
+}
+valid_with given (settings.Rebuilds n) allowed valid = valid
+valid_with given (settings.Window n) allowed valid = valid
+valid_with given (settings.Policy policy) allowed valid = valid
+valid_with given (settings.BestEffort best_effort) allowed valid = valid
 
 -- and so with all that entries set
 valid_from : (given : ScriptSettings) (entries : List Entry) → AllAllowed entries → AreValid given.cluster → AreValid (settings_from given entries).cluster
@@ -253,6 +306,31 @@ valid_from given (Blank ∷ rest) all valid = valid_from given rest all.1 valid
 valid_from given (Loads line ∷ rest) all valid = valid_from given rest all.1 valid
 valid_from given (Runs command ∷ rest) all valid = valid_from given rest all.1 valid
 valid_from given (Bad ∷ rest) all valid = valid_from given rest all.1 valid
+
+-- the numbers of a script's session are in their limits
+abbrev AreSmall : ScriptSettings → Type 0
+AreSmall given = (is_small given.rebuild_limit ≡ true) × (is_small given.window ≡ true)
+
+-- and stay so with one of the settings given anew, and with all that entries set
+small_with : (given : ScriptSettings) (setting : Setting) → IsAllowed setting → AreSmall given → AreSmall (with_setting given setting)
+small_with given (settings.User name) allowed small = small
+small_with given (settings.Nodes n) allowed small = small
+small_with given (settings.Block n) allowed small = small
+small_with given (settings.Chunk n) allowed small = small
+small_with given (settings.Packet n) allowed small = small
+small_with given (settings.Replication n) allowed small = small
+small_with given (settings.Rebuilds n) allowed small = (allowed, small.1)
+small_with given (settings.Window n) allowed small = (small.0, allowed)
+small_with given (settings.Policy policy) allowed small = small
+small_with given (settings.BestEffort best_effort) allowed small = small
+
+small_from : (given : ScriptSettings) (entries : List Entry) → AllAllowed entries → AreSmall given → AreSmall (settings_from given entries)
+small_from given [] all small = small
+small_from given (Sets setting ∷ rest) all small = small_from (with_setting given setting) rest all.1 (small_with given setting all.0 small)
+small_from given (Blank ∷ rest) all small = small_from given rest all.1 small
+small_from given (Loads line ∷ rest) all small = small_from given rest all.1 small
+small_from given (Runs command ∷ rest) all small = small_from given rest all.1 small
+small_from given (Bad ∷ rest) all small = small_from given rest all.1 small
 
 -- the settings of a script that sets nothing
 valid_none : AreValid no_settings.cluster
@@ -273,3 +351,10 @@ pub valid_settings : (bytes : List ℕ) (given : ScriptSettings) → given ≡ s
 valid_settings bytes given is =
     subst (λ (s : ScriptSettings). AreValid s.cluster) (sym is)
     (valid_from no_settings (good_front 0 (entries_in bytes)) (allowed_front 0 (entries_in bytes) (allowed_script bytes)) valid_none)
+
+-- A session can be run with them.
+pub limited_settings : (bytes : List ℕ) (given : ScriptSettings) → given ≡ settings_from no_settings (good_front 0 (entries_in bytes)) → are_settings (session_settings given) ≡ true
+limited_settings bytes given is =
+    let small : AreSmall given = subst AreSmall (sym is)
+    (small_from no_settings (good_front 0 (entries_in bytes)) (allowed_front 0 (entries_in bytes) (allowed_script bytes)) (refl, refl)) in
+    rw (small.0, small.1) refl

@@ -1,5 +1,5 @@
 -- What the lines of a script say that run a command.
-use Rattle.std.specs.Prelude.{ℕ, ◌^◌, Bool, true, false, ◌==◌, List, Option, Some, None, option_map, if◌then◌else◌, codes}
+use Rattle.std.specs.Prelude.{ℕ, ◌^◌, Bool, true, false, List, Option, Some, None, option_map, if◌then◌else◌, codes}
 use Rattle.std.specs.Str.{bytes_eq}
 use Rattle.hdfs_model.specs.declared.commands.Command.TheVariants as commands
 use Rattle.hdfs_model.specs.declared.commands.WriteOptions.{WriteOptions}
@@ -12,14 +12,9 @@ use Rattle.hdfs_script.specs.Words.{is_word}
 abbrev pub flag_of : List ℕ → Option Bool
 flag_of text = if bytes_eq text (codes "true") then Some true else if bytes_eq text (codes "false") then Some false else None
 
--- one replica, since files have no more so far
-abbrev pub only_one : Option ℕ → Option (Option ℕ)
-only_one None = None
-only_one (Some n) = if n == 1 then Some (Some n) else None
-
 -- `-` for the cluster's replication, or else a number
 abbrev pub given_replication : List ℕ → Option (Option ℕ)
-given_replication text = if bytes_eq text (codes "-") then Some None else only_one (number 10 (2 ^ 32) text)
+given_replication text = if bytes_eq text (codes "-") then Some None else option_map (λ n. Some n) (number 10 (2 ^ 32) text)
 
 -- `-` for the cluster's block size, or else a number
 abbrev pub given_block_size : List ℕ → Option (Option ℕ)

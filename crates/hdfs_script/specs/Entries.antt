@@ -10,11 +10,13 @@ use Rattle.hdfs_model.specs.declared.store.LinkKind.{LinkKind}
 use Rattle.hdfs_model.specs.declared.store.LinkKind.TheVariants as link_kinds
 use Rattle.hdfs_model.specs.declared.store.ReadKind.{ReadKind}
 use Rattle.hdfs_model.specs.declared.store.ReadKind.TheVariants as read_kinds
+use Rattle.hdfs_names.specs.declared.replacement.Policy.{Policy}
+use Rattle.hdfs_names.specs.declared.replacement.Policy.TheVariants as policies
 use Rattle.hdfs_script.specs.declared.entry.Entry.{Entry}
 use Rattle.hdfs_script.specs.declared.entry.Entry.TheVariants.{Blank, Sets, Loads, Bad}
 use Rattle.hdfs_script.specs.declared.entry.Setting.{Setting}
 use Rattle.hdfs_script.specs.declared.entry.Setting.TheVariants as settings
-use Rattle.hdfs_script.specs.Commands.{append_entry, close_entry, create_entry, options_of, read_entry, write_entry}
+use Rattle.hdfs_script.specs.Commands.{append_entry, close_entry, create_entry, flag_of, options_of, read_entry, write_entry}
 use Rattle.hdfs_script.specs.Numbers.{number, hex_bytes}
 use Rattle.hdfs_script.specs.Words.{is_word}
 
@@ -64,15 +66,48 @@ abbrev pub from_zero : (ℕ → Setting) → Option ℕ → Entry
 from_zero setting None = Bad
 from_zero setting (Some n) = Sets (setting n)
 
--- `set KEY VALUE`: from 1 to 64 datanodes, blocks of 1 byte to 2^63 - 1, chunks of 1 byte to 2^30, packets of fewer than 2^31
-abbrev pub set_entry : List ℕ → List ℕ → Entry
-set_entry key value =
-    if bytes_eq key (codes "user") then user_entry value
-    else if bytes_eq key (codes "nodes") then from_one settings.Nodes (number 10 65 value)
+-- the policy of this name, in capital letters
+abbrev pub policy_named : List ℕ → Option Policy
+policy_named name =
+    if bytes_eq name (codes "DEFAULT") then Some policies.Default
+    else if bytes_eq name (codes "NEVER") then Some policies.Never
+    else if bytes_eq name (codes "ALWAYS") then Some policies.Always
+    else if bytes_eq name (codes "DISABLE") then Some policies.Disable
+    else None
+
+-- `set policy POLICY`
+abbrev pub policy_entry : Option Policy → Entry
+policy_entry None = Bad
+policy_entry (Some policy) = Sets (settings.Policy policy)
+
+-- `set besteffort BEST_EFFORT`: `true` or `false`
+abbrev pub best_effort_entry : Option Bool → Entry
+best_effort_entry None = Bad
+best_effort_entry (Some best_effort) = Sets (settings.BestEffort best_effort)
+
+-- `set KEY VALUE` of the session's writes: from 1 to 1,000 rebuilds of a pipeline, and a window of 1 packet to 1,000
+abbrev pub writing_entry : List ℕ → List ℕ → Entry
+writing_entry key value =
+    if bytes_eq key (codes "rebuilds") then from_one settings.Rebuilds (number 10 1001 value)
+    else if bytes_eq key (codes "window") then from_one settings.Window (number 10 1001 value)
+    else if bytes_eq key (codes "policy") then policy_entry (policy_named value)
+    else if bytes_eq key (codes "besteffort") then best_effort_entry (flag_of value)
+    else Bad
+
+-- `set KEY VALUE` of the cluster: from 1 to 64 datanodes, blocks of 1 byte to 2^63 - 1, chunks of 1 byte to 2^30, packets of fewer
+-- than 2^31, and from 1 to 65,535 replicas; or of the session's writes
+abbrev pub cluster_entry : List ℕ → List ℕ → Entry
+cluster_entry key value =
+    if bytes_eq key (codes "nodes") then from_one settings.Nodes (number 10 65 value)
     else if bytes_eq key (codes "block") then from_one settings.Block (number 10 (2 ^ 63) value)
     else if bytes_eq key (codes "chunk") then from_one settings.Chunk (number 10 (2 ^ 30 + 1) value)
     else if bytes_eq key (codes "packet") then from_zero settings.Packet (number 10 (2 ^ 31) value)
-    else Bad
+    else if bytes_eq key (codes "replication") then from_one settings.Replication (number 10 65536 value)
+    else writing_entry key value
+
+-- `set KEY VALUE`
+abbrev pub set_entry : List ℕ → List ℕ → Entry
+set_entry key value = if bytes_eq key (codes "user") then user_entry value else cluster_entry key value
 
 -- how the set-up of a pipeline fails
 abbrev pub link_kind : List ℕ → Option LinkKind

@@ -3,13 +3,14 @@
 use Rattle.std.specs.Prelude.{◌≡◌, ℕ, ◌+◌, Bool, true, false, ◌&&◌, ◌||◌, ◌==◌, List, [], ◌∷◌, ◌++◌, map, Option, Some, None, if◌then◌else◌}
 use Rattle.hdfs_model.specs.declared.store.Line.{Line}
 use Rattle.hdfs_model.specs.Files.{State}
+use Rattle.hdfs_model.specs.Limits.{are_settings}
 use Rattle.hdfs_model.specs.Loading.{AreValid, takes, with_line, with_loaded}
 use Rattle.hdfs_model.specs.Shown.{Loaded}
 use Rattle.hdfs_script.specs.declared.entry.Entry.{Entry}
 use Rattle.hdfs_script.specs.declared.entry.Entry.TheVariants.{Sets, Loads, Bad}
 use Rattle.hdfs_script.specs.declared.entry.NumberedLine.{NumberedLine}
 use Rattle.hdfs_script.specs.declared.entry.Parsed.{Parsed}
-use Rattle.hdfs_script.specs.Scripts.{entries_in, commands_of, is_fault, no_settings, part_of, may_stand, settings_from}
+use Rattle.hdfs_script.specs.Scripts.{entries_in, commands_of, is_fault, no_settings, part_of, may_stand, session_settings, settings_from}
 
 -- the entries in front of the first that is bad by its text or its place
 abbrev pub good_front : ℕ → List Entry → List Entry
@@ -35,10 +36,11 @@ first_set number (Sets setting ∷ entries) = Some number
 first_set number (_ ∷ entries) = first_set (number + 1) entries
 
 -- What was read of a script: its settings, lines and commands up to the first line that is bad by its text or its place, the number
--- of the first line that sets something, and the number of that bad line.
+-- of the first line that sets something, and the number of that bad line. The settings are in the limits of a store and a session.
 pub record Parses (bytes : List ℕ) (read : Parsed) : Type 0 where
   pub settings : read.settings ≡ settings_from no_settings (good_front 0 (entries_in bytes))
   pub valid : AreValid read.settings.cluster
+  pub limited : are_settings (session_settings read.settings) ≡ true
   pub sets : read.sets ≡ first_set 1 (good_front 0 (entries_in bytes))
   pub lines : read.lines ≡ numbered_from 1 (good_front 0 (entries_in bytes))
   pub commands : read.commands ≡ commands_of (good_front 0 (entries_in bytes))

@@ -9,9 +9,10 @@ use Rattle.hdfs_model.specs.declared.commands.Settings.{Settings}
 use Rattle.hdfs_model.specs.declared.messages.ServerDefaults.{ServerDefaults}
 use Rattle.hdfs_model.specs.Files.{State}
 use Rattle.hdfs_model.specs.Loading.{script_defaults, takes, with_line}
-use Rattle.hdfs_model.specs.Sessions.{defaults_of}
+use Rattle.hdfs_model.specs.Sessions.{defaults_of, world_with}
 use Rattle.hdfs_model.specs.Shown.{Loaded, Shown}
 use Rattle.hdfs_model.specs.Steps.{World}
+use Rattle.hdfs_names.specs.declared.replacement.Policy.TheVariants as policies
 use Rattle.hdfs_script.specs.declared.entry.Entry.{Entry}
 use Rattle.hdfs_script.specs.declared.entry.Entry.TheVariants.{Sets, Loads, Runs, Bad}
 use Rattle.hdfs_script.specs.declared.entry.ScriptSettings.{ScriptSettings}
@@ -46,15 +47,30 @@ entries_in bytes =
 
 -- the settings of a script that sets nothing: those of the cluster are the defaults of HDFS
 abbrev pub no_settings : ScriptSettings
-no_settings = record { user = codes "user"; cluster = record { namenodes = 1; active = 0; nodes = 3; defaults = script_defaults } }
+no_settings = record {
+  user = codes "user";
+  replace = record { policy = policies.Default; best_effort = false };
+  rebuild_limit = 8;
+  window = 100;
+  cluster = record { namenodes = 1; active = 0; nodes = 3; defaults = script_defaults };
+}
+
+-- settings with other defaults of the cluster
+abbrev pub with_defaults : ScriptSettings → ServerDefaults → ScriptSettings
+with_defaults given defaults = record given { cluster = record given.cluster { defaults = defaults } }
 
 -- settings with one of them given anew
 abbrev pub with_setting : ScriptSettings → Setting → ScriptSettings
 with_setting given (settings.User name) = record given { user = name }
 with_setting given (settings.Nodes n) = record given { cluster = record given.cluster { nodes = n } }
-with_setting given (settings.Block n) = record given { cluster = record given.cluster { defaults = record given.cluster.defaults { block_size = n } } }
-with_setting given (settings.Chunk n) = record given { cluster = record given.cluster { defaults = record given.cluster.defaults { bytes_per_checksum = n } } }
-with_setting given (settings.Packet n) = record given { cluster = record given.cluster { defaults = record given.cluster.defaults { write_packet_size = n } } }
+with_setting given (settings.Block n) = with_defaults given (record given.cluster.defaults { block_size = n })
+with_setting given (settings.Chunk n) = with_defaults given (record given.cluster.defaults { bytes_per_checksum = n })
+with_setting given (settings.Packet n) = with_defaults given (record given.cluster.defaults { write_packet_size = n })
+with_setting given (settings.Replication n) = with_defaults given (record given.cluster.defaults { replication = n })
+with_setting given (settings.Rebuilds n) = record given { rebuild_limit = n }
+with_setting given (settings.Window n) = record given { window = n }
+with_setting given (settings.Policy policy) = record given { replace = record given.replace { policy = policy } }
+with_setting given (settings.BestEffort best_effort) = record given { replace = record given.replace { best_effort = best_effort } }
 
 -- the settings behind entries: of two that set the same, the later one counts
 abbrev pub settings_from : ScriptSettings → List Entry → ScriptSettings
@@ -140,7 +156,13 @@ script fresh state bytes = unless_bad (first_bad fresh (begins state) 0 1 (entri
 
 -- the settings of a script's session, whose home is that of its user
 abbrev pub session_settings : ScriptSettings → Settings
-session_settings given = record { home = codes "/user/" ++ given.user; client = replicate 16 0; window = 100 }
+session_settings given = record {
+  home = codes "/user/" ++ given.user;
+  client = replicate 16 0;
+  replace = given.replace;
+  rebuild_limit = given.rebuild_limit;
+  window = given.window;
+}
 
 -- The defaults over which a script's session runs: its own, or those of a store that isn't fresh.
 abbrev pub defaults_in : Bool → Shown → ScriptSettings → ServerDefaults
@@ -149,4 +171,4 @@ defaults_in false store given = defaults_of store.picture
 
 -- the world of a script's session over a store that is fresh or isn't
 abbrev pub script_world : Bool → Shown → ScriptSettings → World
-script_world fresh store given = record { home = (session_settings given).home; defaults = defaults_in fresh store given }
+script_world fresh store given = world_with (session_settings given) (defaults_in fresh store given)

@@ -1,5 +1,5 @@
 //! The lines of a script that run a command.
-ghost use Rattle.std.specs.Prelude.{◌≡◌, ◌^◌, ◌==◌, ℕ, true, false, [], ◌∷◌, Option, Some, None, IfOk, if◌then◌else◌};
+ghost use Rattle.std.specs.Prelude.{◌≡◌, ◌^◌, ℕ, true, false, [], ◌∷◌, Option, Some, None, IfOk, if◌then◌else◌};
 ghost use Rattle.hdfs_script.specs.Commands as spec;
 ghost use Rattle.hdfs_script.specs.Numbers.{number as number_of, hex_bytes as hex_bytes_of};
 
@@ -23,7 +23,7 @@ pub(crate) fn flag(text: &[u8]) -> Option<bool>
     None
 }
 
-/// `-` for the cluster's replication, or else 1.
+/// `-` for the cluster's replication, or else a number.
 pub(crate) fn given_replication(text: &[u8]) -> Option<Option<u32>>
     ensures { result ≡ spec.given_replication text.now }
 {
@@ -31,9 +31,6 @@ pub(crate) fn given_replication(text: &[u8]) -> Option<Option<u32>>
         return Some(None);
     }
     let replication = number(10, U32_MOST, text)?;
-    if replication != 1 {
-        return None;
-    }
     Some(Some(replication as u32))
 }
 

@@ -11,25 +11,31 @@ use hdfs_model::{Attributes, Line, is_block_size, is_path, is_permission, is_rep
 use hdfs_wire::Text;
 use std::alloc::Global;
 
+// What can be set, and what is wrong where its value isn't one of these.
+const SETTINGS: [(&str, Wrong); 10] = [
+    ("user", Wrong::User),
+    ("nodes", Wrong::Nodes),
+    ("block", Wrong::BlockSize),
+    ("chunk", Wrong::Chunk),
+    ("packet", Wrong::Packet),
+    ("replication", Wrong::Replication),
+    ("rebuilds", Wrong::Rebuilds),
+    ("window", Wrong::Window),
+    ("policy", Wrong::Policy),
+    ("besteffort", Wrong::BestEffort),
+];
+
 // Why the words of a line are no setting, which begins with `set`.
 fn wrong_setting(words: &[&[u8]]) -> Wrong {
     if words.len() != 3 {
         return Wrong::SetWords;
     }
-    let key = words[1];
-    if is_text(key, "user") {
-        Wrong::User
-    } else if is_text(key, "nodes") {
-        Wrong::Nodes
-    } else if is_text(key, "block") {
-        Wrong::BlockSize
-    } else if is_text(key, "chunk") {
-        Wrong::Chunk
-    } else if is_text(key, "packet") {
-        Wrong::Packet
-    } else {
-        Wrong::SetWords
+    for (key, wrong) in SETTINGS {
+        if is_text(words[1], key) {
+            return wrong;
+        }
     }
+    Wrong::SetWords
 }
 
 // Why the words of a line are no file, which begins with `file`.

@@ -1,5 +1,6 @@
 //! What a script says.
 use hdfs_model::{Command, Line, MemSettings};
+use hdfs_names::{Policy, ReplaceDatanodeOnFailure};
 use hdfs_wire::{List, Text};
 
 /// What a script sets. A later line may set it anew.
@@ -15,12 +16,25 @@ pub enum Setting {
     Chunk(u32),
     /// How many bytes a packet has at most.
     Packet(u32),
+    /// The replication of files that are created with the cluster's.
+    Replication(u32),
+    /// How often the pipeline of a block is rebuilt at most.
+    Rebuilds(u32),
+    /// How many packets of a block wait for their acknowledgement at most.
+    Window(u32),
+    /// When a datanode is added to a pipeline in the place of one that failed.
+    Policy(Policy),
+    /// Whether a write goes on with the datanodes that are left where none is added.
+    BestEffort(bool),
 }
 
-/// The settings of a script: the user of its session, and the cluster over which it runs.
+/// The settings of a script: the user of its session, how its session writes, and the cluster over which it runs.
 #[derive(Drop)]
 pub struct ScriptSettings {
     pub user: Text,
+    pub replace: ReplaceDatanodeOnFailure,
+    pub rebuild_limit: u32,
+    pub window: u32,
     pub cluster: MemSettings,
 }
 

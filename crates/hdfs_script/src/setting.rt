@@ -1,13 +1,16 @@
 //! The lines of a script that set something.
-ghost use Rattle.std.specs.Prelude.{◌≡◌, ◌&&◌, ◌^◌, ◌+◌, nat_le, length, IfOk};
+ghost use Rattle.std.specs.Prelude.{◌≡◌, ◌&&◌, ◌^◌, ◌+◌, ℕ, nat_le, length, IfOk, MatchOption};
 ghost use Rattle.std.specs.List.{list_all};
+ghost use Rattle.hdfs_script.specs.Commands.{flag_of};
 ghost use Rattle.hdfs_script.specs.Entries as spec;
 ghost use Rattle.hdfs_script.specs.Numbers.{number as number_of};
 
+use crate::command::flag;
 use crate::entry::{Entry, Setting};
 use crate::numbers::number;
-use crate::words::{BLOCK_SIZE_MOST, is_text, word};
+use crate::words::{BLOCK_SIZE_MOST, REPLICATION_MOST, SMALL_MOST, is_text, word};
 use hdfs_model::{MAX_CHUNK, MAX_NODES, MAX_PACKET};
+use hdfs_names::Policy;
 use hdfs_wire::{NoMemory, Text};
 use std::alloc::Global;
 
@@ -44,20 +47,30 @@ fn user_entry(alloc: Global, name: &[u8]) -> Result<Entry, NoMemory>
     Ok(Entry::Sets(Setting::User(name)))
 }
 
+// The number from 1 to `most` that a text writes.
+fn from_one(most: u32, text: &[u8]) -> Option<u32>
+    ensures { (setting : ℕ → Setting) → MatchOption result
+        (spec.from_one setting (number_of 10 (most + 1) text.now) ≡ Entry.Bad)
+        (λ n. spec.from_one setting (number_of 10 (most + 1) text.now) ≡ Entry.Sets (setting n)) }
+{
+    let n = number(10, u64::from(most), text)?;
+    if n == 0 {
+        return None;
+    }
+    Some(n as u32)
+}
+
 // `set nodes NODES`
 fn nodes_entry(nodes: &[u8]) -> Entry
     ensures { result ≡ spec.from_one (λ n. Setting.Nodes n) (number_of 10 65 nodes.now) }
 {
-    let Some(nodes) = number(10, MAX_NODES as u64, nodes) else {
-        return Entry::Bad;
-    };
-    if nodes == 0 {
-        return Entry::Bad;
+    match from_one(MAX_NODES, nodes) {
+        Some(nodes) => Entry::Sets(Setting::Nodes(nodes)),
+        None => Entry::Bad,
     }
-    Entry::Sets(Setting::Nodes(nodes as u32))
 }
 
-// `set block BLOCK`
+// `set block BLOCK_SIZE`
 fn block_entry(block_size: &[u8]) -> Entry
     ensures { result ≡ spec.from_one (λ n. Setting.Block n) (number_of 10 (2 ^ 63) block_size.now) }
 {
@@ -74,13 +87,10 @@ fn block_entry(block_size: &[u8]) -> Entry
 fn chunk_entry(chunk: &[u8]) -> Entry
     ensures { result ≡ spec.from_one (λ n. Setting.Chunk n) (number_of 10 (2 ^ 30 + 1) chunk.now) }
 {
-    let Some(chunk) = number(10, MAX_CHUNK as u64, chunk) else {
-        return Entry::Bad;
-    };
-    if chunk == 0 {
-        return Entry::Bad;
+    match from_one(MAX_CHUNK, chunk) {
+        Some(chunk) => Entry::Sets(Setting::Chunk(chunk)),
+        None => Entry::Bad,
     }
-    Entry::Sets(Setting::Chunk(chunk as u32))
 }
 
 // `set packet PACKET`
@@ -93,6 +103,116 @@ fn packet_entry(packet: &[u8]) -> Entry
     Entry::Sets(Setting::Packet(packet as u32))
 }
 
+// `set replication REPLICATION`
+fn replication_entry(replication: &[u8]) -> Entry
+    ensures { result ≡ spec.from_one (λ n. Setting.Replication n) (number_of 10 65536 replication.now) }
+{
+    match from_one(REPLICATION_MOST, replication) {
+        Some(replication) => Entry::Sets(Setting::Replication(replication)),
+        None => Entry::Bad,
+    }
+}
+
+// `set rebuilds REBUILDS`
+fn rebuilds_entry(rebuilds: &[u8]) -> Entry
+    ensures { result ≡ spec.from_one (λ n. Setting.Rebuilds n) (number_of 10 1001 rebuilds.now) }
+{
+    match from_one(SMALL_MOST, rebuilds) {
+        Some(rebuilds) => Entry::Sets(Setting::Rebuilds(rebuilds)),
+        None => Entry::Bad,
+    }
+}
+
+// `set window WINDOW`
+fn window_entry(window: &[u8]) -> Entry
+    ensures { result ≡ spec.from_one (λ n. Setting.Window n) (number_of 10 1001 window.now) }
+{
+    match from_one(SMALL_MOST, window) {
+        Some(window) => Entry::Sets(Setting::Window(window)),
+        None => Entry::Bad,
+    }
+}
+
+// The policy of this name.
+fn policy_named(name: &[u8]) -> Option<Policy>
+    ensures { result ≡ spec.policy_named name.now }
+{
+    if is_text(name, "DEFAULT") {
+        return Some(Policy::Default);
+    }
+    if is_text(name, "NEVER") {
+        return Some(Policy::Never);
+    }
+    if is_text(name, "ALWAYS") {
+        return Some(Policy::Always);
+    }
+    if is_text(name, "DISABLE") {
+        return Some(Policy::Disable);
+    }
+    None
+}
+
+// `set policy POLICY`
+fn policy_entry(name: &[u8]) -> Entry
+    ensures { result ≡ spec.policy_entry (spec.policy_named name.now) }
+{
+    match policy_named(name) {
+        Some(policy) => Entry::Sets(Setting::Policy(policy)),
+        None => Entry::Bad,
+    }
+}
+
+// `set besteffort BEST_EFFORT`
+fn best_effort_entry(best_effort: &[u8]) -> Entry
+    ensures { result ≡ spec.best_effort_entry (flag_of best_effort.now) }
+{
+    match flag(best_effort) {
+        Some(best_effort) => Entry::Sets(Setting::BestEffort(best_effort)),
+        None => Entry::Bad,
+    }
+}
+
+// A setting of the session's writes.
+fn writing_entry(key: &[u8], value: &[u8]) -> Entry
+    ensures { result ≡ spec.writing_entry key.now value.now }
+{
+    if is_text(key, "rebuilds") {
+        return rebuilds_entry(value);
+    }
+    if is_text(key, "window") {
+        return window_entry(value);
+    }
+    if is_text(key, "policy") {
+        return policy_entry(value);
+    }
+    if is_text(key, "besteffort") {
+        return best_effort_entry(value);
+    }
+    Entry::Bad
+}
+
+// A setting of the cluster or of the session's writes.
+fn cluster_entry(key: &[u8], value: &[u8]) -> Entry
+    ensures { result ≡ spec.cluster_entry key.now value.now }
+{
+    if is_text(key, "nodes") {
+        return nodes_entry(value);
+    }
+    if is_text(key, "block") {
+        return block_entry(value);
+    }
+    if is_text(key, "chunk") {
+        return chunk_entry(value);
+    }
+    if is_text(key, "packet") {
+        return packet_entry(value);
+    }
+    if is_text(key, "replication") {
+        return replication_entry(value);
+    }
+    writing_entry(key, value)
+}
+
 /// `set KEY VALUE`
 pub(crate) fn set_entry(alloc: Global, key: &[u8], value: &[u8]) -> Result<Entry, NoMemory>
     ensures { IfOk result (λ entry. entry ≡ spec.set_entry key.now value.now) }
@@ -100,17 +220,5 @@ pub(crate) fn set_entry(alloc: Global, key: &[u8], value: &[u8]) -> Result<Entry
     if is_text(key, "user") {
         return Ok(user_entry(alloc, value)?);
     }
-    if is_text(key, "nodes") {
-        return Ok(nodes_entry(value));
-    }
-    if is_text(key, "block") {
-        return Ok(block_entry(value));
-    }
-    if is_text(key, "chunk") {
-        return Ok(chunk_entry(value));
-    }
-    if is_text(key, "packet") {
-        return Ok(packet_entry(value));
-    }
-    Ok(Entry::Bad)
+    Ok(cluster_entry(key, value))
 }

@@ -4,6 +4,7 @@ ghost use Rattle.hdfs_script.specs.Scripts as spec;
 
 use crate::entry::{ScriptSettings, Setting};
 use hdfs_model::{MemSettings, Settings};
+use hdfs_names::{Policy, ReplaceDatanodeOnFailure};
 use hdfs_wire::{NoMemory, Text};
 use std::alloc::Global;
 
@@ -13,7 +14,10 @@ const USER: &str = "user";
 // What a home directory's path is, in front of its user's name.
 const HOMES: &str = "/user/";
 
-// How many packets of a block wait for their acknowledgement.
+// How often the pipeline of a block is rebuilt at most where a script sets nothing.
+const REBUILDS: u32 = 8;
+
+// How many packets of a block wait for their acknowledgement at most where a script sets nothing.
 const WINDOW: u32 = 100;
 
 /// The settings of a script that sets nothing.
@@ -22,6 +26,9 @@ pub(crate) fn no_settings(alloc: Global) -> Result<ScriptSettings, NoMemory>
 {
     Ok(ScriptSettings {
         user: Text::from_str(alloc, USER)?,
+        replace: ReplaceDatanodeOnFailure::new(Policy::Default, false),
+        rebuild_limit: REBUILDS,
+        window: WINDOW,
         cluster: MemSettings::of_scripts(),
     })
 }
@@ -36,6 +43,11 @@ pub(crate) fn set(settings: &mut ScriptSettings, setting: Setting)
         Setting::Block(size) => settings.cluster.defaults.block_size = size,
         Setting::Chunk(size) => settings.cluster.defaults.bytes_per_checksum = size,
         Setting::Packet(size) => settings.cluster.defaults.write_packet_size = size,
+        Setting::Replication(replication) => settings.cluster.defaults.replication = replication,
+        Setting::Rebuilds(rebuilds) => settings.rebuild_limit = rebuilds,
+        Setting::Window(window) => settings.window = window,
+        Setting::Policy(policy) => settings.replace.policy = policy,
+        Setting::BestEffort(best_effort) => settings.replace.best_effort = best_effort,
     }
 }
 
@@ -48,6 +60,8 @@ pub fn session_settings(alloc: Global, given: &ScriptSettings) -> Result<Setting
     Ok(Settings {
         home: Text::from_string(home),
         client: [0; 16],
-        window: WINDOW,
+        replace: given.replace,
+        rebuild_limit: given.rebuild_limit,
+        window: given.window,
     })
 }

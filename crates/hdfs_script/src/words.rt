@@ -9,6 +9,12 @@ use std::alloc::{AllocError, Global};
 /// The greatest number of 32 bits.
 pub(crate) const U32_MOST: u64 = 4294967295;
 
+/// The greatest replication.
+pub(crate) const REPLICATION_MOST: u32 = 65535;
+
+/// The greatest window, and how often a pipeline may be rebuilt at most.
+pub(crate) const SMALL_MOST: u32 = 1000;
+
 /// The greatest block size in bytes.
 pub(crate) const BLOCK_SIZE_MOST: u64 = 9223372036854775807;
 

@@ -10,7 +10,7 @@ pub enum Wrong {
     CarriageReturn,
     #[error("begins with none of `set`, `dir`, `file`, `short`, `fault`, `do` and `#`")]
     Kind,
-    #[error("not `set` and `user NAME`, `nodes NODES`, `block BLOCK_SIZE`, `chunk CHUNK` or `packet PACKET`, with one space between words")]
+    #[error("not `set SETTING VALUE`, with one space between words, where SETTING is `user`, `nodes`, `block`, `chunk`, `packet`, `replication`, `rebuilds`, `window`, `policy` or `besteffort`")]
     SetWords,
     #[error("not `dir PATH`, with one space between words")]
     DirWords,
@@ -48,19 +48,27 @@ pub enum Wrong {
     Chunk,
     #[error("PACKET isn't a number of bytes from 0 to 2147483647")]
     Packet,
+    #[error("REBUILDS isn't a number from 1 to 1000")]
+    Rebuilds,
+    #[error("WINDOW isn't a number of packets from 1 to 1000")]
+    Window,
+    #[error("POLICY isn't `DEFAULT`, `NEVER`, `ALWAYS` or `DISABLE`")]
+    Policy,
+    #[error("BEST_EFFORT isn't `true` or `false`")]
+    BestEffort,
     #[error("PATH isn't absolute, or has a component that is empty, `.` or `..`")]
     Path,
     #[error("PATH is empty, or has a byte that isn't printable")]
     Unprintable,
     #[error("PERMISSION isn't a number from 0 to 7777 in octal digits")]
     Permission,
-    #[error("REPLICATION of a file isn't a number from 1 to 65535")]
+    #[error("REPLICATION isn't a number from 1 to 65535")]
     Replication,
     #[error("BLOCK_SIZE isn't a number of bytes from 1 to 9223372036854775807")]
     BlockSize,
     #[error("PERMISSION isn't a number from 0 to 37777777777 in octal digits")]
     PermissionDigits,
-    #[error("REPLICATION isn't `-` or 1")]
+    #[error("REPLICATION isn't `-` or a number from 0 to 4294967295")]
     GivenReplication,
     #[error("BLOCK_SIZE isn't `-` or a number from 0 to 18446744073709551615")]
     GivenBlockSize,

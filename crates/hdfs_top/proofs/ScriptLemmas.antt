@@ -11,8 +11,7 @@ use Rattle.hdfs_model.specs.Folds.{fold}
 use Rattle.hdfs_model.specs.Headline.{Stopped}
 use Rattle.hdfs_model.specs.Loading.{AreValid, SameShown, with_lines}
 use Rattle.hdfs_model.specs.Picture.{SamePicture}
-use Rattle.hdfs_model.specs.Sessions.{Fits, AreLimited}
-use Rattle.hdfs_model.specs.declared.messages.ServerDefaults.{ServerDefaults}
+use Rattle.hdfs_model.specs.Sessions.{Fits, AreLimited, world_with}
 use Rattle.hdfs_model.specs.Shown.{Shown, Later}
 use Rattle.hdfs_model.specs.Steps.{World}
 use Rattle.hdfs_model.proofs.Frames.{told_refl, same_picture_refl, never_fall_trans, never_fall_from-SameCounts, same_counts_trans}
@@ -211,6 +210,11 @@ one_setting given (settings.Nodes n) = refl
 one_setting given (settings.Block n) = refl
 one_setting given (settings.Chunk n) = refl
 one_setting given (settings.Packet n) = refl
+one_setting given (settings.Replication n) = refl
+one_setting given (settings.Rebuilds n) = refl
+one_setting given (settings.Window n) = refl
+one_setting given (settings.Policy policy) = refl
+one_setting given (settings.BestEffort best_effort) = refl
 
 one_namenode : (given : ScriptSettings) (entries : List Entry) → (settings_from given entries).cluster.namenodes ≡ given.cluster.namenodes
 one_namenode given [] = refl
@@ -219,9 +223,6 @@ one_namenode given (Blank ∷ entries) = one_namenode given entries
 one_namenode given (Loads line ∷ entries) = one_namenode given entries
 one_namenode given (Runs command ∷ entries) = one_namenode given entries
 one_namenode given (Bad ∷ entries) = one_namenode given entries
-
-abbrev with_defaults : ScriptSettings → ServerDefaults → World
-with_defaults given defaults = record { home = (session_settings given).home; defaults = defaults }
 
 loaded_run : (a b : Outside) (given : List ℕ) (read : Parsed) (mid : Shown) → 0 < a.store.namenodes → Gave a.source given b.source → Parses given read → LoadsScript a.fresh a.store read mid → Later mid b.store → LoadedRun a given (script_read read) mid b
 loaded_run a b given read mid some gave parses loads later =
@@ -233,7 +234,7 @@ loaded_run a b given read mid some gave parses loads later =
       some = some;
       namenodes = λ held. loads.loads.namenodes ∙ readies_one a.fresh a.store cluster loads.ready loads.readies one held;
       counts = same_counts_trans a.store.counts loads.ready.counts mid.counts (readies_counts a.fresh a.store cluster loads.ready loads.readies) loads.loads.counts;
-      world = λ state fits. ap (with_defaults read.settings) (loads.loads.defaults ∙ readies_defaults a.fresh a.store read.settings loads.ready loads.readies state fits);
+      world = λ state fits. ap (world_with (session_settings read.settings)) (loads.loads.defaults ∙ readies_defaults a.fresh a.store read.settings loads.ready loads.readies state fits);
       settings = λ fresh. loads.loads.settings ∙ readies_settings a.fresh a.store cluster loads.ready loads.readies fresh;
       lines = loads.loads.loaded ∙ ap (λ l. l ++ plain_lines read.lines) (readies_lines a.fresh a.store cluster loads.ready loads.readies);
       fits = λ state fits. loads.loads.fits state (readies_fits a.fresh a.store cluster loads.ready loads.readies state fits);

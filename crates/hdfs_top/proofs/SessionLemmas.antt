@@ -33,9 +33,9 @@ concludes_from-Prints good a c text (Err e) status p is = inr (record { is = is;
 pub world_is : (settings : Settings) (given : ScriptSettings) (s : Shown) → settings ≡ session_settings given → world_of settings s ≡ world_ready given s
 world_is settings given s is = ap (λ (x : Settings). world_of x s) is
 
--- and are in their limits
-pub limited_settings : (settings : Settings) (given : ScriptSettings) → settings ≡ session_settings given → are_settings settings ≡ true
-limited_settings settings given is = ap are_settings is
+-- and are in their limits where the script's are
+pub limited_settings : (settings : Settings) (given : ScriptSettings) → settings ≡ session_settings given → are_settings (session_settings given) ≡ true → are_settings settings ≡ true
+limited_settings settings given is limited = ap are_settings is ∙ limited
 
 -- where all files are closed no command names one that is being written
 avoids_closed : (w : World) (state : State) (command : Command) → IsClosed state → Avoids w state command

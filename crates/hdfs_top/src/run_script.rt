@@ -1,6 +1,7 @@
 //! Running a script over a store.
-ghost use Rattle.std.specs.Prelude.{◌≡◌, ◌≢◌, ◌⊎◌, ◌<◌, ℕ, List, []};
+ghost use Rattle.std.specs.Prelude.{◌≡◌, ◌≢◌, ◌⊎◌, ◌<◌, ℕ, true, List, []};
 ghost use Rattle.hdfs_model.specs.declared.errors.HdfsError.TheVariants as errors;
+ghost use Rattle.hdfs_model.specs.Limits.{are_settings};
 ghost use Rattle.hdfs_model.specs.Loading.{AreValid};
 ghost use Rattle.hdfs_script.specs.declared.entry.ScriptSettings.{ScriptSettings};
 ghost use Rattle.hdfs_script.specs.Parsing.{Parses};
@@ -41,10 +42,10 @@ fn run_commands<K: Sink, C: Store>(
     note: &mut Note,
 ) -> u8
     requires namenode { 0 < (C.shown store.old).namenodes }
-    ensures ran { (given : ScriptSettings) → settings.now ≡ session_settings given
+    ensures ran { (given : ScriptSettings) → settings.now ≡ session_settings given → are_settings settings.now ≡ true
         → RanCommands given commands.now (stage (C.shown store.old) (K.shown sink.old)) result
         (stage (C.shown store.new) (K.shown sink.new)) }
-    ensures noted { result ≡ 2 → (given : ScriptSettings) → settings.now ≡ session_settings given
+    ensures noted { result ≡ 2 → (given : ScriptSettings) → settings.now ≡ session_settings given → are_settings settings.now ≡ true
         → NotesStop given commands.now (stage (C.shown store.old) (K.shown sink.old)) result note.new
         (stage (C.shown store.new) (K.shown sink.new)) }
 {

@@ -1,3 +1,5 @@
+use hdfs_model::{Command, HdfsError, TransferFault};
+use hdfs_names::Policy;
 use hdfs_script::*;
 use std::test::Fail;
 
@@ -45,10 +47,84 @@ fault read 1 1 refused";
     Ok(())
 }
 
+// Scripts that set something of how files are written, and what they come to: the replication, how often a pipeline is rebuilt at
+// most, the window, the policy, and whether writes go on in best effort.
+const GOOD: [(&str, (u32, u32, u32, Policy, bool)); 18] = [
+    ("", (3, 8, 100, Policy::Default, false)),
+    ("set user hadoop", (3, 8, 100, Policy::Default, false)),
+    ("set replication 1", (1, 8, 100, Policy::Default, false)),
+    ("set replication 2", (2, 8, 100, Policy::Default, false)),
+    (
+        "set replication 65535",
+        (65535, 8, 100, Policy::Default, false),
+    ),
+    ("set rebuilds 1", (3, 1, 100, Policy::Default, false)),
+    ("set rebuilds 1000", (3, 1000, 100, Policy::Default, false)),
+    ("set window 1", (3, 8, 1, Policy::Default, false)),
+    ("set window 1000", (3, 8, 1000, Policy::Default, false)),
+    ("set policy DEFAULT", (3, 8, 100, Policy::Default, false)),
+    ("set policy NEVER", (3, 8, 100, Policy::Never, false)),
+    ("set policy ALWAYS", (3, 8, 100, Policy::Always, false)),
+    ("set policy DISABLE", (3, 8, 100, Policy::Disable, false)),
+    ("set besteffort true", (3, 8, 100, Policy::Default, true)),
+    ("set besteffort false", (3, 8, 100, Policy::Default, false)),
+    (
+        "set window 3\nset window 2",
+        (3, 8, 2, Policy::Default, false),
+    ),
+    (
+        "set policy ALWAYS\nset besteffort true\nset policy NEVER",
+        (3, 8, 100, Policy::Never, true),
+    ),
+    (
+        "set besteffort true\nset besteffort false",
+        (3, 8, 100, Policy::Default, false),
+    ),
+];
+
+#[test]
+fn settings_of_writes_are_read(rt: HostRuntime) -> Result<(), Fail> {
+    for (script, wanted) in GOOD {
+        let read = parse(rt.alloc(), script.as_bytes())?;
+        assert_eq!(rt; read.bad, None, "{script}");
+        let replication = read.settings.cluster.defaults.replication;
+        let session = session_settings(rt.alloc(), &read.settings)?;
+        let replace = session.replace;
+        let come = (
+            replication,
+            session.rebuild_limit,
+            session.window,
+            replace.policy,
+            replace.best_effort,
+        );
+        assert_eq!(rt; come, wanted, "{script}");
+    }
+    Ok(())
+}
+
+#[test]
+fn new_files_have_any_replication(rt: HostRuntime) -> Result<(), Fail> {
+    for (word, wanted) in [
+        ("-", None),
+        ("0", Some(0)),
+        ("2", Some(2)),
+        ("4294967295", Some(4_294_967_295)),
+    ] {
+        let line = format!(in rt.alloc(); "do create /a 644 {word} - true true")?;
+        let read = parse(rt.alloc(), line.as_bytes())?;
+        assert_eq!(rt; read.bad, None, "{word}");
+        let Some(Command::Create { options, .. }) = read.commands.as_slice().first() else {
+            return Err("there is no create".into());
+        };
+        assert_eq!(rt; options.replication, wanted, "{word}");
+    }
+    Ok(())
+}
+
 // Lines, and what is said of each as the first of a script over a fresh store.
-const WRONG: [(&str, Wrong); 45] = [
+const WRONG: [(&str, Wrong); 61] = [
     ("set", Wrong::SetWords),
-    ("set replication 1", Wrong::SetWords),
+    ("set racks 1", Wrong::SetWords),
     ("set user", Wrong::SetWords),
     ("set user a-b", Wrong::User),
     ("set nodes 0", Wrong::Nodes),
@@ -57,6 +133,22 @@ const WRONG: [(&str, Wrong); 45] = [
     ("set block 9223372036854775808", Wrong::BlockSize),
     ("set chunk 1073741825", Wrong::Chunk),
     ("set packet 2147483648", Wrong::Packet),
+    ("set replication 0", Wrong::Replication),
+    ("set replication 65536", Wrong::Replication),
+    ("set replication -", Wrong::Replication),
+    ("set rebuilds 0", Wrong::Rebuilds),
+    ("set rebuilds 1001", Wrong::Rebuilds),
+    ("set rebuilds 08", Wrong::Rebuilds),
+    ("set window 0", Wrong::Window),
+    ("set window 1001", Wrong::Window),
+    ("set window", Wrong::SetWords),
+    ("set policy default", Wrong::Policy),
+    ("set policy Always", Wrong::Policy),
+    ("set policy NEVERMORE", Wrong::Policy),
+    ("set besteffort TRUE", Wrong::BestEffort),
+    ("set besteffort 1", Wrong::BestEffort),
+    ("set besteffort true false", Wrong::SetWords),
+    ("set best-effort true", Wrong::SetWords),
     ("dir", Wrong::DirWords),
     ("dir a", Wrong::Path),
     ("dir /a/b/", Wrong::Path),
@@ -85,7 +177,10 @@ const WRONG: [(&str, Wrong); 45] = [
     ("do delete /a", Wrong::CommandWords),
     ("do create /a 644 - - true", Wrong::CreateWords),
     ("do create /a 648 - - true true", Wrong::PermissionDigits),
-    ("do create /a 644 2 - true true", Wrong::GivenReplication),
+    (
+        "do create /a 644 4294967296 - true true",
+        Wrong::GivenReplication,
+    ),
     ("do create /a 644 - 1k true true", Wrong::GivenBlockSize),
     ("do create /a 644 - - yes true", Wrong::Overwrite),
     ("do append", Wrong::AppendWords),
@@ -114,5 +209,17 @@ fn what_is_wrong_with_the_second_line_is_said(rt: HostRuntime) {
     ] {
         let told = complaint_at(rt.alloc(), script.as_bytes(), fresh, 2);
         assert_eq!(rt; told, Some(Complaint { number: 2, wrong }), "{script}");
+    }
+}
+
+#[test]
+fn faults_of_pipelines_are_printed_by_the_error_alone(rt: HostRuntime) {
+    for fault in [
+        TransferFault::AllNodes,
+        TransferFault::NoReplacement,
+        TransferFault::RebuildLimit { rebuilds: 8 },
+    ] {
+        let error = HdfsError::DataTransferError(fault);
+        assert_eq!(rt; variant_name(&error), "DataTransferError");
     }
 }

@@ -6,17 +6,21 @@ ghost use Rattle.hdfs_uses.specs.Trying.{IsRead};
 use crate::failed::Failed;
 use hdfs_cluster::{MemCluster, MemSettings};
 use hdfs_model::{Attributes, Command, FaultLine, Line, ReadKind, Settings, Store};
+use hdfs_names::{Policy, ReplaceDatanodeOnFailure};
 use hdfs_wire::{Blob, Text};
 use std::alloc::Global;
 
 /// What the file of these examples holds.
 pub(crate) const BYTES: [u8; 8] = [10, 11, 12, 13, 14, 15, 16, 17];
 
-/// What a session is run with: a home, a client's name, and how many packets may wait for their acknowledgement.
+/// What a session is run with: a home, a client's name, when a failed datanode is replaced, how often a block's pipeline is rebuilt,
+/// and how many packets may wait for their acknowledgement.
 pub(crate) fn settings(alloc: Global) -> Result<Settings, Failed> {
     Ok(Settings {
         home: Text::from_str(alloc, "/user/user")?,
         client: [0; 16],
+        replace: ReplaceDatanodeOnFailure::new(Policy::Default, false),
+        rebuild_limit: 8,
         window: 80,
     })
 }

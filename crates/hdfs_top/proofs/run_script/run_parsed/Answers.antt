@@ -1,6 +1,6 @@
 use Rattle.std.proofs.Common.{arith, Err, refl, ap, ◌∙◌}
 use Rattle.hdfs_model.proofs.Frames.{never_fall_from-SameCounts, never_fall_refl}
-use Rattle.hdfs_top.proofs.SessionLemmas.{not_status_2}
+use Rattle.hdfs_top.proofs.SessionLemmas.{limited_settings, not_status_2}
 use Rattle.hdfs_top.proofs.ScriptLemmas.{starved_script, refused_script, ran_loaded, notes_loaded}
 use Rattle.hdfs_top.proofs.run_script.run_parsed.Goals as goal
 
@@ -9,11 +9,16 @@ pub returns-in-Ok-load_script : goal.returns-in-Ok-load_script
 returns-in-Ok-load_script g c =
     let given = c.args.read.settings in
     let loads = c.in-Ok-load_script.ensures.loaded.1 in
-    let ran = rw (c.as_slice.ensures, c.in-Ok-load_script.ensures.loaded.0) at c.run_commands.ensures.ran given c.in-Ok.ensures in
     record {
-      ran = λ bytes source left parses gave. ran_loaded _ _ bytes c.args.read _ _ c.requires.namenode gave parses loads ran;
-      noted = λ two bytes source left parses gave. notes_loaded _ _ bytes c.args.read _ _ _ c.requires.namenode gave parses loads ran.later two
-          (rw (c.as_slice.ensures, c.in-Ok-load_script.ensures.loaded.0) at c.run_commands.ensures.noted two given c.in-Ok.ensures);
+      ran = λ bytes source left parses gave.
+          let limited = limited_settings _ given c.in-Ok.ensures parses.limited in
+          let ran = rw (c.as_slice.ensures, c.in-Ok-load_script.ensures.loaded.0) at c.run_commands.ensures.ran given c.in-Ok.ensures limited in
+          ran_loaded _ _ bytes c.args.read _ _ c.requires.namenode gave parses loads ran;
+      noted = λ two bytes source left parses gave.
+          let limited = limited_settings _ given c.in-Ok.ensures parses.limited in
+          let ran = rw (c.as_slice.ensures, c.in-Ok-load_script.ensures.loaded.0) at c.run_commands.ensures.ran given c.in-Ok.ensures limited in
+          notes_loaded _ _ bytes c.args.read _ _ _ c.requires.namenode gave parses loads ran.later two
+          (rw (c.as_slice.ensures, c.in-Ok-load_script.ensures.loaded.0) at c.run_commands.ensures.noted two given c.in-Ok.ensures limited);
     }
 
 -- a line is bad
