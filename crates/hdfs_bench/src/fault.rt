@@ -16,7 +16,7 @@ pub(crate) enum Fault {
     /// What was written isn't read again.
     Wire(WireFault),
     Checksum,
-    /// A glob or a shard was refused.
+    /// A glob, a shard or a session was refused.
     Refused,
 }
 

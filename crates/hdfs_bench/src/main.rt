@@ -1,8 +1,9 @@
 //! Runs the code of the libraries as often as the words say, to time it, and prints a number that came of it.
 //!
 //! Words: `crc32c SIZE TIMES`, `crc32 SIZE TIMES`, `frames COUNT PIECE`, `packets SIZE TIMES`, `checks SIZE TIMES`,
-//! `stars STARS LENGTH`, `products FIRST TIMES`, `quotients FIRST TIMES`, `pipeline WINDOW TIMES`, or `encode` or `decode` with
-//! a code, as in `encode_6_3 SIZE TIMES`, the code being one of `_3_2`, `_6_3` and `_10_4`.
+//! `stars STARS LENGTH`, `products FIRST TIMES`, `quotients FIRST TIMES`, `pipeline WINDOW TIMES`,
+//! `files_0`, `files_1`, `files_2` or `files_3` with `COUNT SIZE`, or `encode` or `decode` with a code, as in
+//! `encode_6_3 SIZE TIMES`, the code being one of `_3_2`, `_6_3` and `_10_4`.
 #![tactic(auto)]
 
 mod elements;
@@ -13,6 +14,7 @@ mod packets;
 mod pipelines;
 mod shards;
 mod sums;
+mod writes;
 
 use elements::{products, quotients};
 use fault::Fault;
@@ -24,6 +26,7 @@ use shards::{code_of, decode, encode};
 use std::alloc::Global;
 use std::env;
 use sums::{Kind, folded_sum};
+use writes::write_files;
 
 /// What the words name, over two numbers.
 fn measure(alloc: Global, name: &str, first: usize, second: usize) -> Result<u64, Fault> {
@@ -59,6 +62,9 @@ fn measure(alloc: Global, name: &str, first: usize, second: usize) -> Result<u64
     }
     if name == "pipeline" {
         return count_events(alloc, first, second);
+    }
+    if let Some(replication) = name.strip_prefix("files_") {
+        return write_files(alloc, replication.parse()?, first, second);
     }
     Err(Fault::Words)
 }

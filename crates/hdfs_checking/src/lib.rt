@@ -1,6 +1,9 @@
 //! The program over memory, and the plain program's answer to the same script: what tests and the sweep over short sessions share.
 #![tactic(auto)]
 
+mod noting;
+mod pipelines;
+
 ghost use Rattle.std.specs.Prelude.{◌<◌};
 ghost use Rattle.hdfs_cluster.specs.MemShown.{shown_of};
 
@@ -12,6 +15,8 @@ use hdfs_script::{ScriptSettings, parse, session_settings};
 use hdfs_streams::{MemSink, MemSource};
 use hdfs_top::{Note, top};
 use hdfs_wire::{Blob, List};
+pub use noting::{listed, noted};
+pub use pipelines::{Tally, check_pipelines};
 use std::alloc::Global;
 use std::test::Fail;
 

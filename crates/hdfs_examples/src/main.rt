@@ -10,7 +10,7 @@ use std::alloc::Global;
 use std::fs;
 
 /// The names of the examples.
-const NAMES: [&str; 15] = [
+const NAMES: [&str; 18] = [
     "first",
     "reads",
     "broken",
@@ -26,6 +26,9 @@ const NAMES: [&str; 15] = [
     "taken",
     "settings",
     "unacknowledged",
+    "survived",
+    "replaced",
+    "unreplaced",
 ];
 
 // The bytes of an example's file of this kind.

@@ -1,9 +1,12 @@
 //! Runs all short sessions over the cluster in memory: each is to be answered as by the plain program; and with a single fault it is to
 //! end behind the plain program's replies, with every path that the failed command doesn't name as those left it.
 //!
-//! Words: a number to begin with, a step for sessions, and one for pairs of a session and a fault: of the 168,420 sessions and the
-//! 2,526,300 pairs those are run with the numbers FIRST, FIRST + STEP and so on, counted for each length of sessions. All are run by
-//! `0 1 1`.
+//! Then it runs sessions that write a file of three replicas while a call fails, or two: each is answered as by the plain program, or stops
+//! for a cause that the counts show.
+//!
+//! Words: a number to begin with, a step for sessions, one for pairs of a session and a fault, and one for sessions over pipelines: of the
+//! 168,420 sessions, the 2,526,300 pairs and the 159,192 sessions over pipelines those are run with the numbers FIRST, FIRST + STEP and so
+//! on, counted for each length of sessions. All are run by `0 1 1 1`.
 #![tactic(auto)]
 
 mod comparing;
@@ -11,6 +14,7 @@ mod scripts;
 mod single_faults;
 
 use comparing::compare_all;
+use hdfs_checking::check_pipelines;
 use single_faults::check_all;
 use std::env;
 use std::test::Fail;
@@ -20,13 +24,15 @@ fn main(rt: HostRuntime) -> Result<(), Fail> {
     for word in env::args(&rt)?.skip(1) {
         words.push(word)?;
     }
-    let [first, step, pairs] = words.as_slice() else {
-        return Err(Fail::from("the words are a first number and two steps"));
+    let [first, step, pairs, pipelines] = words.as_slice() else {
+        return Err(Fail::from("the words are a first number and three steps"));
     };
     let first = first.as_str().parse()?;
     let compared = compare_all(rt.alloc(), first, step.as_str().parse()?)?;
     println!(rt; "{compared} sessions are answered as by the plain program")?;
     let (checked, failed) = check_all(rt.alloc(), first, pairs.as_str().parse()?)?;
     println!(rt; "{checked} sessions with a fault, of which {failed} fail, leave the other path")?;
+    let tally = check_pipelines(rt.alloc(), first, pipelines.as_str().parse()?)?;
+    println!(rt; "sessions over pipelines: {tally:?}")?;
     Ok(())
 }

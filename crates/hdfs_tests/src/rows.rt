@@ -147,7 +147,7 @@ fn a_broken_packet_fails_the_read_that_met_it(rt: HostRuntime) -> Result<(), Fai
 }
 
 /// Scripts that are refused, and their first bad line.
-const BAD: [(&str, u64); 102] = [
+const BAD: [(&str, u64); 107] = [
     ("file  /a 644 1 8 00", 1),
     (" file /a 644 1 8 00", 1),
     ("file /a 644 1 8 00 ", 1),
@@ -193,7 +193,7 @@ const BAD: [(&str, u64); 102] = [
     ("do read /a -1 0", 1),
     ("do read /a 0 18446744073709551616", 1),
     ("do  read /a 0 0", 1),
-    ("do create /a 644 2 8 false true", 1),
+    ("do create /a 644 4294967296 8 false true", 1),
     ("do create /a 648 1 8 false true", 1),
     ("do create /a 644 1 8 no true", 1),
     ("do create /a 644 1 8 false", 1),
@@ -226,7 +226,12 @@ const BAD: [(&str, u64); 102] = [
     ("set packet 2147483648", 1),
     ("set user a.b", 1),
     ("set user a b", 1),
-    ("set window 3", 1),
+    ("set replication 65536", 1),
+    ("set rebuilds 0", 1),
+    ("set window 1001", 1),
+    ("set policy Always", 1),
+    ("set besteffort yes", 1),
+    ("set racks 3", 1),
     ("set nodes 3\nset nodes 03", 2),
     ("dir a", 1),
     ("dir /", 1),

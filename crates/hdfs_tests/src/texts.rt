@@ -33,6 +33,7 @@ fn client_errors(rt: HostRuntime) -> Result<(), Fail> {
     let taken = Text::from_str(alloc, "/a is there")?;
     let open = Text::from_str(alloc, "/b")?;
     let read = TransferFault::Read { offset: 5 };
+    let rebuilt = TransferFault::RebuildLimit { rebuilds: 8 };
     let range = ArgFault::Range {
         offset: 2,
         len: 3,
@@ -44,6 +45,14 @@ fn client_errors(rt: HostRuntime) -> Result<(), Fail> {
         (
             HdfsError::DataTransferError(read),
             "data transfer error: Read",
+        ),
+        (
+            HdfsError::DataTransferError(TransferFault::NoReplacement),
+            "data transfer error: NoReplacement",
+        ),
+        (
+            HdfsError::DataTransferError(rebuilt),
+            "data transfer error: RebuildLimit",
         ),
         (HdfsError::InvalidArgument(range), "invalid argument: Range"),
         (
@@ -63,6 +72,30 @@ fn client_errors(rt: HostRuntime) -> Result<(), Fail> {
     ];
     for (error, wanted) in &rows {
         check(&rt, alloc, error, wanted)?;
+    }
+    Ok(())
+}
+
+#[test]
+fn faults_of_pipelines(rt: HostRuntime) -> Result<(), Fail> {
+    let rows = [
+        (TransferFault::Setup, "the pipeline was refused"),
+        (TransferFault::AllNodes, "the pipeline has failed"),
+        (
+            TransferFault::NoReplacement,
+            "no datanode could be added to the pipeline",
+        ),
+        (
+            TransferFault::RebuildLimit { rebuilds: 8 },
+            "the pipeline has failed, and was rebuilt 8 times",
+        ),
+        (
+            TransferFault::BadAck { seqno: 3 },
+            "a bad acknowledgement of packet 3",
+        ),
+    ];
+    for (fault, wanted) in &rows {
+        check(&rt, rt.alloc(), fault, wanted)?;
     }
     Ok(())
 }
@@ -91,7 +124,7 @@ fn errors_of_the_outside(rt: HostRuntime) -> Result<(), Fail> {
 }
 
 /// Scripts, and what is noted beside their status.
-const NOTES: [(&str, &str); 31] = [
+const NOTES: [(&str, &str); 35] = [
     ("", "the script has no command"),
     (
         "put\n",
@@ -99,7 +132,7 @@ const NOTES: [(&str, &str); 31] = [
     ),
     (
         "set\n",
-        "line 1: not `set` and `user NAME`, `nodes NODES`, `block BLOCK_SIZE`, `chunk CHUNK` or `packet PACKET`, with one space between words",
+        "line 1: not `set SETTING VALUE`, with one space between words, where SETTING is `user`, `nodes`, `block`, `chunk`, `packet`, `replication`, `rebuilds`, `window`, `policy` or `besteffort`",
     ),
     (
         "set user a-b\n",
@@ -108,6 +141,22 @@ const NOTES: [(&str, &str); 31] = [
     (
         "set nodes 65\n",
         "line 1: NODES isn't a number from 1 to 64",
+    ),
+    (
+        "set rebuilds 0\n",
+        "line 1: REBUILDS isn't a number from 1 to 1000",
+    ),
+    (
+        "set window 1001\n",
+        "line 1: WINDOW isn't a number of packets from 1 to 1000",
+    ),
+    (
+        "set policy never\n",
+        "line 1: POLICY isn't `DEFAULT`, `NEVER`, `ALWAYS` or `DISABLE`",
+    ),
+    (
+        "set besteffort 1\n",
+        "line 1: BEST_EFFORT isn't `true` or `false`",
     ),
     (
         "dir\n",
@@ -160,7 +209,7 @@ const NOTES: [(&str, &str); 31] = [
     ),
     (
         "file /a 644 0 8 00\n",
-        "line 1: REPLICATION of a file isn't a number from 1 to 65535",
+        "line 1: REPLICATION isn't a number from 1 to 65535",
     ),
     (
         "file /a 644 1 0 -\n",

@@ -176,7 +176,7 @@ fn each_script_that_writes_is_answered_as_by_the_plain_program(
 }
 
 /// Scripts whose numbers are out of their limits, or with a fault of a datanode, what is written, and the status.
-const OUT: [(&str, &str, u8); 5] = [
+const OUT: [(&str, &str, u8); 7] = [
     (
         "set packet 20\ndo create /a 644 1 8 false true\n",
         "fault 1 InvalidArgument\n",
@@ -184,6 +184,16 @@ const OUT: [(&str, &str, u8); 5] = [
     ),
     (
         "do create /a 644 1 0 false true\n",
+        "fault 1 InvalidArgument\n",
+        2,
+    ),
+    (
+        "do create /a 644 0 8 false true\n",
+        "fault 1 InvalidArgument\n",
+        2,
+    ),
+    (
+        "do create /a 644 65536 8 false true\n",
         "fault 1 InvalidArgument\n",
         2,
     ),
