@@ -1,5 +1,5 @@
 -- Nothing that callers see of a session depends on the connections that it keeps.
-use Rattle.std.proofs.Common.{◌≡◌, ℕ, true, List, Result, Ok, Err, IfOk, IfErr}
+use Rattle.std.proofs.Common.{true, Result, Ok, Err, IfOk, IfErr}
 use Rattle.hdfs_connections.specs.declared.connection_cache.ConnectionCache.{ConnectionCache}
 use Rattle.hdfs_files.specs.declared.file_writer.FileWriter.{FileWriter}
 use Rattle.hdfs_model.specs.declared.commands.Command.{Command}

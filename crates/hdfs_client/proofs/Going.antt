@@ -51,7 +51,7 @@ module _ (w : World) (state : State) (commands : List Command) (n : ℕ) (replie
   avoids : Avoids w gone.last command
   avoids = subst (Avoids w gone.last) (sym here) (gone.avoids n command below)
 
-  is_ready : IsReady now session gone.last command
+  pub is_ready : IsReady now session gone.last command
   is_ready = record {
     ready = record {
       one = one;

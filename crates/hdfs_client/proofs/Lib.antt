@@ -39,6 +39,11 @@ mod Sizing
 mod Starting
 mod Stepping
 mod Still
+mod WholeBeside
+mod WholeGoing
+mod WholeOpening
+mod WholeStarting
+mod WholeWriting
 mod WithWriting
 mod WriteActs
 mod WriteEnds

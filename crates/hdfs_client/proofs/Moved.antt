@@ -84,7 +84,8 @@ put_cases session session' path writer more r = by_test (bytes_eq path r) (bytes
     by_test true there back is = inl (there refl, is)
     by_test false there back is = inr (λ same. false≢true (back (sym same)), is)
 
-none_from : (o : Option FileWriter) → is_some o ≡ false → o ≡ None
+-- an option that has no value is none
+pub none_from : (o : Option FileWriter) → is_some o ≡ false → o ≡ None
 none_from None is = refl
 none_from (Some writer) is = absurd (false≢true (sym is))
 

@@ -4,3 +4,4 @@ pub mod Meeting
 pub mod Preparing
 pub mod Ranges
 pub mod Session
+pub mod Whole

@@ -5,6 +5,7 @@ ghost use Rattle.hdfs_model.specs.Headline.{WhereReady, Ran};
 ghost use Rattle.hdfs_model.specs.Sessions.{world_of, none_open};
 ghost use Rattle.hdfs_model.specs.Limits.{are_settings};
 ghost use Rattle.hdfs_client.specs.Session.{StopsAtOnce};
+ghost use Rattle.hdfs_client.specs.Whole.{LeavesWhole};
 
 use crate::session::Session;
 use hdfs_model::{Cluster, Command, Fault, HdfsError, Reply, Settings};
@@ -27,6 +28,10 @@ pub fn run_session<C: Cluster>(
         let world = world_of settings.now old in
         WhereReady world (record { opened = none_open; shown = old }) commands.now
         (λ state. Ran world state commands.now old (C.shown cluster.new) result) }
+    ensures whole { are_settings settings.now ≡ true → let old = C.shown cluster.old in
+        let world = world_of settings.now old in
+        WhereReady world (record { opened = none_open; shown = old }) commands.now
+        (λ state. LeavesWhole world state commands.now old (C.shown cluster.new) result) }
 {
     let Ok(mut replies) = Vec::with_capacity(alloc, commands.len()) else {
         return Err(fault_at(0, HdfsError::NoMemory, Vec::new(alloc)));

@@ -35,6 +35,7 @@ pub struct Session {
 
 impl Session {
     ghost use Rattle.hdfs_client.specs.Session.{settings_of, has_failed, opened_of, writer_of, defaults_known, after, CarriesOpen, LeavesFiles, HasLink, Stands, IsNotBegun};
+    ghost use Rattle.hdfs_client.specs.Whole.{KeepsBlocksWhole};
 
     /// A session over a cluster, which it doesn't ask yet.
     ///
@@ -97,6 +98,7 @@ impl Session {
         requires stands { Stands (C.shown cluster.old) self.old }
         requires fine { has_failed self.old ≡ false }
         ensures acts { Acts command.now (C.shown cluster.old) self.old (C.shown cluster.new) (after self.new result) result }
+        ensures whole { KeepsBlocksWhole command.now (C.shown cluster.old) self.old (C.shown cluster.new) self.new result }
         ensures owed { IfErr result (Owed (world_at self.old (C.shown cluster.old)) (opened_of self.old) command.now) }
         ensures keeps { (settings_of self.new ≡ settings_of self.old) × (has_failed self.new ≡ false) }
     {
@@ -158,6 +160,8 @@ impl Session {
         // Over any cluster, and over one that agrees with a state whose open files the session carries.
         ensures acts { has_failed self.old ≡ false
             → Acts command.now (C.shown cluster.old) self.old (C.shown cluster.new) self.new result }
+        ensures whole { has_failed self.old ≡ false
+            → KeepsBlocksWhole command.now (C.shown cluster.old) self.old (C.shown cluster.new) self.new result }
         ensures owed { has_failed self.old ≡ false
             → IfErr result (Owed (world_at self.old (C.shown cluster.old)) (opened_of self.old) command.now) }
 

@@ -23,6 +23,7 @@ impl Session {
     ghost use Rattle.hdfs_client.specs.Acting.{Acts};
     ghost use Rattle.hdfs_client.specs.Preparing.{HasDefaults, LacksDefaults, Prepares, sizes_by};
     ghost use Rattle.hdfs_client.specs.Session.{settings_of, has_failed, opened_of, after, Stands};
+    ghost use Rattle.hdfs_client.specs.Whole.{KeepsBlocksWhole};
 
     /// The cluster's defaults, which are asked for once.
     fn defaults<C: Cluster>(&mut self, cluster: &mut C) -> Result<ServerDefaults, HdfsError>
@@ -69,6 +70,8 @@ impl Session {
         requires placed { opened_of self.old path ≡ false }
         ensures acts { (name : List ℕ) → absolute (settings_of self.old).home name ≡ path
             → Acts (Command.Create name options.now) (C.shown cluster.old) self.old (C.shown cluster.new) (after self.new result) result }
+        ensures whole { (name : List ℕ) → absolute (settings_of self.old).home name ≡ path
+            → KeepsBlocksWhole (Command.Create name options.now) (C.shown cluster.old) self.old (C.shown cluster.new) self.new result }
         ensures owed { IfErr result IsNotOwed }
         ensures keeps { (settings_of self.new ≡ settings_of self.old) × (has_failed self.new ≡ false) }
     {
@@ -112,6 +115,8 @@ impl Session {
         requires placed { opened_of self.old path ≡ false }
         ensures acts { absolute (settings_of self.old).home name.now ≡ path
             → Acts (Command.Append name.now) (C.shown cluster.old) self.old (C.shown cluster.new) (after self.new result) result }
+        ensures whole { absolute (settings_of self.old).home name.now ≡ path
+            → KeepsBlocksWhole (Command.Append name.now) (C.shown cluster.old) self.old (C.shown cluster.new) self.new result }
         ensures owed { IfErr result IsNotOwed }
         ensures keeps { (settings_of self.new ≡ settings_of self.old) × (has_failed self.new ≡ false) }
     {
@@ -145,6 +150,8 @@ impl Session {
         requires placed { opened_of self.old path.now ≡ true }
         ensures acts { (name : List ℕ) → absolute (settings_of self.old).home name ≡ path.now
             → Acts (Command.Write name bytes.now) (C.shown cluster.old) self.old (C.shown cluster.new) (after self.new result) result }
+        ensures whole { (name : List ℕ) → absolute (settings_of self.old).home name ≡ path.now
+            → KeepsBlocksWhole (Command.Write name bytes.now) (C.shown cluster.old) self.old (C.shown cluster.new) self.new result }
         ensures owed { IfErr result IsNotOwed }
         ensures keeps { (settings_of self.new ≡ settings_of self.old) × (has_failed self.new ≡ false) }
     {
@@ -172,6 +179,8 @@ impl Session {
         requires placed { opened_of self.old path.now ≡ true }
         ensures acts { (name : List ℕ) → absolute (settings_of self.old).home name ≡ path.now
             → Acts (Command.Close name) (C.shown cluster.old) self.old (C.shown cluster.new) (after self.new result) result }
+        ensures whole { (name : List ℕ) → absolute (settings_of self.old).home name ≡ path.now
+            → KeepsBlocksWhole (Command.Close name) (C.shown cluster.old) self.old (C.shown cluster.new) self.new result }
         ensures owed { IfErr result IsNotOwed }
         ensures keeps { (settings_of self.new ≡ settings_of self.old) × (has_failed self.new ≡ false) }
     {

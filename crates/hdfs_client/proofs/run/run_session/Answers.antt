@@ -15,6 +15,8 @@ use Rattle.hdfs_client.specs.Acting.{Acts}
 use Rattle.hdfs_client.proofs.Ending.{replies_next, runs_failed}
 use Rattle.hdfs_client.proofs.Finishing.{complete_done}
 use Rattle.hdfs_client.proofs.Going.{GoneOn, gone_none, goes_on, stops_there, complete_there, ends_there}
+use Rattle.hdfs_client.proofs.WholeGoing.{leaves_end, leaves_stopped, whole_goes_on, whole_none}
+use Rattle.hdfs_client.specs.Whole.{KeepsBlocksWhole}
 use Rattle.hdfs_client.proofs.Owning.{own_end, own_next, own_start}
 use Rattle.hdfs_client.proofs.run.run_session.Goals as goal
 
@@ -39,6 +41,7 @@ loop-command-init g c =
       count = ap length c.in-Ok.ensures.items;
       replied = subst (AreReplies []) (sym c.in-Ok.ensures.items) tt;
       room = search rules;
+      whole = λ state ready. whole_none w s session made.none.0;
       told = λ state ready.
           subst (λ (rs : List Reply). GoneOn w state c.args.commands.now 0 rs s session) (sym c.in-Ok.ensures.items)
           (gone_none w state c.args.commands.now s session ready.fits (λ path. ready.opened path ∙ sym (ap (λ (o : Option FileWriter). is_some o) (made.none.0 path))) ready.avoids
@@ -71,6 +74,9 @@ loop-command-preserved g c =
       replied = subst (AreReplies (take (i + 1) c.args.commands.now)) (sym c.push_reserved.ensures.items)
           (replies_next c.args.commands.now i c.loop-command.replies.items command reply c.loop-command-test.true c.command-item.is before.replied acts.anywhere.replies);
       room = omega (arith, before.room, c.push_reserved.ensures.capacity);
+      whole = λ state ready.
+          whole_goes_on w state c.args.commands.now i c.loop-command.replies.items s t u c.loop-command.session c.apply.new.self command (before.told state ready) (before.whole state ready)
+          c.loop-command-test.true c.command-item.is (before.later.namenodes ∙ ready.one) reply (now.whole before.fine);
       told = λ state ready.
           subst (λ (rs : List Reply). GoneOn w state c.args.commands.now (i + 1) rs u c.apply.new.self) (sym c.push_reserved.ensures.items)
           (goes_on w state c.args.commands.now i c.loop-command.replies.items t c.loop-command.session command (before.told state ready) c.loop-command-test.true c.command-item.is (before.later.namenodes ∙ ready.one) u c.apply.new.self reply acts);
@@ -146,3 +152,31 @@ returns-clause-anywhere g c =
       start = tt;
       tells = tt;
     }
+
+pub returns-in-Err-apply-clause-whole : goal.returns-in-Err-apply-clause-whole
+returns-in-Err-apply-clause-whole g c = λ good state ready.
+    let s = g.C.Cluster.shown c.args.cluster.now in
+    let t = g.C.Cluster.shown c.loop-command.cluster in
+    let u = g.C.Cluster.shown c.apply.new.cluster in
+    let v = g.C.Cluster.shown c.abandon.new.cluster in
+    let w : World = world_of c.args.settings.now s in
+    let before = c.loop-command.invariant in
+    let f = c.fault_at-in-Err-apply in
+    let i = c.loop-command.command-index in
+    let command = c.command-item.result in
+    let acts = subst (λ (e : HdfsError). Acts command t c.loop-command.session u c.apply.new.self (failed_with e)) (sym f.ensures.error) (c.in-Err-apply.ensures.acts before.fine) in
+    let keeps = subst (λ (e : HdfsError). KeepsBlocksWhole command t c.loop-command.session u c.apply.new.self (failed_with e)) (sym f.ensures.error) (c.in-Err-apply.ensures.whole before.fine) in
+    let at : f.result.at ≡ i + 1 = omega (arith, f.ensures.at, c.len.ensures, c.loop-command.replies.ok, before.count) in
+    leaves_stopped w state c.args.commands.now i c.loop-command.replies.items s t u c.loop-command.session c.apply.new.self command (before.told state ready) (before.whole state ready)
+    c.loop-command-test.true c.command-item.is (before.later.namenodes ∙ ready.one) v f.result acts keeps c.abandon.ensures.files c.abandon.ensures.keeps.1 at
+
+pub returns-clause-whole : goal.returns-clause-whole
+returns-clause-whole g c = λ good state ready.
+    let s = g.C.Cluster.shown c.args.cluster.now in
+    let t = g.C.Cluster.shown c.loop-command.cluster in
+    let v = g.C.Cluster.shown c.abandon-2.new.cluster in
+    let w : World = world_of c.args.settings.now s in
+    let before = c.loop-command.invariant in
+    let all = take_all c.loop-command.command-index c.args.commands.now c.loop-command-test.false in
+    leaves_end w state c.args.commands.now c.loop-command.command-index c.loop-command.replies.items s t v c.loop-command.session (before.told state ready) (before.whole state ready) all
+    c.abandon-2.ensures.files c.abandon-2.ensures.keeps.1 c.loop-command.replies

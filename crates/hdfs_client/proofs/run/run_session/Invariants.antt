@@ -6,6 +6,7 @@ use Rattle.hdfs_model.specs.Sessions.{none_open, world_of}
 use Rattle.hdfs_model.specs.Shown.{Later, SameReads}
 use Rattle.hdfs_client.specs.Session.{Stands, settings_of, has_failed}
 use Rattle.hdfs_client.proofs.Going.{GoneOn}
+use Rattle.hdfs_client.proofs.WholeGoing.{WholeSoFar}
 use Rattle.hdfs_client.proofs.Owning.{OwnLinks}
 use Rattle.hdfs_client.proofs.run.run_session.Given as goal
 
@@ -23,6 +24,8 @@ invariant-loop-command g l =
       count : length l.replies.items ≡ l.command-index;
       replied : AreReplies (take l.command-index l.commands) l.replies.items;
       room : length l.commands ≤ vec_capacity l.replies;
+      whole : (state : State) → Ready (world_of l.fn.settings start) (record { opened = none_open; shown = start }) state l.commands
+          → WholeSoFar (world_of l.fn.settings start) (take l.command-index l.commands) start now l.session;
       told : (state : State) → Ready (world_of l.fn.settings start) (record { opened = none_open; shown = start }) state l.commands
           → GoneOn (world_of l.fn.settings start) state l.commands l.command-index l.replies.items now l.session;
     }

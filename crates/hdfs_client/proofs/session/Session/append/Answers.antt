@@ -19,6 +19,8 @@ use Rattle.hdfs_client.proofs.Opening.{appending, appending_as, was_reopened}
 use Rattle.hdfs_client.proofs.Prepared.{looks_from-Served}
 use Rattle.hdfs_client.proofs.Sized.{remembers_refl, remembers_trans, remembers_with}
 use Rattle.hdfs_client.proofs.Starting.{appended_acts, appended_over}
+use Rattle.hdfs_client.proofs.WholeOpening.{appending_spares}
+use Rattle.hdfs_client.proofs.WholeStarting.{appended_whole, late_whole, prepared_whole, refused_whole}
 use Rattle.hdfs_client.proofs.session.Session.append.Goals as goal
 
 pub returns-in_err-defaults-clause-acts : goal.returns-in_err-defaults-clause-acts
@@ -142,3 +144,112 @@ returns-clause-acts g c = λ called.
     })
     c.requires.stands (c.appended-writer.ensures.stands t) c.appended-writer.ensures.path.0 c.appended-writer.ensures.idle.1 c.appended-writer.ensures.idle.0 (remembers_with session c.insert.new.self) c.in_ok-defaults.ensures.ok.known
     name client 4 appended stat called c.in-Some.is c.appended-writer.ensures.tail (c.appended-writer.ensures.path.1 ∙ sizes) served.1 served.0
+
+pub returns-in_err-defaults-clause-whole : goal.returns-in_err-defaults-clause-whole
+returns-in_err-defaults-clause-whole g c =
+    let p = err_from_is_err_and c.from_residual.result c.from_residual.ensures.1 in
+    rw p.1 (λ called. prepared_whole (commands.Append c.args.name.now) (g.C.Cluster.shown c.args.cluster.now) (g.C.Cluster.shown c.defaults.new.cluster) c.args.self.now c.defaults.new.self
+    c.in_err-defaults.ensures.prepares p.0)
+
+pub returns-in_err-key-clause-whole : goal.returns-in_err-key-clause-whole
+returns-in_err-key-clause-whole g c =
+    let p = err_from_is_err_and c.from_residual-in_err-key.result c.from_residual-in_err-key.ensures.1 in
+    rw p.1 (λ called. prepared_whole (commands.Append c.args.name.now) (g.C.Cluster.shown c.args.cluster.now) (g.C.Cluster.shown c.defaults.new.cluster) c.args.self.now c.defaults.new.self
+    c.in_ok-defaults.ensures.prepares p.0)
+
+pub returns-in_err-block-clause-whole : goal.returns-in_err-block-clause-whole
+returns-in_err-block-clause-whole g c =
+    let p = err_from_is_err_and c.from_residual-in_err-block.result c.from_residual-in_err-block.ensures.1 in
+    let s = g.C.Cluster.shown c.args.cluster.now in
+    let name = c.args.name.now in
+    let session = c.defaults.new.self in
+    let client = session.namenode.client in
+    let e = c.in_err-block.field-0.0 in
+    let asked = appending_as g.C.Cluster.serves c.as_str-2.result.now c.args.path client 4 (Err e) c.defaults.new.cluster c.append.new.cluster c.as_str-2.ensures c.in_err-block.ensures.asked in
+    rw (p.1, p.2) (λ called. refused_whole g.C.Cluster.shown c.defaults.new.cluster c.append.new.cluster (commands.Append name) s c.args.self.now session c.in_ok-defaults.ensures.prepares
+    (appending c.args.path client 4) c.args.path called
+    (λ p q told may. appending_spares c.args.path client 4 p q (g.met.C.Cluster.sound c.defaults.new.cluster p told) may)
+    (λ q own. own) e
+    (served_error g.C.Cluster.shown g.C.Cluster.serves g.met.C.Cluster.serves_rows (appending c.args.path client 4) c.defaults.new.cluster c.append.new.cluster e asked))
+
+pub returns-in_default-clause-whole : goal.returns-in_default-clause-whole
+returns-in_default-clause-whole g c = λ called.
+    let s = g.C.Cluster.shown c.args.cluster.now in
+    let m = g.C.Cluster.shown c.defaults.new.cluster in
+    let t = g.C.Cluster.shown c.append.new.cluster in
+    let name = c.args.name.now in
+    let session = c.defaults.new.self in
+    let prepares = c.in_ok-defaults.ensures.prepares in
+    let client = session.namenode.client in
+    let appended : Appended = c.in_ok-block.field-0 in
+    let asked = appending_as g.C.Cluster.serves c.as_str-2.result.now c.args.path client 4 (Ok (answers.Append appended)) c.defaults.new.cluster c.append.new.cluster c.as_str-2.ensures c.in_ok-block.ensures.asked in
+    let served = served_answer g.C.Cluster.shown g.C.Cluster.serves g.met.C.Cluster.serves_rows (appending c.args.path client 4) c.defaults.new.cluster c.append.new.cluster (answers.Append appended) asked in
+    late_whole (commands.Append name) s m t c.args.self.now session session prepares (λ r. refl) c.args.path called
+    (appending c.args.path client 4)
+    (λ p q told may. appending_spares c.args.path client 4 p q (g.met.C.Cluster.sound c.defaults.new.cluster p told) may)
+    (λ q told. (let one = was_reopened c.args.path client 4 q m t appended told served.1 served.0 in (one.0, one.1, one.3))) (errors.FileNotFound c.in_ok-copy.field-0)
+
+pub returns-in_err-copy-clause-whole : goal.returns-in_err-copy-clause-whole
+returns-in_err-copy-clause-whole g c =
+    let p = err_from_is_err_and c.from_residual-in_err-copy.result c.from_residual-in_err-copy.ensures.1 in
+    let s = g.C.Cluster.shown c.args.cluster.now in
+    let m = g.C.Cluster.shown c.defaults.new.cluster in
+    let t = g.C.Cluster.shown c.append.new.cluster in
+    let name = c.args.name.now in
+    let session = c.defaults.new.self in
+    let prepares = c.in_ok-defaults.ensures.prepares in
+    let client = session.namenode.client in
+    let appended : Appended = c.in_ok-block.field-0 in
+    let asked = appending_as g.C.Cluster.serves c.as_str-2.result.now c.args.path client 4 (Ok (answers.Append appended)) c.defaults.new.cluster c.append.new.cluster c.as_str-2.ensures c.in_ok-block.ensures.asked in
+    let served = served_answer g.C.Cluster.shown g.C.Cluster.serves g.met.C.Cluster.serves_rows (appending c.args.path client 4) c.defaults.new.cluster c.append.new.cluster (answers.Append appended) asked in
+    rw p.1 (λ called. late_whole (commands.Append name) s m t c.args.self.now session session prepares (λ r. refl) c.args.path called
+    (appending c.args.path client 4)
+    (λ p q told may. appending_spares c.args.path client 4 p q (g.met.C.Cluster.sound c.defaults.new.cluster p told) may)
+    (λ q told. (let one = was_reopened c.args.path client 4 q m t appended told served.1 served.0 in (one.0, one.1, one.3))) p.0)
+
+pub returns-in_err-insert-clause-whole : goal.returns-in_err-insert-clause-whole
+returns-in_err-insert-clause-whole g c =
+    let p = err_from_is_err_and c.from_residual-in_err-insert.result c.from_residual-in_err-insert.ensures.1 in
+    let s = g.C.Cluster.shown c.args.cluster.now in
+    let m = g.C.Cluster.shown c.defaults.new.cluster in
+    let t = g.C.Cluster.shown c.append.new.cluster in
+    let name = c.args.name.now in
+    let session = c.defaults.new.self in
+    let prepares = c.in_ok-defaults.ensures.prepares in
+    let client = session.namenode.client in
+    let appended : Appended = c.in_ok-block.field-0 in
+    let asked = appending_as g.C.Cluster.serves c.as_str-2.result.now c.args.path client 4 (Ok (answers.Append appended)) c.defaults.new.cluster c.append.new.cluster c.as_str-2.ensures c.in_ok-block.ensures.asked in
+    let served = served_answer g.C.Cluster.shown g.C.Cluster.serves g.met.C.Cluster.serves_rows (appending c.args.path client 4) c.defaults.new.cluster c.append.new.cluster (answers.Append appended) asked in
+    rw p.1 (λ called. late_whole (commands.Append name) s m t c.args.self.now session (record session { writers = c.insert.new.self }) prepares
+    (kept_by session.writers c.insert.new.self c.in_err-insert.ensures.err) c.args.path called
+    (appending c.args.path client 4)
+    (λ p q told may. appending_spares c.args.path client 4 p q (g.met.C.Cluster.sound c.defaults.new.cluster p told) may)
+    (λ q told. (let one = was_reopened c.args.path client 4 q m t appended told served.1 served.0 in (one.0, one.1, one.3))) p.0)
+
+pub returns-clause-whole : goal.returns-clause-whole
+returns-clause-whole g c = λ called.
+    let s = g.C.Cluster.shown c.args.cluster.now in
+    let m = g.C.Cluster.shown c.defaults.new.cluster in
+    let t = g.C.Cluster.shown c.append.new.cluster in
+    let name = c.args.name.now in
+    let session = c.defaults.new.self in
+    let prepares = c.in_ok-defaults.ensures.prepares in
+    let client = session.namenode.client in
+    let d = c.in_ok-defaults.defaults in
+    let appended : Appended = c.in_ok-block.field-0 in
+    let asked = appending_as g.C.Cluster.serves c.as_str-2.result.now c.args.path client 4 (Ok (answers.Append appended)) c.defaults.new.cluster c.append.new.cluster c.as_str-2.ensures c.in_ok-block.ensures.asked in
+    let served = served_answer g.C.Cluster.shown g.C.Cluster.serves g.met.C.Cluster.serves_rows (appending c.args.path client 4) c.defaults.new.cluster c.append.new.cluster (answers.Append appended) asked in
+    let stat = c.in-Some.stat in
+    let writer = c.appended-writer.result in
+    let sizes : c.sizes-sizes.result ≡ sizes_by session d (unwrap_or stat.block_replication 0) (unwrap_or stat.blocksize 0) =
+    c.sizes-sizes.ensures ∙ ap (λ (x : ℕ). sizes_by session d x c.unwrap_or-2.result) c.unwrap_or.ensures ∙ ap (λ (x : ℕ). sizes_by session d (unwrap_or stat.block_replication 0) x) c.unwrap_or-2.ensures in
+    appended_whole s m t c.args.self.now session (record session { writers = c.insert.new.self }) prepares (g.met.C.Cluster.sound c.defaults.new.cluster) c.args.path writer
+    (record {
+      remembers = remembers_trans c.args.self.now session (record session { writers = c.insert.new.self }) prepares.remembers
+          (remembers_with session c.insert.new.self);
+      fine = c.requires.fine;
+      free = c.requires.placed;
+      put = put_by session.writers c.insert.new.self c.args.self.now.writers (string_bytes c.in_ok-key.key) c.args.path writer prepares.writers (c.in_ok-key.ensures.ok ∙ c.as_str.ensures)
+          (btree_map_updates_text (string_bytes c.in_ok-key.key) session.writers c.insert.new.self (Some writer) c.in_ok-insert.ensures.updates);
+    })
+    d name client 4 appended stat called c.in-Some.is c.appended-writer.ensures.tail (c.appended-writer.ensures.path.1 ∙ sizes) served.1 served.0

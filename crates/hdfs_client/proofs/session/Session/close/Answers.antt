@@ -1,6 +1,8 @@
 -- A close of a session.
 use Rattle.std.proofs.Common.{true, None, refl, sym}
 use Rattle.std.proofs.lemmas.Map.Text.{btree_map_updates_text}
+use Rattle.hdfs_model.specs.declared.commands.Command.TheVariants as commands
+use Rattle.hdfs_client.proofs.WholeWriting.{close_keeps, sending_keeps}
 use Rattle.hdfs_client.proofs.WriteEnds.{close_acts, close_fails, close_not_owed}
 use Rattle.hdfs_client.proofs.session.Session.close.Goals as goal
 
@@ -46,3 +48,39 @@ pub returns-in-Err-clause-owed : goal.returns-in-Err-clause-owed
 returns-in-Err-clause-owed g c =
     close_not_owed (g.C.Cluster.shown c.args.cluster.now) (g.C.Cluster.shown c.close.new.cluster) c.in-Some.writer c.in-Err.error
     (c.in-Err.ensures.err (c.requires.stands.fine c.requires.fine c.args.path.now c.in-Some.writer (sym c.in-Some.ensures.value)))
+
+pub returns-in-Ok-clause-whole : goal.returns-in-Ok-clause-whole
+returns-in-Ok-clause-whole g c = λ name is.
+    let session = c.args.self.now in
+    let path = c.args.path.now in
+    close_keeps (g.C.Cluster.shown c.args.cluster.now) (g.C.Cluster.shown c.close.new.cluster) session (record session { writers = c.remove.new.self }) name path c.in-Some.writer
+    (record {
+      here = sym c.in-Some.ensures.value;
+      writers = btree_map_updates_text path session.writers c.remove.new.self None c.remove.ensures.updates;
+      before = c.requires.stands;
+      sound = g.met.C.Cluster.sound c.args.cluster.now;
+      called = is;
+      named = c.requires.path;
+      settings = refl;
+      namenode = refl;
+    })
+    c.in-Ok.ensures.closed.closes
+
+pub returns-in-Err-clause-whole : goal.returns-in-Err-clause-whole
+returns-in-Err-clause-whole g c = λ name is.
+    let session = c.args.self.now in
+    let path = c.args.path.now in
+    let here = sym c.in-Some.ensures.value in
+    sending_keeps (g.C.Cluster.shown c.args.cluster.now) (g.C.Cluster.shown c.close.new.cluster) session (record session { writers = c.remove.new.self }) name path c.in-Some.writer
+    (commands.Close name) None
+    (record {
+      here = here;
+      writers = btree_map_updates_text path session.writers c.remove.new.self None c.remove.ensures.updates;
+      before = c.requires.stands;
+      sound = g.met.C.Cluster.sound c.args.cluster.now;
+      called = is;
+      named = c.requires.path;
+      settings = refl;
+      namenode = refl;
+    })
+    is c.in-Err.error (c.in-Err.ensures.err (c.requires.stands.fine c.requires.fine path c.in-Some.writer here)).touches

@@ -1,10 +1,12 @@
 -- The goals of Session::create.
-use Rattle.std.proofs.Common.{◌≡◌, ℕ, Bool, cond, Some, Ok, Err, refl, sym, ◌∙◌, ap, subst, unwrap_or}
+use Rattle.std.proofs.Common.{◌≡◌, ℕ, Bool, cond, Some, Ok, Err, sym, ◌∙◌, ap, subst, unwrap_or}
 use Rattle.std.proofs.lemmas.Map.Text.{btree_map_updates_text}
 use Rattle.std.proofs.lemmas.Result.{err_from_is_err_and}
 use Rattle.std.specs.String.{string_bytes}
 use Rattle.hdfs_model.specs.declared.asks.Answer.TheVariants as answers
 use Rattle.hdfs_model.specs.declared.commands.Command.TheVariants as commands
+use Rattle.hdfs_model.specs.declared.errors.ArgFault.TheVariants as args
+use Rattle.hdfs_model.specs.declared.errors.HdfsError.TheVariants as errors
 use Rattle.hdfs_model.specs.Limits.{are_settings}
 use Rattle.hdfs_files.specs.Writers.{AreSizes}
 use Rattle.hdfs_namenode.proofs.Answered.{served_answer, served_error}
@@ -16,6 +18,8 @@ use Rattle.hdfs_client.proofs.Prepared.{looks_from-Served}
 use Rattle.hdfs_client.proofs.Sized.{remembers_trans, remembers_with}
 use Rattle.hdfs_client.proofs.Sizing.{are_sizes_by}
 use Rattle.hdfs_client.proofs.Starting.{created_acts, created_over}
+use Rattle.hdfs_client.proofs.WholeOpening.{creating_spares}
+use Rattle.hdfs_client.proofs.WholeStarting.{created_whole, early_whole, late_whole, prepared_whole, refused_whole}
 use Rattle.hdfs_client.proofs.session.Session.create.Goals.{then-options, else-options}
 use Rattle.hdfs_client.proofs.session.Session.create.Goals as goal
 
@@ -132,3 +136,100 @@ returns-clause-acts g c = λ name called.
     })
     c.requires.stands (c.new-writer.ensures.stands t) c.new-writer.ensures.path.0 c.new-writer.ensures.idle.1 c.new-writer.ensures.idle.0 (remembers_with session c.insert.new.self) c.in_ok-defaults.ensures.ok.known name client options status called
     (sym c.are_limited.ensures ∙ c.if-not-are_limited.false) c.new-writer.ensures.tail (c.new-writer.ensures.path.1 ∙ sizes) served.0
+
+pub returns-then-not-are_limited-clause-whole : goal.returns-then-not-are_limited-clause-whole
+returns-then-not-are_limited-clause-whole g c = λ name called state ready.
+    early_whole (commands.Create name c.args.options.now) (g.C.Cluster.shown c.args.cluster.now) c.args.self.now (errors.InvalidArgument args.Options)
+
+pub returns-in_err-defaults-clause-whole : goal.returns-in_err-defaults-clause-whole
+returns-in_err-defaults-clause-whole g c =
+    let p = err_from_is_err_and c.from_residual.result c.from_residual.ensures.1 in
+    rw p.1 (λ name called. prepared_whole (commands.Create name c.args.options.now) (g.C.Cluster.shown c.args.cluster.now) (g.C.Cluster.shown c.defaults.new.cluster) c.args.self.now c.defaults.new.self
+    c.in_err-defaults.ensures.prepares p.0)
+
+pub returns-in_err-key-clause-whole : goal.returns-in_err-key-clause-whole
+returns-in_err-key-clause-whole g c =
+    let p = err_from_is_err_and c.from_residual-in_err-key.result c.from_residual-in_err-key.ensures.1 in
+    rw p.1 (λ name called. prepared_whole (commands.Create name c.args.options.now) (g.C.Cluster.shown c.args.cluster.now) (g.C.Cluster.shown c.defaults.new.cluster) c.args.self.now c.defaults.new.self
+    c.in_ok-defaults.ensures.prepares p.0)
+
+pub returns-in_err-status-clause-whole : goal.returns-in_err-status-clause-whole
+returns-in_err-status-clause-whole g c =
+    let p = err_from_is_err_and c.from_residual-in_err-status.result c.from_residual-in_err-status.ensures.1 in
+    let s = g.C.Cluster.shown c.args.cluster.now in
+    let options = c.args.options.now in
+    let d = c.in_ok-defaults.defaults in
+    let session = c.defaults.new.self in
+    let r = unwrap_or options.replication d.replication in
+    let k = unwrap_or options.block_size d.block_size in
+    let client = session.namenode.client in
+    let e = c.in_err-status.field-0.0 in
+    let flag : c.if-options.create ≡ cond options.overwrite 3 1 = elim c.if-options.branch [
+      | then-options w ↦ w.create-is ∙ sym (ap (λ (b : Bool). cond b 3 1) w.if-options.true)
+      | else-options w ↦ w.create-is ∙ sym (ap (λ (b : Bool). cond b 3 1) w.if-options.false)
+    ] in
+    let asked = creating_as g.C.Cluster.serves c.as_str-2.result.now c.args.path client options c.if-options.create c.unwrap_or-replication.result r c.unwrap_or-block_size.result k (Err e) c.defaults.new.cluster c.create.new.cluster
+    c.as_str-2.ensures flag c.unwrap_or-replication.ensures c.unwrap_or-block_size.ensures c.in_err-status.ensures.asked in
+    rw (p.1, p.2) (λ name called. refused_whole g.C.Cluster.shown c.defaults.new.cluster c.create.new.cluster (commands.Create name options) s c.args.self.now session c.in_ok-defaults.ensures.prepares
+    (creating c.args.path client options r k) c.args.path called
+    (λ p q told may. creating_spares c.args.path client options r k p q (g.met.C.Cluster.sound c.defaults.new.cluster p told) may)
+    (λ q own. own) e
+    (served_error g.C.Cluster.shown g.C.Cluster.serves g.met.C.Cluster.serves_rows (creating c.args.path client options r k) c.defaults.new.cluster c.create.new.cluster e asked))
+
+pub returns-in_err-insert-clause-whole : goal.returns-in_err-insert-clause-whole
+returns-in_err-insert-clause-whole g c =
+    let p = err_from_is_err_and c.from_residual-in_err-insert.result c.from_residual-in_err-insert.ensures.1 in
+    let s = g.C.Cluster.shown c.args.cluster.now in
+    let m = g.C.Cluster.shown c.defaults.new.cluster in
+    let t = g.C.Cluster.shown c.create.new.cluster in
+    let options = c.args.options.now in
+    let d = c.in_ok-defaults.defaults in
+    let session = c.defaults.new.self in
+    let r = unwrap_or options.replication d.replication in
+    let k = unwrap_or options.block_size d.block_size in
+    let client = session.namenode.client in
+    let status = c.in_ok-status.status in
+    let flag : c.if-options.create ≡ cond options.overwrite 3 1 = elim c.if-options.branch [
+      | then-options w ↦ w.create-is ∙ sym (ap (λ (b : Bool). cond b 3 1) w.if-options.true)
+      | else-options w ↦ w.create-is ∙ sym (ap (λ (b : Bool). cond b 3 1) w.if-options.false)
+    ] in
+    let asked = creating_as g.C.Cluster.serves c.as_str-2.result.now c.args.path client options c.if-options.create c.unwrap_or-replication.result r c.unwrap_or-block_size.result k (Ok (answers.Create status)) c.defaults.new.cluster c.create.new.cluster
+    c.as_str-2.ensures flag c.unwrap_or-replication.ensures c.unwrap_or-block_size.ensures c.in_ok-status.ensures.asked in
+    let served = served_answer g.C.Cluster.shown g.C.Cluster.serves g.met.C.Cluster.serves_rows (creating c.args.path client options r k) c.defaults.new.cluster c.create.new.cluster (answers.Create status) asked in
+    rw p.1 (λ name called. late_whole (commands.Create name options) s m t c.args.self.now session (record session { writers = c.insert.new.self }) c.in_ok-defaults.ensures.prepares
+    (kept_by session.writers c.insert.new.self c.in_err-insert.ensures.err) c.args.path called
+    (creating c.args.path client options r k)
+    (λ p q told may. creating_spares c.args.path client options r k p q (g.met.C.Cluster.sound c.defaults.new.cluster p told) may)
+    (λ q told. (let one = was_made c.args.path client options r k q m t status told served.0 in (one.0, one.1, one.3))) p.0)
+
+pub returns-clause-whole : goal.returns-clause-whole
+returns-clause-whole g c = λ name called.
+    let s = g.C.Cluster.shown c.args.cluster.now in
+    let m = g.C.Cluster.shown c.defaults.new.cluster in
+    let t = g.C.Cluster.shown c.create.new.cluster in
+    let options = c.args.options.now in
+    let d = c.in_ok-defaults.defaults in
+    let session = c.defaults.new.self in
+    let r = unwrap_or options.replication d.replication in
+    let k = unwrap_or options.block_size d.block_size in
+    let client = session.namenode.client in
+    let status = c.in_ok-status.status in
+    let writer = c.new-writer.result in
+    let prepares = c.in_ok-defaults.ensures.prepares in
+    let flag : c.if-options.create ≡ cond options.overwrite 3 1 = elim c.if-options.branch [
+      | then-options w ↦ w.create-is ∙ sym (ap (λ (b : Bool). cond b 3 1) w.if-options.true)
+      | else-options w ↦ w.create-is ∙ sym (ap (λ (b : Bool). cond b 3 1) w.if-options.false)
+    ] in
+    let asked = creating_as g.C.Cluster.serves c.as_str-2.result.now c.args.path client options c.if-options.create c.unwrap_or-replication.result r c.unwrap_or-block_size.result k (Ok (answers.Create status)) c.defaults.new.cluster c.create.new.cluster
+    c.as_str-2.ensures flag c.unwrap_or-replication.ensures c.unwrap_or-block_size.ensures c.in_ok-status.ensures.asked in
+    let served = served_answer g.C.Cluster.shown g.C.Cluster.serves g.met.C.Cluster.serves_rows (creating c.args.path client options r k) c.defaults.new.cluster c.create.new.cluster (answers.Create status) asked in
+    created_whole s m t c.args.self.now session (record session { writers = c.insert.new.self }) prepares (g.met.C.Cluster.sound c.defaults.new.cluster) c.args.path writer
+    (record {
+      remembers = remembers_trans c.args.self.now session (record session { writers = c.insert.new.self }) prepares.remembers
+          (remembers_with session c.insert.new.self);
+      fine = c.requires.fine;
+      free = c.requires.placed;
+      put = put_by session.writers c.insert.new.self c.args.self.now.writers (string_bytes c.in_ok-key.key) c.args.path writer prepares.writers (c.in_ok-key.ensures.ok ∙ c.as_str.ensures)
+          (btree_map_updates_text (string_bytes c.in_ok-key.key) session.writers c.insert.new.self (Some writer) c.in_ok-insert.ensures.updates);
+    })
+    d name client options r k status called c.new-writer.ensures.tail served.0

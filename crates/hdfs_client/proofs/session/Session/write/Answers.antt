@@ -1,6 +1,8 @@
 -- A write of a session.
 use Rattle.std.proofs.Common.{true, Some, refl, sym, ap, rules}
 use Rattle.std.proofs.lemmas.Map.Text.{btree_map_updates_text}
+use Rattle.hdfs_model.specs.declared.commands.Command.TheVariants as commands
+use Rattle.hdfs_client.proofs.WholeWriting.{write_keeps, write_fails_keeps}
 use Rattle.hdfs_client.proofs.WriteEnds.{write_acts, write_fails, write_not_owed}
 use Rattle.hdfs_client.proofs.session.Session.write.Goals as goal
 
@@ -55,3 +57,43 @@ returns-in-Err-clause-owed g c =
     let fine = c.requires.stands.fine c.requires.fine c.args.path.now c.in-Some.writer.now (sym c.in-Some.ensures.value) in
     write_not_owed (g.C.Cluster.shown c.args.cluster.now) (g.C.Cluster.shown c.write.new.cluster) c.in-Some.writer.now c.in-Err.error
     (c.in-Err.ensures.err fine) (λ out. cc (c.in-Err.ensures.idle.options fine out).0)
+
+pub returns-in-Ok-clause-whole : goal.returns-in-Ok-clause-whole
+returns-in-Ok-clause-whole g c = λ name is.
+    let session = c.args.self.now in
+    let path = c.args.path.now in
+    let w = c.write.new.self in
+    write_keeps (g.C.Cluster.shown c.args.cluster.now) (g.C.Cluster.shown c.write.new.cluster) session (record session { writers = c.get_mut.follows.lender w }) name path c.in-Some.writer.now
+    c.args.bytes.now w
+    (record {
+      here = sym c.in-Some.ensures.value;
+      writers = btree_map_updates_text path session.writers (c.get_mut.follows.lender w) (Some w) ((c.get_mut.follows.holds w).3 (search rules));
+      before = c.requires.stands;
+      sound = g.met.C.Cluster.sound c.args.cluster.now;
+      called = is;
+      named = c.requires.path;
+      settings = refl;
+      namenode = refl;
+    })
+    c.write.ensures.stands.1 c.in-Ok.ensures.wrote.carries c.in-Ok.count
+
+pub returns-in-Err-clause-whole : goal.returns-in-Err-clause-whole
+returns-in-Err-clause-whole g c = λ name is.
+    let session = c.args.self.now in
+    let path = c.args.path.now in
+    let w = c.write.new.self in
+    let here = sym c.in-Some.ensures.value in
+    let fine = c.requires.stands.fine c.requires.fine path c.in-Some.writer.now here in
+    write_fails_keeps (g.C.Cluster.shown c.args.cluster.now) (g.C.Cluster.shown c.write.new.cluster) session (record session { writers = c.get_mut.follows.lender w }) name path c.in-Some.writer.now
+    (commands.Write name c.args.bytes.now) (Some w)
+    (record {
+      here = here;
+      writers = btree_map_updates_text path session.writers (c.get_mut.follows.lender w) (Some w) ((c.get_mut.follows.holds w).3 (search rules));
+      before = c.requires.stands;
+      sound = g.met.C.Cluster.sound c.args.cluster.now;
+      called = is;
+      named = c.requires.path;
+      settings = refl;
+      namenode = refl;
+    })
+    is c.in-Err.error (c.in-Err.ensures.err fine) (λ out. ap (λ x. g.C.Cluster.shown x) (c.in-Err.ensures.idle.options fine out).2)
