@@ -53,16 +53,8 @@ may_be_done_keeps ask p q (inr (inr own)) = keeps_own ask p q own
 
 -- an ask changes neither what datanodes hold, nor the defaults, nor the links
 pub served_keeps : (risen : Type 0) (p q : Picture) (i : ℕ) (ask : Ask) (result : Result Answer AskFault) → ServesTold risen p i ask result q → KeepsBytes p q
-served_keeps risen p q i ask (Ok (answers.Complete false)) h = ⊎_elim (λ own. keeps_own ask p q own.2) (λ rose. may_be_done_keeps ask p q rose.1) h
-served_keeps risen p q i ask (Ok (answers.Complete true)) h = ⊎_elim (row_keeps p q ask (answers.Complete true)) (keeps_own ask p q) h.2
-served_keeps risen p q i ask (Ok (answers.GetBlockLocations found)) h = ⊎_elim (row_keeps p q ask (answers.GetBlockLocations found)) (keeps_own ask p q) h.2
-served_keeps risen p q i ask (Ok (answers.GetServerDefaults defaults)) h = ⊎_elim (row_keeps p q ask (answers.GetServerDefaults defaults)) (keeps_own ask p q) h.2
-served_keeps risen p q i ask (Ok (answers.Create status)) h = ⊎_elim (row_keeps p q ask (answers.Create status)) (keeps_own ask p q) h.2
-served_keeps risen p q i ask (Ok (answers.Append appended)) h = ⊎_elim (row_keeps p q ask (answers.Append appended)) (keeps_own ask p q) h.2
-served_keeps risen p q i ask (Ok (answers.AddBlock block)) h = ⊎_elim (row_keeps p q ask (answers.AddBlock block)) (keeps_own ask p q) h.2
-served_keeps risen p q i ask (Ok (answers.UpdateBlockForPipeline block)) h = ⊎_elim (row_keeps p q ask (answers.UpdateBlockForPipeline block)) (keeps_own ask p q) h.2
-served_keeps risen p q i ask (Ok (answers.GetAdditionalDatanode block)) h = ⊎_elim (row_keeps p q ask (answers.GetAdditionalDatanode block)) (keeps_own ask p q) h.2
-served_keeps risen p q i ask (Ok answers.UpdatePipeline) h = ⊎_elim (row_keeps p q ask answers.UpdatePipeline) (keeps_own ask p q) h.2
+served_keeps risen p q i ask (Ok answer) h =
+    ⊎_elim (λ given. ⊎_elim (row_keeps p q ask answer) (keeps_own ask p q) given.2) (λ no. may_be_done_keeps ask p q no.2) h
 served_keeps risen p q i ask (Err faults.NoMemory) h = may_be_done_keeps ask p q h.1
 served_keeps risen p q i ask (Err (faults.Exception class message)) h =
     ⊎_elim (λ standby. keeps_same p q standby.2.rest) (λ rest. ⊎_elim (λ refused. keeps_same p q refused.2.rest) (λ more. ⊎_elim (λ own. keeps_own ask p q own.2) (λ rose. may_be_done_keeps ask p q rose.1) more) rest) h

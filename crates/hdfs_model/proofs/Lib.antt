@@ -2,5 +2,9 @@ pub mod Asking
 pub mod Completing
 pub mod Folding
 pub mod Frames
+pub mod Framing
 pub mod Loads
+pub mod Ordering
+pub mod Relaying
+pub mod Repeating
 pub mod Trees

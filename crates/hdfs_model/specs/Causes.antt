@@ -165,7 +165,7 @@ Tells command old new (errors.InvalidArgument (args.Range offset len length)) = 
 Tells command old new (errors.AlreadyExists message) = IsTakenBy message new
 Tells command old new (errors.OperationFailed name) = Sends command × (new.last ≡ last_answers.Fine)
 Tells command old new (errors.FileNotFound path) = (path ≡ path_of command) × (new.last ≡ last_answers.Fine)
-Tells command old new (errors.RPCError class message) = new.last ≡ last_answers.Exception class message
+Tells command old new (errors.RPCError class message) = (is_taken class ≡ false) × (new.last ≡ last_answers.Exception class message)
 Tells command old new error = ⊥
 
 -- the error is a refusal, which comes before any datanode is asked or sent anything

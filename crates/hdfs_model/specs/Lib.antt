@@ -2,6 +2,7 @@ pub mod Anywhere
 pub mod Causes
 pub mod Counts
 pub mod Effects
+pub mod Failover
 pub mod Files
 pub mod Folds
 pub mod Headline

@@ -25,6 +25,14 @@ use Rattle.hdfs_model.specs.Sound.{IsFileAt}
 abbrev pub standby : List ℕ
 standby = codes "org.apache.hadoop.ipc.StandbyException"
 
+-- an observer, which answers reads alone, hands this on to the active namenode
+abbrev pub observer_retry : List ℕ
+observer_retry = codes "org.apache.hadoop.ipc.ObserverRetryOnActiveException"
+
+-- the exception says that another namenode is to be asked
+abbrev pub is_retriable : List ℕ → Bool
+is_retriable class = bytes_eq class standby || bytes_eq class observer_retry
+
 -- something stands at the path already
 abbrev pub already_exists : List ℕ
 already_exists = codes "org.apache.hadoop.fs.FileAlreadyExistsException"
@@ -238,14 +246,17 @@ IsOwnOf ask old new = IsOwn old ask × KeepsOthers (src_of ask) old new
 abbrev pub MayBeDone : Ask → Picture → Picture → Type 0
 MayBeDone ask old new = SameButActive old new ⊎ ((answer : Answer) × IsShaped ask answer × Row old ask answer new) ⊎ IsOwnOf ask old new
 
+-- the answer that a file isn't closed, which is by no row
+abbrev pub IsFalse : Answer → Type 0
+IsFalse answer = answer ≡ answers.Complete false
+
 -- From one picture to the next, for an ask of namenode i whose count has risen or not. Only the active namenode answers,
 -- and only where the count has risen does another one answer or become active, does an exception come that nothing
 -- explains, or false to `complete`.
 abbrev pub ServesTold : Type 0 → Picture → ℕ → Ask → Result Answer AskFault → Picture → Type 0
-ServesTold risen old i ask (Ok (answers.Complete false)) new =
-    ((i ≡ old.active) × (new.active ≡ old.active) × IsOwnOf ask old new) ⊎ (risen × MayBeDone ask old new)
 ServesTold risen old i ask (Ok answer) new =
-    ((i ≡ old.active) ⊎ risen) × ((new.active ≡ old.active) ⊎ risen) × (Row old ask answer new ⊎ IsOwnOf ask old new)
+    (((i ≡ old.active) ⊎ risen) × ((new.active ≡ old.active) ⊎ risen) × (Row old ask answer new ⊎ IsOwnOf ask old new))
+    ⊎ (IsFalse answer × risen × MayBeDone ask old new)
 ServesTold risen old i ask (Err faults.NoMemory) new = (new.active ≡ old.active) × MayBeDone ask old new
 ServesTold risen old i ask (Err (faults.Exception class message)) new =
     ((i ≢ old.active) × (class ≡ standby) × SamePicture old new)

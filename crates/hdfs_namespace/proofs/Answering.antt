@@ -24,7 +24,7 @@ use Rattle.hdfs_model.specs.declared.picture.Entry.TheVariants as entries
 use Rattle.hdfs_model.specs.declared.picture.FileEntry.{FileEntry}
 use Rattle.hdfs_model.specs.Effects.{AddsOneOf, HasOneMore, IsBeingWritten, KeepsBytes}
 use Rattle.hdfs_model.specs.Files.{Directory, ClosedFile, OpenFile, NotFile, no_file, no_file_at, IsTree}
-use Rattle.hdfs_model.specs.Namenode.{Follow, IsOwn, IsShaped, IsToWrite, KeepsOthers, Row, ServesTold, src_of}
+use Rattle.hdfs_model.specs.Namenode.{Follow, IsOwn, IsShaped, IsToWrite, KeepsOthers, ServesTold, src_of}
 use Rattle.hdfs_model.specs.Picture.{Picture, SamePicture, entry_kind, kinds, kinds_in}
 use Rattle.hdfs_model.specs.Sending.{uuids}
 use Rattle.hdfs_model.proofs.Trees.{no_file_there}
@@ -174,27 +174,7 @@ keeps_others p q path same = record {
 
 -- what is answered so is served by the rows
 pub serves_answer : (risen : Type 0) (p q : Picture) (i : ℕ) (ask : Ask) (result : Result Answer AskFault) → Answers p i ask result q → ServesTold risen p i ask result q
-serves_answer risen p q i ask (Ok (answers.GetBlockLocations found)) h = (inl h.0, inl h.1, inl h.3)
-serves_answer risen p q i ask (Ok (answers.GetServerDefaults defaults)) h = (inl h.0, inl h.1, inl h.3)
-serves_answer risen p q i ask (Ok (answers.Create status)) h = (inl h.0, inl h.1, inl h.3)
-serves_answer risen p q i ask (Ok (answers.Append appended)) h = (inl h.0, inl h.1, inl h.3)
-serves_answer risen p q i ask (Ok (answers.AddBlock block)) h = (inl h.0, inl h.1, inl h.3)
-serves_answer risen p q i ask (Ok (answers.Complete true)) h = (inl h.0, inl h.1, inl h.3)
-serves_answer risen p q i ask (Ok (answers.UpdateBlockForPipeline block)) h = (inl h.0, inl h.1, inl h.3)
-serves_answer risen p q i ask (Ok (answers.GetAdditionalDatanode block)) h = (inl h.0, inl h.1, inl h.3)
-serves_answer risen p q i ask (Ok answers.UpdatePipeline) h = (inl h.0, inl h.1, inl h.3)
-serves_answer risen p q i ask (Ok (answers.Complete false)) h = absurd (no_false ask h.3)
-  where
-    no_false : (ask : Ask) → Row p ask (answers.Complete false) q → ⊥
-    no_false (asks.GetBlockLocations src offset length) row = row
-    no_false asks.GetServerDefaults row = row
-    no_false (asks.Create src masked client flag parents replication block_size) row = row
-    no_false (asks.Append src client flag) row = row
-    no_false (asks.AddBlock src client previous excludes file_id) row = row
-    no_false (asks.Complete src client last file_id) row = row
-    no_false (asks.UpdateBlockForPipeline block client) row = row
-    no_false (asks.GetAdditionalDatanode src block existing excludes count client ids) row = row
-    no_false (asks.UpdatePipeline client block block' nodes ids) row = row
+serves_answer risen p q i ask (Ok answer) h = inl (inl h.0, inl h.1, inl h.3)
 serves_answer risen p q i ask (Err faults.NoMemory) h = (h.active, inl h.rest)
 serves_answer risen p q i ask (Err (faults.Exception class message)) h =
     ⊎_elim
