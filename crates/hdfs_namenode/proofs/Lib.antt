@@ -1,1 +1,3 @@
-pub mod Answered
+pub mod Going
+pub mod Relayed
+pub mod Services

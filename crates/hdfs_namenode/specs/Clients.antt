@@ -1,7 +1,9 @@
--- The name of a client, and what a namenode protocol knows.
-use Rattle.std.specs.Prelude.{ℕ, List, ◌++◌, codes, Option}
+-- The name of a client, the service that it asks, and what it knows.
+use Rattle.std.specs.Prelude.{◌≡◌, ℕ, List, ◌++◌, codes, Option}
 use Rattle.hdfs_model.specs.declared.messages.ServerDefaults.{ServerDefaults}
+use Rattle.hdfs_namenode.specs.Asked.{SameService, Through}
 use Rattle.hdfs_namenode.specs.declared.protocol.NamenodeProtocol.{NamenodeProtocol}
+use Rattle.hdfs_namenode.specs.declared.proxy.NameServiceProxy.{NameServiceProxy}
 use Rattle.uuid.specs.Text.{hyphenated_text, lower}
 
 -- the name by which namenodes and datanodes know a client: its sixteen bytes as a UUID in lower-case digits with hyphens
@@ -15,3 +17,17 @@ name_of namenode = namenode.client
 -- the server defaults that it has kept
 abbrev pub defaults_of : NamenodeProtocol → Option ServerDefaults
 defaults_of namenode = namenode.defaults
+
+-- the service that it asks
+abbrev pub proxy_of : NamenodeProtocol → NameServiceProxy
+proxy_of namenode = namenode.proxy
+
+-- a cluster, as it asks its namenodes
+abbrev pub through : {C : Type 0} → NamenodeProtocol → C → Through C
+through namenode cluster = record { cluster = cluster; proxy = namenode.proxy }
+
+-- it asks the same service in the same name, and knows what it knew
+pub record SameClient (namenode namenode' : NamenodeProtocol) : Type 0 where
+  pub service : SameService (proxy_of namenode) (proxy_of namenode')
+  pub name : name_of namenode' ≡ name_of namenode
+  pub defaults : defaults_of namenode' ≡ defaults_of namenode

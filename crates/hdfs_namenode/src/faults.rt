@@ -1,6 +1,7 @@
 //! What an answer and a fault of a namenode are for a caller.
 ghost use Rattle.std.specs.Prelude.{◌≡◌};
-ghost use Rattle.hdfs_model.specs.Namenode.{is_taken};
+ghost use Rattle.hdfs_model.specs.Failover.{passes_on};
+ghost use Rattle.hdfs_model.specs.Namenode.{is_retriable, is_taken};
 ghost use Rattle.hdfs_namenode.specs.Asked.{outcome_of, error_of};
 
 use hdfs_model::{Answer, AskFault, HdfsError};
@@ -41,5 +42,28 @@ pub(crate) fn outcome_of(given: Result<Answer, AskFault>) -> Result<Answer, Hdfs
     match given {
         Ok(answer) => Ok(answer),
         Err(fault) => Err(error_of(fault)),
+    }
+}
+
+/// The exceptions that say that another namenode is to be asked.
+const RETRIABLE: [&str; 2] = [
+    "org.apache.hadoop.ipc.StandbyException",
+    "org.apache.hadoop.ipc.ObserverRetryOnActiveException",
+];
+
+/// Whether the exception says that another namenode is to be asked.
+fn is_retriable(class: &str) -> bool
+    ensures { result ≡ is_retriable class.now }
+{
+    class == RETRIABLE[0] || class == RETRIABLE[1]
+}
+
+/// Whether the next namenode is asked behind this.
+pub(crate) fn passes_on(given: &Result<Answer, AskFault>) -> bool
+    ensures { result ≡ passes_on given.now }
+{
+    match given {
+        Err(AskFault::Exception { class, .. }) => is_retriable(class.as_str()),
+        _ => false,
     }
 }

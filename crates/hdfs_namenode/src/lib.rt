@@ -4,5 +4,7 @@
 mod copies;
 mod faults;
 mod protocol;
+mod proxy;
 
 pub use protocol::NamenodeProtocol;
+pub use proxy::NameServiceProxy;

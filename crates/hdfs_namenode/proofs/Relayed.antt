@@ -1,0 +1,121 @@
+-- What an ask of a service comes to for its caller: over any cluster, and over a told picture.
+use Rattle.std.proofs.Common.{◌≡◌, inl, inr, ℕ, ◌<◌, Bool, true, false, cond, List, Some, refl, sym, ap, subst}
+use Rattle.std.specs.Prelude.{Result, Ok, Err, IfOk, IfErr}
+use Rattle.hdfs_model.specs.declared.asks.Ask.{Ask}
+use Rattle.hdfs_model.specs.declared.asks.Answer.{Answer}
+use Rattle.hdfs_model.specs.declared.asks.AskFault.{AskFault}
+use Rattle.hdfs_model.specs.declared.asks.AskFault.TheVariants as faults
+use Rattle.hdfs_model.specs.declared.errors.HdfsError.{HdfsError}
+use Rattle.hdfs_model.specs.declared.errors.HdfsError.TheVariants as errors
+use Rattle.hdfs_model.specs.declared.picture.LastAnswer.TheVariants as last_answers
+use Rattle.hdfs_model.specs.Causes.{CallsRose}
+use Rattle.hdfs_model.specs.Namenode.{Row, IsShaped, IsFalse, is_taken, last_of}
+use Rattle.hdfs_model.specs.Picture.{Picture}
+use Rattle.hdfs_model.specs.Shown.{Shown, Served}
+use Rattle.hdfs_model.proofs.Frames.{same_picture_refl}
+use Rattle.hdfs_model.proofs.Framing.{Leaves, asked_leaves, leaves_refl}
+use Rattle.hdfs_model.proofs.Relaying.{Comes, Repeats, asked_told}
+use Rattle.hdfs_namenode.specs.Asked.{Asked, AskedNothing, AskedOnce, ReachesAll, Through, error_of, order_of, outcome_of}
+use Rattle.hdfs_namenode.specs.Relaying.{DoneOrNot, RefusedBy, RelaysTold, TellsAsk}
+use Rattle.hdfs_namenode.proofs.Services.{reaches_has, reaches_service, service_below}
+
+-- What an ask leaves over any cluster; its answer is of its ask, and its error tells the last answer of a namenode.
+pub record Relays (old : Shown) (ask : Ask) (result : Result Answer HdfsError) (new : Shown) : Type 0 where
+  pub leaves : Leaves old new
+  pub shaped : IfOk result (IsShaped ask)
+  pub tells : IfErr result (TellsAsk old new)
+  pub fine : IfOk result (λ answer. new.last ≡ last_answers.Fine)
+
+exception_tells : (old new : Shown) (class message : List ℕ) (b : Bool) → is_taken class ≡ b → new.last ≡ last_answers.Exception class message
+    → TellsAsk old new (cond b (errors.AlreadyExists message) (errors.RPCError class message))
+exception_tells old new class message true is last = (class, is, last)
+exception_tells old new class message false is last = (is, last)
+
+relays_given : (old new : Shown) (ask : Ask) (given : Result Answer AskFault) → Leaves old new → IfOk given (IsShaped ask) → new.last ≡ last_of given
+    → Relays old ask (outcome_of given) new
+relays_given old new ask (Ok answer) leaves shaped last = record { leaves = leaves; shaped = shaped; tells = tt; fine = last }
+relays_given old new ask (Err faults.NoMemory) leaves shaped last = record { leaves = leaves; shaped = tt; tells = tt; fine = tt }
+relays_given old new ask (Err (faults.Exception class message)) leaves shaped last =
+    record { leaves = leaves; shaped = tt; tells = exception_tells old new class message (is_taken class) refl last; fine = tt }
+
+-- nothing was asked
+pub relays_nothing : (a : Shown) (ask : Ask) → Relays a ask (Err errors.NoMemory) a
+relays_nothing a ask = record { leaves = leaves_refl a; shaped = tt; tells = tt; fine = tt }
+
+comes_relayed : (risen : Type 0) (p : Picture) (ask : Ask) (given : Result Answer AskFault) (q : Picture) → Comes risen p ask given q
+    → RelaysTold risen p ask (outcome_of given) q
+comes_relayed risen p ask (Ok answer) q comes = comes
+comes_relayed risen p ask (Err fault) q (inl memory) = inl (ap error_of memory.0, memory.1)
+comes_relayed risen p ask (Err fault) q (inr (inl refused)) = inr (inl ((refused.0.0, refused.0.1, refused.0.3, ap error_of refused.0.2), refused.1))
+comes_relayed risen p ask (Err fault) q (inr (inr rose)) = inr (inr rose)
+
+-- what is answered is by the row, but for the answer that a file isn't closed
+pub relayed_row : (risen : Type 0) (p : Picture) (ask : Ask) (answer : Answer) (q : Picture) → (IsFalse answer → ⊥) → RelaysTold risen p ask (Ok answer) q
+    → Row p ask answer q
+relayed_row risen p ask answer q closed (inl row) = row
+relayed_row risen p ask answer q closed (inr denied) = absurd (closed denied.0)
+
+-- whatever came of it, the ask had its effect once, or none
+pub relayed_done : (risen : Type 0) (p : Picture) (ask : Ask) (result : Result Answer HdfsError) (q : Picture) → IfOk result (IsShaped ask)
+    → RelaysTold risen p ask result q → DoneOrNot ask p q
+relayed_done risen p ask (Ok answer) q shaped (inl row) = inr (answer, shaped, row)
+relayed_done risen p ask (Ok answer) q shaped (inr denied) = denied.2
+relayed_done risen p ask (Err error) q shaped (inl memory) = memory.1
+relayed_done risen p ask (Err error) q shaped (inr (inl refused)) = inl refused.1
+relayed_done risen p ask (Err error) q shaped (inr (inr rose)) = rose.1
+
+-- an error that is no want of memory, of an ask that isn't refused, comes only where a namenode has failed
+pub relayed_rose : (risen : Type 0) (p : Picture) (ask : Ask) (error : HdfsError) (q : Picture) → (error ≡ errors.NoMemory → ⊥) → (RefusedBy p ask error → ⊥)
+    → RelaysTold risen p ask (Err error) q → risen
+relayed_rose risen p ask error q some allowed (inl memory) = absurd (some memory.0)
+relayed_rose risen p ask error q some allowed (inr (inl refused)) = absurd (allowed refused.0)
+relayed_rose risen p ask error q some allowed (inr (inr rose)) = rose.0
+
+module _ {C : Type 0} (shown : C → Shown) (serves : C → ℕ → Ask → Result Answer AskFault → C → Type 0)
+    (rows : (old new : C) (i : ℕ) (ask : Ask) (result : Result Answer AskFault) → serves old i ask result new → Served (shown old) i ask result (shown new))
+    (write : Bool) (ask : Ask) (old : Through C) (outcome : Result Answer HdfsError) (new : Through C) where
+  -- over any cluster
+  pub relayed : Asked serves write ask old outcome new → Relays (shown old.cluster) ask outcome (shown new.cluster)
+  relayed asked =
+      let left = asked_leaves shown serves rows ask (order_of old.proxy) asked.last asked.given old.cluster new.cluster asked.asks in
+      subst (λ (r : Result Answer HdfsError). Relays (shown old.cluster) ask r (shown new.cluster)) (sym asked.is)
+      (relays_given (shown old.cluster) (shown new.cluster) ask asked.given left.0 asked.shaped left.1)
+
+  pub relayed_nothing : AskedNothing old outcome new → Relays (shown old.cluster) ask outcome (shown new.cluster)
+  relayed_nothing nothing =
+      subst (λ (r : Result Answer HdfsError). Relays (shown old.cluster) ask r (shown new.cluster)) (sym nothing.is)
+      (subst (λ (t : Through C). Relays (shown old.cluster) ask (Err errors.NoMemory) (shown t.cluster)) (sym nothing.same) (relays_nothing (shown old.cluster) ask))
+
+  pub relayed_once : AskedOnce serves write ask old outcome new → Relays (shown old.cluster) ask outcome (shown new.cluster)
+  relayed_once (inl asked) = relayed asked
+  relayed_once (inr nothing) = relayed_nothing nothing
+
+  -- what is told of it
+  abbrev pub IsTold : Picture → Type 0
+  IsTold p = (q : Picture) × ((shown new.cluster).picture ≡ Some q) × RelaysTold (CallsRose (shown old.cluster).counts (shown new.cluster)) p ask outcome q
+
+  -- over a told picture, where it reaches all namenodes, and the ask may be done again behind an answer that was lost
+  pub relayed_told : (p : Picture) → p.active < (shown old.cluster).namenodes → ReachesAll old.proxy (shown old.cluster) → (shown old.cluster).picture ≡ Some p
+      → Repeats ask p → Asked serves write ask old outcome new → IsTold p
+  relayed_told p active reaches told repeats asked =
+      let came = asked_told shown serves rows ask old.cluster p told repeats (order_of old.proxy) asked.last asked.given new.cluster
+      (service_below old.proxy (shown old.cluster) (reaches_service old.proxy (shown old.cluster) reaches))
+      (reaches_has old.proxy (shown old.cluster) p.active reaches active) asked.asks in
+      let risen = CallsRose (shown old.cluster).counts (shown new.cluster) in (
+        came.0,
+        came.1,
+        subst (λ (r : Result Answer HdfsError). RelaysTold risen p ask r came.0) (sym asked.is) (comes_relayed risen p ask asked.given came.0 came.2),
+      )
+
+  pub told_nothing : (p : Picture) → (shown old.cluster).picture ≡ Some p → AskedNothing old outcome new → IsTold p
+  told_nothing p told nothing =
+      let risen = CallsRose (shown old.cluster).counts (shown new.cluster) in (
+        p,
+        subst (λ (t : Through C). (shown t.cluster).picture ≡ Some p) (sym nothing.same) told,
+        subst (λ (r : Result Answer HdfsError). RelaysTold risen p ask r p) (sym nothing.is) (inl (refl, inl (same_picture_refl p).rest)),
+      )
+
+  pub relayed_told_once : (p : Picture) → p.active < (shown old.cluster).namenodes → ReachesAll old.proxy (shown old.cluster) → (shown old.cluster).picture ≡ Some p
+      → Repeats ask p → AskedOnce serves write ask old outcome new → IsTold p
+  relayed_told_once p active reaches told repeats (inl asked) = relayed_told p active reaches told repeats asked
+  relayed_told_once p active reaches told repeats (inr nothing) = told_nothing p told nothing

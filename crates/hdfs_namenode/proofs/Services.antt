@@ -1,0 +1,67 @@
+-- Services of namenodes: what is kept of them from call to call, and that one that has all namenodes asks each of them.
+use Rattle.std.proofs.Common.{◌≡◌, ℕ, ◌<◌, refl, sym, ◌∙◌, arith}
+use Rattle.hdfs_model.specs.Shown.{Shown, Later}
+use Rattle.hdfs_model.proofs.Ordering.{order_below, order_has}
+use Rattle.hdfs_model.proofs.Relaying.{Below, Has}
+use Rattle.hdfs_namenode.specs.Asked.{IsNew, IsServiceOf, ReachesAll, SameService, order_of}
+use Rattle.hdfs_namenode.specs.Clients.{SameClient, proxy_of}
+use Rattle.hdfs_namenode.specs.declared.protocol.NamenodeProtocol.{NamenodeProtocol}
+use Rattle.hdfs_namenode.specs.declared.proxy.NameServiceProxy.{NameServiceProxy}
+
+pub same_service_refl : (proxy : NameServiceProxy) → SameService proxy proxy
+same_service_refl proxy = record { first = refl; count = refl; within = λ shown of. of }
+
+pub same_service_trans : (a b c : NameServiceProxy) → SameService a b → SameService b c → SameService a c
+same_service_trans a b c f g = record {
+  first = g.first ∙ f.first;
+  count = g.count ∙ f.count;
+  within = λ shown of. g.within shown (f.within shown of);
+}
+
+pub same_client_refl : (a : NamenodeProtocol) → SameClient a a
+same_client_refl a = record { service = same_service_refl (proxy_of a); name = refl; defaults = refl }
+
+pub same_client_trans : (a b c : NamenodeProtocol) → SameClient a b → SameClient b c → SameClient a c
+same_client_trans a b c f g = record {
+  service = same_service_trans (proxy_of a) (proxy_of b) (proxy_of c) f.service g.service;
+  name = g.name ∙ f.name;
+  defaults = g.defaults ∙ f.defaults;
+}
+
+-- a service of all namenodes that the cluster has is one of the cluster's namenodes
+pub reaches_service : (proxy : NameServiceProxy) (s : Shown) → ReachesAll proxy s → IsServiceOf proxy s
+reaches_service proxy s r = record {
+  within = omega (arith, r.first, r.all);
+  from = omega (arith, r.first);
+  below = omega (arith, r.first, r.below);
+}
+
+-- it begins so
+pub reaches_new : (from many : ℕ) (proxy : NameServiceProxy) (s : Shown) → IsNew from many proxy → from ≡ 0 → many ≡ s.namenodes → 0 < many → ReachesAll proxy s
+reaches_new from many proxy s new first all some = record {
+  first = new.first ∙ first;
+  all = new.count ∙ all;
+  below = omega (arith, new.remembered, new.count, first, some);
+}
+
+-- it stays so from call to call
+pub reaches_same : (proxy proxy' : NameServiceProxy) (s s' : Shown) → SameService proxy proxy' → s'.namenodes ≡ s.namenodes → ReachesAll proxy s → ReachesAll proxy' s'
+reaches_same proxy proxy' s s' same namenodes r =
+    let of = same.within s (reaches_service proxy s r) in
+    record { first = same.first ∙ r.first; all = same.count ∙ r.all ∙ sym namenodes; below = omega (arith, of.below, same.first, same.count, r.first) }
+
+pub reaches_later : (proxy proxy' : NameServiceProxy) (s s' : Shown) → SameService proxy proxy' → Later s s' → ReachesAll proxy s → ReachesAll proxy' s'
+reaches_later proxy proxy' s s' same later r = reaches_same proxy proxy' s s' same later.namenodes r
+
+pub service_later : (proxy proxy' : NameServiceProxy) (s s' : Shown) → SameService proxy proxy' → Later s s' → IsServiceOf proxy s → IsServiceOf proxy' s'
+service_later proxy proxy' s s' same later of =
+    let now = same.within s of in
+    record { within = omega (arith, now.within, later.namenodes); from = now.from; below = now.below }
+
+-- each namenode that a service asks is one of the cluster's
+pub service_below : (proxy : NameServiceProxy) (s : Shown) → IsServiceOf proxy s → Below s.namenodes (order_of proxy)
+service_below proxy s of = order_below s.namenodes proxy.remembered proxy.first proxy.count (omega (arith, of.below, of.within)) of.within
+
+-- and where it has all of them, each one of the cluster's is asked
+pub reaches_has : (proxy : NameServiceProxy) (s : Shown) (a : ℕ) → ReachesAll proxy s → a < s.namenodes → Has a (order_of proxy)
+reaches_has proxy s a r low = order_has proxy.remembered proxy.first proxy.count a (omega (arith, r.first)) (omega (arith, r.first, r.all, low))
