@@ -17,10 +17,12 @@ use Rattle.hdfs_recovery.specs.declared.block_plan.RebuildSettings.{RebuildSetti
 use Rattle.hdfs_recovery.specs.declared.block_plan.WriteFault.{WriteFault}
 use Rattle.hdfs_block_writer.specs.declared.block_writer.BlockWriter.{BlockWriter}
 use Rattle.hdfs_block_writer.specs.BlockWriters.{Carries, GoesOver, IsKept, link_in, link_of, safe_of, start_of}
-use Rattle.hdfs_block_writer.specs.OpenPipelines.{ChangesBlock, Finishes, GivesUp, IsOver, KeepsBlock, OnlyOwnLink, RebuiltOnFailures, id_of}
+use Rattle.hdfs_recovery.specs.Between.{OnlyBlockOf}
+use Rattle.hdfs_recovery.proofs.Stepping.{only_block_of_trans}
+use Rattle.hdfs_block_writer.specs.OpenPipelines.{Finishes, GivesUp, IsOver, KeepsBlock, OnlyOwnLink, RebuiltOnFailures, id_of}
 use Rattle.hdfs_block_writer.specs.Pushing.{CanPush, FinishesNot, IsEnding, Pushes, PushesNot}
 use Rattle.hdfs_block_writer.specs.Written.{Closes, EndsBlock, Ends, GaveUp, IsCarrying, Wrote}
-use Rattle.hdfs_block_writer.proofs.GoingOn.{changes_trans, gives_up_since, keeps_block_trans, since_steady, steady_end}
+use Rattle.hdfs_block_writer.proofs.GoingOn.{gives_up_since, keeps_block_trans, since_steady, steady_end}
 use Rattle.hdfs_block_writer.proofs.OwnLinks.{own_link_trans}
 use Rattle.hdfs_block_writer.proofs.Sent.{can_push, not_pushed, over_then}
 use Rattle.hdfs_block_writer.proofs.Wrote.{pipe_is, same_id}
@@ -69,7 +71,7 @@ module _ (w : BlockWriter) (pipe : BlockPipeline) (packet : Outgoing) (a : Shown
 
     -- what the writer carries is over the pipeline then
     over_now : (p : Picture) → a.picture ≡ Some p → IsCarrying w p
-        → (q : Picture) × (b.picture ≡ Some q) × IsOver pipe' [] q × ChangesBlock (id_of pipe) a p b q
+        → (q : Picture) × (b.picture ≡ Some q) × IsOver pipe' [] q × OnlyBlockOf (id_of pipe) p q
     over_now p told c =
         let has = over_then w pipe packet is kept.filled starts_before empty last.begins p c.0 c.1 in
         let m = pushed.continues.told p (safe_of w pipe) c.0 told has in
@@ -79,16 +81,16 @@ module _ (w : BlockWriter) (pipe : BlockPipeline) (packet : Outgoing) (a : Shown
       -- it isn't acknowledged
       pub not_finished : (fault : WriteFault) → FinishesNot w.settings b pipe' fault z → GaveUp a w fault z
       not_finished fault not other there =
-          subst (λ (y : BlockPipeline). GivesUp w.settings y.plan.rebuilds (IsCarrying w) (id_of y) y.link a fault z) (pipe_is pipe other (sym is ∙ there))
-          (gives_up_since w.settings pipe.plan.rebuilds pipe'.plan.rebuilds (IsCarrying w) (IsOver pipe' []) (id_of pipe) pipe.link pipe'.link a b z
-          (since_steady a b pipe pipe' pushed.continues.own.later pushed.continues.steady) pushed.continues.own over_now fault
-          (subst (λ (i : ℕ). GivesUp w.settings pipe'.plan.rebuilds (IsOver pipe' []) i pipe'.link b fault z) pushed.continues.keeps.id not))
+          subst (λ (y : BlockPipeline). GivesUp w.settings y (IsCarrying w) a fault z) (pipe_is pipe other (sym is ∙ there))
+          (gives_up_since w.settings pipe pipe' (IsCarrying w) (IsOver pipe' []) a b z
+          (since_steady a b pipe pipe' pushed.continues.own.later pushed.continues.steady) pushed.continues.own pushed.continues.keeps.id over_now
+          fault not)
 
       -- All are acknowledged.
       module _ (plan : BlockPlan) (f : Finishes w.settings b pipe' z plan) where
         whole : (p : Picture) (bytes : List ℕ) → a.picture ≡ Some p → Carries p w bytes
             → (q : Picture) × (z.picture ≡ Some q) × HoldsWhole q (id_of pipe) w.length (uuids plan.block.locs) bytes
-            × ChangesBlock (id_of pipe) a p z q
+            × OnlyBlockOf (id_of pipe) p q
         whole p bytes told c =
             let has = over_then w pipe packet is kept.filled starts_before empty last.begins p bytes c in
             let m = pushed.continues.told p (safe_of w pipe) bytes told has in
@@ -99,8 +101,7 @@ module _ (w : BlockWriter) (pipe : BlockPipeline) (packet : Outgoing) (a : Shown
               x.1,
               subst (λ (k : ℕ). HoldsWhole x.0 (id_of pipe) k (uuids plan.block.locs) bytes) (sym c.counted)
                   (subst (λ (i : ℕ). HoldsWhole x.0 i (length bytes) (uuids plan.block.locs) bytes) pushed.continues.keeps.id x.2),
-              changes_trans (id_of pipe) a b z p m.0 x.0 pushed.continues.own.later f.own.later m.3
-                  (subst (λ (i : ℕ). ChangesBlock i b m.0 z x.0) pushed.continues.keeps.id x.3),
+              only_block_of_trans (id_of pipe) p m.0 x.0 m.3 (subst (λ (i : ℕ). OnlyBlockOf i m.0 x.0) pushed.continues.keeps.id x.3),
             )
 
         ends : Ends a w plan z
@@ -120,7 +121,7 @@ module _ (w : BlockWriter) (pipe : BlockPipeline) (packet : Outgoing) (a : Shown
                 x.0,
                 x.1,
                 subst (λ (y : BlockPipeline). HoldsWhole x.0 (id_of y) w.length (uuids plan.block.locs) bytes) same x.2,
-                subst (λ (y : BlockPipeline). ChangesBlock (id_of y) a p z x.0) same x.3,
+                subst (λ (y : BlockPipeline). OnlyBlockOf (id_of y) p x.0) same x.3,
               );
         }
 
@@ -153,8 +154,7 @@ closes_after a b c w x block f g =
               subst (λ (i : ℕ). HoldsWhole n.0 i w.length (uuids plan.block.locs) bytes) id
                   (subst (λ (l : ℕ). HoldsWhole n.0 (id_of m.2.pipe) l (uuids plan.block.locs) bytes) len
                   (subst (HoldsWhole n.0 (id_of m.2.pipe) x.length (uuids plan.block.locs)) (append-nil bytes) n.2)),
-              changes_trans (id_of carried.pipe) a b c p m.0 n.0 f.own.later e.own.later m.3
-                  (subst (λ (i : ℕ). ChangesBlock i b m.0 c n.0) id n.3),
+              only_block_of_trans (id_of carried.pipe) p m.0 n.0 m.3 (subst (λ (i : ℕ). OnlyBlockOf i m.0 n.0) id n.3),
             );
       },
     )

@@ -11,7 +11,7 @@ use Rattle.hdfs_model.specs.Counts.{Rose}
 use Rattle.hdfs_model.specs.Pipes.{WriteEnded}
 use Rattle.hdfs_model.specs.Sending.{uuids}
 use Rattle.hdfs_model.specs.Shown.{Shown, Later}
-use Rattle.hdfs_model.proofs.Frames.{later_trans, rose_since}
+use Rattle.hdfs_model.proofs.Frames.{later_refl, later_trans, rose_since}
 use Rattle.hdfs_pipeline.specs.Driving.{Drove, StopsShort}
 use Rattle.hdfs_pipeline.specs.Pipelines.{Bad, Pipeline}
 use Rattle.hdfs_recovery.specs.declared.block_plan.BlockPipeline.{BlockPipeline}
@@ -25,10 +25,10 @@ use Rattle.hdfs_recovery.specs.Plans.{without}
 use Rattle.hdfs_block_writer.specs.Pushing.{FallsFor}
 use Rattle.hdfs_recovery.specs.Trying.{HaveFailed}
 use Rattle.hdfs_block_writer.proofs.Failures.{fails_until}
-use Rattle.hdfs_block_writer.proofs.LettingGo.{gone_active, gone_only, gone_picture, gone_told, known_of, own_none, stopped_only, until_gone, until_stopped}
+use Rattle.hdfs_block_writer.proofs.LettingGo.{gone_only, gone_picture, gone_told, known_of, own_none, stopped_only, until_gone, until_stopped}
 use Rattle.hdfs_block_writer.proofs.Missing.{MissedSince}
-use Rattle.hdfs_block_writer.proofs.Rebuilt.{FallsOff, before, changes_behind, missed_since, safe_then, some_rose, task, then_active, then_picture, then_told, then_waits, until}
-use Rattle.hdfs_recovery.proofs.Stepping.{keeps_links_refl, keeps_links_trans}
+use Rattle.hdfs_block_writer.proofs.Rebuilt.{FallsOff, before, missed_since, only_behind, safe_then, some_rose, task, then_picture, then_told, then_waits, until}
+use Rattle.hdfs_recovery.proofs.Stepping.{calls_rose_since, keeps_links_refl, keeps_links_trans, tells_since}
 
 -- where nothing is left of some items, the first was left out
 first_gone : (b : Bool) (xs ys : List DatanodeInfo) (item : DatanodeInfo) → cond b xs (item ∷ ys) ≡ [] → (b ≡ true) × (xs ≡ [])
@@ -81,22 +81,14 @@ module _ (settings : RebuildSettings) (client : List ℕ) (a : Shown) (pipe : Bl
           rose_since a.counts.links then.shown.counts.links new.counts.links new.counts.links chain.later.counts.links rose (omega arith)
 
       namenode_fails : NamenodeFailed then.plan then.shown new → NamenodeFails (IsOver pipe (came ++ more)) a new
-      namenode_fails fails p told over active =
-          ⊎_elim
-          (λ still.
-          rose_since (a.counts.calls 0) (then.shown.counts.calls 0) (new.counts.calls 0) (new.counts.calls 0) (chain.later.counts.calls 0)
+      namenode_fails fails p told over =
+          calls_rose_since a then.shown new new chain.later (later_refl new)
           (fails (then_picture settings client a pipe came last z m failed fell bytes unsent below then chain more p over.0 over.1 told over.2)
           (known_of then.plan
           (safe_then settings client a pipe came last z m failed fell bytes unsent below then chain more p over.0 over.1 told over.2)
           over.1)
           (then_told settings client a pipe came last z m failed fell bytes unsent below then chain more p over.0 over.1 told over.2)
-          (then_waits settings client a pipe came last z m failed fell bytes unsent below then chain more p over.0 over.1 told over.2)
-          (still ∙ active))
-          (omega arith))
-          (λ rose.
-          rose_since (a.counts.calls 0) (a.counts.calls 0) (then.shown.counts.calls 0) (new.counts.calls 0) (omega arith) rose
-          (none.links.later.counts.calls 0))
-          (then_active settings client a pipe came last z m failed fell bytes unsent below then chain more p over.0 over.1 told over.2)
+          (then_waits settings client a pipe came last z m failed fell bytes unsent below then chain more p over.0 over.1 told over.2))
 
       -- None of the datanodes was left, and nothing was done.
       all_listed : without 0 then.failed then.plan.block.locs ≡ [] → new ≡ then.shown
@@ -156,7 +148,7 @@ module _ (settings : RebuildSettings) (client : List ℕ) (a : Shown) (pipe : Bl
           (fails_until (suc chain.times) a then.shown new chain.fails none.links.later)
 
       cause : (f : WriteFault) → HasRebuildCause (task settings client a pipe came last z m failed fell bytes unsent below) then f new
-          → HasCause settings pipe.plan.rebuilds (IsOver pipe (came ++ more)) (id_of pipe) a f new
+          → HasCause settings pipe.plan (IsOver pipe (came ++ more)) a f new
       cause faults.NoMemory why = tt
       cause faults.Failed why = absurd why
       cause faults.Link why = (node_rose, links_rose why)
@@ -166,9 +158,9 @@ module _ (settings : RebuildSettings) (client : List ℕ) (a : Shown) (pipe : Bl
       cause faults.NoReplacement why =
           (why.1, node_rose, ⊎_elim (λ links. inl (links_rose links)) (λ namenode. inr (namenode_fails namenode)) why.2, some_listed why.3)
       cause (faults.RebuildLimit rebuilds) why = (why.0 ∙ why.1, fail_times why.1, some_listed (same_entry why.2))
-      cause (faults.Namenode error) why = (why.0, why.1, node_rose, namenode_fails why.2)
+      cause (faults.Namenode error) why = (why.0, tells_since a then.shown new new error refl why.1, node_rose, namenode_fails why.2)
 
-      pub gives_up : GivesUp settings pipe.plan.rebuilds (IsOver pipe (came ++ more)) (id_of pipe) pipe.link a fault new
+      pub gives_up : GivesUp settings pipe (IsOver pipe (came ++ more)) a fault new
       gives_up = record {
         own =
             own_none pipe.link a m new (until settings client a pipe came last z m failed fell bytes unsent below) fell.gone.ended links_now;
@@ -183,8 +175,8 @@ module _ (settings : RebuildSettings) (client : List ℕ) (a : Shown) (pipe : Bl
             (then_waits settings client a pipe came last z m failed fell bytes unsent below then chain more p over.0 over.1 told over.2) in (
               x.0,
               x.1,
-              changes_behind settings client a pipe came last z m failed fell bytes unsent below then chain more p over.0 over.1 told over.2 x.0
-                  new none.links.later x.2 x.3,
+              only_behind settings client a pipe came last z m failed fell bytes unsent below then chain more p over.0 over.1 told over.2 x.0
+                  x.2,
             );
       }
 
@@ -209,10 +201,7 @@ bad_given_up settings a pipe came last z m seqno said drove gone going is some m
   touches = λ p told over. (
     gone_picture pipe came last a z m drove gone (inr going) some more p over.0 over.1 told over.2,
     gone_told pipe came last a z m drove gone (inr going) some more p over.0 over.1 told over.2,
-    (
-      gone_only pipe came last a z m drove gone (inr going) some more p over.0 over.1 told over.2,
-      inl (gone_active pipe came last a z m drove gone (inr going) some more p over.0 over.1 told over.2),
-    ),
+    gone_only pipe came last a z m drove gone (inr going) some more p over.0 over.1 told over.2,
   );
 }
 
@@ -224,5 +213,5 @@ stopped_given_up settings a pipe came core z y m drove stops gone goes more = re
   own = own_none pipe.link a m m (until_stopped pipe came core a z y m drove stops gone goes) gone.ended (keeps_links_refl m);
   cause = tt;
   touches = λ p told over.
-      let x = stopped_only pipe came core a z y m drove stops gone goes more p over.0 over.1 told over.2 in (x.0, x.1, (x.2, inl x.3));
+      let x = stopped_only pipe came core a z y m drove stops gone goes more p over.0 over.1 told over.2 in (x.0, x.1, x.2);
 }

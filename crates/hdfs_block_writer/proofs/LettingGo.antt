@@ -104,7 +104,7 @@ module _ (pipe : BlockPipeline) (came : List Outgoing) (last : Pipeline) (a z m 
   module _ (some : 0 < length pipe.plan.block.locs) (more : List Outgoing) (p : Picture) (safe : ℕ) (bytes : List ℕ) (told : a.picture ≡ Some p)
       (has : Has p pipe (came ++ more) safe bytes) where
     abbrev driven : (q : Picture) × (z.picture ≡ Some q) × Has q (record pipe { core = last }) more (now_safe safe) bytes
-        × OnlyBlockOf (id_of pipe) p q × (q.active ≡ p.active)
+        × OnlyBlockOf (id_of pipe) p q
     driven = has_drove pipe came more a z last drove goes p safe bytes told has
 
     abbrev released : (r : Picture) × (m.picture ≡ Some r) × Releases pipe.link driven.0 r
@@ -120,9 +120,6 @@ module _ (pipe : BlockPipeline) (came : List Outgoing) (last : Pipeline) (a z m 
     gone_only =
         only_block_of_trans (id_of pipe) p driven.0 released.0 driven.3
         (released_only (id_of pipe) pipe.link driven.0 released.0 driven.2.on.place driven.2.on.told driven.2.on.block released.2)
-
-    pub gone_active : gone_picture.active ≡ p.active
-    gone_active = released.2.0.records.active ∙ driven.4
 
     pub gone_slices : AreSlices bytes (now_safe safe) (last.pushed ++ more)
     gone_slices = driven.2.slices
@@ -154,7 +151,7 @@ module _ (pipe : BlockPipeline) (came : List Outgoing) (core : Pipeline) (a z y 
 
   pub stopped_only : (more : List Outgoing) (p : Picture) (safe : ℕ) (bytes : List ℕ) → a.picture ≡ Some p
       → Has p pipe (came ++ more) safe bytes
-      → (q : Picture) × (m.picture ≡ Some q) × OnlyBlockOf (id_of pipe) p q × (q.active ≡ p.active)
+      → (q : Picture) × (m.picture ≡ Some q) × OnlyBlockOf (id_of pipe) p q
   stopped_only more p safe bytes told has =
       let d = has_drove pipe came more a z core drove goes p safe bytes told has in
       let s = stops.told d.0 d.2.on.place d.2.on.settled d.1 d.2.on.told d.2.settles in
@@ -166,5 +163,4 @@ module _ (pipe : BlockPipeline) (came : List Outgoing) (core : Pipeline) (a z y 
             (subst (λ (i : ℕ). OnlyBlockOf i d.0 s.0) d.2.on.block
             (only_block_of-only d.2.on.place.block d.2.on.place.nodes d.0 s.0 s.4.only))
             (released_only (id_of pipe) pipe.link s.0 e.0 s.1 s.3 (s.4.moves.block ∙ d.2.on.block) e.2)),
-        e.2.0.records.active ∙ s.4.only.records.active ∙ d.4,
       )

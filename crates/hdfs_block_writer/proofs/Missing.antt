@@ -1,5 +1,5 @@
 -- Attempts to rebuild a pipeline have failed, one behind another.
-use Rattle.std.proofs.Common.{◌≡◌, inl, ℕ, zero, suc, ◌+◌, List, [], length, Some, refl, sym, ◌∙◌, subst, arith}
+use Rattle.std.proofs.Common.{◌≡◌, ℕ, zero, suc, ◌+◌, List, [], length, Some, refl, sym, ◌∙◌, subst, arith}
 use Rattle.std.specs.List.{slice_index_or}
 use Rattle.hdfs_model.specs.Causes.{SomeNodeRose}
 use Rattle.hdfs_model.specs.Namenode.{IsToWrite}
@@ -11,12 +11,12 @@ use Rattle.hdfs_pipeline.specs.Places.{ArePlaces}
 use Rattle.hdfs_blocks.specs.Carrying.{AreSlices}
 use Rattle.hdfs_recovery.specs.declared.block_plan.BlockPlan.{BlockPlan}
 use Rattle.hdfs_recovery.specs.Attempts.{Missed, MissedTimes, Standing, Task}
-use Rattle.hdfs_recovery.specs.Between.{KeepsLinks, OnlyBlockOf, SameActive}
+use Rattle.hdfs_recovery.specs.Between.{KeepsLinks, OnlyBlockOf}
 use Rattle.hdfs_recovery.specs.Plans.{KeepsPlan, Waits}
 use Rattle.hdfs_recovery.specs.Trying.{HaveFailed}
 use Rattle.hdfs_block_writer.specs.OpenPipelines.{NodesFailTimes}
 use Rattle.hdfs_block_writer.proofs.LettingGo.{known_of}
-use Rattle.hdfs_recovery.proofs.Stepping.{keeps_links_refl, keeps_links_trans, only_block_of_refl, only_block_of_trans, same_active_trans}
+use Rattle.hdfs_recovery.proofs.Stepping.{keeps_links_refl, keeps_links_trans, only_block_of_refl, only_block_of_trans}
 
 pub keeps_plan_refl : (plan : BlockPlan) → KeepsPlan plan plan
 keeps_plan_refl plan = record { src = refl; pool = refl; id = refl; length = refl; replication = refl; created = refl; chunk = refl }
@@ -53,7 +53,7 @@ pub record MissedSince (a : Shown) (task : Task) (before last : Standing) : Type
   pub told : (p : Picture) (safe : ℕ) (bytes : List ℕ) → before.shown.picture ≡ Some p
       → Waits p before.plan (known_of before.plan safe bytes) → AreSlices bytes safe task.replay
       → (q : Picture) × (last.shown.picture ≡ Some q) × Waits q last.plan (known_of last.plan safe bytes)
-      × OnlyBlockOf before.plan.block.b.block_id p q × SameActive before.shown p last.shown q
+      × OnlyBlockOf before.plan.block.b.block_id p q
 
 -- none was made yet
 pub none_missed : (a : Shown) (task : Task) (before : Standing) → Later a before.shown → IsToWrite before.plan.block
@@ -69,7 +69,7 @@ none_missed a task before later block places failed = record {
   fails = (a, later_refl a, later, some_failed a before.shown before.plan before.failed places failed);
   places = places;
   failed = failed;
-  told = λ p safe bytes is waits slices. (p, is, waits, only_block_of_refl before.plan.block.b.block_id p, inl refl);
+  told = λ p safe bytes is waits slices. (p, is, waits, only_block_of_refl before.plan.block.b.block_id p);
 }
 
 -- one more has failed
@@ -99,7 +99,6 @@ one_missed a task before between after f g =
             y.1,
             y.2,
             only_block_of_trans id p x.0 y.0 x.3 (subst (λ (i : ℕ). OnlyBlockOf i x.0 y.0) f.keeps.id y.3),
-            same_active_trans before.shown between.shown after.shown p x.0 y.0 f.links.later g.begins.later x.4 y.4,
           );
     }
 

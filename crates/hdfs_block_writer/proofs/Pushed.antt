@@ -17,10 +17,10 @@ use Rattle.hdfs_recovery.specs.declared.block_plan.WriteFault.TheVariants as fau
 use Rattle.hdfs_recovery.specs.Between.{OnlyBlockOf}
 use Rattle.hdfs_recovery.proofs.Resuming.{released_only}
 use Rattle.hdfs_recovery.proofs.Stepping.{only_block_of-only, only_block_of_trans}
-use Rattle.hdfs_block_writer.specs.OpenPipelines.{ChangesBlock, Continues, Has, id_of}
-use Rattle.hdfs_block_writer.specs.Pushing.{CanPush, GoesOnBehind, Pushes, PushesNot, PushesOrNot, with_core}
+use Rattle.hdfs_block_writer.specs.OpenPipelines.{Continues, Has, id_of, traffic}
+use Rattle.hdfs_block_writer.specs.Pushing.{CanPush, GoesOnBehind, Pushes, PushesNot, PushesOnce, with_core}
 use Rattle.hdfs_block_writer.proofs.Driven.{has_drove, total_take}
-use Rattle.hdfs_block_writer.proofs.GoingOn.{changes_trans, keeps_block_refl, keeps_block_trans, steady_trans}
+use Rattle.hdfs_block_writer.proofs.GoingOn.{keeps_block_refl, keeps_block_trans, steady_trans}
 use Rattle.hdfs_block_writer.proofs.OwnLinks.{own_link_ended, own_link_on, own_link_trans}
 use Rattle.hdfs_block_writer.proofs.Standing.{standing_drove}
 
@@ -58,7 +58,7 @@ module _ (settings : RebuildSettings) (a b : Shown) (pipe : BlockPipeline) (byte
       standing = standing_drove settings pipe (packet ∷ []) [] core' a b drove is_core can.standing;
       told = λ p safe bytes told has.
           let d = has_drove pipe (packet ∷ []) [] a b core' drove (inr can.going) p safe bytes told has in
-          (d.0, d.1, d.2, (d.3, inl d.4));
+          (d.0, d.1, d.2, d.3);
     };
     behind = behind;
   }
@@ -67,7 +67,7 @@ module _ (settings : RebuildSettings) (a b : Shown) (pipe : BlockPipeline) (byte
 pub pushed_or_not : (settings : RebuildSettings) (a b : Shown) (pipe : BlockPipeline) (bytes : ℕ) (packet : Outgoing) (core' : Pipeline)
     (back : Option Outgoing) → CanPush settings a pipe bytes packet → Drove pipe.link (taken_in packet back) pipe.core a core' b → IsCore core'
     → IsGivenBack packet back pipe.core core' → core'.end ≡ None → (core'.end ≡ None → EndsWith b pipe.link packet)
-    → PushesOrNot settings a pipe packet back b (with_core pipe core')
+    → PushesOnce settings a pipe packet (record { pipe = with_core pipe core'; back = back }) b
 pushed_or_not settings a b pipe bytes packet core' None can drove is_core given going ends =
     pushed_on settings a b pipe bytes packet core' can drove is_core going (ends going)
 pushed_or_not settings a b pipe bytes packet core' (Some back) can drove is_core given going ends = absurd (cc (given.1, going))
@@ -84,19 +84,16 @@ push_stopped settings a b z pipe packet stops gone = record {
       let e = told_after (Releases pipe.link) b.picture z.picture s.0 gone.released s.2 in (
         e.0,
         e.1,
-        (
-          only_block_of_trans (id_of pipe) p s.0 e.0
-              (subst (λ (i : ℕ). OnlyBlockOf i p s.0) has.on.block (only_block_of-only has.on.place.block has.on.place.nodes p s.0 s.4.only))
-              (released_only (id_of pipe) pipe.link s.0 e.0 s.1 s.3 (s.4.moves.block ∙ has.on.block) e.2),
-          inl (e.2.0.records.active ∙ s.4.only.records.active),
-        ),
+        only_block_of_trans (id_of pipe) p s.0 e.0
+            (subst (λ (i : ℕ). OnlyBlockOf i p s.0) has.on.block (only_block_of-only has.on.place.block has.on.place.nodes p s.0 s.4.only))
+            (released_only (id_of pipe) pipe.link s.0 e.0 s.1 s.3 (s.4.moves.block ∙ has.on.block) e.2),
       );
 }
 
 -- A pipeline goes on with no packet more, and then with some.
 pub continues_trans : (settings : RebuildSettings) (a b c : Shown) (x y z : BlockPipeline) (m n : ℕ) (came more : List Outgoing)
-    → Continues settings a x m [] (came ++ more) b y → Continues settings b y n came more c z
-    → Continues settings a x (m + n) came more c z
+    → Continues settings a x (traffic m [] (came ++ more)) b y → Continues settings b y (traffic n came more) c z
+    → Continues settings a x (traffic (m + n) came more) c z
 continues_trans settings a b c x y z m n came more f g =
     let left : y.core.pushed ≡ drop m x.core.pushed = f.pushed ∙ append-nil (drop m x.core.pushed) in
     let safe : total (take m x.core.pushed) + total (take n y.core.pushed) ≡ total (take (m + n) x.core.pushed) =
@@ -117,7 +114,6 @@ continues_trans settings a b c x y z m n came more f g =
             two.0,
             two.1,
             subst (λ (k : ℕ). Has two.0 z more k bytes) (omega (arith, safe)) two.2,
-            changes_trans (id_of x) a b c p one.0 two.0 f.own.later g.own.later one.3
-                (subst (λ (i : ℕ). ChangesBlock i b one.0 c two.0) f.keeps.id two.3),
+            only_block_of_trans (id_of x) p one.0 two.0 one.3 (subst (λ (i : ℕ). OnlyBlockOf i one.0 two.0) f.keeps.id two.3),
           );
     }

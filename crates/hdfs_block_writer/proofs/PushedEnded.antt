@@ -15,7 +15,7 @@ use Rattle.hdfs_recovery.specs.declared.block_plan.RebuildSettings.{RebuildSetti
 use Rattle.hdfs_recovery.specs.declared.block_plan.WriteFault.{WriteFault}
 use Rattle.hdfs_block_writer.specs.OpenPipelines.{IsStanding}
 use Rattle.hdfs_recovery.specs.Plans.{NoneEndsBefore}
-use Rattle.hdfs_block_writer.specs.Pushing.{CameFrom, CanPush, FallsEnded, PushesOrNot, PushesNot, RebuildsEnded, bytes_in, with_core}
+use Rattle.hdfs_block_writer.specs.Pushing.{CameFrom, CanPush, FallsEnded, PushesNot, PushesOnce, RebuildsEnded, bytes_in, with_core}
 use Rattle.hdfs_block_writer.proofs.Standing.{standing_drove}
 
 follow_front : (front rest : List Outgoing) (start : ℕ) → FollowFrom start (front ++ rest) → FollowFrom start front
@@ -98,7 +98,8 @@ module _ (settings : RebuildSettings) (a b : Shown) (pipe : BlockPipeline) (byte
   module _ (z : Shown) where
     -- it is rebuilt
     pub back_rebuilt : (back : Option Outgoing) → Drove pipe.link (taken_in packet back) pipe.core a core' b → IsGivenBack packet back pipe.core core'
-        → (pipe' : BlockPipeline) → RebuildsEnded settings b (with_core pipe core') z pipe' → PushesOrNot settings a pipe packet back z pipe'
+        → (pipe' : BlockPipeline) → RebuildsEnded settings b (with_core pipe core') z pipe'
+        → PushesOnce settings a pipe packet (record { pipe = pipe'; back = back }) z
     back_rebuilt None drove given pipe' rebuilds =
         let r = rebuilds a pipe.core (packet ∷ []) (came_from (packet ∷ []) drove) in
         record { going = r.going; acknowledged = r.acknowledged; continues = r.continues [] can.standing; behind = r.behind }

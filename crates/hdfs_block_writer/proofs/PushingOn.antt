@@ -4,7 +4,7 @@ use Rattle.std.specs.List.{All}
 use Rattle.std.proofs.lemmas.List.{append-nil, drop-append-le, length-append, length-drop}
 use Rattle.std.proofs.lemmas.List.Elements.{All-drop}
 use Rattle.hdfs_wire.specs.Outgoing.{Outgoing}
-use Rattle.hdfs_model.specs.Shown.{Shown}
+use Rattle.hdfs_model.specs.Shown.{Shown, Later}
 use Rattle.hdfs_pipeline.specs.Driving.{EndsInLast, IsNotLast}
 use Rattle.hdfs_blocks.specs.Carrying.{HoldsWhole, total}
 use Rattle.hdfs_blocks.proofs.Prefixes.{total_cut}
@@ -13,15 +13,17 @@ use Rattle.hdfs_recovery.specs.declared.block_plan.BlockPlan.{BlockPlan}
 use Rattle.hdfs_recovery.specs.declared.block_plan.RebuildSettings.{RebuildSettings}
 use Rattle.hdfs_recovery.specs.declared.block_plan.WriteFault.{WriteFault}
 use Rattle.hdfs_model.specs.Sending.{uuids}
-use Rattle.hdfs_block_writer.specs.OpenPipelines.{ChangesBlock, Continues, Finishes, GivesUp, Has, IsOver, IsStanding, IsSteady, id_of}
-use Rattle.hdfs_block_writer.specs.Pushing.{CanPush, FinishesNot, IsEnding, IsRebuilt, Pushes, PushesNot, PushesOrNot}
-use Rattle.hdfs_block_writer.proofs.GoingOn.{changes_refl, changes_trans, gives_up_since, keeps_block_refl, keeps_block_trans, since_steady, steady_end}
+use Rattle.hdfs_recovery.specs.Between.{OnlyBlockOf}
+use Rattle.hdfs_recovery.proofs.Stepping.{only_block_of_refl, only_block_of_trans}
+use Rattle.hdfs_block_writer.specs.OpenPipelines.{Continues, Finishes, GivesUp, Has, IsOver, IsStanding, IsSteady, id_of, traffic}
+use Rattle.hdfs_block_writer.specs.Pushing.{CanPush, FinishesNot, IsEnding, IsRebuilt, Pushes, PushesNot, PushesOnce}
+use Rattle.hdfs_block_writer.proofs.GoingOn.{gives_up_since, keeps_block_refl, keeps_block_trans, since_steady, steady_end}
 use Rattle.hdfs_block_writer.proofs.OwnLinks.{own_link_refl, own_link_trans}
 use Rattle.hdfs_block_writer.proofs.Pushed.{continues_trans}
 
 -- a pipeline goes on as it is
 pub continues_refl : (settings : RebuildSettings) (a : Shown) (pipe : BlockPipeline) (more : List Outgoing) → IsStanding settings a pipe more
-    → Continues settings a pipe 0 [] more a pipe
+    → Continues settings a pipe (traffic 0 [] more) a pipe
 continues_refl settings a pipe more standing = record {
   own = own_link_refl a (Some pipe.link);
   keeps = keeps_block_refl pipe.plan;
@@ -29,20 +31,18 @@ continues_refl settings a pipe more standing = record {
   few = omega arith;
   pushed = sym (append-nil pipe.core.pushed);
   standing = standing;
-  told = λ p safe bytes told has. (p, told, subst (λ (k : ℕ). Has p pipe more k bytes) (omega arith) has, changes_refl (id_of pipe) a p);
+  told = λ p safe bytes told has. (p, told, subst (λ (k : ℕ). Has p pipe more k bytes) (omega arith) has, only_block_of_refl (id_of pipe) p);
 }
 
 -- what went on was given up then
 pub gives_up_behind : (settings : RebuildSettings) (a b c : Shown) (x y : BlockPipeline) (n : ℕ) (more : List Outgoing) (fault : WriteFault)
-    → Continues settings a x n [] more b y → GivesUp settings y.plan.rebuilds (IsOver y more) (id_of y) y.link b fault c
-    → GivesUp settings x.plan.rebuilds (IsOver x more) (id_of x) x.link a fault c
+    → Continues settings a x (traffic n [] more) b y → GivesUp settings y (IsOver y more) b fault c → GivesUp settings x (IsOver x more) a fault c
 gives_up_behind settings a b c x y n more fault f g =
-    gives_up_since settings x.plan.rebuilds y.plan.rebuilds (IsOver x more) (IsOver y more) (id_of x) x.link y.link a b c
-    (since_steady a b x y f.own.later f.steady) f.own
+    gives_up_since settings x y (IsOver x more) (IsOver y more) a b c (since_steady a b x y f.own.later f.steady) f.own f.keeps.id
     (λ p told w.
     let m = f.told p w.0 w.1 told w.2 in
     (m.0, m.1, (w.0 + total (take n x.core.pushed), w.1, m.2), m.3))
-    fault (subst (λ (i : ℕ). GivesUp settings y.plan.rebuilds (IsOver y more) i y.link b fault c) f.keeps.id g)
+    fault g
 
 -- it was rebuilt as often or more often
 pub rebuilds_grow : (a b : Shown) (x y : BlockPipeline) → IsSteady a x b y → x.plan.rebuilds ≤ y.plan.rebuilds
@@ -55,7 +55,7 @@ rebuilds_grow a b x y steady = ⊎_elim
 pub record TriesAgain (settings : RebuildSettings) (old : Shown) (pipe : BlockPipeline) (bytes : ℕ) (packet : Outgoing) (now : Shown)
     (pipe' : BlockPipeline) : Type 0 where
   pub acknowledged : ℕ
-  pub continues : Continues settings old pipe acknowledged [] (packet ∷ []) now pipe'
+  pub continues : Continues settings old pipe (traffic acknowledged [] (packet ∷ [])) now pipe'
   pub can : CanPush settings now pipe' bytes packet
 
 -- it is pushed, or isn't yet
@@ -86,8 +86,8 @@ module _ (settings : RebuildSettings) (old : Shown) (pipe : BlockPipeline) (byte
         }
 
     -- it was tried once more
-    pub tried_again : (back : Option Outgoing) (next : BlockPipeline) → PushesOrNot settings now pipe' packet back new next
-        → PushedSoFar settings old pipe bytes packet back new next
+    pub tried_again : (back : Option Outgoing) (next : BlockPipeline)
+        → PushesOnce settings now pipe' packet (record { pipe = next; back = back }) new → PushedSoFar settings old pipe bytes packet back new next
     tried_again None next pushes = record {
       going = pushes.going;
       acknowledged = tries.acknowledged + pushes.acknowledged;
@@ -107,8 +107,8 @@ module _ (settings : RebuildSettings) (old : Shown) (pipe : BlockPipeline) (byte
       },
     )
 
-    pub fewer_turns : (back : Option Outgoing) (next : BlockPipeline) → PushesOrNot settings now pipe' packet back new next
-        → turns_left settings back next < turns_left settings (Some packet) pipe'
+    pub fewer_turns : (back : Option Outgoing) (next : BlockPipeline)
+        → PushesOnce settings now pipe' packet (record { pipe = next; back = back }) new → turns_left settings back next < turns_left settings (Some packet) pipe'
     fewer_turns None next pushes =
         let grow = rebuilds_grow now new pipe' next pushes.continues.steady in
         omega (arith, grow)
@@ -123,7 +123,7 @@ module _ (settings : RebuildSettings) (old : Shown) (pipe : BlockPipeline) (byte
 -- A pipeline whose last packet was pushed goes on since its end was first waited for.
 pub record WaitsAgain (settings : RebuildSettings) (old : Shown) (pipe : BlockPipeline) (now : Shown) (pipe' : BlockPipeline) : Type 0 where
   pub acknowledged : ℕ
-  pub continues : Continues settings old pipe acknowledged [] [] now pipe'
+  pub continues : Continues settings old pipe (traffic acknowledged [] []) now pipe'
   pub ending : IsEnding pipe'
 
 module _ (settings : RebuildSettings) (old : Shown) (pipe : BlockPipeline) where
@@ -186,8 +186,7 @@ module _ (settings : RebuildSettings) (old : Shown) (pipe : BlockPipeline) where
                 n.0,
                 n.1,
                 subst (λ (i : ℕ). HoldsWhole n.0 i (length bytes) (uuids plan.block.locs) bytes) w.continues.keeps.id n.2,
-                changes_trans (id_of pipe) old now new p m.0 n.0 w.continues.own.later f.own.later m.3
-                    (subst (λ (i : ℕ). ChangesBlock i now m.0 new n.0) w.continues.keeps.id n.3),
+                only_block_of_trans (id_of pipe) p m.0 n.0 m.3 (subst (λ (i : ℕ). OnlyBlockOf i m.0 n.0) w.continues.keeps.id n.3),
               );
         }
 
@@ -198,10 +197,8 @@ pub still_more : (settings : RebuildSettings) (old : Shown) (pipe : BlockPipelin
 still_more settings old pipe bytes packet now pipe' o back is so_far =
     subst (λ (x : Option Outgoing). PushedSoFar settings old pipe bytes packet x now pipe') is so_far
 
--- the namenodes are those of before
-pub namenodes_still : (settings : RebuildSettings) (old : Shown) (pipe : BlockPipeline) (bytes : ℕ) (packet : Outgoing) (o : Option Outgoing)
-    (now : Shown) (pipe' : BlockPipeline) → PushedSoFar settings old pipe bytes packet o now pipe' → 0 < old.namenodes → 0 < now.namenodes
-namenodes_still settings old pipe bytes packet None now pipe' so_far some =
-    subst (λ (n : ℕ). 0 < n) (sym so_far.continues.own.later.namenodes) some
-namenodes_still settings old pipe bytes packet (Some back) now pipe' so_far some =
-    subst (λ (n : ℕ). 0 < n) (sym so_far.1.continues.own.later.namenodes) some
+-- no count fell
+pub later_so_far : (settings : RebuildSettings) (old : Shown) (pipe : BlockPipeline) (bytes : ℕ) (packet : Outgoing) (o : Option Outgoing)
+    (now : Shown) (pipe' : BlockPipeline) → PushedSoFar settings old pipe bytes packet o now pipe' → Later old now
+later_so_far settings old pipe bytes packet None now pipe' so_far = so_far.continues.own.later
+later_so_far settings old pipe bytes packet (Some back) now pipe' so_far = so_far.1.continues.own.later

@@ -1,5 +1,5 @@
 -- A pipeline of which datanodes have failed is rebuilt, and its block goes on.
-use Rattle.std.proofs.Common.{◌≡◌, inl, inr, ℕ, suc, ◌+◌, ◌^◌, ◌<◌, List, [], ◌∷◌, ◌++◌, length, take, drop, Some, None, refl, sym, ◌∙◌, ap, subst, arith}
+use Rattle.std.proofs.Common.{◌≡◌, inr, ℕ, suc, ◌+◌, ◌^◌, ◌<◌, List, [], ◌∷◌, ◌++◌, length, take, drop, Some, None, refl, sym, ◌∙◌, ap, subst, arith}
 use Rattle.std.proofs.lemmas.List.{append-nil, length-map}
 use Rattle.std.specs.List.{slice_index_or}
 use Rattle.hdfs_wire.specs.Outgoing.{Outgoing}
@@ -13,7 +13,7 @@ use Rattle.hdfs_model.specs.Picture.{Picture}
 use Rattle.hdfs_model.specs.Pipes.{WriteEnded}
 use Rattle.hdfs_model.specs.Sending.{uuids}
 use Rattle.hdfs_model.specs.Shown.{Shown, Later}
-use Rattle.hdfs_model.proofs.Frames.{later_trans, rose_since}
+use Rattle.hdfs_model.proofs.Frames.{rose_since}
 use Rattle.hdfs_pipeline.specs.Driving.{Drives, Drove, Settles}
 use Rattle.hdfs_pipeline.specs.Pipelines.{Failed, Pipeline}
 use Rattle.hdfs_pipeline.specs.Places.{ArePlaces}
@@ -24,18 +24,18 @@ use Rattle.hdfs_recovery.specs.declared.block_plan.BlockPipeline.{BlockPipeline}
 use Rattle.hdfs_recovery.specs.declared.block_plan.BlockPlan.{BlockPlan}
 use Rattle.hdfs_recovery.specs.declared.block_plan.RebuildSettings.{RebuildSettings}
 use Rattle.hdfs_recovery.specs.Attempts.{MissedTimes, RebuiltAfter, Recovered, Standing, Task, standing, task_of}
-use Rattle.hdfs_recovery.specs.Between.{OnlyBlockOf, SameActive}
-use Rattle.hdfs_block_writer.specs.OpenPipelines.{ChangesBlock, Has, IsStanding, KeepsBlock, OnlyOwnLink, id_of}
+use Rattle.hdfs_recovery.specs.Between.{OnlyBlockOf}
+use Rattle.hdfs_block_writer.specs.OpenPipelines.{Has, IsStanding, KeepsBlock, OnlyOwnLink, id_of}
 use Rattle.hdfs_recovery.specs.Plans.{KeepsPlan, Waits}
 use Rattle.hdfs_block_writer.specs.Pushing.{IsRebuilt}
 use Rattle.hdfs_recovery.specs.Trying.{HaveFailed}
 use Rattle.hdfs_recovery.proofs.Ending.{LinkOnly}
 use Rattle.hdfs_block_writer.proofs.Failures.{fails_until}
-use Rattle.hdfs_block_writer.proofs.LettingGo.{gone_active, gone_only, gone_picture, gone_slices, gone_told, gone_waits, known_of, long_plan, now_safe, own_fresh, until_gone}
+use Rattle.hdfs_block_writer.proofs.LettingGo.{gone_only, gone_picture, gone_slices, gone_told, gone_waits, known_of, long_plan, now_safe, own_fresh, until_gone}
 use Rattle.hdfs_block_writer.proofs.Missing.{MissedSince, keeps_plan_trans, none_missed, times_missed}
 use Rattle.hdfs_recovery.proofs.Resuming.{some_is}
 use Rattle.hdfs_block_writer.proofs.Standing.{ends_left, follow_left, long_to_write}
-use Rattle.hdfs_recovery.proofs.Stepping.{only_block_of_trans, same_active_trans, written_still}
+use Rattle.hdfs_recovery.proofs.Stepping.{only_block_of_trans, written_still}
 
 -- Datanodes of a pipeline have failed while it was driven on, and its link is ended.
 pub record FallsOff (a : Shown) (pipe : BlockPipeline) (came : List Outgoing) (last : Pipeline) (z m : Shown) (failed : List ℕ) : Type 0 where
@@ -104,7 +104,7 @@ module _ (settings : RebuildSettings) (client : List ℕ) (a : Shown) (pipe : Bl
     slices_then = gone_slices pipe came last a z m fell.drove fell.gone (inr fell.going) fell.block.some more p safe all told has
 
     abbrev x : (q : Picture) × (then.shown.picture ≡ Some q) × Waits q then.plan (known_of then.plan safe_then all)
-        × OnlyBlockOf (id_of pipe) gone q × SameActive m gone then.shown q
+        × OnlyBlockOf (id_of pipe) gone q
     x =
         chain.told gone safe_then all
         (gone_told pipe came last a z m fell.drove fell.gone (inr fell.going) fell.block.some more p safe all told has)
@@ -121,21 +121,11 @@ module _ (settings : RebuildSettings) (client : List ℕ) (a : Shown) (pipe : Bl
     then_waits = x.2
 
     -- so it is behind another step that changes nothing else
-    pub changes_behind : (q : Picture) (new : Shown) → Later then.shown new → OnlyBlockOf then.plan.block.b.block_id then_picture q
-        → SameActive then.shown then_picture new q → ChangesBlock (id_of pipe) a p new q
-    changes_behind q new later only active = (
-      only_block_of_trans (id_of pipe) p gone q
-          (gone_only pipe came last a z m fell.drove fell.gone (inr fell.going) fell.block.some more p safe all told has)
-          (only_block_of_trans (id_of pipe) gone x.0 q x.3 (subst (λ (i : ℕ). OnlyBlockOf i x.0 q) chain.keeps.id only)),
-      same_active_trans a m new p gone q until.later (later_trans m then.shown new chain.links.later later)
-          (inl (gone_active pipe came last a z m fell.drove fell.gone (inr fell.going) fell.block.some more p safe all told has))
-          (same_active_trans m then.shown new gone x.0 q chain.links.later later x.4 active),
-    )
-
-    pub then_active : SameActive a p then.shown then_picture
-    then_active =
-        same_active_trans a m then.shown p gone x.0 until.later chain.links.later
-        (inl (gone_active pipe came last a z m fell.drove fell.gone (inr fell.going) fell.block.some more p safe all told has)) x.4
+    pub only_behind : (q : Picture) → OnlyBlockOf then.plan.block.b.block_id then_picture q → OnlyBlockOf (id_of pipe) p q
+    only_behind q only =
+        only_block_of_trans (id_of pipe) p gone q
+        (gone_only pipe came last a z m fell.drove fell.gone (inr fell.going) fell.block.some more p safe all told has)
+        (only_block_of_trans (id_of pipe) gone x.0 q x.3 (subst (λ (i : ℕ). OnlyBlockOf i x.0 q) chain.keeps.id only))
 
   -- One has succeeded.
   module _ (pipe' : BlockPipeline) (new : Shown) (then : Standing) (chain : MissedSince a task before then) (ok : Recovered task then pipe' new) where
@@ -188,14 +178,13 @@ module _ (settings : RebuildSettings) (client : List ℕ) (a : Shown) (pipe : Bl
           × LinkCarries q pipe'.link pipe'.plan.block.b.block_id (uuids pipe'.plan.block.locs) s' last.pushed all
           × IsListed q pipe'.plan.block.b.block_id (uuids pipe'.plan.block.locs) all
           × OnlyBlockOf then.plan.block.b.block_id (then_picture then chain more p safe all told has) q
-          × SameActive then.shown (then_picture then chain more p safe all told has) new q
       y =
           ok.told (then_picture then chain more p safe all told has) (known_of then.plan s' all)
           (then_told then chain more p safe all told has) (then_waits then chain more p safe all told has)
           (slices_front all last.pushed more s' (slices_then then chain more p safe all told has))
 
-      changes : ChangesBlock (id_of pipe) a p new y.0
-      changes = changes_behind then chain more p safe all told has y.0 new ok.begins.later y.4 y.5
+      changes : OnlyBlockOf (id_of pipe) p y.0
+      changes = only_behind then chain more p safe all told has y.0 y.4
 
       settles : Settles y.2.on.place pipe'.core y.2.on.settled
       settles = record {
@@ -210,9 +199,9 @@ module _ (settings : RebuildSettings) (client : List ℕ) (a : Shown) (pipe : Bl
       file : IsBeingWritten y.0 pipe'.plan.src pipe'.plan.block.b
       file =
           subst (λ (path : List ℕ). IsBeingWritten y.0 path pipe'.plan.block.b) (sym keeps.src)
-          (written_still p y.0 pipe.plan.src pipe.plan.block.b pipe'.plan.block.b changes.0.names keeps.id has.file)
+          (written_still p y.0 pipe.plan.src pipe.plan.block.b pipe'.plan.block.b changes.names keeps.id has.file)
 
-      pub has_now : (q : Picture) × (new.picture ≡ Some q) × Has q pipe' more s' all × ChangesBlock (id_of pipe) a p new q
+      pub has_now : (q : Picture) × (new.picture ≡ Some q) × Has q pipe' more s' all × OnlyBlockOf (id_of pipe) p q
       has_now = (
         y.0,
         y.1,

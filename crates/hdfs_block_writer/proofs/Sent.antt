@@ -15,7 +15,8 @@ use Rattle.hdfs_recovery.specs.declared.block_plan.RebuildSettings.{RebuildSetti
 use Rattle.hdfs_recovery.specs.declared.block_plan.WriteFault.{WriteFault}
 use Rattle.hdfs_block_writer.specs.declared.block_writer.BlockWriter.{BlockWriter}
 use Rattle.hdfs_block_writer.specs.BlockWriters.{AreFull, Carries, GoesOver, Holds, IsFilling, IsKept, SendsFull, Stands, link_in, link_of, safe_of, start_of}
-use Rattle.hdfs_block_writer.specs.OpenPipelines.{ChangesBlock, GivesUp, Has, IsOver, IsStanding, IsSteady, KeepsBlock, OnlyOwnLink, id_of}
+use Rattle.hdfs_recovery.specs.Between.{OnlyBlockOf}
+use Rattle.hdfs_block_writer.specs.OpenPipelines.{GivesUp, Has, IsOver, IsStanding, IsSteady, KeepsBlock, OnlyOwnLink, id_of}
 use Rattle.hdfs_recovery.specs.Plans.{NoneEndsBefore}
 use Rattle.hdfs_block_writer.specs.Pushing.{CanPush, Pushes, PushesNot}
 use Rattle.hdfs_block_writer.specs.Written.{Fills, GaveUp, IsCarrying, Keeps, StaysFull, Wrote}
@@ -129,9 +130,8 @@ module _ (w : BlockWriter) (pipe : BlockPipeline) (packet : Outgoing) (is : w.pi
   -- Where the packet isn't pushed, the writer's block is given up.
   pub not_pushed : (a b : Shown) (fault : WriteFault) → PushesNot w.settings a pipe packet fault b → GaveUp a w fault b
   not_pushed a b fault not other there =
-      subst (λ (y : BlockPipeline). GivesUp w.settings y.plan.rebuilds (IsCarrying w) (id_of y) y.link a fault b) (pipe_is pipe other (sym is ∙ there))
-      (gives_up_by w.settings pipe.plan.rebuilds (IsCarrying w) (IsOver pipe (packet ∷ [])) (id_of pipe) pipe.link a b fault
-      (λ p c. (safe_of w pipe, c.0, over_then p c.0 c.1)) not)
+      subst (λ (y : BlockPipeline). GivesUp w.settings y (IsCarrying w) a fault b) (pipe_is pipe other (sym is ∙ there))
+      (gives_up_by w.settings pipe (IsCarrying w) (IsOver pipe (packet ∷ [])) a b fault (λ p c. (safe_of w pipe, c.0, over_then p c.0 c.1)) not)
 
 module _ (w w' : BlockWriter) (pipe pipe' : BlockPipeline) (packet : Outgoing) (a b : Shown) (kept : IsKept w) (over : GoesOver a pipe w)
     (is : w.packet ≡ Some packet) (pushed : Pushes w.settings a pipe packet b pipe') (keeps : Keeps w w') (len : w'.length ≡ w.length)
@@ -232,7 +232,7 @@ module _ (w w' : BlockWriter) (pipe pipe' : BlockPipeline) (packet : Outgoing) (
   starts_before = omega (arith, over.starts)
 
   carries_sent : (p : Picture) (bytes : List ℕ) → w.pipe ≡ Some pipe → a.picture ≡ Some p → Carries p w bytes
-      → (q : Picture) × (b.picture ≡ Some q) × Carries q w' bytes × ChangesBlock (id_of pipe) a p b q
+      → (q : Picture) × (b.picture ≡ Some q) × Carries q w' bytes × OnlyBlockOf (id_of pipe) p q
   carries_sent p bytes before told c =
       let has = over_then w pipe packet before kept.filled starts_before (ap filling_of is) filling.next.begins p bytes c in
       let x = pushed.continues.told p (safe_of w pipe) bytes told (subst (λ (l : List Outgoing). Has p pipe l (safe_of w pipe) bytes) refl has) in
@@ -281,7 +281,7 @@ module _ (w w' : BlockWriter) (pipe pipe' : BlockPipeline) (packet : Outgoing) (
     carries = λ p bytes told c.
         let x = carries_sent p bytes before told c in
         let same : pipe ≡ c.pipe = pipe_is pipe c.pipe (sym before ∙ c.is) in
-        (x.0, x.1, subst (Carries x.0 w') (sym (append-nil bytes)) x.2, subst (λ (y : BlockPipeline). ChangesBlock (id_of y) a p b x.0) same x.3);
+        (x.0, x.1, subst (Carries x.0 w') (sym (append-nil bytes)) x.2, subst (λ (y : BlockPipeline). OnlyBlockOf (id_of y) p x.0) same x.3);
   }
 
 -- a writer whose packet was looked for, and is the same

@@ -17,9 +17,11 @@ use Rattle.hdfs_recovery.specs.declared.block_plan.WriteFault.{WriteFault}
 use Rattle.hdfs_recovery.specs.declared.block_plan.WriteFault.TheVariants as faults
 use Rattle.hdfs_block_writer.specs.declared.block_writer.BlockWriter.{BlockWriter}
 use Rattle.hdfs_block_writer.specs.BlockWriters.{Carries, link_in, link_of, safe_of, start_of}
-use Rattle.hdfs_block_writer.specs.OpenPipelines.{ChangesBlock, GivesUp, Has, OnlyOwnLink, id_of, nodes_of}
+use Rattle.hdfs_recovery.specs.Between.{OnlyBlockOf}
+use Rattle.hdfs_recovery.proofs.Stepping.{only_block_of_refl, only_block_of_trans}
+use Rattle.hdfs_block_writer.specs.OpenPipelines.{GivesUp, Has, OnlyOwnLink, id_of, nodes_of}
 use Rattle.hdfs_block_writer.specs.Written.{Fails, Fills, GaveUp, IsCarrying, Keeps, Wrote}
-use Rattle.hdfs_block_writer.proofs.GoingOn.{changes_refl, changes_trans, gives_up_since, keeps_block_refl, keeps_block_trans, since_steady, steady_trans}
+use Rattle.hdfs_block_writer.proofs.GoingOn.{gives_up_since, keeps_block_refl, keeps_block_trans, since_steady, steady_trans}
 use Rattle.hdfs_block_writer.proofs.OwnLinks.{own_link_ended, own_link_refl, own_link_trans}
 use Rattle.hdfs_recovery.proofs.Resuming.{released_only}
 
@@ -44,7 +46,7 @@ wrote_refl a w = record {
   length = omega arith;
   own = own_link_refl a (link_of w);
   stays = λ pipe is. (pipe, is, keeps_block_refl pipe.plan, inl (refl, refl));
-  carries = λ p bytes is c. (p, is, subst (Carries p w) (sym (append-nil bytes)) c, changes_refl (id_of c.pipe) a p);
+  carries = λ p bytes is c. (p, is, subst (Carries p w) (sym (append-nil bytes)) c, only_block_of_refl (id_of c.pipe) p);
 }
 
 -- some bytes were taken, and what a writer carries then has its block still
@@ -56,10 +58,10 @@ module _ (a b : Shown) (w x : BlockWriter) (one : List ℕ) (f : Wrote a w one b
 
   -- what the writer carries then
   pub carries_then : (p : Picture) → a.picture ≡ Some p → (pipe : BlockPipeline) → w.pipe ≡ Some pipe → IsCarrying w p
-      → (q : Picture) × (b.picture ≡ Some q) × IsCarrying x q × ChangesBlock (id_of pipe) a p b q
+      → (q : Picture) × (b.picture ≡ Some q) × IsCarrying x q × OnlyBlockOf (id_of pipe) p q
   carries_then p told pipe is c =
       let m = f.carries p c.0 told c.1 in
-      (m.0, m.1, (c.0 ++ one, m.2), subst (λ (y : BlockPipeline). ChangesBlock (id_of y) a p b m.0) (pipe_is c.1.pipe pipe (sym c.1.is ∙ is)) m.3)
+      (m.0, m.1, (c.0 ++ one, m.2), subst (λ (y : BlockPipeline). OnlyBlockOf (id_of y) p m.0) (pipe_is c.1.pipe pipe (sym c.1.is ∙ is)) m.3)
 
   -- and more, or a failure, came then
   module _ (c : Shown) where
@@ -82,8 +84,8 @@ module _ (a b : Shown) (w x : BlockWriter) (one : List ℕ) (f : Wrote a w one b
             n.0,
             n.1,
             subst (Carries n.0 y) (append_assoc bytes one two) n.2,
-            changes_trans (id_of carried.pipe) a b c p m.0 n.0 f.own.later g.own.later m.3
-                (subst (λ (i : ℕ). ChangesBlock i b m.0 c n.0) (same_id carried.pipe m.2.pipe carried.is m.2.is) n.3),
+            only_block_of_trans (id_of carried.pipe) p m.0 n.0 m.3
+                (subst (λ (i : ℕ). OnlyBlockOf i m.0 n.0) (same_id carried.pipe m.2.pipe carried.is m.2.is) n.3),
           );
     }
 
@@ -94,11 +96,9 @@ module _ (a b : Shown) (w x : BlockWriter) (one : List ℕ) (f : Wrote a w one b
         let own : OnlyOwnLink a (Some pipe.link) b (Some s.0.link) =
         subst (λ (o : Option ℕ). OnlyOwnLink a o b (Some s.0.link)) (ap link_in is)
         (subst (λ (o : Option ℕ). OnlyOwnLink a (link_of w) b o) (ap link_in s.1) f.own) in
-        gives_up_since w.settings pipe.plan.rebuilds s.0.plan.rebuilds (IsCarrying w) (IsCarrying x) (id_of pipe) pipe.link s.0.link a b c
-        (since_steady a b pipe s.0 f.own.later s.3) own
+        gives_up_since w.settings pipe s.0 (IsCarrying w) (IsCarrying x) a b c (since_steady a b pipe s.0 f.own.later s.3) own s.2.id
         (λ p told carried. carries_then p told pipe is carried) fault
-        (subst (λ (k : RebuildSettings). GivesUp k s.0.plan.rebuilds (IsCarrying x) (id_of pipe) s.0.link b fault c) f.keeps.settings
-        (subst (λ (i : ℕ). GivesUp x.settings s.0.plan.rebuilds (IsCarrying x) i s.0.link b fault c) s.2.id u))
+        (subst (λ (k : RebuildSettings). GivesUp k s.0 (IsCarrying x) b fault c) f.keeps.settings u)
 
     pub fails_after : (y : BlockWriter) (fault : WriteFault) → Fails b x fault c y → Fails a w fault c y
     fails_after y fault g = record { failed = g.failed; keeps = keeps_trans w x y f.keeps g.keeps; gave_up = gave_up_after fault g.gave_up }
@@ -117,11 +117,9 @@ gave_up_ended w a b ended pipe is =
           let on = c.has.on in (
             t.0,
             t.1,
-            subst (λ (y : BlockPipeline). ChangesBlock (id_of y) a p b t.0) same (
-              released_only (id_of c.pipe) c.pipe.link p t.0 on.place on.told on.block
-                  (subst (λ (y : BlockPipeline). Releases y.link p t.0) (sym same) t.2),
-              inl t.2.0.records.active,
-            ),
+            subst (λ (y : BlockPipeline). OnlyBlockOf (id_of y) p t.0) same
+                (released_only (id_of c.pipe) c.pipe.link p t.0 on.place on.told on.block
+                (subst (λ (y : BlockPipeline). Releases y.link p t.0) (sym same) t.2)),
           );
     }
 
@@ -164,7 +162,7 @@ fill_wrote a w x more filled f = record {
   length = f.length;
   own = subst (λ (o : Option ℕ). OnlyOwnLink a (link_of w) a o) (sym (ap link_in f.pipe)) (own_link_refl a (link_of w));
   stays = λ pipe is. (pipe, f.pipe ∙ is, keeps_block_refl pipe.plan, inl (refl, refl));
-  carries = λ p bytes is c. (p, is, carries p bytes c, changes_refl (id_of c.pipe) a p);
+  carries = λ p bytes is c. (p, is, carries p bytes c, only_block_of_refl (id_of c.pipe) p);
 }
   where
     start : start_of w ≡ start_of x

@@ -4,7 +4,7 @@ use Rattle.hdfs_wire.specs.Outgoing.{Outgoing}
 use Rattle.hdfs_model.specs.declared.errors.HdfsError.TheVariants as errors
 use Rattle.hdfs_model.specs.declared.picture.BlockEntry.{BlockEntry}
 use Rattle.hdfs_model.specs.declared.picture.OpenWrite.{OpenWrite}
-use Rattle.hdfs_model.specs.Causes.{SomeNodeRose}
+use Rattle.hdfs_model.specs.Causes.{CallsRose, SomeNodeRose}
 use Rattle.hdfs_model.specs.Counts.{Rose}
 use Rattle.hdfs_model.specs.Effects.{IsBeingWritten}
 use Rattle.hdfs_model.specs.Namenode.{IsToWrite}
@@ -21,7 +21,8 @@ use Rattle.hdfs_recovery.specs.declared.block_plan.BlockPlan.{BlockPlan}
 use Rattle.hdfs_recovery.specs.declared.block_plan.RebuildSettings.{RebuildSettings}
 use Rattle.hdfs_recovery.specs.declared.block_plan.WriteFault.{WriteFault}
 use Rattle.hdfs_recovery.specs.declared.block_plan.WriteFault.TheVariants as faults
-use Rattle.hdfs_recovery.specs.Between.{IsLastError, OnlyBlockOf, SameActive}
+use Rattle.hdfs_recovery.specs.Between.{OnlyBlockOf}
+use Rattle.hdfs_namenode.specs.Relaying.{TellsAsk}
 use Rattle.hdfs_recovery.specs.Plans.{NoneEndsBefore}
 
 -- the id of a pipeline's block
@@ -78,10 +79,6 @@ pub record KeepsBlock (plan plan' : BlockPlan) : Type 0 where
   pub created : plan'.created ≡ plan.created
   pub chunk : plan'.chunk ≡ plan.chunk
 
--- nothing changed but this block, and another namenode is active only where the count of the first one rose
-abbrev pub ChangesBlock : ℕ → Shown → Picture → Shown → Picture → Type 0
-ChangesBlock id old p new q = OnlyBlockOf id p q × SameActive old p new q
-
 -- datanodes have failed so many times, one time behind another
 abbrev pub NodesFailTimes : ℕ → Shown → Shown → Type 0
 NodesFailTimes zero old new = Later old new
@@ -98,23 +95,34 @@ abbrev pub IsSteady : Shown → BlockPipeline → Shown → BlockPipeline → Ty
 IsSteady old pipe new pipe' =
     ((pipe'.plan ≡ pipe.plan) × (pipe'.link ≡ pipe.link)) ⊎ RebuiltOnFailures old pipe.plan new pipe'.plan
 
--- A pipeline goes on, as it was or rebuilt: the first packets of it, so many, are acknowledged, and others came behind the rest. `more`
--- are to come still. Over a told picture the same bytes are the block's, and the acknowledged ones are safe too.
-pub record Continues (settings : RebuildSettings) (old : Shown) (pipe : BlockPipeline) (acknowledged : ℕ) (came more : List Outgoing)
-    (new : Shown) (pipe' : BlockPipeline) : Type 0 where
+-- what becomes of the packets of a pipeline: the first of them, so many, are acknowledged, others came behind the rest, and `more` are
+-- to come still
+pub record Traffic : Type 0 where
+  pub acknowledged : ℕ
+  pub came : List Outgoing
+  pub more : List Outgoing
+
+-- the same, from its parts
+abbrev pub traffic : ℕ → List Outgoing → List Outgoing → Traffic
+traffic acknowledged came more = record { acknowledged = acknowledged; came = came; more = more }
+
+-- A pipeline goes on, as it was or rebuilt, and this became of its packets. Over a told picture the same bytes are the block's, and those
+-- that are acknowledged now are safe too.
+pub record Continues (settings : RebuildSettings) (old : Shown) (pipe : BlockPipeline) (packets : Traffic) (new : Shown)
+    (pipe' : BlockPipeline) : Type 0 where
   pub own : OnlyOwnLink old (Some pipe.link) new (Some pipe'.link)
   pub keeps : KeepsBlock pipe.plan pipe'.plan
   pub steady : IsSteady old pipe new pipe'
-  pub few : acknowledged ≤ len pipe.core.pushed
-  pub pushed : pipe'.core.pushed ≡ drop acknowledged pipe.core.pushed ++ came
-  pub standing : IsStanding settings new pipe' more
-  pub told : (p : Picture) (safe : ℕ) (bytes : List ℕ) → old.picture ≡ Some p → Has p pipe (came ++ more) safe bytes
-      → (q : Picture) × (new.picture ≡ Some q) × Has q pipe' more (safe + total (take acknowledged pipe.core.pushed)) bytes
-      × ChangesBlock (id_of pipe) old p new q
+  pub few : packets.acknowledged ≤ len pipe.core.pushed
+  pub pushed : pipe'.core.pushed ≡ drop packets.acknowledged pipe.core.pushed ++ packets.came
+  pub standing : IsStanding settings new pipe' packets.more
+  pub told : (p : Picture) (safe : ℕ) (bytes : List ℕ) → old.picture ≡ Some p → Has p pipe (packets.came ++ packets.more) safe bytes
+      → (q : Picture) × (new.picture ≡ Some q)
+      × Has q pipe' packets.more (safe + total (take packets.acknowledged pipe.core.pushed)) bytes × OnlyBlockOf (id_of pipe) p q
 
--- over a told picture of which this holds, where the first namenode is active: its count rose
+-- over a told picture of which this holds: a namenode has failed
 abbrev pub NamenodeFails : (Picture → Type 0) → Shown → Shown → Type 0
-NamenodeFails W old new = (p : Picture) → old.picture ≡ Some p → W p → p.active ≡ 0 → Rose (old.counts.calls 0) (new.counts.calls 0)
+NamenodeFails W old new = (p : Picture) → old.picture ≡ Some p → W p → CallsRose old.counts new
 
 -- over a told picture of which this holds: some datanodes are listed for the block, and each of these has failed
 abbrev pub AllListedFail : (Picture → Type 0) → ℕ → Shown → Shown → Type 0
@@ -128,29 +136,31 @@ ListedFails W id old new = (p : Picture) → old.picture ≡ Some p → W p
     → (q : Picture) × (entry : BlockEntry) × (new.picture ≡ Some q) × (q.table id ≡ Some entry)
     × Any (λ node. Rose (old.counts.nodes node) (new.counts.nodes node)) entry.nodes
 
--- Why a block is given up, which is so in a told picture, and whose pipeline was rebuilt so often before. Want of memory alone is free.
+-- Why a block is given up, which is so in a told picture, and had this plan before. Want of memory alone is free.
 -- Its pipeline has been rebuilt as often as it may be only where datanodes have failed once more than it could be rebuilt still.
-abbrev pub HasCause : RebuildSettings → ℕ → (Picture → Type 0) → ℕ → Shown → WriteFault → Shown → Type 0
-HasCause settings rebuilt W id old faults.NoMemory new = Unit {0}
-HasCause settings rebuilt W id old faults.Failed new = ⊥
-HasCause settings rebuilt W id old faults.Link new = SomeNodeRose old.counts new × Rose old.counts.links new.counts.links
-HasCause settings rebuilt W id old faults.Setup new = SomeNodeRose old.counts new × Rose old.counts.links new.counts.links
-HasCause settings rebuilt W id old (faults.BadAck seqno) new = Rose old.counts.links new.counts.links
-HasCause settings rebuilt W id old faults.AllNodes new = SomeNodeRose old.counts new × AllListedFail W id old new
-HasCause settings rebuilt W id old faults.NoReplacement new =
+abbrev pub HasCause : RebuildSettings → BlockPlan → (Picture → Type 0) → Shown → WriteFault → Shown → Type 0
+HasCause settings plan W old faults.NoMemory new = Unit {0}
+HasCause settings plan W old faults.Failed new = ⊥
+HasCause settings plan W old faults.Link new = SomeNodeRose old.counts new × Rose old.counts.links new.counts.links
+HasCause settings plan W old faults.Setup new = SomeNodeRose old.counts new × Rose old.counts.links new.counts.links
+HasCause settings plan W old (faults.BadAck seqno) new = Rose old.counts.links new.counts.links
+HasCause settings plan W old faults.AllNodes new = SomeNodeRose old.counts new × AllListedFail W plan.block.b.block_id old new
+HasCause settings plan W old faults.NoReplacement new =
     ((policy_of settings.replace).1 ≡ false) × SomeNodeRose old.counts new
-    × (Rose old.counts.links new.counts.links ⊎ NamenodeFails W old new) × ListedFails W id old new
-HasCause settings rebuilt W id old (faults.RebuildLimit rebuilds) new =
-    (rebuilds ≡ settings.rebuild_limit) × NodesFailTimes (suc (settings.rebuild_limit - rebuilt)) old new × ListedFails W id old new
-HasCause settings rebuilt W id old (faults.Namenode error) new =
-    (error ≢ errors.NoMemory) × IsLastError error new × SomeNodeRose old.counts new × NamenodeFails W old new
+    × (Rose old.counts.links new.counts.links ⊎ NamenodeFails W old new) × ListedFails W plan.block.b.block_id old new
+HasCause settings plan W old (faults.RebuildLimit rebuilds) new =
+    (rebuilds ≡ settings.rebuild_limit) × NodesFailTimes (suc (settings.rebuild_limit - plan.rebuilds)) old new
+    × ListedFails W plan.block.b.block_id old new
+HasCause settings plan W old (faults.Namenode error) new =
+    (error ≢ errors.NoMemory) × TellsAsk old new error × SomeNodeRose old.counts new × NamenodeFails W old new
 
--- A block that is so in a told picture was given up for this cause: no link of its writer is left open, and nothing changed but the block.
-pub record GivesUp (settings : RebuildSettings) (rebuilt : ℕ) (W : Picture → Type 0) (id link : ℕ) (old : Shown) (fault : WriteFault)
+-- The block of a pipeline, which is so in a told picture, was given up for this cause: no link of its writer is left open, and nothing
+-- changed but the block.
+pub record GivesUp (settings : RebuildSettings) (pipe : BlockPipeline) (W : Picture → Type 0) (old : Shown) (fault : WriteFault)
     (new : Shown) : Type 0 where
-  pub own : OnlyOwnLink old (Some link) new None
-  pub cause : HasCause settings rebuilt W id old fault new
-  pub touches : (p : Picture) → old.picture ≡ Some p → W p → (q : Picture) × (new.picture ≡ Some q) × ChangesBlock id old p new q
+  pub own : OnlyOwnLink old (Some pipe.link) new None
+  pub cause : HasCause settings pipe.plan W old fault new
+  pub touches : (p : Picture) → old.picture ≡ Some p → W p → (q : Picture) × (new.picture ≡ Some q) × OnlyBlockOf (id_of pipe) p q
 
 -- All packets of a pipeline are acknowledged, and its link is ended. Over a told picture each of its datanodes, which are listed, holds
 -- the block whole, where no bytes are behind its packets.
@@ -161,4 +171,4 @@ pub record Finishes (settings : RebuildSettings) (old : Shown) (pipe : BlockPipe
   pub steady : (plan' ≡ pipe.plan) ⊎ RebuiltOnFailures old pipe.plan new plan'
   pub told : (p : Picture) (safe : ℕ) (bytes : List ℕ) → old.picture ≡ Some p → Has p pipe [] safe bytes
       → safe + total pipe.core.pushed ≡ len bytes → (q : Picture) × (new.picture ≡ Some q)
-      × HoldsWhole q (id_of pipe) (len bytes) (uuids plan'.block.locs) bytes × ChangesBlock (id_of pipe) old p new q
+      × HoldsWhole q (id_of pipe) (len bytes) (uuids plan'.block.locs) bytes × OnlyBlockOf (id_of pipe) p q

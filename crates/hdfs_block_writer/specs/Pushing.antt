@@ -13,7 +13,7 @@ use Rattle.hdfs_recovery.specs.declared.block_plan.WriteFault.{WriteFault}
 use Rattle.hdfs_block_writer.specs.declared.pushing.PushedOnce.{PushedOnce}
 use Rattle.hdfs_block_writer.specs.declared.pushing.Settled.{Settled}
 use Rattle.hdfs_block_writer.specs.declared.pushing.Settled.TheVariants as settled
-use Rattle.hdfs_block_writer.specs.OpenPipelines.{Continues, Finishes, GivesUp, IsOver, IsStanding, id_of}
+use Rattle.hdfs_block_writer.specs.OpenPipelines.{Continues, Finishes, GivesUp, IsOver, IsStanding, traffic}
 
 -- the next packet follows on the link, wherever the packets before it began
 abbrev pub GoesOnBehind : Shown → BlockPipeline → Type 0
@@ -39,13 +39,13 @@ pub record IsRebuilt (settings : RebuildSettings) (old : Shown) (pipe : BlockPip
   pub again : pipe.plan.rebuilds < pipe'.plan.rebuilds
   pub acknowledged : ℕ
   pub continues : (more : List Outgoing) → IsStanding settings old pipe (came ++ more)
-      → Continues settings old pipe acknowledged came more new pipe'
+      → Continues settings old pipe (traffic acknowledged came more) new pipe'
   pub behind : GoesOnBehind new pipe'
 
 -- it was given up, for whichever packets were to come behind these
 abbrev pub FallsFor : RebuildSettings → Shown → BlockPipeline → List Outgoing → WriteFault → Shown → Type 0
 FallsFor settings old pipe came fault new =
-    (more : List Outgoing) → GivesUp settings pipe.plan.rebuilds (IsOver pipe (came ++ more)) (id_of pipe) pipe.link old fault new
+    (more : List Outgoing) → GivesUp settings pipe (IsOver pipe (came ++ more)) old fault new
 
 -- a pipeline that had ended was rebuilt, as is said from when it went on
 abbrev pub RebuildsEnded : RebuildSettings → Shown → BlockPipeline → Shown → BlockPipeline → Type 0
@@ -79,26 +79,26 @@ pub record Pushes (settings : RebuildSettings) (old : Shown) (pipe : BlockPipeli
     : Type 0 where
   pub going : pipe'.core.end ≡ None
   pub acknowledged : ℕ
-  pub continues : Continues settings old pipe acknowledged (packet ∷ []) [] new pipe'
+  pub continues : Continues settings old pipe (traffic acknowledged (packet ∷ []) []) new pipe'
   pub behind : GoesOnBehind new pipe'
 
--- it was pushed, or the pipeline was rebuilt before, and it is to be pushed still
-abbrev pub PushesOrNot : RebuildSettings → Shown → BlockPipeline → Outgoing → Option Outgoing → Shown → BlockPipeline → Type 0
-PushesOrNot settings old pipe packet None new pipe' = Pushes settings old pipe packet new pipe'
-PushesOrNot settings old pipe packet (Some back) new pipe' = (back ≡ packet) × IsRebuilt settings old pipe [] new pipe'
+-- what holds of a packet that came back, or else of none
+abbrev pub ByBack : Option Outgoing → Type 0 → (Outgoing → Type 0) → Type 0
+ByBack None pushed again = pushed
+ByBack (Some back) pushed again = again back
 
--- what came of pushing a packet
+-- What came of pushing a packet: it was pushed, or the pipeline was rebuilt before, and it is to be pushed still.
 abbrev pub PushesOnce : RebuildSettings → Shown → BlockPipeline → Outgoing → PushedOnce → Shown → Type 0
-PushesOnce settings old pipe packet pushed new = PushesOrNot settings old pipe packet pushed.back new pushed.pipe
+PushesOnce settings old pipe packet pushed new = ByBack pushed.back (Pushes settings old pipe packet new pushed.pipe)
+    (λ back. (back ≡ packet) × IsRebuilt settings old pipe [] new pushed.pipe)
 
 -- the pipeline was given up, and the packet with it
 abbrev pub PushesNot : RebuildSettings → Shown → BlockPipeline → Outgoing → WriteFault → Shown → Type 0
-PushesNot settings old pipe packet fault new =
-    GivesUp settings pipe.plan.rebuilds (IsOver pipe (packet ∷ [])) (id_of pipe) pipe.link old fault new
+PushesNot settings old pipe packet fault new = GivesUp settings pipe (IsOver pipe (packet ∷ [])) old fault new
 
 -- it was given up, and no packet was to come
 abbrev pub FinishesNot : RebuildSettings → Shown → BlockPipeline → WriteFault → Shown → Type 0
-FinishesNot settings old pipe fault new = GivesUp settings pipe.plan.rebuilds (IsOver pipe []) (id_of pipe) pipe.link old fault new
+FinishesNot settings old pipe fault new = GivesUp settings pipe (IsOver pipe []) old fault new
 
 -- the pipeline goes on, and the last packet of the block was pushed last
 abbrev pub IsEnding : BlockPipeline → Type 0

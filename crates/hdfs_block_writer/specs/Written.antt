@@ -20,7 +20,8 @@ use Rattle.hdfs_recovery.specs.declared.block_plan.WriteFault.{WriteFault}
 use Rattle.hdfs_recovery.specs.declared.block_plan.WriteFault.TheVariants as faults
 use Rattle.hdfs_block_writer.specs.declared.block_writer.BlockWriter.{BlockWriter}
 use Rattle.hdfs_block_writer.specs.BlockWriters.{AreFull, Carries, HasFailed, length_of, link_of, size_of, start_of}
-use Rattle.hdfs_block_writer.specs.OpenPipelines.{ChangesBlock, GivesUp, IsSteady, KeepsBlock, OnlyOwnLink, RebuiltOnFailures, id_of, nodes_of}
+use Rattle.hdfs_recovery.specs.Between.{OnlyBlockOf}
+use Rattle.hdfs_block_writer.specs.OpenPipelines.{GivesUp, IsSteady, KeepsBlock, OnlyOwnLink, RebuiltOnFailures, id_of, nodes_of}
 
 -- A new writer of this block, whose first packet has the seqno 0, with what it was asked to write with.
 pub record IsNew (wanted : BlockPlan) (settings : RebuildSettings) (size bytes_per_packet : ℕ) (writer : BlockWriter) : Type 0 where
@@ -68,7 +69,7 @@ pub record Keeps (writer writer' : BlockWriter) : Type 0 where
 -- over a told picture: these bytes more are carried, and nothing changed but the writer's block
 abbrev pub CarriesMore : Shown → BlockWriter → List ℕ → Shown → BlockWriter → Type 0
 CarriesMore old writer more new writer' = (p : Picture) (bytes : List ℕ) → old.picture ≡ Some p → (c : Carries p writer bytes)
-    → (q : Picture) × (new.picture ≡ Some q) × Carries q writer' (bytes ++ more) × ChangesBlock (id_of c.pipe) old p new q
+    → (q : Picture) × (new.picture ≡ Some q) × Carries q writer' (bytes ++ more) × OnlyBlockOf (id_of c.pipe) p q
 
 -- its pipeline is that of before, over the same link, or it was rebuilt, no more often than datanodes have failed
 abbrev pub PipelineStays : Shown → BlockWriter → Shown → BlockWriter → Type 0
@@ -90,7 +91,7 @@ IsCarrying writer p = (bytes : List ℕ) × Carries p writer bytes
 -- The writer's block was given up for this cause, and no link of it is left open.
 abbrev pub GaveUp : Shown → BlockWriter → WriteFault → Shown → Type 0
 GaveUp old writer fault new = (pipe : BlockPipeline) → writer.pipe ≡ Some pipe
-    → GivesUp writer.settings pipe.plan.rebuilds (IsCarrying writer) (id_of pipe) pipe.link old fault new
+    → GivesUp writer.settings pipe (IsCarrying writer) old fault new
 
 -- A call has failed, and so has the writer for good.
 pub record Fails (old : Shown) (writer : BlockWriter) (fault : WriteFault) (new : Shown) (writer' : BlockWriter) : Type 0 where
@@ -102,7 +103,7 @@ pub record Fails (old : Shown) (writer : BlockWriter) (fault : WriteFault) (new 
 abbrev pub EndsWhole : Shown → BlockWriter → BlockPlan → Shown → Type 0
 EndsWhole old writer plan new = (p : Picture) (bytes : List ℕ) → old.picture ≡ Some p → (c : Carries p writer bytes)
     → (q : Picture) × (new.picture ≡ Some q) × HoldsWhole q (id_of c.pipe) (length_of writer) (uuids plan.block.locs) bytes
-    × ChangesBlock (id_of c.pipe) old p new q
+    × OnlyBlockOf (id_of c.pipe) p q
 
 -- The writer's link is ended, and over a told picture the block is written. Its last pipeline is that of before, or it was rebuilt, no
 -- more often than datanodes have failed, and than it may be.

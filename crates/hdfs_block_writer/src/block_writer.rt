@@ -42,7 +42,8 @@ fn named(plan: BlockPlan, length: u64) -> Block
 impl BlockWriter {
     ghost use Rattle.hdfs_model.specs.Namenode.{IsToWrite};
     ghost use Rattle.hdfs_model.specs.Pipes.{WriteEnded};
-    ghost use Rattle.hdfs_namenode.specs.Clients.{name_of};
+    ghost use Rattle.hdfs_namenode.specs.Asked.{ReachesAll};
+    ghost use Rattle.hdfs_namenode.specs.Clients.{SameClient, name_of, proxy_of};
     ghost use Rattle.hdfs_block_writer.specs.Packing.{setup_of};
     ghost use Rattle.hdfs_recovery.specs.declared.block_plan.BlockPipeline.{BlockPipeline};
     ghost use Rattle.hdfs_wire.specs.Outgoing.{ArePacketSizes};
@@ -110,16 +111,16 @@ impl BlockWriter {
     fn flush<C: Cluster>(
         &mut self,
         cluster: &mut C,
-        namenode: &NamenodeProtocol,
+        namenode: &mut NamenodeProtocol,
     ) -> Result<(), WriteFault>
-        requires namenodes { 0 < (C.shown cluster.old).namenodes }
+        requires reaches { ReachesAll (proxy_of namenode.old) (C.shown cluster.old) }
         requires holds { Holds (C.shown cluster.old) self.old }
         requires open { IsSome self.old.pipe }
-        ensures holds { OnOk result (Holds (C.shown cluster.new) self.new) }
-        ensures empty { OnOk result (self.new.packet ≡ None) }
+        ensures holds { OnOk result (Holds (C.shown cluster.new) self.new × (self.new.packet ≡ None)) }
         ensures full { OnOk result (StaysFull self.old self.new) }
         ensures wrote { OnOk result (Wrote (C.shown cluster.old) self.old [] (C.shown cluster.new) self.new) }
         ensures err { IfErr result (λ fault. Fails (C.shown cluster.old) self.old fault (C.shown cluster.new) self.new) }
+        ensures client { SameClient namenode.old namenode.new }
     {
         let Some(packet) = self.packet.take() else {
             return Ok(());
@@ -149,15 +150,16 @@ impl BlockWriter {
     fn flush_full<C: Cluster>(
         &mut self,
         cluster: &mut C,
-        namenode: &NamenodeProtocol,
+        namenode: &mut NamenodeProtocol,
     ) -> Result<(), WriteFault>
-        requires namenodes { 0 < (C.shown cluster.old).namenodes }
+        requires reaches { ReachesAll (proxy_of namenode.old) (C.shown cluster.old) }
         requires holds { Holds (C.shown cluster.old) self.old }
         requires open { IsSome self.old.pipe }
         requires full { SendsFull self.old }
         ensures stands { OnOk result (Stands (C.shown cluster.new) self.new) }
         ensures wrote { OnOk result (Wrote (C.shown cluster.old) self.old [] (C.shown cluster.new) self.new) }
         ensures err { IfErr result (λ fault. Fails (C.shown cluster.old) self.old fault (C.shown cluster.new) self.new) }
+        ensures client { SameClient namenode.old namenode.new }
     {
         if self.has_full_packet() {
             match self.flush(cluster, namenode) {
@@ -173,17 +175,18 @@ impl BlockWriter {
     fn write_piece<C: Cluster>(
         &mut self,
         cluster: &mut C,
-        namenode: &NamenodeProtocol,
+        namenode: &mut NamenodeProtocol,
         bytes: &[u8],
     ) -> Result<usize, WriteFault>
-        requires namenodes { 0 < (C.shown cluster.old).namenodes }
+        requires reaches { ReachesAll (proxy_of namenode.old) (C.shown cluster.old) }
         requires stands { Stands (C.shown cluster.old) self.old }
         requires open { IsSome self.old.pipe }
         requires room { (self.old.length + length bytes.now ≤ self.old.block_size) × (0 < length bytes.now) }
-        ensures count { IfOk result (λ n. (0 < n) × (n ≤ length bytes.now)) }
         ensures stands { OnOk result (Stands (C.shown cluster.new) self.new) }
-        ensures wrote { IfOk result (λ n. Wrote (C.shown cluster.old) self.old (take n bytes.now) (C.shown cluster.new) self.new) }
+        ensures wrote { IfOk result (λ n. (0 < n) × (n ≤ length bytes.now)
+            × Wrote (C.shown cluster.old) self.old (take n bytes.now) (C.shown cluster.new) self.new) }
         ensures err { IfErr result (λ fault. Fails (C.shown cluster.old) self.old fault (C.shown cluster.new) self.new) }
+        ensures client { SameClient namenode.old namenode.new }
     {
         let count = match self.fill(bytes) {
             Ok(count) => count,
@@ -202,16 +205,17 @@ impl BlockWriter {
     fn write_all<C: Cluster>(
         &mut self,
         cluster: &mut C,
-        namenode: &NamenodeProtocol,
+        namenode: &mut NamenodeProtocol,
         bytes: &[u8],
     ) -> Result<(), WriteFault>
-        requires namenodes { 0 < (C.shown cluster.old).namenodes }
+        requires reaches { ReachesAll (proxy_of namenode.old) (C.shown cluster.old) }
         requires stands { Stands (C.shown cluster.old) self.old }
         requires open { IsSome self.old.pipe }
         requires room { self.old.length + length bytes.now ≤ self.old.block_size }
         ensures stands { OnOk result (Stands (C.shown cluster.new) self.new) }
         ensures wrote { OnOk result (Wrote (C.shown cluster.old) self.old bytes.now (C.shown cluster.new) self.new) }
         ensures err { IfErr result (λ fault. Fails (C.shown cluster.old) self.old fault (C.shown cluster.new) self.new) }
+        ensures client { SameClient namenode.old namenode.new }
     {
         let mut rest = bytes;
         'pieces: while !rest.is_empty() {
@@ -231,10 +235,10 @@ impl BlockWriter {
     pub fn write<C: Cluster>(
         &mut self,
         cluster: &mut C,
-        namenode: &NamenodeProtocol,
+        namenode: &mut NamenodeProtocol,
         bytes: &[u8],
     ) -> Result<usize, WriteFault>
-        requires namenodes { 0 < (C.shown cluster.old).namenodes }
+        requires reaches { ReachesAll (proxy_of namenode.old) (C.shown cluster.old) }
         requires stands { Stands (C.shown cluster.old) self.old }
         ensures stands { Stands (C.shown cluster.new) self.new }
         ensures count { IfOk result (λ n. n ≡ min (length bytes.now) (size_of self.old - length_of self.old)) }
@@ -244,6 +248,7 @@ impl BlockWriter {
 
         // Over a told picture these bytes are carried too, whatever datanodes fail, and nothing changes but the block.
         ensures wrote { IfOk result (λ n. Wrote (C.shown cluster.old) self.old (take n bytes.now) (C.shown cluster.new) self.new) }
+        ensures client { SameClient namenode.old namenode.new }
     {
         if self.has_failed() {
             return Err(WriteFault::Failed);
@@ -260,14 +265,15 @@ impl BlockWriter {
     fn end<C: Cluster>(
         &mut self,
         cluster: &mut C,
-        namenode: &NamenodeProtocol,
+        namenode: &mut NamenodeProtocol,
     ) -> Result<Block, WriteFault>
-        requires namenodes { 0 < (C.shown cluster.old).namenodes }
+        requires reaches { ReachesAll (proxy_of namenode.old) (C.shown cluster.old) }
         requires holds { Holds (C.shown cluster.old) self.old }
         requires open { IsSome self.old.pipe }
         requires none { self.old.packet ≡ None }
         ensures closed { IfOk result (λ block. Closes (C.shown cluster.old) self.old block (C.shown cluster.new)) }
         ensures err { IfErr result (λ fault. GaveUp (C.shown cluster.old) self.old fault (C.shown cluster.new)) }
+        ensures client { SameClient namenode.old namenode.new }
     {
         let packet = match self.last_packet() {
             Ok(packet) => packet,
@@ -306,13 +312,14 @@ impl BlockWriter {
     pub fn close<C: Cluster>(
         mut self,
         cluster: &mut C,
-        namenode: &NamenodeProtocol,
+        namenode: &mut NamenodeProtocol,
     ) -> Result<Block, WriteFault>
-        requires namenodes { 0 < (C.shown cluster.old).namenodes }
+        requires reaches { ReachesAll (proxy_of namenode.old) (C.shown cluster.old) }
         requires stands { Stands (C.shown cluster.old) self }
         ensures closed { IfOk result (λ block. Closes (C.shown cluster.old) self block (C.shown cluster.new)) }
         ensures err { IfErr result (λ fault. GaveUp (C.shown cluster.old) self fault (C.shown cluster.new)) }
         ensures failed { HasFailed self → (result ≡ Err faults.Failed) × (cluster.new ≡ cluster.old) }
+        ensures client { SameClient namenode.old namenode.new }
     {
         if self.pipe.is_none() {
             return Err(WriteFault::Failed);

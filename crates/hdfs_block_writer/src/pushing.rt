@@ -1,6 +1,8 @@
 //! Packets go down the pipeline of a block, which is rebuilt where datanodes of it fail.
 
 ghost use Rattle.std.specs.Prelude.{◌≡◌, ◌<◌, ◌≤◌, ◌+◌, ◌^◌, [], Some, IsSome, IfOk, IfErr};
+ghost use Rattle.hdfs_namenode.specs.Asked.{ReachesAll};
+ghost use Rattle.hdfs_namenode.specs.Clients.{SameClient, proxy_of};
 ghost use Rattle.hdfs_pipeline.specs.Pipelines.{Done};
 ghost use Rattle.hdfs_blocks.specs.Carrying.{total};
 ghost use Rattle.hdfs_block_writer.specs.OpenPipelines.{Finishes, IsStanding};
@@ -44,18 +46,19 @@ fn with_length(plan: BlockPlan, length: u64) -> BlockPlan
 fn rebuild_ended<C: Cluster>(
     alloc: Global,
     cluster: &mut C,
-    namenode: &NamenodeProtocol,
+    namenode: &mut NamenodeProtocol,
     settings: &RebuildSettings,
     pipe: BlockPipeline,
     length: u64,
     unsent: u64,
 ) -> Result<BlockPipeline, WriteFault>
-    requires namenodes { 0 < (C.shown cluster.old).namenodes }
+    requires reaches { ReachesAll (proxy_of namenode.old) (C.shown cluster.old) }
     requires standing { IsStanding settings.now (C.shown cluster.old) pipe [] }
     requires ended { IsSome pipe.core.end × (pipe.core.end ≡ Some Done → ⊥) }
     requires few { (total pipe.core.pushed + unsent ≤ length) × (length < 2 ^ 63) }
     ensures ok { IfOk result (λ pipe'. RebuildsEnded settings.now (C.shown cluster.old) pipe (C.shown cluster.new) pipe') }
     ensures err { IfErr result (λ fault. FallsEnded settings.now (C.shown cluster.old) pipe fault (C.shown cluster.new)) }
+    ensures client { SameClient namenode.old namenode.new }
 {
     let BlockPipeline { plan, core, link } = pipe;
     match drive_end(core, cluster, link)? {
@@ -75,16 +78,17 @@ fn rebuild_ended<C: Cluster>(
 fn push_once<C: Cluster>(
     alloc: Global,
     cluster: &mut C,
-    namenode: &NamenodeProtocol,
+    namenode: &mut NamenodeProtocol,
     settings: &RebuildSettings,
     pipe: BlockPipeline,
     length: u64,
     packet: WritePacket,
 ) -> Result<PushedOnce, WriteFault>
-    requires namenodes { 0 < (C.shown cluster.old).namenodes }
+    requires reaches { ReachesAll (proxy_of namenode.old) (C.shown cluster.old) }
     requires can { CanPush settings.now (C.shown cluster.old) pipe length packet }
     ensures ok { IfOk result (λ pushed. PushesOnce settings.now (C.shown cluster.old) pipe packet pushed (C.shown cluster.new)) }
     ensures err { IfErr result (λ fault. PushesNot settings.now (C.shown cluster.old) pipe packet fault (C.shown cluster.new)) }
+    ensures client { SameClient namenode.old namenode.new }
 {
     let BlockPipeline {
         plan,
@@ -122,16 +126,17 @@ fn bytes_of(packet: &Option<WritePacket>) -> u64
 pub(crate) fn push<C: Cluster>(
     alloc: Global,
     cluster: &mut C,
-    namenode: &NamenodeProtocol,
+    namenode: &mut NamenodeProtocol,
     settings: &RebuildSettings,
     pipe: BlockPipeline,
     length: u64,
     packet: WritePacket,
 ) -> Result<BlockPipeline, WriteFault>
-    requires namenodes { 0 < (C.shown cluster.old).namenodes }
+    requires reaches { ReachesAll (proxy_of namenode.old) (C.shown cluster.old) }
     requires can { CanPush settings.now (C.shown cluster.old) pipe length packet }
     ensures ok { IfOk result (λ pipe'. Pushes settings.now (C.shown cluster.old) pipe packet (C.shown cluster.new) pipe') }
     ensures err { IfErr result (λ fault. PushesNot settings.now (C.shown cluster.old) pipe packet fault (C.shown cluster.new)) }
+    ensures client { SameClient namenode.old namenode.new }
 {
     let mut pushed = PushedOnce {
         pipe,
@@ -151,17 +156,18 @@ pub(crate) fn push<C: Cluster>(
 fn finish_once<C: Cluster>(
     alloc: Global,
     cluster: &mut C,
-    namenode: &NamenodeProtocol,
+    namenode: &mut NamenodeProtocol,
     settings: &RebuildSettings,
     pipe: BlockPipeline,
     length: u64,
 ) -> Result<Settled, WriteFault>
-    requires namenodes { 0 < (C.shown cluster.old).namenodes }
+    requires reaches { ReachesAll (proxy_of namenode.old) (C.shown cluster.old) }
     requires standing { IsStanding settings.now (C.shown cluster.old) pipe [] }
     requires ending { IsEnding pipe }
     requires few { (total pipe.core.pushed ≤ length) × (length < 2 ^ 63) }
     ensures ok { IfOk result (λ settled. Settles settings.now (C.shown cluster.old) pipe settled (C.shown cluster.new)) }
     ensures err { IfErr result (λ fault. FallsFor settings.now (C.shown cluster.old) pipe [] fault (C.shown cluster.new)) }
+    ensures client { SameClient namenode.old namenode.new }
 {
     let BlockPipeline { plan, core, link } = pipe;
     match drive_end(core, cluster, link)? {
@@ -184,17 +190,18 @@ fn finish_once<C: Cluster>(
 pub(crate) fn finish<C: Cluster>(
     alloc: Global,
     cluster: &mut C,
-    namenode: &NamenodeProtocol,
+    namenode: &mut NamenodeProtocol,
     settings: &RebuildSettings,
     pipe: BlockPipeline,
     length: u64,
 ) -> Result<BlockPlan, WriteFault>
-    requires namenodes { 0 < (C.shown cluster.old).namenodes }
+    requires reaches { ReachesAll (proxy_of namenode.old) (C.shown cluster.old) }
     requires standing { IsStanding settings.now (C.shown cluster.old) pipe [] }
     requires ending { IsEnding pipe }
     requires few { (total pipe.core.pushed ≤ length) × (length < 2 ^ 63) }
     ensures finishes { IfOk result (λ plan. Finishes settings.now (C.shown cluster.old) pipe (C.shown cluster.new) plan) }
     ensures err { IfErr result (λ fault. FinishesNot settings.now (C.shown cluster.old) pipe fault (C.shown cluster.new)) }
+    ensures client { SameClient namenode.old namenode.new }
 {
     let mut pipe = pipe;
     loop {

@@ -98,7 +98,7 @@ module _ (p q : Picture) (sound : IsSound p) (path : List ℕ) (file : FileEntry
 
 -- the first block of a file
 module _ (p q : Picture) (sound : IsSound p) (path : List ℕ) (file : FileEntry) (is : IsFileAt p path file) (none : file.blocks ≡ []) where
-  first_retried : (last : ℕ) → IsRetried p.table file.blocks None last → ⊥
+  pub first_retried : (last : ℕ) → IsRetried p.table file.blocks None last → ⊥
   first_retried last again = absurd (omega (arith, ap length (sym again.last ∙ none), length-append again.front (last ∷ [])))
 
   -- is a new one
@@ -164,11 +164,11 @@ module _ (p q : Picture) (sound : IsSound p) (path : List ℕ) (file : FileEntry
       )
 
   -- the last block isn't given again: what is named is the last one itself
+  pub never_again : (last : ℕ) → IsRetried p.table file.blocks (Some block) last → ⊥
+  never_again last again =
+      let same : last ≡ id = push_same file.blocks again.front tail.1.front last id again.last tail.1.ends in
+      let there : Contains again.front block.block_id = subst (λ (l : List ℕ). Contains l block.block_id) (sym again.behind.1) (contains_last again.behind.0 block.block_id) in
+      not_twice p sound path file is again.front last again.last block.block_id there (named ∙ sym same)
+
   pub behind_new : (found : LocatedBlock) → AddsBlock path file (Some block) found p q → AddsNew path file (Some block) found p q
   behind_new found adds = ⊎_elim (λ again. absurd (never_again again.id again.retried)) (λ added. added) adds
-    where
-      never_again : (last : ℕ) → IsRetried p.table file.blocks (Some block) last → ⊥
-      never_again last again =
-          let same : last ≡ id = push_same file.blocks again.front tail.1.front last id again.last tail.1.ends in
-          let there : Contains again.front block.block_id = subst (λ (l : List ℕ). Contains l block.block_id) (sym again.behind.1) (contains_last again.behind.0 block.block_id) in
-          not_twice p sound path file is again.front last again.last block.block_id there (named ∙ sym same)

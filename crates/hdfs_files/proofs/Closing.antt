@@ -1,5 +1,5 @@
 -- A writer asks until its file is closed.
-use Rattle.std.proofs.Common.{◌≡◌, ◌≢◌, ◌⊎◌, ⊎_elim, inl, inr, ℕ, ◌+◌, ◌<◌, List, Option, Some, None, refl, sym, ◌∙◌, ap, subst, arith}
+use Rattle.std.proofs.Common.{◌≡◌, ◌≢◌, ◌⊎◌, ⊎_elim, inl, inr, ℕ, ◌+◌, List, Option, Some, None, refl, sym, ap, subst}
 use Rattle.std.specs.Prelude.{Result, Ok, Err, Bool, true, false}
 use Rattle.hdfs_model.specs.declared.asks.Answer.{Answer}
 use Rattle.hdfs_model.specs.declared.asks.Ask.{Ask}
@@ -15,29 +15,29 @@ use Rattle.hdfs_model.specs.declared.picture.LastAnswer.TheVariants as last_answ
 use Rattle.hdfs_model.specs.Causes.{CallsRose}
 use Rattle.hdfs_model.specs.Effects.{blocks_at}
 use Rattle.hdfs_model.specs.Picture.{Picture}
-use Rattle.hdfs_model.specs.Shown.{Shown, Served}
+use Rattle.hdfs_model.specs.Shown.{Shown}
 use Rattle.hdfs_model.specs.Files.{File}
-use Rattle.hdfs_model.specs.Namenode.{last_of}
 use Rattle.hdfs_model.specs.Sound.{IsSound}
 use Rattle.hdfs_model.specs.Stores.{AgreesAt}
-use Rattle.hdfs_model.proofs.Frames.{rose_since}
+use Rattle.hdfs_model.proofs.Framing.{Leaves}
 use Rattle.hdfs_block_writer.specs.declared.block_writer.BlockWriter.{BlockWriter}
-use Rattle.hdfs_namenode.specs.Asked.{AskedOnce, as_answer, error_of as asked_error}
+use Rattle.hdfs_namenode.specs.Asked.{AskedOnce, Through, as_answer}
+use Rattle.hdfs_namenode.specs.Relaying.{RelaysTold}
 use Rattle.hdfs_files.specs.declared.file_writer.FileWriter.{FileWriter}
 use Rattle.hdfs_files.specs.OnlyFiles.{OnlyFile}
 use Rattle.hdfs_files.specs.Tails.{FileCarries}
 use Rattle.hdfs_files.specs.WholeBlocks.{ClosesWhole}
 use Rattle.hdfs_files.specs.Writers.{blocks_in, tail_done, tail_by, tail_of, IsBetweenBlocks, link_of, link_by, OnlyOwnLink, Closed, FailsToClose}
-use Rattle.hdfs_files.proofs.Completing.{IsAsked, says_closed, says_not, says_nothing, says_rose}
+use Rattle.hdfs_files.proofs.Asked.{Came}
+use Rattle.hdfs_files.proofs.Completing.{IsAsked, complete_again, only_asked, says_closed, says_not, says_nothing, says_rose}
 use Rattle.hdfs_files.proofs.Growing.{closed_agrees}
-use Rattle.hdfs_files.proofs.Joining.{tells_since, tells_close}
-use Rattle.hdfs_files.proofs.Moving.{own_link_refl, own_link_trans, own_link_served, only_file_refl}
+use Rattle.hdfs_files.proofs.Joining.{calls_since, tells_since, tells_close}
+use Rattle.hdfs_files.proofs.Moving.{own_link_refl, own_link_trans, own_link_left, only_file_refl}
 use Rattle.hdfs_files.proofs.Steps.{Shows, as_done}
-use Rattle.hdfs_files.proofs.Telling.{tells_exception, exception_cause}
+use Rattle.hdfs_files.proofs.Telling.{tells_asked, asked_cause}
 
--- So many answers were false, each of which says that the namenode has failed; and the file is closed, or not yet.
+-- So many answers were false, each of which says that a namenode has failed; and the file is closed, or not yet.
 pub record Asking (tries : ℕ) (a : Shown) (w : FileWriter) (b : Shown) : Type 0 where
-  pub size : b.namenodes ≡ a.namenodes
   pub own : OnlyOwnLink a None b None
   pub last : (tries ≡ 0) ⊎ (b.last ≡ last_answers.Fine)
   pub told : (p : Picture) (bytes : List ℕ) → a.picture ≡ Some p → (c : FileCarries p w.path (tail_done w.last) bytes)
@@ -51,11 +51,7 @@ module _ (a b : Shown) (w : FileWriter) (between : IsBetweenBlocks w) (sound : S
   known : (p : Picture) (bytes : List ℕ) → a.picture ≡ Some p → FileCarries p w.path (tail_of w) bytes → FileCarries p w.path (tail_done w.last) bytes
   known p bytes told c = as_done w between p w.path bytes c
 
-  only_asked : (p q : Picture) (bytes : List ℕ) (c : FileCarries p w.path (tail_done w.last) bytes) → IsAsked p w.path bytes w.last c.file q → OnlyFile w.path p q
-  only_asked p q bytes c (inl still) = still.only
-  only_asked p q bytes c (inr closed) = closed.only
-
-  -- there was no memory for an ask, or for the error
+  -- there was no memory for the error
   pub no_memory : FailsToClose a w errors.NoMemory b
   no_memory = record {
     own = own_link b asking.own;
@@ -63,8 +59,8 @@ module _ (a b : Shown) (w : FileWriter) (between : IsBetweenBlocks w) (sound : S
     touches = λ p bytes told c.
         (let c' = known p bytes told c in
         let f = asking.told p bytes told c' in
-        (f.0, f.1, only_asked p f.0 bytes c' f.2));
-    cause = λ p bytes told size c. tt;
+        (f.0, f.1, only_asked p w.path bytes w.last c'.file f.0 f.2));
+    cause = λ p bytes told c. tt;
   }
 
   -- all answers were false
@@ -73,30 +69,42 @@ module _ (a b : Shown) (w : FileWriter) (between : IsBetweenBlocks w) (sound : S
     own = own_link b asking.own;
     tells = (refl, ⊎_elim (λ first. absurd (some first)) (λ fine. fine) asking.last);
     touches = no_memory.touches;
-    cause = λ p bytes told size c. ⊎_elim (λ first. absurd (some first)) (λ rose. rose) (asking.told p bytes told (known p bytes told c)).3;
+    cause = λ p bytes told c. ⊎_elim (λ first. absurd (some first)) (λ rose. rose) (asking.told p bytes told (known p bytes told c)).3;
   }
 
   module _ (c : Shown) (client : List ℕ) where
+    abbrev completing : Ask
+    completing = asks.Complete w.path client w.last w.file_id
+
+    own_asked : Leaves b c → OnlyOwnLink a None c None
+    own_asked left = own_link_trans a b c None None None asking.own (own_link_left b c None left)
+
+    -- what one more ask comes to where the writer carries its file
+    asked_more : (result : Result Answer HdfsError) → Came b completing result c → (p : Picture) (bytes : List ℕ) → a.picture ≡ Some p
+        → (carried : FileCarries p w.path (tail_done w.last) bytes)
+        → (q : Picture) × (r : Picture) × (c.picture ≡ Some r) × IsSound q × IsAsked p w.path bytes w.last carried.file q
+        × RelaysTold (CallsRose b.counts c) q completing result r
+    asked_more result came p bytes told carried =
+        let f = asking.told p bytes told carried in
+        let t = came.told f.0 f.1
+        (complete_again (CallsRose b.counts c) p w.path bytes w.last carried.file client w.file_id f.0 (sound f.0 f.1) f.2) in
+        (f.0, t.0, t.1, sound f.0 f.1, f.2, t.2)
+
     -- one more was false
-    pub asked_false : 0 < b.namenodes → Served b 0 (asks.Complete w.path client w.last w.file_id) (Ok (answers.Complete false)) c → Asking (tries + 1) a w c
-    asked_false some served = record {
-      size = served.later.namenodes ∙ asking.size;
-      own = own_link_trans a b c None None None asking.own (own_link_served b c 0 (asks.Complete w.path client w.last w.file_id) (Ok (answers.Complete false)) None served);
-      last = inr served.last;
+    pub asked_false : Came b completing (Ok (answers.Complete false)) c → Asking (tries + 1) a w c
+    asked_false came = record {
+      own = own_asked came.relays.leaves;
+      last = inr came.relays.fine;
       told = λ p bytes told carried.
-          (let f = asking.told p bytes told carried in
-          let says = says_not p w.path bytes w.last carried.file b c 0 client w.file_id f.0 f.1 (sound f.0 f.1) f.2 served in (
-            says.0,
-            says.1,
-            says.3,
-            inr (0, omega (arith, some, served.later.namenodes), rose_since (a.counts.calls 0) (b.counts.calls 0) (c.counts.calls 0) (c.counts.calls 0) (asking.own.later.counts.calls 0) says.2 (omega arith)),
-          ));
+          (let m = asked_more (Ok (answers.Complete false)) came p bytes told carried in
+          let says = says_not (CallsRose b.counts c) p w.path bytes w.last carried.file client w.file_id m.0 m.3 m.1 m.4 m.5 in
+          (m.1, m.2, says.1, inr (calls_since a b c asking.own.later says.0)));
     }
 
     -- the file is closed
-    pub asked_true : Served b 0 (asks.Complete w.path client w.last w.file_id) (Ok (answers.Complete true)) c → Closed a w c
-    asked_true served = record {
-      own = own_link c (own_link_trans a b c None None None asking.own (own_link_served b c 0 (asks.Complete w.path client w.last w.file_id) (Ok (answers.Complete true)) None served));
+    pub asked_true : Came b completing (Ok (answers.Complete true)) c → Closed a w c
+    asked_true came = record {
+      own = own_link c (own_asked came.relays.leaves);
       closes = λ p bytes told carried. closes_by p bytes told w.going w.reopened between.none between.done carried;
     }
       where
@@ -106,57 +114,53 @@ module _ (a b : Shown) (w : FileWriter) (between : IsBetweenBlocks w) (sound : S
         closes_by p bytes told (Some block) o is done carried = absurd (cc is)
         closes_by p bytes told None (Some located) is done carried = absurd (cc done)
         closes_by p bytes told None None is done carried =
-            let f = asking.told p bytes told carried in
-            let says = says_closed p w.path bytes w.last carried.file b c 0 client w.file_id f.0 f.1 (sound f.0 f.1) f.2 served in (
-              says.0,
-              says.1,
-              says.2.only,
-              closed_agrees p says.0 w.path bytes w.last carried.file says.2,
-              subst (λ (l : List ℕ). ClosesWhole w.sizes.block_size p l (tail_done w.last) says.0 (blocks_in says.0 w)) (sym (ap blocks_at carried.named))
-                  (subst (ClosesWhole w.sizes.block_size p carried.file.blocks (tail_done w.last) says.0) (sym (ap blocks_at says.2.named))
-                  (says.2.done w.sizes.block_size)),
+            let m = asked_more (Ok (answers.Complete true)) came p bytes told carried in
+            let closed = says_closed (CallsRose b.counts c) p w.path bytes w.last carried.file client w.file_id m.0 m.3 m.1 m.4 m.5 in (
+              m.1,
+              m.2,
+              closed.only,
+              closed_agrees p m.1 w.path bytes w.last carried.file closed,
+              subst (λ (l : List ℕ). ClosesWhole w.sizes.block_size p l (tail_done w.last) m.1 (blocks_in m.1 w)) (sym (ap blocks_at carried.named))
+                  (subst (ClosesWhole w.sizes.block_size p carried.file.blocks (tail_done w.last) m.1) (sym (ap blocks_at closed.named))
+                  (closed.done w.sizes.block_size)),
             )
 
     -- there was no answer
-    pub asked_fault : (fault : AskFault) → 0 < b.namenodes → ((p : Picture) → b.picture ≡ Some p → p.active < b.namenodes) → Served b 0 (asks.Complete w.path client w.last w.file_id) (Err fault) c → FailsToClose a w (asked_error fault) c
-    asked_fault fault some active served = record {
-      own = own_link c (own_link_trans a b c None None None asking.own (own_link_served b c 0 (asks.Complete w.path client w.last w.file_id) (Err fault) None served));
-      tells = tells_close w.path a c (asked_error fault)
-          (tells_since a b c (asked_error fault) asking.own.later served.later (tells_exception b c fault (λ class message same. served.last ∙ ap (λ (f : AskFault). last_of (Err f)) same)));
+    pub asked_error : (error : HdfsError) → Came b completing (Err error) c → FailsToClose a w error c
+    asked_error error came = record {
+      own = own_link c (own_asked came.relays.leaves);
+      tells = tells_close w.path a c error (tells_since a b c error asking.own.later came.relays.leaves.later (tells_asked b c error came.relays.tells));
       touches = λ p bytes told carried.
           (let c' = known p bytes told carried in
-          let f = asking.told p bytes told c' in
-          says_nothing p w.path bytes w.last c'.file b c 0 client w.file_id f.0 f.1 (sound f.0 f.1) fault f.2 served);
-      cause = λ p bytes told size carried. exception_cause w.sizes.rebuilding w.path a c fault (λ class message same.
+          let m = asked_more (Err error) came p bytes told c' in
+          (m.1, m.2, says_nothing (CallsRose b.counts c) p w.path bytes w.last c'.file client w.file_id m.0 m.3 m.1 error m.4 m.5));
+      cause = λ p bytes told carried. asked_cause w.sizes.rebuilding w.path a b c error came.relays.tells (λ some.
           (let c' = known p bytes told carried in
-          let f = asking.told p bytes told c' in
-          let first : 0 ≡ f.0.active = omega (arith, active f.0 f.1, asking.size, size) in
-          let rose = says_rose p w.path bytes w.last c'.file b c 0 client w.file_id f.0 f.1 (sound f.0 f.1) class message f.2
-          (subst (λ (x : AskFault). Served b 0 (asks.Complete w.path client w.last w.file_id) (Err x) c) same served) first in
-          (0, omega (arith, some, served.later.namenodes), rose_since (a.counts.calls 0) (b.counts.calls 0) (c.counts.calls 0) (c.counts.calls 0) (asking.own.later.counts.calls 0) rose (omega arith))));
+          let m = asked_more (Err error) came p bytes told c' in
+          calls_since a b c asking.own.later
+          (says_rose (CallsRose b.counts c) p w.path bytes w.last c'.file client w.file_id m.0 m.3 m.1 error some m.4 m.5)));
     }
 
 -- before the first ask
 pub asks_first : (a : Shown) (w : FileWriter) → Asking 0 a w a
 asks_first a w = record {
-  size = refl;
   own = own_link_refl a None;
   last = inl refl;
   told = λ p bytes told c. (p, told, inl (record { kept = λ id. (refl, λ node. refl); only = only_file_refl w.path p; carried = c; same = refl }), inl refl);
 }
 
 -- the ask by what its parts are
-pub completing_as : {C : Type 0} (serves : C → ℕ → Ask → Result Answer AskFault → C → Type 0) (path path' client : List ℕ) (last last' : Option Block) (id : Option ℕ) (result result' : Result Bool HdfsError) (old new : C) → path ≡ path' → last ≡ last' → result ≡ result'
-    → AskedOnce serves (asks.Complete path client last id) old (as_answer answers.Complete result) new → AskedOnce serves (asks.Complete path' client last' id) old (as_answer answers.Complete result') new
-completing_as serves path path' client last last' id result result' old new one two three h =
-    subst (λ (r : Result Bool HdfsError). AskedOnce serves (asks.Complete path' client last' id) old (as_answer answers.Complete r) new) three
-    (subst (λ (l : Option Block). AskedOnce serves (asks.Complete path' client l id) old (as_answer answers.Complete result) new) two
-    (subst (λ (q : List ℕ). AskedOnce serves (asks.Complete q client last id) old (as_answer answers.Complete result) new) one h))
+pub completing_as : {C : Type 0} (serves : C → ℕ → Ask → Result Answer AskFault → C → Type 0) (write : Bool) (path path' client : List ℕ) (last last' : Option Block) (id : Option ℕ) (result result' : Result Bool HdfsError) (old new : Through C) → path ≡ path' → last ≡ last' → result ≡ result'
+    → AskedOnce serves write (asks.Complete path client last id) old (as_answer answers.Complete result) new → AskedOnce serves write (asks.Complete path' client last' id) old (as_answer answers.Complete result') new
+completing_as serves write path path' client last last' id result result' old new one two three h =
+    subst (λ (r : Result Bool HdfsError). AskedOnce serves write (asks.Complete path' client last' id) old (as_answer answers.Complete r) new) three
+    (subst (λ (l : Option Block). AskedOnce serves write (asks.Complete path' client l id) old (as_answer answers.Complete result) new) two
+    (subst (λ (q : List ℕ). AskedOnce serves write (asks.Complete q client last id) old (as_answer answers.Complete result) new) one h))
 
-pub adding_as : {C : Type 0} (serves : C → ℕ → Ask → Result Answer AskFault → C → Type 0) (path path' client : List ℕ) (last last' : Option Block) (excludes excludes' : List DatanodeInfo) (id : Option ℕ) (result result' : Result LocatedBlock HdfsError) (old new : C) → path ≡ path' → last ≡ last' → excludes ≡ excludes' → result ≡ result'
-    → AskedOnce serves (asks.AddBlock path client last excludes id) old (as_answer answers.AddBlock result) new → AskedOnce serves (asks.AddBlock path' client last' excludes' id) old (as_answer answers.AddBlock result') new
-adding_as serves path path' client last last' excludes excludes' id result result' old new one two three four h =
-    subst (λ (r : Result LocatedBlock HdfsError). AskedOnce serves (asks.AddBlock path' client last' excludes' id) old (as_answer answers.AddBlock r) new) four
-    (subst (λ (x : List DatanodeInfo). AskedOnce serves (asks.AddBlock path' client last' x id) old (as_answer answers.AddBlock result) new) three
-    (subst (λ (l : Option Block). AskedOnce serves (asks.AddBlock path' client l excludes id) old (as_answer answers.AddBlock result) new) two
-    (subst (λ (q : List ℕ). AskedOnce serves (asks.AddBlock q client last excludes id) old (as_answer answers.AddBlock result) new) one h)))
+pub adding_as : {C : Type 0} (serves : C → ℕ → Ask → Result Answer AskFault → C → Type 0) (write : Bool) (path path' client : List ℕ) (last last' : Option Block) (excludes excludes' : List DatanodeInfo) (id : Option ℕ) (result result' : Result LocatedBlock HdfsError) (old new : Through C) → path ≡ path' → last ≡ last' → excludes ≡ excludes' → result ≡ result'
+    → AskedOnce serves write (asks.AddBlock path client last excludes id) old (as_answer answers.AddBlock result) new → AskedOnce serves write (asks.AddBlock path' client last' excludes' id) old (as_answer answers.AddBlock result') new
+adding_as serves write path path' client last last' excludes excludes' id result result' old new one two three four h =
+    subst (λ (r : Result LocatedBlock HdfsError). AskedOnce serves write (asks.AddBlock path' client last' excludes' id) old (as_answer answers.AddBlock r) new) four
+    (subst (λ (x : List DatanodeInfo). AskedOnce serves write (asks.AddBlock path' client last' x id) old (as_answer answers.AddBlock result) new) three
+    (subst (λ (l : Option Block). AskedOnce serves write (asks.AddBlock path' client l excludes id) old (as_answer answers.AddBlock result) new) two
+    (subst (λ (q : List ℕ). AskedOnce serves write (asks.AddBlock q client last excludes id) old (as_answer answers.AddBlock result) new) one h)))

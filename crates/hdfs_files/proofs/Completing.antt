@@ -2,17 +2,19 @@
 use Rattle.std.proofs.Common.{◌≡◌, ◌⊎◌, ⊎_elim, inl, inr, ℕ, true, false, List, Option, Some, None, refl, sym, ◌∙◌, subst}
 use Rattle.std.specs.Prelude.{Contains, IsSome, Ok, Err, slice_index_or}
 use Rattle.hdfs_model.specs.declared.asks.Answer.TheVariants as answers
+use Rattle.hdfs_model.specs.declared.asks.Ask.{Ask}
 use Rattle.hdfs_model.specs.declared.asks.Ask.TheVariants as asks
-use Rattle.hdfs_model.specs.declared.asks.AskFault.{AskFault}
-use Rattle.hdfs_model.specs.declared.asks.AskFault.TheVariants as faults
+use Rattle.hdfs_model.specs.declared.errors.HdfsError.{HdfsError}
+use Rattle.hdfs_model.specs.declared.errors.HdfsError.TheVariants as errors
 use Rattle.hdfs_model.specs.declared.messages.Block.{Block}
 use Rattle.hdfs_model.specs.declared.picture.Entry.{Entry}
 use Rattle.hdfs_model.specs.declared.picture.FileEntry.{FileEntry}
-use Rattle.hdfs_model.specs.Counts.{Rose}
-use Rattle.hdfs_model.specs.Effects.{Changes, IsLast, Completes, blocks_at}
+use Rattle.hdfs_model.specs.Effects.{Changes, Completes, blocks_at}
 use Rattle.hdfs_model.specs.Picture.{Picture, SameFiles, SameButActive}
-use Rattle.hdfs_model.specs.Shown.{Shown, Served}
-use Rattle.hdfs_model.specs.Sound.{IsSound}
+use Rattle.hdfs_model.specs.Sound.{IsSound, IsFileAt}
+use Rattle.hdfs_model.proofs.Relaying.{Repeats}
+use Rattle.hdfs_model.proofs.Repeating.{complete_repeats}
+use Rattle.hdfs_namenode.specs.Relaying.{RelaysTold}
 use Rattle.hdfs_blocks.specs.Carrying.{HoldsWhole}
 use Rattle.hdfs_files.specs.OnlyFiles.{KeepsBlocks, OnlyFile}
 use Rattle.hdfs_files.specs.Tails.{StoresFront, FileCarries}
@@ -124,38 +126,62 @@ module _ (p : Picture) (path bytes : List ℕ) (last : Option Block) (file : Fil
     done = λ size. closes_kept size p q r file.blocks file.blocks (tail_done last) (λ id. (same.files.table id, λ node. same.files.held node id)) (closed.done size);
   }
 
-module _ (p : Picture) (path bytes : List ℕ) (last : Option Block) (file : FileEntry) (s t : Shown) (i : ℕ) (client : List ℕ) (id : Option ℕ) (q : Picture) (told : s.picture ≡ Some q) (sound : IsSound q) where
-  ends_still : (still : IsStill p path bytes last file q) → IsLast still.carried.file.blocks last
-  ends_still still = (last_of_carried q path last bytes still.carried sound).1
+-- nothing changed but the file
+pub only_asked : (p : Picture) (path bytes : List ℕ) (last : Option Block) (file : FileEntry) (q : Picture) → IsAsked p path bytes last file q → OnlyFile path p q
+only_asked p path bytes last file q (inl still) = still.only
+only_asked p path bytes last file q (inr closed) = closed.only
+
+module _ (risen : Type 0) (p : Picture) (path bytes : List ℕ) (last : Option Block) (file : FileEntry) (client : List ℕ) (id : Option ℕ) (q : Picture) (sound : IsSound q) where
+  abbrev completing : Ask
+  completing = asks.Complete path client last id
+
+  -- whether it is closed or not, the namenode may be asked again
+  pub complete_again : IsAsked p path bytes last file q → Repeats completing q
+  complete_again (inl still) =
+      complete_repeats path client last id q still.carried.file still.carried.named (last_of_carried q path last bytes still.carried sound).1
+  complete_again (inr closed) = complete_repeats path client last id q (record file { is_open = false }) closed.named closed.ends
+
+  still_then : (r : Picture) → IsStill p path bytes last file q → SameButActive q r ⊎ Completes path file last q r → IsAsked p path bytes last file r
+  still_then r still done = ⊎_elim
+      (λ same. inl (still_active p path bytes last file q r sound same still))
+      (λ closes. inr (from_still p path bytes last file q r sound still (subst (λ (f : FileEntry). Completes path f last q r) (sym still.same) closes)))
+      done
+
+  closed_then : (r : Picture) → IsClosedAs p path bytes last file q → SameButActive q r ⊎ Completes path (record file { is_open = false }) last q r → IsAsked p path bytes last file r
+  closed_then r closed done = ⊎_elim
+      (λ same. inr (closed_active p path bytes last file q r sound same closed))
+      (λ closes. inr (from_closed p path bytes last file q r sound closed closes))
+      done
+
+  file_still : (still : IsStill p path bytes last file q) → IsFileAt q path file
+  file_still still = subst (IsFileAt q path) still.same still.carried.named
 
   -- true says that it is closed
-  pub says_closed : IsAsked p path bytes last file q → Served s i (asks.Complete path client last id) (Ok (answers.Complete true)) t → (r : Picture) × (t.picture ≡ Some r) × IsClosedAs p path bytes last file r
-  says_closed (inl still) served =
-      let done = completed s t i path client last id q still.carried.file told still.carried.named (ends_still still) served in
-      (done.0, done.1, from_still p path bytes last file q done.0 sound still done.2)
-  says_closed (inr closed) served =
-      let done = completed s t i path client last id q (record file { is_open = false }) told closed.named closed.ends served in
-      (done.0, done.1, from_closed p path bytes last file q done.0 sound closed done.2)
+  pub says_closed : (r : Picture) → IsAsked p path bytes last file q → RelaysTold risen q completing (Ok (answers.Complete true)) r → IsClosedAs p path bytes last file r
+  says_closed r (inl still) told =
+      from_still p path bytes last file q r sound still
+      (completed risen path client last id q still.carried.file still.carried.named r told)
+  says_closed r (inr closed) told =
+      from_closed p path bytes last file q r sound closed (completed risen path client last id q (record file { is_open = false }) closed.named r told)
 
-  -- false says that the namenode has failed
-  pub says_not : IsAsked p path bytes last file q → Served s i (asks.Complete path client last id) (Ok (answers.Complete false)) t → (r : Picture) × (t.picture ≡ Some r) × Rose (s.counts.calls i) (t.counts.calls i) × IsAsked p path bytes last file r
-  says_not (inl still) served =
-      let one = not_completed s t i path client last id q still.carried.file told still.carried.named (ends_still still) served in
-      (one.0, one.1, one.2, ⊎_elim (λ same. inl (still_active p path bytes last file q one.0 sound same still)) (λ done. inr (from_still p path bytes last file q one.0 sound still done)) one.3)
-  says_not (inr closed) served =
-      let one = not_completed s t i path client last id q (record file { is_open = false }) told closed.named closed.ends served in
-      (one.0, one.1, one.2, ⊎_elim (λ same. inr (closed_active p path bytes last file q one.0 sound same closed)) (λ done. inr (from_closed p path bytes last file q one.0 sound closed done)) one.3)
+  -- false says that a namenode has failed
+  pub says_not : (r : Picture) → IsAsked p path bytes last file q → RelaysTold risen q completing (Ok (answers.Complete false)) r → risen × IsAsked p path bytes last file r
+  says_not r (inl still) told =
+      let one = not_completed risen path client last id q file (file_still still) r told in
+      (one.0, still_then r still one.1)
+  says_not r (inr closed) told =
+      let one = not_completed risen path client last id q (record file { is_open = false }) closed.named r told in
+      (one.0, closed_then r closed one.1)
 
-  -- a fault leaves all but the file
-  pub says_nothing : (fault : AskFault) → IsAsked p path bytes last file q → Served s i (asks.Complete path client last id) (Err fault) t → (r : Picture) × (t.picture ≡ Some r) × OnlyFile path p r
-  says_nothing fault (inl still) served =
-      let one = not_answered s t i path client last id q still.carried.file told still.carried.named (ends_still still) fault served in
-      (one.0, one.1, ⊎_elim (λ same. (still_active p path bytes last file q one.0 sound same still).only) (λ done. (from_still p path bytes last file q one.0 sound still done).only) one.2)
-  says_nothing fault (inr closed) served =
-      let one = not_answered s t i path client last id q (record file { is_open = false }) told closed.named closed.ends fault served in
-      (one.0, one.1, ⊎_elim (λ same. (closed_active p path bytes last file q one.0 sound same closed).only) (λ done. (from_closed p path bytes last file q one.0 sound closed done).only) one.2)
+  -- an error leaves all but the file
+  pub says_nothing : (r : Picture) (error : HdfsError) → IsAsked p path bytes last file q → RelaysTold risen q completing (Err error) r → OnlyFile path p r
+  says_nothing r error (inl still) told =
+      only_asked p path bytes last file r (still_then r still (not_answered risen path client last id q file (file_still still) r error told))
+  says_nothing r error (inr closed) told =
+      only_asked p path bytes last file r
+      (closed_then r closed (not_answered risen path client last id q (record file { is_open = false }) closed.named r error told))
 
-  -- an exception of the active namenode comes only where its count has risen
-  pub says_rose : (class message : List ℕ) → IsAsked p path bytes last file q → Served s i (asks.Complete path client last id) (Err (faults.Exception class message)) t → i ≡ q.active → Rose (s.counts.calls i) (t.counts.calls i)
-  says_rose class message (inl still) served active = complete_rose s t i path client last id q still.carried.file told still.carried.named (ends_still still) class message served active
-  says_rose class message (inr closed) served active = complete_rose s t i path client last id q (record file { is_open = false }) told closed.named closed.ends class message served active
+  -- and comes, but for want of memory, only where a namenode has failed
+  pub says_rose : (r : Picture) (error : HdfsError) → (error ≡ errors.NoMemory → ⊥) → IsAsked p path bytes last file q → RelaysTold risen q completing (Err error) r → risen
+  says_rose r error some (inl still) told = complete_rose risen path client last id q file (file_still still) r error some told
+  says_rose r error some (inr closed) told = complete_rose risen path client last id q (record file { is_open = false }) closed.named r error some told

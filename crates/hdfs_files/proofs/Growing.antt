@@ -2,26 +2,31 @@
 use Rattle.std.proofs.Common.{◌≡◌, ⊎_elim, ℕ, ◌+◌, true, false, Bool, List, [], ◌∷◌, ◌++◌, length, Option, Some, None, refl, sym, ◌∙◌, ap, subst, arith}
 use Rattle.std.proofs.lemmas.List.{length-append}
 use Rattle.std.specs.List.{list_any}
-use Rattle.std.specs.Prelude.{Contains, cond, unwrap_or}
+use Rattle.std.specs.Prelude.{Contains, IsSome, cond, unwrap_or}
 use Rattle.std.specs.Str.{bytes_eq}
 use Rattle.hdfs_model.specs.Paths.{ancestors}
+use Rattle.hdfs_model.specs.declared.asks.Ask.TheVariants as asks
 use Rattle.hdfs_model.specs.declared.messages.Block.{Block}
+use Rattle.hdfs_model.specs.declared.messages.DatanodeInfo.{DatanodeInfo}
 use Rattle.hdfs_model.specs.declared.messages.LocatedBlock.{LocatedBlock}
 use Rattle.hdfs_model.specs.declared.picture.Entry.{Entry}
 use Rattle.hdfs_model.specs.declared.picture.Entry.TheVariants as entries
 use Rattle.hdfs_model.specs.declared.picture.FileEntry.{FileEntry}
-use Rattle.hdfs_model.specs.Effects.{Changes, Creates, AddsBlock, HasBlock, IsLast, ClosesIf, Completes, blocks_at, with_entry, with_length}
+use Rattle.hdfs_model.specs.Effects.{Changes, Creates, AddsBlock, HasBlock, IsLast, IsRetried, ClosesIf, Completes, blocks_at, with_entry, with_length}
 use Rattle.hdfs_model.specs.Files.{File}
 use Rattle.hdfs_model.specs.Picture.{Picture}
 use Rattle.hdfs_model.specs.Sending.{uuids}
 use Rattle.hdfs_model.specs.Sound.{IsSound, IsFileAt}
 use Rattle.hdfs_model.specs.Stores.{AgreesAt, StoresBlocks}
+use Rattle.hdfs_model.proofs.Relaying.{Repeats}
+use Rattle.hdfs_model.proofs.Repeating.{add_repeats}
 use Rattle.hdfs_blocks.specs.Carrying.{HoldsWhole}
 use Rattle.hdfs_files.specs.OnlyFiles.{OnlyFile, SameFile}
 use Rattle.hdfs_files.specs.Tails.{Bare, StoresFront, FileCarries}
 use Rattle.hdfs_files.specs.WholeBlocks.{ClosesWhole}
 use Rattle.hdfs_files.specs.Writers.{tail_done}
 use Rattle.hdfs_files.proofs.Adding as adding
+use Rattle.hdfs_files.proofs.Others.{is_listed}
 use Rattle.hdfs_files.proofs.Placing.{at_path}
 use Rattle.hdfs_files.proofs.Touching as touching
 use Rattle.hdfs_files.proofs.WholeBlocks.{closes_none, all_closed}
@@ -43,6 +48,29 @@ pub last_of_carried : (p : Picture) (path : List ℕ) (last : Option Block) (byt
 last_of_carried p path None bytes c sound = (tt, c.carries.0)
 last_of_carried p path (Some block) bytes c sound =
     (adding.has_last p p sound path c.file c.named block.block_id block.num_bytes bytes block refl refl c.carries, adding.ends_in_last p p sound path c.file c.named block.block_id block.num_bytes bytes block refl refl c.carries)
+
+-- its last block isn't given again
+never_retried : (p : Picture) → IsSound p → (path : List ℕ) (last : Option Block) (bytes : List ℕ) (c : FileCarries p path (tail_done last) bytes)
+    → (id : ℕ) → IsRetried p.table c.file.blocks last id → ⊥
+never_retried p sound path None bytes c = adding.first_retried p p sound path c.file c.named c.carries.0
+never_retried p sound path (Some block) bytes c =
+    adding.never_again p p sound path c.file c.named block.block_id block.num_bytes bytes block refl refl c.carries
+
+-- the block table has it
+last_listed : (p : Picture) → IsSound p → (path : List ℕ) (last : Option Block) (bytes : List ℕ) (c : FileCarries p path (tail_done last) bytes)
+    → (b : Block) → last ≡ Some b → IsSome (p.table b.block_id)
+last_listed p sound path None bytes c b is = absurd (cc is)
+last_listed p sound path (Some block) bytes c b is =
+    let same : block ≡ b = cc is in
+    subst (λ (x : Block). IsSome (p.table x.block_id)) same
+    (is_listed p sound path c.file block.block_id c.named (last_of_carried p path (Some block) bytes c sound).0)
+
+-- a block behind it may be asked for again
+pub adding_repeats : (p : Picture) → IsSound p → (path : List ℕ) (last : Option Block) (bytes : List ℕ) → FileCarries p path (tail_done last) bytes
+    → (client : List ℕ) (excludes : List DatanodeInfo) (id : Option ℕ) → Repeats (asks.AddBlock path client last excludes id) p
+adding_repeats p sound path last bytes c client excludes id =
+    add_repeats path client last excludes id p c.file c.named c.being_written (last_of_carried p path last bytes c sound).1
+    (never_retried p sound path last bytes c) (last_listed p sound path last bytes c)
 
 -- the file has one block more
 longer_by : (p q : Picture) (path : List ℕ) (file file' : FileEntry) (id : ℕ) → IsFileAt p path file → IsFileAt q path file'

@@ -95,7 +95,8 @@ close_since path a b c (errors.OperationFailed name) later after h = h
 close_since path a b c (errors.FileNotFound name) later after h = tells_since a b c (errors.FileNotFound name) later after h
 close_since path a b c (errors.RPCError class message) later after h = tells_since a b c (errors.RPCError class message) later after h
 
-calls_since : (a b c : Shown) → Later a b → CallsRose b.counts c → CallsRose a.counts c
+-- a namenode has failed since an earlier call
+pub calls_since : (a b c : Shown) → Later a b → CallsRose b.counts c → CallsRose a.counts c
 calls_since a b c later h = (h.0, h.1, rose_since (a.counts.calls h.0) (b.counts.calls h.0) (c.counts.calls h.0) (c.counts.calls h.0) (later.counts.calls h.0) h.2 (omega arith))
 
 -- what is so of the last block of a file follows from what else is
@@ -149,13 +150,13 @@ cause_since settings path a b c (errors.FileNotFound name) later h = tt
 cause_since settings path a b c (errors.RPCError class message) later h = calls_since a b c later h
 
 has_cause_behind : (a b c : Shown) (w x : FileWriter) (one : List ℕ) (e : HdfsError) → Wrote a w one b x → HasCause b x e c → HasCause a w e c
-has_cause_behind a b c w x one e first then p bytes told size carried =
+has_cause_behind a b c w x one e first then p bytes told carried =
     let f = first.carries p bytes told carried in
     let carried' = subst (λ (path : List ℕ). FileCarries f.0 path (tail_of x) (bytes ++ one)) (sym first.keeps.path) f.2 in
     cause_since w.sizes.rebuilding w.path a b c e first.own.later
     (subst (λ (s : WriteSizes). CauseOfWrite s.rebuilding w.path b c e) first.keeps.sizes
     (subst (λ (path : List ℕ). CauseOfWrite x.sizes.rebuilding path b c e) first.keeps.path
-    (then f.0 (bytes ++ one) f.1 (first.own.later.namenodes ∙ size) carried')))
+    (then f.0 (bytes ++ one) f.1 carried')))
 
 -- a call that fails behind others
 pub fails_after : (a b c : Shown) (w x : FileWriter) (one : List ℕ) (e : HdfsError) → Wrote a w one b x → Fails b x e c → Fails a w e c

@@ -1,18 +1,13 @@
 -- How what calls of a writer leave as it was joins from call to call.
 use Rattle.std.proofs.Common.{◌≡◌, ⊎_elim, inl, ℕ, List, Option, Some, None, refl, sym, ◌∙◌, subst}
-use Rattle.std.specs.Prelude.{Result}
 use Rattle.hdfs_model.specs.Picture.{Picture}
-use Rattle.hdfs_model.specs.declared.asks.Answer.{Answer}
-use Rattle.hdfs_model.specs.declared.asks.Ask.{Ask}
-use Rattle.hdfs_model.specs.declared.asks.AskFault.{AskFault}
 use Rattle.hdfs_model.specs.declared.asks.LinkFault.{LinkFault}
 use Rattle.hdfs_model.specs.declared.messages.Setup.{Setup}
-use Rattle.hdfs_model.specs.Counts.{Rose}
-use Rattle.hdfs_model.specs.Namenode.{ServesTold}
+use Rattle.hdfs_model.specs.Effects.{KeepsBytes}
 use Rattle.hdfs_model.specs.Pipes.{OnlyWrites, WriteOpened, WriteNotOpened}
-use Rattle.hdfs_model.specs.Shown.{Shown, Served, SameReads, SameReadPlaces}
-use Rattle.hdfs_model.proofs.Asking.{served_keeps}
+use Rattle.hdfs_model.specs.Shown.{Shown, SameReads, SameReadPlaces}
 use Rattle.hdfs_model.proofs.Frames.{told_weaker}
+use Rattle.hdfs_model.proofs.Framing.{Leaves}
 use Rattle.hdfs_block_writer.proofs.OwnLinks as block_links
 use Rattle.hdfs_files.specs.OnlyFiles.{OnlyFile, SameFile}
 use Rattle.hdfs_files.specs.Writers.{OnlyOwnLink}
@@ -55,11 +50,10 @@ only_writes_reads : (a b : Shown) → OnlyWrites a b → SameReads a b
 only_writes_reads a b only = record { links = only.reads; places = only.places }
 
 -- and so does an ask
-served_reads : (a b : Shown) (i : ℕ) (ask : Ask) (result : Result Answer AskFault) → Served a i ask result b → SameReads a b
-served_reads a b i ask result served = record {
-  links = served.reads;
-  places = told_weaker (λ p q. ServesTold (Rose (a.counts.calls i) (b.counts.calls i)) p i ask result q) (SameReadPlaces a) a.picture b.picture
-      (λ p q h link is. (served_keeps (Rose (a.counts.calls i) (b.counts.calls i)) p q i ask result h).reads link) served.picture;
+left_reads : (a b : Shown) → Leaves a b → SameReads a b
+left_reads a b left = record {
+  links = left.reads;
+  places = told_weaker KeepsBytes (SameReadPlaces a) a.picture b.picture (λ p q keeps link is. keeps.reads link) left.bytes;
 }
 
 -- one call behind another
@@ -70,13 +64,13 @@ own_link_trans a b c x y z one two = block_links.own_link_trans a b c x y z one 
 pub own_link_refl : (a : Shown) (x : Option ℕ) → OnlyOwnLink a x a x
 own_link_refl a x = block_links.own_link_refl a x
 
--- an ask of a namenode
-pub own_link_served : (a b : Shown) (i : ℕ) (ask : Ask) (result : Result Answer AskFault) (x : Option ℕ) → Served a i ask result b → OnlyOwnLink a x b x
-own_link_served a b i ask result x served = record {
-  later = served.later;
-  reads = served_reads a b i ask result served;
-  others = λ link some apart. served.writes link;
-  none = λ link was apart. ⊎_elim (λ none. served.writes link ∙ none) (λ own. absurd (apart own)) was;
+-- an ask of namenodes
+pub own_link_left : (a b : Shown) (x : Option ℕ) → Leaves a b → OnlyOwnLink a x b x
+own_link_left a b x left = record {
+  later = left.later;
+  reads = left_reads a b left;
+  others = λ link some apart. left.writes link;
+  none = λ link was apart. ⊎_elim (λ none. left.writes link ∙ none) (λ own. absurd (apart own)) was;
   fresh = λ link mine. inl mine;
 }
 

@@ -4,36 +4,32 @@ use Rattle.std.proofs.lemmas.Bool.{cases_lt, false≢true}
 use Rattle.std.specs.Prelude.{Ok, Err, IfSome}
 use Rattle.hdfs_model.specs.declared.asks.Answer.TheVariants as answers
 use Rattle.hdfs_model.specs.declared.asks.Ask.TheVariants as asks
-use Rattle.hdfs_model.specs.declared.asks.AskFault.{AskFault}
 use Rattle.hdfs_model.specs.declared.asks.LinkFault.{LinkFault}
+use Rattle.hdfs_model.specs.declared.errors.HdfsError.{HdfsError}
 use Rattle.hdfs_model.specs.declared.errors.HdfsError.TheVariants as errors
 use Rattle.hdfs_model.specs.declared.messages.Block.{Block}
 use Rattle.hdfs_model.specs.declared.messages.LocatedBlock.{LocatedBlock}
 use Rattle.hdfs_model.specs.declared.messages.Setup.{Setup}
-use Rattle.hdfs_model.specs.Namenode.{last_of, IsToWrite}
-use Rattle.hdfs_model.specs.Picture.{Picture}
+use Rattle.hdfs_model.specs.Namenode.{IsToWrite}
 use Rattle.hdfs_model.specs.Pipes.{WriteNotOpened}
-use Rattle.hdfs_model.specs.Shown.{Shown, Served}
+use Rattle.hdfs_model.specs.Shown.{Shown}
 use Rattle.hdfs_model.specs.Sound.{IsSound}
-use Rattle.hdfs_namenode.specs.Asked.{error_of as asked_error}
 use Rattle.hdfs_recovery.specs.declared.block_plan.BlockPipeline.{BlockPipeline}
 use Rattle.hdfs_recovery.specs.declared.block_plan.RebuildSettings.{RebuildSettings}
 use Rattle.hdfs_recovery.specs.declared.block_plan.WriteFault.{WriteFault}
 use Rattle.hdfs_block_writer.specs.declared.block_writer.BlockWriter.{BlockWriter}
 use Rattle.hdfs_block_writer.specs.BlockWriters.{length_of, size_of, link_of as block_link, link_in, Stands as StandsItself}
-use Rattle.hdfs_block_writer.specs.OpenPipelines.{id_of}
 use Rattle.hdfs_block_writer.specs.Written.{Closes, GaveUp, IsCarrying, LetsGo, OpensNone, Wrote as BlockWrote, IsNew, OpensLink, BeginsWhole, fault_of}
 use Rattle.hdfs_files.specs.declared.file_writer.FileWriter.{FileWriter}
 use Rattle.hdfs_files.specs.declared.sizes.WriteSizes.{WriteSizes}
 use Rattle.hdfs_files.specs.Faults.{error_of}
 use Rattle.hdfs_files.specs.Tails.{IsFull}
 use Rattle.hdfs_files.specs.Writers.{AreLimited, ArePackets, AreSizes, plan_of, link_of, link_by, tail_by, tail_of, Keeps, Stands, IsBetweenBlocks, HasRoom, BlockStands, OnlyOwnLink, Wrote, Fails}
-use Rattle.hdfs_files.proofs.Asked.{add_rose}
-use Rattle.hdfs_files.proofs.Growing.{last_of_carried}
-use Rattle.hdfs_files.proofs.Moving.{own_link_refl, own_link_served, own_link_opened, own_link_unopened, only_file_refl}
+use Rattle.hdfs_files.proofs.Asked.{Came}
+use Rattle.hdfs_files.proofs.Moving.{own_link_refl, own_link_left, own_link_opened, own_link_unopened, only_file_refl}
 use Rattle.hdfs_files.proofs.Placing.{some_none}
-use Rattle.hdfs_files.proofs.Steps.{Shows, ended_carries, gave_up_touches, gave_up_cause, unopened_cause, wrote_carries, added_carries, opened_carries, settled_carries, unopened_touches, unopened_tells, unanswered_touches, as_done}
-use Rattle.hdfs_files.proofs.Telling.{tells_exception, tells_fault, exception_cause}
+use Rattle.hdfs_files.proofs.Steps.{Shows, ended_carries, gave_up_touches, gave_up_cause, unopened_cause, wrote_carries, added_carries, opened_carries, settled_carries, unopened_touches, unopened_tells, unanswered_touches, unanswered_rose}
+use Rattle.hdfs_files.proofs.Telling.{tells_asked, tells_fault, asked_cause}
 
 -- there was no memory before anything was done
 pub starved_fails : (a : Shown) (w : FileWriter) → link_of w ≡ None → Fails a w errors.NoMemory a
@@ -41,7 +37,7 @@ starved_fails a w idle = record {
   own = subst (λ (x : Option ℕ). OnlyOwnLink a x a None) (sym idle) (own_link_refl a None);
   tells = tt;
   touches = λ p bytes told c. (p, told, only_file_refl w.path p);
-  cause = λ p bytes told size c. tt;
+  cause = λ p bytes told c. tt;
 }
 
 -- the writer of a block that hasn't failed has a pipeline
@@ -75,18 +71,16 @@ module _ (a b : Shown) (sound : Shows IsSound a) (sound' : Shows IsSound b) (w :
   }
 
   -- its block was given up
-  pub gave_up_fails : ((p : Picture) → a.picture ≡ Some p → p.active < a.namenodes) → IsSome (block_link block) → block.settings ≡ w.sizes.rebuilding
+  pub gave_up_fails : IsSome (block_link block) → block.settings ≡ w.sizes.rebuilding
       → (fault : WriteFault) → GaveUp a block fault b → Fails a w (error_of fault) b
-  gave_up_fails active some same fault gave =
+  gave_up_fails some same fault gave =
       let pipe = has_pipe block some in
       let gives = gave pipe.0 pipe.1 in
       record {
         own = own_from None (subst (λ (x : Option ℕ). OnlyOwnLink a x b None) (sym (ap link_in pipe.1)) gives.own);
-        tells = tells_fault a b block.settings pipe.0.plan.rebuilds (IsCarrying block) (id_of pipe.0) fault gives.cause;
+        tells = tells_fault a b block.settings pipe.0.plan (IsCarrying block) fault gives.cause;
         touches = gave_up_touches a b sound sound' w block going fault gave;
-        cause = λ p bytes told size c.
-            gave_up_cause a b sound sound' w block going same fault gave p bytes told (omega (arith, active p told, size))
-            (omega (arith, size, gives.own.later.namenodes)) c;
+        cause = λ p bytes told c. gave_up_cause a b sound sound' w block going same fault gave p bytes told c;
       }
 
   -- its block is no longer than a block of the file
@@ -136,26 +130,20 @@ idle_own a x w y none own = subst (λ (g : Option BlockWriter). OnlyOwnLink a (l
 
 -- a writer of a file that asks for a block
 module _ (a m : Shown) (sound : Shows IsSound a) (w : FileWriter) (between : IsBetweenBlocks w) (client : List ℕ) where
-  pub added_wrote : (found : LocatedBlock) → found.b.num_bytes ≡ 0 → IsFull w.sizes.block_size (tail_of w) → Served a 0 (asks.AddBlock w.path client w.last [] w.file_id) (Ok (answers.AddBlock found)) m → Wrote a w [] m (record w { going = None; reopened = Some found })
-  added_wrote found empty full served = record {
+  pub added_wrote : (found : LocatedBlock) → found.b.num_bytes ≡ 0 → IsFull w.sizes.block_size (tail_of w) → Came a (asks.AddBlock w.path client w.last [] w.file_id) (Ok (answers.AddBlock found)) m → Wrote a w [] m (record w { going = None; reopened = Some found })
+  added_wrote found empty full came = record {
     keeps = record { path = refl; file_id = refl; sizes = refl };
-    own = idle_own a m w None between.none (own_link_served a m 0 (asks.AddBlock w.path client w.last [] w.file_id) (Ok (answers.AddBlock found)) None served);
-    carries = added_carries a m sound w between client found empty full served;
+    own = idle_own a m w None between.none (own_link_left a m None came.relays.leaves);
+    carries = added_carries a m sound w between client found empty full came;
   }
 
-  pub unanswered_fails : (fault : AskFault) → Served a 0 (asks.AddBlock w.path client w.last [] w.file_id) (Err fault) m → 0 < a.namenodes → ((p : Picture) → a.picture ≡ Some p → p.active < a.namenodes) → Fails a w (asked_error fault) m
-  unanswered_fails fault served some active = record {
-    own = idle_own a m w None between.none (own_link_served a m 0 (asks.AddBlock w.path client w.last [] w.file_id) (Err fault) None served);
-    tells = tells_exception a m fault (λ class message same. served.last ∙ ap (λ (f : AskFault). last_of (Err f)) same);
-    touches = unanswered_touches a m sound w between client fault served;
-    cause = λ p bytes told size c. exception_cause w.sizes.rebuilding w.path a m fault (λ class message same.
-        (let c' = as_done w between p w.path bytes c in
-        let first : 0 ≡ p.active = omega (arith, active p told, size) in (
-          0,
-          omega (arith, some, served.later.namenodes),
-          add_rose a m 0 w.path client w.last [] w.file_id p c'.file told c'.named c'.being_written (last_of_carried p w.path w.last bytes c' (sound p told)).0 class message
-              (subst (λ (x : AskFault). Served a 0 (asks.AddBlock w.path client w.last [] w.file_id) (Err x) m) same served) first,
-        )));
+  pub unanswered_fails : (error : HdfsError) → Came a (asks.AddBlock w.path client w.last [] w.file_id) (Err error) m → Fails a w error m
+  unanswered_fails error came = record {
+    own = idle_own a m w None between.none (own_link_left a m None came.relays.leaves);
+    tells = tells_asked a m error came.relays.tells;
+    touches = unanswered_touches a m sound w between client error came;
+    cause = λ p bytes told c.
+        asked_cause w.sizes.rebuilding w.path a a m error came.relays.tells (λ some. unanswered_rose a m sound w between client error some came p bytes told c);
   }
 
 -- a writer of a file that opens the pipeline of a block
@@ -175,7 +163,7 @@ module _ (m b : Shown) (w : FileWriter) (found : LocatedBlock) (none : w.going �
     own = idle_own m b w None none (own_link_unopened m b setup fault None not_opened);
     tells = unopened_tells m b w found none reopened setup fault not_opened;
     touches = unopened_touches m b w found none reopened setup fault not_opened;
-    cause = λ p bytes told size c. unopened_cause w.sizes.rebuilding w.path m b fault;
+    cause = λ p bytes told c. unopened_cause w.sizes.rebuilding w.path m b fault;
   }
 
   pub unopened_fails : (setup : Setup) (fault : WriteFault) → OpensNone m setup fault b → Fails m w (error_of fault) b

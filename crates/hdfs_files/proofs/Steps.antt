@@ -1,21 +1,23 @@
 -- What each step of a writer of a file comes to.
-use Rattle.std.proofs.Common.{◌≡◌, ⊎_elim, ℕ, ◌+◌, ◌<◌, ◌≤◌, Bool, List, [], ◌++◌, length, Option, Some, None, IsSome, refl, sym, ◌∙◌, ap, subst}
+use Rattle.std.proofs.Common.{◌≡◌, ⊎_elim, ℕ, ◌+◌, ◌≤◌, Bool, List, [], ◌++◌, length, Option, Some, None, IsSome, refl, sym, ◌∙◌, ap, subst}
 use Rattle.std.proofs.lemmas.List.{append-nil}
 use Rattle.std.specs.Prelude.{Contains, Ok, Err, slice_index_or}
 use Rattle.hdfs_model.specs.declared.asks.Answer.TheVariants as answers
 use Rattle.hdfs_model.specs.declared.asks.Ask.TheVariants as asks
-use Rattle.hdfs_model.specs.declared.asks.AskFault.{AskFault}
 use Rattle.hdfs_model.specs.declared.asks.LinkFault.{LinkFault}
 use Rattle.hdfs_model.specs.declared.asks.LinkFault.TheVariants as link_faults
+use Rattle.hdfs_model.specs.declared.errors.HdfsError.{HdfsError}
+use Rattle.hdfs_model.specs.declared.errors.HdfsError.TheVariants as errors
 use Rattle.hdfs_model.specs.declared.messages.Block.{Block}
 use Rattle.hdfs_model.specs.declared.messages.LocatedBlock.{LocatedBlock}
 use Rattle.hdfs_model.specs.declared.messages.Setup.{Setup}
 use Rattle.hdfs_model.specs.declared.picture.Entry.{Entry}
+use Rattle.hdfs_model.specs.Causes.{CallsRose}
 use Rattle.hdfs_model.specs.Effects.{AddsBlock, blocks_at}
 use Rattle.hdfs_model.specs.Picture.{Picture, SamePicture}
 use Rattle.hdfs_model.specs.Pipes.{WriteNotOpened}
 use Rattle.hdfs_model.specs.Sending.{uuids}
-use Rattle.hdfs_model.specs.Shown.{Shown, Served}
+use Rattle.hdfs_model.specs.Shown.{Shown}
 use Rattle.hdfs_model.specs.Sound.{IsSound}
 use Rattle.hdfs_model.specs.Writing.{Starts}
 use Rattle.hdfs_model.proofs.Frames.{told_after}
@@ -38,11 +40,11 @@ use Rattle.hdfs_files.specs.OnlyFiles.{OnlyFile, SameFile}
 use Rattle.hdfs_files.specs.Tails.{Tail, Finished, Reopened, Going, tail_length, IsFull, FillsBlocks, StoresFront, TailCarries, FileCarries}
 use Rattle.hdfs_files.specs.WholeBlocks.{StaysWhole}
 use Rattle.hdfs_files.specs.Writers.{blocks_in, plan_of, tail_done, tail_by, tail_of, IsBetweenBlocks, CarriesMore, TouchesFile, LeavesFile}
-use Rattle.hdfs_files.proofs.Asked.{added, not_added}
+use Rattle.hdfs_files.proofs.Asked.{Came, add_rose, added, not_added}
 use Rattle.hdfs_files.proofs.Blocks.{touches_own, going_more, going_ended, going_whole}
 use Rattle.hdfs_files.proofs.Completing.{front_same}
 use Rattle.hdfs_files.proofs.Filling.{tail_going, tail_reopened, tail_between, fills_same, fills_more, fills_trans, fills_grown}
-use Rattle.hdfs_files.proofs.Growing.{grows, last_of_carried}
+use Rattle.hdfs_files.proofs.Growing.{adding_repeats, grows}
 use Rattle.hdfs_files.proofs.Moving.{only_file_refl, only_file_trans, same_file_refl, same_file_trans}
 use Rattle.hdfs_files.proofs.Placing.{contains_last}
 use Rattle.hdfs_files.proofs.Telling.{fault_cause}
@@ -93,7 +95,7 @@ module _ (a b : Shown) (sound : Shows IsSound a) (sound' : Shows IsSound b) (wri
       let own = c'.carries.1 in
       let ends = closes.2 in
       let whole = ends.whole p c'.carries.0 told own in
-      let only = whole.3.0 in
+      let only = whole.3 in
       let touches = touches_own p (sound p told) writer.path block bytes c' whole.0 (sound' whole.0 whole.1) only in
       let same : named.block_id ≡ id_of own.pipe = ap (λ (x : Block). x.block_id) closes.1 ∙ (ends.keeps own.pipe own.is).0.id in
       let long : named.num_bytes ≡ length_of block = ap (λ (x : Block). x.num_bytes) closes.1 in (
@@ -119,21 +121,20 @@ module _ (a b : Shown) (sound : Shows IsSound a) (sound' : Shows IsSound b) (wri
       let c' = as_going p bytes c in
       let own = c'.carries.1 in
       let only = (gave own.pipe own.is).touches p told (c'.carries.0, own) in
-      (only.0, only.1, (touches_own p (sound p told) writer.path block bytes c' only.0 (sound' only.0 only.1) only.2.0).0)
+      (only.0, only.1, (touches_own p (sound p told) writer.path block bytes c' only.0 (sound' only.0 only.1) only.2).0)
 
   -- and for its cause
   pub gave_up_cause : block.settings ≡ writer.sizes.rebuilding → (fault : WriteFault) → GaveUp a block fault b → (p : Picture) (bytes : List ℕ)
-      → a.picture ≡ Some p → p.active ≡ 0 → 0 < b.namenodes → FileCarries p writer.path (tail_of writer) bytes
-      → CauseOfWrite writer.sizes.rebuilding writer.path a b (error_of fault)
-  gave_up_cause same fault gave p bytes told first some c =
+      → a.picture ≡ Some p → FileCarries p writer.path (tail_of writer) bytes → CauseOfWrite writer.sizes.rebuilding writer.path a b (error_of fault)
+  gave_up_cause same fault gave p bytes told c =
       let c' = as_going p bytes c in
       let own = c'.carries.1 in
       let gives = gave own.pipe own.is in
       let carrying : IsCarrying block p = (c'.carries.0, own) in
       let only = gives.touches p told carrying in
       subst (λ (r : RebuildSettings). CauseOfWrite r writer.path a b (error_of fault)) same
-      (fault_cause a b writer.path c'.file c'.carries.3.front (id_of own.pipe) c'.carries.3.ends only.0 only.1
-      (only.2.0.names writer.path ∙ c'.named) (IsCarrying block) p told carrying first some block.settings own.pipe.plan.rebuilds fault gives.cause)
+      (fault_cause a b writer.path c'.file c'.carries.3.front own.pipe.plan c'.carries.3.ends only.0 only.1
+      (only.2.names writer.path ∙ c'.named) (IsCarrying block) p told carrying block.settings fault gives.cause)
 
   -- more bytes went into it
   pub wrote_carries : (writer' : FileWriter) (block' : BlockWriter) (more : List ℕ) → writer'.going ≡ Some block' → length_of block' ≤ writer.sizes.block_size → Wrote a block more b block' → CarriesMore a writer more b writer'
@@ -141,7 +142,7 @@ module _ (a b : Shown) (sound : Shows IsSound a) (sound' : Shows IsSound b) (wri
       let c' = as_going p bytes c in
       let own = c'.carries.1 in
       let on = wrote.carries p c'.carries.0 told own in
-      let only = on.3.0 in
+      let only = on.3 in
       let touches = touches_own p (sound p told) writer.path block bytes c' on.0 (sound' on.0 on.1) only in
       let stays = wrote.stays own.pipe own.is in
       let keeps : KeepsBlock own.pipe.plan on.2.pipe.plan =
@@ -238,32 +239,46 @@ whole_behind p q sound w between bytes c size full found adds =
 
 module _ (a m : Shown) (sound : Shows IsSound a) (writer : FileWriter) (between : IsBetweenBlocks writer) (client : List ℕ) where
   -- a block was answered, which is to be written
-  pub added_carries : (found : LocatedBlock) → found.b.num_bytes ≡ 0 → IsFull writer.sizes.block_size (tail_of writer) → Served a 0 (asks.AddBlock writer.path client writer.last [] writer.file_id) (Ok (answers.AddBlock found)) m → CarriesMore a writer [] m (record writer { going = None; reopened = Some found })
-  added_carries found empty full served p bytes told c =
+  pub added_carries : (found : LocatedBlock) → found.b.num_bytes ≡ 0 → IsFull writer.sizes.block_size (tail_of writer) → Came a (asks.AddBlock writer.path client writer.last [] writer.file_id) (Ok (answers.AddBlock found)) m → CarriesMore a writer [] m (record writer { going = None; reopened = Some found })
+  added_carries found empty full came p bytes told c =
       let c' = as_done writer between p writer.path bytes c in
-      let add = added a m 0 writer.path client writer.last [] writer.file_id p c'.file told c'.named c'.being_written (last_of_carried p writer.path writer.last bytes c' (sound p told)).0 found served in
-      let g = grows p add.0 (sound p told) writer.path writer.last bytes c' found add.2 in (
-        add.0,
-        add.1,
-        subst (FileCarries add.0 writer.path (Reopened found)) (sym (append-nil bytes)) (record {
+      let one = came.told p told (adding_repeats p (sound p told) writer.path writer.last bytes c' client [] writer.file_id) in
+      let q = one.0 in
+      let adds = added (CallsRose a.counts m) writer.path client writer.last [] writer.file_id p c'.file c'.named q found one.2 in
+      let g = grows p q (sound p told) writer.path writer.last bytes c' found adds in (
+        q,
+        one.1,
+        subst (FileCarries q writer.path (Reopened found)) (sym (append-nil bytes)) (record {
           file = g.file;
           named = g.named;
           being_written = g.being_written;
-          carries = ([], g.front, subst (λ (n : ℕ). HoldsWhole add.0 found.b.block_id n (uuids found.locs) []) (sym empty) g.whole);
+          carries = ([], g.front, subst (λ (n : ℕ). HoldsWhole q found.b.block_id n (uuids found.locs) []) (sym empty) g.whole);
         }),
         g.only,
         g.same,
-        fills_behind p add.0 writer between bytes c' writer.sizes.block_size full found empty g.longer,
-        whole_behind p add.0 (sound p told) writer between bytes c' writer.sizes.block_size full found add.2,
+        fills_behind p q writer between bytes c' writer.sizes.block_size full found empty g.longer,
+        whole_behind p q (sound p told) writer between bytes c' writer.sizes.block_size full found adds,
       )
 
   -- no block was answered
-  pub unanswered_touches : (fault : AskFault) → Served a 0 (asks.AddBlock writer.path client writer.last [] writer.file_id) (Err fault) m → TouchesFile a writer m
-  unanswered_touches fault served p bytes told c =
+  pub unanswered_touches : (error : HdfsError) → Came a (asks.AddBlock writer.path client writer.last [] writer.file_id) (Err error) m → TouchesFile a writer m
+  unanswered_touches error came p bytes told c =
       let c' = as_done writer between p writer.path bytes c in
-      let has = (last_of_carried p writer.path writer.last bytes c' (sound p told)).0 in
-      let add = not_added a m 0 writer.path client writer.last [] writer.file_id p c'.file told c'.named c'.being_written has fault served in
-      (add.0, add.1, ⊎_elim (λ same. only_file_active writer.path p add.0 same) (λ found. (grows p add.0 (sound p told) writer.path writer.last bytes c' found.0 found.1).only) add.2)
+      let one = came.told p told (adding_repeats p (sound p told) writer.path writer.last bytes c' client [] writer.file_id) in (
+        one.0,
+        one.1,
+        ⊎_elim (λ same. only_file_active writer.path p one.0 same)
+            (λ found. (grows p one.0 (sound p told) writer.path writer.last bytes c' found.0 found.1).only)
+            (not_added (CallsRose a.counts m) writer.path client writer.last [] writer.file_id p c'.file c'.named one.0 error one.2),
+      )
+
+  -- but for want of memory, only where a namenode has failed
+  pub unanswered_rose : (error : HdfsError) → (error ≡ errors.NoMemory → ⊥) → Came a (asks.AddBlock writer.path client writer.last [] writer.file_id) (Err error) m
+      → (p : Picture) (bytes : List ℕ) → a.picture ≡ Some p → FileCarries p writer.path (tail_of writer) bytes → CallsRose a.counts m
+  unanswered_rose error some came p bytes told c =
+      let c' = as_done writer between p writer.path bytes c in
+      let one = came.told p told (adding_repeats p (sound p told) writer.path writer.last bytes c' client [] writer.file_id) in
+      add_rose (CallsRose a.counts m) writer.path client writer.last [] writer.file_id p c'.file c'.named one.0 error some one.2
 
 -- a block that is to be gone on with
 module _ (m b : Shown) (writer : FileWriter) (found : LocatedBlock) (none : writer.going ≡ None) (reopened : writer.reopened ≡ Some found) where

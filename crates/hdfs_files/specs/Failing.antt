@@ -5,9 +5,10 @@ use Rattle.hdfs_model.specs.declared.errors.HdfsError.TheVariants as errors
 use Rattle.hdfs_model.specs.declared.errors.IoFault.TheVariants as io_faults
 use Rattle.hdfs_model.specs.declared.errors.TransferFault.TheVariants as transfer
 use Rattle.hdfs_model.specs.declared.picture.LastAnswer.TheVariants as last_answers
-use Rattle.hdfs_model.specs.Causes.{CallsRose, IsTakenBy, PipelineFailed, SomeListedFailed, SomeNodeRose}
+use Rattle.hdfs_model.specs.Causes.{CallsRose, PipelineFailed, SomeListedFailed, SomeNodeRose}
 use Rattle.hdfs_model.specs.Counts.{Rose}
 use Rattle.hdfs_model.specs.Shown.{Shown}
+use Rattle.hdfs_namenode.specs.Relaying.{TellsAsk}
 use Rattle.hdfs_recovery.specs.declared.block_plan.RebuildSettings.{RebuildSettings}
 
 -- What holds of an error of a writer over any cluster, from what is shown before the call to what is shown once it has ended.
@@ -19,8 +20,8 @@ TellsWrite old new (errors.DataTransferError transfer.AllNodes) = SomeNodeRose o
 TellsWrite old new (errors.DataTransferError transfer.NoReplacement) = SomeNodeRose old.counts new
 TellsWrite old new (errors.DataTransferError (transfer.RebuildLimit rebuilds)) = SomeNodeRose old.counts new
 TellsWrite old new (errors.DataTransferError (transfer.BadAck seqno)) = Rose old.counts.links new.counts.links
-TellsWrite old new (errors.AlreadyExists message) = IsTakenBy message new
-TellsWrite old new (errors.RPCError class message) = new.last ≡ last_answers.Exception class message
+TellsWrite old new (errors.AlreadyExists message) = TellsAsk old new (errors.AlreadyExists message)
+TellsWrite old new (errors.RPCError class message) = TellsAsk old new (errors.RPCError class message)
 TellsWrite old new error = ⊥
 
 -- The same of a close, which may also not be done: the last answer to `complete` was false.

@@ -120,9 +120,8 @@ pub record Stands (shown : Shown) (writer : FileWriter) : Type 0 where
   pub apart : IsSome writer.reopened → writer.going ≡ None
   pub done : writer.failed ≡ false → writer.going ≡ None → writer.last ≡ None
 
--- A writer at work on a cluster with a namenode: it stands, hasn't failed, and its file's numbers are in their limits.
+-- A writer at work: it stands, hasn't failed, and its file's numbers are in their limits.
 pub record IsAtWork (shown : Shown) (writer : FileWriter) : Type 0 where
-  pub namenode : 0 < shown.namenodes
   pub limited : AreLimited writer.sizes
   pub stands : Stands shown writer
   pub fine : writer.failed ≡ false
@@ -183,10 +182,10 @@ LeavesFile old writer new =
     (p : Picture) (bytes : List ℕ) → old.picture ≡ Some p → FileCarries p writer.path (tail_of writer) bytes
     → (q : Picture) × (new.picture ≡ Some q) × OnlyFile writer.path p q × SameRecords p q
 
--- over a told picture of one namenode, for a writer that carries its file: an error has its cause
+-- over a told picture, for a writer that carries its file: an error has its cause
 abbrev pub HasCause : Shown → FileWriter → HdfsError → Shown → Type 0
 HasCause old writer error new =
-    (p : Picture) (bytes : List ℕ) → old.picture ≡ Some p → old.namenodes ≡ 1 → FileCarries p writer.path (tail_of writer) bytes
+    (p : Picture) (bytes : List ℕ) → old.picture ≡ Some p → FileCarries p writer.path (tail_of writer) bytes
     → CauseOfWrite writer.sizes.rebuilding writer.path old new error
 
 -- Over a told picture: a closed file stands at the path with the attributes and the bytes, and nothing changed but the file. Its blocks

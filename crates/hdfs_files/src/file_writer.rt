@@ -32,6 +32,8 @@ pub struct FileWriter {
 }
 
 impl FileWriter {
+    ghost use Rattle.hdfs_namenode.specs.Asked.{ReachesAll};
+    ghost use Rattle.hdfs_namenode.specs.Clients.{SameClient, proxy_of};
     ghost use Rattle.hdfs_files.specs.Tails.{Bare, IsFull};
     ghost use Rattle.hdfs_model.specs.Namenode.{IsToWrite};
     ghost use Rattle.hdfs_files.specs.Writers.{plan_of, AreLimited, ArePackets, AreSizes, path_of, file_id_of, sizes_of, has_failed, link_of, tail_of, tail_opened, IsAtWork, MayBegin, IsIdle, Stands, Keeps, IsBetweenBlocks, HasRoom, OnlyOwnLink, LeavesFile, Wrote, Closed, Fails, FailsToClose};
@@ -90,13 +92,12 @@ impl FileWriter {
     fn finish_block<C: Cluster>(
         &mut self,
         cluster: &mut C,
-        namenode: &NamenodeProtocol,
+        namenode: &mut NamenodeProtocol,
     ) -> Result<(), HdfsError>
-        requires namenode { 0 < (C.shown cluster.old).namenodes }
+        requires reaches { ReachesAll (proxy_of namenode.old) (C.shown cluster.old) }
         requires stands { Stands (C.shown cluster.old) self.old }
         requires fine { self.old.failed ≡ false }
-        ensures fine { self.new.failed ≡ false }
-        ensures keeps { Keeps self.old self.new }
+        ensures keeps { Keeps self.old self.new × (self.new.failed ≡ false) × SameClient namenode.old namenode.new }
         ensures between { OnOk result (IsBetweenBlocks self.new) }
         ensures full { OnOk result (IsFull self.old.sizes.block_size (tail_of self.old)
             → IsFull self.old.sizes.block_size (tail_of self.new)) }
@@ -180,13 +181,13 @@ impl FileWriter {
     fn begin_block<C: Cluster>(
         &mut self,
         cluster: &mut C,
-        namenode: &NamenodeProtocol,
+        namenode: &mut NamenodeProtocol,
     ) -> Result<(), HdfsError>
-        requires namenode { 0 < (C.shown cluster.old).namenodes }
+        requires reaches { ReachesAll (proxy_of namenode.old) (C.shown cluster.old) }
         requires begins { MayBegin self.old }
         requires full { IsFull self.old.sizes.block_size (tail_of self.old) }
         ensures fine { self.new.failed ≡ false }
-        ensures keeps { Keeps self.old self.new }
+        ensures keeps { Keeps self.old self.new × SameClient namenode.old namenode.new }
         ensures stands { OnOk result (Stands (C.shown cluster.new) self.new × HasRoom self.new) }
         ensures wrote { OnOk result (Wrote (C.shown cluster.old) self.old [] (C.shown cluster.new) self.new) }
         ensures err { IfErr result (λ error. Fails (C.shown cluster.old) self.old error (C.shown cluster.new)) }
@@ -227,14 +228,16 @@ impl FileWriter {
     fn make_room<C: Cluster>(
         &mut self,
         cluster: &mut C,
-        namenode: &NamenodeProtocol,
+        namenode: &mut NamenodeProtocol,
     ) -> Result<(), HdfsError>
+        requires reaches { ReachesAll (proxy_of namenode.old) (C.shown cluster.old) }
         requires works { IsAtWork (C.shown cluster.old) self.old }
         ensures fine { self.new.failed ≡ false }
         ensures keeps { Keeps self.old self.new }
         ensures stands { OnOk result (Stands (C.shown cluster.new) self.new × HasRoom self.new) }
         ensures wrote { OnOk result (Wrote (C.shown cluster.old) self.old [] (C.shown cluster.new) self.new) }
         ensures err { IfErr result (λ error. Fails (C.shown cluster.old) self.old error (C.shown cluster.new)) }
+        ensures client { SameClient namenode.old namenode.new }
     {
         if self.has_room() {
             return Ok(());
@@ -272,17 +275,17 @@ impl FileWriter {
     fn write_piece<C: Cluster>(
         &mut self,
         cluster: &mut C,
-        namenode: &NamenodeProtocol,
+        namenode: &mut NamenodeProtocol,
         bytes: &[u8],
     ) -> Result<usize, HdfsError>
+        requires reaches { ReachesAll (proxy_of namenode.old) (C.shown cluster.old) }
         requires works { IsAtWork (C.shown cluster.old) self.old }
         requires bytes { 0 < length bytes.now }
-        ensures fine { self.new.failed ≡ false }
         ensures stands { OnOk result (Stands (C.shown cluster.new) self.new) }
         ensures count { IfOk result (λ n. (0 < n) × (n ≤ length bytes.now)) }
         ensures wrote { IfOk result (λ n. Wrote (C.shown cluster.old) self.old (take n bytes.now) (C.shown cluster.new) self.new) }
         ensures err { IfErr result (λ error. Fails (C.shown cluster.old) self.old error (C.shown cluster.new)) }
-        ensures keeps { Keeps self.old self.new }
+        ensures keeps { Keeps self.old self.new × (self.new.failed ≡ false) × SameClient namenode.old namenode.new }
     {
         match self.make_room(cluster, namenode) {
             Ok(()) => {}
@@ -310,13 +313,13 @@ impl FileWriter {
     pub fn write<C: Cluster>(
         &mut self,
         cluster: &mut C,
-        namenode: &NamenodeProtocol,
+        namenode: &mut NamenodeProtocol,
         bytes: &[u8],
     ) -> Result<usize, HdfsError>
-        requires namenode { 0 < (C.shown cluster.old).namenodes }
+        requires reaches { ReachesAll (proxy_of namenode.old) (C.shown cluster.old) }
         requires stands { Stands (C.shown cluster.old) self.old }
 
-        ensures stands { Stands (C.shown cluster.new) self.new × Keeps self.old self.new }
+        ensures stands { Stands (C.shown cluster.new) self.new × Keeps self.old self.new × SameClient namenode.old namenode.new }
         ensures count { IfOk result (λ n. (n ≡ length bytes.now) × AreLimited (sizes_of self.old)) }
         ensures idle { IsIdle self.old bytes.now cluster.old result self.new cluster.new }
         ensures fails { (OnOk result (has_failed self.new ≡ false)) × (OnErr result (has_failed self.new ≡ true)) }
@@ -356,15 +359,16 @@ impl FileWriter {
     fn write_all<C: Cluster>(
         &mut self,
         cluster: &mut C,
-        namenode: &NamenodeProtocol,
+        namenode: &mut NamenodeProtocol,
         bytes: &[u8],
     ) -> Result<(), HdfsError>
+        requires reaches { ReachesAll (proxy_of namenode.old) (C.shown cluster.old) }
         requires works { IsAtWork (C.shown cluster.old) self.old }
         ensures fine { self.new.failed ≡ false }
         ensures stands { OnOk result (Stands (C.shown cluster.new) self.new) }
         ensures wrote { OnOk result (Wrote (C.shown cluster.old) self.old bytes.now (C.shown cluster.new) self.new) }
         ensures err { IfErr result (λ error. Fails (C.shown cluster.old) self.old error (C.shown cluster.new)) }
-        ensures keeps { Keeps self.old self.new }
+        ensures keeps { Keeps self.old self.new × SameClient namenode.old namenode.new }
         ensures none { bytes.now ≡ [] → cluster.new ≡ cluster.old }
     {
         let mut rest = bytes;
@@ -381,12 +385,13 @@ impl FileWriter {
     fn complete<C: Cluster>(
         &self,
         cluster: &mut C,
-        namenode: &NamenodeProtocol,
+        namenode: &mut NamenodeProtocol,
     ) -> Result<(), HdfsError>
-        requires namenode { 0 < (C.shown cluster.old).namenodes }
+        requires reaches { ReachesAll (proxy_of namenode.old) (C.shown cluster.old) }
         requires between { IsBetweenBlocks self.now }
         ensures closed { OnOk result (Closed (C.shown cluster.old) self.now (C.shown cluster.new)) }
         ensures err { IfErr result (λ error. FailsToClose (C.shown cluster.old) self.now error (C.shown cluster.new)) }
+        ensures client { SameClient namenode.old namenode.new }
     {
         for _ in 0..COMPLETE_RETRIES {
             match namenode.complete(
@@ -413,9 +418,9 @@ impl FileWriter {
     pub fn close<C: Cluster>(
         mut self,
         cluster: &mut C,
-        namenode: &NamenodeProtocol,
+        namenode: &mut NamenodeProtocol,
     ) -> Result<(), HdfsError>
-        requires namenode { 0 < (C.shown cluster.old).namenodes }
+        requires reaches { ReachesAll (proxy_of namenode.old) (C.shown cluster.old) }
         requires stands { Stands (C.shown cluster.old) self }
 
         ensures failed { has_failed self ≡ true → (result ≡ Err errors.Failed) × (cluster.new ≡ cluster.old) }
@@ -425,6 +430,7 @@ impl FileWriter {
         ensures closed { OnOk result (Closed (C.shown cluster.old) self (C.shown cluster.new)) }
         ensures err { IfErr result (λ error. has_failed self ≡ false
             → FailsToClose (C.shown cluster.old) self error (C.shown cluster.new)) }
+        ensures client { SameClient namenode.old namenode.new }
     {
         self.end(cluster, namenode)
     }
@@ -433,14 +439,15 @@ impl FileWriter {
     fn end<C: Cluster>(
         &mut self,
         cluster: &mut C,
-        namenode: &NamenodeProtocol,
+        namenode: &mut NamenodeProtocol,
     ) -> Result<(), HdfsError>
-        requires namenode { 0 < (C.shown cluster.old).namenodes }
+        requires reaches { ReachesAll (proxy_of namenode.old) (C.shown cluster.old) }
         requires stands { Stands (C.shown cluster.old) self.old }
         ensures failed { self.old.failed ≡ true → (result ≡ Err errors.Failed) × (cluster.new ≡ cluster.old) }
         ensures closed { OnOk result (Closed (C.shown cluster.old) self.old (C.shown cluster.new)) }
         ensures err { IfErr result (λ error. self.old.failed ≡ false
             → FailsToClose (C.shown cluster.old) self.old error (C.shown cluster.new)) }
+        ensures client { SameClient namenode.old namenode.new }
     {
         if self.failed {
             return Err(HdfsError::Failed);

@@ -1,5 +1,5 @@
 -- What comes of an ask for a datanode more, and of the transfer to it.
-use Rattle.std.proofs.Common.{◌≡◌, ◌≢◌, ◌⊎◌, inl, inr, ⊎_elim, ℕ, ◌≤◌, true, List, Some, refl, ◌∙◌, ap, subst, arith}
+use Rattle.std.proofs.Common.{◌≡◌, ◌≢◌, ◌⊎◌, inl, inr, ⊎_elim, ℕ, ◌<◌, ◌≤◌, true, List, Some, refl, ◌∙◌, ap, subst, arith}
 use Rattle.std.proofs.lemmas.List.Elements.{All-from_recursion}
 use Rattle.std.specs.List.{Contains}
 use Rattle.std.specs.Prelude.{Result, Ok, Err}
@@ -18,25 +18,27 @@ use Rattle.hdfs_model.specs.declared.messages.LocatedBlock.{LocatedBlock}
 use Rattle.hdfs_model.specs.declared.messages.Transfer.{Transfer}
 use Rattle.hdfs_model.specs.Counts.{Rose}
 use Rattle.hdfs_model.specs.Effects.{AddsOneOf}
-use Rattle.hdfs_model.specs.Namenode.{IsToWrite, Row, ServesTold}
+use Rattle.hdfs_model.specs.Namenode.{IsToWrite, Row}
 use Rattle.hdfs_model.specs.Picture.{Picture, SameButActive}
 use Rattle.hdfs_model.specs.Pipes.{OnlyWrites}
-use Rattle.hdfs_model.specs.Shown.{Later, Served, Shown}
+use Rattle.hdfs_model.specs.Shown.{Served, Shown}
 use Rattle.hdfs_model.specs.Transferring.{GivesAll, GivesSome, NotTransferred, Transferred}
 use Rattle.hdfs_model.specs.Writing.{OnlyBlock}
 use Rattle.hdfs_model.specs.Sending.{uuids}
-use Rattle.hdfs_model.proofs.Frames.{rose_since, same_picture_refl, told_after}
+use Rattle.hdfs_model.proofs.Frames.{rose_since, told_after}
+use Rattle.hdfs_model.proofs.Relaying.{Repeats}
+use Rattle.hdfs_model.proofs.Repeating.{datanode_repeats}
 use Rattle.hdfs_names.specs.Shown.{shown as policy_of}
-use Rattle.hdfs_namenode.specs.Asked.{AskedOnce}
+use Rattle.hdfs_namenode.specs.Asked.{AskedOnce, ReachesAll, Through}
 use Rattle.hdfs_recovery.specs.declared.block_plan.BlockPlan.{BlockPlan}
 use Rattle.hdfs_recovery.specs.declared.block_plan.WriteFault.TheVariants as faults
 use Rattle.hdfs_recovery.specs.declared.block_plan.RebuildSettings.{RebuildSettings}
-use Rattle.hdfs_recovery.specs.Between.{HelpFailed, KeepsLinks, OnlyBlockOf, SameActive, WaitsOn}
+use Rattle.hdfs_recovery.specs.Between.{HelpFailed, KeepsLinks, OnlyBlockOf, WaitsOn}
 use Rattle.hdfs_recovery.specs.Plans.{IsDue, Known, Waits}
 use Rattle.hdfs_recovery.specs.Replacing.{AddsNode, AddsNone, AreApart, Completes, GivesToAdded, fault_of_none, fault_of_transfer, with_nodes}
 use Rattle.hdfs_recovery.proofs.Adding.{all_in, each_apart, only_given, waits_added, waits_without}
-use Rattle.hdfs_recovery.proofs.Asks.{asked_error, asked_links, asked_ok, asked_told}
-use Rattle.hdfs_recovery.proofs.Stepping.{only_block_of_trans, only_block_of-same, same_active_trans, waits_on_refl, waits_same}
+use Rattle.hdfs_recovery.proofs.Asks.{asked_error, asked_links, asked_row, asked_told}
+use Rattle.hdfs_recovery.proofs.Stepping.{only_block_of_trans, only_block_of-same, waits_on_refl, waits_same}
 
 -- a transfer changes no link
 pub transfer_links : (old new : Shown) → OnlyWrites old new → ((link : ℕ) → new.writes link ≡ old.writes link) → KeepsLinks old new
@@ -51,78 +53,75 @@ none_fault error apart = refl
 module _ {C : Type 0} (shown : C → Shown) (serves : C → ℕ → Ask → Result Answer AskFault → C → Type 0)
     (rows : (old new : C) (i : ℕ) (ask : Ask) (result : Result Answer AskFault) → serves old i ask result new
     → Served (shown old) i ask result (shown new))
-    (plan : BlockPlan) (excludes : List DatanodeInfo) (count : ℕ) (client : List ℕ) (ids : List (List ℕ)) (old mid : C) where
+    (active : (s : C) (p : Picture) → (shown s).picture ≡ Some p → p.active < (shown s).namenodes)
+    (plan : BlockPlan) (excludes : List DatanodeInfo) (count : ℕ) (client : List ℕ) (ids : List (List ℕ)) (old mid : Through C)
+    (reaches : ReachesAll old.proxy (shown old.cluster)) where
   abbrev ask : Ask
   ask = asks.GetAdditionalDatanode plan.src plan.block.b plan.block.locs excludes count client ids
+
+  abbrev a : Shown
+  a = shown old.cluster
+
+  abbrev m : Shown
+  m = shown mid.cluster
 
   -- the ask with the parts that its caller names
   pub asked_so : (src : List ℕ) (existing : List DatanodeInfo) (outcome : Result Answer HdfsError) → src ≡ plan.src
       → existing ≡ plan.block.locs
-      → AskedOnce serves (asks.GetAdditionalDatanode src plan.block.b existing excludes count client ids) old outcome mid
-      → AskedOnce serves ask old outcome mid
+      → AskedOnce serves true (asks.GetAdditionalDatanode src plan.block.b existing excludes count client ids) old outcome mid
+      → AskedOnce serves true ask old outcome mid
   asked_so src existing outcome same same_nodes asked =
-      subst (λ (nodes : List DatanodeInfo). AskedOnce serves (asks.GetAdditionalDatanode plan.src plan.block.b nodes excludes count client ids) old outcome mid)
+      subst (λ (nodes : List DatanodeInfo). AskedOnce serves true (asks.GetAdditionalDatanode plan.src plan.block.b nodes excludes count client ids) old outcome mid)
       same_nodes
-      (subst (λ (path : List ℕ). AskedOnce serves (asks.GetAdditionalDatanode path plan.block.b existing excludes count client ids) old outcome mid)
+      (subst (λ (path : List ℕ). AskedOnce serves true (asks.GetAdditionalDatanode path plan.block.b existing excludes count client ids) old outcome mid)
       same asked)
 
   row_same : (p q : Picture) (answer : Answer) → Row p ask answer q → SameButActive p q
   row_same p q (answers.GetAdditionalDatanode located) row = row.2
-  row_same p q (answers.GetBlockLocations found) row = absurd row
-  row_same p q (answers.GetServerDefaults defaults) row = absurd row
-  row_same p q (answers.Create status) row = absurd row
-  row_same p q (answers.Append appended) row = absurd row
-  row_same p q (answers.AddBlock block) row = absurd row
-  row_same p q (answers.Complete done) row = absurd row
-  row_same p q (answers.UpdateBlockForPipeline block) row = absurd row
-  row_same p q answers.UpdatePipeline row = absurd row
+  row_same p q answer row = absurd row
+
+  -- it may be asked for again
+  again : (p : Picture) (known : Known) → Waits p plan known → Repeats ask p
+  again p known w = datanode_repeats plan.src plan.block.b plan.block.locs excludes count client ids p w.file
 
   -- Whatever comes of it, the block waits as before.
-  pub waits_asked : (outcome : Result Answer HdfsError) → AskedOnce serves ask old outcome mid → WaitsOn plan (shown old) plan (shown mid)
+  pub waits_asked : (outcome : Result Answer HdfsError) → AskedOnce serves true ask old outcome mid → WaitsOn plan a plan m
   waits_asked outcome asked p known is w =
-      let x = asked_told shown serves rows ask old mid SameButActive p is (λ own. own w.file) (λ q same. same) (λ q answer row. row_same p q answer row)
-      (same_picture_refl p).rest outcome asked in (
+      let x = asked_told shown serves rows active ask old mid reaches SameButActive p is (again p known w) (λ q same. same)
+      (λ q answer row. row_same p q answer row) outcome asked in (
         x.0,
         x.1,
         waits_same p x.0 plan known x.2 w,
         x.2.files.table plan.block.b.block_id,
         only_block_of-same plan.block.b.block_id p x.0 x.2,
-        x.3,
       )
 
   -- why none was answered
-  pub none_prepared : (outcome : Result Answer HdfsError) → AskedOnce serves ask old outcome mid
-      → AddsNone plan (shown old) faults.NoMemory (shown mid)
+  pub none_prepared : (outcome : Result Answer HdfsError) → AskedOnce serves true ask old outcome mid → AddsNone plan a faults.NoMemory m
   none_prepared outcome asked = record { cause = inl refl; waits = waits_asked outcome asked }
 
-  pub none_answered : (error : HdfsError) → AskedOnce serves ask old (Err error) mid
-      → AddsNone plan (shown old) (fault_of_none error) (shown mid)
+  pub none_answered : (error : HdfsError) → AskedOnce serves true ask old (Err error) mid → AddsNone plan a (fault_of_none error) m
   none_answered error asked = record {
     cause = ⊎_elim
         (λ memory. inl (ap fault_of_none memory))
         (λ other. inr (
           none_fault error other.0,
-          inr (λ p known is w active. other.2 p is (λ own. own w.file) (λ class none. none) active),
+          inr (λ p known is w. other.2 p is (again p known w) (λ class none. none)),
         ))
-        (asked_error shown serves rows ask old mid error asked);
+        (asked_error shown serves rows active ask old mid reaches error asked);
     waits = waits_asked (Err error) asked;
   }
 
   -- A datanode was answered: over a told picture it is none of the others, nor of those that are left out.
-  module _ (located : LocatedBlock) (asked : AskedOnce serves ask old (Ok (answers.GetAdditionalDatanode located)) mid) where
-    answered : (p : Picture) (known : Known) → (shown old).picture ≡ Some p → Waits p plan known
-        → (q : Picture) × ((shown mid).picture ≡ Some q) × AddsOneOf plan.block.locs excludes located.locs × SameButActive p q
-        × SameActive (shown old) p (shown mid) q
+  module _ (located : LocatedBlock) (asked : AskedOnce serves true ask old (Ok (answers.GetAdditionalDatanode located)) mid) where
+    answered : (p : Picture) (known : Known) → a.picture ≡ Some p → Waits p plan known
+        → (q : Picture) × (m.picture ≡ Some q) × AddsOneOf plan.block.locs excludes located.locs × SameButActive p q
     answered p known is w =
-        let served = (asked_ok shown serves rows ask old mid (answers.GetAdditionalDatanode located) asked).0 in
-        let x = told_after (λ p q. ServesTold (Rose ((shown old).counts.calls 0) ((shown mid).counts.calls 0)) p 0 ask (Ok (answers.GetAdditionalDatanode located)) q)
-        (shown old).picture (shown mid).picture p served.picture is in
-        ⊎_elim
-        (λ row. (x.0, x.1, row.1, row.2, x.2.1))
-        (λ own. absurd (own.0 w.file))
-        x.2.2
+        let x = asked_row shown serves rows active ask old mid reaches (answers.GetAdditionalDatanode located) (λ no. absurd (cc)) asked p is
+        (again p known w) in
+        (x.0, x.1, x.2.1, x.2.2)
 
-    pub apart : AreApart plan (shown old) excludes located.locs
+    pub apart : AreApart plan a excludes located.locs
     apart p known is w = let x = answered p known is w in each_apart plan.block.locs excludes located.locs x.2
 
     -- Then it is given the block, or it isn't.
@@ -133,52 +132,42 @@ module _ {C : Type 0} (shown : C → Shown) (serves : C → ℕ → Ask → Resu
           only_block_of_trans plan.block.b.block_id p q r (only_block_of-same plan.block.b.block_id p q same)
           (only_given transfer q r plan.block.b.block_id (ap (λ (b : Block). b.block_id) gives.block) only)
 
-      active_both : Later (shown mid) new → (p q r : Picture) → SameActive (shown old) p (shown mid) q → r.active ≡ q.active
-          → SameActive (shown old) p new r
-      active_both later p q r first then =
-          same_active_trans (shown old) (shown mid) new p q r
-          (asked_links shown serves rows ask old mid (Ok (answers.GetAdditionalDatanode located)) asked).later later first (inl then)
-
-      pub waits_with : Transferred (shown mid) transfer new → WaitsOn plan (shown old) (with_nodes plan located) new
+      pub waits_with : Transferred m transfer new → WaitsOn plan a (with_nodes plan located) new
       waits_with given p known is w =
           let x = answered p known is w in
-          let y = told_after (GivesAll transfer) (shown mid).picture new.picture x.0 given.gives x.1 in
+          let y = told_after (GivesAll transfer) m.picture new.picture x.0 given.gives x.1 in
           let only = y.2.only in (
             y.0,
             y.1,
             waits_added plan excludes located name transfer x.2 gives x.0 known (waits_same p x.0 plan known x.3 w) y.0 y.2,
             only.records.table plan.block.b.block_id ∙ x.3.files.table plan.block.b.block_id,
             only_both p x.0 y.0 x.3 only,
-            active_both given.only.later p x.0 y.0 x.4 only.records.active,
           )
 
-      pub none_given : (fault : LinkFault) → NotTransferred (shown mid) transfer fault new
-          → AddsNone plan (shown old) (fault_of_transfer fault) new
+      pub none_given : (fault : LinkFault) → NotTransferred m transfer fault new → AddsNone plan a (fault_of_transfer fault) new
       none_given fault given = record {
         cause = why fault given.cause;
         waits = λ p known is w.
             (let x = answered p known is w in
-            let y = told_after (GivesSome transfer) (shown mid).picture new.picture x.0 given.gives x.1 in
+            let y = told_after (GivesSome transfer) m.picture new.picture x.0 given.gives x.1 in
             let only = y.2.only in (
               y.0,
               y.1,
               waits_without plan excludes located name transfer x.2 gives x.0 known (waits_same p x.0 plan known x.3 w) y.0 y.2,
               only.records.table plan.block.b.block_id ∙ x.3.files.table plan.block.b.block_id,
               only_both p x.0 y.0 x.3 only,
-              active_both given.only.later p x.0 y.0 x.4 only.records.active,
             ));
       }
         where
-          before : (shown old).counts.links ≤ (shown mid).counts.links
-          before = (asked_links shown serves rows ask old mid (Ok (answers.GetAdditionalDatanode located)) asked).later.counts.links
+          before : a.counts.links ≤ m.counts.links
+          before = (asked_links shown serves rows active ask old mid reaches (Ok (answers.GetAdditionalDatanode located)) asked).later.counts.links
 
-          failed : Rose (shown mid).counts.links new.counts.links → HelpFailed plan (shown old) new
-          failed rose =
-              inl (rose_since (shown old).counts.links (shown mid).counts.links new.counts.links new.counts.links before rose (omega arith))
+          failed : Rose m.counts.links new.counts.links → HelpFailed plan a new
+          failed rose = inl (rose_since a.counts.links m.counts.links new.counts.links new.counts.links before rose (omega arith))
 
-          why : (fault : LinkFault) → (fault ≢ links.NoMemory → Rose (shown mid).counts.links new.counts.links)
+          why : (fault : LinkFault) → (fault ≢ links.NoMemory → Rose m.counts.links new.counts.links)
               → (fault_of_transfer fault ≡ faults.NoMemory)
-              ⊎ ((fault_of_transfer fault ≡ faults.NoReplacement) × HelpFailed plan (shown old) new)
+              ⊎ ((fault_of_transfer fault ≡ faults.NoReplacement) × HelpFailed plan a new)
           why links.NoMemory cause = inl refl
           why links.Broken cause = inr (refl, failed (cause (λ same. absurd (cc))))
           why links.Refused cause = inr (refl, failed (cause (λ same. absurd (cc))))

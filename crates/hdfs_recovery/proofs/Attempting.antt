@@ -8,6 +8,7 @@ use Rattle.hdfs_model.specs.declared.errors.HdfsError.{HdfsError}
 use Rattle.hdfs_model.specs.declared.messages.Block.{Block}
 use Rattle.hdfs_model.specs.declared.picture.BlockEntry.{BlockEntry}
 use Rattle.hdfs_model.specs.declared.picture.OpenWrite.{OpenWrite}
+use Rattle.hdfs_model.specs.Causes.{CallsRose}
 use Rattle.hdfs_model.specs.Counts.{Rose}
 use Rattle.hdfs_model.specs.Effects.{NamesPipeline}
 use Rattle.hdfs_model.specs.Namenode.{IsToWrite}
@@ -16,7 +17,7 @@ use Rattle.hdfs_model.specs.Pipes.{WriteEnded}
 use Rattle.hdfs_model.specs.Sending.{WritePlace, uuids}
 use Rattle.hdfs_model.specs.Shown.{Shown, Later}
 use Rattle.hdfs_model.specs.Writing.{Releases}
-use Rattle.hdfs_model.proofs.Frames.{later_refl, later_trans, rose_since, told_after}
+use Rattle.hdfs_model.proofs.Frames.{later_trans, rose_since, told_after}
 use Rattle.hdfs_pipeline.specs.Cores.{IsCore}
 use Rattle.hdfs_pipeline.specs.Driving.{Settles, StopsShort}
 use Rattle.hdfs_pipeline.specs.Places.{ArePlaces}
@@ -29,19 +30,19 @@ use Rattle.hdfs_recovery.specs.declared.block_plan.BlockPlan.{BlockPlan}
 use Rattle.hdfs_recovery.specs.declared.block_plan.WriteFault.{WriteFault}
 use Rattle.hdfs_recovery.specs.declared.block_plan.WriteFault.TheVariants as faults
 use Rattle.hdfs_recovery.specs.declared.replay.SentAgain.{SentAgain}
-use Rattle.hdfs_recovery.specs.Between.{KeepsLinks, NamenodeFailed, OnlyBlockOf, SameActive, Touches}
+use Rattle.hdfs_recovery.specs.Between.{KeepsLinks, NamenodeFailed, OnlyBlockOf, Touches}
 use Rattle.hdfs_recovery.specs.Plans.{IsRecovery, Known, Waits}
 use Rattle.hdfs_recovery.specs.Resuming.{NamesNot, NamesSo, Reopens, ReopensNot, SendsAgain}
 use Rattle.hdfs_recovery.specs.Trying.{Collects, CollectsNot, FallsAgain, HaveFailed, ResumedNot, StandsAgain, course_of}
 use Rattle.hdfs_recovery.proofs.Ending.{Drifts, LinkOnly, keeps_links_by, link_only_trans, link_only_of-ended, link_only_of-keeps, link_only_of-on, link_only_of-opened}
-use Rattle.hdfs_recovery.proofs.Resuming.{opened_goes, opened_empty, opened_window, opened_nodes, opened_picture, opened_told, opened_carries, opened_lists, opened_only, opened_active, opened_settles, sent_picture, sent_told, sent_only, sent_active, sent_place, sent_at, sent_block, sent_settled, sent_entry, sent_holds, sent_carries, named_holds, named_carries, may_be_named_only, may_be_named_writes, released_only, some_is}
-use Rattle.hdfs_recovery.proofs.Stepping.{only_block_of_refl, only_block_of-named, only_block_of-only, only_block_of-same, only_block_of_trans, same_active_trans, written_still}
+use Rattle.hdfs_recovery.proofs.Resuming.{opened_goes, opened_empty, opened_window, opened_nodes, opened_picture, opened_told, opened_carries, opened_lists, opened_only, opened_settles, sent_picture, sent_told, sent_only, sent_place, sent_at, sent_block, sent_settled, sent_entry, sent_holds, sent_carries, named_holds, named_carries, may_be_named_only, may_be_named_writes, released_only, some_is}
+use Rattle.hdfs_recovery.proofs.Stepping.{calls_rose_since, only_block_of_refl, only_block_of-named, only_block_of-only, only_block_of-same, only_block_of_trans, tells_since, written_still}
 
 -- A link was set up, packets were sent again on it, and the namenode was asked something.
 module _ (plan : BlockPlan) (block : Block) (least : ℕ) (client : List ℕ) (window : ℕ) (replay : List Outgoing) (link : ℕ) (core : Pipeline)
     (a b m n : Shown) (sent : SentAgain) (to_write : IsToWrite plan.block) (same : block.block_id ≡ plan.block.b.block_id)
     (windows : (1 ≤ window) × (window ≤ 1000)) (empty : core ≡ empty_pipeline window (length plan.block.locs))
-    (reopens : Reopens block plan least client a link b) (sends : SendsAgain link replay core b sent m) (links : KeepsLinks m n) where
+    (reopens : Reopens (IsRecovery block plan least client) a link b) (sends : SendsAgain link replay core b sent m) (links : KeepsLinks m n) where
   abbrev id : ℕ
   id = plan.block.b.block_id
 
@@ -129,11 +130,6 @@ module _ (plan : BlockPlan) (block : Block) (least : ℕ) (client : List ℕ) (w
         (opened_only plan block least client window link core a b to_write windows empty reopens same p known told w)
         (sent_only plan link replay core b m sent sends e1 p1 known t1 c1 l1 to_write.some s1)
 
-    a2 : p2.active ≡ p.active
-    a2 =
-        sent_active plan link replay core b m sent sends e1 p1 known t1 c1 l1 to_write.some s1
-        ∙ opened_active plan block least client window link core a b to_write windows empty reopens same p known told w
-
     abbrev entry2 : BlockEntry
     entry2 = l1.entry
 
@@ -150,20 +146,17 @@ module _ (plan : BlockPlan) (block : Block) (least : ℕ) (client : List ℕ) (w
     c2 slices going = sent_carries plan link replay core b m sent sends e1 p1 known t1 c1 l1 to_write.some s1 slices going
 
     -- what an ask came to, whatever that was, and the end of the link behind responses alone
-    module _ (q : Picture) (to_q : OnlyBlockOf id p2 q) (active : SameActive m p2 n q) (at : q.writes link ≡ Some place2) (x z : Shown) where
+    module _ (q : Picture) (to_q : OnlyBlockOf id p2 q) (at : q.writes link ≡ Some place2) (x z : Shown) where
       module _ (told_x : (r : Picture) × (place : WritePlace) × (x.picture ≡ Some r) × (r.writes link ≡ Some place) × OnlyBlockOf id q r
-          × (r.active ≡ q.active) × (place.block ≡ id)) (gone : WriteEnded x link z) (later : Later n x) where
-        pub closed : (r : Picture) × (z.picture ≡ Some r) × OnlyBlockOf id p r × SameActive a p z r
+          × (place.block ≡ id)) (gone : WriteEnded x link z) where
+        pub closed : (r : Picture) × (z.picture ≡ Some r) × OnlyBlockOf id p r
         closed =
-            let e = told_after (Releases link) x.picture z.picture told_x.0 gone.released told_x.2 in
-            let later_z = later_trans n x z later gone.writes.only.later in (
+            let e = told_after (Releases link) x.picture z.picture told_x.0 gone.released told_x.2 in (
               e.0,
               e.1,
               only_block_of_trans id p p2 e.0 o2
                   (only_block_of_trans id p2 q e.0 to_q
-                  (only_block_of_trans id q told_x.0 e.0 told_x.4 (released_only id link told_x.0 e.0 told_x.1 told_x.3 told_x.6 e.2))),
-              same_active_trans a m z p p2 e.0 until_sent.later (later_trans m n z links.later later_z) (inl a2)
-                  (same_active_trans m n z p2 q e.0 links.later later_z active (inl (e.2.0.records.active ∙ told_x.5))),
+                  (only_block_of_trans id q told_x.0 e.0 told_x.4 (released_only id link told_x.0 e.0 told_x.1 told_x.3 told_x.5 e.2))),
             )
 
   -- the pipeline was named
@@ -205,7 +198,6 @@ module _ (plan : BlockPlan) (block : Block) (least : ℕ) (client : List ℕ) (w
                 (named_holds plan block same link r q.0 known q.2 (h2 p known told w slices)).lists,
                 only_block_of_trans id p r q.0 (o2 p known told w)
                     (only_block_of-named id block plan.block.b (map (λ node. node.id) plan.block.locs) r q.0 same q.2),
-                same_active_trans a m n p r q.0 until_sent.later links.later (inl (a2 p known told w)) q.3,
               );
         }
 
@@ -229,22 +221,21 @@ module _ (plan : BlockPlan) (block : Block) (least : ℕ) (client : List ℕ) (w
           let at = q.2.changes.bytes.writes link ∙ at2 p known told w in
           let d = drifts.told q.0 (place2 p known told w) 0 q.1 at (settled2 p known told w) in
           closed p known told w q.0
-          (only_block_of-named id block plan.block.b (map (λ node. node.id) plan.block.locs) r q.0 same q.2) q.3 at x z (
+          (only_block_of-named id block plan.block.b (map (λ node. node.id) plan.block.locs) r q.0 same q.2) at x z (
             d.0,
             d.1,
             d.2,
             d.3,
             subst (λ (i : ℕ). OnlyBlockOf i q.0 d.0) (block2 p known told w)
                 (only_block_of-only (place2 p known told w).block (place2 p known told w).nodes q.0 d.0 d.4.only),
-            d.4.only.records.active,
             d.4.moves.block ∙ block2 p known told w,
           )
-          gone drifts.on.only.later
+          gone
 
       -- the block waits with the datanodes of the plan, which are listed
       waits_again : (p : Picture) (known : Known) → a.picture ≡ Some p → Waits p plan known → AreSlices known.bytes known.safe replay
           → (q : Picture) × (z.picture ≡ Some q) × Waits q plan (record known { listed = nodes })
-          × OnlyBlockOf id p q × SameActive a p z q
+          × OnlyBlockOf id p q
       waits_again p known told w slices =
           let r = p2 p known told w in
           let q = names r (entry2 p known told w) (t2 p known told w) (is2 p known told w) in
@@ -267,7 +258,6 @@ module _ (plan : BlockPlan) (block : Block) (least : ℕ) (client : List ℕ) (w
                   (λ k node lt. (k, lt, get_or_default nodes k (slice_index_or nodes k node) node lt));
             },
             o,
-            subst (SameActive a p z) (some_is t.0 e.0 (sym t.1 ∙ e.1)) t.3,
           )
 
       pub falls_again : (fallen : Fallen) → Collects plan sent fallen → FallsAgain (course_of plan block least client window replay) a fallen z
@@ -299,12 +289,11 @@ module _ (plan : BlockPlan) (block : Block) (least : ℕ) (client : List ℕ) (w
   -- It wasn't, and the link was ended.
   module _ (fault : WriteFault) (z : Shown) (not : NamesNot block plan m fault n) (gone : WriteEnded n link z) where
     unnamed_failed : (error : HdfsError) → fault ≡ faults.Namenode error
-        → ((p : Picture) (entry : BlockEntry) → m.picture ≡ Some p → p.table block.block_id ≡ Some entry → p.active ≡ 0
-        → Rose (m.counts.calls 0) (n.counts.calls 0)) → NamenodeFailed plan a z
-    unnamed_failed error is rose p known told w active =
-        rose_since (a.counts.calls 0) (m.counts.calls 0) (n.counts.calls 0) (z.counts.calls 0) (until_sent.later.counts.calls 0)
-        (rose (p2 p known told w) (entry2 p known told w) (t2 p known told w) (is2 p known told w) (a2 p known told w ∙ active))
-        (gone.writes.only.later.counts.calls 0)
+        → ((p : Picture) (entry : BlockEntry) → m.picture ≡ Some p → p.table block.block_id ≡ Some entry → CallsRose m.counts n)
+        → NamenodeFailed plan a z
+    unnamed_failed error is rose p known told w =
+        calls_rose_since a m n z until_sent.later gone.writes.only.later
+        (rose (p2 p known told w) (entry2 p known told w) (t2 p known told w) (is2 p known told w))
 
     pub names_not : ResumedNot plan a fault z
     names_not = record {
@@ -317,7 +306,7 @@ module _ (plan : BlockPlan) (block : Block) (least : ℕ) (client : List ℕ) (w
             asked.0,
             asked.1,
             asked.2,
-            (asked.3.0, asked.3.1, gone.writes.only.last ∙ asked.3.2),
+            tells_since a m n z asked.0 gone.writes.only.last asked.3,
             unnamed_failed asked.0 asked.1 asked.4,
           ))
           not.cause);
@@ -325,15 +314,15 @@ module _ (plan : BlockPlan) (block : Block) (least : ℕ) (client : List ℕ) (w
           let r = p2 p known told w in
           let q = not.may r (entry2 p known told w) (t2 p known told w) (is2 p known told w) in
           let at = may_be_named_writes plan block r q.0 link q.2 ∙ at2 p known told w in
-          closed p known told w q.0 (may_be_named_only plan block r q.0 same q.2) q.3 at n z
-          (q.0, place2 p known told w, q.1, at, only_block_of_refl id q.0, refl, block2 p known told w) gone (later_refl n);
+          closed p known told w q.0 (may_be_named_only plan block r q.0 same q.2) at n z
+          (q.0, place2 p known told w, q.1, at, only_block_of_refl id q.0, block2 p known told w) gone;
     }
 
 -- Memory was wanting while the packets were sent again, and the link was ended.
 module _ (plan : BlockPlan) (block : Block) (least : ℕ) (client : List ℕ) (window : ℕ) (replay : List Outgoing) (link : ℕ) (core : Pipeline)
     (a b n z : Shown) (to_write : IsToWrite plan.block) (same : block.block_id ≡ plan.block.b.block_id)
     (windows : (1 ≤ window) × (window ≤ 1000)) (empty : core ≡ empty_pipeline window (length plan.block.locs))
-    (reopens : Reopens block plan least client a link b) (stops : StopsShort link replay core b n) (gone : WriteEnded n link z) where
+    (reopens : Reopens (IsRecovery block plan least client) a link b) (stops : StopsShort link replay core b n) (gone : WriteEnded n link z) where
   pub stops_short : ResumedNot plan a faults.NoMemory z
   stops_short = record {
     links =
@@ -357,8 +346,6 @@ module _ (plan : BlockPlan) (block : Block) (least : ℕ) (client : List ℕ) (w
               (only_block_of_trans id p1 d.0 e.0
               (subst (λ (i : ℕ). OnlyBlockOf i p1 d.0) c1.on.block (only_block_of-only c1.on.place.block c1.on.place.nodes p1 d.0 d.4.only))
               (released_only id link d.0 e.0 d.1 d.3 (d.4.moves.block ∙ c1.on.block) e.2)),
-          inl (e.2.0.records.active ∙ d.4.only.records.active
-              ∙ opened_active plan block least client window link core a b to_write windows empty reopens same p known told w),
         );
   }
 
@@ -369,5 +356,5 @@ reopens_not plan a fault b none = record {
   cause = ⊎_elim (λ memory. inl (inl memory)) (λ links. inr (⊎_elim (λ link. inl link) (λ setup. inr (inl setup)) links.0, links.1)) none.cause;
   touches = λ p known told w.
       let x = told_after SamePicture a.picture b.picture p none.picture told in
-      (x.0, x.1, only_block_of-same plan.block.b.block_id p x.0 x.2.rest, inl x.2.active);
+      (x.0, x.1, only_block_of-same plan.block.b.block_id p x.0 x.2.rest);
 }

@@ -86,7 +86,7 @@ drifts_short link core a b stops = record {
 -- A pipeline was driven to its end, or memory was wanting for that, and its link was ended.
 pub falls : {C : Type 0} (shown : C → Shown) (ends : C → ℕ → C → Type 0)
     → ((old new : C) (link : ℕ) → ends old link new → WriteEnded (shown old) link (shown new)) → (link : ℕ) (core : Pipeline) (old new : C)
-    → FallsFrom shown ends link core old new → (before : Shown) × Drifts link core (shown old) before × WriteEnded before link (shown new)
+    → FallsFrom shown (λ before. ends before link new) link core old → (before : Shown) × Drifts link core (shown old) before × WriteEnded before link (shown new)
 falls shown ends row link core old new (before, ended, inl (last, drove)) =
     (shown before, drifts_by link core last (shown old) (shown before) drove, row before new link ended)
 falls shown ends row link core old new (before, ended, inr stops) =

@@ -1,5 +1,5 @@
 -- A pipeline is rebuilt again and again, until an attempt stands or comes to no link.
-use Rattle.std.proofs.Common.{◌≡◌, ℕ, suc, ◌-◌, ◌<◌, List, refl, sym, ◌∙◌, subst, arith}
+use Rattle.std.proofs.Common.{◌≡◌, ℕ, suc, ◌-◌, ◌<◌, List, refl, ◌∙◌, subst, arith}
 use Rattle.hdfs_wire.specs.Outgoing.{Outgoing}
 use Rattle.hdfs_model.specs.Shown.{Shown}
 use Rattle.hdfs_recovery.specs.declared.attempts.Attempt.TheVariants as attempts
@@ -15,16 +15,16 @@ use Rattle.hdfs_recovery.proofs.Trying.{can_rebuild_again}
 -- Attempts have failed so far, and the pipeline can be rebuilt again.
 pub record FellSoFar (plan : BlockPlan) (settings : RebuildSettings) (client : List ℕ) (failed : List ℕ) (replay : List Outgoing) (unsent : ℕ)
     (old : Shown) (fallen : Fallen) (now : Shown) : Type 0 where
-  pub namenodes : 0 < now.namenodes
+  pub namenodes : now.namenodes ≡ old.namenodes
   pub can : CanRebuild fallen.plan settings fallen.failed fallen.replay unsent
   pub same : fallen.replay ≡ replay
   pub times : ℕ
   pub missed : MissedTimes times (task_of settings client replay unsent) (standing plan failed old) (standing fallen.plan fallen.failed now)
 
 module _ (plan : BlockPlan) (settings : RebuildSettings) (client : List ℕ) (failed : List ℕ) (replay : List Outgoing) (unsent : ℕ) (old : Shown) where
-  pub none_fell : 0 < old.namenodes → CanRebuild plan settings failed replay unsent
+  pub none_fell : CanRebuild plan settings failed replay unsent
       → FellSoFar plan settings client failed replay unsent old (record { plan = plan; failed = failed; replay = replay }) old
-  none_fell some can = record { namenodes = some; can = can; same = refl; times = 0; missed = refl }
+  none_fell can = record { namenodes = refl; can = can; same = refl; times = 0; missed = refl }
 
   module _ (fallen : Fallen) (now : Shown) (s : FellSoFar plan settings client failed replay unsent old fallen now) where
     -- one more has
@@ -39,7 +39,7 @@ module _ (plan : BlockPlan) (settings : RebuildSettings) (client : List ℕ) (fa
 
       pub one_fell : FellSoFar plan settings client failed replay unsent old next new
       one_fell = record {
-        namenodes = subst (λ (n : ℕ). 0 < n) (sym attempt.0.begins.later.namenodes) s.namenodes;
+        namenodes = attempt.0.begins.later.namenodes ∙ s.namenodes;
         can = can_rebuild_again fallen.plan settings fallen.failed now new client fallen.replay unsent next s.can attempt;
         same = attempt.1 ∙ s.same;
         times = suc s.times;

@@ -12,31 +12,32 @@ use Rattle.hdfs_recovery.specs.declared.attempts.Fallen.{Fallen}
 use Rattle.hdfs_recovery.specs.declared.block_plan.BlockPlan.{BlockPlan}
 use Rattle.hdfs_recovery.specs.declared.block_plan.WriteFault.{WriteFault}
 use Rattle.hdfs_recovery.specs.declared.replay.SentAgain.{SentAgain}
-use Rattle.hdfs_recovery.specs.Resuming.{Reopens, SendsAndNames, SendsOrNamesNot}
+use Rattle.hdfs_recovery.specs.Plans.{IsRecovery}
+use Rattle.hdfs_recovery.specs.Resuming.{Reopens, SendsAndNames, SendsOrNamesNot, resending}
 use Rattle.hdfs_recovery.specs.Trying.{Collects, CollectsNot, Resumed, ResumedNot, course_of}
 use Rattle.hdfs_recovery.proofs.Attempting.{stands_again, falls_again, collects_not, names_not, stops_short}
 use Rattle.hdfs_recovery.proofs.Ending.{Drifts}
 
 -- A link that was set up in a name was set up in one that is the same.
 pub reopened_as : (block : Block) (plan : BlockPlan) (least : ℕ) (x y : List ℕ) (a : Shown) (link : ℕ) (b : Shown) → x ≡ y
-    → Reopens block plan least x a link b → Reopens block plan least y a link b
-reopened_as block plan least x y a link b same reopens = subst (λ (name : List ℕ). Reopens block plan least name a link b) same reopens
+    → Reopens (IsRecovery block plan least x) a link b → Reopens (IsRecovery block plan least y) a link b
+reopened_as block plan least x y a link b same reopens = subst (λ (name : List ℕ). Reopens (IsRecovery block plan least name) a link b) same reopens
 
 -- Packets that were sent again for a block were so for one that is the same.
 pub sent_for : (link : ℕ) (replay : List Outgoing) (core : Pipeline) (x y : Block) (plan : BlockPlan) (b : Shown) (sent : SentAgain) (n : Shown)
-    → x ≡ y → SendsAndNames link replay core x plan b sent n → SendsAndNames link replay core y plan b sent n
-sent_for link replay core x y plan b sent n same sends = subst (λ (name : Block). SendsAndNames link replay core name plan b sent n) same sends
+    → x ≡ y → SendsAndNames (resending link replay core b) x plan sent n → SendsAndNames (resending link replay core b) y plan sent n
+sent_for link replay core x y plan b sent n same sends = subst (λ (name : Block). SendsAndNames (resending link replay core b) name plan sent n) same sends
 
 pub unsent_for : (link : ℕ) (replay : List Outgoing) (core : Pipeline) (x y : Block) (plan : BlockPlan) (b : Shown) (fault : WriteFault)
-    (n : Shown) → x ≡ y → SendsOrNamesNot link replay core x plan b fault n → SendsOrNamesNot link replay core y plan b fault n
-unsent_for link replay core x y plan b fault n same none = subst (λ (name : Block). SendsOrNamesNot link replay core name plan b fault n) same none
+    (n : Shown) → x ≡ y → SendsOrNamesNot (resending link replay core b) x plan fault n → SendsOrNamesNot (resending link replay core b) y plan fault n
+unsent_for link replay core x y plan b fault n same none = subst (λ (name : Block). SendsOrNamesNot (resending link replay core b) name plan fault n) same none
 
 module _ (plan : BlockPlan) (block : Block) (least : ℕ) (client : List ℕ) (window : ℕ) (replay : List Outgoing) (link : ℕ) (core : Pipeline)
     (a b : Shown) (to_write : IsToWrite plan.block) (same : block.block_id ≡ plan.block.b.block_id)
     (windows : (1 ≤ window) × (window ≤ 1000)) (empty : core ≡ empty_pipeline window (length plan.block.locs))
-    (reopens : Reopens block plan least client a link b) where
+    (reopens : Reopens (IsRecovery block plan least client) a link b) where
   -- the packets were sent, and the pipeline was named
-  module _ (sent : SentAgain) (n : Shown) (s : SendsAndNames link replay core block plan b sent n) (is_core : IsCore sent.core) where
+  module _ (sent : SentAgain) (n : Shown) (s : SendsAndNames (resending link replay core b) block plan sent n) (is_core : IsCore sent.core) where
     pub resumed_stands : sent.core.end ≡ None
         → Resumed (course_of plan block least client window replay) a (attempts.Stands (record { plan = plan; core = sent.core; link = link })) n
     resumed_stands going =
@@ -57,7 +58,7 @@ module _ (plan : BlockPlan) (block : Block) (least : ℕ) (client : List ℕ) (w
           s.names is_core before z drifts gone fault none
 
   -- they weren't, or it wasn't, and the link was ended
-  pub resumed_unsent : (fault : WriteFault) (n z : Shown) → SendsOrNamesNot link replay core block plan b fault n → WriteEnded n link z
+  pub resumed_unsent : (fault : WriteFault) (n z : Shown) → SendsOrNamesNot (resending link replay core b) block plan fault n → WriteEnded n link z
       → ResumedNot plan a fault z
   resumed_unsent fault n z (inl (memory, stops)) gone =
       subst (λ (f : WriteFault). ResumedNot plan a f z) (sym memory)

@@ -28,7 +28,7 @@ use Rattle.hdfs_blocks.proofs.Recovering.{holds_named, replay_fails, replay_furt
 use Rattle.hdfs_recovery.specs.declared.block_plan.BlockPlan.{BlockPlan}
 use Rattle.hdfs_recovery.specs.declared.replay.SentAgain.{SentAgain}
 use Rattle.hdfs_recovery.specs.Between.{OnlyBlockOf}
-use Rattle.hdfs_recovery.specs.Plans.{Known, Waits}
+use Rattle.hdfs_recovery.specs.Plans.{IsRecovery, Known, Waits}
 use Rattle.hdfs_recovery.specs.Resuming.{MayBeNamed, Reopens, SendsAgain}
 use Rattle.hdfs_recovery.proofs.Stepping.{only_block_of-named, only_block_of-only, only_block_of-same}
 
@@ -71,7 +71,7 @@ fresh_settles setup p place window fresh =
 -- A pipeline was set up with the datanodes of a plan.
 module _ (plan : BlockPlan) (block : Block) (least : ℕ) (client : List ℕ) (window link : ℕ) (core : Pipeline) (a b : Shown)
     (to_write : IsToWrite plan.block) (windows : (1 ≤ window) × (window ≤ 1000))
-    (empty : core ≡ empty_pipeline window (length plan.block.locs)) (reopens : Reopens block plan least client a link b) where
+    (empty : core ≡ empty_pipeline window (length plan.block.locs)) (reopens : Reopens (IsRecovery block plan least client) a link b) where
   abbrev new_write : OpenWrite
   new_write = record { setup = reopens.setup; end = None; waiting = [] }
 
@@ -140,9 +140,6 @@ module _ (plan : BlockPlan) (block : Block) (least : ℕ) (client : List ℕ) (w
         only_block_of-only plan.block.b.block_id [] p opened_picture
         (only_block_from-Starts p opened_picture plan.block.b.block_id [] link reopens.setup after.2 after.2.unused)
 
-    pub opened_active : opened_picture.active ≡ p.active
-    opened_active = after.2.active
-
     pub opened_settles : Settles opened_carries.on.place core 0
     opened_settles =
         subst (λ (place : WritePlace). Settles place core 0)
@@ -187,9 +184,6 @@ module _ (plan : BlockPlan) (link : ℕ) (replay : List Outgoing) (core : Pipeli
       only_block_of-only plan.block.b.block_id (uuids plan.block.locs) p sent_picture
       (only_block_same c.on.place.block plan.block.b.block_id c.on.place.nodes (uuids plan.block.locs) p sent_picture c.on.block
       c.on.same_nodes drove_told.4.only)
-
-  pub sent_active : sent_picture.active ≡ p.active
-  sent_active = drove_told.4.only.records.active
 
   pub sent_entry : sent_picture.table plan.block.b.block_id ≡ Some lists.entry
   sent_entry = drove_told.4.only.records.table plan.block.b.block_id ∙ lists.is

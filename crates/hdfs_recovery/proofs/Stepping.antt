@@ -2,9 +2,12 @@
 use Rattle.std.proofs.Common.{◌≡◌, inl, inr, ⊎_elim, ℕ, ◌==◌, List, Some, refl, sym, ◌∙◌, subst, arith}
 use Rattle.std.proofs.lemmas.Bool.{cond-false, ne_eqb}
 use Rattle.std.specs.List.{Contains}
+use Rattle.hdfs_model.specs.declared.errors.HdfsError.{HdfsError}
+use Rattle.hdfs_model.specs.declared.errors.HdfsError.TheVariants as errors
 use Rattle.hdfs_model.specs.declared.messages.Block.{Block}
 use Rattle.hdfs_model.specs.declared.messages.DatanodeId.{DatanodeId}
 use Rattle.hdfs_model.specs.declared.picture.BlockEntry.{BlockEntry}
+use Rattle.hdfs_model.specs.Causes.{CallsRose}
 use Rattle.hdfs_model.specs.Effects.{IsBeingWritten, NamesPipeline, names_of}
 use Rattle.hdfs_model.specs.Picture.{Picture, SameButActive}
 use Rattle.hdfs_model.specs.Shown.{Shown, Later}
@@ -12,8 +15,9 @@ use Rattle.hdfs_model.specs.Writing.{OnlyBlock}
 use Rattle.hdfs_model.proofs.Frames.{rose_since, later_refl, later_trans, same_reads_refl, same_reads_trans}
 use Rattle.hdfs_model.specs.Sending.{uuids}
 use Rattle.hdfs_blocks.proofs.Rebuilding.{waits_stays}
+use Rattle.hdfs_namenode.specs.Relaying.{TellsAsk}
 use Rattle.hdfs_recovery.specs.declared.block_plan.BlockPlan.{BlockPlan}
-use Rattle.hdfs_recovery.specs.Between.{KeepsLinks, OnlyBlockOf, SameActive, Touches, WaitsOn, NamenodeFailed, HelpFailed}
+use Rattle.hdfs_recovery.specs.Between.{KeepsLinks, OnlyBlockOf, Touches, WaitsOn, NamenodeFailed, HelpFailed}
 use Rattle.hdfs_recovery.specs.Plans.{Known, Waits}
 
 pub keeps_links_refl : (a : Shown) → KeepsLinks a a
@@ -81,17 +85,21 @@ only_block_of-named id block block' nodes p q same named = record {
   writes = λ link place at apart. named.changes.bytes.writes link ∙ at;
 }
 
-pub same_active_refl : (a : Shown) (p : Picture) → SameActive a p a p
-same_active_refl a p = inl refl
+-- What has failed between two moments has failed from an earlier one to a later one.
+pub calls_rose_since : (a b c d : Shown) → Later a b → Later c d → CallsRose b.counts c → CallsRose a.counts d
+calls_rose_since a b c d first then rose = (
+  rose.0,
+  omega (arith, rose.1, then.namenodes),
+  rose_since (a.counts.calls rose.0) (b.counts.calls rose.0) (c.counts.calls rose.0) (d.counts.calls rose.0) (first.counts.calls rose.0) rose.2
+      (then.counts.calls rose.0),
+)
 
-pub same_active_trans : (a b c : Shown) (p q r : Picture) → Later a b → Later b c → SameActive a p b q → SameActive b q c r → SameActive a p c r
-same_active_trans a b c p q r f g first then = ⊎_elim
-    (λ same. ⊎_elim
-    (λ still. inl (still ∙ same))
-    (λ rose. inr (rose_since (a.counts.calls 0) (b.counts.calls 0) (c.counts.calls 0) (c.counts.calls 0) (f.counts.calls 0) rose (omega arith)))
-    then)
-    (λ rose. inr (rose_since (a.counts.calls 0) (a.counts.calls 0) (b.counts.calls 0) (c.counts.calls 0) (omega arith) rose (g.counts.calls 0)))
-    first
+-- An error tells as much of more calls, where the last ask is the same.
+pub tells_since : (a b c d : Shown) (error : HdfsError) → d.last ≡ c.last → TellsAsk b c error → TellsAsk a d error
+tells_since a b c d errors.NoMemory same tells = tt
+tells_since a b c d (errors.AlreadyExists message) same tells = (tells.0, tells.1, same ∙ tells.2)
+tells_since a b c d (errors.RPCError class message) same tells = (tells.0, same ∙ tells.1)
+tells_since a b c d error same tells = absurd tells
 
 -- The block is written still where names stay.
 pub written_still : (p q : Picture) (path : List ℕ) (block block' : Block) → ((at : List ℕ) → q.names at ≡ p.names at)
@@ -113,10 +121,10 @@ waits_same p q plan known same w = record {
 }
 
 pub waits_on_refl : (plan : BlockPlan) (a : Shown) → WaitsOn plan a plan a
-waits_on_refl plan a p known is w = (p, is, w, refl, only_block_of_refl plan.block.b.block_id p, same_active_refl a p)
+waits_on_refl plan a p known is w = (p, is, w, refl, only_block_of_refl plan.block.b.block_id p)
 
 -- One step comes behind another.
-module _ (plan plan' : BlockPlan) (a b c : Shown) (same : plan'.block.b.block_id ≡ plan.block.b.block_id) (first : Later a b) (then : Later b c)
+module _ (plan plan' : BlockPlan) (a b c : Shown) (same : plan'.block.b.block_id ≡ plan.block.b.block_id) (first : Later a b)
     (f : WaitsOn plan a plan' b) where
   pub waits_on_trans : (plan'' : BlockPlan) → WaitsOn plan' b plan'' c → WaitsOn plan a plan'' c
   waits_on_trans plan'' g p known is w =
@@ -127,7 +135,6 @@ module _ (plan plan' : BlockPlan) (a b c : Shown) (same : plan'.block.b.block_id
         y.2,
         subst (λ (id : ℕ). y.0.table id ≡ x.0.table id) same y.3 ∙ x.3,
         only_block_of_trans plan.block.b.block_id p x.0 y.0 x.4 (subst (λ (id : ℕ). OnlyBlockOf id x.0 y.0) same y.4),
-        same_active_trans a b c p x.0 y.0 first then x.5 y.5,
       )
 
   pub touches_behind : Touches plan' b c → Touches plan a c
@@ -137,17 +144,11 @@ module _ (plan plan' : BlockPlan) (a b c : Shown) (same : plan'.block.b.block_id
         y.0,
         y.1,
         only_block_of_trans plan.block.b.block_id p x.0 y.0 x.4 (subst (λ (id : ℕ). OnlyBlockOf id x.0 y.0) same y.2),
-        same_active_trans a b c p x.0 y.0 first then x.5 y.3,
       )
 
-  -- A namenode has failed behind the first step, or it has failed in that.
+  -- A namenode has failed behind the first step.
   pub failed_behind : NamenodeFailed plan' b c → NamenodeFailed plan a c
-  failed_behind g p known is w active =
-      let x = f p known is w in
-      ⊎_elim
-      (λ still. rose_since (a.counts.calls 0) (b.counts.calls 0) (c.counts.calls 0) (c.counts.calls 0) (first.counts.calls 0) (g x.0 known x.1 x.2 (still ∙ active)) (omega arith))
-      (λ rose. rose_since (a.counts.calls 0) (a.counts.calls 0) (b.counts.calls 0) (c.counts.calls 0) (omega arith) rose (then.counts.calls 0))
-      x.5
+  failed_behind g p known is w = let x = f p known is w in calls_rose_since a b c c first (later_refl c) (g x.0 known x.1 x.2)
 
   pub help_failed_behind : HelpFailed plan' b c → HelpFailed plan a c
   help_failed_behind g = ⊎_elim
@@ -156,12 +157,11 @@ module _ (plan plan' : BlockPlan) (a b c : Shown) (same : plan'.block.b.block_id
       g
 
 pub touches_by : (plan plan' : BlockPlan) (a b : Shown) → WaitsOn plan a plan' b → Touches plan a b
-touches_by plan plan' a b f p known is w = let x = f p known is w in (x.0, x.1, x.4, x.5)
+touches_by plan plan' a b f p known is w = let x = f p known is w in (x.0, x.1, x.4)
 
 -- What has failed before a step has failed behind it.
 pub failed_before : (plan : BlockPlan) (a b c : Shown) → Later b c → NamenodeFailed plan a b → NamenodeFailed plan a c
-failed_before plan a b c later f p known is w active =
-    rose_since (a.counts.calls 0) (a.counts.calls 0) (b.counts.calls 0) (c.counts.calls 0) (omega arith) (f p known is w active) (later.counts.calls 0)
+failed_before plan a b c later f p known is w = calls_rose_since a a b c (later_refl a) later (f p known is w)
 
 pub help_failed_before : (plan : BlockPlan) (a b c : Shown) → Later b c → HelpFailed plan a b → HelpFailed plan a c
 help_failed_before plan a b c later f = ⊎_elim

@@ -31,7 +31,7 @@ use Rattle.hdfs_recovery.specs.Resuming.{Restamps, RestampsNot, with_stamp}
 use Rattle.hdfs_recovery.specs.Trying.{FallsAgain, ResumeCause, Resumed, ResumedNot, StandsAgain, course_of}
 use Rattle.hdfs_recovery.proofs.Adding.{one_more_long}
 use Rattle.hdfs_recovery.proofs.Leaving.{left_or_failed, left_plan, waits_for_left}
-use Rattle.hdfs_recovery.proofs.Stepping.{failed_behind, help_failed_before, keeps_links_trans, only_block_of_trans, same_active_trans, touches_behind, touches_by, waits_on_trans}
+use Rattle.hdfs_recovery.proofs.Stepping.{failed_behind, help_failed_before, keeps_links_trans, only_block_of_trans, tells_since, touches_behind, touches_by, waits_on_trans}
 
 keeps_plan_trans : (a b c : BlockPlan) → KeepsPlan a b → KeepsPlan b c → KeepsPlan a c
 keeps_plan_trans a b c f g = record {
@@ -127,12 +127,12 @@ module _ (plan0 plan2 plan3 : BlockPlan) (settings : RebuildSettings) (failed : 
   waits_second p known told w = completes.waits p known told (waits_for_left p plan0 failed known w)
 
   pub waits_next : WaitsOn plan0 a plan3 n
-  waits_next = waits_on_trans plan0 plan2 a m n to_second.id stays.later keeps.later waits_second plan3 restamps.waits
+  waits_next = waits_on_trans plan0 plan2 a m n to_second.id stays.later waits_second plan3 restamps.waits
 
   help_failed_first : HelpFailed (left_plan plan0 failed) a m → HelpFailed plan0 a m
   help_failed_first h = ⊎_elim
       (λ links. inl links)
-      (λ namenode. inr (λ p known told w active. namenode p known told (waits_for_left p plan0 failed known w) active))
+      (λ namenode. inr (λ p known told w. namenode p known told (waits_for_left p plan0 failed known w)))
       h
 
   apart_next : (p : Picture) (known : Known) → a.picture ≡ Some p → Waits p plan0 known
@@ -217,7 +217,6 @@ module _ (plan0 plan2 plan3 : BlockPlan) (settings : RebuildSettings) (failed : 
                 (sym stands.plan) y.2,
             subst (λ (b : BlockPlan). IsListed y.0 b.block.b.block_id (uuids b.block.locs) known.bytes) (sym stands.plan) y.3,
             only_block_of_trans id p x.0 y.0 x.4 (subst (λ (i : ℕ). OnlyBlockOf i x.0 y.0) to_next.id y.4),
-            same_active_trans a n z p x.0 y.0 stays_until.later stands.later x.5 y.5,
           );
     }
 
@@ -242,7 +241,6 @@ module _ (plan0 plan2 plan3 : BlockPlan) (settings : RebuildSettings) (failed : 
                   y.1,
                   y.2,
                   only_block_of_trans id p x.0 y.0 x.4 (subst (λ (i : ℕ). OnlyBlockOf i x.0 y.0) to_next.id y.3),
-                  same_active_trans a n z p x.0 y.0 stays_until.later falls.links.later x.5 y.4,
                 );
           }),
       falls.replay,
@@ -260,8 +258,11 @@ module _ (plan0 plan2 plan3 : BlockPlan) (settings : RebuildSettings) (failed : 
     resume_cause fault kept (inl (inl memory)) =
         subst (λ (f : WriteFault). HasRebuildCause (task_of settings client replay unsent) (standing plan0 failed a) f z) (sym memory) tt
     resume_cause fault kept (inl (inr asked)) =
-        subst (λ (f : WriteFault). HasRebuildCause (task_of settings client replay unsent) (standing plan0 failed a) f z) (sym asked.1)
-        (asked.2, asked.3, failed_behind plan0 plan3 a n z to_next.id stays_until.later kept.later waits_next asked.4)
+        subst (λ (f : WriteFault). HasRebuildCause (task_of settings client replay unsent) (standing plan0 failed a) f z) (sym asked.1) (
+          asked.2,
+          tells_since a n z z asked.0 refl asked.3,
+          failed_behind plan0 plan3 a n z to_next.id stays_until.later waits_next asked.4,
+        )
     resume_cause fault kept (inr (which, rose)) =
         let since = rose_since a.counts.links n.counts.links z.counts.links z.counts.links stays_until.later.counts.links rose (omega arith) in
         ⊎_elim
@@ -277,7 +278,7 @@ module _ (plan0 plan2 plan3 : BlockPlan) (settings : RebuildSettings) (failed : 
     resume_gave_none fault not = record {
       links = keeps_links_trans a n z stays_until not.links;
       cause = resume_cause fault not.links not.cause;
-      touches = touches_behind plan0 plan3 a n z to_next.id stays_until.later not.links.later waits_next not.touches;
+      touches = touches_behind plan0 plan3 a n z to_next.id stays_until.later waits_next not.touches;
     }
 
 -- The block has no greater stamp.
@@ -292,10 +293,13 @@ restamp_gave_none plan0 plan2 settings failed a m n client replay unsent fault s
       links = keeps_links_trans a m n stays keeps;
       cause = ⊎_elim
           (λ memory. subst (λ (f : WriteFault). HasRebuildCause (task_of settings client replay unsent) (standing plan0 failed a) f n) (sym memory) tt)
-          (λ asked. subst (λ (f : WriteFault). HasRebuildCause (task_of settings client replay unsent) (standing plan0 failed a) f n) (sym asked.1)
-          (asked.2, asked.3, failed_behind plan0 plan2 a m n kept.0.id stays.later keeps.later waits asked.4))
+          (λ asked. subst (λ (f : WriteFault). HasRebuildCause (task_of settings client replay unsent) (standing plan0 failed a) f n) (sym asked.1) (
+            asked.2,
+            tells_since a m n n asked.0 refl asked.3,
+            failed_behind plan0 plan2 a m n kept.0.id stays.later waits asked.4,
+          ))
           not.cause;
-      touches = touches_behind plan0 plan2 a m n kept.0.id stays.later keeps.later waits (touches_by plan2 plan2 m n not.waits);
+      touches = touches_behind plan0 plan2 a m n kept.0.id stays.later waits (touches_by plan2 plan2 m n not.waits);
     }
 
 -- The pipeline has not the datanodes that are due.
@@ -311,12 +315,12 @@ complete_gave_none plan0 settings failed a m client replay unsent fault stays no
         none.2,
         ⊎_elim
             (λ links. inl links)
-            (λ namenode. inr (λ p known told w active. namenode p known told (waits_for_left p plan0 failed known w) active))
+            (λ namenode. inr (λ p known told w. namenode p known told (waits_for_left p plan0 failed known w)))
             none.3,
         λ p known told w. (let x = not.waits p known told (waits_for_left p plan0 failed known w) in (x.0, x.1, x.3)),
       ))
       not.cause;
-  touches = λ p known told w. let x = not.waits p known told (waits_for_left p plan0 failed known w) in (x.0, x.1, x.4, x.5);
+  touches = λ p known told w. let x = not.waits p known told (waits_for_left p plan0 failed known w) in (x.0, x.1, x.4);
 }
 
 -- A pipeline that has fallen can be rebuilt again.

@@ -24,7 +24,8 @@ use Rattle.hdfs_blocks.specs.Carrying.{AreSlices, FollowFrom, LinkCarries, total
 use Rattle.hdfs_recovery.specs.Plans.{IsDue, IsNextPlan, IsRecovery, Known, Waits, without}
 use Rattle.hdfs_blocks.specs.Rebuilding.{IsListed}
 use Rattle.hdfs_recovery.specs.Trying.{HaveFailed}
-use Rattle.hdfs_recovery.specs.Between.{KeepsLinks, OnlyBlockOf, SameActive, Touches, HelpFailed, NamenodeFailed, IsLastError, KeepsEntry}
+use Rattle.hdfs_namenode.specs.Relaying.{TellsAsk}
+use Rattle.hdfs_recovery.specs.Between.{KeepsLinks, OnlyBlockOf, Touches, HelpFailed, NamenodeFailed, KeepsEntry}
 
 -- what a rebuild is to do: with these settings, in the name of this client, these packets are sent again, and behind them the block has
 -- so many bytes that weren't sent
@@ -76,7 +77,7 @@ pub record Missed (task : Task) (before after : Standing) : Type 0 where
   pub told : (p : Picture) (known : Known) → before.shown.picture ≡ Some p → Waits p before.plan known
       → AreSlices known.bytes known.safe task.replay
       → (q : Picture) × (after.shown.picture ≡ Some q) × Waits q after.plan (record known { listed = uuids after.plan.block.locs })
-      × OnlyBlockOf before.plan.block.b.block_id p q × SameActive before.shown p after.shown q
+      × OnlyBlockOf before.plan.block.b.block_id p q
 
 -- so many attempts have failed, one behind another
 abbrev pub MissedTimes : ℕ → Task → Standing → Standing → Type 0
@@ -100,7 +101,7 @@ pub record Recovered (task : Task) (before : Standing) (rebuilt : BlockPipeline)
       → (q : Picture) × (new.picture ≡ Some q)
       × LinkCarries q rebuilt.link rebuilt.plan.block.b.block_id (uuids rebuilt.plan.block.locs) known.safe task.replay known.bytes
       × IsListed q rebuilt.plan.block.b.block_id (uuids rebuilt.plan.block.locs) known.bytes
-      × OnlyBlockOf before.plan.block.b.block_id p q × SameActive before.shown p new q
+      × OnlyBlockOf before.plan.block.b.block_id p q
 
 -- Why an attempt comes to no link. Want of memory alone is free.
 abbrev pub HasRebuildCause : Task → Standing → WriteFault → Shown → Type 0
@@ -115,7 +116,7 @@ HasRebuildCause task before faults.NoReplacement new = IsDue before.plan task.se
 HasRebuildCause task before (faults.RebuildLimit rebuilds) new =
     (rebuilds ≡ before.plan.rebuilds) × (before.plan.rebuilds ≡ task.settings.rebuild_limit) × (new ≡ before.shown)
 HasRebuildCause task before (faults.Namenode error) new =
-    (error ≢ errors.NoMemory) × IsLastError error new × NamenodeFailed before.plan before.shown new
+    (error ≢ errors.NoMemory) × TellsAsk before.shown new error × NamenodeFailed before.plan before.shown new
 
 -- An attempt came to no link, for this cause, and left none.
 pub record GaveNone (task : Task) (before : Standing) (fault : WriteFault) (new : Shown) : Type 0 where

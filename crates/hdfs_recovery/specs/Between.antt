@@ -1,9 +1,6 @@
 -- What happens to a block between two pipelines.
-use Rattle.std.specs.Prelude.{◌≡◌, ◌≢◌, ◌⊎◌, ℕ, List, Some, Err}
-use Rattle.hdfs_model.specs.declared.asks.AskFault.{AskFault}
-use Rattle.hdfs_model.specs.declared.errors.HdfsError.{HdfsError}
-use Rattle.hdfs_model.specs.Namenode.{last_of}
-use Rattle.hdfs_namenode.specs.Asked.{error_of}
+use Rattle.std.specs.Prelude.{◌≡◌, ◌≢◌, ◌⊎◌, ℕ, List, Some}
+use Rattle.hdfs_model.specs.Causes.{CallsRose}
 use Rattle.hdfs_model.specs.Counts.{Rose}
 use Rattle.hdfs_model.specs.Picture.{Picture}
 use Rattle.hdfs_model.specs.Sending.{WritePlace}
@@ -26,36 +23,27 @@ pub record OnlyBlockOf (id : ℕ) (old new : Picture) : Type 0 where
   pub reads : (link : ℕ) → new.reads link ≡ old.reads link
   pub writes : (link : ℕ) (place : WritePlace) → old.writes link ≡ Some place → place.block ≢ id → new.writes link ≡ Some place
 
--- another namenode is active only where the count of the first one rose
-abbrev pub SameActive : Shown → Picture → Shown → Picture → Type 0
-SameActive old p new q = (q.active ≡ p.active) ⊎ Rose (old.counts.calls 0) (new.counts.calls 0)
-
 -- over a told picture, where a block waits: nothing changed but this block
 abbrev pub Touches : BlockPlan → Shown → Shown → Type 0
 Touches plan old new = (p : Picture) (known : Known) → old.picture ≡ Some p → Waits p plan known
-    → (q : Picture) × (new.picture ≡ Some q) × OnlyBlockOf plan.block.b.block_id p q × SameActive old p new q
+    → (q : Picture) × (new.picture ≡ Some q) × OnlyBlockOf plan.block.b.block_id p q
 
 -- Over a told picture, where a block waits: it waits still, with the datanodes of another plan, and stands in the block table as before;
 -- nothing changed but what datanodes hold of it.
 abbrev pub WaitsOn : BlockPlan → Shown → BlockPlan → Shown → Type 0
 WaitsOn plan old plan' new = (p : Picture) (known : Known) → old.picture ≡ Some p → Waits p plan known
     → (q : Picture) × (new.picture ≡ Some q) × Waits q plan' known × (q.table plan.block.b.block_id ≡ p.table plan.block.b.block_id)
-    × OnlyBlockOf plan.block.b.block_id p q × SameActive old p new q
+    × OnlyBlockOf plan.block.b.block_id p q
 
 -- over a told picture, where a block waits: it stands in the block table as before
 abbrev pub KeepsEntry : BlockPlan → Shown → Shown → Type 0
 KeepsEntry plan old new = (p : Picture) (known : Known) → old.picture ≡ Some p → Waits p plan known
     → (q : Picture) × (new.picture ≡ Some q) × (q.table plan.block.b.block_id ≡ p.table plan.block.b.block_id)
 
--- over a told picture in which the first namenode is active, where a block waits: this namenode has failed
+-- over a told picture, where a block waits: a namenode has failed
 abbrev pub NamenodeFailed : BlockPlan → Shown → Shown → Type 0
-NamenodeFailed plan old new = (p : Picture) (known : Known) → old.picture ≡ Some p → Waits p plan known → p.active ≡ 0
-    → Rose (old.counts.calls 0) (new.counts.calls 0)
+NamenodeFailed plan old new = (p : Picture) (known : Known) → old.picture ≡ Some p → Waits p plan known → CallsRose old.counts new
 
--- the last answer of a namenode stands for this error
-abbrev pub IsLastError : HdfsError → Shown → Type 0
-IsLastError error shown = (fault : AskFault) × (error ≡ error_of fault) × (shown.last ≡ last_of (Err fault))
-
--- the links have failed, as a transfer or a set-up does, or the namenode has
+-- the links have failed, as a transfer or a set-up does, or a namenode has
 abbrev pub HelpFailed : BlockPlan → Shown → Shown → Type 0
 HelpFailed plan old new = Rose old.counts.links new.counts.links ⊎ NamenodeFailed plan old new

@@ -7,11 +7,13 @@ use Rattle.hdfs_model.specs.declared.messages.Block.{Block}
 use Rattle.hdfs_model.specs.declared.messages.Setup.{Setup}
 use Rattle.hdfs_model.specs.declared.messages.Token.{Token}
 use Rattle.hdfs_model.specs.declared.picture.BlockEntry.{BlockEntry}
+use Rattle.hdfs_model.specs.Causes.{CallsRose}
 use Rattle.hdfs_model.specs.Counts.{Rose}
 use Rattle.hdfs_model.specs.Effects.{NamesPipeline}
 use Rattle.hdfs_model.specs.Picture.{Picture, SameButActive, SamePicture, Told}
 use Rattle.hdfs_model.specs.Pipes.{FollowsOn, WriteOpened}
 use Rattle.hdfs_model.specs.Shown.{Shown}
+use Rattle.hdfs_namenode.specs.Relaying.{TellsAsk}
 use Rattle.hdfs_pipeline.specs.Cores.{IsCore}
 use Rattle.hdfs_pipeline.specs.Driving.{Drove, StopsShort}
 use Rattle.hdfs_pipeline.specs.Pipelines.{Pipeline}
@@ -19,9 +21,8 @@ use Rattle.hdfs_recovery.specs.declared.block_plan.BlockPlan.{BlockPlan}
 use Rattle.hdfs_recovery.specs.declared.block_plan.WriteFault.{WriteFault}
 use Rattle.hdfs_recovery.specs.declared.block_plan.WriteFault.TheVariants as faults
 use Rattle.hdfs_recovery.specs.declared.replay.SentAgain.{SentAgain}
-use Rattle.hdfs_recovery.specs.Between.{IsLastError, KeepsLinks, NamenodeFailed, SameActive, WaitsOn}
+use Rattle.hdfs_recovery.specs.Between.{KeepsLinks, NamenodeFailed, WaitsOn}
 use Rattle.hdfs_blocks.specs.Carrying.{FollowFrom}
-use Rattle.hdfs_recovery.specs.Plans.{IsRecovery}
 
 -- what it is for a rebuild that a namenode gave no answer
 abbrev pub fault_of_ask : HdfsError → WriteFault
@@ -45,7 +46,7 @@ pub record Restamps (plan : BlockPlan) (old : Shown) (plan' : BlockPlan) (new : 
 -- why a namenode gave no answer
 abbrev pub AskFails : BlockPlan → Shown → WriteFault → Shown → Type 0
 AskFails plan old fault new = (fault ≡ faults.NoMemory)
-    ⊎ ((error : HdfsError) × (fault ≡ faults.Namenode error) × (error ≢ errors.NoMemory) × IsLastError error new
+    ⊎ ((error : HdfsError) × (fault ≡ faults.Namenode error) × (error ≢ errors.NoMemory) × TellsAsk old new error
     × NamenodeFailed plan old new)
 
 -- There was none, and the block waits as before.
@@ -53,10 +54,10 @@ pub record RestampsNot (plan : BlockPlan) (old : Shown) (fault : WriteFault) (ne
   pub cause : AskFails plan old fault new
   pub waits : WaitsOn plan old plan new
 
--- A link was set up to go on with the block, which has this name so far, and at least so many bytes.
-pub record Reopens (block : Block) (plan : BlockPlan) (safe : ℕ) (client : List ℕ) (old : Shown) (link : ℕ) (new : Shown) : Type 0 where
+-- A link was set up to go on with a block, by such a set-up.
+pub record Reopens (IsSo : Setup → Type 0) (old : Shown) (link : ℕ) (new : Shown) : Type 0 where
   pub setup : Setup
-  pub is : IsRecovery block plan safe client setup
+  pub is : IsSo setup
   pub opened : WriteOpened old setup link new
 
 -- None was, for want of memory, or since the links have failed. Nothing else changed.
@@ -84,26 +85,36 @@ MayBeNamed block plan p q =
 -- over a told picture, in which the block is listed, this came of an ask to name its pipeline
 abbrev pub NamesSo : (Picture → Picture → Type 0) → Block → Shown → Shown → Type 0
 NamesSo P block old new = (p : Picture) (entry : BlockEntry) → old.picture ≡ Some p → p.table block.block_id ≡ Some entry
-    → (q : Picture) × (new.picture ≡ Some q) × P p q × SameActive old p new q
+    → (q : Picture) × (new.picture ≡ Some q) × P p q
 
 -- The datanodes of the plan are those of the block's pipeline in the block table, or that ask was left without an answer.
 pub record NamesNot (block : Block) (plan : BlockPlan) (old : Shown) (fault : WriteFault) (new : Shown) : Type 0 where
   pub may : NamesSo (MayBeNamed block plan) block old new
   pub cause : (fault ≡ faults.NoMemory) ⊎ ((error : HdfsError) × (fault ≡ faults.Namenode error) × (error ≢ errors.NoMemory)
-      × IsLastError error new × ((p : Picture) (entry : BlockEntry) → old.picture ≡ Some p → p.table block.block_id ≡ Some entry → p.active ≡ 0
-      → Rose (old.counts.calls 0) (new.counts.calls 0)))
+      × TellsAsk old new error × ((p : Picture) (entry : BlockEntry) → old.picture ≡ Some p → p.table block.block_id ≡ Some entry
+      → CallsRose old.counts new))
+
+-- packets that are to be sent again, on this link, which stands so
+pub record Resending : Type 0 where
+  pub link : ℕ
+  pub replay : List Outgoing
+  pub core : Pipeline
+  pub shown : Shown
+
+-- the same, from its parts
+abbrev pub resending : ℕ → List Outgoing → Pipeline → Shown → Resending
+resending link replay core shown = record { link = link; replay = replay; core = core; shown = shown }
 
 -- The packets were sent again, and then the pipeline was named.
-pub record SendsAndNames (link : ℕ) (replay : List Outgoing) (core : Pipeline) (block : Block) (plan : BlockPlan) (old : Shown)
-    (sent : SentAgain) (new : Shown) : Type 0 where
+pub record SendsAndNames (task : Resending) (block : Block) (plan : BlockPlan) (sent : SentAgain) (new : Shown) : Type 0 where
   pub between : Shown
-  pub sends : SendsAgain link replay core old sent between
+  pub sends : SendsAgain task.link task.replay task.core task.shown sent between
   pub links : KeepsLinks between new
   pub names : NamesSo (NamesPipeline block plan.block.b (map (λ node. node.id) plan.block.locs)) block between new
 
 -- Memory was wanting while they were sent, or the pipeline wasn't named.
-abbrev pub SendsOrNamesNot : ℕ → List Outgoing → Pipeline → Block → BlockPlan → Shown → WriteFault → Shown → Type 0
-SendsOrNamesNot link replay core block plan old fault new =
-    ((fault ≡ faults.NoMemory) × StopsShort link replay core old new)
-    ⊎ ((sent : SentAgain) × (between : Shown) × SendsAgain link replay core old sent between × KeepsLinks between new
-    × NamesNot block plan between fault new)
+abbrev pub SendsOrNamesNot : Resending → Block → BlockPlan → WriteFault → Shown → Type 0
+SendsOrNamesNot task block plan fault new =
+    ((fault ≡ faults.NoMemory) × StopsShort task.link task.replay task.core task.shown new)
+    ⊎ ((sent : SentAgain) × (between : Shown) × SendsAgain task.link task.replay task.core task.shown sent between
+    × KeepsLinks between new × NamesNot block plan between fault new)

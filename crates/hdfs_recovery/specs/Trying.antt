@@ -21,7 +21,7 @@ use Rattle.hdfs_recovery.specs.declared.block_plan.WriteFault.{WriteFault}
 use Rattle.hdfs_recovery.specs.declared.block_plan.WriteFault.TheVariants as faults
 use Rattle.hdfs_recovery.specs.declared.block_plan.RebuildSettings.{RebuildSettings}
 use Rattle.hdfs_recovery.specs.declared.replay.SentAgain.{SentAgain}
-use Rattle.hdfs_recovery.specs.Between.{KeepsLinks, OnlyBlockOf, SameActive, Touches}
+use Rattle.hdfs_recovery.specs.Between.{KeepsLinks, OnlyBlockOf, Touches}
 use Rattle.hdfs_blocks.specs.Carrying.{AreSlices, FollowFrom, LinkCarries}
 use Rattle.hdfs_recovery.specs.Plans.{IsRecovery, Known, Waits, block_without, without}
 use Rattle.hdfs_blocks.specs.Rebuilding.{IsListed}
@@ -73,7 +73,7 @@ pub record StandsAgain (course : Course) (old : Shown) (rebuilt : BlockPipeline)
       → (q : Picture) × (new.picture ≡ Some q)
       × LinkCarries q rebuilt.link course.plan.block.b.block_id (uuids course.plan.block.locs) known.safe course.replay known.bytes
       × IsListed q course.plan.block.b.block_id (uuids course.plan.block.locs) known.bytes
-      × OnlyBlockOf course.plan.block.b.block_id p q × SameActive old p new q
+      × OnlyBlockOf course.plan.block.b.block_id p q
 
 -- the datanodes at these places of a plan have failed
 abbrev pub HaveFailed : BlockPlan → List ℕ → Shown → Shown → Type 0
@@ -90,7 +90,7 @@ pub record FallsAgain (course : Course) (old : Shown) (fallen : Fallen) (new : S
   pub told : (p : Picture) (known : Known) → old.picture ≡ Some p → Waits p course.plan known
       → AreSlices known.bytes known.safe course.replay
       → (q : Picture) × (new.picture ≡ Some q) × Waits q course.plan (record known { listed = uuids course.plan.block.locs })
-      × OnlyBlockOf course.plan.block.b.block_id p q × SameActive old p new q
+      × OnlyBlockOf course.plan.block.b.block_id p q
 
 -- what came of the next pipeline
 abbrev pub Resumed : Course → Shown → Attempt → Shown → Type 0
@@ -111,9 +111,9 @@ pub record ResumedNot (plan : BlockPlan) (old : Shown) (fault : WriteFault) (new
   pub touches : Touches plan old new
 
 -- a pipeline that had ended was driven to its end, and its link was ended, or memory was wanting for that; nothing else happened
-abbrev pub FallsFrom : {C : Type 0} → (C → Shown) → (C → ℕ → C → Type 0) → ℕ → Pipeline → C → C → Type 0
-FallsFrom {C} shown ends link core old new =
-    (before : C) × ends before link new
+abbrev pub FallsFrom : {C : Type 0} → (C → Shown) → (C → Type 0) → ℕ → Pipeline → C → Type 0
+FallsFrom {C} shown Ends link core old =
+    (before : C) × Ends before
     × (((last : Pipeline) × Drove link [] core (shown old) last (shown before)) ⊎ StopsShort link [] core (shown old) (shown before))
 
 -- all packets of a pipeline that has ended come back, with the places of the datanodes that have failed

@@ -3,13 +3,14 @@
 ghost use Rattle.std.specs.Prelude.{◌≡◌, ◌<◌, ◌≤◌, ◌^◌, [], Some, None, IsSome, IfOk, IfErr};
 ghost use Rattle.hdfs_model.specs.declared.picture.OpenWrite.{OpenWrite};
 ghost use Rattle.hdfs_model.specs.Namenode.{IsToWrite};
-ghost use Rattle.hdfs_namenode.specs.Clients.{name_of};
+ghost use Rattle.hdfs_namenode.specs.Asked.{ReachesAll};
+ghost use Rattle.hdfs_namenode.specs.Clients.{SameClient, name_of, proxy_of};
 ghost use Rattle.hdfs_pipeline.specs.Driving.{Drives, IsGoing};
 ghost use Rattle.hdfs_pipeline.specs.Pipelines.{Done};
 ghost use Rattle.hdfs_blocks.specs.Carrying.{total};
 ghost use Rattle.hdfs_recovery.specs.Attempts.{task_of, standing, Attempted, GaveNone, RebuiltAfter, GaveNoneAfter};
 ghost use Rattle.hdfs_recovery.specs.Plans.{CanRebuild, IsReplay};
-ghost use Rattle.hdfs_recovery.specs.Resuming.{SendsAndNames, SendsOrNamesNot};
+ghost use Rattle.hdfs_recovery.specs.Resuming.{SendsAndNames, SendsOrNamesNot, resending};
 ghost use Rattle.hdfs_recovery.specs.Trying.{LeavesOut, LeavesNone, Resumed, ResumedNot, FallsFrom, Collects, CollectsNot, course_of};
 
 use crate::block_plan::{
@@ -83,22 +84,23 @@ fn leave_out(
 fn replay_and_name<C: Cluster>(
     alloc: Global,
     cluster: &mut C,
-    namenode: &NamenodeProtocol,
+    namenode: &mut NamenodeProtocol,
     plan: &BlockPlan,
     block: &Block,
     core: PipelineCore,
     link: u64,
     replay: List<WritePacket>,
 ) -> Result<SentAgain, WriteFault>
-    requires namenodes { 0 < (C.shown cluster.old).namenodes }
+    requires reaches { ReachesAll (proxy_of namenode.old) (C.shown cluster.old) }
     requires same { block.now.block_id ≡ plan.now.block.b.block_id }
     requires going { IsGoing (C.shown cluster.old) link core }
     requires none { core.pushed ≡ [] }
     requires packets { IsReplay core.window replay }
     requires fresh { (write : OpenWrite) → (C.shown cluster.old).writes link ≡ Some write → write.end ≡ None }
-    ensures ok { IfOk result (λ sent. SendsAndNames link replay core block.now plan.now (C.shown cluster.old) sent (C.shown cluster.new)) }
+    ensures ok { IfOk result (λ sent. SendsAndNames (resending link replay core (C.shown cluster.old)) block.now plan.now sent (C.shown cluster.new)) }
     ensures err { IfErr result (λ fault.
-        SendsOrNamesNot link replay core block.now plan.now (C.shown cluster.old) fault (C.shown cluster.new)) }
+        SendsOrNamesNot (resending link replay core (C.shown cluster.old)) block.now plan.now fault (C.shown cluster.new)) }
+    ensures client { SameClient namenode.old namenode.new }
 {
     let sent = send_again(alloc, cluster, core, link, replay)?;
     name_pipeline(alloc, cluster, namenode, plan, block)?;
@@ -114,7 +116,7 @@ fn collect<C: Cluster>(
 ) -> Result<Fallen, WriteFault>
     requires drives { Drives (C.shown cluster.old) link sent.core }
     requires ended { IsSome sent.core.end × (sent.core.end ≡ Some Done → ⊥) }
-    ensures ended { FallsFrom C.shown C.ends link sent.core cluster.old cluster.new }
+    ensures ended { FallsFrom C.shown (λ before. C.ends before link cluster.new) link sent.core cluster.old }
     ensures fallen { IfOk result (Collects plan sent) }
     ensures err { IfErr result (CollectsNot sent) }
 {
@@ -140,19 +142,20 @@ fn collect<C: Cluster>(
 fn resume<C: Cluster>(
     alloc: Global,
     cluster: &mut C,
-    namenode: &NamenodeProtocol,
+    namenode: &mut NamenodeProtocol,
     plan: BlockPlan,
     block: Block,
     window: u32,
     least: u64,
     replay: List<WritePacket>,
 ) -> Result<Attempt, WriteFault>
-    requires namenodes { 0 < (C.shown cluster.old).namenodes }
+    requires reaches { ReachesAll (proxy_of namenode.old) (C.shown cluster.old) }
     requires block { IsToWrite plan.block × (block.block_id ≡ plan.block.b.block_id) }
     requires packets { (1 ≤ window) × (window ≤ 1000) × IsReplay window replay }
-    ensures ok { IfOk result (λ attempt. Resumed (course_of plan block least (name_of namenode.now) window replay)
+    ensures ok { IfOk result (λ attempt. Resumed (course_of plan block least (name_of namenode.old) window replay)
         (C.shown cluster.old) attempt (C.shown cluster.new)) }
     ensures err { IfErr result (λ fault. ResumedNot plan (C.shown cluster.old) fault (C.shown cluster.new)) }
+    ensures client { SameClient namenode.old namenode.new }
 {
     let name = block.copy(alloc)?;
     let client = namenode.client_name();
@@ -177,19 +180,20 @@ fn resume<C: Cluster>(
 fn try_once<C: Cluster>(
     alloc: Global,
     cluster: &mut C,
-    namenode: &NamenodeProtocol,
+    namenode: &mut NamenodeProtocol,
     plan: BlockPlan,
     settings: &RebuildSettings,
     failed: &[u32],
     replay: List<WritePacket>,
     unsent: u64,
 ) -> Result<Attempt, WriteFault>
-    requires namenodes { 0 < (C.shown cluster.old).namenodes }
+    requires reaches { ReachesAll (proxy_of namenode.old) (C.shown cluster.old) }
     requires can { CanRebuild plan settings.now failed.now replay unsent }
-    ensures ok { IfOk result (λ attempt. Attempted (task_of settings.now (name_of namenode.now) replay unsent)
+    ensures ok { IfOk result (λ attempt. Attempted (task_of settings.now (name_of namenode.old) replay unsent)
         (standing plan failed.now (C.shown cluster.old)) attempt (C.shown cluster.new)) }
-    ensures err { IfErr result (λ fault. GaveNone (task_of settings.now (name_of namenode.now) replay unsent)
+    ensures err { IfErr result (λ fault. GaveNone (task_of settings.now (name_of namenode.old) replay unsent)
         (standing plan failed.now (C.shown cluster.old)) fault (C.shown cluster.new)) }
+    ensures client { SameClient namenode.old namenode.new }
 {
     let excluded = copy_at(alloc, plan.block.locs.as_slice(), failed)?;
     let block = plan.block.b.copy(alloc)?;
@@ -230,19 +234,20 @@ fn try_once<C: Cluster>(
 pub fn rebuild<C: Cluster>(
     alloc: Global,
     cluster: &mut C,
-    namenode: &NamenodeProtocol,
+    namenode: &mut NamenodeProtocol,
     plan: BlockPlan,
     settings: &RebuildSettings,
     failed: List<u32>,
     replay: List<WritePacket>,
     unsent: u64,
 ) -> Result<BlockPipeline, WriteFault>
-    requires namenodes { 0 < (C.shown cluster.old).namenodes }
+    requires reaches { ReachesAll (proxy_of namenode.old) (C.shown cluster.old) }
     requires can { CanRebuild plan settings.now failed replay unsent }
-    ensures ok { IfOk result (λ rebuilt. RebuiltAfter (task_of settings.now (name_of namenode.now) replay unsent)
+    ensures ok { IfOk result (λ rebuilt. RebuiltAfter (task_of settings.now (name_of namenode.old) replay unsent)
         (standing plan failed (C.shown cluster.old)) rebuilt (C.shown cluster.new)) }
-    ensures err { IfErr result (λ fault. GaveNoneAfter (task_of settings.now (name_of namenode.now) replay unsent)
+    ensures err { IfErr result (λ fault. GaveNoneAfter (task_of settings.now (name_of namenode.old) replay unsent)
         (standing plan failed (C.shown cluster.old)) fault (C.shown cluster.new)) }
+    ensures client { SameClient namenode.old namenode.new }
 {
     let mut fallen = Fallen {
         plan,

@@ -4,6 +4,8 @@ ghost use Rattle.std.specs.Prelude.{◌≡◌, ◌<◌, ◌≤◌, IfOk, IfErr, 
 ghost use Rattle.hdfs_model.specs.Effects.{NamesPipeline};
 ghost use Rattle.hdfs_model.specs.Namenode.{IsToWrite};
 ghost use Rattle.hdfs_pipeline.specs.Pipelines.{empty_pipeline};
+ghost use Rattle.hdfs_namenode.specs.Asked.{ReachesAll};
+ghost use Rattle.hdfs_namenode.specs.Clients.{SameClient, proxy_of};
 ghost use Rattle.hdfs_recovery.specs.Between.{KeepsLinks};
 ghost use Rattle.hdfs_recovery.specs.Plans.{IsRecovery};
 ghost use Rattle.hdfs_recovery.specs.Resuming.{fault_of_ask, with_stamp, Restamps, RestampsNot, Reopens, ReopensNot, NamesSo, NamesNot};
@@ -31,13 +33,14 @@ fn fault_of_ask(error: HdfsError) -> WriteFault
 /// Asks for a greater generation stamp for the block of the plan.
 pub(crate) fn restamp<C: Cluster>(
     cluster: &mut C,
-    namenode: &NamenodeProtocol,
+    namenode: &mut NamenodeProtocol,
     plan: BlockPlan,
 ) -> Result<BlockPlan, WriteFault>
-    requires namenodes { 0 < (C.shown cluster.old).namenodes }
+    requires reaches { ReachesAll (proxy_of namenode.old) (C.shown cluster.old) }
     ensures links { KeepsLinks (C.shown cluster.old) (C.shown cluster.new) }
     ensures restamps { IfOk result (λ plan'. Restamps plan (C.shown cluster.old) plan' (C.shown cluster.new)) }
     ensures err { IfErr result (λ fault. RestampsNot plan (C.shown cluster.old) fault (C.shown cluster.new)) }
+    ensures client { SameClient namenode.old namenode.new }
 {
     match namenode.update_block_for_pipeline(cluster, &plan.block.b) {
         Ok(located) => Ok(with_stamp(plan, located)),
@@ -103,7 +106,7 @@ pub(crate) fn reopen<C: Cluster>(
     requires window { (1 ≤ window) × (window ≤ 1000) }
     ensures core { IfOk result (λ opened. opened.0 ≡ empty_pipeline window (length plan.now.block.locs)) }
     ensures opened { IfOk result (λ opened.
-        Reopens block plan.now safe client.now (C.shown cluster.old) opened.1 (C.shown cluster.new)) }
+        Reopens (IsRecovery block plan.now safe client.now) (C.shown cluster.old) opened.1 (C.shown cluster.new)) }
     ensures err { IfErr result (λ fault. ReopensNot (C.shown cluster.old) fault (C.shown cluster.new)) }
 {
     let nodes = plan.block.locs.as_slice().len() as u32;
@@ -132,16 +135,17 @@ fn ids_of(alloc: Global, nodes: &[DatanodeInfo]) -> Result<List<DatanodeId>, NoM
 pub(crate) fn name_pipeline<C: Cluster>(
     alloc: Global,
     cluster: &mut C,
-    namenode: &NamenodeProtocol,
+    namenode: &mut NamenodeProtocol,
     plan: &BlockPlan,
     block: &Block,
 ) -> Result<(), WriteFault>
-    requires namenodes { 0 < (C.shown cluster.old).namenodes }
+    requires reaches { ReachesAll (proxy_of namenode.old) (C.shown cluster.old) }
     requires same { block.now.block_id ≡ plan.now.block.b.block_id }
     ensures links { KeepsLinks (C.shown cluster.old) (C.shown cluster.new) }
     ensures names { OnOk result (NamesSo (NamesPipeline block.now plan.now.block.b (map (λ node. node.id) plan.now.block.locs))
         block.now (C.shown cluster.old) (C.shown cluster.new)) }
     ensures err { IfErr result (λ fault. NamesNot block.now plan.now (C.shown cluster.old) fault (C.shown cluster.new)) }
+    ensures client { SameClient namenode.old namenode.new }
 {
     let ids = ids_of(alloc, plan.block.locs.as_slice())?;
     match namenode.update_pipeline(

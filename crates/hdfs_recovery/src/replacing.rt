@@ -3,6 +3,8 @@
 ghost use Rattle.std.specs.Prelude.{◌≡◌, ◌<◌, IfOk, IfErr, length};
 ghost use Rattle.hdfs_model.specs.Effects.{HasOneMore};
 ghost use Rattle.hdfs_model.specs.Namenode.{IsToWrite};
+ghost use Rattle.hdfs_namenode.specs.Asked.{ReachesAll};
+ghost use Rattle.hdfs_namenode.specs.Clients.{SameClient, proxy_of};
 ghost use Rattle.hdfs_recovery.specs.Between.{KeepsLinks};
 ghost use Rattle.hdfs_recovery.specs.Replacing.{place_of, place_beside, with_nodes, fault_of_none, fault_of_transfer, GivesToAdded, AddsNode, AddsNone, Completes, CompletesNot};
 
@@ -97,15 +99,16 @@ fn fault_of_transfer(fault: LinkFault) -> WriteFault
 fn add_datanode<C: Cluster>(
     alloc: Global,
     cluster: &mut C,
-    namenode: &NamenodeProtocol,
+    namenode: &mut NamenodeProtocol,
     plan: &BlockPlan,
     excluded: &[DatanodeInfo],
 ) -> Result<LocatedBlock, WriteFault>
-    requires namenodes { 0 < (C.shown cluster.old).namenodes }
+    requires reaches { ReachesAll (proxy_of namenode.old) (C.shown cluster.old) }
     requires block { IsToWrite plan.now.block }
     ensures links { KeepsLinks (C.shown cluster.old) (C.shown cluster.new) }
     ensures adds { IfOk result (λ located. AddsNode plan.now excluded.now (C.shown cluster.old) located (C.shown cluster.new)) }
     ensures err { IfErr result (λ fault. AddsNone plan.now (C.shown cluster.old) fault (C.shown cluster.new)) }
+    ensures client { SameClient namenode.old namenode.new }
 {
     let located = match namenode.get_additional_datanode(
         cluster,
@@ -131,16 +134,17 @@ fn add_datanode<C: Cluster>(
 pub(crate) fn complete<C: Cluster>(
     alloc: Global,
     cluster: &mut C,
-    namenode: &NamenodeProtocol,
+    namenode: &mut NamenodeProtocol,
     plan: BlockPlan,
     settings: &RebuildSettings,
     excluded: &[DatanodeInfo],
 ) -> Result<BlockPlan, WriteFault>
-    requires namenodes { 0 < (C.shown cluster.old).namenodes }
+    requires reaches { ReachesAll (proxy_of namenode.old) (C.shown cluster.old) }
     requires block { IsToWrite plan.block }
     ensures links { KeepsLinks (C.shown cluster.old) (C.shown cluster.new) }
     ensures completes { IfOk result (λ plan'. Completes plan settings.now excluded.now (C.shown cluster.old) plan' (C.shown cluster.new)) }
     ensures err { IfErr result (λ fault. CompletesNot plan settings.now (C.shown cluster.old) fault (C.shown cluster.new)) }
+    ensures client { SameClient namenode.old namenode.new }
 {
     let left = plan.block.locs.as_slice().len();
     if !settings

@@ -1,6 +1,8 @@
 -- The goals of finish.
-use Rattle.std.proofs.Common.{◌<◌, ℕ, [], sym, subst}
+use Rattle.std.proofs.Common.{[], subst}
 use Rattle.std.proofs.lemmas.Result.{err_from_is_err_and}
+use Rattle.hdfs_namenode.specs.Clients.{SameClient, proxy_of}
+use Rattle.hdfs_namenode.proofs.Services.{reaches_later, same_client_refl, same_client_trans}
 use Rattle.hdfs_block_writer.specs.declared.pushing.Settled.{Settled}
 use Rattle.hdfs_block_writer.specs.Pushing.{Settles}
 use Rattle.hdfs_block_writer.proofs.PushingOn.{few_still, fewer_waits, finished_then, first_wait, not_finished, waits_again}
@@ -8,12 +10,13 @@ use Rattle.hdfs_block_writer.proofs.pushing.finish.Goals as goal
 
 pub loop-plan-init : goal.loop-plan-init
 loop-plan-init g c = record {
-  namenodes = c.requires.namenodes;
+  reaches = c.requires.reaches;
+  client = same_client_refl c.args.namenode.now;
   waits = first_wait c.args.settings.now (g.C.Cluster.shown c.args.cluster.now) c.args.pipe c.requires.standing c.requires.ending;
 }
 
-pub finish_once-requires-clause-namenodes : goal.finish_once-requires-clause-namenodes
-finish_once-requires-clause-namenodes g c = c.loop-plan.invariant.namenodes
+pub finish_once-requires-clause-reaches : goal.finish_once-requires-clause-reaches
+finish_once-requires-clause-reaches g c = c.loop-plan.invariant.reaches
 
 pub finish_once-requires-clause-standing : goal.finish_once-requires-clause-standing
 finish_once-requires-clause-standing g c = c.loop-plan.invariant.waits.continues.standing
@@ -36,6 +39,16 @@ returns-in_err-plan-clause-err g c =
     (g.C.Cluster.shown c.finish_once.new.cluster) c.loop-plan.pipe c.loop-plan.invariant.waits c.in_err-plan.field-0.0
     (c.in_err-plan.ensures.err []))
 
+pub returns-in_err-plan-clause-client : goal.returns-in_err-plan-clause-client
+returns-in_err-plan-clause-client g c =
+    same_client_trans c.args.namenode.now c.loop-plan.namenode
+    c.finish_once.new.namenode c.loop-plan.invariant.client c.finish_once.ensures.client
+
+pub returns-in-Done-clause-client : goal.returns-in-Done-clause-client
+returns-in-Done-clause-client g c =
+    same_client_trans c.args.namenode.now c.loop-plan.namenode
+    c.finish_once.new.namenode c.loop-plan.invariant.client c.finish_once.ensures.client
+
 pub returns-in-Done-clause-finishes : goal.returns-in-Done-clause-finishes
 returns-in-Done-clause-finishes g c =
     finished_then c.args.settings.now (g.C.Cluster.shown c.args.cluster.now) c.args.pipe (g.C.Cluster.shown c.loop-plan.cluster)
@@ -54,9 +67,15 @@ pub loop-plan-preserved : goal.loop-plan-preserved
 loop-plan-preserved g c =
     let r = subst (λ (s : Settled). Settles c.args.settings.now (g.C.Cluster.shown c.loop-plan.cluster) c.loop-plan.pipe s
     (g.C.Cluster.shown c.finish_once.new.cluster)) c.in-Rebuilt.is c.in_ok-plan.ensures.ok in
+    let client : SameClient c.args.namenode.now c.finish_once.new.namenode =
+    same_client_trans c.args.namenode.now c.loop-plan.namenode c.finish_once.new.namenode c.loop-plan.invariant.client
+    c.finish_once.ensures.client in
     let w = waits_again c.args.settings.now (g.C.Cluster.shown c.args.cluster.now) c.args.pipe (g.C.Cluster.shown c.loop-plan.cluster)
     (g.C.Cluster.shown c.finish_once.new.cluster) c.loop-plan.pipe c.loop-plan.invariant.waits c.in-Rebuilt.rebuilt r.0 r.1 in
     record {
-      namenodes = subst (λ (n : ℕ). 0 < n) (sym w.continues.own.later.namenodes) c.requires.namenodes;
+      reaches =
+          reaches_later (proxy_of c.args.namenode.now) (proxy_of c.finish_once.new.namenode) (g.C.Cluster.shown c.args.cluster.now)
+          (g.C.Cluster.shown c.finish_once.new.cluster) client.service w.continues.own.later c.requires.reaches;
+      client = client;
       waits = w;
     }

@@ -1,11 +1,14 @@
 -- The pipeline goes on, and its last packet was pushed last.
-use Rattle.std.proofs.Common.{◌<◌, ◌-◌}
+use Rattle.std.proofs.Common.{◌-◌}
+use Rattle.hdfs_namenode.specs.Asked.{ReachesAll}
+use Rattle.hdfs_namenode.specs.Clients.{SameClient, proxy_of}
 use Rattle.hdfs_block_writer.proofs.PushingOn.{WaitsAgain}
 use Rattle.hdfs_block_writer.proofs.pushing.finish.Given as goal
 
 abbrev pub invariant-loop-plan : goal.invariant-loop-plan
 invariant-loop-plan g l = record {
-  namenodes : 0 < (g.C.Cluster.shown l.cluster).namenodes;
+  reaches : ReachesAll (proxy_of l.namenode) (g.C.Cluster.shown l.cluster);
+  client : SameClient l.fn.namenode l.namenode;
   waits : WaitsAgain l.settings (g.C.Cluster.shown l.fn.cluster) l.fn.pipe (g.C.Cluster.shown l.cluster) l.pipe;
 }
 

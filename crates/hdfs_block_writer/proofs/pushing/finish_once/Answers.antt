@@ -3,7 +3,8 @@ use Rattle.std.proofs.Common.{◌≡◌, ◌≢◌, [], length, sym, ◌∙◌, 
 use Rattle.std.proofs.lemmas.Bool.{eqb-true, eqb-false}
 use Rattle.std.proofs.lemmas.List.{nil_from_length}
 use Rattle.std.proofs.lemmas.Result.{err_from_is_err_and}
-use Rattle.hdfs_namenode.specs.Clients.{name_of}
+use Rattle.hdfs_namenode.specs.Clients.{name_of, proxy_of}
+use Rattle.hdfs_namenode.proofs.Services.{reaches_same, same_service_refl}
 use Rattle.hdfs_recovery.specs.declared.block_plan.BlockPlan.{BlockPlan}
 use Rattle.hdfs_recovery.specs.Plans.{CanRebuild}
 use Rattle.hdfs_block_writer.proofs.EndedRebuilt.{bad_is, recovers_is}
@@ -32,11 +33,13 @@ returns-then-is_empty-clause-ok g c =
     finishes c.args.settings.now c.args.pipe a z m d.last c.requires.standing c.requires.ending.0 d.drove e d.is_core
     (sym r.1 ∙ nil_from_length c.in-Recover.replay (ap length (sym c.as_slice.ensures) ∙ none))
 
-pub rebuild-requires-clause-namenodes : goal.rebuild-requires-clause-namenodes
-rebuild-requires-clause-namenodes g c =
+pub rebuild-requires-clause-reaches : goal.rebuild-requires-clause-reaches
+rebuild-requires-clause-reaches g c =
     let d = c.in_ok-drive_end.ensures.drove in
     let e = g.met.C.Cluster.ends_row d.before c.drive_end.new.cluster c.args.pipe.link d.ended in
-    omega (arith, c.requires.namenodes, d.drove.on.only.later.namenodes, e.writes.only.later.namenodes)
+    reaches_same (proxy_of c.args.namenode.now) (proxy_of c.args.namenode.now) (g.C.Cluster.shown c.args.cluster.now)
+    (g.C.Cluster.shown c.drive_end.new.cluster) (same_service_refl (proxy_of c.args.namenode.now))
+    (e.writes.only.later.namenodes ∙ d.drove.on.only.later.namenodes) c.requires.reaches
 
 pub rebuild-requires-clause-can : goal.rebuild-requires-clause-can
 rebuild-requires-clause-can g c =

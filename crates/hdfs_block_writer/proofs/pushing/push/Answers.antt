@@ -2,13 +2,16 @@
 use Rattle.std.proofs.Common.{◌<◌, Option, Some, refl, sym, ◌∙◌, ap, subst}
 use Rattle.std.proofs.lemmas.Result.{err_from_is_err_and}
 use Rattle.hdfs_wire.specs.Outgoing.{Outgoing}
+use Rattle.hdfs_namenode.specs.Clients.{SameClient, proxy_of}
+use Rattle.hdfs_namenode.proofs.Services.{reaches_later, same_client_refl, same_client_trans}
 use Rattle.hdfs_block_writer.specs.Pushing.{CanPush, PushesNot, PushesOnce}
-use Rattle.hdfs_block_writer.proofs.PushingOn.{PushedSoFar, first_try, fewer_turns, not_again, namenodes_still, still_more, tried_again, turns_left}
+use Rattle.hdfs_block_writer.proofs.PushingOn.{PushedSoFar, first_try, fewer_turns, later_so_far, not_again, still_more, tried_again, turns_left}
 use Rattle.hdfs_block_writer.proofs.pushing.push.Goals as goal
 
 pub loop-packet-init : goal.loop-packet-init
 loop-packet-init g c = record {
-  namenodes = c.requires.namenodes;
+  reaches = c.requires.reaches;
+  client = same_client_refl c.args.namenode.now;
   so_far = (refl, first_try c.args.settings.now (g.C.Cluster.shown c.args.cluster.now) c.args.pipe c.args.length c.args.packet c.requires.can);
 }
 
@@ -19,8 +22,8 @@ returns-in_default-clause-ok g c =
     back (g.C.Cluster.shown c.loop-packet.cluster) c.loop-packet.pushed.pipe)
     c.in_default.is c.loop-packet.invariant.so_far
 
-pub push_once-requires-clause-namenodes : goal.push_once-requires-clause-namenodes
-push_once-requires-clause-namenodes g c = c.loop-packet.invariant.namenodes
+pub push_once-requires-clause-reaches : goal.push_once-requires-clause-reaches
+push_once-requires-clause-reaches g c = c.loop-packet.invariant.reaches
 
 pub push_once-requires-clause-can : goal.push_once-requires-clause-can
 push_once-requires-clause-can g c =
@@ -42,6 +45,11 @@ returns-in_err-pushed-clause-err g c =
     (subst (λ (x : Outgoing). PushesNot c.args.settings.now (g.C.Cluster.shown c.loop-packet.cluster) c.loop-packet.pushed.pipe x
     c.in_err-pushed.field-0.0 (g.C.Cluster.shown c.push_once.new.cluster)) t.0 c.in_err-pushed.ensures.err))
 
+pub returns-in_err-pushed-clause-client : goal.returns-in_err-pushed-clause-client
+returns-in_err-pushed-clause-client g c =
+    same_client_trans c.args.namenode.now c.loop-packet.namenode
+    c.push_once.new.namenode c.loop-packet.invariant.client c.push_once.ensures.client
+
 pub loop-packet-smaller : goal.loop-packet-smaller
 loop-packet-smaller g c =
     let t = still_more c.args.settings.now (g.C.Cluster.shown c.args.cluster.now) c.args.pipe c.args.length c.args.packet
@@ -61,13 +69,20 @@ loop-packet-preserved g c =
     let t = still_more c.args.settings.now (g.C.Cluster.shown c.args.cluster.now) c.args.pipe c.args.length c.args.packet
     (g.C.Cluster.shown c.loop-packet.cluster) c.loop-packet.pushed.pipe c.loop-packet.pushed.back c.in-Some.packet c.in-Some.is
     c.loop-packet.invariant.so_far in
+    let client : SameClient c.args.namenode.now c.push_once.new.namenode =
+    same_client_trans c.args.namenode.now c.loop-packet.namenode c.push_once.new.namenode c.loop-packet.invariant.client
+    c.push_once.ensures.client in
     let next = tried_again c.args.settings.now (g.C.Cluster.shown c.args.cluster.now) c.args.pipe c.args.length c.args.packet
     (g.C.Cluster.shown c.loop-packet.cluster) (g.C.Cluster.shown c.push_once.new.cluster) c.loop-packet.pushed.pipe t.1
     c.in_ok-pushed.pushed.back c.in_ok-pushed.pushed.pipe
     (subst (λ (x : Outgoing). PushesOnce c.args.settings.now (g.C.Cluster.shown c.loop-packet.cluster) c.loop-packet.pushed.pipe x
     c.in_ok-pushed.pushed (g.C.Cluster.shown c.push_once.new.cluster)) t.0 c.in_ok-pushed.ensures.ok) in
     record {
-      namenodes = namenodes_still c.args.settings.now (g.C.Cluster.shown c.args.cluster.now) c.args.pipe c.args.length c.args.packet
-          c.in_ok-pushed.pushed.back (g.C.Cluster.shown c.push_once.new.cluster) c.in_ok-pushed.pushed.pipe next c.requires.namenodes;
+      reaches =
+          reaches_later (proxy_of c.args.namenode.now) (proxy_of c.push_once.new.namenode) (g.C.Cluster.shown c.args.cluster.now)
+          (g.C.Cluster.shown c.push_once.new.cluster) client.service
+          (later_so_far c.args.settings.now (g.C.Cluster.shown c.args.cluster.now) c.args.pipe c.args.length c.args.packet
+          c.in_ok-pushed.pushed.back (g.C.Cluster.shown c.push_once.new.cluster) c.in_ok-pushed.pushed.pipe next) c.requires.reaches;
+      client = client;
       so_far = next;
     }

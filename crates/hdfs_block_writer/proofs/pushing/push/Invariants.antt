@@ -1,11 +1,13 @@
 -- The packet was pushed, or the pipeline was rebuilt and it isn't yet.
-use Rattle.std.proofs.Common.{◌<◌}
+use Rattle.hdfs_namenode.specs.Asked.{ReachesAll}
+use Rattle.hdfs_namenode.specs.Clients.{SameClient, proxy_of}
 use Rattle.hdfs_block_writer.proofs.PushingOn.{PushedSoFar, turns_left}
 use Rattle.hdfs_block_writer.proofs.pushing.push.Given as goal
 
 abbrev pub invariant-loop-packet : goal.invariant-loop-packet
 invariant-loop-packet g l = record {
-  namenodes : 0 < (g.C.Cluster.shown l.cluster).namenodes;
+  reaches : ReachesAll (proxy_of l.namenode) (g.C.Cluster.shown l.cluster);
+  client : SameClient l.fn.namenode l.namenode;
   so_far : PushedSoFar l.settings (g.C.Cluster.shown l.fn.cluster) l.fn.pipe l.length l.fn.packet l.pushed.back (g.C.Cluster.shown l.cluster) l.pushed.pipe;
 }
 

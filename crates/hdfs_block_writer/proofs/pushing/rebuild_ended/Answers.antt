@@ -1,7 +1,8 @@
 -- The goals of rebuild_ended.
-use Rattle.std.proofs.Common.{◌≡◌, [], sym, ap, subst, arith}
+use Rattle.std.proofs.Common.{◌≡◌, [], sym, ◌∙◌, ap, subst, arith}
 use Rattle.std.proofs.lemmas.Result.{err_from_is_err_and}
-use Rattle.hdfs_namenode.specs.Clients.{name_of}
+use Rattle.hdfs_namenode.specs.Clients.{name_of, proxy_of}
+use Rattle.hdfs_namenode.proofs.Services.{reaches_same, same_service_refl}
 use Rattle.hdfs_blocks.specs.Carrying.{total}
 use Rattle.hdfs_recovery.specs.declared.block_plan.BlockPlan.{BlockPlan}
 use Rattle.hdfs_recovery.specs.Plans.{CanRebuild}
@@ -17,11 +18,13 @@ returns-in_err-failed-clause-err g c =
     (ended_stopped c.args.settings.now c.args.pipe (g.C.Cluster.shown c.args.cluster.now) (g.C.Cluster.shown s.before)
     (g.C.Cluster.shown c.drive_end.new.cluster) s.stopped (g.met.C.Cluster.ends_row s.before c.drive_end.new.cluster c.args.pipe.link s.ended))
 
-pub rebuild-requires-clause-namenodes : goal.rebuild-requires-clause-namenodes
-rebuild-requires-clause-namenodes g c =
+pub rebuild-requires-clause-reaches : goal.rebuild-requires-clause-reaches
+rebuild-requires-clause-reaches g c =
     let d = c.in_ok-failed.ensures.drove in
     let e = g.met.C.Cluster.ends_row d.before c.drive_end.new.cluster c.args.pipe.link d.ended in
-    omega (arith, c.requires.namenodes, d.drove.on.only.later.namenodes, e.writes.only.later.namenodes)
+    reaches_same (proxy_of c.args.namenode.now) (proxy_of c.args.namenode.now) (g.C.Cluster.shown c.args.cluster.now)
+    (g.C.Cluster.shown c.drive_end.new.cluster) (same_service_refl (proxy_of c.args.namenode.now))
+    (e.writes.only.later.namenodes ∙ d.drove.on.only.later.namenodes) c.requires.reaches
 
 pub rebuild-requires-clause-can : goal.rebuild-requires-clause-can
 rebuild-requires-clause-can g c =

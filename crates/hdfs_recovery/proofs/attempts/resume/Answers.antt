@@ -1,7 +1,8 @@
 -- The goals of resume.
 use Rattle.std.proofs.Common.{rules, ◌≡◌, None, IsSome}
 use Rattle.std.proofs.lemmas.Result.{err_from_is_err_and}
-use Rattle.hdfs_namenode.specs.Clients.{name_of}
+use Rattle.hdfs_namenode.specs.Clients.{name_of, proxy_of}
+use Rattle.hdfs_namenode.proofs.Services.{reaches_later, same_service_refl}
 use Rattle.hdfs_recovery.proofs.Attempting.{reopens_not}
 use Rattle.hdfs_recovery.proofs.Ending.{falls}
 use Rattle.hdfs_recovery.proofs.Replaying.{never_done}
@@ -15,6 +16,12 @@ returns-in_err-core-clause-err g c =
     rw (p.1, p.2)
     (reopens_not c.args.plan (g.C.Cluster.shown c.args.cluster.now) c.in_err-core.field-0.0 (g.C.Cluster.shown c.reopen.new.cluster)
     c.in_err-core.ensures.err)
+
+pub replay_and_name-requires-clause-reaches : goal.replay_and_name-requires-clause-reaches
+replay_and_name-requires-clause-reaches g c =
+    reaches_later (proxy_of c.args.namenode.now) (proxy_of c.args.namenode.now) (g.C.Cluster.shown c.args.cluster.now)
+    (g.C.Cluster.shown c.reopen.new.cluster) (same_service_refl (proxy_of c.args.namenode.now)) c.in_ok-core.ensures.opened.opened.only.later
+    c.requires.reaches
 
 pub collect-requires-clause-ended : goal.collect-requires-clause-ended
 collect-requires-clause-ended g c =

@@ -1,13 +1,41 @@
 -- The goals of try_once.
-use Rattle.std.proofs.Common.{◌≡◌, ◌+◌, ◌-◌}
+use Rattle.std.proofs.Common.{◌≡◌, ℕ, ◌+◌, ◌-◌, List, ◌∙◌, subst}
 use Rattle.std.proofs.lemmas.Result.{err_from_is_err_and}
-use Rattle.hdfs_namenode.specs.Clients.{name_of}
+use Rattle.std.specs.Prelude.{IfOk}
+use Rattle.hdfs_namenode.specs.Clients.{name_of, proxy_of}
+use Rattle.hdfs_namenode.proofs.Services.{reaches_later, same_client_trans}
 use Rattle.hdfs_blocks.specs.Carrying.{total}
 use Rattle.hdfs_recovery.specs.Attempts.{Attempted, GaveNone, standing, task_of}
 use Rattle.hdfs_recovery.specs.Plans.{nodes_at}
 use Rattle.hdfs_recovery.specs.Trying.{Resumed, ResumedNot, course_of}
 use Rattle.hdfs_recovery.proofs.Tried.{ok_by, err_by, incomplete, unstamped, tried, untried}
 use Rattle.hdfs_recovery.proofs.attempts.try_once.Goals as goal
+
+pub restamp-requires : goal.restamp-requires
+restamp-requires g c = record {
+  reaches =
+      reaches_later (proxy_of c.args.namenode.now) (proxy_of c.complete.new.namenode) (g.C.Cluster.shown c.args.cluster.now)
+      (g.C.Cluster.shown c.complete.new.cluster) c.in_ok-plan-2.ensures.client.service c.in_ok-plan-2.ensures.links.later c.requires.reaches;
+}
+
+pub resume-requires-clause-reaches : goal.resume-requires-clause-reaches
+resume-requires-clause-reaches g c =
+    reaches_later (proxy_of c.complete.new.namenode) (proxy_of c.restamp.new.namenode) (g.C.Cluster.shown c.complete.new.cluster)
+    (g.C.Cluster.shown c.restamp.new.cluster) c.in_ok-plan-3.ensures.client.service c.in_ok-plan-3.ensures.links.later
+    (reaches_later (proxy_of c.args.namenode.now) (proxy_of c.complete.new.namenode) (g.C.Cluster.shown c.args.cluster.now)
+    (g.C.Cluster.shown c.complete.new.cluster) c.in_ok-plan-2.ensures.client.service c.in_ok-plan-2.ensures.links.later c.requires.reaches)
+
+pub returns-in_err-plan-3-clause-client : goal.returns-in_err-plan-3-clause-client
+returns-in_err-plan-3-clause-client g c =
+    same_client_trans c.args.namenode.now c.complete.new.namenode c.restamp.new.namenode c.in_ok-plan-2.ensures.client
+    c.in_err-plan-3.ensures.client
+
+pub returns-clause-client : goal.returns-clause-client
+returns-clause-client g c =
+    same_client_trans c.args.namenode.now c.restamp.new.namenode c.resume.new.namenode
+    (same_client_trans c.args.namenode.now c.complete.new.namenode c.restamp.new.namenode c.in_ok-plan-2.ensures.client
+    c.in_ok-plan-3.ensures.client)
+    c.resume.ensures.client
 
 pub returns-in_err-plan-2-clause-err : goal.returns-in_err-plan-2-clause-err
 returns-in_err-plan-2-clause-err g c =
@@ -35,6 +63,7 @@ returns-clause-ok g c =
     let least = c.in_ok-block.block.num_bytes - (c.total.result + c.args.unsent) in
     let those : c.as_slice-3.result.now ≡ nodes_at c.args.plan.block.locs c.args.failed.now = cc (c.as_slice-3.ensures, c.in_ok-excluded.ensures, c.as_slice.ensures) in
     let few : least ≡ c.args.plan.block.b.num_bytes - (total c.args.replay + c.args.unsent) = cc (c.in_ok-block.ensures, c.total.ensures, c.as_slice-2.ensures) in
+    let name : name_of c.restamp.new.namenode ≡ name_of c.args.namenode.now = c.in_ok-plan-3.ensures.client.name ∙ c.in_ok-plan-2.ensures.client.name in
     ok_by (λ attempt. Resumed (course_of c.in_ok-plan-3.plan c.in_ok-block.block least (name_of c.args.namenode.now) c.args.settings.now.window c.args.replay) n attempt z)
     (λ attempt. Attempted (task_of c.args.settings.now (name_of c.args.namenode.now) c.args.replay c.args.unsent) (standing c.args.plan c.args.failed.now a) attempt z)
     c.resume.result
@@ -42,7 +71,8 @@ returns-clause-ok g c =
     a (g.C.Cluster.shown c.complete.new.cluster) c.in_ok-plan.ensures.ok c.in_ok-plan-2.ensures.links
     c.in_ok-plan-2.plan c.as_slice-3.result.now those c.in_ok-plan-2.ensures.completes n c.in_ok-plan-3.ensures.links
     c.in_ok-plan-3.plan c.in_ok-plan-3.ensures.restamps z c.in_ok-block.block least c.in_ok-block.ensures few)
-    c.resume.ensures.ok
+    (subst (λ (client : List ℕ). IfOk c.resume.result (λ attempt. Resumed (course_of c.in_ok-plan-3.plan c.in_ok-block.block least client c.args.settings.now.window c.args.replay) n attempt z))
+    name c.resume.ensures.ok)
 
 pub returns-clause-err : goal.returns-clause-err
 returns-clause-err g c =

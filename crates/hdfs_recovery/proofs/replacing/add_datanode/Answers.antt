@@ -5,7 +5,8 @@ use Rattle.std.specs.Prelude.{Ok}
 use Rattle.hdfs_model.specs.declared.asks.Answer.TheVariants as answers
 use Rattle.hdfs_model.specs.declared.messages.DatanodeInfo.{DatanodeInfo}
 use Rattle.hdfs_model.specs.Effects.{HasOneMore}
-use Rattle.hdfs_namenode.specs.Clients.{name_of}
+use Rattle.hdfs_namenode.specs.Clients.{name_of, proxy_of, through}
+use Rattle.hdfs_namenode.proofs.Services.{reaches_service}
 use Rattle.hdfs_recovery.specs.declared.block_plan.WriteFault.{WriteFault}
 use Rattle.hdfs_recovery.specs.Replacing.{AddsNone}
 use Rattle.hdfs_recovery.proofs.Added.{apart, asked_so, none_answered, none_given, none_prepared, transfer_links, waits_with}
@@ -13,62 +14,96 @@ use Rattle.hdfs_recovery.proofs.Asks.{asked_links}
 use Rattle.hdfs_recovery.proofs.Stepping.{keeps_links_trans}
 use Rattle.hdfs_recovery.proofs.replacing.add_datanode.Goals as goal
 
+pub get_additional_datanode-requires : goal.get_additional_datanode-requires
+get_additional_datanode-requires g c =
+    reaches_service (proxy_of c.args.namenode.now) (g.C.Cluster.shown c.args.cluster.now) c.requires.reaches
+
+pub returns-in-Err-clause-links : goal.returns-in-Err-clause-links
+returns-in-Err-clause-links g c =
+    asked_links g.C.Cluster.shown g.C.Cluster.serves g.met.C.Cluster.serves_rows g.met.C.Cluster.active_below _ (through c.args.namenode.now c.args.cluster.now)
+    (through c.get_additional_datanode.new.self c.get_additional_datanode.new.cluster) c.requires.reaches
+    (Err c.in-Err.error) c.in-Err.ensures.asked
+
 pub returns-in-Err-clause-err : goal.returns-in-Err-clause-err
 returns-in-Err-clause-err g c =
-    let asked = asked_so g.C.Cluster.shown g.C.Cluster.serves g.met.C.Cluster.serves_rows c.args.plan.now c.args.excluded.now 1
-    (name_of c.args.namenode.now) c.as_slice-2.result.now c.args.cluster.now c.get_additional_datanode.new.cluster
+    let asked = asked_so g.C.Cluster.shown g.C.Cluster.serves g.met.C.Cluster.serves_rows g.met.C.Cluster.active_below c.args.plan.now c.args.excluded.now 1
+    (name_of c.args.namenode.now) c.as_slice-2.result.now (through c.args.namenode.now c.args.cluster.now)
+    (through c.get_additional_datanode.new.self c.get_additional_datanode.new.cluster) c.requires.reaches
     c.as_str.result.now c.as_slice.result.now (Err c.in-Err.error) c.as_str.ensures c.as_slice.ensures c.in-Err.ensures.asked in
     subst (λ (f : WriteFault). AddsNone c.args.plan.now (g.C.Cluster.shown c.args.cluster.now) f (g.C.Cluster.shown c.get_additional_datanode.new.cluster))
     (sym c.fault_of_none.ensures)
-    (none_answered g.C.Cluster.shown g.C.Cluster.serves g.met.C.Cluster.serves_rows c.args.plan.now c.args.excluded.now 1
-    (name_of c.args.namenode.now) c.as_slice-2.result.now c.args.cluster.now c.get_additional_datanode.new.cluster
+    (none_answered g.C.Cluster.shown g.C.Cluster.serves g.met.C.Cluster.serves_rows g.met.C.Cluster.active_below c.args.plan.now c.args.excluded.now 1
+    (name_of c.args.namenode.now) c.as_slice-2.result.now (through c.args.namenode.now c.args.cluster.now)
+    (through c.get_additional_datanode.new.self c.get_additional_datanode.new.cluster) c.requires.reaches
     c.in-Err.error asked)
+
+pub returns-in_err-transfer-clause-links : goal.returns-in_err-transfer-clause-links
+returns-in_err-transfer-clause-links g c =
+    asked_links g.C.Cluster.shown g.C.Cluster.serves g.met.C.Cluster.serves_rows g.met.C.Cluster.active_below _ (through c.args.namenode.now c.args.cluster.now)
+    (through c.get_additional_datanode.new.self c.get_additional_datanode.new.cluster) c.requires.reaches
+    (Ok (answers.GetAdditionalDatanode c.in-Ok.located)) c.in-Ok.ensures.asked
 
 pub returns-in_err-transfer-clause-err : goal.returns-in_err-transfer-clause-err
 returns-in_err-transfer-clause-err g c =
     let p = err_from_is_err_and c.from_residual.result c.from_residual.ensures.1 in
-    let asked = asked_so g.C.Cluster.shown g.C.Cluster.serves g.met.C.Cluster.serves_rows c.args.plan.now c.args.excluded.now 1
-    (name_of c.args.namenode.now) c.as_slice-2.result.now c.args.cluster.now c.get_additional_datanode.new.cluster
+    let asked = asked_so g.C.Cluster.shown g.C.Cluster.serves g.met.C.Cluster.serves_rows g.met.C.Cluster.active_below c.args.plan.now c.args.excluded.now 1
+    (name_of c.args.namenode.now) c.as_slice-2.result.now (through c.args.namenode.now c.args.cluster.now)
+    (through c.get_additional_datanode.new.self c.get_additional_datanode.new.cluster) c.requires.reaches
     c.as_str.result.now c.as_slice.result.now (Ok (answers.GetAdditionalDatanode c.in-Ok.located)) c.as_str.ensures c.as_slice.ensures c.in-Ok.ensures.asked in
-    rw (p.1, p.2) (none_prepared g.C.Cluster.shown g.C.Cluster.serves g.met.C.Cluster.serves_rows c.args.plan.now c.args.excluded.now 1
-    (name_of c.args.namenode.now) c.as_slice-2.result.now c.args.cluster.now c.get_additional_datanode.new.cluster
+    rw (p.1, p.2) (none_prepared g.C.Cluster.shown g.C.Cluster.serves g.met.C.Cluster.serves_rows g.met.C.Cluster.active_below c.args.plan.now c.args.excluded.now 1
+    (name_of c.args.namenode.now) c.as_slice-2.result.now (through c.args.namenode.now c.args.cluster.now)
+    (through c.get_additional_datanode.new.self c.get_additional_datanode.new.cluster) c.requires.reaches
     (Ok (answers.GetAdditionalDatanode c.in-Ok.located)) asked)
+
+pub returns-in-Ok-transfer-clause-links : goal.returns-in-Ok-transfer-clause-links
+returns-in-Ok-transfer-clause-links g c =
+    let given = c.in-Ok-transfer.ensures.ok in
+    keeps_links_trans (g.C.Cluster.shown c.args.cluster.now) (g.C.Cluster.shown c.get_additional_datanode.new.cluster)
+    (g.C.Cluster.shown c.transfer.new.self)
+    (asked_links g.C.Cluster.shown g.C.Cluster.serves g.met.C.Cluster.serves_rows g.met.C.Cluster.active_below _ (through c.args.namenode.now c.args.cluster.now)
+    (through c.get_additional_datanode.new.self c.get_additional_datanode.new.cluster) c.requires.reaches
+    (Ok (answers.GetAdditionalDatanode c.in-Ok.located)) c.in-Ok.ensures.asked)
+    (transfer_links (g.C.Cluster.shown c.get_additional_datanode.new.cluster) (g.C.Cluster.shown c.transfer.new.self) given.only given.writes)
 
 pub returns-in-Ok-transfer-clause-adds : goal.returns-in-Ok-transfer-clause-adds
 returns-in-Ok-transfer-clause-adds g c =
-    let asked = asked_so g.C.Cluster.shown g.C.Cluster.serves g.met.C.Cluster.serves_rows c.args.plan.now c.args.excluded.now 1
-    (name_of c.args.namenode.now) c.as_slice-2.result.now c.args.cluster.now c.get_additional_datanode.new.cluster
+    let asked = asked_so g.C.Cluster.shown g.C.Cluster.serves g.met.C.Cluster.serves_rows g.met.C.Cluster.active_below c.args.plan.now c.args.excluded.now 1
+    (name_of c.args.namenode.now) c.as_slice-2.result.now (through c.args.namenode.now c.args.cluster.now)
+    (through c.get_additional_datanode.new.self c.get_additional_datanode.new.cluster) c.requires.reaches
     c.as_str.result.now c.as_slice.result.now (Ok (answers.GetAdditionalDatanode c.in-Ok.located)) c.as_str.ensures c.as_slice.ensures c.in-Ok.ensures.asked in
     record {
       shape = c.in-Ok.ensures.shape.0;
       one = subst (λ (nodes : List DatanodeInfo). HasOneMore nodes c.in-Ok.located.locs) c.as_slice.ensures c.in-Ok.ensures.shape.1;
-      apart = apart g.C.Cluster.shown g.C.Cluster.serves g.met.C.Cluster.serves_rows c.args.plan.now c.args.excluded.now 1
-          (name_of c.args.namenode.now) c.as_slice-2.result.now c.args.cluster.now c.get_additional_datanode.new.cluster
+      apart = apart g.C.Cluster.shown g.C.Cluster.serves g.met.C.Cluster.serves_rows g.met.C.Cluster.active_below c.args.plan.now c.args.excluded.now 1
+          (name_of c.args.namenode.now) c.as_slice-2.result.now (through c.args.namenode.now c.args.cluster.now)
+          (through c.get_additional_datanode.new.self c.get_additional_datanode.new.cluster) c.requires.reaches
           c.in-Ok.located asked;
-      waits = waits_with g.C.Cluster.shown g.C.Cluster.serves g.met.C.Cluster.serves_rows c.args.plan.now c.args.excluded.now 1
-          (name_of c.args.namenode.now) c.as_slice-2.result.now c.args.cluster.now c.get_additional_datanode.new.cluster
+      waits = waits_with g.C.Cluster.shown g.C.Cluster.serves g.met.C.Cluster.serves_rows g.met.C.Cluster.active_below c.args.plan.now c.args.excluded.now 1
+          (name_of c.args.namenode.now) c.as_slice-2.result.now (through c.args.namenode.now c.args.cluster.now)
+          (through c.get_additional_datanode.new.self c.get_additional_datanode.new.cluster) c.requires.reaches
           c.in-Ok.located asked (g.C.Cluster.shown c.transfer.new.self) c.client_name.result.now c.in_ok-transfer.transfer c.in_ok-transfer.ensures c.in-Ok-transfer.ensures.ok;
     }
 
 pub returns-in-Err-transfer-clause-links : goal.returns-in-Err-transfer-clause-links
 returns-in-Err-transfer-clause-links g c =
-    let asked = asked_so g.C.Cluster.shown g.C.Cluster.serves g.met.C.Cluster.serves_rows c.args.plan.now c.args.excluded.now 1
-    (name_of c.args.namenode.now) c.as_slice-2.result.now c.args.cluster.now c.get_additional_datanode.new.cluster
-    c.as_str.result.now c.as_slice.result.now (Ok (answers.GetAdditionalDatanode c.in-Ok.located)) c.as_str.ensures c.as_slice.ensures c.in-Ok.ensures.asked in
     let given = c.in-Err-transfer.ensures.err in
     keeps_links_trans (g.C.Cluster.shown c.args.cluster.now) (g.C.Cluster.shown c.get_additional_datanode.new.cluster)
     (g.C.Cluster.shown c.transfer.new.self)
-    (asked_links g.C.Cluster.shown g.C.Cluster.serves g.met.C.Cluster.serves_rows _ c.args.cluster.now c.get_additional_datanode.new.cluster _ asked)
+    (asked_links g.C.Cluster.shown g.C.Cluster.serves g.met.C.Cluster.serves_rows g.met.C.Cluster.active_below _ (through c.args.namenode.now c.args.cluster.now)
+    (through c.get_additional_datanode.new.self c.get_additional_datanode.new.cluster) c.requires.reaches
+    (Ok (answers.GetAdditionalDatanode c.in-Ok.located)) c.in-Ok.ensures.asked)
     (transfer_links (g.C.Cluster.shown c.get_additional_datanode.new.cluster) (g.C.Cluster.shown c.transfer.new.self) given.only given.writes)
 
 pub returns-in-Err-transfer-clause-err : goal.returns-in-Err-transfer-clause-err
 returns-in-Err-transfer-clause-err g c =
-    let asked = asked_so g.C.Cluster.shown g.C.Cluster.serves g.met.C.Cluster.serves_rows c.args.plan.now c.args.excluded.now 1
-    (name_of c.args.namenode.now) c.as_slice-2.result.now c.args.cluster.now c.get_additional_datanode.new.cluster
+    let asked = asked_so g.C.Cluster.shown g.C.Cluster.serves g.met.C.Cluster.serves_rows g.met.C.Cluster.active_below c.args.plan.now c.args.excluded.now 1
+    (name_of c.args.namenode.now) c.as_slice-2.result.now (through c.args.namenode.now c.args.cluster.now)
+    (through c.get_additional_datanode.new.self c.get_additional_datanode.new.cluster) c.requires.reaches
     c.as_str.result.now c.as_slice.result.now (Ok (answers.GetAdditionalDatanode c.in-Ok.located)) c.as_str.ensures c.as_slice.ensures c.in-Ok.ensures.asked in
     subst (λ (f : WriteFault). AddsNone c.args.plan.now (g.C.Cluster.shown c.args.cluster.now) f (g.C.Cluster.shown c.transfer.new.self))
     (sym c.fault_of_transfer.ensures)
-    (none_given g.C.Cluster.shown g.C.Cluster.serves g.met.C.Cluster.serves_rows c.args.plan.now c.args.excluded.now 1
-    (name_of c.args.namenode.now) c.as_slice-2.result.now c.args.cluster.now c.get_additional_datanode.new.cluster
+    (none_given g.C.Cluster.shown g.C.Cluster.serves g.met.C.Cluster.serves_rows g.met.C.Cluster.active_below c.args.plan.now c.args.excluded.now 1
+    (name_of c.args.namenode.now) c.as_slice-2.result.now (through c.args.namenode.now c.args.cluster.now)
+    (through c.get_additional_datanode.new.self c.get_additional_datanode.new.cluster) c.requires.reaches
     c.in-Ok.located asked (g.C.Cluster.shown c.transfer.new.self) c.client_name.result.now c.in_ok-transfer.transfer c.in_ok-transfer.ensures c.in-Err-transfer.fault
     c.in-Err-transfer.ensures.err)

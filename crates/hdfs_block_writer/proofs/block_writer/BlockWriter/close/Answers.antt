@@ -1,5 +1,6 @@
 -- The goals of BlockWriter::close.
 use Rattle.std.proofs.Common.{[]}
+use Rattle.hdfs_namenode.proofs.Services.{same_client_trans}
 use Rattle.hdfs_block_writer.specs.Written.{Closes, GaveUp}
 use Rattle.hdfs_block_writer.proofs.Closed.{closes_after}
 use Rattle.hdfs_recovery.proofs.Tried.{err_by, ok_by}
@@ -24,3 +25,8 @@ returns-in-Ok-clause-err g c =
     let z = g.C.Cluster.shown c.end.new.cluster in
     err_by (λ fault. GaveUp b c.flush.new.self fault z) (λ fault. GaveUp a c.args.self fault z) c.end.result
     (λ fault gave. gave_up_after a b c.args.self c.flush.new.self [] c.in-Ok.ensures.wrote z fault gave) c.end.ensures.err
+
+pub returns-in-Ok-clause-client : goal.returns-in-Ok-clause-client
+returns-in-Ok-clause-client g c =
+    same_client_trans c.args.namenode.now c.flush.new.namenode
+    c.end.new.namenode c.flush.ensures.client c.end.ensures.client

@@ -1,5 +1,6 @@
 -- The goals of BlockWriter::end.
 use Rattle.std.proofs.Common.{rules, ◌≡◌, [], Some, arith}
+use Rattle.hdfs_namenode.proofs.Services.{same_client_trans}
 use Rattle.hdfs_block_writer.proofs.Closed.{can_push_last, closes, ending, few, last_not_pushed, not_finished}
 use Rattle.hdfs_block_writer.proofs.Sent.{is_open, pipe_of}
 use Rattle.hdfs_block_writer.proofs.Wrote.{gave_up_ended}
@@ -65,3 +66,13 @@ returns-in-Err-finish-clause-err g c =
     not_finished c.args.self.now c.in-Some.pipe c.in-Ok.packet (g.C.Cluster.shown c.args.cluster.now) piped c.requires.none held.0 held.1
     c.in-Ok.ensures (g.C.Cluster.shown c.push-pushed.new.cluster) c.in-Ok-pushed.pipe c.in-Ok-pushed.ensures.ok
     (g.C.Cluster.shown c.finish.new.cluster) c.in-Err-finish.fault c.in-Err-finish.ensures.err
+
+pub returns-in-Ok-finish-clause-client : goal.returns-in-Ok-finish-clause-client
+returns-in-Ok-finish-clause-client g c =
+    same_client_trans c.args.namenode.now c.push-pushed.new.namenode
+    c.finish.new.namenode c.push-pushed.ensures.client c.finish.ensures.client
+
+pub returns-in-Err-finish-clause-client : goal.returns-in-Err-finish-clause-client
+returns-in-Err-finish-clause-client g c =
+    same_client_trans c.args.namenode.now c.push-pushed.new.namenode
+    c.finish.new.namenode c.push-pushed.ensures.client c.finish.ensures.client

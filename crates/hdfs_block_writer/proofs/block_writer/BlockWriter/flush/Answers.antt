@@ -6,8 +6,10 @@ use Rattle.hdfs_block_writer.proofs.block_writer.BlockWriter.flush.Goals as goal
 
 pub returns-in_default-clause-holds : goal.returns-in_default-clause-holds
 returns-in_default-clause-holds g c =
-    let same : c.args.self.now.packet ≡ c.take.new.self = search rules in
-    holds_same (g.C.Cluster.shown c.args.cluster.now) c.args.self.now c.take.new.self same c.requires.holds
+    let same : c.args.self.now.packet ≡ c.take.new.self = search rules in (
+      holds_same (g.C.Cluster.shown c.args.cluster.now) c.args.self.now c.take.new.self same c.requires.holds,
+      c.take.ensures.after,
+    )
 
 pub returns-in_default-clause-full : goal.returns-in_default-clause-full
 returns-in_default-clause-full g c = λ one two packet is_one is_two is_packet.
@@ -35,10 +37,12 @@ returns-in-Ok-clause-holds g c =
     let w = c.args.self.now in
     let piped : w.pipe ≡ Some c.in-Some-take.pipe = search rules in
     let is : w.packet ≡ Some c.in-Some.packet = search rules in
-    let held = c.requires.holds c.in-Some-take.pipe piped in
-    holds_sent w (record w { pipe = Some c.in-Ok.pipe; packet = c.take.new.self; seqno = w.seqno + 1 }) c.in-Some-take.pipe c.in-Ok.pipe
-    c.in-Some.packet (g.C.Cluster.shown c.args.cluster.now) (g.C.Cluster.shown c.push.new.cluster) held.0 held.1 is c.in-Ok.ensures.ok
-    (record { settings = refl; block_size = refl; chunk = refl; packet_size = refl }) refl refl c.take.ensures.after refl
+    let held = c.requires.holds c.in-Some-take.pipe piped in (
+      holds_sent w (record w { pipe = Some c.in-Ok.pipe; packet = c.take.new.self; seqno = w.seqno + 1 }) c.in-Some-take.pipe c.in-Ok.pipe
+          c.in-Some.packet (g.C.Cluster.shown c.args.cluster.now) (g.C.Cluster.shown c.push.new.cluster) held.0 held.1 is c.in-Ok.ensures.ok
+          (record { settings = refl; block_size = refl; chunk = refl; packet_size = refl }) refl refl c.take.ensures.after refl,
+      c.take.ensures.after,
+    )
 
 pub returns-in-Ok-clause-full : goal.returns-in-Ok-clause-full
 returns-in-Ok-clause-full g c =

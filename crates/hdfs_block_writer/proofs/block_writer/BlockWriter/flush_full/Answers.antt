@@ -6,11 +6,11 @@ use Rattle.hdfs_block_writer.proofs.block_writer.BlockWriter.flush_full.Goals as
 
 pub returns-in-Ok-clause-stands : goal.returns-in-Ok-clause-stands
 returns-in-Ok-clause-stands g c =
-    stands_empty (g.C.Cluster.shown c.flush.new.cluster) c.flush.new.self c.in-Ok.ensures.holds
+    stands_empty (g.C.Cluster.shown c.flush.new.cluster) c.flush.new.self c.in-Ok.ensures.holds.0
     (λ pipe' is'. (let packet = c.has_full_packet.ensures.0 c.if-has_full_packet.true in
     let pipe = pipe_of c.args.self.now c.requires.open in
     c.in-Ok.ensures.full pipe.0 pipe' packet.0 pipe.1 is' packet.1 packet.2 (c.requires.full pipe.0 pipe.1)))
-    c.in-Ok.ensures.empty
+    c.in-Ok.ensures.holds.1
 
 pub returns-else-has_full_packet-clause-stands : goal.returns-else-has_full_packet-clause-stands
 returns-else-has_full_packet-clause-stands g c =

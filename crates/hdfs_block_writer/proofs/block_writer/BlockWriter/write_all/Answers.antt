@@ -1,12 +1,15 @@
 -- The goals of BlockWriter::write_all.
-use Rattle.std.proofs.Common.{ℕ, List, [], ◌++◌, ◌<◌, length, take, refl, sym, ◌∙◌, ap, subst, arith}
+use Rattle.std.proofs.Common.{ℕ, List, [], ◌++◌, length, take, refl, sym, ◌∙◌, ap, arith}
 use Rattle.std.proofs.lemmas.List.{length-drop, take_rest, length-take-le}
+use Rattle.hdfs_namenode.specs.Clients.{proxy_of}
+use Rattle.hdfs_namenode.proofs.Services.{reaches_later, same_client_refl, same_client_trans}
 use Rattle.hdfs_block_writer.proofs.Wrote.{wrote_refl, wrote_trans, fails_after, some_after, pieces_join}
 use Rattle.hdfs_block_writer.proofs.block_writer.BlockWriter.write_all.Goals as goal
 
 pub pieces-init : goal.pieces-init
 pieces-init g c = record {
-  namenodes = c.requires.namenodes;
+  reaches = c.requires.reaches;
+  client = same_client_refl c.args.namenode.now;
   stands = c.requires.stands;
   some = c.requires.open;
   room = c.requires.room;
@@ -20,18 +23,24 @@ pieces-preserved g c =
     let u = g.C.Cluster.shown c.write_piece.new.cluster in
     let before = c.pieces.invariant in
     let now = c.in-Ok.ensures in
+    let taken = now.wrote.1 in
+    let wrote = now.wrote.2 in
     let n = c.in-Ok.taken in
     let rest = c.pieces.rest.now in
     let told = before.told in
     record {
-      namenodes = subst (λ (k : ℕ). 0 < k) (sym now.wrote.own.later.namenodes) before.namenodes;
+      reaches =
+          reaches_later (proxy_of c.pieces.namenode) (proxy_of c.write_piece.new.namenode) t u c.write_piece.ensures.client.service
+          wrote.own.later before.reaches;
+      client =
+          same_client_trans c.args.namenode.now c.pieces.namenode c.write_piece.new.namenode before.client c.write_piece.ensures.client;
       stands = now.stands;
-      some = some_after t u c.pieces.self c.write_piece.new.self (take n rest) now.wrote before.some;
-      room = omega (arith, before.room, now.count.1, now.wrote.length, now.wrote.keeps.block_size, length-take-le n rest now.count.1, length-drop n rest, ap length (take_rest rest n));
+      some = some_after t u c.pieces.self c.write_piece.new.self (take n rest) wrote before.some;
+      room = omega (arith, before.room, taken, wrote.length, wrote.keeps.block_size, length-take-le n rest taken, length-drop n rest, ap length (take_rest rest n));
       told = (
         told.0 ++ take n rest,
         pieces_join c.args.bytes.now rest told.0 n told.1 ∙ ap (λ (l : List ℕ). told.0 ++ take n rest ++ l) (sym (take_rest rest n)),
-        wrote_trans s t c.args.self.now c.pieces.self told.0 told.2 u c.write_piece.new.self (take n rest) now.wrote,
+        wrote_trans s t c.args.self.now c.pieces.self told.0 told.2 u c.write_piece.new.self (take n rest) wrote,
       );
     }
 

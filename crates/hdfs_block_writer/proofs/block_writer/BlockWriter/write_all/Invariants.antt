@@ -1,12 +1,15 @@
 -- How far the bytes were taken.
-use Rattle.std.proofs.Common.{◌≡◌, ℕ, ◌+◌, ◌<◌, ◌≤◌, List, ◌++◌, length, IsSome}
+use Rattle.std.proofs.Common.{◌≡◌, ℕ, ◌+◌, ◌≤◌, List, ◌++◌, length, IsSome}
+use Rattle.hdfs_namenode.specs.Asked.{ReachesAll}
+use Rattle.hdfs_namenode.specs.Clients.{SameClient, proxy_of}
 use Rattle.hdfs_block_writer.specs.BlockWriters.{Stands}
 use Rattle.hdfs_block_writer.specs.Written.{Wrote}
 use Rattle.hdfs_block_writer.proofs.block_writer.BlockWriter.write_all.Given as goal
 
 abbrev pub invariant-pieces : goal.invariant-pieces
 invariant-pieces g l = record {
-  namenodes : 0 < (g.C.Cluster.shown l.cluster).namenodes;
+  reaches : ReachesAll (proxy_of l.namenode) (g.C.Cluster.shown l.cluster);
+  client : SameClient l.fn.namenode l.namenode;
   stands : Stands (g.C.Cluster.shown l.cluster) l.self;
   some : IsSome l.self.pipe;
   room : l.self.length + length l.rest ≤ l.self.block_size;

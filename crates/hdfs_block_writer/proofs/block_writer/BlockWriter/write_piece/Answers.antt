@@ -38,9 +38,12 @@ returns-in-Ok-flush_full-clause-wrote g c =
     let w = c.args.self.now in
     let more = take c.in-Ok.count c.args.bytes.now in
     let pipe = pipe_of w c.requires.open in
-    let filled = fill_wrote a w c.fill.new.self more (c.requires.stands pipe.0 pipe.1).0.filled c.in-Ok.ensures.fills in
-    subst (λ (bytes : List ℕ). Wrote a w bytes b c.flush_full.new.self) (append-nil more)
-    (wrote_trans a a w c.fill.new.self more filled b c.flush_full.new.self [] c.in-Ok-flush_full.ensures.wrote)
+    let filled = fill_wrote a w c.fill.new.self more (c.requires.stands pipe.0 pipe.1).0.filled c.in-Ok.ensures.fills in (
+      c.in-Ok.ensures.count.0,
+      c.in-Ok.ensures.count.1,
+      subst (λ (bytes : List ℕ). Wrote a w bytes b c.flush_full.new.self) (append-nil more)
+          (wrote_trans a a w c.fill.new.self more filled b c.flush_full.new.self [] c.in-Ok-flush_full.ensures.wrote),
+    )
 
 pub returns-in-Err-flush_full-clause-err : goal.returns-in-Err-flush_full-clause-err
 returns-in-Err-flush_full-clause-err g c =

@@ -1,7 +1,14 @@
 -- The goals of FileWriter::end.
 use Rattle.std.proofs.Common.{[]}
+use Rattle.hdfs_namenode.specs.Clients.{proxy_of}
+use Rattle.hdfs_namenode.proofs.Services.{reaches_later}
 use Rattle.hdfs_files.proofs.Joining.{closed_after, fails_to_close_after}
 use Rattle.hdfs_files.proofs.file_writer.FileWriter.end.Goals as goal
+
+pub complete-requires-clause-reaches : goal.complete-requires-clause-reaches
+complete-requires-clause-reaches g c =
+    reaches_later (proxy_of c.args.namenode.now) (proxy_of c.finish_block.new.namenode) (g.C.Cluster.shown c.args.cluster.now) (g.C.Cluster.shown c.finish_block.new.cluster)
+    c.finish_block.ensures.keeps.2.service c.in-Ok.ensures.wrote.own.later c.requires.reaches
 
 pub returns-in-Ok-complete-clause-closed : goal.returns-in-Ok-complete-clause-closed
 returns-in-Ok-complete-clause-closed g c =

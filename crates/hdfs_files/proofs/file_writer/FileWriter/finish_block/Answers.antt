@@ -74,5 +74,5 @@ returns-in-Err-clause-err g c =
     let block = c.in-Some-take.block in
     let going : w.going ≡ Some block = sym c.take-2.ensures.value ∙ c.in-Some-take.is in
     subst (λ (e : HdfsError). Fails s w e t) (sym c.error_of.ensures)
-    (gave_up_fails s t (g.met.C.Cluster.sound c.args.cluster.now) (g.met.C.Cluster.sound c.close.new.cluster) w block going (g.met.C.Cluster.active_below c.args.cluster.now) (c.requires.stands.is_open c.requires.fine block going)
+    (gave_up_fails s t (g.met.C.Cluster.sound c.args.cluster.now) (g.met.C.Cluster.sound c.close.new.cluster) w block going (c.requires.stands.is_open c.requires.fine block going)
     (c.requires.stands.going block going).settings c.in-Err.fault c.in-Err.ensures.err)

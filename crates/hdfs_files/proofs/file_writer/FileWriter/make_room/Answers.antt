@@ -1,6 +1,8 @@
 -- The goals of FileWriter::make_room.
 use Rattle.std.proofs.Common.{[], sym, ◌∙◌, subst}
 use Rattle.std.proofs.lemmas.Bool.{false≢true}
+use Rattle.hdfs_namenode.specs.Clients.{proxy_of}
+use Rattle.hdfs_namenode.proofs.Services.{reaches_later}
 use Rattle.hdfs_files.specs.declared.file_writer.FileWriter.{FileWriter}
 use Rattle.hdfs_files.specs.declared.sizes.WriteSizes.{WriteSizes}
 use Rattle.hdfs_files.specs.Tails.{IsFull}
@@ -19,8 +21,13 @@ begin_block-requires-clause-full g c =
     let same = c.take_reopened.ensures.none c.in-None.is in
     let none : HasRoom w → ⊥ = λ room. false≢true (sym c.if-has_room.false ∙ c.has_room.ensures.1 room) in
     let full = full_without_room s w c.requires.works.stands c.requires.works.fine none (c.take_reopened.ensures.full c.in-None.is) in
-    subst (λ (z : WriteSizes). IsFull z.block_size (tail_of c.finish_block.new.self)) (sym c.finish_block.ensures.keeps.sizes)
+    subst (λ (z : WriteSizes). IsFull z.block_size (tail_of c.finish_block.new.self)) (sym c.finish_block.ensures.keeps.0.sizes)
     (c.in-Ok-finish_block.ensures.full (subst (λ (x : FileWriter). IsFull x.sizes.block_size (tail_of x)) (sym same) full))
+
+pub begin_block-requires-clause-reaches : goal.begin_block-requires-clause-reaches
+begin_block-requires-clause-reaches g c =
+    reaches_later (proxy_of c.args.namenode.now) (proxy_of c.finish_block.new.namenode) (g.C.Cluster.shown c.args.cluster.now) (g.C.Cluster.shown c.finish_block.new.cluster)
+    c.finish_block.ensures.keeps.2.service c.in-Ok-finish_block.ensures.wrote.own.later c.requires.reaches
 
 pub returns-in-Ok-begin_block-clause-wrote : goal.returns-in-Ok-begin_block-clause-wrote
 returns-in-Ok-begin_block-clause-wrote g c =

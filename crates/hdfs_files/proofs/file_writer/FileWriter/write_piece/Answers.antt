@@ -1,6 +1,8 @@
 -- The goals of FileWriter::write_piece.
 use Rattle.std.proofs.Common.{◌≡◌, [], ◌-◌, length, take, Some, refl, sym, subst, arith}
 use Rattle.hdfs_model.specs.declared.errors.HdfsError.{HdfsError}
+use Rattle.hdfs_namenode.specs.Clients.{proxy_of}
+use Rattle.hdfs_namenode.proofs.Services.{reaches_later}
 use Rattle.hdfs_block_writer.specs.BlockWriters.{length_of, size_of}
 use Rattle.hdfs_block_writer.specs.declared.block_writer.BlockWriter.{BlockWriter}
 use Rattle.hdfs_files.specs.Faults.{error_of}
@@ -9,8 +11,10 @@ use Rattle.hdfs_files.proofs.Joining.{wrote_trans, fails_after}
 use Rattle.hdfs_files.proofs.Standing.{more_stands, more_wrote, gave_up_fails, within_size, min_some}
 use Rattle.hdfs_files.proofs.file_writer.FileWriter.write_piece.Goals as goal
 
-pub write-requires-clause-namenodes : goal.write-requires-clause-namenodes
-write-requires-clause-namenodes g c = omega (arith, c.requires.works.namenode, c.in-Ok.ensures.wrote.own.later.namenodes)
+pub write-requires-clause-reaches : goal.write-requires-clause-reaches
+write-requires-clause-reaches g c =
+    reaches_later (proxy_of c.args.namenode.now) (proxy_of c.make_room.new.namenode) (g.C.Cluster.shown c.args.cluster.now) (g.C.Cluster.shown c.make_room.new.cluster)
+    c.make_room.ensures.client.service c.in-Ok.ensures.wrote.own.later c.requires.reaches
 
 pub write-requires-clause-stands : goal.write-requires-clause-stands
 write-requires-clause-stands g c = (c.in-Ok.ensures.stands.0.going c.in-Some.block c.in-Some.is).stands
@@ -51,5 +55,5 @@ returns-in-Err-write-clause-err g c =
     let stands = c.in-Ok.ensures.stands.0 in
     subst (λ (e : HdfsError). Fails s c.args.self.now e t) (sym c.error_of.ensures)
     (fails_after s m t c.args.self.now w1 [] (error_of c.in-Err-write.fault) c.in-Ok.ensures.wrote
-    (gave_up_fails m t (g.met.C.Cluster.sound c.make_room.new.cluster) (g.met.C.Cluster.sound c.write.new.cluster) w1 block c.in-Some.is (g.met.C.Cluster.active_below c.make_room.new.cluster) (stands.is_open c.in-Ok.ensures.fine block c.in-Some.is)
+    (gave_up_fails m t (g.met.C.Cluster.sound c.make_room.new.cluster) (g.met.C.Cluster.sound c.write.new.cluster) w1 block c.in-Some.is (stands.is_open c.in-Ok.ensures.fine block c.in-Some.is)
     (stands.going block c.in-Some.is).settings c.in-Err-write.fault c.in-Err-write.ensures.err.gave_up))
