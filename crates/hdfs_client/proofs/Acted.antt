@@ -52,7 +52,7 @@ pub failed_acts : (command : Command) (s t : Shown) (session session' : Session)
 failed_acts command s t session session' error stands looks writers remembers tells found told others = record {
   anywhere = record { later = looks.later; reads = reads_same s t looks; replies = tt; tells = tells; refused = λ early. looks.nodes; idle = λ idle. looks.nodes };
   links = links_moved s t looks.links.writes session (record session' { failed = true }) writers;
-  stands = session_moved s t looks.links.writes session (record session' { failed = true }) writers (remembers_failed session session' remembers)
+  stands = session_moved s t looks.links.writes session (record session' { failed = true }) writers looks.later.namenodes (remembers_failed session session' remembers)
       (λ failed. absurd (false≢true (sym failed))) stands;
   writers = λ r apart. writers r;
   applied = λ state ready. record {
@@ -156,7 +156,7 @@ module _ (command : Command) (s t : Shown) (session session' : Session) (path : 
     anywhere = record { later = looks.later; reads = reads_same s t looks; replies = replies; tells = tt; refused = tt; idle = λ idle. looks.nodes };
     links = links_with t session session' path writer more linkless s looks.links.writes;
     stands = session_with t session session' path writer more linkless
-        (session_moved s t looks.links.writes session session (λ r. refl) (remembers_refl session) (λ failed. failed) stands) own at fine sized;
+        (session_moved s t looks.links.writes session session (λ r. refl) looks.later.namenodes (remembers_refl session) (λ failed. failed) stands) own at fine sized;
     writers = λ r apart.
         more.put r
         ∙ ap (λ (b : Bool). cond b (Some writer) (writer_of session r)) (not_same path r (λ same. apart (same ∙ sym called)));

@@ -20,7 +20,7 @@ use Rattle.hdfs_client.specs.Preparing.{Remembers}
 use Rattle.hdfs_client.specs.Session.{settings_of, writer_of, opened_of, defaults_known, HasLink, IsSized, Stands, OnlyOwnLinks, CarriesFile, Carried, CarriesOpen}
 use Rattle.hdfs_client.specs.declared.session.Session.{Session}
 use Rattle.hdfs_client.proofs.Links.{link_is_open}
-use Rattle.hdfs_client.proofs.Sized.{named_still, sized_still}
+use Rattle.hdfs_client.proofs.Sized.{named_still, reaches_still, sized_still}
 
 -- the link of a writer, where there is one
 abbrev pub link_in : Option FileWriter → Option ℕ
@@ -152,6 +152,7 @@ module _ (old new : Shown) (session session' : Session) (path : List ℕ) (was n
             (λ apart'. stands.apart one two writer writer' (sym apart.1 ∙ is) (sym apart'.1 ∙ is') differ link at at')
             (cases_at two))
             (cases_at one);
+        reaches = reaches_still session session' remembers old new call.own.later.namenodes stands.reaches;
         name = named_still session session' remembers stands.name;
         sized = λ other writer is.
             ⊎_elim

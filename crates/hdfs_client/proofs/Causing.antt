@@ -3,7 +3,6 @@ use Rattle.std.proofs.Common.{◌≡◌, ◌⊎◌, inl, inr, ⊎_elim, ℕ, ◌
 use Rattle.std.proofs.lemmas.Bool.{false≢true}
 use Rattle.hdfs_model.specs.declared.messages.LocatedBlocks.{LocatedBlocks}
 use Rattle.hdfs_model.specs.declared.asks.Ask.TheVariants as asks
-use Rattle.hdfs_model.specs.declared.asks.AskFault.{AskFault}
 use Rattle.hdfs_model.specs.declared.asks.AskFault.TheVariants as faults
 use Rattle.hdfs_model.specs.declared.commands.Command.{Command}
 use Rattle.hdfs_model.specs.declared.commands.Command.TheVariants as commands
@@ -16,15 +15,15 @@ use Rattle.hdfs_model.specs.Files.{State, NoFile, NotDirectory, Missing, NotFile
 use Rattle.hdfs_model.specs.Steps.{World, Done, content_of, range_of, step}
 use Rattle.hdfs_model.specs.Picture.{Picture, SameFiles, kinds}
 use Rattle.hdfs_model.specs.Namenode.{Locates, IsNoFile, StandsForNoFile, class_for, is_taken}
-use Rattle.hdfs_model.specs.Shown.{Shown, Later, Served, OnlyReads}
+use Rattle.hdfs_model.specs.Shown.{Shown, Later, OnlyReads}
 use Rattle.hdfs_model.specs.Stores.{Agrees}
 use Rattle.hdfs_model.specs.Causes.{AllFailed, ByteLost, CallsRose, FileLost, HasLength, Cause, Tells, IsEarly}
 use Rattle.hdfs_model.proofs.Frames.{told_after, rose_since}
 use Rattle.hdfs_namenode.specs.Asked.{error_of}
+use Rattle.hdfs_namenode.specs.Relaying.{RefusedBy, TellsAsk}
 use Rattle.hdfs_client.specs.Meeting.{Meets, IsClosed}
 use Rattle.hdfs_client.specs.Ranges.{Stored, FailsAt}
 use Rattle.hdfs_client.proofs.Agreeing.{agrees_moved, agrees_files, is_told, byte_lost, locates_blocks, stores_blocks}
-use Rattle.hdfs_client.proofs.Looking.{exception_there}
 use Rattle.hdfs_client.proofs.Stepping.{Found, found_file, is_closed, refused_read, done_read, bad_range}
 
 -- what holds of an error over any cluster
@@ -69,12 +68,26 @@ module _ (w : World) (s s' : Shown) (state : State) (name path : List ℕ) (offs
       by_test true is = ⊎_elim (λ stands. absurd (false≢true (sym (not_taken stands.0) ∙ sym (ap is_taken stands.2) ∙ is))) (λ rose. inr rose) h
       by_test false is = ⊎_elim (λ stands. inl (stands.0, refused_read w s state name path meets p told offset len stands.0 stands.1, stands.2)) (λ rose. inr rose) h
 
+  -- a namenode has failed
+  rose_cause : (e : HdfsError) → TellsAsk s s' e → CallsRose s.counts s' → Cause w state command s s' e
+  rose_cause errors.NoMemory tells rose = tt
+  rose_cause (errors.AlreadyExists message) tells rose = inr rose
+  rose_cause (errors.RPCError class message) tells rose = inr rose
+  rose_cause e tells rose = absurd tells
+
   -- why the look-up fails
-  pub fault_cause : ((p : Picture) → s.picture ≡ Some p → p.active < s.namenodes) → (from count : ℕ) (fault : AskFault) → Served s 0 (asks.GetBlockLocations path from count) (Err fault) s' → Cause w state command s s' (error_of fault)
-  fault_cause active from count faults.NoMemory served = tt
-  fault_cause active from count (faults.Exception class message) served =
+  pub looked_cause : (from count : ℕ) (e : HdfsError) → TellsAsk s s' e
+      → ((p : Picture) → s.picture ≡ Some p → IsClosed p path → (e ≡ errors.NoMemory) ⊎ RefusedBy p (asks.GetBlockLocations path from count) e ⊎ CallsRose s.counts s')
+      → Cause w state command s s' e
+  looked_cause from count e tells why =
       let t = closed_there in
-      exception_cause class message t.0 t.1 (exception_there s s' path from count t.0 t.1 t.2 class message served meets.one (active t.0 t.1))
+      ⊎_elim
+      (λ memory. subst (Cause w state command s s') (sym memory) tt)
+      (λ more. ⊎_elim
+      (λ refused. subst (Cause w state command s s') (sym refused.3) (exception_cause refused.0 refused.1 t.0 t.1 (inl refused.2)))
+      (λ rose. rose_cause e tells rose)
+      more)
+      (why t.0 t.1 t.2)
 
   module _ (files : (p : Picture) → s.picture ≡ Some p → IsClosed p path → (q : Picture) × (s'.picture ≡ Some q) × SameFiles p q) where
     -- the files agree behind the look-up

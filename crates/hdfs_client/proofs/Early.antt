@@ -31,6 +31,7 @@ failed_stands s session stands = record {
   each = stands.each;
   fine = λ fine. absurd (cc (fine));
   apart = stands.apart;
+  reaches = stands.reaches;
   name = stands.name;
   sized = λ path writer is.
       sized_still session (record session { failed = true }) (remembers_failed session session (remembers_refl session)) writer writer refl

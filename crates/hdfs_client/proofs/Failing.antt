@@ -1,10 +1,7 @@
 -- Errors of a command that opens a file to be written.
-use Rattle.std.proofs.Common.{◌≡◌, ◌⊎◌, inl, inr, ⊎_elim, ℕ, ◌<◌, Bool, true, false, cond, is_some, List, Option, Some, None, Err, refl, sym, ◌∙◌, ap, subst, arith}
+use Rattle.std.proofs.Common.{◌≡◌, ◌⊎◌, inl, inr, ⊎_elim, ℕ, true, false, is_some, List, Option, Some, None, Err, refl, sym, ◌∙◌, ap, subst, arith}
 use Rattle.std.specs.BTreeMap.{get_by_text}
 use Rattle.hdfs_model.specs.declared.asks.Ask.{Ask}
-use Rattle.hdfs_model.specs.declared.asks.Ask.TheVariants as asks
-use Rattle.hdfs_model.specs.declared.asks.AskFault.{AskFault}
-use Rattle.hdfs_model.specs.declared.asks.AskFault.TheVariants as faults
 use Rattle.hdfs_model.specs.declared.commands.Command.{Command}
 use Rattle.hdfs_model.specs.declared.commands.Command.TheVariants as commands
 use Rattle.hdfs_model.specs.declared.commands.Reply.{Reply}
@@ -16,15 +13,18 @@ use Rattle.hdfs_model.specs.declared.messages.ServerDefaults.{ServerDefaults}
 use Rattle.hdfs_model.specs.declared.picture.LastAnswer.TheVariants as last_answers
 use Rattle.hdfs_model.specs.Causes.{CallsRose, Cause, CommandLost, Tells, UsesDefaults}
 use Rattle.hdfs_model.specs.Files.{State}
-use Rattle.hdfs_model.specs.Namenode.{IsOwn, MayBeDone, is_taken}
+use Rattle.hdfs_model.specs.Namenode.{MayBeDone}
 use Rattle.hdfs_model.specs.Picture.{Picture, SameButActive, SameFiles, kinds}
 use Rattle.hdfs_model.specs.Sessions.{defaults_of, is_before_asking, spared}
 use Rattle.hdfs_model.specs.Limits.{are_defaults, are_options}
-use Rattle.hdfs_model.specs.Shown.{Shown, Served}
+use Rattle.hdfs_model.specs.Shown.{Shown}
 use Rattle.hdfs_model.specs.Steps.{is_opened, path_of, target_of}
 use Rattle.hdfs_model.specs.Stores.{Agrees}
 use Rattle.hdfs_model.proofs.Frames.{rose_since, told_before, told_weaker}
-use Rattle.hdfs_namenode.specs.Asked.{error_of}
+use Rattle.hdfs_model.proofs.Relaying.{Repeats}
+use Rattle.hdfs_namenode.specs.Relaying.{DoneOrNot, RelaysTold, TellsAsk}
+use Rattle.hdfs_namenode.proofs.Relayed.{relayed_done}
+use Rattle.hdfs_files.proofs.Asked.{Came}
 use Rattle.hdfs_files.specs.Writers as files
 use Rattle.hdfs_files.specs.declared.file_writer.FileWriter.{FileWriter}
 use Rattle.std.proofs.lemmas.Bool.{false≢true}
@@ -37,8 +37,9 @@ use Rattle.hdfs_client.proofs.Still.{carries_stays}
 use Rattle.hdfs_client.proofs.Acted.{failed_acts, spares_but}
 use Rattle.hdfs_client.proofs.Agreeing.{agrees_but, agrees_files, is_told}
 use Rattle.hdfs_client.proofs.Opening.{Over}
-use Rattle.hdfs_client.proofs.Prepared.{looks_from-Served, looks_refl, looks_trans}
-use Rattle.hdfs_client.proofs.Refusing.{excepted, exception_cause, fault_tells, unanswered}
+use Rattle.hdfs_client.proofs.Prepared.{looks_refl, looks_trans}
+use Rattle.hdfs_client.proofs.Looking.{looks_from-Leaves}
+use Rattle.hdfs_client.proofs.Refusing.{ask_not_early, ask_tells, exception_cause, rose_cause}
 use Rattle.hdfs_client.proofs.Sized.{remembers_refl, remembers_trans}
 
 -- namenodes that have failed since a time have failed since an earlier time
@@ -49,13 +50,10 @@ rose_before a b c looks rose = (
   rose_since (a.counts.calls rose.0) (b.counts.calls rose.0) (c.counts.calls rose.0) (c.counts.calls rose.0) (looks.later.counts.calls rose.0) rose.2 (omega arith),
 )
 
-not_early : (fault : AskFault) → is_before_asking (error_of fault) ≡ false
-not_early faults.NoMemory = refl
-not_early (faults.Exception class message) = by_test (is_taken class)
-  where
-    by_test : (b : Bool) → is_before_asking (cond b (errors.AlreadyExists message) (errors.RPCError class message)) ≡ false
-    by_test true = refl
-    by_test false = refl
+-- an ask that was done or not may be done
+pub may_be_done : (ask : Ask) (p q : Picture) → DoneOrNot ask p q → MayBeDone ask p q
+may_be_done ask p q (inl same) = inl same
+may_be_done ask p q (inr done) = inr (inl done)
 
 -- the command asks for no bytes, and uses the defaults
 pub record Opens (command : Command) : Type 0 where
@@ -76,7 +74,7 @@ options_acts s session name options stands out =
     (λ state ready. (out, agrees_but (spared (world_at session s) state (commands.Create name options) (errors.InvalidArgument args.Options)) s.picture state.files ready.ready.fits.agrees))
     (λ state ready. record { each = λ p told r writer is. inr (ready.carried.each p told r writer is) })
 
-module _ (command : Command) (opens : Opens command) (s m : Shown) (session session' : Session) (stands : Stands s session) (active : (p : Picture) → s.picture ≡ Some p → p.active < s.namenodes)
+module _ (command : Command) (opens : Opens command) (s m : Shown) (session session' : Session) (stands : Stands s session)
     (prepares : Prepares s session m session') where
   kept : (r : List ℕ) → writer_of session' r ≡ writer_of session r
   kept r = ap (λ w. get_by_text w r) prepares.writers
@@ -101,13 +99,11 @@ module _ (command : Command) (opens : Opens command) (s m : Shown) (session sess
       (λ state ready. (tt, agrees_but (spared (world_at session s) state command errors.NoMemory) m.picture state.files (agrees_still state ready)))
       open_still
 
-  fault_cause : (state : State) → IsReady s session state command → (fault : AskFault) → Served s 0 asks.GetServerDefaults (Err fault) m → Cause (world_at session s) state command s m (error_of fault)
-  fault_cause state ready faults.NoMemory served = tt
-  fault_cause state ready (faults.Exception class message) served =
+  lacks_cause : (state : State) → IsReady s session state command → (error : HdfsError) → TellsAsk s m error
+      → ((p : Picture) → s.picture ≡ Some p → (error ≡ errors.NoMemory) ⊎ CallsRose s.counts m) → Cause (world_at session s) state command s m error
+  lacks_cause state ready error tells why =
       let told = is_told s.picture state.files ready.ready.fits.agrees in
-      exception_cause (world_at session s) state command s m None None (λ why is. absurd (cc is)) class message
-      (⊎_elim (λ refused. absurd refused) (λ rose. inr rose)
-      (excepted s m asks.GetServerDefaults told.0 told.1 (λ own. own) class message served ready.ready.one (active told.0 told.1)))
+      ⊎_elim (λ memory. subst (Cause (world_at session s) state command s m) (sym memory) tt) (rose_cause (world_at session s) state command s s m error tells) (why told.0 told.1)
 
   out_cause : (state : State) → IsReady s session state command → (defaults : ServerDefaults) → are_defaults defaults ≡ false → AreTold s session defaults → Cause (world_at session s) state command s m (errors.InvalidArgument args.Defaults)
   out_cause state ready defaults out same =
@@ -117,10 +113,9 @@ module _ (command : Command) (opens : Opens command) (s m : Shown) (session sess
   -- no defaults
   pub lacks_acts : (error : HdfsError) → LacksDefaults s session error m → Acts command s session m (after {T = Reply} session' (Err error)) (Err error)
   lacks_acts error (inl fault) =
-      subst (λ (e : HdfsError). Acts command s session m (after {T = Reply} session' (Err e)) (Err e)) (sym fault.1)
-      (failed_acts command s m session session' (error_of fault.0) stands prepares.looks kept prepares.remembers (fault_tells command s m fault.0 fault.2.last) (opens.found s m)
-      (λ state ready. (fault_cause state ready fault.0 fault.2, agrees_but (spared (world_at session s) state command (error_of fault.0)) m.picture state.files (agrees_still state ready)))
-      open_still)
+      failed_acts command s m session session' error stands prepares.looks kept prepares.remembers (ask_tells command s s m error fault.0) (opens.found s m)
+      (λ state ready. (lacks_cause state ready error fault.0 fault.1, agrees_but (spared (world_at session s) state command error) m.picture state.files (agrees_still state ready)))
+      open_still
   lacks_acts error (inr out) =
       subst (λ (e : HdfsError). Acts command s session m (after {T = Reply} session' (Err e)) (Err e)) (sym out.0)
       (failed_acts command s m session session' (errors.InvalidArgument args.Defaults) stands prepares.looks kept prepares.remembers opens.uses (opens.found s m)
@@ -128,7 +123,6 @@ module _ (command : Command) (opens : Opens command) (s m : Shown) (session sess
       open_still)
 
   module _ (t : Shown) (session'' : Session) (writers : (r : List ℕ) → writer_of session'' r ≡ writer_of session' r) (remembers : Remembers session' session'') (ask : Ask) (path : List ℕ)
-      (active' : (p : Picture) → m.picture ≡ Some p → p.active < m.namenodes)
       (called : (state : State) → target_of (world_at session s) command ≡ path)
       (over : (state : State) → IsReady s session state command → (p : Picture) → m.picture ≡ Some p → Over p (world_at session s) state command path ask) where
     -- what the writers of other files carry they carry behind an ask that may have been done
@@ -167,46 +161,37 @@ module _ (command : Command) (opens : Opens command) (s m : Shown) (session sess
         let h = cause state ready told.0 told.1 in
         others_open state ready told.0 told.1 h.1.0 h.1.1 h.1.2))
 
-    asked_cause : (state : State) → IsReady s session state command → (p : Picture) → m.picture ≡ Some p → ((p : Picture) → IsOwn p ask → ⊥) → (fault : AskFault) → Served m 0 ask (Err fault) t → Cause (world_at session s) state command s t (error_of fault)
-    asked_cause state ready p told no_own faults.NoMemory served = tt
-    asked_cause state ready p told no_own (faults.Exception class message) served =
+    asked_cause : (state : State) → IsReady s session state command → (p : Picture) → m.picture ≡ Some p → (error : HdfsError) → TellsAsk m t error
+        → (q : Picture) → RelaysTold (CallsRose m.counts t) p ask (Err error) q → Cause (world_at session s) state command s t error
+    asked_cause state ready p told error tells q (inl memory) = subst (Cause (world_at session s) state command s t) (sym memory.0) tt
+    asked_cause state ready p told error tells q (inr (inl refused)) =
         let o = over state ready p told in
-        exception_cause (world_at session s) state command s t (kinds p path) o.refusal o.stepped class message
-        (⊎_elim (λ refused. inl (o.refused class refused)) (λ rose. inr (rose_before s m t prepares.looks rose))
-        (excepted m t ask p told (no_own p) class message served (prepares.looks.later.namenodes ∙ ready.ready.one) (active' p told)))
+        let by = refused.0 in
+        subst (Cause (world_at session s) state command s t) (sym by.3)
+        (exception_cause (world_at session s) state command s t (kinds p path) o.refusal o.stepped by.0 by.1 (inl (o.refused by.0 by.2)))
+    asked_cause state ready p told error tells q (inr (inr rose)) =
+        rose_cause (world_at session s) state command s m t error tells (rose_before s m t prepares.looks rose.0)
 
     -- an error of the ask
-    pub asked_acts : ((p : Picture) → IsOwn p ask → ⊥) → (fault : AskFault) → Served m 0 ask (Err fault) t → Acts command s session t (after {T = Reply} session'' (Err (error_of fault))) (Err (error_of fault))
-    asked_acts no_own fault served =
-        late_acts (error_of fault) (not_early fault) (looks_from-Served m t ask (Err fault) served) (fault_tells command s t fault served.last)
-        (λ state ready p told. (asked_cause state ready p told no_own fault served, unanswered m t ask p told (no_own p) fault served))
-
--- an error of an ask that was made once, or not at all for want of memory
-pub refused_acts : {C : Type 0} (shown : C → Shown) (a b : C) (command : Command) → Opens command → (s : Shown) (session session' : Session) → Stands s session → ((p : Picture) → s.picture ≡ Some p → p.active < s.namenodes)
-    → Prepares s session (shown a) session' → (ask : Ask) (path : List ℕ) → ((p : Picture) → (shown a).picture ≡ Some p → p.active < (shown a).namenodes) → (target_of (world_at session s) command ≡ path)
-    → ((state : State) → IsReady s session state command → (p : Picture) → (shown a).picture ≡ Some p → Over p (world_at session s) state command path ask) → ((p : Picture) → IsOwn p ask → ⊥) → (error : HdfsError)
-    → ((fault : AskFault) × (error ≡ error_of fault) × Served (shown a) 0 ask (Err fault) (shown b)) ⊎ ((error ≡ errors.NoMemory) × (b ≡ a))
-    → Acts command s session (shown b) (after {T = Reply} session' (Err error)) (Err error)
-refused_acts shown a b command opens s session session' stands active prepares ask path active' called over no_own error (inl fault) =
-    subst (λ (e : HdfsError). Acts command s session (shown b) (after {T = Reply} session' (Err e)) (Err e)) (sym fault.1)
-    (asked_acts command opens s (shown a) session session' stands active prepares (shown b) session' (λ r. refl) (remembers_refl session') ask path active' (λ state. called) over no_own fault.0 fault.2)
-refused_acts {C} shown a b command opens s session session' stands active prepares ask path active' called over no_own error (inr nothing) =
-    subst (λ (x : C). Acts command s session (shown x) (after {T = Reply} session' (Err error)) (Err error)) (sym nothing.1)
-    (subst (λ (e : HdfsError). Acts command s session (shown a) (after {T = Reply} session' (Err e)) (Err e)) (sym nothing.0)
-    (starved_acts command opens s (shown a) session session' stands active prepares))
+    pub refused_acts : (error : HdfsError) → Came m ask (Err error) t → ((p : Picture) → Repeats ask p) → Acts command s session t (after {T = Reply} session'' (Err error)) (Err error)
+    refused_acts error came repeats =
+        late_acts error (ask_not_early m t error came.relays.tells) (looks_from-Leaves m t came.relays.leaves) (ask_tells command s m t error came.relays.tells)
+        (λ state ready p told.
+        (let to = came.told p told (repeats p) in
+        (asked_cause state ready p told error came.relays.tells to.0 to.2, (to.0, to.1, may_be_done ask p to.0 (relayed_done (CallsRose m.counts t) p ask (Err error) to.0 tt to.2)))))
 
 -- want of memory once the file was made, so that the session doesn't keep its writer
-pub unkept_acts : (command : Command) → Opens command → (s m t : Shown) (session session' session'' : Session) → Stands s session → ((p : Picture) → s.picture ≡ Some p → p.active < s.namenodes) → Prepares s session m session'
-    → ((r : List ℕ) → writer_of session'' r ≡ writer_of session' r) → Remembers session' session'' → (ask : Ask) (path : List ℕ) → ((p : Picture) → m.picture ≡ Some p → p.active < m.namenodes)
+pub unkept_acts : (command : Command) → Opens command → (s m t : Shown) (session session' session'' : Session) → Stands s session → Prepares s session m session'
+    → ((r : List ℕ) → writer_of session'' r ≡ writer_of session' r) → Remembers session' session'' → (ask : Ask) (path : List ℕ)
     → target_of (world_at session s) command ≡ path → ((state : State) → IsReady s session state command → (p : Picture) → m.picture ≡ Some p → Over p (world_at session s) state command path ask)
     → OnlyLooks m t → ((p : Picture) → m.picture ≡ Some p → (q : Picture) × (t.picture ≡ Some q) × MayBeDone ask p q) → Acts command s session t (after {T = Reply} session'' (Err errors.NoMemory)) (Err errors.NoMemory)
-unkept_acts command opens s m t session session' session'' stands active prepares writers remembers ask path active' called over looks done =
-    late_acts command opens s m session session' stands active prepares t session'' writers remembers ask path active' (λ state. called) over errors.NoMemory refl looks tt (λ state ready p told. (tt, done p told))
+unkept_acts command opens s m t session session' session'' stands prepares writers remembers ask path called over looks done =
+    late_acts command opens s m session session' stands prepares t session'' writers remembers ask path (λ state. called) over errors.NoMemory refl looks tt (λ state ready p told. (tt, done p told))
 
 -- no status of the file was answered, of which an answer over a told picture always tells
-pub unstated_acts : (command : Command) → Opens command → (name : List ℕ) → name ≡ path_of command → (s m t : Shown) (session session' : Session) → Stands s session → ((p : Picture) → s.picture ≡ Some p → p.active < s.namenodes) → Prepares s session m session'
-    → (ask : Ask) (path : List ℕ) → ((p : Picture) → m.picture ≡ Some p → p.active < m.namenodes) → target_of (world_at session s) command ≡ path
+pub unstated_acts : (command : Command) → Opens command → (name : List ℕ) → name ≡ path_of command → (s m t : Shown) (session session' session'' : Session) → Stands s session → Prepares s session m session'
+    → ((r : List ℕ) → writer_of session'' r ≡ writer_of session' r) → Remembers session' session'' → (ask : Ask) (path : List ℕ) → target_of (world_at session s) command ≡ path
     → ((state : State) → IsReady s session state command → (p : Picture) → m.picture ≡ Some p → Over p (world_at session s) state command path ask) → OnlyLooks m t → t.last ≡ last_answers.Fine
-    → ((p : Picture) → m.picture ≡ Some p → ⊥) → Acts command s session t (after {T = Reply} session' (Err (errors.FileNotFound name))) (Err (errors.FileNotFound name))
-unstated_acts command opens name is s m t session session' stands active prepares ask path active' called over looks last none =
-    late_acts command opens s m session session' stands active prepares t session' (λ r. refl) (remembers_refl session') ask path active' (λ state. called) over (errors.FileNotFound name) refl looks (is, last) (λ state ready p told. absurd (none p told))
+    → ((p : Picture) → m.picture ≡ Some p → ⊥) → Acts command s session t (after {T = Reply} session'' (Err (errors.FileNotFound name))) (Err (errors.FileNotFound name))
+unstated_acts command opens name is s m t session session' session'' stands prepares writers remembers ask path called over looks last none =
+    late_acts command opens s m session session' stands prepares t session'' writers remembers ask path (λ state. called) over (errors.FileNotFound name) refl looks (is, last) (λ state ready p told. absurd (none p told))

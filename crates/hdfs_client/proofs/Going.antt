@@ -44,7 +44,7 @@ gone_none w state commands now session fits opened avoids carried world =
 
 -- at the next command
 module _ (w : World) (state : State) (commands : List Command) (n : ℕ) (replies : List Reply) (now : Shown) (session : Session) (command : Command) (gone : GoneOn w state commands n replies now session)
-    (below : n < length commands) (here : command ≡ get_or commands n command) (one : now.namenodes ≡ 1) where
+    (below : n < length commands) (here : command ≡ get_or commands n command) where
   more : take (n + 1) commands ≡ take n commands ++ command ∷ []
   more = take_more commands n command below ∙ ap (λ (x : Command). take n commands ++ x ∷ []) (sym here)
 
@@ -54,7 +54,6 @@ module _ (w : World) (state : State) (commands : List Command) (n : ℕ) (replie
   pub is_ready : IsReady now session gone.last command
   is_ready = record {
     ready = record {
-      one = one;
       fits = gone.fits;
       opened = gone.opened;
       avoids = All-cons (Avoids (world_at session now) gone.last) command [] (subst (λ (x : World). Avoids x gone.last command) (sym gone.world) avoids) (All-nil (Avoids (world_at session now) gone.last));

@@ -15,7 +15,7 @@ use Rattle.hdfs_files.proofs.Beside.{still_stands}
 use Rattle.hdfs_client.specs.Preparing.{Remembers}
 use Rattle.hdfs_client.specs.Session.{HasLink, IsSized, OnlyOwnLinks, Stands, writer_of, opened_of}
 use Rattle.hdfs_client.specs.declared.session.Session.{Session}
-use Rattle.hdfs_client.proofs.Sized.{named_still, sized_still}
+use Rattle.hdfs_client.proofs.Sized.{named_still, reaches_still, sized_still}
 
 module _ (old new : Shown) (same : (link : ℕ) → new.writes link ≡ old.writes link) where
   -- a writer of a file stands as it stood
@@ -41,13 +41,14 @@ module _ (old new : Shown) (same : (link : ℕ) → new.writes link ≡ old.writ
 
   module _ (session session' : Session) (writers_same : (path : List ℕ) → writer_of session' path ≡ writer_of session path) where
     -- so does a session with the same writers
-    pub session_moved : Remembers session session' → (session'.failed ≡ false → session.failed ≡ false) → Stands old session
+    pub session_moved : new.namenodes ≡ old.namenodes → Remembers session session' → (session'.failed ≡ false → session.failed ≡ false) → Stands old session
         → Stands new session'
-    session_moved remembers fine stands = record {
+    session_moved count remembers fine stands = record {
       limited = ap are_settings remembers.settings ∙ stands.limited;
       each = λ path writer is. (let h = stands.each path writer (sym (writers_same path) ∙ is) in (file_moved writer h.0, h.1));
       fine = λ failed path writer is. stands.fine (fine failed) path writer (sym (writers_same path) ∙ is);
       apart = λ path other writer writer' is is'. stands.apart path other writer writer' (sym (writers_same path) ∙ is) (sym (writers_same other) ∙ is');
+      reaches = reaches_still session session' remembers old new count stands.reaches;
       name = named_still session session' remembers stands.name;
       sized = λ path writer is.
           sized_still session session' remembers writer writer refl (stands.sized path writer (sym (writers_same path) ∙ is));
@@ -128,6 +129,7 @@ module _ (shown : Shown) (session session' : Session) (path : List ℕ) (writer 
           (λ here. no_link one link here.1 a)
           (λ away. ⊎_elim (λ here. no_link two link here.1 b) (λ off. stands.apart r q one two away.1 off.1 apart link a b) (writer_cases q two is'))
           (writer_cases r one is);
+      reaches = reaches_still session session' more.remembers shown shown refl stands.reaches;
       name = named_still session session' more.remembers stands.name;
       sized = λ r other is. ⊎_elim
           (λ here. subst (λ (x : FileWriter). IsSized session' x) here.1 sized)

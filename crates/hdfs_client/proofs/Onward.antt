@@ -64,7 +64,7 @@ module _ (old u v : Shown) (later : Later u v) where
   tells_on last command (errors.AlreadyExists message) h = (h.0, h.1, last ∙ h.2)
   tells_on last command (errors.OperationFailed name) h = (h.0, last ∙ h.1)
   tells_on last command (errors.FileNotFound name) h = (h.0, last ∙ h.1)
-  tells_on last command (errors.RPCError class message) h = last ∙ h
+  tells_on last command (errors.RPCError class message) h = (h.0, last ∙ h.1)
 
   module _ (reads : SameReads u v) (state : State) (leaves : LeavesFiles u v state) where
     of_last_on : (path : List ℕ) (P Q : BlockEntry → Type 0) → ((entry : BlockEntry) → P entry → Q entry) → OfLastBlock u path P → OfLastBlock v path Q

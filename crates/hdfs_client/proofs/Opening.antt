@@ -16,20 +16,22 @@ use Rattle.hdfs_model.specs.declared.messages.Appended.{Appended}
 use Rattle.hdfs_model.specs.declared.messages.FileStatusMsg.{FileStatusMsg}
 use Rattle.hdfs_model.specs.declared.picture.FileEntry.{FileEntry}
 use Rattle.hdfs_model.specs.declared.errors.HdfsError.{HdfsError}
-use Rattle.hdfs_model.specs.Counts.{Rose}
+use Rattle.hdfs_model.specs.Causes.{CallsRose}
 use Rattle.hdfs_model.specs.Effects.{Creates, HasStatus, Opens}
 use Rattle.hdfs_model.specs.Files.{State, Kind, kinds_of}
-use Rattle.hdfs_model.specs.Namenode.{IsRefusal, IsShaped, MayBeDone, Row, ServesTold, StandsForAny, new_file, overwrites}
+use Rattle.hdfs_model.specs.Namenode.{IsRefusal, MayBeDone, Row, StandsForAny, new_file, overwrites}
 use Rattle.hdfs_model.specs.Paths.{ancestors, is_path}
 use Rattle.hdfs_model.specs.Picture.{Picture, SameButActive, kinds}
 use Rattle.hdfs_model.specs.Refusals.{Refusal, append_refusal, create_refusal}
 use Rattle.hdfs_model.specs.Sessions.{touched}
-use Rattle.hdfs_model.specs.Shown.{Shown, Served}
+use Rattle.hdfs_model.specs.Shown.{Shown}
 use Rattle.hdfs_model.specs.Sound.{IsSound, IsFileAt}
 use Rattle.hdfs_model.specs.Steps.{World, Refused, append_file, create_file, created, is_opened, open_node, step, target_of}
 use Rattle.hdfs_model.specs.Stores.{AgreesAt}
-use Rattle.hdfs_model.proofs.Frames.{told_after}
-use Rattle.hdfs_namenode.specs.Asked.{AskedOnce}
+use Rattle.hdfs_model.proofs.Repeating.{append_repeats, create_repeats}
+use Rattle.hdfs_namenode.specs.Asked.{AskedOnce, Through}
+use Rattle.hdfs_namenode.proofs.Relayed.{relayed_row}
+use Rattle.hdfs_files.proofs.Asked.{Came}
 use Rattle.hdfs_client.proofs.Agreeing.{agrees_files}
 use Rattle.hdfs_files.specs.Tails.{Tail, FileCarries}
 use Rattle.hdfs_files.proofs.Creating.{created_others}
@@ -92,11 +94,11 @@ module _ (path client : List ℕ) (options : WriteOptions) (replication block_si
     may_be_made q (inr (inr own)) = absurd own.0
 
     -- a file that was answered to be created is
-    pub was_made : (s t : Shown) (status : Option FileStatusMsg) → s.picture ≡ Some p → Served s 0 creating (Ok (answers.Create status)) t
+    pub was_made : (s t : Shown) (status : Option FileStatusMsg) → s.picture ≡ Some p → Came s creating (Ok (answers.Create status)) t
         → (q : Picture) × (t.picture ≡ Some q) × Made q × MayBeDone creating p q
-    was_made s t status told served =
-        let one = told_after (λ p q. ServesTold (Rose (s.counts.calls 0) (t.counts.calls 0)) p 0 creating (Ok (answers.Create status)) q) s.picture t.picture p served.picture told in
-        let row : Row p creating (answers.Create status) one.0 = ⊎_elim (λ row. row) (λ own. absurd own.0) one.2.2 in
+    was_made s t status told came =
+        let one = came.told p told (create_repeats path client options.permission (cond options.overwrite 3 1) options.create_parent replication block_size p) in
+        let row : Row p creating (answers.Create status) one.0 = relayed_row (CallsRose s.counts t) p creating (answers.Create status) one.0 (λ is. absurd (cc is)) one.2 in
         (one.0, one.1, made_by one.0 status row, inr (inl (answers.Create status, tt, row)))
 
     module _ (world : World) (state : State) (name : List ℕ) (sound : IsSound p) (agrees : (r : List ℕ) → AgreesAt p (p.names r) (state.files r)) (named : is_path path ≡ true) (closed : is_opened state path ≡ false)
@@ -170,12 +172,12 @@ module _ (path client : List ℕ) (flag : ℕ) where
     may_be_reopened q (inr (inr own)) = absurd own.0
 
     -- a file that was answered to be opened is
-    pub was_reopened : (s t : Shown) (appended : Appended) → s.picture ≡ Some p → IsShaped appending (answers.Append appended) → Served s 0 appending (Ok (answers.Append appended)) t
+    pub was_reopened : (s t : Shown) (appended : Appended) → s.picture ≡ Some p → Came s appending (Ok (answers.Append appended)) t
         → (q : Picture) × (t.picture ≡ Some q) × Reopened q appended × MayBeDone appending p q
-    was_reopened s t appended told shaped served =
-        let one = told_after (λ p q. ServesTold (Rose (s.counts.calls 0) (t.counts.calls 0)) p 0 appending (Ok (answers.Append appended)) q) s.picture t.picture p served.picture told in
-        let row : Row p appending (answers.Append appended) one.0 = ⊎_elim (λ row. row) (λ own. absurd own.0) one.2.2 in
-        (one.0, one.1, reopened_by one.0 appended row, inr (inl (answers.Append appended, shaped, row)))
+    was_reopened s t appended told came =
+        let one = came.told p told (append_repeats path client flag p) in
+        let row : Row p appending (answers.Append appended) one.0 = relayed_row (CallsRose s.counts t) p appending (answers.Append appended) one.0 (λ is. absurd (cc is)) one.2 in
+        (one.0, one.1, reopened_by one.0 appended row, inr (inl (answers.Append appended, came.relays.shaped, row)))
 
     module _ (world : World) (state : State) (name : List ℕ) (sound : IsSound p) (agrees : (r : List ℕ) → AgreesAt p (p.names r) (state.files r)) (named : is_path path ≡ true) (closed : is_opened state path ≡ false)
         (called : target_of world (commands.Append name) ≡ path) where
@@ -211,15 +213,15 @@ module _ (path client : List ℕ) (flag : ℕ) where
       }
 
 -- an ask for a new file, as it is written
-pub creating_as : {C : Type 0} (serves : C → ℕ → Ask → Result Answer AskFault → C → Type 0) (src path client : List ℕ) (options : WriteOptions) (flag r r' k k' : ℕ) (outcome : Result Answer HdfsError) (a b : C) → src ≡ path
-    → flag ≡ cond options.overwrite 3 1 → r ≡ r' → k ≡ k' → AskedOnce serves (asks.Create src options.permission client flag options.create_parent r k) a outcome b → AskedOnce serves (creating path client options r' k') a outcome b
+pub creating_as : {C : Type 0} (serves : C → ℕ → Ask → Result Answer AskFault → C → Type 0) (src path client : List ℕ) (options : WriteOptions) (flag r r' k k' : ℕ) (outcome : Result Answer HdfsError) (a b : Through C) → src ≡ path
+    → flag ≡ cond options.overwrite 3 1 → r ≡ r' → k ≡ k' → AskedOnce serves true (asks.Create src options.permission client flag options.create_parent r k) a outcome b → AskedOnce serves true (creating path client options r' k') a outcome b
 creating_as serves src path client options flag r r' k k' outcome a b one two three four asked =
-    subst (λ (x : ℕ). AskedOnce serves (creating path client options r' x) a outcome b) four
-    (subst (λ (x : ℕ). AskedOnce serves (creating path client options x k) a outcome b) three
-    (subst (λ (x : ℕ). AskedOnce serves (asks.Create path options.permission client x options.create_parent r k) a outcome b) two
-    (subst (λ (x : List ℕ). AskedOnce serves (asks.Create x options.permission client flag options.create_parent r k) a outcome b) one asked)))
+    subst (λ (x : ℕ). AskedOnce serves true (creating path client options r' x) a outcome b) four
+    (subst (λ (x : ℕ). AskedOnce serves true (creating path client options x k) a outcome b) three
+    (subst (λ (x : ℕ). AskedOnce serves true (asks.Create path options.permission client x options.create_parent r k) a outcome b) two
+    (subst (λ (x : List ℕ). AskedOnce serves true (asks.Create x options.permission client flag options.create_parent r k) a outcome b) one asked)))
 
 -- an ask for a file that is gone on with, as it is written
-pub appending_as : {C : Type 0} (serves : C → ℕ → Ask → Result Answer AskFault → C → Type 0) (src path client : List ℕ) (flag : ℕ) (outcome : Result Answer HdfsError) (a b : C) → src ≡ path
-    → AskedOnce serves (asks.Append src client flag) a outcome b → AskedOnce serves (appending path client flag) a outcome b
-appending_as serves src path client flag outcome a b one asked = subst (λ (x : List ℕ). AskedOnce serves (asks.Append x client flag) a outcome b) one asked
+pub appending_as : {C : Type 0} (serves : C → ℕ → Ask → Result Answer AskFault → C → Type 0) (src path client : List ℕ) (flag : ℕ) (outcome : Result Answer HdfsError) (a b : Through C) → src ≡ path
+    → AskedOnce serves true (asks.Append src client flag) a outcome b → AskedOnce serves true (appending path client flag) a outcome b
+appending_as serves src path client flag outcome a b one asked = subst (λ (x : List ℕ). AskedOnce serves true (asks.Append x client flag) a outcome b) one asked

@@ -1,25 +1,21 @@
 -- Errors that say neither of the path rule nor of what a session has open.
-use Rattle.std.proofs.Common.{ℕ, Bool, true, false, cond}
-use Rattle.hdfs_model.specs.declared.asks.AskFault.{AskFault}
-use Rattle.hdfs_model.specs.declared.asks.AskFault.TheVariants as faults
+use Rattle.std.proofs.Common.{ℕ}
 use Rattle.hdfs_model.specs.declared.errors.ArgFault.TheVariants as args
 use Rattle.hdfs_model.specs.declared.errors.HdfsError.{HdfsError}
 use Rattle.hdfs_model.specs.declared.errors.HdfsError.TheVariants as errors
 use Rattle.hdfs_model.specs.declared.errors.IoFault.TheVariants as io_faults
 use Rattle.hdfs_model.specs.declared.errors.TransferFault.TheVariants as transfer
-use Rattle.hdfs_model.specs.Namenode.{is_taken}
 use Rattle.hdfs_model.specs.Sessions.{IsNotOwed}
-use Rattle.hdfs_namenode.specs.Asked.{error_of}
+use Rattle.hdfs_model.specs.Shown.{Shown}
+use Rattle.hdfs_namenode.specs.Relaying.{TellsAsk}
 use Rattle.hdfs_client.specs.Ranges.{FailsAt}
 
--- what a namenode's fault is for a caller
-pub fault_not_owed : (fault : AskFault) → IsNotOwed (error_of fault)
-fault_not_owed faults.NoMemory = tt
-fault_not_owed (faults.Exception class message) = by_class (is_taken class)
-  where
-    by_class : (taken : Bool) → IsNotOwed (cond taken (errors.AlreadyExists message) (errors.RPCError class message))
-    by_class true = tt
-    by_class false = tt
+-- an error of an ask
+pub ask_not_owed : (old new : Shown) (error : HdfsError) → TellsAsk old new error → IsNotOwed error
+ask_not_owed old new errors.NoMemory tells = tt
+ask_not_owed old new (errors.AlreadyExists message) tells = tt
+ask_not_owed old new (errors.RPCError class message) tells = tt
+ask_not_owed old new error tells = absurd tells
 
 -- an error of a reader
 pub reader_not_owed : (P : ℕ → Type 0) (error : HdfsError) → FailsAt P error → IsNotOwed error

@@ -63,7 +63,6 @@ module _ (old new : Shown) (session : Session) (name path : List ℕ) (offset le
 
     pub meets : Meets world old state name path
     meets = record {
-      one = ready.ready.one;
       agrees = ready.ready.fits.agrees;
       called = sym called;
       is_path = is;
@@ -126,7 +125,7 @@ module _ (old new : Shown) (session : Session) (name path : List ℕ) (offset le
   read_acts (Ok reply) stands anywhere links files ok err = record {
     anywhere = anywhere;
     links = after_links_stay {T = Reply} old new session (Ok reply) links.writes;
-    stands = session_stands old new session (λ link has. links.writes link) stands;
+    stands = session_stands old new session anywhere.later.namenodes (λ link has. links.writes link) stands;
     writers = λ r apart. refl;
     applied = λ state ready. applied_ok state ready reply ok;
     world = λ state ready. same_world state ready files;
@@ -139,7 +138,7 @@ module _ (old new : Shown) (session : Session) (name path : List ℕ) (offset le
   read_acts (Err e) stands anywhere links files ok err = record {
     anywhere = anywhere;
     links = after_links_stay {T = Reply} old new session (Err e) links.writes;
-    stands = after_stands {T = Reply} new session (Err e) (session_stands old new session (λ link has. links.writes link) stands);
+    stands = after_stands {T = Reply} new session (Err e) (session_stands old new session anywhere.later.namenodes (λ link has. links.writes link) stands);
     writers = λ r apart. refl;
     applied = λ state ready. applied_err state ready (after {T = Reply} session (Err e)) e err anywhere.later;
     world = λ state ready. tt;

@@ -1,31 +1,28 @@
 -- What refuses a command that opens a file to be written, over a picture that agrees with the files.
-use Rattle.std.proofs.Common.{◌≡◌, ◌⊎◌, inl, inr, ⊎_elim, ℕ, ◌<◌, Bool, true, false, cond, List, Option, Some, None, refl, sym, ◌∙◌, ap, arith}
+use Rattle.std.proofs.Common.{◌≡◌, ◌⊎◌, inl, inr, ⊎_elim, ℕ, Bool, true, false, cond, List, Option, Some, None, refl, sym, ◌∙◌, ap}
 use Rattle.std.proofs.Math.Path.{fun_ext}
 use Rattle.std.proofs.lemmas.Bool.{false≢true}
 use Rattle.std.specs.Option.{option_map}
-use Rattle.std.specs.Prelude.{Result, Err}
-use Rattle.hdfs_model.specs.declared.asks.Answer.{Answer}
-use Rattle.hdfs_model.specs.declared.asks.Ask.{Ask}
-use Rattle.hdfs_model.specs.declared.asks.AskFault.{AskFault}
 use Rattle.hdfs_model.specs.declared.asks.AskFault.TheVariants as faults
 use Rattle.hdfs_model.specs.declared.commands.Command.{Command}
 use Rattle.hdfs_model.specs.declared.commands.Command.TheVariants as commands
 use Rattle.hdfs_model.specs.declared.commands.WriteOptions.{WriteOptions}
+use Rattle.hdfs_model.specs.declared.errors.HdfsError.{HdfsError}
 use Rattle.hdfs_model.specs.declared.errors.HdfsError.TheVariants as errors
 use Rattle.hdfs_model.specs.declared.picture.Entry.{Entry}
 use Rattle.hdfs_model.specs.declared.picture.Entry.TheVariants as entries
 use Rattle.hdfs_model.specs.Causes.{Cause, CallsRose, Tells}
-use Rattle.hdfs_model.specs.Counts.{Rose}
 use Rattle.hdfs_model.specs.Files.{Files, State, Node, Dir, File, Writing, Kind, Directory, ClosedFile, OpenFile, NoFile, NotDirectory, Missing, NotFile, kind_of, kinds_of}
-use Rattle.hdfs_model.specs.Namenode.{IsOwn, IsRefusal, MayBeDone, ServesTold, StandsForAny, StandsForRefusal, class_for, class_in_the_way, is_taken, last_of}
+use Rattle.hdfs_model.specs.Namenode.{StandsForAny, StandsForRefusal, class_for, class_in_the_way, is_taken}
 use Rattle.hdfs_model.specs.Paths.{is_path}
 use Rattle.hdfs_model.specs.Picture.{Picture, entry_kind, kinds}
 use Rattle.hdfs_model.specs.Refusals.{Refusal, BadPath, WrongState, Exists, Lacks, BadRange, create_refusal, append_refusal}
-use Rattle.hdfs_model.specs.Shown.{Shown, Served}
+use Rattle.hdfs_model.specs.Shown.{Shown}
 use Rattle.hdfs_model.specs.Steps.{World, Refused, append_file, create_file, created, is_opened, step, step_at, target_of}
 use Rattle.hdfs_model.specs.Stores.{AgreesAt}
-use Rattle.hdfs_model.proofs.Frames.{told_after}
+use Rattle.hdfs_model.specs.Sessions.{is_before_asking}
 use Rattle.hdfs_namenode.specs.Asked.{error_of}
+use Rattle.hdfs_namenode.specs.Relaying.{TellsAsk}
 
 same_kind : (p : Picture) (entry : Option Entry) (node : Option Node) → AgreesAt p entry node → option_map entry_kind entry ≡ option_map kind_of node
 same_kind p None None h = refl
@@ -71,14 +68,27 @@ not_taken NotDirectory = refl
 not_taken Missing = refl
 not_taken NotFile = refl
 
--- what the error of a fault tells
-pub fault_tells : (command : Command) (s t : Shown) (fault : AskFault) → t.last ≡ last_of (Err fault) → Tells command s t (error_of fault)
-fault_tells command s t faults.NoMemory last = tt
-fault_tells command s t (faults.Exception class message) last = by_test (is_taken class) refl
-  where
-    by_test : (b : Bool) → is_taken class ≡ b → Tells command s t (cond b (errors.AlreadyExists message) (errors.RPCError class message))
-    by_test true is = (class, is, last)
-    by_test false is = last
+-- what an error of an ask tells of the command that asked
+pub ask_tells : (command : Command) (s m t : Shown) (error : HdfsError) → TellsAsk m t error → Tells command s t error
+ask_tells command s m t errors.NoMemory tells = tt
+ask_tells command s m t (errors.AlreadyExists message) tells = tells
+ask_tells command s m t (errors.RPCError class message) tells = tells
+ask_tells command s m t error tells = absurd tells
+
+-- it is none that comes before anything is asked
+pub ask_not_early : (m t : Shown) (error : HdfsError) → TellsAsk m t error → is_before_asking error ≡ false
+ask_not_early m t errors.NoMemory tells = refl
+ask_not_early m t (errors.AlreadyExists message) tells = refl
+ask_not_early m t (errors.RPCError class message) tells = refl
+ask_not_early m t error tells = absurd tells
+
+-- where a namenode has failed, it has its cause
+pub rose_cause : (world : World) (state : State) (command : Command) (s m t : Shown) (error : HdfsError) → TellsAsk m t error → CallsRose s.counts t
+    → Cause world state command s t error
+rose_cause world state command s m t errors.NoMemory tells rose = tt
+rose_cause world state command s m t (errors.AlreadyExists message) tells rose = inr rose
+rose_cause world state command s m t (errors.RPCError class message) tells rose = inr rose
+rose_cause world state command s m t error tells rose = absurd tells
 
 module _ (world : World) (state : State) (command : Command) (s t : Shown) (kind : Option Kind) (refusal : Option Refusal) (stepped : (why : Refusal) → refusal ≡ Some why → step world state command ≡ Refused why) where
   exists_by : (class : List ℕ) (why : Refusal) → is_taken class ≡ true → refusal ≡ Some why → StandsForRefusal kind why class → step world state command ≡ Refused Exists
@@ -103,26 +113,3 @@ module _ (world : World) (state : State) (command : Command) (s t : Shown) (kind
       by_test : (b : Bool) → is_taken class ≡ b → Cause world state command s t (cond b (errors.AlreadyExists message) (errors.RPCError class message))
       by_test true is = ⊎_elim (λ stands. inl (exists_by class stands.0 is stands.1 stands.2)) (λ rose. inr rose) h
       by_test false is = ⊎_elim (λ stands. inl (lacks_by class stands.0 is stands.1 stands.2)) (λ rose. inr rose) h
-
--- an ask that is never the implementation's own
-module _ (s t : Shown) (ask : Ask) (p : Picture) (told : s.picture ≡ Some p) (no_own : IsOwn p ask → ⊥) where
-  abbrev Serves : Result Answer AskFault → Picture → Picture → Type 0
-  Serves result p q = ServesTold (Rose (s.counts.calls 0) (t.counts.calls 0)) p 0 ask result q
-
-  -- one that wasn't answered may have been done
-  pub unanswered : (fault : AskFault) → Served s 0 ask (Err fault) t → (q : Picture) × (t.picture ≡ Some q) × MayBeDone ask p q
-  unanswered faults.NoMemory served =
-      let one = told_after (Serves (Err faults.NoMemory)) s.picture t.picture p served.picture told in
-      (one.0, one.1, one.2.1)
-  unanswered (faults.Exception class message) served =
-      let one = told_after (Serves (Err (faults.Exception class message))) s.picture t.picture p served.picture told in
-      (one.0, one.1, ⊎_elim (λ standby. inl standby.2.rest) (λ rest. ⊎_elim (λ refused. inl refused.2.rest) (λ more. ⊎_elim (λ own. absurd (no_own own.2.0)) (λ rose. rose.1) more) rest) one.2)
-
-  -- an exception of the only namenode is a refusal, or its count has risen
-  pub excepted : (class message : List ℕ) → Served s 0 ask (Err (faults.Exception class message)) t → s.namenodes ≡ 1 → p.active < s.namenodes → IsRefusal p ask class ⊎ CallsRose s.counts t
-  excepted class message served one below =
-      let now = told_after (Serves (Err (faults.Exception class message))) s.picture t.picture p served.picture told in
-      ⊎_elim
-      (λ standby. absurd (standby.0 (omega (arith, one, below))))
-      (λ rest. ⊎_elim (λ refused. inl refused.1) (λ more. ⊎_elim (λ own. absurd (no_own own.2.0)) (λ rose. inr (0, omega (arith, one, served.later.namenodes), rose.0)) more) rest)
-      now.2

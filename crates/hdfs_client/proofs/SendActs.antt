@@ -28,11 +28,10 @@ pub record Comes (command : Command) (old : Shown) (session : Session) (new : Sh
   pub world : world_at session' new ≡ world_at session old
   pub carried : Carried new session' next
 
--- What a state says of the file at a path that a session writes, over a cluster of one namenode that tells its picture.
+-- What a state says of the file at a path that a session writes, over a cluster that tells its picture.
 pub record OpenAt (old : Shown) (path : List ℕ) (writer : FileWriter) (state : State) : Type 0 where
   pub picture : Picture
   pub told : old.picture ≡ Some picture
-  pub one : old.namenodes ≡ 1
   pub agrees : (other : List ℕ) → AgreesAt picture (picture.names other) (state.files other)
   pub file : CarriesFile picture state path writer
   pub opened : is_opened state path ≡ true
@@ -44,7 +43,6 @@ open_at old session state command path writer ready here =
     record {
       picture = told.0;
       told = told.1;
-      one = ready.ready.one;
       agrees = agrees_told old.picture told.0 state.files ready.ready.fits.agrees told.1;
       file = ready.carried.each told.0 told.1 path writer here;
       opened = ready.ready.opened path ∙ ap is_some here;

@@ -69,11 +69,11 @@ module _ (command : Command) (sends : Sends command) (old new : Shown) (session 
       touches
 
   -- an exception has its cause
-  causes_at : (error : HdfsError) → HasCause old writer error new → (p : Picture) (bytes : List ℕ) → old.picture ≡ Some p → old.namenodes ≡ 1 → FileCarries p path (tail_of writer) bytes
+  causes_at : (error : HdfsError) → HasCause old writer error new → (p : Picture) (bytes : List ℕ) → old.picture ≡ Some p → FileCarries p path (tail_of writer) bytes
       → CauseOfWrite (sizes_of writer).rebuilding path old new error
   causes_at error causes =
       subst
-      (λ (x : List ℕ). (p : Picture) (bytes : List ℕ) → old.picture ≡ Some p → old.namenodes ≡ 1 → FileCarries p x (tail_of writer) bytes → CauseOfWrite (sizes_of writer).rebuilding x old new error)
+      (λ (x : List ℕ). (p : Picture) (bytes : List ℕ) → old.picture ≡ Some p → FileCarries p x (tail_of writer) bytes → CauseOfWrite (sizes_of writer).rebuilding x old new error)
       (before.each path writer here).1
       causes
 
@@ -90,7 +90,7 @@ module _ (command : Command) (sends : Sends command) (old new : Shown) (session 
       let on = touches_at touches o.picture o.file.content.bytes o.told o.file.carries in (
         cause_sending path old new command sends (world_at session old) state called (done state o) (sizes_of writer).rebuilding
             (ap (λ (r : RebuildSettings). r.rebuild_limit) (before.sized path writer here).rebuilding)
-            (ap (λ (r : RebuildSettings). r.replace.best_effort) (before.sized path writer here).rebuilding) error tells (causes_at error causes o.picture o.file.content.bytes o.told o.one o.file.carries),
+            (ap (λ (r : RebuildSettings). r.replace.best_effort) (before.sized path writer here).rebuilding) error tells (causes_at error causes o.picture o.file.content.bytes o.told o.file.carries),
         agrees_but_by_path (spared (world_at session old) state command error) new.picture on.0 state.files on.1
             (λ other free. agrees_elsewhere path o.picture on.0 (sound o.picture o.told) on.2 state.files o.agrees other
             (apart_by_test path other (sym (spared_at error (is_after_asking path old new error tells) state (done state o) other) ∙ free))),

@@ -5,7 +5,11 @@ use Rattle.std.specs.Prelude.{String}
 use Rattle.std.specs.declared.alloc.Global.{Global}
 use Rattle.hdfs_model.specs.declared.commands.Settings.{Settings}
 use Rattle.hdfs_model.specs.declared.messages.ServerDefaults.{ServerDefaults}
-use Rattle.hdfs_namenode.specs.Clients.{client_name, name_of}
+use Rattle.hdfs_model.specs.Shown.{Shown}
+use Rattle.hdfs_namenode.specs.Asked.{ReachesAll}
+use Rattle.hdfs_namenode.specs.Clients.{SameClient, client_name, name_of, proxy_of}
+use Rattle.hdfs_namenode.specs.declared.protocol.NamenodeProtocol.{NamenodeProtocol}
+use Rattle.hdfs_namenode.proofs.Services.{reaches_same, same_service_refl, same_service_trans}
 use Rattle.hdfs_files.specs.Writers.{sizes_of}
 use Rattle.hdfs_files.specs.declared.file_writer.FileWriter.{FileWriter}
 use Rattle.hdfs_files.specs.declared.sizes.WriteSizes.{WriteSizes}
@@ -15,30 +19,44 @@ use Rattle.hdfs_client.specs.declared.session.Session.{Session}
 
 -- a session that is left as it is remembers what it is run with
 pub remembers_refl : (session : Session) → Remembers session session
-remembers_refl session = record { settings = refl; name = refl; known = λ defaults is. is }
+remembers_refl session = record { settings = refl; name = refl; service = same_service_refl (proxy_of session.namenode); known = λ defaults is. is }
 
 -- so does one behind two calls
 pub remembers_trans : (a b c : Session) → Remembers a b → Remembers b c → Remembers a c
 remembers_trans a b c one two = record {
   settings = two.settings ∙ one.settings;
   name = two.name ∙ one.name;
+  service = same_service_trans (proxy_of a.namenode) (proxy_of b.namenode) (proxy_of c.namenode) one.service two.service;
   known = λ defaults is. two.known defaults (one.known defaults is);
 }
 
 -- and one that has other writers
 pub remembers_with : (session : Session) (writers : BTreeMap (String Global) FileWriter)
     → Remembers session (record session { writers = writers })
-remembers_with session writers = record { settings = refl; name = refl; known = λ defaults is. is }
+remembers_with session writers = record { settings = refl; name = refl; service = same_service_refl (proxy_of session.namenode); known = λ defaults is. is }
+
+-- and one that asks on
+pub remembers_asked : (session : Session) (protocol : NamenodeProtocol) → SameClient session.namenode protocol → Remembers session (record session { namenode = protocol })
+remembers_asked session protocol same = record { settings = refl; name = same.name; service = same.service; known = λ defaults is. same.defaults ∙ is }
+
+-- and one that asks on, and has other writers
+pub remembers_on : (session : Session) (protocol : NamenodeProtocol) (writers : BTreeMap (String Global) FileWriter) → SameClient session.namenode protocol
+    → Remembers session (record session { namenode = protocol; writers = writers })
+remembers_on session protocol writers same = record { settings = refl; name = same.name; service = same.service; known = λ defaults is. same.defaults ∙ is }
 
 -- and one whose command has failed
 pub remembers_failed : (a b : Session) → Remembers a b → Remembers a (record b { failed = true })
-remembers_failed a b one = record { settings = one.settings; name = one.name; known = one.known }
+remembers_failed a b one = record { settings = one.settings; name = one.name; service = one.service; known = one.known }
 
 module _ (session session' : Session) (remembers : Remembers session session') where
   -- it asks in the name of its client still
   pub named_still : name_of session.namenode ≡ client_name session.settings.client
       → name_of session'.namenode ≡ client_name session'.settings.client
   named_still is = remembers.name ∙ is ∙ ap (λ (s : Settings). client_name s.client) (sym remembers.settings)
+
+  -- it asks all namenodes still
+  pub reaches_still : (s t : Shown) → t.namenodes ≡ s.namenodes → ReachesAll (proxy_of session.namenode) s → ReachesAll (proxy_of session'.namenode) t
+  reaches_still s t count reaches = reaches_same (proxy_of session.namenode) (proxy_of session'.namenode) s t remembers.service count reaches
 
   -- a writer that has the sizes of one of the session's writers is sized as that is
   pub sized_still : (writer writer' : FileWriter) → sizes_of writer' ≡ sizes_of writer → IsSized session writer → IsSized session' writer'

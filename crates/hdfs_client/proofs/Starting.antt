@@ -13,12 +13,11 @@ use Rattle.hdfs_model.specs.declared.picture.FileEntry.{FileEntry}
 use Rattle.hdfs_model.specs.Effects.{HasStatus}
 use Rattle.hdfs_model.specs.Files.{State, Content, Kind, kinds_of}
 use Rattle.hdfs_model.specs.Limits.{are_defaults, are_options}
-use Rattle.hdfs_model.specs.Namenode.{IsShaped}
 use Rattle.hdfs_model.specs.Paths.{absolute, is_path}
 use Rattle.hdfs_model.specs.Picture.{Picture, SameButActive, SameFiles}
 use Rattle.hdfs_model.specs.Refusals.{append_refusal, create_refusal}
 use Rattle.hdfs_model.specs.Sessions.{defaults_of}
-use Rattle.hdfs_model.specs.Shown.{Shown, Served}
+use Rattle.hdfs_model.specs.Shown.{Shown}
 use Rattle.hdfs_model.specs.Sound.{IsSound}
 use Rattle.hdfs_model.specs.Steps.{append_file, create_file, created, is_opened, open_node}
 use Rattle.hdfs_model.specs.Stores.{Agrees, AgreesAt}
@@ -27,6 +26,7 @@ use Rattle.hdfs_files.specs.Tails.{Tail, Bare, FileCarries}
 use Rattle.hdfs_files.specs.Writers as files
 use Rattle.hdfs_files.specs.declared.file_writer.FileWriter.{FileWriter}
 use Rattle.hdfs_files.specs.declared.sizes.WriteSizes.{WriteSizes}
+use Rattle.hdfs_files.proofs.Asked.{Came}
 use Rattle.hdfs_files.proofs.Others.{tail_stays}
 use Rattle.hdfs_client.specs.Acting.{Acts, IsReady, world_at}
 use Rattle.hdfs_client.specs.Preparing.{HasDefaults, Prepares, Remembers, sizes_by}
@@ -37,7 +37,8 @@ use Rattle.hdfs_client.proofs.Agreeing.{agrees_files, agrees_told, is_told}
 use Rattle.hdfs_client.proofs.Begun.{Begun, closed_at, create_begun, open_begun}
 use Rattle.hdfs_client.proofs.Moved.{HasMore}
 use Rattle.hdfs_client.proofs.Opening.{Over, append_over, appending, create_over, creating, made, was_made, was_reopened}
-use Rattle.hdfs_client.proofs.Prepared.{looks_from-Served, looks_trans}
+use Rattle.hdfs_client.proofs.Prepared.{looks_trans}
+use Rattle.hdfs_client.proofs.Looking.{looks_from-Leaves}
 use Rattle.hdfs_client.proofs.Refusing.{append_step, create_step, kinds_same}
 use Rattle.hdfs_client.proofs.Sized.{sized_by}
 use Rattle.hdfs_client.proofs.WithWriting.{clear_to_create, closed_to_append}
@@ -124,7 +125,7 @@ module _ (s m : Shown) (session session' : Session) (path : List ℕ) (d : Serve
       abbrev create : Command
       create = commands.Create name options
 
-      module _ (limited : are_options options ≡ true) (tail : files.tail_of writer ≡ Bare) (sizes : files.sizes_of writer ≡ sizes_by session' d replication block_size) (served : Served m 0 (creating path client options replication block_size) (Ok (answers.Create status)) t) where
+      module _ (limited : are_options options ≡ true) (tail : files.tail_of writer ≡ Bare) (sizes : files.sizes_of writer ≡ sizes_by session' d replication block_size) (came : Came m (creating path client options replication block_size) (Ok (answers.Create status)) t) where
         abbrev attributes_by : ServerDefaults → Attributes
         attributes_by x = record { permission = options.permission; replication = unwrap_or options.replication x.replication; block_size = unwrap_or options.block_size x.block_size }
 
@@ -132,7 +133,7 @@ module _ (s m : Shown) (session session' : Session) (path : List ℕ) (d : Serve
         created_begins state ready =
             let h = told_at create state ready in
             let w = world_at session s in
-            let one = was_made path client options replication block_size h.now m t status h.told served in
+            let one = was_made path client options replication block_size h.now m t status h.told came in
             let none : create_refusal (kinds_of state.files) path options.overwrite options.create_parent ≡ None =
             ap (λ (k : List ℕ → Option Kind). create_refusal k path options.overwrite options.create_parent) (sym (kinds_same h.now state.files h.agrees)) ∙ one.2.0 in
             let attributes : (made path client options replication block_size).attributes ≡ (created w options).attributes = ap attributes_by h.world in
@@ -162,7 +163,7 @@ module _ (s m : Shown) (session session' : Session) (path : List ℕ) (d : Serve
         pub created_acts : Acts create s session t session'' (Ok replies.Created)
         created_acts =
             begun_acts create s t session session'' path writer replies.Created more created_begins called refl stands
-            (looks_trans s m t prepares.looks (looks_from-Served m t (creating path client options replication block_size) (Ok (answers.Create status)) served)) own at fine linkless
+            (looks_trans s m t prepares.looks (looks_from-Leaves m t came.relays.leaves)) own at fine linkless
             (sized_by session' session'' on d writer replication block_size sizes knows) created_knows
 
     module _ (name client : List ℕ) (flag : ℕ) (appended : Appended) (stat : FileStatusMsg) (called : absolute session.settings.home name ≡ path) where
@@ -171,7 +172,7 @@ module _ (s m : Shown) (session session' : Session) (path : List ℕ) (d : Serve
 
       module _ (is : appended.stat ≡ Some stat) (tail : files.tail_of writer ≡ files.tail_opened appended.block None)
           (sizes : files.sizes_of writer ≡ sizes_by session' d (unwrap_or stat.block_replication 0) (unwrap_or stat.blocksize 0))
-          (shaped : IsShaped (appending path client flag) (answers.Append appended)) (served : Served m 0 (appending path client flag) (Ok (answers.Append appended)) t) where
+          (came : Came m (appending path client flag) (Ok (answers.Append appended)) t) where
         stat_is : (file : FileEntry) → (status : HasStatus file appended.stat) → (unwrap_or stat.block_replication 0 ≡ file.attributes.replication) × (unwrap_or stat.blocksize 0 ≡ file.attributes.block_size)
         stat_is file status =
             let same : stat ≡ status.told = cc (is, status.is) in (
@@ -183,7 +184,7 @@ module _ (s m : Shown) (session session' : Session) (path : List ℕ) (d : Serve
         appended_begins state ready =
             let h = told_at append state ready in
             let w = world_at session s in
-            let one = was_reopened path client flag h.now m t appended h.told shaped served in
+            let one = was_reopened path client flag h.now m t appended h.told came in
             let row = one.2 in
             let kinds_are = kinds_same h.now state.files h.agrees in
             let none : append_refusal (kinds_of state.files) path ≡ None = ap (λ (k : List ℕ → Option Kind). append_refusal k path) (sym kinds_are) ∙ row.none in
@@ -214,6 +215,6 @@ module _ (s m : Shown) (session session' : Session) (path : List ℕ) (d : Serve
         pub appended_acts : Acts append s session t session'' (Ok replies.Appended)
         appended_acts =
             begun_acts append s t session session'' path writer replies.Appended more appended_begins called refl stands
-            (looks_trans s m t prepares.looks (looks_from-Served m t (appending path client flag) (Ok (answers.Append appended)) served)) own at fine linkless
+            (looks_trans s m t prepares.looks (looks_from-Leaves m t came.relays.leaves)) own at fine linkless
             (sized_by session' session'' on d writer (unwrap_or stat.block_replication 0) (unwrap_or stat.blocksize 0) sizes knows)
             appended_knows

@@ -6,6 +6,8 @@ use Rattle.hdfs_model.specs.Files.{State}
 use Rattle.hdfs_model.specs.Picture.{Picture, SameFiles}
 use Rattle.hdfs_model.specs.Sessions.{defaults_of}
 use Rattle.hdfs_model.specs.Shown.{Shown, SameWrites}
+use Rattle.hdfs_namenode.specs.Clients.{proxy_of}
+use Rattle.hdfs_namenode.proofs.Services.{reaches_same, same_service_refl}
 use Rattle.hdfs_files.proofs.Beside.{still_stands}
 use Rattle.hdfs_files.specs.Tails.{Tail, FileCarries}
 use Rattle.hdfs_files.specs.Writers as files
@@ -37,14 +39,15 @@ writer_stands a b w stays s = record {
 }
 
 -- So does a session whose links stayed.
-pub session_stands : (a b : Shown) (s : Session) → ((link : ℕ) → HasLink s link → b.writes link ≡ a.writes link) → Stands a s → Stands b s
-session_stands a b s stays h = record {
+pub session_stands : (a b : Shown) (s : Session) → b.namenodes ≡ a.namenodes → ((link : ℕ) → HasLink s link → b.writes link ≡ a.writes link) → Stands a s → Stands b s
+session_stands a b s count stays h = record {
   limited = h.limited;
   each = λ path writer is.
       let e = h.each path writer is in
       (writer_stands a b writer (λ link has. stays link (path, writer, is, has)) e.0, e.1);
   fine = h.fine;
   apart = h.apart;
+  reaches = reaches_same (proxy_of s.namenode) (proxy_of s.namenode) a b (same_service_refl (proxy_of s.namenode)) count h.reaches;
   name = h.name;
   sized = h.sized;
 }

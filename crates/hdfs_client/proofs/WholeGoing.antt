@@ -179,13 +179,13 @@ leaves_end w state commands n replies start now final session gone so_far all le
 -- at the next command
 module _ (w : World) (state : State) (commands : List Command) (n : ℕ) (replies : List Reply) (start now new : Shown) (session session' : Session) (command : Command)
     (gone : GoneOn w state commands n replies now session) (so_far : WholeSoFar w (take n commands) start now session) (below : n < length commands)
-    (here : command ≡ get_or commands n command) (one : now.namenodes ≡ 1) where
+    (here : command ≡ get_or commands n command) where
   -- where it is done
   pub whole_goes_on : (reply : Reply) → KeepsBlocksWhole command now session new session' (Ok reply) → WholeSoFar w (take (n + 1) commands) start new session'
   whole_goes_on reply keeps =
       let more : take (n + 1) commands ≡ take n commands ++ command ∷ [] = take_more commands n command below ∙ ap (λ (x : Command). take n commands ++ x ∷ []) (sym here) in
       subst (λ (l : List Command). WholeSoFar w l start new session') (sym more)
-      (whole_next w (take n commands) command reply start now new session session' so_far (keeps gone.last (is_ready w state commands n replies now session command gone below here one)) gone.world)
+      (whole_next w (take n commands) command reply start now new session session' so_far (keeps gone.last (is_ready w state commands n replies now session command gone below here)) gone.world)
 
   -- where it fails
   module _ (final : Shown) (fault : Fault) (acts : Acts command now session new session' (Err fault.error))
@@ -194,7 +194,7 @@ module _ (w : World) (state : State) (commands : List Command) (n : ℕ) (replie
     -- the files but its own are well done
     stopped_well : AreWellDone w state (take n commands) (bytes_eq (target_of w command)) start final
     stopped_well =
-        let ready = is_ready w state commands n replies now session command gone below here one in
+        let ready = is_ready w state commands n replies now session command gone below here in
         let kept = keeps gone.last ready in
         let told = is_told now.picture gone.last.files gone.fits.agrees in
         let target : target_of (world_at session now) command ≡ target_of w command = ap (λ (x : World). target_of x command) gone.world in

@@ -1,9 +1,8 @@
 -- What commands that open a file to be written make of blocks, and commands that leave all files.
-use Rattle.std.proofs.Common.{◌≡◌, ◌≢◌, ◌⊎◌, inl, inr, ℕ, ◌≤◌, Bool, true, false, cond, List, Option, Some, None, unwrap_or, Result, Ok, Err, refl, sym, ◌∙◌, ap, subst, arith}
+use Rattle.std.proofs.Common.{◌≡◌, ◌≢◌, ℕ, ◌≤◌, Bool, true, false, cond, List, Option, Some, None, unwrap_or, Result, Ok, Err, refl, sym, ◌∙◌, ap, subst, arith}
 use Rattle.std.specs.BTreeMap.{get_by_text}
 use Rattle.hdfs_model.specs.declared.asks.Answer.TheVariants as answers
 use Rattle.hdfs_model.specs.declared.asks.Ask.{Ask}
-use Rattle.hdfs_model.specs.declared.asks.AskFault.{AskFault}
 use Rattle.hdfs_model.specs.declared.commands.Command.{Command}
 use Rattle.hdfs_model.specs.declared.commands.Command.TheVariants as commands
 use Rattle.hdfs_model.specs.declared.commands.Reply.{Reply}
@@ -15,15 +14,18 @@ use Rattle.hdfs_model.specs.declared.messages.Appended.{Appended}
 use Rattle.hdfs_model.specs.declared.messages.FileStatusMsg.{FileStatusMsg}
 use Rattle.hdfs_model.specs.declared.messages.ServerDefaults.{ServerDefaults}
 use Rattle.hdfs_model.specs.Effects.{blocks_at}
-use Rattle.hdfs_model.specs.Namenode.{IsOwn, IsShaped, MayBeDone}
+use Rattle.hdfs_model.specs.Causes.{CallsRose}
+use Rattle.hdfs_model.specs.Namenode.{MayBeDone}
 use Rattle.hdfs_model.specs.Paths.{absolute, is_path}
 use Rattle.hdfs_model.specs.Picture.{Picture, SameButActive, SameFiles}
 use Rattle.hdfs_model.specs.Sessions.{is_misplaced}
-use Rattle.hdfs_model.specs.Shown.{Shown, Served}
+use Rattle.hdfs_model.specs.Shown.{Shown}
 use Rattle.hdfs_model.specs.Sound.{IsSound, IsFileAt}
 use Rattle.hdfs_model.specs.Steps.{path_of, target_of}
 use Rattle.hdfs_model.proofs.Frames.{same_files_refl, told_after}
-use Rattle.hdfs_namenode.specs.Asked.{error_of}
+use Rattle.hdfs_model.proofs.Relaying.{Repeats}
+use Rattle.hdfs_namenode.proofs.Relayed.{relayed_done}
+use Rattle.hdfs_files.proofs.Asked.{Came}
 use Rattle.hdfs_files.specs.Tails.{Tail, Bare, tail_length}
 use Rattle.hdfs_files.specs.WholeBlocks.{IsWhole, IsOfSize, AllBetween}
 use Rattle.hdfs_files.specs.Writers.{sizes_of, tail_of, tail_opened}
@@ -41,7 +43,7 @@ use Rattle.hdfs_client.proofs.Moved.{HasMore, none_from}
 use Rattle.hdfs_client.proofs.OneFile.{not_same, same_test}
 use Rattle.hdfs_client.proofs.Opening.{appending, creating, made, was_made, was_reopened}
 use Rattle.hdfs_client.proofs.ReadActs.{meets}
-use Rattle.hdfs_client.proofs.Refusing.{unanswered}
+use Rattle.hdfs_client.proofs.Failing.{may_be_done}
 use Rattle.hdfs_client.proofs.Stepping.{is_closed}
 use Rattle.hdfs_client.proofs.WholeBeside.{StaysAt, filled_beside, full_at, keeps_done, keeps_failed, stays_elsewhere, whole_behind_at, whole_beside}
 use Rattle.hdfs_client.proofs.WholeOpening.{created_between, reopened_full, reopened_short, reopened_whole, stays_created, stays_files, stays_trans}
@@ -147,18 +149,15 @@ prepared_whole command s m session session' prepares error =
     behind_whole command s m m session session' session' prepares (λ r. refl) (target_of (world_at session s) command) refl
     (λ p told. (p, told, λ r apart. stays_files p p (same_files_refl p) r)) error
 
--- an error of an ask that was made once, or not at all for want of memory
-pub refused_whole : {C : Type 0} (shown : C → Shown) (a b : C) (command : Command) (s : Shown) (session session' : Session) → Prepares s session (shown a) session' → (ask : Ask) (path : List ℕ)
-    → target_of (world_at session s) command ≡ path → ((p q : Picture) → (shown a).picture ≡ Some p → MayBeDone ask p q → (r : List ℕ) → r ≢ path → StaysAt p q r)
-    → ((p : Picture) → IsOwn p ask → ⊥) → (error : HdfsError)
-    → ((fault : AskFault) × (error ≡ error_of fault) × Served (shown a) 0 ask (Err fault) (shown b)) ⊎ ((error ≡ errors.NoMemory) × (b ≡ a))
-    → KeepsBlocksWhole command s session (shown b) session' (Err error)
-refused_whole shown a b command s session session' prepares ask path called spares no_own error (inl fault) =
-    late_whole command s (shown a) (shown b) session session' session' prepares (λ r. refl) path called ask spares
-    (λ p told. unanswered (shown a) (shown b) ask p told (no_own p) fault.0 fault.2) error
-refused_whole {C} shown a b command s session session' prepares ask path called spares no_own error (inr nothing) =
-    subst (λ (x : C). KeepsBlocksWhole command s session (shown x) session' (Err error)) (sym nothing.1)
-    (prepared_whole command s (shown a) session session' prepares error)
+-- an error of an ask
+pub refused_whole : (command : Command) (s m t : Shown) (session session' session'' : Session) → Prepares s session m session' → ((r : List ℕ) → writer_of session'' r ≡ writer_of session' r) → (path : List ℕ)
+    → target_of (world_at session s) command ≡ path → (ask : Ask) → ((p q : Picture) → m.picture ≡ Some p → MayBeDone ask p q → (r : List ℕ) → r ≢ path → StaysAt p q r) → ((p : Picture) → Repeats ask p)
+    → (error : HdfsError) → Came m ask (Err error) t → KeepsBlocksWhole command s session t session'' (Err error)
+refused_whole command s m t session session' session'' prepares writers path called ask spares repeats error came =
+    late_whole command s m t session session' session'' prepares writers path called ask spares
+    (λ p told.
+    (let to = came.told p told (repeats p) in
+    (to.0, to.1, may_be_done ask p to.0 (relayed_done (CallsRose m.counts t) p ask (Err error) to.0 tt to.2)))) error
 
 -- the file at a path of which the session has this writer
 module _ (t : Shown) (session : Session) (path : List ℕ) (writer : FileWriter) (has : writer_of session path ≡ Some writer) (q : Picture) (now : t.picture ≡ Some q) where
@@ -193,12 +192,12 @@ module _ (s m t : Shown) (session session' session'' : Session) (prepares : Prep
 
   -- of a new file it says all
   pub created_whole : (name client : List ℕ) (options : WriteOptions) (replication block_size : ℕ) (status : Option FileStatusMsg) → absolute session.settings.home name ≡ path
-      → tail_of writer ≡ Bare → Served m 0 (creating path client options replication block_size) (Ok (answers.Create status)) t
+      → tail_of writer ≡ Bare → Came m (creating path client options replication block_size) (Ok (answers.Create status)) t
       → KeepsBlocksWhole (commands.Create name options) s session t session'' (Ok replies.Created)
-  created_whole name client options replication block_size status called tail served state ready =
+  created_whole name client options replication block_size status called tail came state ready =
       let one = is_told s.picture state.files ready.ready.fits.agrees in
       let two = told_after SameButActive s.picture m.picture one.0 prepares.picture one.1 in
-      let now = was_made path client options replication block_size two.0 m t status two.1 served in
+      let now = was_made path client options replication block_size two.0 m t status two.1 came in
       let file = made path client options replication block_size in
       let creates = now.2.1 in
       let short : tail_length (tail_of writer) ≤ (sizes_of writer).block_size = subst (λ (x : Tail). tail_length x ≤ (sizes_of writer).block_size) (sym tail) (omega arith) in
@@ -213,12 +212,12 @@ module _ (s m t : Shown) (session session' session'' : Session) (prepares : Prep
   -- of a file that is gone on with it says what was so before
   pub appended_whole : (name client : List ℕ) (flag : ℕ) (appended : Appended) (stat : FileStatusMsg) → absolute session.settings.home name ≡ path → appended.stat ≡ Some stat
       → tail_of writer ≡ tail_opened appended.block None → sizes_of writer ≡ sizes_by session' d (unwrap_or stat.block_replication 0) (unwrap_or stat.blocksize 0)
-      → IsShaped (appending path client flag) (answers.Append appended) → Served m 0 (appending path client flag) (Ok (answers.Append appended)) t
+      → Came m (appending path client flag) (Ok (answers.Append appended)) t
       → KeepsBlocksWhole (commands.Append name) s session t session'' (Ok replies.Appended)
-  appended_whole name client flag appended stat called is tail sizes shaped served state ready =
+  appended_whole name client flag appended stat called is tail sizes came state ready =
       let one = is_told s.picture state.files ready.ready.fits.agrees in
       let two = told_after SameButActive s.picture m.picture one.0 prepares.picture one.1 in
-      let now = was_reopened path client flag two.0 m t appended two.1 shaped served in
+      let now = was_reopened path client flag two.0 m t appended two.1 came in
       let row = now.2 in
       let file = row.file in
       let size = file.attributes.block_size in

@@ -12,7 +12,7 @@ use Rattle.hdfs_model.specs.Picture.{Picture}
 use Rattle.hdfs_model.specs.Sessions.{IsNotOwed}
 use Rattle.hdfs_model.specs.Shown.{Shown, SameNodes}
 use Rattle.hdfs_model.specs.Sound.{IsSound}
-use Rattle.hdfs_namenode.specs.Clients.{defaults_of, name_of}
+use Rattle.hdfs_namenode.specs.Clients.{SameClient}
 use Rattle.hdfs_files.specs.Failing.{TellsClose}
 use Rattle.hdfs_files.specs.Writers as files
 use Rattle.hdfs_files.specs.declared.file_writer.FileWriter.{FileWriter}
@@ -42,7 +42,7 @@ pub record Called (old : Shown) (session : Session) (name path : List ℕ) (writ
   pub called : absolute (settings_of session).home name ≡ path
   pub named : is_path path ≡ true
   pub settings : settings_of session' ≡ settings_of session
-  pub namenode : session'.namenode ≡ session.namenode
+  pub namenode : SameClient session.namenode session'.namenode
 
 module _ (old new : Shown) (session session' : Session) (name path : List ℕ) (writer : FileWriter) where
   -- the call, by the links that it leaves
@@ -52,7 +52,7 @@ module _ (old new : Shown) (session session' : Session) (name path : List ℕ) (
   -- the session knows what it knew
   known_of : (now : Option FileWriter) → Called old session name path writer now session'
       → defaults_known session' ≡ defaults_known session
-  known_of now c = ap defaults_of c.namenode
+  known_of now c = c.namenode.defaults
 
   -- no other writer is touched
   elsewhere : (now : Option FileWriter) → Called old session name path writer now session' → (r : List ℕ) → r ≢ absolute (settings_of session).home name
@@ -62,7 +62,7 @@ module _ (old new : Shown) (session session' : Session) (name path : List ℕ) (
 
   -- and remembers what it is run with
   remembers_of : (now : Option FileWriter) → Called old session name path writer now session' → Remembers session session'
-  remembers_of now c = record { settings = c.settings; name = ap name_of c.namenode; known = λ defaults is. known_of now c ∙ is }
+  remembers_of now c = record { settings = c.settings; name = c.namenode.name; service = c.namenode.service; known = λ defaults is. known_of now c ∙ is }
 
   module _ (writer' : FileWriter) (c : Called old session name path writer (Some writer') session') (stands : files.Stands new writer' × files.Keeps writer writer') where
     -- the session stands behind a write

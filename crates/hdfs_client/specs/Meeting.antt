@@ -11,10 +11,9 @@ use Rattle.hdfs_model.specs.Stores.{Agrees}
 abbrev pub IsClosed : Picture → List ℕ → Type 0
 IsClosed p path = kinds p path ≡ Some OpenFile → ⊥
 
--- A cluster of one namenode that tells its picture, which agrees with the files. A command that calls a file `name` is done at this
+-- A cluster that tells its picture, which agrees with the files. A command that calls a file `name` is done at this
 -- path, which the session hasn't open, and whose file nobody writes.
 pub record Meets (world : World) (shown : Shown) (state : State) (name path : List ℕ) : Type 0 where
-  pub one : shown.namenodes ≡ 1
   pub agrees : Agrees shown.picture state.files
   pub called : absolute world.home name ≡ path
   pub is_path : is_path path ≡ true

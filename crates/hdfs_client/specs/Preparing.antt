@@ -1,7 +1,5 @@
 -- The cluster's defaults, which a session asks for once.
 use Rattle.std.specs.Prelude.{◌≡◌, ◌⊎◌, ℕ, true, false, Option, Some, IfSome, Err}
-use Rattle.hdfs_model.specs.declared.asks.Ask.TheVariants as asks
-use Rattle.hdfs_model.specs.declared.asks.AskFault.{AskFault}
 use Rattle.hdfs_model.specs.declared.errors.ArgFault.TheVariants as args
 use Rattle.hdfs_model.specs.declared.errors.HdfsError.{HdfsError}
 use Rattle.hdfs_model.specs.declared.errors.HdfsError.TheVariants as errors
@@ -9,18 +7,21 @@ use Rattle.hdfs_model.specs.declared.messages.ServerDefaults.{ServerDefaults}
 use Rattle.hdfs_model.specs.Limits.{are_defaults}
 use Rattle.hdfs_model.specs.Picture.{Picture, SameButActive, Told}
 use Rattle.hdfs_model.specs.Sessions.{defaults_of}
-use Rattle.hdfs_model.specs.Shown.{Shown, Served}
-use Rattle.hdfs_namenode.specs.Asked.{error_of}
-use Rattle.hdfs_namenode.specs.Clients.{name_of}
+use Rattle.hdfs_model.specs.Causes.{CallsRose}
+use Rattle.hdfs_model.specs.Shown.{Shown}
+use Rattle.hdfs_namenode.specs.Asked.{SameService}
+use Rattle.hdfs_namenode.specs.Clients.{name_of, proxy_of}
+use Rattle.hdfs_namenode.specs.Relaying.{TellsAsk}
 use Rattle.hdfs_files.specs.declared.sizes.WriteSizes.{WriteSizes}
 use Rattle.hdfs_client.specs.Looking.{OnlyLooks}
 use Rattle.hdfs_client.specs.Session.{defaults_known, rebuilding_by, settings_of}
 use Rattle.hdfs_client.specs.declared.session.Session.{Session}
 
--- A session is run with what it was run with, asks in the name in which it asked, and knows the defaults that it knew.
+-- A session is run with what it was run with, asks the namenodes that it asked in the same name, and knows the defaults that it knew.
 pub record Remembers (session session' : Session) : Type 0 where
   pub settings : session'.settings ≡ session.settings
   pub name : name_of session'.namenode ≡ name_of session.namenode
+  pub service : SameService (proxy_of session.namenode) (proxy_of session'.namenode)
   pub known : (defaults : ServerDefaults) → defaults_known session ≡ Some defaults → defaults_known session' ≡ Some defaults
 
 -- Asking for them leaves the links and the datanodes, and of a told picture all but which namenode is active; of the session it leaves
@@ -46,10 +47,10 @@ pub record HasDefaults (old : Shown) (session session' : Session) (defaults : Se
   pub known : defaults_known session' ≡ Some defaults
   pub told : AreTold old session defaults
 
--- why there are none: the ask has failed, or they are out of their limits
+-- why there are none: the ask has failed, over a told picture only where a namenode has, or they are out of their limits
 abbrev pub LacksDefaults : Shown → Session → HdfsError → Shown → Type 0
 LacksDefaults old session error new =
-    ((fault : AskFault) × (error ≡ error_of fault) × Served old 0 asks.GetServerDefaults (Err fault) new)
+    (TellsAsk old new error × ((p : Picture) → old.picture ≡ Some p → (error ≡ errors.NoMemory) ⊎ CallsRose old.counts new))
     ⊎ ((error ≡ errors.InvalidArgument args.Defaults) × (defaults : ServerDefaults) × (are_defaults defaults ≡ false) × AreTold old session defaults)
 
 -- with what a file is written that has this replication and block size

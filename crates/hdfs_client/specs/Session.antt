@@ -17,6 +17,7 @@ use Rattle.hdfs_model.specs.Sound.{IsFileAt}
 use Rattle.hdfs_model.specs.Stores.{AgreesBut}
 use Rattle.hdfs_model.specs.Writing.{SameRecords}
 use Rattle.hdfs_model.specs.declared.picture.FileEntry.{FileEntry}
+use Rattle.hdfs_namenode.specs.Asked.{ReachesAll}
 use Rattle.hdfs_namenode.specs.Clients as namenode
 use Rattle.hdfs_files.specs.Tails.{FileCarries}
 use Rattle.hdfs_files.specs.Writers as files
@@ -80,7 +81,7 @@ pub record IsSized (session : Session) (writer : FileWriter) : Type 0 where
   pub packet_size : (files.sizes_of writer).packet_size ≡ known.write_packet_size
 
 -- What a session is between calls: its settings are in their limits, each writer stands and is that of the file at its path, and
--- no two keep one link. As long as no command has failed, no writer has. It asks in the name of its client, and its writers rebuild
+-- no two keep one link. As long as no command has failed, no writer has. It asks all namenodes of the cluster in the name of its client, and its writers rebuild
 -- pipelines as its settings say, with its window, and write with the sizes of packets of the cluster's defaults.
 pub record Stands (shown : Shown) (session : Session) : Type 0 where
   pub limited : are_settings session.settings ≡ true
@@ -88,6 +89,7 @@ pub record Stands (shown : Shown) (session : Session) : Type 0 where
   pub fine : session.failed ≡ false → (path : List ℕ) (writer : FileWriter) → writer_of session path ≡ Some writer → files.has_failed writer ≡ false
   pub apart : (path other : List ℕ) (writer writer' : FileWriter) → writer_of session path ≡ Some writer → writer_of session other ≡ Some writer'
       → path ≢ other → (link : ℕ) → files.link_of writer ≡ Some link → files.link_of writer' ≡ Some link → ⊥
+  pub reaches : ReachesAll (namenode.proxy_of session.namenode) shown
   pub name : namenode.name_of session.namenode ≡ namenode.client_name session.settings.client
   pub sized : (path : List ℕ) (writer : FileWriter) → writer_of session path ≡ Some writer → IsSized session writer
 

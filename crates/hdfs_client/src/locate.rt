@@ -7,6 +7,8 @@ ghost use Rattle.hdfs_model.specs.Picture.{Picture, SameFiles};
 ghost use Rattle.hdfs_model.specs.Sessions.{IsNotOwed};
 ghost use Rattle.hdfs_model.specs.Steps.{World};
 ghost use Rattle.hdfs_client.specs.Looking.{OnlyLooks};
+ghost use Rattle.hdfs_namenode.specs.Asked.{ReachesAll};
+ghost use Rattle.hdfs_namenode.specs.Clients.{SameClient, proxy_of};
 ghost use Rattle.hdfs_client.specs.Meeting.{IsClosed, Meets};
 
 use hdfs_model::{Cluster, Command, HdfsError, LocatedBlocks};
@@ -17,15 +19,15 @@ use std::alloc::Global;
 /// The length in bytes that asks for a whole file.
 const WHOLE_FILE: u64 = 9223372036854775807;
 
-/// The blocks of the file at a path, which a command calls `name`, by the first namenode.
+/// The blocks of the file at a path, which a command calls `name`.
 pub(crate) fn locate<C: Cluster>(
     alloc: Global,
     cluster: &mut C,
-    namenode: &NamenodeProtocol,
+    namenode: &mut NamenodeProtocol,
     name: &Text,
     path: &str,
 ) -> Result<LocatedBlocks, HdfsError>
-    requires { 0 < (C.shown cluster.old).namenodes }
+    requires { ReachesAll (proxy_of namenode.old) (C.shown cluster.old) }
 
     // over any cluster
     ensures looks { OnlyLooks (C.shown cluster.old) (C.shown cluster.new) }
@@ -42,6 +44,7 @@ pub(crate) fn locate<C: Cluster>(
     ensures cause { IfErr result (λ e. (world : World) (state : State) (offset len : ℕ)
         → Meets world (C.shown cluster.old) state name.now path.now
         → Cause world state (Command.Read name.now offset len) (C.shown cluster.old) (C.shown cluster.new) e) }
+    ensures client { SameClient namenode.old namenode.new }
 {
     match namenode.get_block_locations(cluster, path, 0, WHOLE_FILE) {
         Ok(Some(found)) => Ok(found),

@@ -9,6 +9,8 @@ ghost use Rattle.hdfs_model.specs.Sessions.{IsNotOwed};
 ghost use Rattle.hdfs_model.specs.Shown.{OnlyReads, SameLinks};
 ghost use Rattle.hdfs_model.specs.Steps.{World, Done, step, range_of};
 ghost use Rattle.hdfs_model.specs.Stores.{Agrees};
+ghost use Rattle.hdfs_namenode.specs.Asked.{ReachesAll};
+ghost use Rattle.hdfs_namenode.specs.Clients.{SameClient, proxy_of};
 ghost use Rattle.hdfs_client.specs.Meeting.{IsClosed, Meets};
 ghost use Rattle.hdfs_client.specs.Ranges.{Stored, HoldsBlock, GoesOn, FailsAt, FailsToRead, LiesIn, IsOutside, part_of};
 
@@ -187,13 +189,13 @@ pub(crate) fn read_file<C: Cluster>(
     alloc: Global,
     cluster: &mut C,
     connections: &mut ConnectionCache,
-    namenode: &NamenodeProtocol,
+    namenode: &mut NamenodeProtocol,
     name: &Text,
     path: &str,
     offset: u64,
     len: u64,
 ) -> Result<Reply, HdfsError>
-    requires { 0 < (C.shown cluster.old).namenodes }
+    requires { ReachesAll (proxy_of namenode.old) (C.shown cluster.old) }
     ensures anywhere { Applies (Command.Read name.now offset len) (C.shown cluster.old) (C.shown cluster.new) result }
     ensures links { SameLinks (C.shown cluster.old) (C.shown cluster.new) }
     ensures owed { IfErr result IsNotOwed }
@@ -204,6 +206,7 @@ pub(crate) fn read_file<C: Cluster>(
     ensures err { IfErr result (λ e. (world : World) (state : State) → Meets world (C.shown cluster.old) state name.now path.now
         → Cause world state (Command.Read name.now offset len) (C.shown cluster.old) (C.shown cluster.new) e
         × Agrees (C.shown cluster.new).picture state.files) }
+    ensures client { SameClient namenode.old namenode.new }
 {
     let found = locate(alloc, cluster, namenode, name, path)?;
     if !is_within(offset, len, found.file_length) {

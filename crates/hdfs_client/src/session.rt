@@ -13,12 +13,12 @@ use crate::reading::read_file;
 use hdfs_connections::ConnectionCache;
 use hdfs_files::FileWriter;
 use hdfs_model::{ArgFault, Cluster, Command, HdfsError, Reply, Settings, absolute_path, is_path};
-use hdfs_namenode::NamenodeProtocol;
+use hdfs_namenode::{NameServiceProxy, NamenodeProtocol};
 use hdfs_wire::Text;
 use std::alloc::Global;
 use std::collections::BTreeMap;
 
-/// One service, as one client uses it: what it is run with, the files that it has open, the connections to datanodes that it keeps for
+/// One service, which is all namenodes of a cluster, as one client uses it: what it is run with, the files that it has open, the connections to datanodes that it keeps for
 /// the next read, and whether a command has failed. A session
 /// that is let go leaves its files and their links open; `abandon` ends the links.
 #[derive(Drop)]
@@ -47,7 +47,7 @@ impl Session {
     ) -> Result<Session, HdfsError>
         requires { 0 < (C.shown cluster.now).namenodes }
         ensures settings { IfOk result (λ session. (settings_of session ≡ settings.now) × (are_settings settings.now ≡ true)) }
-        ensures stands { IfOk result (λ session. (shown : Shown) → Stands shown session) }
+        ensures stands { IfOk result (Stands (C.shown cluster.now)) }
         ensures fresh { IfOk result (λ session. has_failed session ≡ false) }
         ensures none { IfOk result (λ session. ((path : List ℕ) → writer_of session path ≡ None)
             × (defaults_known session ≡ None)) }
@@ -56,10 +56,11 @@ impl Session {
         if !settings.are_limited() {
             return Err(HdfsError::InvalidArgument(ArgFault::Settings));
         }
+        let service = NameServiceProxy::new(0, cluster.namenodes());
         Ok(Session {
             alloc,
             settings: copy_settings(alloc, settings)?,
-            namenode: NamenodeProtocol::new(alloc, settings.client)?,
+            namenode: NamenodeProtocol::new(alloc, service, settings.client)?,
             writers: BTreeMap::new(alloc),
             connections: ConnectionCache::new(alloc),
             failed: false,
@@ -94,7 +95,6 @@ impl Session {
 
     /// Runs one command, whatever came before it.
     fn run<C: Cluster>(&mut self, cluster: &mut C, command: &Command) -> Result<Reply, HdfsError>
-        requires namenode { 0 < (C.shown cluster.old).namenodes }
         requires stands { Stands (C.shown cluster.old) self.old }
         requires fine { has_failed self.old ≡ false }
         ensures acts { Acts command.now (C.shown cluster.old) self.old (C.shown cluster.new) (after self.new result) result }
@@ -119,7 +119,7 @@ impl Session {
                 self.alloc,
                 cluster,
                 &mut self.connections,
-                &self.namenode,
+                &mut self.namenode,
                 name,
                 path.as_str(),
                 *offset,
@@ -154,7 +154,6 @@ impl Session {
         cluster: &mut C,
         command: &Command,
     ) -> Result<Reply, HdfsError>
-        requires namenode { 0 < (C.shown cluster.old).namenodes }
         requires stands { Stands (C.shown cluster.old) self.old }
 
         // Over any cluster, and over one that agrees with a state whose open files the session carries.

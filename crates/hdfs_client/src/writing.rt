@@ -27,7 +27,7 @@ impl Session {
 
     /// The cluster's defaults, which are asked for once.
     fn defaults<C: Cluster>(&mut self, cluster: &mut C) -> Result<ServerDefaults, HdfsError>
-        requires namenode { 0 < (C.shown cluster.old).namenodes }
+        requires stands { Stands (C.shown cluster.old) self.old }
         ensures prepares { Prepares (C.shown cluster.old) self.old (C.shown cluster.new) self.new }
         ensures ok { IfOk result (HasDefaults (C.shown cluster.old) self.old self.new) }
         ensures err { IfErr result (λ error. LacksDefaults (C.shown cluster.old) self.old error (C.shown cluster.new)) }
@@ -63,7 +63,6 @@ impl Session {
         path: Text,
         options: &WriteOptions,
     ) -> Result<Reply, HdfsError>
-        requires namenode { 0 < (C.shown cluster.old).namenodes }
         requires stands { Stands (C.shown cluster.old) self.old }
         requires fine { has_failed self.old ≡ false }
         requires path { is_path path ≡ true }
@@ -108,7 +107,6 @@ impl Session {
         name: &Text,
         path: Text,
     ) -> Result<Reply, HdfsError>
-        requires namenode { 0 < (C.shown cluster.old).namenodes }
         requires stands { Stands (C.shown cluster.old) self.old }
         requires fine { has_failed self.old ≡ false }
         requires path { is_path path ≡ true }
@@ -143,7 +141,6 @@ impl Session {
         path: &str,
         bytes: &[u8],
     ) -> Result<Reply, HdfsError>
-        requires namenode { 0 < (C.shown cluster.old).namenodes }
         requires stands { Stands (C.shown cluster.old) self.old }
         requires fine { has_failed self.old ≡ false }
         requires path { is_path path.now ≡ true }
@@ -158,7 +155,7 @@ impl Session {
         let Some(writer) = self.writers.get_mut(path) else {
             unreachable!();
         };
-        match writer.write(cluster, &self.namenode, bytes) {
+        match writer.write(cluster, &mut self.namenode, bytes) {
             Ok(count) => Ok(Reply::Written {
                 bytes: count as u64,
             }),
@@ -172,7 +169,6 @@ impl Session {
         cluster: &mut C,
         path: &str,
     ) -> Result<Reply, HdfsError>
-        requires namenode { 0 < (C.shown cluster.old).namenodes }
         requires stands { Stands (C.shown cluster.old) self.old }
         requires fine { has_failed self.old ≡ false }
         requires path { is_path path.now ≡ true }
@@ -187,7 +183,7 @@ impl Session {
         let Some(writer) = self.writers.remove(path) else {
             unreachable!();
         };
-        match writer.close(cluster, &self.namenode) {
+        match writer.close(cluster, &mut self.namenode) {
             Ok(()) => Ok(Reply::Closed),
             Err(error) => Err(error),
         }

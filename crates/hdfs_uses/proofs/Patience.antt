@@ -12,7 +12,7 @@ use Rattle.hdfs_model.specs.Files.{State, kinds_of, no_file}
 use Rattle.hdfs_model.specs.Headline.{Ready, Scene}
 use Rattle.hdfs_model.specs.Paths.{is_path, absolute}
 use Rattle.hdfs_model.specs.Sessions.{Avoids, Fits, IsStrange, defaults_of, does, is_before_asking, none_open, spared, world_of}
-use Rattle.hdfs_model.specs.Shown.{Shown, Later}
+use Rattle.hdfs_model.specs.Shown.{Shown}
 use Rattle.hdfs_model.specs.Steps.{World, Outcome, Refused, BadPath, WrongState, is_opened, read_file, step}
 use Rattle.hdfs_client.specs.Acting.{Acts, IsReady, world_at}
 use Rattle.hdfs_client.specs.Session.{defaults_known, settings_of, writer_of}
@@ -57,7 +57,7 @@ none_spared w state (commands.Write text bytes) reads error path = absurd reads
 none_spared w state (commands.Close text) reads error path = absurd reads
 
 -- a session that was just made, for a read
-module _ (start now : Shown) (settings : Settings) (session : Session) (command : Command) (reads : IsRead command) (later : Later start now) (same : settings_of session ≡ settings)
+module _ (start now : Shown) (settings : Settings) (session : Session) (command : Command) (reads : IsRead command) (same : settings_of session ≡ settings)
     (empty : (path : List ℕ) → writer_of session path ≡ None) (unknown : defaults_known session ≡ None) where
   abbrev start_scene : Scene
   start_scene = record { opened = none_open; shown = start }
@@ -70,7 +70,6 @@ module _ (start now : Shown) (settings : Settings) (session : Session) (command 
     pub is_ready : IsReady now session state command
     is_ready = record {
       ready = record {
-        one = later.namenodes ∙ ready.one;
         fits = fits;
         opened = λ path. ready.opened path ∙ sym (ap (λ (o : Option _). is_some o) (empty path));
         avoids = All-cons (Avoids (world_at session now) state) command []

@@ -15,7 +15,7 @@ use Rattle.hdfs_client.specs.Acting.{Acts}
 use Rattle.hdfs_client.proofs.Ending.{replies_next, runs_failed}
 use Rattle.hdfs_client.proofs.Finishing.{complete_done}
 use Rattle.hdfs_client.proofs.Going.{GoneOn, gone_none, goes_on, stops_there, complete_there, ends_there}
-use Rattle.hdfs_client.proofs.WholeGoing.{leaves_end, leaves_stopped, whole_goes_on, whole_none}
+use Rattle.hdfs_client.proofs.WholeGoing.{leaves_end, leaves_start, leaves_stopped, whole_goes_on, whole_none}
 use Rattle.hdfs_client.specs.Whole.{KeepsBlocksWhole}
 use Rattle.hdfs_client.proofs.Owning.{own_end, own_next, own_start}
 use Rattle.hdfs_client.proofs.run.run_session.Goals as goal
@@ -35,7 +35,7 @@ loop-command-init g c =
       later = later_refl s;
       reads = same_reads_refl s;
       own = own_start s session made.none.0;
-      stands = made.stands s;
+      stands = made.stands;
       fine = made.fresh;
       settings = made.settings.0;
       count = ap length c.in-Ok.ensures.items;
@@ -76,10 +76,10 @@ loop-command-preserved g c =
       room = omega (arith, before.room, c.push_reserved.ensures.capacity);
       whole = λ state ready.
           whole_goes_on w state c.args.commands.now i c.loop-command.replies.items s t u c.loop-command.session c.apply.new.self command (before.told state ready) (before.whole state ready)
-          c.loop-command-test.true c.command-item.is (before.later.namenodes ∙ ready.one) reply (now.whole before.fine);
+          c.loop-command-test.true c.command-item.is reply (now.whole before.fine);
       told = λ state ready.
           subst (λ (rs : List Reply). GoneOn w state c.args.commands.now (i + 1) rs u c.apply.new.self) (sym c.push_reserved.ensures.items)
-          (goes_on w state c.args.commands.now i c.loop-command.replies.items t c.loop-command.session command (before.told state ready) c.loop-command-test.true c.command-item.is (before.later.namenodes ∙ ready.one) u c.apply.new.self reply acts);
+          (goes_on w state c.args.commands.now i c.loop-command.replies.items t c.loop-command.session command (before.told state ready) c.loop-command-test.true c.command-item.is u c.apply.new.self reply acts);
     }
 
 pub returns-in-Err-apply-clause-anywhere : goal.returns-in-Err-apply-clause-anywhere
@@ -112,13 +112,12 @@ returns-in-Err-apply-clause-ran g c = λ good state ready.
     let replies = c.loop-command.replies.items in
     let acts = subst (λ (e : HdfsError). Acts command t c.loop-command.session u c.apply.new.self (failed_with e)) (sym f.ensures.error) (c.in-Err-apply.ensures.acts before.fine) in
     let at : f.result.at ≡ i + 1 = omega (arith, f.ensures.at, c.len.ensures, c.loop-command.replies.ok, before.count) in
-    let one = before.later.namenodes ∙ ready.one in
     let gone = before.told state ready in
     let kept = c.abandon.ensures.keeps in
     record {
       ok = tt;
-      err = stops_there w state c.args.commands.now i replies t c.loop-command.session command gone c.loop-command-test.true c.command-item.is one u c.apply.new.self s v before.later acts.anywhere.later kept.0 kept.1 c.abandon.ensures.files f.result acts at f.ensures.done kept.2;
-      complete = λ limited none. complete_there w state c.args.commands.now i replies t c.loop-command.session command gone c.loop-command-test.true c.command-item.is one u c.apply.new.self s v before.later acts.anywhere.later kept.0 kept.1 c.abandon.ensures.files f.result acts at (Vec Reply Global) limited none;
+      err = stops_there w state c.args.commands.now i replies t c.loop-command.session command gone c.loop-command-test.true c.command-item.is u c.apply.new.self s v before.later acts.anywhere.later kept.0 kept.1 c.abandon.ensures.files f.result acts at f.ensures.done kept.2;
+      complete = λ limited none. complete_there w state c.args.commands.now i replies t c.loop-command.session command gone c.loop-command-test.true c.command-item.is u c.apply.new.self s v before.later acts.anywhere.later kept.0 kept.1 c.abandon.ensures.files f.result acts at (Vec Reply Global) limited none;
     }
 
 pub returns-clause-ran : goal.returns-clause-ran
@@ -168,7 +167,7 @@ returns-in-Err-apply-clause-whole g c = λ good state ready.
     let keeps = subst (λ (e : HdfsError). KeepsBlocksWhole command t c.loop-command.session u c.apply.new.self (failed_with e)) (sym f.ensures.error) (c.in-Err-apply.ensures.whole before.fine) in
     let at : f.result.at ≡ i + 1 = omega (arith, f.ensures.at, c.len.ensures, c.loop-command.replies.ok, before.count) in
     leaves_stopped w state c.args.commands.now i c.loop-command.replies.items s t u c.loop-command.session c.apply.new.self command (before.told state ready) (before.whole state ready)
-    c.loop-command-test.true c.command-item.is (before.later.namenodes ∙ ready.one) v f.result acts keeps c.abandon.ensures.files c.abandon.ensures.keeps.1 at
+    c.loop-command-test.true c.command-item.is v f.result acts keeps c.abandon.ensures.files c.abandon.ensures.keeps.1 at
 
 pub returns-clause-whole : goal.returns-clause-whole
 returns-clause-whole g c = λ good state ready.

@@ -3,17 +3,13 @@ use Rattle.hdfs_model.proofs.Frames.{later_trans}
 use Rattle.hdfs_uses.proofs.Patience.{answers_reply, answers_error, leaves_files}
 use Rattle.hdfs_uses.proofs.patient.apply_patiently.Goals as goal
 
--- a new session stands
-pub apply-requires-clause-stands : goal.apply-requires-clause-stands
-apply-requires-clause-stands g c = c.in_ok-session.ensures.stands (g.C.Cluster.shown c.loop-session.cluster)
-
 -- a reply is that of the step
 pub returns-in-Ok : goal.returns-in-Ok
 returns-in-Ok g c = λ state ready.
     let start = g.C.Cluster.shown c.args.cluster.now in
     let now = g.C.Cluster.shown c.loop-session.cluster in
     let made = c.in_ok-session.ensures in
-    answers_reply start now c.args.settings.now c.in_ok-session.session c.args.command.now c.requires.reads c.loop-session.invariant.later made.settings.0 made.none.0 made.none.1 state ready (c.loop-session.invariant.fits state ready)
+    answers_reply start now c.args.settings.now c.in_ok-session.session c.args.command.now c.requires.reads made.settings.0 made.none.0 made.none.1 state ready (c.loop-session.invariant.fits state ready)
     (g.C.Cluster.shown c.apply.new.cluster) c.apply.new.self c.in-Ok.reply (c.in-Ok.ensures.acts made.fresh)
 
 -- an error leaves the files
@@ -22,7 +18,7 @@ returns-then-left-le1 g c = λ state ready.
     let start = g.C.Cluster.shown c.args.cluster.now in
     let now = g.C.Cluster.shown c.loop-session.cluster in
     let made = c.in_ok-session.ensures in
-    answers_error start now c.args.settings.now c.in_ok-session.session c.args.command.now c.requires.reads c.loop-session.invariant.later made.settings.0 made.none.0 made.none.1 state ready (c.loop-session.invariant.fits state ready)
+    answers_error start now c.args.settings.now c.in_ok-session.session c.args.command.now c.requires.reads made.settings.0 made.none.0 made.none.1 state ready (c.loop-session.invariant.fits state ready)
     (g.C.Cluster.shown c.apply.new.cluster) c.apply.new.self c.in-Err.error (c.in-Err.ensures.acts made.fresh)
 
 -- and so does one after which the read is tried again
@@ -36,6 +32,6 @@ loop-session-preserved g c =
     record {
       later = later_trans start now new c.loop-session.invariant.later acts.anywhere.later;
       fits = λ state ready.
-          leaves_files start now c.args.settings.now c.in_ok-session.session c.args.command.now c.requires.reads c.loop-session.invariant.later made.settings.0 made.none.0 made.none.1 state ready (c.loop-session.invariant.fits state ready)
+          leaves_files start now c.args.settings.now c.in_ok-session.session c.args.command.now c.requires.reads made.settings.0 made.none.0 made.none.1 state ready (c.loop-session.invariant.fits state ready)
           new c.apply.new.self c.in-Err.error acts;
     }

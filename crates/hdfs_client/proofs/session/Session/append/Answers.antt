@@ -1,5 +1,5 @@
 -- The goals of Session::append.
-use Rattle.std.proofs.Common.{◌≡◌, ℕ, List, Some, Ok, Err, refl, sym, ◌∙◌, ap, subst, unwrap_or}
+use Rattle.std.proofs.Common.{◌≡◌, ℕ, List, true, Some, Ok, Err, refl, sym, ◌∙◌, ap, subst, unwrap_or}
 use Rattle.std.proofs.lemmas.Map.Text.{btree_map_updates_text}
 use Rattle.std.proofs.lemmas.Result.{err_from_is_err_and}
 use Rattle.std.specs.String.{string_bytes}
@@ -9,15 +9,18 @@ use Rattle.hdfs_model.specs.declared.commands.Reply.{Reply}
 use Rattle.hdfs_model.specs.declared.errors.HdfsError.TheVariants as errors
 use Rattle.hdfs_model.specs.declared.messages.Appended.{Appended}
 use Rattle.hdfs_model.specs.Paths.{absolute}
-use Rattle.hdfs_namenode.proofs.Answered.{served_answer, served_error}
+use Rattle.hdfs_model.proofs.Repeating.{append_repeats}
+use Rattle.hdfs_namenode.specs.Clients.{through}
+use Rattle.hdfs_files.proofs.Asked.{came}
 use Rattle.hdfs_client.specs.Acting.{Acts}
 use Rattle.hdfs_client.specs.Preparing.{sizes_by}
 use Rattle.hdfs_client.specs.Session.{after}
 use Rattle.hdfs_client.proofs.Failing.{append_opens, lacks_acts, refused_acts, starved_acts, unkept_acts, unstated_acts}
 use Rattle.hdfs_client.proofs.Moved.{kept_by, put_by}
 use Rattle.hdfs_client.proofs.Opening.{appending, appending_as, was_reopened}
-use Rattle.hdfs_client.proofs.Prepared.{looks_from-Served}
-use Rattle.hdfs_client.proofs.Sized.{remembers_refl, remembers_trans, remembers_with}
+use Rattle.hdfs_client.proofs.Looking.{looks_from-Leaves}
+use Rattle.hdfs_client.proofs.Prepared.{reaches_prepared}
+use Rattle.hdfs_client.proofs.Sized.{remembers_asked, remembers_on, remembers_trans}
 use Rattle.hdfs_client.proofs.Starting.{appended_acts, appended_over}
 use Rattle.hdfs_client.proofs.WholeOpening.{appending_spares}
 use Rattle.hdfs_client.proofs.WholeStarting.{appended_whole, late_whole, prepared_whole, refused_whole}
@@ -28,14 +31,14 @@ returns-in_err-defaults-clause-acts g c =
     let p = err_from_is_err_and c.from_residual.result c.from_residual.ensures.1 in
     let name = c.args.name.now in
     rw (p.1, p.2) (λ called. lacks_acts (commands.Append name) (append_opens name) (g.C.Cluster.shown c.args.cluster.now) (g.C.Cluster.shown c.defaults.new.cluster) c.args.self.now c.defaults.new.self
-    c.requires.stands (g.met.C.Cluster.active_below c.args.cluster.now) c.in_err-defaults.ensures.prepares c.in_err-defaults.field-0.0 c.in_err-defaults.ensures.err)
+    c.requires.stands c.in_err-defaults.ensures.prepares c.in_err-defaults.field-0.0 c.in_err-defaults.ensures.err)
 
 pub returns-in_err-key-clause-acts : goal.returns-in_err-key-clause-acts
 returns-in_err-key-clause-acts g c =
     let p = err_from_is_err_and c.from_residual-in_err-key.result c.from_residual-in_err-key.ensures.1 in
     let name = c.args.name.now in
     rw (p.1, p.2) (λ called. starved_acts (commands.Append name) (append_opens name) (g.C.Cluster.shown c.args.cluster.now) (g.C.Cluster.shown c.defaults.new.cluster) c.args.self.now c.defaults.new.self
-    c.requires.stands (g.met.C.Cluster.active_below c.args.cluster.now) c.in_ok-defaults.ensures.prepares)
+    c.requires.stands c.in_ok-defaults.ensures.prepares)
 
 pub returns-in_err-block-clause-acts : goal.returns-in_err-block-clause-acts
 returns-in_err-block-clause-acts g c =
@@ -45,12 +48,15 @@ returns-in_err-block-clause-acts g c =
     let name = c.args.name.now in
     let client = c.defaults.new.self.namenode.client in
     let e = c.in_err-block.field-0.0 in
-    let asked = appending_as g.C.Cluster.serves c.as_str-2.result.now c.args.path client 4 (Err e) c.defaults.new.cluster c.append.new.cluster c.as_str-2.ensures c.in_err-block.ensures.asked in
-    rw (p.1, p.2) (λ called. refused_acts g.C.Cluster.shown c.defaults.new.cluster c.append.new.cluster (commands.Append name) (append_opens name) s c.args.self.now c.defaults.new.self c.requires.stands
-    (g.met.C.Cluster.active_below c.args.cluster.now) c.in_ok-defaults.ensures.prepares (appending c.args.path client 4) c.args.path (g.met.C.Cluster.active_below c.defaults.new.cluster) called
+    let asked = appending_as g.C.Cluster.serves c.as_str-2.result.now c.args.path client 4 (Err e) (through c.defaults.new.self.namenode c.defaults.new.cluster) (through c.append.new.self c.append.new.cluster) c.as_str-2.ensures c.in_err-block.ensures.asked in
+    rw (p.1, p.2) (λ called. refused_acts (commands.Append name) (append_opens name) s m c.args.self.now c.defaults.new.self c.requires.stands c.in_ok-defaults.ensures.prepares
+    (g.C.Cluster.shown c.append.new.cluster) (record c.defaults.new.self { namenode = c.append.new.self }) (λ r. refl) (remembers_asked c.defaults.new.self c.append.new.self c.append.ensures.keeps)
+    (appending c.args.path client 4) c.args.path (λ state. called)
     (appended_over s m c.args.self.now c.defaults.new.self c.args.path c.in_ok-defaults.defaults c.in_ok-defaults.ensures.prepares c.in_ok-defaults.ensures.ok c.requires.path c.requires.placed (g.met.C.Cluster.sound c.defaults.new.cluster) name client 4 called)
-    (λ q own. own) e
-    (served_error g.C.Cluster.shown g.C.Cluster.serves g.met.C.Cluster.serves_rows (appending c.args.path client 4) c.defaults.new.cluster c.append.new.cluster e asked))
+    e
+    (came g.C.Cluster.shown g.C.Cluster.serves g.met.C.Cluster.serves_rows g.met.C.Cluster.active_below true (appending c.args.path client 4) (through c.defaults.new.self.namenode c.defaults.new.cluster) (Err e) (through c.append.new.self c.append.new.cluster)
+    (reaches_prepared (g.C.Cluster.shown c.args.cluster.now) (g.C.Cluster.shown c.defaults.new.cluster) c.args.self.now c.defaults.new.self c.in_ok-defaults.ensures.prepares c.requires.stands.reaches) asked)
+    (λ q. append_repeats c.args.path client 4 q))
 
 pub returns-in_default-clause-acts : goal.returns-in_default-clause-acts
 returns-in_default-clause-acts g c = λ called.
@@ -63,15 +69,16 @@ returns-in_default-clause-acts g c = λ called.
     let prepares = c.in_ok-defaults.ensures.prepares in
     let client = session.namenode.client in
     let appended : Appended = c.in_ok-block.field-0 in
-    let asked = appending_as g.C.Cluster.serves c.as_str-2.result.now c.args.path client 4 (Ok (answers.Append appended)) c.defaults.new.cluster c.append.new.cluster c.as_str-2.ensures c.in_ok-block.ensures.asked in
-    let served = served_answer g.C.Cluster.shown g.C.Cluster.serves g.met.C.Cluster.serves_rows (appending c.args.path client 4) c.defaults.new.cluster c.append.new.cluster (answers.Append appended) asked in
-    let looks = looks_from-Served m t (appending c.args.path client 4) (Ok (answers.Append appended)) served.0 in
+    let asked = appending_as g.C.Cluster.serves c.as_str-2.result.now c.args.path client 4 (Ok (answers.Append appended)) (through c.defaults.new.self.namenode c.defaults.new.cluster) (through c.append.new.self c.append.new.cluster) c.as_str-2.ensures c.in_ok-block.ensures.asked in
+    let had = came g.C.Cluster.shown g.C.Cluster.serves g.met.C.Cluster.serves_rows g.met.C.Cluster.active_below true (appending c.args.path client 4) (through c.defaults.new.self.namenode c.defaults.new.cluster) (Ok (answers.Append appended)) (through c.append.new.self c.append.new.cluster)
+    (reaches_prepared (g.C.Cluster.shown c.args.cluster.now) (g.C.Cluster.shown c.defaults.new.cluster) c.args.self.now c.defaults.new.self c.in_ok-defaults.ensures.prepares c.requires.stands.reaches) asked in
+    let looks = looks_from-Leaves m t had.relays.leaves in
     let over = λ (called : absolute c.args.self.now.settings.home name ≡ c.args.path). appended_over s m c.args.self.now session c.args.path d prepares c.in_ok-defaults.ensures.ok c.requires.path c.requires.placed (g.met.C.Cluster.sound c.defaults.new.cluster) name client 4 called in
     let named : c.in_ok-copy.field-0 ≡ name = c.in_ok-copy.ensures in
-    subst (λ (x : List ℕ). Acts (commands.Append name) s c.args.self.now t (after {T = Reply} c.defaults.new.self (Err (errors.FileNotFound x))) (Err (errors.FileNotFound x))) (sym named)
-    (unstated_acts (commands.Append name) (append_opens name) name refl s m t c.args.self.now c.defaults.new.self c.requires.stands
-    (g.met.C.Cluster.active_below c.args.cluster.now) c.in_ok-defaults.ensures.prepares (appending c.args.path client 4) c.args.path (g.met.C.Cluster.active_below c.defaults.new.cluster) called (over called) looks served.0.last
-    (λ q told. (let one = was_reopened c.args.path client 4 q m t appended told served.1 served.0 in c.in_default.not-Some one.2.status.told one.2.status.is)))
+    subst (λ (x : List ℕ). Acts (commands.Append name) s c.args.self.now t (after {T = Reply} (record session { namenode = c.append.new.self }) (Err (errors.FileNotFound x))) (Err (errors.FileNotFound x))) (sym named)
+    (unstated_acts (commands.Append name) (append_opens name) name refl s m t c.args.self.now session (record session { namenode = c.append.new.self }) c.requires.stands
+    prepares (λ r. refl) (remembers_asked session c.append.new.self c.append.ensures.keeps) (appending c.args.path client 4) c.args.path called (over called) looks had.relays.fine
+    (λ q told. (let one = was_reopened c.args.path client 4 q m t appended told had in c.in_default.not-Some one.2.status.told one.2.status.is)))
 
 pub returns-in_err-copy-clause-acts : goal.returns-in_err-copy-clause-acts
 returns-in_err-copy-clause-acts g c =
@@ -85,13 +92,14 @@ returns-in_err-copy-clause-acts g c =
     let prepares = c.in_ok-defaults.ensures.prepares in
     let client = session.namenode.client in
     let appended : Appended = c.in_ok-block.field-0 in
-    let asked = appending_as g.C.Cluster.serves c.as_str-2.result.now c.args.path client 4 (Ok (answers.Append appended)) c.defaults.new.cluster c.append.new.cluster c.as_str-2.ensures c.in_ok-block.ensures.asked in
-    let served = served_answer g.C.Cluster.shown g.C.Cluster.serves g.met.C.Cluster.serves_rows (appending c.args.path client 4) c.defaults.new.cluster c.append.new.cluster (answers.Append appended) asked in
-    let looks = looks_from-Served m t (appending c.args.path client 4) (Ok (answers.Append appended)) served.0 in
+    let asked = appending_as g.C.Cluster.serves c.as_str-2.result.now c.args.path client 4 (Ok (answers.Append appended)) (through c.defaults.new.self.namenode c.defaults.new.cluster) (through c.append.new.self c.append.new.cluster) c.as_str-2.ensures c.in_ok-block.ensures.asked in
+    let had = came g.C.Cluster.shown g.C.Cluster.serves g.met.C.Cluster.serves_rows g.met.C.Cluster.active_below true (appending c.args.path client 4) (through c.defaults.new.self.namenode c.defaults.new.cluster) (Ok (answers.Append appended)) (through c.append.new.self c.append.new.cluster)
+    (reaches_prepared (g.C.Cluster.shown c.args.cluster.now) (g.C.Cluster.shown c.defaults.new.cluster) c.args.self.now c.defaults.new.self c.in_ok-defaults.ensures.prepares c.requires.stands.reaches) asked in
+    let looks = looks_from-Leaves m t had.relays.leaves in
     let over = λ (called : absolute c.args.self.now.settings.home name ≡ c.args.path). appended_over s m c.args.self.now session c.args.path d prepares c.in_ok-defaults.ensures.ok c.requires.path c.requires.placed (g.met.C.Cluster.sound c.defaults.new.cluster) name client 4 called in
-    rw (p.1, p.2) (λ called. unkept_acts (commands.Append name) (append_opens name) s m t c.args.self.now session session c.requires.stands
-    (g.met.C.Cluster.active_below c.args.cluster.now) prepares (λ r. refl) (remembers_refl session) (appending c.args.path client 4) c.args.path (g.met.C.Cluster.active_below c.defaults.new.cluster) called (over called) looks
-    (λ q told. (let one = was_reopened c.args.path client 4 q m t appended told served.1 served.0 in (one.0, one.1, one.3))))
+    rw (p.1, p.2) (λ called. unkept_acts (commands.Append name) (append_opens name) s m t c.args.self.now session (record session { namenode = c.append.new.self }) c.requires.stands
+    prepares (λ r. refl) (remembers_asked session c.append.new.self c.append.ensures.keeps) (appending c.args.path client 4) c.args.path called (over called) looks
+    (λ q told. (let one = was_reopened c.args.path client 4 q m t appended told had in (one.0, one.1, one.3))))
 
 pub returns-in_err-insert-clause-acts : goal.returns-in_err-insert-clause-acts
 returns-in_err-insert-clause-acts g c =
@@ -105,13 +113,14 @@ returns-in_err-insert-clause-acts g c =
     let prepares = c.in_ok-defaults.ensures.prepares in
     let client = session.namenode.client in
     let appended : Appended = c.in_ok-block.field-0 in
-    let asked = appending_as g.C.Cluster.serves c.as_str-2.result.now c.args.path client 4 (Ok (answers.Append appended)) c.defaults.new.cluster c.append.new.cluster c.as_str-2.ensures c.in_ok-block.ensures.asked in
-    let served = served_answer g.C.Cluster.shown g.C.Cluster.serves g.met.C.Cluster.serves_rows (appending c.args.path client 4) c.defaults.new.cluster c.append.new.cluster (answers.Append appended) asked in
-    let looks = looks_from-Served m t (appending c.args.path client 4) (Ok (answers.Append appended)) served.0 in
+    let asked = appending_as g.C.Cluster.serves c.as_str-2.result.now c.args.path client 4 (Ok (answers.Append appended)) (through c.defaults.new.self.namenode c.defaults.new.cluster) (through c.append.new.self c.append.new.cluster) c.as_str-2.ensures c.in_ok-block.ensures.asked in
+    let had = came g.C.Cluster.shown g.C.Cluster.serves g.met.C.Cluster.serves_rows g.met.C.Cluster.active_below true (appending c.args.path client 4) (through c.defaults.new.self.namenode c.defaults.new.cluster) (Ok (answers.Append appended)) (through c.append.new.self c.append.new.cluster)
+    (reaches_prepared (g.C.Cluster.shown c.args.cluster.now) (g.C.Cluster.shown c.defaults.new.cluster) c.args.self.now c.defaults.new.self c.in_ok-defaults.ensures.prepares c.requires.stands.reaches) asked in
+    let looks = looks_from-Leaves m t had.relays.leaves in
     let over = λ (called : absolute c.args.self.now.settings.home name ≡ c.args.path). appended_over s m c.args.self.now session c.args.path d prepares c.in_ok-defaults.ensures.ok c.requires.path c.requires.placed (g.met.C.Cluster.sound c.defaults.new.cluster) name client 4 called in
-    rw (p.1, p.2) (λ called. unkept_acts (commands.Append name) (append_opens name) s m t c.args.self.now session (record session { writers = c.insert.new.self }) c.requires.stands
-    (g.met.C.Cluster.active_below c.args.cluster.now) prepares (kept_by session.writers c.insert.new.self c.in_err-insert.ensures.err) (remembers_with session c.insert.new.self) (appending c.args.path client 4) c.args.path (g.met.C.Cluster.active_below c.defaults.new.cluster) called (over called) looks
-    (λ q told. (let one = was_reopened c.args.path client 4 q m t appended told served.1 served.0 in (one.0, one.1, one.3))))
+    rw (p.1, p.2) (λ called. unkept_acts (commands.Append name) (append_opens name) s m t c.args.self.now session (record session { namenode = c.append.new.self; writers = c.insert.new.self }) c.requires.stands
+    prepares (kept_by session.writers c.insert.new.self c.in_err-insert.ensures.err) (remembers_on session c.append.new.self c.insert.new.self c.append.ensures.keeps) (appending c.args.path client 4) c.args.path called (over called) looks
+    (λ q told. (let one = was_reopened c.args.path client 4 q m t appended told had in (one.0, one.1, one.3))))
 
 pub returns-clause-acts : goal.returns-clause-acts
 returns-clause-acts g c = λ called.
@@ -124,26 +133,27 @@ returns-clause-acts g c = λ called.
     let prepares = c.in_ok-defaults.ensures.prepares in
     let client = session.namenode.client in
     let appended : Appended = c.in_ok-block.field-0 in
-    let asked = appending_as g.C.Cluster.serves c.as_str-2.result.now c.args.path client 4 (Ok (answers.Append appended)) c.defaults.new.cluster c.append.new.cluster c.as_str-2.ensures c.in_ok-block.ensures.asked in
-    let served = served_answer g.C.Cluster.shown g.C.Cluster.serves g.met.C.Cluster.serves_rows (appending c.args.path client 4) c.defaults.new.cluster c.append.new.cluster (answers.Append appended) asked in
-    let looks = looks_from-Served m t (appending c.args.path client 4) (Ok (answers.Append appended)) served.0 in
+    let asked = appending_as g.C.Cluster.serves c.as_str-2.result.now c.args.path client 4 (Ok (answers.Append appended)) (through c.defaults.new.self.namenode c.defaults.new.cluster) (through c.append.new.self c.append.new.cluster) c.as_str-2.ensures c.in_ok-block.ensures.asked in
+    let had = came g.C.Cluster.shown g.C.Cluster.serves g.met.C.Cluster.serves_rows g.met.C.Cluster.active_below true (appending c.args.path client 4) (through c.defaults.new.self.namenode c.defaults.new.cluster) (Ok (answers.Append appended)) (through c.append.new.self c.append.new.cluster)
+    (reaches_prepared (g.C.Cluster.shown c.args.cluster.now) (g.C.Cluster.shown c.defaults.new.cluster) c.args.self.now c.defaults.new.self c.in_ok-defaults.ensures.prepares c.requires.stands.reaches) asked in
+    let looks = looks_from-Leaves m t had.relays.leaves in
     let over = λ (called : absolute c.args.self.now.settings.home name ≡ c.args.path). appended_over s m c.args.self.now session c.args.path d prepares c.in_ok-defaults.ensures.ok c.requires.path c.requires.placed (g.met.C.Cluster.sound c.defaults.new.cluster) name client 4 called in
     let stat = c.in-Some.stat in
     let writer = c.appended-writer.result in
     let sizes : c.sizes-sizes.result ≡ sizes_by session d (unwrap_or stat.block_replication 0) (unwrap_or stat.blocksize 0) =
     c.sizes-sizes.ensures ∙ ap (λ (x : ℕ). sizes_by session d x c.unwrap_or-2.result) c.unwrap_or.ensures ∙ ap (λ (x : ℕ). sizes_by session d (unwrap_or stat.block_replication 0) x) c.unwrap_or-2.ensures in
     appended_acts s m c.args.self.now session c.args.path d prepares c.in_ok-defaults.ensures.ok c.requires.path c.requires.placed (g.met.C.Cluster.sound c.defaults.new.cluster)
-    t (record session { writers = c.insert.new.self }) writer
+    t (record session { namenode = c.append.new.self; writers = c.insert.new.self }) writer
     (record {
-      remembers = remembers_trans c.args.self.now session (record session { writers = c.insert.new.self }) prepares.remembers
-          (remembers_with session c.insert.new.self);
+      remembers = remembers_trans c.args.self.now session (record session { namenode = c.append.new.self; writers = c.insert.new.self }) prepares.remembers
+          (remembers_on session c.append.new.self c.insert.new.self c.append.ensures.keeps);
       fine = c.requires.fine;
       free = c.requires.placed;
       put = put_by session.writers c.insert.new.self c.args.self.now.writers (string_bytes c.in_ok-key.key) c.args.path writer prepares.writers (c.in_ok-key.ensures.ok ∙ c.as_str.ensures)
           (btree_map_updates_text (string_bytes c.in_ok-key.key) session.writers c.insert.new.self (Some writer) c.in_ok-insert.ensures.updates);
     })
-    c.requires.stands (c.appended-writer.ensures.stands t) c.appended-writer.ensures.path.0 c.appended-writer.ensures.idle.1 c.appended-writer.ensures.idle.0 (remembers_with session c.insert.new.self) c.in_ok-defaults.ensures.ok.known
-    name client 4 appended stat called c.in-Some.is c.appended-writer.ensures.tail (c.appended-writer.ensures.path.1 ∙ sizes) served.1 served.0
+    c.requires.stands (c.appended-writer.ensures.stands t) c.appended-writer.ensures.path.0 c.appended-writer.ensures.idle.1 c.appended-writer.ensures.idle.0 (remembers_on session c.append.new.self c.insert.new.self c.append.ensures.keeps) (c.append.ensures.keeps.defaults ∙ c.in_ok-defaults.ensures.ok.known)
+    name client 4 appended stat called c.in-Some.is c.appended-writer.ensures.tail (c.appended-writer.ensures.path.1 ∙ sizes) had
 
 pub returns-in_err-defaults-clause-whole : goal.returns-in_err-defaults-clause-whole
 returns-in_err-defaults-clause-whole g c =
@@ -161,16 +171,19 @@ pub returns-in_err-block-clause-whole : goal.returns-in_err-block-clause-whole
 returns-in_err-block-clause-whole g c =
     let p = err_from_is_err_and c.from_residual-in_err-block.result c.from_residual-in_err-block.ensures.1 in
     let s = g.C.Cluster.shown c.args.cluster.now in
+    let m = g.C.Cluster.shown c.defaults.new.cluster in
     let name = c.args.name.now in
     let session = c.defaults.new.self in
     let client = session.namenode.client in
     let e = c.in_err-block.field-0.0 in
-    let asked = appending_as g.C.Cluster.serves c.as_str-2.result.now c.args.path client 4 (Err e) c.defaults.new.cluster c.append.new.cluster c.as_str-2.ensures c.in_err-block.ensures.asked in
-    rw (p.1, p.2) (λ called. refused_whole g.C.Cluster.shown c.defaults.new.cluster c.append.new.cluster (commands.Append name) s c.args.self.now session c.in_ok-defaults.ensures.prepares
-    (appending c.args.path client 4) c.args.path called
+    let asked = appending_as g.C.Cluster.serves c.as_str-2.result.now c.args.path client 4 (Err e) (through c.defaults.new.self.namenode c.defaults.new.cluster) (through c.append.new.self c.append.new.cluster) c.as_str-2.ensures c.in_err-block.ensures.asked in
+    rw (p.1, p.2) (λ called. refused_whole (commands.Append name) s m (g.C.Cluster.shown c.append.new.cluster) c.args.self.now session (record session { namenode = c.append.new.self }) c.in_ok-defaults.ensures.prepares
+    (λ r. refl) c.args.path called (appending c.args.path client 4)
     (λ p q told may. appending_spares c.args.path client 4 p q (g.met.C.Cluster.sound c.defaults.new.cluster p told) may)
-    (λ q own. own) e
-    (served_error g.C.Cluster.shown g.C.Cluster.serves g.met.C.Cluster.serves_rows (appending c.args.path client 4) c.defaults.new.cluster c.append.new.cluster e asked))
+    (λ q. append_repeats c.args.path client 4 q)
+    e
+    (came g.C.Cluster.shown g.C.Cluster.serves g.met.C.Cluster.serves_rows g.met.C.Cluster.active_below true (appending c.args.path client 4) (through c.defaults.new.self.namenode c.defaults.new.cluster) (Err e) (through c.append.new.self c.append.new.cluster)
+    (reaches_prepared (g.C.Cluster.shown c.args.cluster.now) (g.C.Cluster.shown c.defaults.new.cluster) c.args.self.now c.defaults.new.self c.in_ok-defaults.ensures.prepares c.requires.stands.reaches) asked))
 
 pub returns-in_default-clause-whole : goal.returns-in_default-clause-whole
 returns-in_default-clause-whole g c = λ called.
@@ -182,12 +195,13 @@ returns-in_default-clause-whole g c = λ called.
     let prepares = c.in_ok-defaults.ensures.prepares in
     let client = session.namenode.client in
     let appended : Appended = c.in_ok-block.field-0 in
-    let asked = appending_as g.C.Cluster.serves c.as_str-2.result.now c.args.path client 4 (Ok (answers.Append appended)) c.defaults.new.cluster c.append.new.cluster c.as_str-2.ensures c.in_ok-block.ensures.asked in
-    let served = served_answer g.C.Cluster.shown g.C.Cluster.serves g.met.C.Cluster.serves_rows (appending c.args.path client 4) c.defaults.new.cluster c.append.new.cluster (answers.Append appended) asked in
-    late_whole (commands.Append name) s m t c.args.self.now session session prepares (λ r. refl) c.args.path called
+    let asked = appending_as g.C.Cluster.serves c.as_str-2.result.now c.args.path client 4 (Ok (answers.Append appended)) (through c.defaults.new.self.namenode c.defaults.new.cluster) (through c.append.new.self c.append.new.cluster) c.as_str-2.ensures c.in_ok-block.ensures.asked in
+    let had = came g.C.Cluster.shown g.C.Cluster.serves g.met.C.Cluster.serves_rows g.met.C.Cluster.active_below true (appending c.args.path client 4) (through c.defaults.new.self.namenode c.defaults.new.cluster) (Ok (answers.Append appended)) (through c.append.new.self c.append.new.cluster)
+    (reaches_prepared (g.C.Cluster.shown c.args.cluster.now) (g.C.Cluster.shown c.defaults.new.cluster) c.args.self.now c.defaults.new.self c.in_ok-defaults.ensures.prepares c.requires.stands.reaches) asked in
+    late_whole (commands.Append name) s m t c.args.self.now session (record session { namenode = c.append.new.self }) prepares (λ r. refl) c.args.path called
     (appending c.args.path client 4)
     (λ p q told may. appending_spares c.args.path client 4 p q (g.met.C.Cluster.sound c.defaults.new.cluster p told) may)
-    (λ q told. (let one = was_reopened c.args.path client 4 q m t appended told served.1 served.0 in (one.0, one.1, one.3))) (errors.FileNotFound c.in_ok-copy.field-0)
+    (λ q told. (let one = was_reopened c.args.path client 4 q m t appended told had in (one.0, one.1, one.3))) (errors.FileNotFound c.in_ok-copy.field-0)
 
 pub returns-in_err-copy-clause-whole : goal.returns-in_err-copy-clause-whole
 returns-in_err-copy-clause-whole g c =
@@ -200,12 +214,13 @@ returns-in_err-copy-clause-whole g c =
     let prepares = c.in_ok-defaults.ensures.prepares in
     let client = session.namenode.client in
     let appended : Appended = c.in_ok-block.field-0 in
-    let asked = appending_as g.C.Cluster.serves c.as_str-2.result.now c.args.path client 4 (Ok (answers.Append appended)) c.defaults.new.cluster c.append.new.cluster c.as_str-2.ensures c.in_ok-block.ensures.asked in
-    let served = served_answer g.C.Cluster.shown g.C.Cluster.serves g.met.C.Cluster.serves_rows (appending c.args.path client 4) c.defaults.new.cluster c.append.new.cluster (answers.Append appended) asked in
-    rw p.1 (λ called. late_whole (commands.Append name) s m t c.args.self.now session session prepares (λ r. refl) c.args.path called
+    let asked = appending_as g.C.Cluster.serves c.as_str-2.result.now c.args.path client 4 (Ok (answers.Append appended)) (through c.defaults.new.self.namenode c.defaults.new.cluster) (through c.append.new.self c.append.new.cluster) c.as_str-2.ensures c.in_ok-block.ensures.asked in
+    let had = came g.C.Cluster.shown g.C.Cluster.serves g.met.C.Cluster.serves_rows g.met.C.Cluster.active_below true (appending c.args.path client 4) (through c.defaults.new.self.namenode c.defaults.new.cluster) (Ok (answers.Append appended)) (through c.append.new.self c.append.new.cluster)
+    (reaches_prepared (g.C.Cluster.shown c.args.cluster.now) (g.C.Cluster.shown c.defaults.new.cluster) c.args.self.now c.defaults.new.self c.in_ok-defaults.ensures.prepares c.requires.stands.reaches) asked in
+    rw p.1 (λ called. late_whole (commands.Append name) s m t c.args.self.now session (record session { namenode = c.append.new.self }) prepares (λ r. refl) c.args.path called
     (appending c.args.path client 4)
     (λ p q told may. appending_spares c.args.path client 4 p q (g.met.C.Cluster.sound c.defaults.new.cluster p told) may)
-    (λ q told. (let one = was_reopened c.args.path client 4 q m t appended told served.1 served.0 in (one.0, one.1, one.3))) p.0)
+    (λ q told. (let one = was_reopened c.args.path client 4 q m t appended told had in (one.0, one.1, one.3))) p.0)
 
 pub returns-in_err-insert-clause-whole : goal.returns-in_err-insert-clause-whole
 returns-in_err-insert-clause-whole g c =
@@ -218,13 +233,14 @@ returns-in_err-insert-clause-whole g c =
     let prepares = c.in_ok-defaults.ensures.prepares in
     let client = session.namenode.client in
     let appended : Appended = c.in_ok-block.field-0 in
-    let asked = appending_as g.C.Cluster.serves c.as_str-2.result.now c.args.path client 4 (Ok (answers.Append appended)) c.defaults.new.cluster c.append.new.cluster c.as_str-2.ensures c.in_ok-block.ensures.asked in
-    let served = served_answer g.C.Cluster.shown g.C.Cluster.serves g.met.C.Cluster.serves_rows (appending c.args.path client 4) c.defaults.new.cluster c.append.new.cluster (answers.Append appended) asked in
-    rw p.1 (λ called. late_whole (commands.Append name) s m t c.args.self.now session (record session { writers = c.insert.new.self }) prepares
+    let asked = appending_as g.C.Cluster.serves c.as_str-2.result.now c.args.path client 4 (Ok (answers.Append appended)) (through c.defaults.new.self.namenode c.defaults.new.cluster) (through c.append.new.self c.append.new.cluster) c.as_str-2.ensures c.in_ok-block.ensures.asked in
+    let had = came g.C.Cluster.shown g.C.Cluster.serves g.met.C.Cluster.serves_rows g.met.C.Cluster.active_below true (appending c.args.path client 4) (through c.defaults.new.self.namenode c.defaults.new.cluster) (Ok (answers.Append appended)) (through c.append.new.self c.append.new.cluster)
+    (reaches_prepared (g.C.Cluster.shown c.args.cluster.now) (g.C.Cluster.shown c.defaults.new.cluster) c.args.self.now c.defaults.new.self c.in_ok-defaults.ensures.prepares c.requires.stands.reaches) asked in
+    rw p.1 (λ called. late_whole (commands.Append name) s m t c.args.self.now session (record session { namenode = c.append.new.self; writers = c.insert.new.self }) prepares
     (kept_by session.writers c.insert.new.self c.in_err-insert.ensures.err) c.args.path called
     (appending c.args.path client 4)
     (λ p q told may. appending_spares c.args.path client 4 p q (g.met.C.Cluster.sound c.defaults.new.cluster p told) may)
-    (λ q told. (let one = was_reopened c.args.path client 4 q m t appended told served.1 served.0 in (one.0, one.1, one.3))) p.0)
+    (λ q told. (let one = was_reopened c.args.path client 4 q m t appended told had in (one.0, one.1, one.3))) p.0)
 
 pub returns-clause-whole : goal.returns-clause-whole
 returns-clause-whole g c = λ called.
@@ -237,19 +253,20 @@ returns-clause-whole g c = λ called.
     let client = session.namenode.client in
     let d = c.in_ok-defaults.defaults in
     let appended : Appended = c.in_ok-block.field-0 in
-    let asked = appending_as g.C.Cluster.serves c.as_str-2.result.now c.args.path client 4 (Ok (answers.Append appended)) c.defaults.new.cluster c.append.new.cluster c.as_str-2.ensures c.in_ok-block.ensures.asked in
-    let served = served_answer g.C.Cluster.shown g.C.Cluster.serves g.met.C.Cluster.serves_rows (appending c.args.path client 4) c.defaults.new.cluster c.append.new.cluster (answers.Append appended) asked in
+    let asked = appending_as g.C.Cluster.serves c.as_str-2.result.now c.args.path client 4 (Ok (answers.Append appended)) (through c.defaults.new.self.namenode c.defaults.new.cluster) (through c.append.new.self c.append.new.cluster) c.as_str-2.ensures c.in_ok-block.ensures.asked in
+    let had = came g.C.Cluster.shown g.C.Cluster.serves g.met.C.Cluster.serves_rows g.met.C.Cluster.active_below true (appending c.args.path client 4) (through c.defaults.new.self.namenode c.defaults.new.cluster) (Ok (answers.Append appended)) (through c.append.new.self c.append.new.cluster)
+    (reaches_prepared (g.C.Cluster.shown c.args.cluster.now) (g.C.Cluster.shown c.defaults.new.cluster) c.args.self.now c.defaults.new.self c.in_ok-defaults.ensures.prepares c.requires.stands.reaches) asked in
     let stat = c.in-Some.stat in
     let writer = c.appended-writer.result in
     let sizes : c.sizes-sizes.result ≡ sizes_by session d (unwrap_or stat.block_replication 0) (unwrap_or stat.blocksize 0) =
     c.sizes-sizes.ensures ∙ ap (λ (x : ℕ). sizes_by session d x c.unwrap_or-2.result) c.unwrap_or.ensures ∙ ap (λ (x : ℕ). sizes_by session d (unwrap_or stat.block_replication 0) x) c.unwrap_or-2.ensures in
-    appended_whole s m t c.args.self.now session (record session { writers = c.insert.new.self }) prepares (g.met.C.Cluster.sound c.defaults.new.cluster) c.args.path writer
+    appended_whole s m t c.args.self.now session (record session { namenode = c.append.new.self; writers = c.insert.new.self }) prepares (g.met.C.Cluster.sound c.defaults.new.cluster) c.args.path writer
     (record {
-      remembers = remembers_trans c.args.self.now session (record session { writers = c.insert.new.self }) prepares.remembers
-          (remembers_with session c.insert.new.self);
+      remembers = remembers_trans c.args.self.now session (record session { namenode = c.append.new.self; writers = c.insert.new.self }) prepares.remembers
+          (remembers_on session c.append.new.self c.insert.new.self c.append.ensures.keeps);
       fine = c.requires.fine;
       free = c.requires.placed;
       put = put_by session.writers c.insert.new.self c.args.self.now.writers (string_bytes c.in_ok-key.key) c.args.path writer prepares.writers (c.in_ok-key.ensures.ok ∙ c.as_str.ensures)
           (btree_map_updates_text (string_bytes c.in_ok-key.key) session.writers c.insert.new.self (Some writer) c.in_ok-insert.ensures.updates);
     })
-    d name client 4 appended stat called c.in-Some.is c.appended-writer.ensures.tail (c.appended-writer.ensures.path.1 ∙ sizes) served.1 served.0
+    d name client 4 appended stat called c.in-Some.is c.appended-writer.ensures.tail (c.appended-writer.ensures.path.1 ∙ sizes) had

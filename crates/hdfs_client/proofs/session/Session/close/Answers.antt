@@ -13,7 +13,7 @@ pub returns-in-Ok-clause-acts : goal.returns-in-Ok-clause-acts
 returns-in-Ok-clause-acts g c = λ name is.
     let session = c.args.self.now in
     let path = c.args.path.now in
-    close_acts (g.C.Cluster.shown c.args.cluster.now) (g.C.Cluster.shown c.close.new.cluster) session (record session { writers = c.remove.new.self }) name path c.in-Some.writer
+    close_acts (g.C.Cluster.shown c.args.cluster.now) (g.C.Cluster.shown c.close.new.cluster) session (record session { writers = c.remove.new.self; namenode = c.close.new.namenode }) name path c.in-Some.writer
     (record {
       here = sym c.in-Some.ensures.value;
       writers = btree_map_updates_text path session.writers c.remove.new.self None c.remove.ensures.updates;
@@ -22,7 +22,7 @@ returns-in-Ok-clause-acts g c = λ name is.
       called = is;
       named = c.requires.path;
       settings = refl;
-      namenode = refl;
+      namenode = c.close.ensures.client;
     })
     (λ fine. fine) c.in-Ok.ensures.closed
 
@@ -31,7 +31,7 @@ returns-in-Err-clause-acts g c = λ name is.
     let session = c.args.self.now in
     let path = c.args.path.now in
     let here = sym c.in-Some.ensures.value in
-    close_fails (g.C.Cluster.shown c.args.cluster.now) (g.C.Cluster.shown c.close.new.cluster) session (record session { writers = c.remove.new.self; failed = true }) name path c.in-Some.writer
+    close_fails (g.C.Cluster.shown c.args.cluster.now) (g.C.Cluster.shown c.close.new.cluster) session (record session { writers = c.remove.new.self; namenode = c.close.new.namenode; failed = true }) name path c.in-Some.writer
     (record {
       here = here;
       writers = btree_map_updates_text path session.writers c.remove.new.self None c.remove.ensures.updates;
@@ -40,7 +40,7 @@ returns-in-Err-clause-acts g c = λ name is.
       called = is;
       named = c.requires.path;
       settings = refl;
-      namenode = refl;
+      namenode = c.close.ensures.client;
     })
     refl c.in-Err.error (c.in-Err.ensures.err (c.requires.stands.fine c.requires.fine path c.in-Some.writer here))
 
@@ -53,7 +53,7 @@ pub returns-in-Ok-clause-whole : goal.returns-in-Ok-clause-whole
 returns-in-Ok-clause-whole g c = λ name is.
     let session = c.args.self.now in
     let path = c.args.path.now in
-    close_keeps (g.C.Cluster.shown c.args.cluster.now) (g.C.Cluster.shown c.close.new.cluster) session (record session { writers = c.remove.new.self }) name path c.in-Some.writer
+    close_keeps (g.C.Cluster.shown c.args.cluster.now) (g.C.Cluster.shown c.close.new.cluster) session (record session { writers = c.remove.new.self; namenode = c.close.new.namenode }) name path c.in-Some.writer
     (record {
       here = sym c.in-Some.ensures.value;
       writers = btree_map_updates_text path session.writers c.remove.new.self None c.remove.ensures.updates;
@@ -62,7 +62,7 @@ returns-in-Ok-clause-whole g c = λ name is.
       called = is;
       named = c.requires.path;
       settings = refl;
-      namenode = refl;
+      namenode = c.close.ensures.client;
     })
     c.in-Ok.ensures.closed.closes
 
@@ -71,7 +71,7 @@ returns-in-Err-clause-whole g c = λ name is.
     let session = c.args.self.now in
     let path = c.args.path.now in
     let here = sym c.in-Some.ensures.value in
-    sending_keeps (g.C.Cluster.shown c.args.cluster.now) (g.C.Cluster.shown c.close.new.cluster) session (record session { writers = c.remove.new.self }) name path c.in-Some.writer
+    sending_keeps (g.C.Cluster.shown c.args.cluster.now) (g.C.Cluster.shown c.close.new.cluster) session (record session { writers = c.remove.new.self; namenode = c.close.new.namenode }) name path c.in-Some.writer
     (commands.Close name) None
     (record {
       here = here;
@@ -81,6 +81,6 @@ returns-in-Err-clause-whole g c = λ name is.
       called = is;
       named = c.requires.path;
       settings = refl;
-      namenode = refl;
+      namenode = c.close.ensures.client;
     })
     is c.in-Err.error (c.in-Err.ensures.err (c.requires.stands.fine c.requires.fine path c.in-Some.writer here)).touches

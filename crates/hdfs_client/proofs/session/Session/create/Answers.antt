@@ -1,5 +1,5 @@
 -- The goals of Session::create.
-use Rattle.std.proofs.Common.{◌≡◌, ℕ, Bool, cond, Some, Ok, Err, sym, ◌∙◌, ap, subst, unwrap_or}
+use Rattle.std.proofs.Common.{◌≡◌, ℕ, Bool, cond, true, Some, Ok, Err, refl, sym, ◌∙◌, ap, subst, unwrap_or}
 use Rattle.std.proofs.lemmas.Map.Text.{btree_map_updates_text}
 use Rattle.std.proofs.lemmas.Result.{err_from_is_err_and}
 use Rattle.std.specs.String.{string_bytes}
@@ -9,13 +9,16 @@ use Rattle.hdfs_model.specs.declared.errors.ArgFault.TheVariants as args
 use Rattle.hdfs_model.specs.declared.errors.HdfsError.TheVariants as errors
 use Rattle.hdfs_model.specs.Limits.{are_settings}
 use Rattle.hdfs_files.specs.Writers.{AreSizes}
-use Rattle.hdfs_namenode.proofs.Answered.{served_answer, served_error}
+use Rattle.hdfs_model.proofs.Repeating.{create_repeats}
+use Rattle.hdfs_namenode.specs.Clients.{through}
+use Rattle.hdfs_files.proofs.Asked.{came}
 use Rattle.hdfs_client.specs.Preparing.{sizes_by}
 use Rattle.hdfs_client.proofs.Failing.{create_opens, lacks_acts, options_acts, refused_acts, starved_acts, unkept_acts}
 use Rattle.hdfs_client.proofs.Moved.{kept_by, put_by}
 use Rattle.hdfs_client.proofs.Opening.{creating, creating_as, was_made}
-use Rattle.hdfs_client.proofs.Prepared.{looks_from-Served}
-use Rattle.hdfs_client.proofs.Sized.{remembers_trans, remembers_with}
+use Rattle.hdfs_client.proofs.Looking.{looks_from-Leaves}
+use Rattle.hdfs_client.proofs.Prepared.{reaches_prepared}
+use Rattle.hdfs_client.proofs.Sized.{remembers_asked, remembers_on, remembers_trans}
 use Rattle.hdfs_client.proofs.Sizing.{are_sizes_by}
 use Rattle.hdfs_client.proofs.Starting.{created_acts, created_over}
 use Rattle.hdfs_client.proofs.WholeOpening.{creating_spares}
@@ -31,13 +34,13 @@ pub returns-in_err-defaults-clause-acts : goal.returns-in_err-defaults-clause-ac
 returns-in_err-defaults-clause-acts g c =
     let p = err_from_is_err_and c.from_residual.result c.from_residual.ensures.1 in
     rw (p.1, p.2) (λ name called. lacks_acts (commands.Create name c.args.options.now) (create_opens name c.args.options.now) (g.C.Cluster.shown c.args.cluster.now) (g.C.Cluster.shown c.defaults.new.cluster) c.args.self.now c.defaults.new.self
-    c.requires.stands (g.met.C.Cluster.active_below c.args.cluster.now) c.in_err-defaults.ensures.prepares c.in_err-defaults.field-0.0 c.in_err-defaults.ensures.err)
+    c.requires.stands c.in_err-defaults.ensures.prepares c.in_err-defaults.field-0.0 c.in_err-defaults.ensures.err)
 
 pub returns-in_err-key-clause-acts : goal.returns-in_err-key-clause-acts
 returns-in_err-key-clause-acts g c =
     let p = err_from_is_err_and c.from_residual-in_err-key.result c.from_residual-in_err-key.ensures.1 in
     rw (p.1, p.2) (λ name called. starved_acts (commands.Create name c.args.options.now) (create_opens name c.args.options.now) (g.C.Cluster.shown c.args.cluster.now) (g.C.Cluster.shown c.defaults.new.cluster) c.args.self.now c.defaults.new.self
-    c.requires.stands (g.met.C.Cluster.active_below c.args.cluster.now) c.in_ok-defaults.ensures.prepares)
+    c.requires.stands c.in_ok-defaults.ensures.prepares)
 
 pub returns-in_err-status-clause-acts : goal.returns-in_err-status-clause-acts
 returns-in_err-status-clause-acts g c =
@@ -54,13 +57,16 @@ returns-in_err-status-clause-acts g c =
       | then-options w ↦ w.create-is ∙ sym (ap (λ (b : Bool). cond b 3 1) w.if-options.true)
       | else-options w ↦ w.create-is ∙ sym (ap (λ (b : Bool). cond b 3 1) w.if-options.false)
     ] in
-    let asked = creating_as g.C.Cluster.serves c.as_str-2.result.now c.args.path client options c.if-options.create c.unwrap_or-replication.result r c.unwrap_or-block_size.result k (Err e) c.defaults.new.cluster c.create.new.cluster
+    let asked = creating_as g.C.Cluster.serves c.as_str-2.result.now c.args.path client options c.if-options.create c.unwrap_or-replication.result r c.unwrap_or-block_size.result k (Err e) (through c.defaults.new.self.namenode c.defaults.new.cluster) (through c.create.new.self c.create.new.cluster)
     c.as_str-2.ensures flag c.unwrap_or-replication.ensures c.unwrap_or-block_size.ensures c.in_err-status.ensures.asked in
-    rw (p.1, p.2) (λ name called. refused_acts g.C.Cluster.shown c.defaults.new.cluster c.create.new.cluster (commands.Create name options) (create_opens name options) s c.args.self.now c.defaults.new.self c.requires.stands
-    (g.met.C.Cluster.active_below c.args.cluster.now) c.in_ok-defaults.ensures.prepares (creating c.args.path client options r k) c.args.path (g.met.C.Cluster.active_below c.defaults.new.cluster) called
+    rw (p.1, p.2) (λ name called. refused_acts (commands.Create name options) (create_opens name options) s m c.args.self.now c.defaults.new.self c.requires.stands c.in_ok-defaults.ensures.prepares
+    (g.C.Cluster.shown c.create.new.cluster) (record c.defaults.new.self { namenode = c.create.new.self }) (λ r. refl) (remembers_asked c.defaults.new.self c.create.new.self c.create.ensures.keeps)
+    (creating c.args.path client options r k) c.args.path (λ state. called)
     (created_over s m c.args.self.now c.defaults.new.self c.args.path d c.in_ok-defaults.ensures.prepares c.in_ok-defaults.ensures.ok c.requires.path c.requires.placed (g.met.C.Cluster.sound c.defaults.new.cluster) name client options r k called)
-    (λ q own. own) e
-    (served_error g.C.Cluster.shown g.C.Cluster.serves g.met.C.Cluster.serves_rows (creating c.args.path client options r k) c.defaults.new.cluster c.create.new.cluster e asked))
+    e
+    (came g.C.Cluster.shown g.C.Cluster.serves g.met.C.Cluster.serves_rows g.met.C.Cluster.active_below true (creating c.args.path client options r k) (through c.defaults.new.self.namenode c.defaults.new.cluster) (Err e) (through c.create.new.self c.create.new.cluster)
+    (reaches_prepared (g.C.Cluster.shown c.args.cluster.now) (g.C.Cluster.shown c.defaults.new.cluster) c.args.self.now c.defaults.new.self c.in_ok-defaults.ensures.prepares c.requires.stands.reaches) asked)
+    (λ q. create_repeats c.args.path client options.permission (cond options.overwrite 3 1) options.create_parent r k q))
 
 pub returns-in_err-insert-clause-acts : goal.returns-in_err-insert-clause-acts
 returns-in_err-insert-clause-acts g c =
@@ -78,16 +84,17 @@ returns-in_err-insert-clause-acts g c =
       | then-options w ↦ w.create-is ∙ sym (ap (λ (b : Bool). cond b 3 1) w.if-options.true)
       | else-options w ↦ w.create-is ∙ sym (ap (λ (b : Bool). cond b 3 1) w.if-options.false)
     ] in
-    let asked = creating_as g.C.Cluster.serves c.as_str-2.result.now c.args.path client options c.if-options.create c.unwrap_or-replication.result r c.unwrap_or-block_size.result k (Ok (answers.Create status)) c.defaults.new.cluster c.create.new.cluster
+    let asked = creating_as g.C.Cluster.serves c.as_str-2.result.now c.args.path client options c.if-options.create c.unwrap_or-replication.result r c.unwrap_or-block_size.result k (Ok (answers.Create status)) (through c.defaults.new.self.namenode c.defaults.new.cluster) (through c.create.new.self c.create.new.cluster)
     c.as_str-2.ensures flag c.unwrap_or-replication.ensures c.unwrap_or-block_size.ensures c.in_ok-status.ensures.asked in
-    let served = served_answer g.C.Cluster.shown g.C.Cluster.serves g.met.C.Cluster.serves_rows (creating c.args.path client options r k) c.defaults.new.cluster c.create.new.cluster (answers.Create status) asked in
-    rw (p.1, p.2) (λ name called. unkept_acts (commands.Create name options) (create_opens name options) s m t c.args.self.now c.defaults.new.self (record c.defaults.new.self { writers = c.insert.new.self }) c.requires.stands
-    (g.met.C.Cluster.active_below c.args.cluster.now) c.in_ok-defaults.ensures.prepares (kept_by c.defaults.new.self.writers c.insert.new.self c.in_err-insert.ensures.err)
-    (remembers_with c.defaults.new.self c.insert.new.self)
-    (creating c.args.path client options r k) c.args.path (g.met.C.Cluster.active_below c.defaults.new.cluster) called
+    let had = came g.C.Cluster.shown g.C.Cluster.serves g.met.C.Cluster.serves_rows g.met.C.Cluster.active_below true (creating c.args.path client options r k) (through c.defaults.new.self.namenode c.defaults.new.cluster) (Ok (answers.Create status)) (through c.create.new.self c.create.new.cluster)
+    (reaches_prepared (g.C.Cluster.shown c.args.cluster.now) (g.C.Cluster.shown c.defaults.new.cluster) c.args.self.now c.defaults.new.self c.in_ok-defaults.ensures.prepares c.requires.stands.reaches) asked in
+    rw (p.1, p.2) (λ name called. unkept_acts (commands.Create name options) (create_opens name options) s m t c.args.self.now c.defaults.new.self (record c.defaults.new.self { namenode = c.create.new.self; writers = c.insert.new.self }) c.requires.stands
+    c.in_ok-defaults.ensures.prepares (kept_by c.defaults.new.self.writers c.insert.new.self c.in_err-insert.ensures.err)
+    (remembers_on c.defaults.new.self c.create.new.self c.insert.new.self c.create.ensures.keeps)
+    (creating c.args.path client options r k) c.args.path called
     (created_over s m c.args.self.now c.defaults.new.self c.args.path d c.in_ok-defaults.ensures.prepares c.in_ok-defaults.ensures.ok c.requires.path c.requires.placed (g.met.C.Cluster.sound c.defaults.new.cluster) name client options r k called)
-    (looks_from-Served m t (creating c.args.path client options r k) (Ok (answers.Create status)) served.0)
-    (λ q told. (let one = was_made c.args.path client options r k q m t status told served.0 in (one.0, one.1, one.3))))
+    (looks_from-Leaves m t had.relays.leaves)
+    (λ q told. (let one = was_made c.args.path client options r k q m t status told had in (one.0, one.1, one.3))))
 
 pub new-writer-requires : goal.new-writer-requires
 new-writer-requires g c =
@@ -119,23 +126,24 @@ returns-clause-acts g c = λ name called.
       | then-options w ↦ w.create-is ∙ sym (ap (λ (b : Bool). cond b 3 1) w.if-options.true)
       | else-options w ↦ w.create-is ∙ sym (ap (λ (b : Bool). cond b 3 1) w.if-options.false)
     ] in
-    let asked = creating_as g.C.Cluster.serves c.as_str-2.result.now c.args.path client options c.if-options.create c.unwrap_or-replication.result r c.unwrap_or-block_size.result k (Ok (answers.Create status)) c.defaults.new.cluster c.create.new.cluster
+    let asked = creating_as g.C.Cluster.serves c.as_str-2.result.now c.args.path client options c.if-options.create c.unwrap_or-replication.result r c.unwrap_or-block_size.result k (Ok (answers.Create status)) (through c.defaults.new.self.namenode c.defaults.new.cluster) (through c.create.new.self c.create.new.cluster)
     c.as_str-2.ensures flag c.unwrap_or-replication.ensures c.unwrap_or-block_size.ensures c.in_ok-status.ensures.asked in
-    let served = served_answer g.C.Cluster.shown g.C.Cluster.serves g.met.C.Cluster.serves_rows (creating c.args.path client options r k) c.defaults.new.cluster c.create.new.cluster (answers.Create status) asked in
+    let had = came g.C.Cluster.shown g.C.Cluster.serves g.met.C.Cluster.serves_rows g.met.C.Cluster.active_below true (creating c.args.path client options r k) (through c.defaults.new.self.namenode c.defaults.new.cluster) (Ok (answers.Create status)) (through c.create.new.self c.create.new.cluster)
+    (reaches_prepared (g.C.Cluster.shown c.args.cluster.now) (g.C.Cluster.shown c.defaults.new.cluster) c.args.self.now c.defaults.new.self c.in_ok-defaults.ensures.prepares c.requires.stands.reaches) asked in
     let sizes : c.sizes-sizes.result ≡ sizes_by session d r k =
     c.sizes-sizes.ensures ∙ ap (λ (x : ℕ). sizes_by session d x c.unwrap_or-block_size.result) c.unwrap_or-replication.ensures ∙ ap (λ (x : ℕ). sizes_by session d r x) c.unwrap_or-block_size.ensures in
     created_acts s m c.args.self.now session c.args.path d prepares c.in_ok-defaults.ensures.ok c.requires.path c.requires.placed (g.met.C.Cluster.sound c.defaults.new.cluster)
-    t (record session { writers = c.insert.new.self }) writer
+    t (record session { namenode = c.create.new.self; writers = c.insert.new.self }) writer
     (record {
-      remembers = remembers_trans c.args.self.now session (record session { writers = c.insert.new.self }) prepares.remembers
-          (remembers_with session c.insert.new.self);
+      remembers = remembers_trans c.args.self.now session (record session { namenode = c.create.new.self; writers = c.insert.new.self }) prepares.remembers
+          (remembers_on session c.create.new.self c.insert.new.self c.create.ensures.keeps);
       fine = c.requires.fine;
       free = c.requires.placed;
       put = put_by session.writers c.insert.new.self c.args.self.now.writers (string_bytes c.in_ok-key.key) c.args.path writer prepares.writers (c.in_ok-key.ensures.ok ∙ c.as_str.ensures)
           (btree_map_updates_text (string_bytes c.in_ok-key.key) session.writers c.insert.new.self (Some writer) c.in_ok-insert.ensures.updates);
     })
-    c.requires.stands (c.new-writer.ensures.stands t) c.new-writer.ensures.path.0 c.new-writer.ensures.idle.1 c.new-writer.ensures.idle.0 (remembers_with session c.insert.new.self) c.in_ok-defaults.ensures.ok.known name client options status called
-    (sym c.are_limited.ensures ∙ c.if-not-are_limited.false) c.new-writer.ensures.tail (c.new-writer.ensures.path.1 ∙ sizes) served.0
+    c.requires.stands (c.new-writer.ensures.stands t) c.new-writer.ensures.path.0 c.new-writer.ensures.idle.1 c.new-writer.ensures.idle.0 (remembers_on session c.create.new.self c.insert.new.self c.create.ensures.keeps) (c.create.ensures.keeps.defaults ∙ c.in_ok-defaults.ensures.ok.known) name client options status called
+    (sym c.are_limited.ensures ∙ c.if-not-are_limited.false) c.new-writer.ensures.tail (c.new-writer.ensures.path.1 ∙ sizes) had
 
 pub returns-then-not-are_limited-clause-whole : goal.returns-then-not-are_limited-clause-whole
 returns-then-not-are_limited-clause-whole g c = λ name called state ready.
@@ -157,6 +165,7 @@ pub returns-in_err-status-clause-whole : goal.returns-in_err-status-clause-whole
 returns-in_err-status-clause-whole g c =
     let p = err_from_is_err_and c.from_residual-in_err-status.result c.from_residual-in_err-status.ensures.1 in
     let s = g.C.Cluster.shown c.args.cluster.now in
+    let m = g.C.Cluster.shown c.defaults.new.cluster in
     let options = c.args.options.now in
     let d = c.in_ok-defaults.defaults in
     let session = c.defaults.new.self in
@@ -168,13 +177,14 @@ returns-in_err-status-clause-whole g c =
       | then-options w ↦ w.create-is ∙ sym (ap (λ (b : Bool). cond b 3 1) w.if-options.true)
       | else-options w ↦ w.create-is ∙ sym (ap (λ (b : Bool). cond b 3 1) w.if-options.false)
     ] in
-    let asked = creating_as g.C.Cluster.serves c.as_str-2.result.now c.args.path client options c.if-options.create c.unwrap_or-replication.result r c.unwrap_or-block_size.result k (Err e) c.defaults.new.cluster c.create.new.cluster
+    let asked = creating_as g.C.Cluster.serves c.as_str-2.result.now c.args.path client options c.if-options.create c.unwrap_or-replication.result r c.unwrap_or-block_size.result k (Err e) (through c.defaults.new.self.namenode c.defaults.new.cluster) (through c.create.new.self c.create.new.cluster)
     c.as_str-2.ensures flag c.unwrap_or-replication.ensures c.unwrap_or-block_size.ensures c.in_err-status.ensures.asked in
-    rw (p.1, p.2) (λ name called. refused_whole g.C.Cluster.shown c.defaults.new.cluster c.create.new.cluster (commands.Create name options) s c.args.self.now session c.in_ok-defaults.ensures.prepares
-    (creating c.args.path client options r k) c.args.path called
+    rw (p.1, p.2) (λ name called. refused_whole (commands.Create name options) s m (g.C.Cluster.shown c.create.new.cluster) c.args.self.now session (record session { namenode = c.create.new.self }) c.in_ok-defaults.ensures.prepares
+    (λ r. refl) c.args.path called (creating c.args.path client options r k)
     (λ p q told may. creating_spares c.args.path client options r k p q (g.met.C.Cluster.sound c.defaults.new.cluster p told) may)
-    (λ q own. own) e
-    (served_error g.C.Cluster.shown g.C.Cluster.serves g.met.C.Cluster.serves_rows (creating c.args.path client options r k) c.defaults.new.cluster c.create.new.cluster e asked))
+    (λ q. create_repeats c.args.path client options.permission (cond options.overwrite 3 1) options.create_parent r k q)
+    e (came g.C.Cluster.shown g.C.Cluster.serves g.met.C.Cluster.serves_rows g.met.C.Cluster.active_below true (creating c.args.path client options r k) (through c.defaults.new.self.namenode c.defaults.new.cluster) (Err e) (through c.create.new.self c.create.new.cluster)
+    (reaches_prepared (g.C.Cluster.shown c.args.cluster.now) (g.C.Cluster.shown c.defaults.new.cluster) c.args.self.now c.defaults.new.self c.in_ok-defaults.ensures.prepares c.requires.stands.reaches) asked))
 
 pub returns-in_err-insert-clause-whole : goal.returns-in_err-insert-clause-whole
 returns-in_err-insert-clause-whole g c =
@@ -193,14 +203,15 @@ returns-in_err-insert-clause-whole g c =
       | then-options w ↦ w.create-is ∙ sym (ap (λ (b : Bool). cond b 3 1) w.if-options.true)
       | else-options w ↦ w.create-is ∙ sym (ap (λ (b : Bool). cond b 3 1) w.if-options.false)
     ] in
-    let asked = creating_as g.C.Cluster.serves c.as_str-2.result.now c.args.path client options c.if-options.create c.unwrap_or-replication.result r c.unwrap_or-block_size.result k (Ok (answers.Create status)) c.defaults.new.cluster c.create.new.cluster
+    let asked = creating_as g.C.Cluster.serves c.as_str-2.result.now c.args.path client options c.if-options.create c.unwrap_or-replication.result r c.unwrap_or-block_size.result k (Ok (answers.Create status)) (through c.defaults.new.self.namenode c.defaults.new.cluster) (through c.create.new.self c.create.new.cluster)
     c.as_str-2.ensures flag c.unwrap_or-replication.ensures c.unwrap_or-block_size.ensures c.in_ok-status.ensures.asked in
-    let served = served_answer g.C.Cluster.shown g.C.Cluster.serves g.met.C.Cluster.serves_rows (creating c.args.path client options r k) c.defaults.new.cluster c.create.new.cluster (answers.Create status) asked in
-    rw p.1 (λ name called. late_whole (commands.Create name options) s m t c.args.self.now session (record session { writers = c.insert.new.self }) c.in_ok-defaults.ensures.prepares
+    let had = came g.C.Cluster.shown g.C.Cluster.serves g.met.C.Cluster.serves_rows g.met.C.Cluster.active_below true (creating c.args.path client options r k) (through c.defaults.new.self.namenode c.defaults.new.cluster) (Ok (answers.Create status)) (through c.create.new.self c.create.new.cluster)
+    (reaches_prepared (g.C.Cluster.shown c.args.cluster.now) (g.C.Cluster.shown c.defaults.new.cluster) c.args.self.now c.defaults.new.self c.in_ok-defaults.ensures.prepares c.requires.stands.reaches) asked in
+    rw p.1 (λ name called. late_whole (commands.Create name options) s m t c.args.self.now session (record session { namenode = c.create.new.self; writers = c.insert.new.self }) c.in_ok-defaults.ensures.prepares
     (kept_by session.writers c.insert.new.self c.in_err-insert.ensures.err) c.args.path called
     (creating c.args.path client options r k)
     (λ p q told may. creating_spares c.args.path client options r k p q (g.met.C.Cluster.sound c.defaults.new.cluster p told) may)
-    (λ q told. (let one = was_made c.args.path client options r k q m t status told served.0 in (one.0, one.1, one.3))) p.0)
+    (λ q told. (let one = was_made c.args.path client options r k q m t status told had in (one.0, one.1, one.3))) p.0)
 
 pub returns-clause-whole : goal.returns-clause-whole
 returns-clause-whole g c = λ name called.
@@ -220,16 +231,17 @@ returns-clause-whole g c = λ name called.
       | then-options w ↦ w.create-is ∙ sym (ap (λ (b : Bool). cond b 3 1) w.if-options.true)
       | else-options w ↦ w.create-is ∙ sym (ap (λ (b : Bool). cond b 3 1) w.if-options.false)
     ] in
-    let asked = creating_as g.C.Cluster.serves c.as_str-2.result.now c.args.path client options c.if-options.create c.unwrap_or-replication.result r c.unwrap_or-block_size.result k (Ok (answers.Create status)) c.defaults.new.cluster c.create.new.cluster
+    let asked = creating_as g.C.Cluster.serves c.as_str-2.result.now c.args.path client options c.if-options.create c.unwrap_or-replication.result r c.unwrap_or-block_size.result k (Ok (answers.Create status)) (through c.defaults.new.self.namenode c.defaults.new.cluster) (through c.create.new.self c.create.new.cluster)
     c.as_str-2.ensures flag c.unwrap_or-replication.ensures c.unwrap_or-block_size.ensures c.in_ok-status.ensures.asked in
-    let served = served_answer g.C.Cluster.shown g.C.Cluster.serves g.met.C.Cluster.serves_rows (creating c.args.path client options r k) c.defaults.new.cluster c.create.new.cluster (answers.Create status) asked in
-    created_whole s m t c.args.self.now session (record session { writers = c.insert.new.self }) prepares (g.met.C.Cluster.sound c.defaults.new.cluster) c.args.path writer
+    let had = came g.C.Cluster.shown g.C.Cluster.serves g.met.C.Cluster.serves_rows g.met.C.Cluster.active_below true (creating c.args.path client options r k) (through c.defaults.new.self.namenode c.defaults.new.cluster) (Ok (answers.Create status)) (through c.create.new.self c.create.new.cluster)
+    (reaches_prepared (g.C.Cluster.shown c.args.cluster.now) (g.C.Cluster.shown c.defaults.new.cluster) c.args.self.now c.defaults.new.self c.in_ok-defaults.ensures.prepares c.requires.stands.reaches) asked in
+    created_whole s m t c.args.self.now session (record session { namenode = c.create.new.self; writers = c.insert.new.self }) prepares (g.met.C.Cluster.sound c.defaults.new.cluster) c.args.path writer
     (record {
-      remembers = remembers_trans c.args.self.now session (record session { writers = c.insert.new.self }) prepares.remembers
-          (remembers_with session c.insert.new.self);
+      remembers = remembers_trans c.args.self.now session (record session { namenode = c.create.new.self; writers = c.insert.new.self }) prepares.remembers
+          (remembers_on session c.create.new.self c.insert.new.self c.create.ensures.keeps);
       fine = c.requires.fine;
       free = c.requires.placed;
       put = put_by session.writers c.insert.new.self c.args.self.now.writers (string_bytes c.in_ok-key.key) c.args.path writer prepares.writers (c.in_ok-key.ensures.ok ∙ c.as_str.ensures)
           (btree_map_updates_text (string_bytes c.in_ok-key.key) session.writers c.insert.new.self (Some writer) c.in_ok-insert.ensures.updates);
     })
-    d name client options r k status called c.new-writer.ensures.tail served.0
+    d name client options r k status called c.new-writer.ensures.tail had

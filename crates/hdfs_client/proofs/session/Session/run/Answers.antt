@@ -35,7 +35,7 @@ returns-in-Read-clause-acts g c =
     let command = c.args.command.now in
     let placed = c.is_placed.ensures.0 c.if-not-is_placed.false in
     let called = c.as_str-in-Read.ensures ∙ ok.0 in
-    connected_acts command (g.C.Cluster.shown c.args.cluster.now) session (g.C.Cluster.shown c.read_file.new.cluster) session c.read_file.new.connections c.read_file.result
+    connected_acts command (g.C.Cluster.shown c.args.cluster.now) session (g.C.Cluster.shown c.read_file.new.cluster) session c.read_file.new.connections c.read_file.new.namenode c.read_file.ensures.client c.read_file.result
     (read_command (g.C.Cluster.shown c.args.cluster.now) (g.C.Cluster.shown c.read_file.new.cluster) session command _ c.as_str-in-Read.result.now _ _ (search rules) (ap is_path c.as_str-in-Read.ensures ∙ ok.1) called
     (subst (λ (p : List ℕ). is_misplaced command (opened_of session p) ≡ false) (c.as_str.ensures ∙ sym c.as_str-in-Read.ensures) placed)
     c.read_file.result c.requires.stands c.read_file.ensures.anywhere c.read_file.ensures.links c.read_file.ensures.files c.read_file.ensures.ok c.read_file.ensures.err)
@@ -65,7 +65,7 @@ returns-in-Read-clause-whole g c =
     let command = c.args.command.now in
     let placed = c.is_placed.ensures.0 c.if-not-is_placed.false in
     let called = c.as_str-in-Read.ensures ∙ ok.0 in
-    read_whole (g.C.Cluster.shown c.args.cluster.now) (g.C.Cluster.shown c.read_file.new.cluster) session (record session { connections = c.read_file.new.connections }) command c.in-Read.name c.as_str-in-Read.result.now c.in-Read.offset c.in-Read.len (sym c.in-Read.is)
+    read_whole (g.C.Cluster.shown c.args.cluster.now) (g.C.Cluster.shown c.read_file.new.cluster) session (record session { connections = c.read_file.new.connections; namenode = c.read_file.new.namenode }) command c.in-Read.name c.as_str-in-Read.result.now c.in-Read.offset c.in-Read.len (sym c.in-Read.is)
     (ap is_path c.as_str-in-Read.ensures ∙ ok.1) called
     (subst (λ (p : List ℕ). is_misplaced command (opened_of session p) ≡ false) (c.as_str.ensures ∙ sym c.as_str-in-Read.ensures) placed)
     (λ r. refl) c.read_file.ensures.files c.read_file.result

@@ -14,7 +14,7 @@ returns-in-Ok-clause-acts g c = λ name is.
     let session = c.args.self.now in
     let path = c.args.path.now in
     let w = c.write.new.self in
-    write_acts (g.C.Cluster.shown c.args.cluster.now) (g.C.Cluster.shown c.write.new.cluster) session (record session { writers = c.get_mut.follows.lender w }) name path c.in-Some.writer.now w
+    write_acts (g.C.Cluster.shown c.args.cluster.now) (g.C.Cluster.shown c.write.new.cluster) session (record session { writers = c.get_mut.follows.lender w; namenode = c.write.new.namenode }) name path c.in-Some.writer.now w
     (record {
       here = sym c.in-Some.ensures.value;
       writers = btree_map_updates_text path session.writers (c.get_mut.follows.lender w) (Some w) ((c.get_mut.follows.holds w).3 (search rules));
@@ -23,9 +23,9 @@ returns-in-Ok-clause-acts g c = λ name is.
       called = is;
       named = c.requires.path;
       settings = refl;
-      namenode = refl;
+      namenode = c.write.ensures.stands.2;
     })
-    c.write.ensures.stands c.args.bytes.now
+    (c.write.ensures.stands.0, c.write.ensures.stands.1) c.args.bytes.now
     (λ none d. ap (λ x. (g.C.Cluster.shown x).counts.nodes d) (c.write.ensures.idle.none none))
     (λ fine. fine) c.in-Ok.ensures.fails.0 c.in-Ok.ensures.wrote c.in-Ok.ensures.count.1 c.in-Ok.count c.in-Ok.ensures.count.0
 
@@ -36,7 +36,7 @@ returns-in-Err-clause-acts g c = λ name is.
     let w = c.write.new.self in
     let here = sym c.in-Some.ensures.value in
     let fine = c.requires.stands.fine c.requires.fine path c.in-Some.writer.now here in
-    write_fails (g.C.Cluster.shown c.args.cluster.now) (g.C.Cluster.shown c.write.new.cluster) session (record session { writers = c.get_mut.follows.lender w; failed = true }) name path c.in-Some.writer.now w
+    write_fails (g.C.Cluster.shown c.args.cluster.now) (g.C.Cluster.shown c.write.new.cluster) session (record session { writers = c.get_mut.follows.lender w; namenode = c.write.new.namenode; failed = true }) name path c.in-Some.writer.now w
     (record {
       here = here;
       writers = btree_map_updates_text path session.writers (c.get_mut.follows.lender w) (Some w) ((c.get_mut.follows.holds w).3 (search rules));
@@ -45,9 +45,9 @@ returns-in-Err-clause-acts g c = λ name is.
       called = is;
       named = c.requires.path;
       settings = refl;
-      namenode = refl;
+      namenode = c.write.ensures.stands.2;
     })
-    c.write.ensures.stands c.args.bytes.now
+    (c.write.ensures.stands.0, c.write.ensures.stands.1) c.args.bytes.now
     (λ none d. ap (λ x. (g.C.Cluster.shown x).counts.nodes d) (c.write.ensures.idle.none none))
     refl c.in-Err.ensures.fails.1 c.in-Err.error (c.in-Err.ensures.err fine)
     (λ out. (let o = c.in-Err.ensures.idle.options fine out in (cc o.0, o.1, ap (λ x. g.C.Cluster.shown x) o.2)))
@@ -63,7 +63,7 @@ returns-in-Ok-clause-whole g c = λ name is.
     let session = c.args.self.now in
     let path = c.args.path.now in
     let w = c.write.new.self in
-    write_keeps (g.C.Cluster.shown c.args.cluster.now) (g.C.Cluster.shown c.write.new.cluster) session (record session { writers = c.get_mut.follows.lender w }) name path c.in-Some.writer.now
+    write_keeps (g.C.Cluster.shown c.args.cluster.now) (g.C.Cluster.shown c.write.new.cluster) session (record session { writers = c.get_mut.follows.lender w; namenode = c.write.new.namenode }) name path c.in-Some.writer.now
     c.args.bytes.now w
     (record {
       here = sym c.in-Some.ensures.value;
@@ -73,7 +73,7 @@ returns-in-Ok-clause-whole g c = λ name is.
       called = is;
       named = c.requires.path;
       settings = refl;
-      namenode = refl;
+      namenode = c.write.ensures.stands.2;
     })
     c.write.ensures.stands.1 c.in-Ok.ensures.wrote.carries c.in-Ok.count
 
@@ -84,7 +84,7 @@ returns-in-Err-clause-whole g c = λ name is.
     let w = c.write.new.self in
     let here = sym c.in-Some.ensures.value in
     let fine = c.requires.stands.fine c.requires.fine path c.in-Some.writer.now here in
-    write_fails_keeps (g.C.Cluster.shown c.args.cluster.now) (g.C.Cluster.shown c.write.new.cluster) session (record session { writers = c.get_mut.follows.lender w }) name path c.in-Some.writer.now
+    write_fails_keeps (g.C.Cluster.shown c.args.cluster.now) (g.C.Cluster.shown c.write.new.cluster) session (record session { writers = c.get_mut.follows.lender w; namenode = c.write.new.namenode }) name path c.in-Some.writer.now
     (commands.Write name c.args.bytes.now) (Some w)
     (record {
       here = here;
@@ -94,6 +94,6 @@ returns-in-Err-clause-whole g c = λ name is.
       called = is;
       named = c.requires.path;
       settings = refl;
-      namenode = refl;
+      namenode = c.write.ensures.stands.2;
     })
     is c.in-Err.error (c.in-Err.ensures.err fine) (λ out. ap (λ x. g.C.Cluster.shown x) (c.in-Err.ensures.idle.options fine out).2)
