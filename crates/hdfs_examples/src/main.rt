@@ -10,7 +10,7 @@ use std::alloc::Global;
 use std::fs;
 
 /// The names of the examples.
-const NAMES: [&str; 18] = [
+const NAMES: [&str; 19] = [
     "first",
     "reads",
     "broken",
@@ -29,6 +29,7 @@ const NAMES: [&str; 18] = [
     "survived",
     "replaced",
     "unreplaced",
+    "standby",
 ];
 
 // The bytes of an example's file of this kind.

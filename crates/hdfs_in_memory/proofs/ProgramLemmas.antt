@@ -37,7 +37,7 @@ closed_empty = record { opened = λ path. refl; written = λ path content is. no
 
 -- a source that tells its bytes, and a new store, are known
 pub known_new : (source : SourceShown) (sink : SinkShown) (old : Shown) (bytes : List ℕ) → source.left ≡ Some bytes → IsNew old → IsKnown (outside source sink old true) bytes empty_state
-known_new source sink old bytes told new = record { told = told; one = λ held. absurd (cc (held)); fits = new.fits; closed = closed_empty }
+known_new source sink old bytes told new = record { told = told; fits = new.fits; closed = closed_empty }
 
 -- a cluster in memory fails only where a fault was loaded for it
 pub planned_faults : (m : MemCluster) → FailsAsPlanned (shown_of m)
@@ -181,7 +181,7 @@ decides_loaded words a status b bytes run is told known loaded parsed found faul
     let none : NoneFailed (outside a.source a.sink run.old true) (outside b.source b.sink run.new run.fresh) = record {
       reads = no_read;
       writes = no_write;
-      calls = unfailed_since run.old.namenodes run.old.counts run.new.counts run.is_new.unfailed (unfailed_new run.old run.new parsed run.is_new run.planned lines faultless);
+      calls = unfailed_since run.new.namenodes run.old.counts run.new.counts run.is_new.unfailed (unfailed_new run.old run.new parsed run.is_new run.planned lines faultless);
     } in
     run.ran.complete is bytes empty_state parsed (known_new a.source a.sink run.old bytes told run.is_new) found limited none
 

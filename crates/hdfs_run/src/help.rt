@@ -3,7 +3,7 @@
 pub(crate) const VERSION: &str = "hdfs_run 0.1.0\n";
 
 pub(crate) const HELP: &str = "\
-Runs a script of file commands over an HDFS cluster in memory, with one namenode and, if it says nothing else, three datanodes.
+Runs a script of file commands over an HDFS cluster in memory, with one namenode and three datanodes, if it says nothing else.
 It reads the script from standard input and writes a line for each reply to standard output. What goes wrong is said in a
 line on standard error: which line of the script and why, or which command and the error.
 
@@ -12,6 +12,8 @@ Usage: hdfs_run session | --help | --version
 A script has lines for settings, then for directories and files to load, then for faults, and then one for each command to run:
 
   set user NAME                                     the user in whose home relative paths stand
+  set namenodes NAMENODES                           how many namenodes there are
+  set active ACTIVE                                 which of them is active, counted from 0
   set nodes NODES                                   how many datanodes there are
   set block BLOCK_SIZE                              the cluster's block size
   set chunk CHUNK                                   how many bytes have one checksum

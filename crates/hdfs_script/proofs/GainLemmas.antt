@@ -6,7 +6,7 @@ use Rattle.hdfs_script.specs.declared.entry.Entry.TheVariants.{Blank, Sets, Load
 use Rattle.hdfs_script.specs.declared.entry.Parsed.{Parsed}
 use Rattle.hdfs_script.specs.declared.entry.ScriptSettings.{ScriptSettings}
 use Rattle.hdfs_script.specs.Parsing.{Gains, Parses, first_out, first_set, good_front, numbered_from, or_else}
-use Rattle.hdfs_script.specs.Scripts.{commands_of, entries_in, no_settings, settings_from}
+use Rattle.hdfs_script.specs.Scripts.{commands_of, entries_in, first_place, no_settings, settings_from}
 use Rattle.hdfs_script.proofs.SettingLemmas.{limited_settings, valid_settings}
 
 -- of an entry and those behind it, what is set
@@ -83,19 +83,19 @@ pub gains_end : (number : ℕ) (front : List Entry) (a : Parsed) → front ≡ [
 gains_end number front a is = subst (λ (entries : List Entry). Gains a number entries a) (sym is) (gains_none number a)
 
 -- the same entries
-pub gains_same : (number : ℕ) (entries same : List Entry) (a b : Parsed) → entries ≡ same → Gains a number (good_front 0 entries) b → Gains a number (good_front 0 same) b
-gains_same number entries same a b is gains = subst (λ (es : List Entry). Gains a number (good_front 0 es) b) is gains
+pub gains_same : (number : ℕ) (entries same : List Entry) (a b : Parsed) → entries ≡ same → Gains a number (good_front first_place entries) b → Gains a number (good_front first_place same) b
+gains_same number entries same a b is gains = subst (λ (es : List Entry). Gains a number (good_front first_place es) b) is gains
 
 -- What was put behind nothing is what was read.
-pub parses_from-Gains : (bytes : List ℕ) (a b : Parsed) (bad : Option ℕ) → a.settings ≡ no_settings → a.sets ≡ None → a.lines ≡ [] → a.commands ≡ [] → Gains a 1 (good_front 0 (entries_in bytes)) b → bad ≡ first_out 0 1 (entries_in bytes) → Parses bytes (record b { bad = bad })
+pub parses_from-Gains : (bytes : List ℕ) (a b : Parsed) (bad : Option ℕ) → a.settings ≡ no_settings → a.sets ≡ None → a.lines ≡ [] → a.commands ≡ [] → Gains a 1 (good_front first_place (entries_in bytes)) b → bad ≡ first_out first_place 1 (entries_in bytes) → Parses bytes (record b { bad = bad })
 parses_from-Gains bytes a b bad settings sets lines commands gains is =
-    let set : b.settings ≡ settings_from no_settings (good_front 0 (entries_in bytes)) = gains.settings ∙ ap (λ given. settings_from given (good_front 0 (entries_in bytes))) settings in
+    let set : b.settings ≡ settings_from no_settings (good_front first_place (entries_in bytes)) = gains.settings ∙ ap (λ given. settings_from given (good_front first_place (entries_in bytes))) settings in
     record {
       settings = set;
       valid = valid_settings bytes b.settings set;
       limited = limited_settings bytes b.settings set;
-      sets = gains.sets ∙ ap (λ first. or_else first (first_set 1 (good_front 0 (entries_in bytes)))) sets;
-      lines = gains.lines ∙ ap (λ xs. xs ++ numbered_from 1 (good_front 0 (entries_in bytes))) lines;
-      commands = gains.commands ∙ ap (λ xs. xs ++ commands_of (good_front 0 (entries_in bytes))) commands;
+      sets = gains.sets ∙ ap (λ first. or_else first (first_set 1 (good_front first_place (entries_in bytes)))) sets;
+      lines = gains.lines ∙ ap (λ xs. xs ++ numbered_from 1 (good_front first_place (entries_in bytes))) lines;
+      commands = gains.commands ∙ ap (λ xs. xs ++ commands_of (good_front first_place (entries_in bytes))) commands;
       bad = is;
     }

@@ -10,9 +10,10 @@ use Rattle.hdfs_script.specs.declared.entry.Entry.{Entry}
 use Rattle.hdfs_script.specs.declared.entry.Entry.TheVariants.{Blank, Sets, Loads, Runs, Bad}
 use Rattle.hdfs_script.specs.declared.entry.NumberedLine.{NumberedLine}
 use Rattle.hdfs_script.specs.declared.entry.Parsed.{Parsed}
+use Rattle.hdfs_script.specs.declared.entry.Place.{Place}
 use Rattle.hdfs_script.specs.declared.entry.ScriptSettings.{ScriptSettings}
 use Rattle.hdfs_script.specs.Parsing.{Parses, good_front, first_out, first_file, first_set, first_untaken, numbered_from, or_else, plain_lines, untaken_set}
-use Rattle.hdfs_script.specs.Scripts.{Script, SoFar, begins, script, entries_in, lines_of, commands_of, first_bad, is_fault, is_taken, may_stand, no_settings, part_of, settings_from, unless_bad, with_entry}
+use Rattle.hdfs_script.specs.Scripts.{Script, SoFar, begins, script, entries_in, lines_of, commands_of, first_bad, first_place, is_fault, is_taken, may_stand, no_settings, place_behind, settings_from, unless_bad, with_entry}
 
 -- what is loaded so far, where these are the settings of all that is loaded
 abbrev loaded_over : ScriptSettings → SoFar → Loaded
@@ -43,16 +44,17 @@ part_of_line line = by_fault (is_fault line)
     by_fault false = lit< tt
 
 -- behind a line that is loaded nothing is set
-no_sets : (now number : ℕ) (entries : List Entry) → 0 < now → first_set number (good_front now entries) ≡ None
-no_sets now number [] behind = refl
-no_sets now number (Sets setting ∷ rest) behind =
-    let no : nat_le now 0 ≡ false = grind (arith, nat_tests) in
+no_sets : (place : Place) (number : ℕ) (entries : List Entry) → 0 < place.part → first_set number (good_front place entries) ≡ None
+no_sets place number [] behind = refl
+no_sets place number (Sets setting ∷ rest) behind =
+    let no : nat_le place.part 0 ≡ false = grind (arith, nat_tests) in
     rw no refl
-no_sets now number (Blank ∷ rest) behind = no_set_if (nat_le now now) number Blank _ (no_sets now (number + 1) rest behind)
-no_sets now number (Loads line ∷ rest) behind =
-    no_set_if (nat_le now (part_of now (Loads line))) number (Loads line) _ (no_sets (part_of now (Loads line)) (number + 1) rest (part_of_line line))
-no_sets now number (Runs command ∷ rest) behind = no_set_if (nat_le now 3) number (Runs command) _ (no_sets 3 (number + 1) rest (lit< tt))
-no_sets now number (Bad ∷ rest) behind = refl
+no_sets place number (Blank ∷ rest) behind = no_set_if (may_stand place Blank) number Blank _ (no_sets (place_behind place Blank) (number + 1) rest behind)
+no_sets place number (Loads line ∷ rest) behind =
+    no_set_if (may_stand place (Loads line)) number (Loads line) _ (no_sets (place_behind place (Loads line)) (number + 1) rest (part_of_line line))
+no_sets place number (Runs command ∷ rest) behind =
+    no_set_if (may_stand place (Runs command)) number (Runs command) _ (no_sets (place_behind place (Runs command)) (number + 1) rest (lit< tt))
+no_sets place number (Bad ∷ rest) behind = refl
 
 -- where nothing is set, the settings stay
 settings_kept : (given : ScriptSettings) (number : ℕ) (front : List Entry) → first_set number front ≡ None → settings_from given front ≡ given
@@ -74,36 +76,36 @@ abbrev takes_behind : Bool → ScriptSettings → SoFar → Line → Bool
 takes_behind fresh given so_far line = (fresh || is_fault line) && takes (loaded_over given so_far) so_far.state.files line
 
 -- an entry that stands in order, by whether it's taken
-standing : (fresh : Bool) (so_far : SoFar) (now number : ℕ) (entry : Entry) (rest : List Entry)
-    → first_bad fresh (with_entry so_far entry) (part_of now entry) (number + 1) rest ≡ bad_half fresh (with_entry so_far entry) (number + 1) (good_front (part_of now entry) rest) (first_out (part_of now entry) (number + 1) rest)
-    → (if is_taken fresh so_far entry then first_bad fresh (with_entry so_far entry) (part_of now entry) (number + 1) rest else Some number)
-    ≡ bad_half fresh so_far number (entry ∷ good_front (part_of now entry) rest) (first_out (part_of now entry) (number + 1) rest)
-standing fresh so_far now number Blank rest there = there
-standing fresh so_far now number (Runs command) rest there = there
-standing fresh so_far now number Bad rest there = there
-standing true so_far now number (Sets setting) rest there = there
-standing false so_far now number (Sets setting) rest there = refl
-standing fresh so_far now number (Loads line) rest there =
-    let front = good_front (part_of now (Loads line)) rest in
-    let none : first_set (number + 1) front ≡ None = no_sets (part_of now (Loads line)) (number + 1) rest (part_of_line line) in
+standing : (fresh : Bool) (so_far : SoFar) (place : Place) (number : ℕ) (entry : Entry) (rest : List Entry)
+    → first_bad fresh (with_entry so_far entry) (place_behind place entry) (number + 1) rest ≡ bad_half fresh (with_entry so_far entry) (number + 1) (good_front (place_behind place entry) rest) (first_out (place_behind place entry) (number + 1) rest)
+    → (if is_taken fresh so_far entry then first_bad fresh (with_entry so_far entry) (place_behind place entry) (number + 1) rest else Some number)
+    ≡ bad_half fresh so_far number (entry ∷ good_front (place_behind place entry) rest) (first_out (place_behind place entry) (number + 1) rest)
+standing fresh so_far place number Blank rest there = there
+standing fresh so_far place number (Runs command) rest there = there
+standing fresh so_far place number Bad rest there = there
+standing true so_far place number (Sets setting) rest there = there
+standing false so_far place number (Sets setting) rest there = refl
+standing fresh so_far place number (Loads line) rest there =
+    let front = good_front (place_behind place (Loads line)) rest in
+    let none : first_set (number + 1) front ≡ None = no_sets (place_behind place (Loads line)) (number + 1) rest (part_of_line line) in
     let kept : settings_from so_far.given front ≡ so_far.given = settings_kept so_far.given (number + 1) front none in
     let sets = untaken_set fresh (first_set (number + 1) front) in
     let behind = first_untaken fresh (loaded_over (settings_from so_far.given front) (with_entry so_far (Loads line))) (with_line so_far.state line) (numbered_from (number + 1) front) in
-    let out = first_out (part_of now (Loads line)) (number + 1) rest in
+    let out = first_out (place_behind place (Loads line)) (number + 1) rest in
     loading (is_taken fresh so_far (Loads line)) number sets _ behind out (ap (untaken_set fresh) none ∙ untaken_none fresh) there
     ∙ ap (λ (given : ScriptSettings). or_else sets (or_else (if takes_behind fresh given so_far line then behind else Some number) out)) (sym kept)
 
 -- The first bad line is one that sets something or is loaded and isn't taken, in front of those that are bad by their text or
 -- place, or else the first of these.
-pub halves : (fresh : Bool) (so_far : SoFar) (now number : ℕ) (entries : List Entry) → first_bad fresh so_far now number entries ≡ bad_half fresh so_far number (good_front now entries) (first_out now number entries)
-halves fresh so_far now number [] = rw (untaken_none fresh) refl
-halves fresh so_far now number (entry ∷ rest) =
-    placing (may_stand now entry) (standing fresh so_far now number entry rest (halves fresh (with_entry so_far entry) (part_of now entry) (number + 1) rest))
+pub halves : (fresh : Bool) (so_far : SoFar) (place : Place) (number : ℕ) (entries : List Entry) → first_bad fresh so_far place number entries ≡ bad_half fresh so_far number (good_front place entries) (first_out place number entries)
+halves fresh so_far place number [] = rw (untaken_none fresh) refl
+halves fresh so_far place number (entry ∷ rest) =
+    placing (may_stand place entry) (standing fresh so_far place number entry rest (halves fresh (with_entry so_far entry) (place_behind place entry) (number + 1) rest))
   where
-    placing : (stands : Bool) → (if is_taken fresh so_far entry then first_bad fresh (with_entry so_far entry) (part_of now entry) (number + 1) rest else Some number)
-        ≡ bad_half fresh so_far number (entry ∷ good_front (part_of now entry) rest) (first_out (part_of now entry) (number + 1) rest)
-        → (if stands && is_taken fresh so_far entry then first_bad fresh (with_entry so_far entry) (part_of now entry) (number + 1) rest else Some number)
-        ≡ bad_half fresh so_far number (if stands then entry ∷ good_front (part_of now entry) rest else []) (if stands then first_out (part_of now entry) (number + 1) rest else Some number)
+    placing : (stands : Bool) → (if is_taken fresh so_far entry then first_bad fresh (with_entry so_far entry) (place_behind place entry) (number + 1) rest else Some number)
+        ≡ bad_half fresh so_far number (entry ∷ good_front (place_behind place entry) rest) (first_out (place_behind place entry) (number + 1) rest)
+        → (if stands && is_taken fresh so_far entry then first_bad fresh (with_entry so_far entry) (place_behind place entry) (number + 1) rest else Some number)
+        ≡ bad_half fresh so_far number (if stands then entry ∷ good_front (place_behind place entry) rest else []) (if stands then first_out (place_behind place entry) (number + 1) rest else Some number)
     placing true there = there
     placing false there = rw (untaken_none fresh) refl
 
@@ -112,10 +114,10 @@ good_if : (stands : Bool) (number : ℕ) (entry : Entry) (out : Option ℕ) (fro
 good_if true number entry out front rest there none = ap (λ es. entry ∷ es) (there none)
 good_if false number entry out front rest there none = absurd (cc)
 
-all_good : (now number : ℕ) (entries : List Entry) → first_out now number entries ≡ None → good_front now entries ≡ entries
-all_good now number [] none = refl
-all_good now number (entry ∷ rest) none =
-    good_if (may_stand now entry) number entry (first_out (part_of now entry) (number + 1) rest) (good_front (part_of now entry) rest) rest (all_good (part_of now entry) (number + 1) rest) none
+all_good : (place : Place) (number : ℕ) (entries : List Entry) → first_out place number entries ≡ None → good_front place entries ≡ entries
+all_good place number [] none = refl
+all_good place number (entry ∷ rest) none =
+    good_if (may_stand place entry) number entry (first_out (place_behind place entry) (number + 1) rest) (good_front (place_behind place entry) rest) rest (all_good (place_behind place entry) (number + 1) rest) none
 
 plain_numbered : (number : ℕ) (entries : List Entry) → plain_lines (numbered_from number entries) ≡ lines_of entries
 plain_numbered number [] = refl
@@ -141,17 +143,17 @@ loaded_none read = record { settings = Some read.settings.cluster; lines = [] }
 abbrev pub bad_read : Bool → State → Parsed → Option ℕ
 bad_read fresh state read = or_else (untaken_set fresh read.sets) (or_else (first_untaken fresh (loaded_none read) state read.lines) read.bad)
 
-first_bad_read : (fresh : Bool) (state : State) (bytes : List ℕ) (read : Parsed) → Parses bytes read → first_bad fresh (begins state) 0 1 (entries_in bytes) ≡ bad_read fresh state read
+first_bad_read : (fresh : Bool) (state : State) (bytes : List ℕ) (read : Parsed) → Parses bytes read → first_bad fresh (begins state) first_place 1 (entries_in bytes) ≡ bad_read fresh state read
 first_bad_read fresh state bytes read parses =
-    halves fresh (begins state) 0 1 (entries_in bytes) ∙ rw (← parses.settings, ← parses.sets, ← parses.lines, ← parses.bad) refl
+    halves fresh (begins state) first_place 1 (entries_in bytes) ∙ rw (← parses.settings, ← parses.sets, ← parses.lines, ← parses.bad) refl
 
 -- no line is bad
 pub script_from : (fresh : Bool) (state : State) (bytes : List ℕ) (read : Parsed) → Parses bytes read → bad_read fresh state read ≡ None → script fresh state bytes ≡ Ok (script_read read)
 script_from fresh state bytes read parses none =
     let good : read.bad ≡ None = second_none (first_untaken fresh (loaded_none read) state read.lines) read.bad (second_none (untaken_set fresh read.sets) _ none) in
-    let whole : good_front 0 (entries_in bytes) ≡ entries_in bytes = all_good 0 1 (entries_in bytes) (sym parses.bad ∙ good) in
+    let whole : good_front first_place (entries_in bytes) ≡ entries_in bytes = all_good first_place 1 (entries_in bytes) (sym parses.bad ∙ good) in
     let settings : read.settings ≡ settings_from no_settings (entries_in bytes) = parses.settings ∙ ap (settings_from no_settings) whole in
-    let lines : plain_lines read.lines ≡ lines_of (entries_in bytes) = ap plain_lines parses.lines ∙ plain_numbered 1 (good_front 0 (entries_in bytes)) ∙ ap lines_of whole in
+    let lines : plain_lines read.lines ≡ lines_of (entries_in bytes) = ap plain_lines parses.lines ∙ plain_numbered 1 (good_front first_place (entries_in bytes)) ∙ ap lines_of whole in
     let commands : read.commands ≡ commands_of (entries_in bytes) = parses.commands ∙ ap commands_of whole in
     ap (λ bad. unless_bad bad (entries_in bytes)) (first_bad_read fresh state bytes read parses ∙ none) ∙ rw (← settings, ← lines, ← commands) refl
 

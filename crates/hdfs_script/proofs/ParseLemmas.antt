@@ -5,9 +5,10 @@ use Rattle.std.proofs.lemmas.List.{at_drop_more, length-map}
 use Rattle.std.proofs.lemmas.Bool.Decides.{nat_tests}
 use Rattle.hdfs_script.specs.declared.entry.Entry.{Entry}
 use Rattle.hdfs_script.specs.declared.entry.Entry.TheVariants.{Bad}
+use Rattle.hdfs_script.specs.declared.entry.Place.{Place}
 use Rattle.hdfs_script.specs.Entries.{entry_of}
 use Rattle.hdfs_script.specs.Parsing.{bad_from, good_front, first_out}
-use Rattle.hdfs_script.specs.Scripts.{may_stand, part_of, line_entries, ends_bad, entries_in, script_limit}
+use Rattle.hdfs_script.specs.Scripts.{may_stand, place_behind, line_entries, ends_bad, entries_in, script_limit}
 
 -- the next entry is that of the next line
 pub entries-drop : (limit number : ℕ) (pieces : List (List ℕ)) (i : ℕ) (line : List ℕ) (entry : Entry) → (i < length pieces) × (line ≡ get_or pieces i line) → entry ≡ (if number == limit then Bad else entry_of line) → bad_from limit number (map entry_of (drop i pieces)) ≡ entry ∷ bad_from limit (number + 1) (map entry_of (drop (i + 1) pieces))
@@ -17,26 +18,26 @@ entries-drop limit number pieces i line entry turn is =
     ∙ ap (λ e. e ∷ bad_from limit (number + 1) (map entry_of (drop (i + 1) pieces))) (sym is)
 
 -- what stands in front of the first bad entry, one more and none
-pub front_more : (now next : ℕ) (entry : Entry) (left rest : List Entry) → left ≡ entry ∷ rest → may_stand now entry ≡ true → next ≡ part_of now entry → good_front now left ≡ entry ∷ good_front next rest
-front_more now next entry left rest is stands part =
-    ap (good_front now) is ∙ rw stands refl ∙ ap (λ n. entry ∷ good_front n rest) (sym part)
+pub front_more : (place next : Place) (entry : Entry) (left rest : List Entry) → left ≡ entry ∷ rest → may_stand place entry ≡ true → next ≡ place_behind place entry → good_front place left ≡ entry ∷ good_front next rest
+front_more place next entry left rest is stands behind =
+    ap (good_front place) is ∙ rw stands refl ∙ ap (λ (p : Place). entry ∷ good_front p rest) (sym behind)
 
-pub front_none : (now : ℕ) (entry : Entry) (left rest : List Entry) → left ≡ entry ∷ rest → may_stand now entry ≡ false → good_front now left ≡ []
-front_none now entry left rest is stands = ap (good_front now) is ∙ rw stands refl
+pub front_none : (place : Place) (entry : Entry) (left rest : List Entry) → left ≡ entry ∷ rest → may_stand place entry ≡ false → good_front place left ≡ []
+front_none place entry left rest is stands = ap (good_front place) is ∙ rw stands refl
 
 -- the first line that is bad by its text or its place, where the next one isn't, where it is, and where none is left
-pub out_more : (now next number : ℕ) (entry : Entry) (left rest : List Entry) (total : Option ℕ) → left ≡ entry ∷ rest → may_stand now entry ≡ true → next ≡ part_of now entry → first_out now number left ≡ total → first_out next (number + 1) rest ≡ total
-out_more now next number entry left rest total is stands part so_far =
-    let here : first_out now number (entry ∷ rest) ≡ first_out (part_of now entry) (number + 1) rest = rw stands refl in
-    ap (λ n. first_out n (number + 1) rest) part ∙ sym here ∙ ap (first_out now number) (sym is) ∙ so_far
+pub out_more : (place next : Place) (number : ℕ) (entry : Entry) (left rest : List Entry) (total : Option ℕ) → left ≡ entry ∷ rest → may_stand place entry ≡ true → next ≡ place_behind place entry → first_out place number left ≡ total → first_out next (number + 1) rest ≡ total
+out_more place next number entry left rest total is stands behind so_far =
+    let here : first_out place number (entry ∷ rest) ≡ first_out (place_behind place entry) (number + 1) rest = rw stands refl in
+    ap (λ (p : Place). first_out p (number + 1) rest) behind ∙ sym here ∙ ap (first_out place number) (sym is) ∙ so_far
 
-pub out_bad : (now number : ℕ) (entry : Entry) (left rest : List Entry) (total : Option ℕ) → left ≡ entry ∷ rest → may_stand now entry ≡ false → first_out now number left ≡ total → Some number ≡ total
-out_bad now number entry left rest total is stands so_far =
-    let here : first_out now number (entry ∷ rest) ≡ Some number = rw stands refl in
-    sym here ∙ ap (first_out now number) (sym is) ∙ so_far
+pub out_bad : (place : Place) (number : ℕ) (entry : Entry) (left rest : List Entry) (total : Option ℕ) → left ≡ entry ∷ rest → may_stand place entry ≡ false → first_out place number left ≡ total → Some number ≡ total
+out_bad place number entry left rest total is stands so_far =
+    let here : first_out place number (entry ∷ rest) ≡ Some number = rw stands refl in
+    sym here ∙ ap (first_out place number) (sym is) ∙ so_far
 
-pub out_all : (now number : ℕ) (left : List Entry) (total : Option ℕ) → left ≡ [] → first_out now number left ≡ total → None ≡ total
-out_all now number left total none so_far = ap (first_out now number) (sym none) ∙ so_far
+pub out_all : (place : Place) (number : ℕ) (left : List Entry) (total : Option ℕ) → left ≡ [] → first_out place number left ≡ total → None ≡ total
+out_all place number left total none so_far = ap (first_out place number) (sym none) ∙ so_far
 
 -- no line has the number 0
 none_bad : (number : ℕ) (entries : List Entry) → bad_from 0 (number + 1) entries ≡ entries

@@ -14,6 +14,7 @@ use Rattle.hdfs_model.specs.Loading.{AreValid}
 use Rattle.hdfs_names.specs.declared.replacement.Policy.{Policy}
 use Rattle.hdfs_script.specs.declared.entry.Entry.{Entry}
 use Rattle.hdfs_script.specs.declared.entry.Entry.TheVariants.{Blank, Sets, Loads, Runs, Bad}
+use Rattle.hdfs_script.specs.declared.entry.Place.{Place}
 use Rattle.hdfs_script.specs.declared.entry.ScriptSettings.{ScriptSettings}
 use Rattle.hdfs_script.specs.declared.entry.Setting.{Setting}
 use Rattle.hdfs_script.specs.declared.entry.Setting.TheVariants as settings
@@ -21,12 +22,14 @@ use Rattle.hdfs_script.specs.Commands.{create_entry, flag_of, options_of, read_e
 use Rattle.hdfs_script.specs.Entries.{ascii_entry, attributes_of, best_effort_entry, cluster_entry, entry_of, fault_entry, file_entry, from_one, from_zero, link_entry, link_kind, node_entry, node_fault, policy_entry, policy_named, read_fault, read_kind, read_of, set_entry, short_entry, short_of, three_words, words_entry, writing_entry}
 use Rattle.hdfs_script.specs.Numbers.{hex_bytes, is_number, number, value_from}
 use Rattle.hdfs_script.specs.Parsing.{good_front}
-use Rattle.hdfs_script.specs.Scripts.{ends_bad, entries_in, line_entries, may_stand, no_settings, part_of, script_limit, session_settings, settings_from, with_setting}
+use Rattle.hdfs_script.specs.Scripts.{ends_bad, entries_in, first_place, line_entries, may_set, may_stand, no_settings, place_behind, script_limit, session_settings, settings_from, with_setting}
 use Rattle.hdfs_script.specs.Words.{is_word}
 
 -- a setting is in its limits
 abbrev IsAllowed : Setting → Type 0
 IsAllowed (settings.User name) = Unit {0}
+IsAllowed (settings.Namenodes n) = (0 < n) × (n ≤ 16)
+IsAllowed (settings.Active i) = Unit {0}
 IsAllowed (settings.Nodes n) = (0 < n) × (n ≤ 64)
 IsAllowed (settings.Block n) = is_block_size n ≡ true
 IsAllowed (settings.Chunk n) = (0 < n) × (n ≤ 2 ^ 30)
@@ -106,7 +109,11 @@ allowed_writing key value =
 -- or of the cluster,
 allowed_cluster : (key value : List ℕ) → SetsAllowed (cluster_entry key value)
 allowed_cluster key value =
-    allowed_if (bytes_eq key (codes "nodes")) _ _
+    allowed_if (bytes_eq key (codes "namenodes")) _ _
+    (allowed_from_one settings.Namenodes 17 (λ n some below. (some, omega (arith, below))) (number 10 17 value) (number_below 10 17 value))
+    (allowed_if (bytes_eq key (codes "active")) _ _
+    (allowed_from_zero settings.Active 16 (λ i below. tt) (number 10 16 value) (number_below 10 16 value))
+    (allowed_if (bytes_eq key (codes "nodes")) _ _
     (allowed_from_one settings.Nodes 65 (λ n some below. (some, omega (arith, below))) (number 10 65 value) (number_below 10 65 value))
     (allowed_if (bytes_eq key (codes "block")) _ _
     (allowed_from_one settings.Block (2 ^ 63) block_size_allowed (number 10 (2 ^ 63) value) (number_below 10 (2 ^ 63) value))
@@ -116,7 +123,7 @@ allowed_cluster key value =
     (allowed_from_zero settings.Packet (2 ^ 31) (λ n below. below) (number 10 (2 ^ 31) value) (number_below 10 (2 ^ 31) value))
     (allowed_if (bytes_eq key (codes "replication")) _ _
     (allowed_from_one settings.Replication 65536 replication_allowed (number 10 65536 value) (number_below 10 65536 value))
-    (allowed_writing key value)))))
+    (allowed_writing key value)))))))
 
 -- or the user
 allowed_set : (key value : List ℕ) → SetsAllowed (set_entry key value)
@@ -227,18 +234,60 @@ allowed_script bytes = by_length (nat_le (length bytes) script_limit)
     by_length true = allowed_lines (slice_split (λ b. b == 10) bytes)
     by_length false = allowed_ends (line_entries (take script_limit bytes)) (allowed_lines (slice_split (λ b. b == 10) (take script_limit bytes)))
 
-allowed_front : (now : ℕ) (entries : List Entry) → AllAllowed entries → AllAllowed (good_front now entries)
-allowed_front now [] all = tt
-allowed_front now (entry ∷ rest) all = by_place (may_stand now entry) (allowed_front (part_of now entry) rest all.1)
+allowed_front : (place : Place) (entries : List Entry) → AllAllowed entries → AllAllowed (good_front place entries)
+allowed_front place [] all = tt
+allowed_front place (entry ∷ rest) all = by_place (may_stand place entry) (allowed_front (place_behind place entry) rest all.1)
   where
-    by_place : (stands : Bool) → AllAllowed (good_front (part_of now entry) rest) → AllAllowed (if stands then entry ∷ good_front (part_of now entry) rest else [])
+    by_place : (stands : Bool) → AllAllowed (good_front (place_behind place entry) rest) → AllAllowed (if stands then entry ∷ good_front (place_behind place entry) rest else [])
     by_place true front = (all.0, front)
     by_place false front = tt
 
--- valid settings stay so with one of them given anew
-valid_with : (given : ScriptSettings) (setting : Setting) → IsAllowed setting → AreValid given.cluster → AreValid (with_setting given setting).cluster
-valid_with given (settings.User name) allowed valid = valid
-valid_with given (settings.Nodes n) allowed valid = record {
+-- the settings have as many namenodes as there are at a place, and the same one is active
+abbrev SameNumbers : ScriptSettings → Place → Type 0
+SameNumbers given place = (given.cluster.namenodes ≡ place.namenodes) × (given.cluster.active ≡ place.active)
+
+-- and so behind a setting
+same_with : (given : ScriptSettings) (place : Place) (setting : Setting) → SameNumbers given place → SameNumbers (with_setting given setting) (place_behind place (Sets setting))
+same_with given place (settings.User name) same = same
+same_with given place (settings.Namenodes n) same = (refl, same.1)
+same_with given place (settings.Active i) same = (same.0, refl)
+same_with given place (settings.Nodes n) same = same
+same_with given place (settings.Block n) same = same
+same_with given place (settings.Chunk n) same = same
+same_with given place (settings.Packet n) same = same
+same_with given place (settings.Replication n) same = same
+same_with given place (settings.Rebuilds n) same = same
+same_with given place (settings.Window n) same = same
+same_with given place (settings.Policy policy) same = same
+same_with given place (settings.BestEffort best_effort) same = same
+
+-- valid settings stay so with one of them given anew that may stand there
+valid_with : (given : ScriptSettings) (place : Place) (setting : Setting) → IsAllowed setting → may_set place setting ≡ true → SameNumbers given place → AreValid given.cluster
+    → AreValid (with_setting given setting).cluster
+valid_with given place (settings.User name) allowed stands same valid = valid
+valid_with given place (settings.Namenodes n) allowed stands same valid = record {
+  active = grind (arith, nat_tests);
+  namenodes = allowed.1;
+  some = valid.some;
+  nodes = valid.nodes;
+  replication = valid.replication;
+  block_size = valid.block_size;
+  chunk = valid.chunk;
+  bound = valid.bound;
+  packet = valid.packet;
+}
+valid_with given place (settings.Active i) allowed stands same valid = record {
+  active = grind (arith, nat_tests);
+  namenodes = valid.namenodes;
+  some = valid.some;
+  nodes = valid.nodes;
+  replication = valid.replication;
+  block_size = valid.block_size;
+  chunk = valid.chunk;
+  bound = valid.bound;
+  packet = valid.packet;
+}
+valid_with given place (settings.Nodes n) allowed stands same valid = record {
   active = valid.active;
   namenodes = valid.namenodes;
   some = allowed.0;
@@ -249,7 +298,7 @@ valid_with given (settings.Nodes n) allowed valid = record {
   bound = valid.bound;
   packet = valid.packet;
 }
-valid_with given (settings.Block n) allowed valid = record {
+valid_with given place (settings.Block n) allowed stands same valid = record {
   active = valid.active;
   namenodes = valid.namenodes;
   some = valid.some;
@@ -260,7 +309,7 @@ valid_with given (settings.Block n) allowed valid = record {
   bound = valid.bound;
   packet = valid.packet;
 }
-valid_with given (settings.Chunk n) allowed valid = record {
+valid_with given place (settings.Chunk n) allowed stands same valid = record {
   active = valid.active;
   namenodes = valid.namenodes;
   some = valid.some;
@@ -271,7 +320,7 @@ valid_with given (settings.Chunk n) allowed valid = record {
   bound = allowed.1;
   packet = valid.packet;
 }
-valid_with given (settings.Packet n) allowed valid = record {
+valid_with given place (settings.Packet n) allowed stands same valid = record {
   active = valid.active;
   namenodes = valid.namenodes;
   some = valid.some;
@@ -282,7 +331,7 @@ valid_with given (settings.Packet n) allowed valid = record {
   bound = valid.bound;
   packet = allowed;
 }
-valid_with given (settings.Replication n) allowed valid = record {
+valid_with given place (settings.Replication n) allowed stands same valid = record {
   active = valid.active;
   namenodes = valid.namenodes;
   some = valid.some;
@@ -293,19 +342,42 @@ valid_with given (settings.Replication n) allowed valid = record {
   bound = valid.bound;
   packet = valid.packet;
 }
-valid_with given (settings.Rebuilds n) allowed valid = valid
-valid_with given (settings.Window n) allowed valid = valid
-valid_with given (settings.Policy policy) allowed valid = valid
-valid_with given (settings.BestEffort best_effort) allowed valid = valid
+valid_with given place (settings.Rebuilds n) allowed stands same valid = valid
+valid_with given place (settings.Window n) allowed stands same valid = valid
+valid_with given place (settings.Policy policy) allowed stands same valid = valid
+valid_with given place (settings.BestEffort best_effort) allowed stands same valid = valid
 
--- and so with all that entries set
-valid_from : (given : ScriptSettings) (entries : List Entry) → AllAllowed entries → AreValid given.cluster → AreValid (settings_from given entries).cluster
-valid_from given [] all valid = valid
-valid_from given (Sets setting ∷ rest) all valid = valid_from (with_setting given setting) rest all.1 (valid_with given setting all.0 valid)
-valid_from given (Blank ∷ rest) all valid = valid_from given rest all.1 valid
-valid_from given (Loads line ∷ rest) all valid = valid_from given rest all.1 valid
-valid_from given (Runs command ∷ rest) all valid = valid_from given rest all.1 valid
-valid_from given (Bad ∷ rest) all valid = valid_from given rest all.1 valid
+-- an entry that sets something and may stand there leaves a namenode that is active
+set_from_stand : (place : Place) (setting : Setting) → may_stand place (Sets setting) ≡ true → may_set place setting ≡ true
+set_from_stand place setting stands = by_part (nat_le place.part 0) (may_set place setting) stands
+  where
+    by_part : (part set : Bool) → part && set ≡ true → set ≡ true
+    by_part true set both = both
+    by_part false set both = absurd (cc)
+
+-- an entry and those behind it, where it may stand there and where not
+valid_if : (given : ScriptSettings) (stands : Bool) (front : List Entry) → AreValid given.cluster → (stands ≡ true → AreValid (settings_from given front).cluster) → AreValid (settings_from given (if stands then front else [])).cluster
+valid_if given true front valid there = there refl
+valid_if given false front valid there = valid
+
+-- valid settings stay so with all that is set up to the first bad line
+valid_front : (given : ScriptSettings) (place : Place) (entries : List Entry) → AllAllowed entries → SameNumbers given place → AreValid given.cluster
+    → AreValid (settings_from given (good_front place entries)).cluster
+valid_front given place [] all same valid = valid
+valid_front given place (Sets setting ∷ rest) all same valid =
+    valid_if given (may_stand place (Sets setting)) (Sets setting ∷ good_front (place_behind place (Sets setting)) rest) valid
+    (λ stands. valid_front (with_setting given setting) (place_behind place (Sets setting)) rest all.1 (same_with given place setting same)
+    (valid_with given place setting all.0 (set_from_stand place setting stands) same valid))
+valid_front given place (Blank ∷ rest) all same valid =
+    valid_if given (may_stand place Blank) (Blank ∷ good_front (place_behind place Blank) rest) valid
+    (λ stands. valid_front given (place_behind place Blank) rest all.1 same valid)
+valid_front given place (Loads line ∷ rest) all same valid =
+    valid_if given (may_stand place (Loads line)) (Loads line ∷ good_front (place_behind place (Loads line)) rest) valid
+    (λ stands. valid_front given (place_behind place (Loads line)) rest all.1 same valid)
+valid_front given place (Runs command ∷ rest) all same valid =
+    valid_if given (may_stand place (Runs command)) (Runs command ∷ good_front (place_behind place (Runs command)) rest) valid
+    (λ stands. valid_front given (place_behind place (Runs command)) rest all.1 same valid)
+valid_front given place (Bad ∷ rest) all same valid = valid
 
 -- the numbers of a script's session are in their limits
 abbrev AreSmall : ScriptSettings → Type 0
@@ -314,6 +386,8 @@ AreSmall given = (is_small given.rebuild_limit ≡ true) × (is_small given.wind
 -- and stay so with one of the settings given anew, and with all that entries set
 small_with : (given : ScriptSettings) (setting : Setting) → IsAllowed setting → AreSmall given → AreSmall (with_setting given setting)
 small_with given (settings.User name) allowed small = small
+small_with given (settings.Namenodes n) allowed small = small
+small_with given (settings.Active i) allowed small = small
 small_with given (settings.Nodes n) allowed small = small
 small_with given (settings.Block n) allowed small = small
 small_with given (settings.Chunk n) allowed small = small
@@ -347,14 +421,14 @@ valid_none = record {
 }
 
 -- A store can be made with the settings that a script gives.
-pub valid_settings : (bytes : List ℕ) (given : ScriptSettings) → given ≡ settings_from no_settings (good_front 0 (entries_in bytes)) → AreValid given.cluster
+pub valid_settings : (bytes : List ℕ) (given : ScriptSettings) → given ≡ settings_from no_settings (good_front first_place (entries_in bytes)) → AreValid given.cluster
 valid_settings bytes given is =
     subst (λ (s : ScriptSettings). AreValid s.cluster) (sym is)
-    (valid_from no_settings (good_front 0 (entries_in bytes)) (allowed_front 0 (entries_in bytes) (allowed_script bytes)) valid_none)
+    (valid_front no_settings first_place (entries_in bytes) (allowed_script bytes) (refl, refl) valid_none)
 
 -- A session can be run with them.
-pub limited_settings : (bytes : List ℕ) (given : ScriptSettings) → given ≡ settings_from no_settings (good_front 0 (entries_in bytes)) → are_settings (session_settings given) ≡ true
+pub limited_settings : (bytes : List ℕ) (given : ScriptSettings) → given ≡ settings_from no_settings (good_front first_place (entries_in bytes)) → are_settings (session_settings given) ≡ true
 limited_settings bytes given is =
     let small : AreSmall given = subst AreSmall (sym is)
-    (small_from no_settings (good_front 0 (entries_in bytes)) (allowed_front 0 (entries_in bytes) (allowed_script bytes)) (refl, refl)) in
+    (small_from no_settings (good_front first_place (entries_in bytes)) (allowed_front first_place (entries_in bytes) (allowed_script bytes)) (refl, refl)) in
     rw (small.0, small.1) refl

@@ -94,11 +94,13 @@ writing_entry key value =
     else if bytes_eq key (codes "besteffort") then best_effort_entry (flag_of value)
     else Bad
 
--- `set KEY VALUE` of the cluster: from 1 to 64 datanodes, blocks of 1 byte to 2^63 - 1, chunks of 1 byte to 2^30, packets of fewer
--- than 2^31, and from 1 to 65,535 replicas; or of the session's writes
+-- `set KEY VALUE` of the cluster: from 1 to 16 namenodes, the number of the active one, from 1 to 64 datanodes, blocks of 1 byte to
+-- 2^63 - 1, chunks of 1 byte to 2^30, packets of fewer than 2^31, and from 1 to 65,535 replicas; or of the session's writes
 abbrev pub cluster_entry : List ℕ → List ℕ → Entry
 cluster_entry key value =
-    if bytes_eq key (codes "nodes") then from_one settings.Nodes (number 10 65 value)
+    if bytes_eq key (codes "namenodes") then from_one settings.Namenodes (number 10 17 value)
+    else if bytes_eq key (codes "active") then from_zero settings.Active (number 10 16 value)
+    else if bytes_eq key (codes "nodes") then from_one settings.Nodes (number 10 65 value)
     else if bytes_eq key (codes "block") then from_one settings.Block (number 10 (2 ^ 63) value)
     else if bytes_eq key (codes "chunk") then from_one settings.Chunk (number 10 (2 ^ 30 + 1) value)
     else if bytes_eq key (codes "packet") then from_zero settings.Packet (number 10 (2 ^ 31) value)

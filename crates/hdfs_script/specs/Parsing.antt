@@ -10,18 +10,19 @@ use Rattle.hdfs_script.specs.declared.entry.Entry.{Entry}
 use Rattle.hdfs_script.specs.declared.entry.Entry.TheVariants.{Sets, Loads, Bad}
 use Rattle.hdfs_script.specs.declared.entry.NumberedLine.{NumberedLine}
 use Rattle.hdfs_script.specs.declared.entry.Parsed.{Parsed}
-use Rattle.hdfs_script.specs.Scripts.{entries_in, commands_of, is_fault, no_settings, part_of, may_stand, session_settings, settings_from}
+use Rattle.hdfs_script.specs.declared.entry.Place.{Place}
+use Rattle.hdfs_script.specs.Scripts.{entries_in, commands_of, first_place, is_fault, no_settings, may_stand, place_behind, session_settings, settings_from}
 
 -- the entries in front of the first that is bad by its text or its place
-abbrev pub good_front : ℕ → List Entry → List Entry
-good_front now [] = []
-good_front now (entry ∷ entries) = if may_stand now entry then entry ∷ good_front (part_of now entry) entries else []
+abbrev pub good_front : Place → List Entry → List Entry
+good_front place [] = []
+good_front place (entry ∷ entries) = if may_stand place entry then entry ∷ good_front (place_behind place entry) entries else []
 
 -- the number of the first line that is bad by its text or its place
-abbrev pub first_out : ℕ → ℕ → List Entry → Option ℕ
-first_out now number [] = None
-first_out now number (entry ∷ entries) =
-    if may_stand now entry then first_out (part_of now entry) (number + 1) entries else Some number
+abbrev pub first_out : Place → ℕ → List Entry → Option ℕ
+first_out place number [] = None
+first_out place number (entry ∷ entries) =
+    if may_stand place entry then first_out (place_behind place entry) (number + 1) entries else Some number
 
 -- the lines that are loaded, each with its number, where the next line has this one
 abbrev pub numbered_from : ℕ → List Entry → List NumberedLine
@@ -38,13 +39,13 @@ first_set number (_ ∷ entries) = first_set (number + 1) entries
 -- What was read of a script: its settings, lines and commands up to the first line that is bad by its text or its place, the number
 -- of the first line that sets something, and the number of that bad line. The settings are in the limits of a store and a session.
 pub record Parses (bytes : List ℕ) (read : Parsed) : Type 0 where
-  pub settings : read.settings ≡ settings_from no_settings (good_front 0 (entries_in bytes))
+  pub settings : read.settings ≡ settings_from no_settings (good_front first_place (entries_in bytes))
   pub valid : AreValid read.settings.cluster
   pub limited : are_settings (session_settings read.settings) ≡ true
-  pub sets : read.sets ≡ first_set 1 (good_front 0 (entries_in bytes))
-  pub lines : read.lines ≡ numbered_from 1 (good_front 0 (entries_in bytes))
-  pub commands : read.commands ≡ commands_of (good_front 0 (entries_in bytes))
-  pub bad : read.bad ≡ first_out 0 1 (entries_in bytes)
+  pub sets : read.sets ≡ first_set 1 (good_front first_place (entries_in bytes))
+  pub lines : read.lines ≡ numbered_from 1 (good_front first_place (entries_in bytes))
+  pub commands : read.commands ≡ commands_of (good_front first_place (entries_in bytes))
+  pub bad : read.bad ≡ first_out first_place 1 (entries_in bytes)
 
 -- lines without their numbers
 abbrev pub plain_lines : List NumberedLine → List Line

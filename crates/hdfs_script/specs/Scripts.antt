@@ -1,6 +1,6 @@
 -- What a whole script says: settings, lines to load, and commands to run. Settings stand before lines with directories and files,
 -- these before lines with faults, and these before the commands. Or else which of its lines is the first bad one, counted from 1.
-use Rattle.std.specs.Prelude.{ℕ, ◌+◌, nat_le, Bool, true, false, ◌&&◌, ◌||◌, ◌==◌, List, [], ◌∷◌, ◌++◌, length, take, map, replicate, codes, Option, Some, None, Result, Ok, Err, if◌then◌else◌}
+use Rattle.std.specs.Prelude.{ℕ, ◌+◌, nat_le, nat_lt, Bool, true, false, ◌&&◌, ◌||◌, ◌==◌, List, [], ◌∷◌, ◌++◌, length, take, map, replicate, codes, Option, Some, None, Result, Ok, Err, if◌then◌else◌}
 use Rattle.std.specs.List.{slice_split}
 use Rattle.hdfs_model.specs.declared.store.Line.{Line}
 use Rattle.hdfs_model.specs.declared.store.Line.TheVariants as lines
@@ -15,6 +15,7 @@ use Rattle.hdfs_model.specs.Steps.{World}
 use Rattle.hdfs_names.specs.declared.replacement.Policy.TheVariants as policies
 use Rattle.hdfs_script.specs.declared.entry.Entry.{Entry}
 use Rattle.hdfs_script.specs.declared.entry.Entry.TheVariants.{Sets, Loads, Runs, Bad}
+use Rattle.hdfs_script.specs.declared.entry.Place.{Place}
 use Rattle.hdfs_script.specs.declared.entry.ScriptSettings.{ScriptSettings}
 use Rattle.hdfs_script.specs.declared.entry.Setting.{Setting}
 use Rattle.hdfs_script.specs.declared.entry.Setting.TheVariants as settings
@@ -62,6 +63,8 @@ with_defaults given defaults = record given { cluster = record given.cluster { d
 -- settings with one of them given anew
 abbrev pub with_setting : ScriptSettings → Setting → ScriptSettings
 with_setting given (settings.User name) = record given { user = name }
+with_setting given (settings.Namenodes n) = record given { cluster = record given.cluster { namenodes = n } }
+with_setting given (settings.Active i) = record given { cluster = record given.cluster { active = i } }
 with_setting given (settings.Nodes n) = record given { cluster = record given.cluster { nodes = n } }
 with_setting given (settings.Block n) = with_defaults given (record given.cluster.defaults { block_size = n })
 with_setting given (settings.Chunk n) = with_defaults given (record given.cluster.defaults { bytes_per_checksum = n })
@@ -102,10 +105,49 @@ part_of now (Loads line) = if is_fault line then 2 else 1
 part_of now (Runs command) = 3
 part_of now _ = now
 
--- An entry may stand behind this part where its line is known and its part isn't an earlier one.
-abbrev pub may_stand : ℕ → Entry → Bool
-may_stand now Bad = false
-may_stand now entry = nat_le now (part_of now entry)
+-- how many namenodes there are behind a setting, where there were so many
+abbrev pub namenodes_with : ℕ → Setting → ℕ
+namenodes_with namenodes (settings.Namenodes n) = n
+namenodes_with namenodes _ = namenodes
+
+-- the number of the active namenode behind a setting, where it was this one
+abbrev pub active_with : ℕ → Setting → ℕ
+active_with active (settings.Active i) = i
+active_with active _ = active
+
+-- the same behind an entry
+abbrev pub namenodes_behind : ℕ → Entry → ℕ
+namenodes_behind namenodes (Sets setting) = namenodes_with namenodes setting
+namenodes_behind namenodes _ = namenodes
+
+abbrev pub active_behind : ℕ → Entry → ℕ
+active_behind active (Sets setting) = active_with active setting
+active_behind active _ = active
+
+-- where a script begins: with one namenode, which is active
+abbrev pub first_place : Place
+first_place = record { part = 0; namenodes = 1; active = 0 }
+
+-- the place behind an entry
+abbrev pub place_behind : Place → Entry → Place
+place_behind place entry = record {
+  part = part_of place.part entry;
+  namenodes = namenodes_behind place.namenodes entry;
+  active = active_behind place.active entry;
+}
+
+-- a setting leaves a namenode that is active
+abbrev pub may_set : Place → Setting → Bool
+may_set place (settings.Namenodes n) = nat_lt place.active n
+may_set place (settings.Active i) = nat_lt i place.namenodes
+may_set place _ = true
+
+-- An entry may stand at this place where its line is known, its part isn't an earlier one, and the active namenode is then one of
+-- those that there are.
+abbrev pub may_stand : Place → Entry → Bool
+may_stand place Bad = false
+may_stand place (Sets setting) = nat_le place.part 0 && may_set place setting
+may_stand place entry = nat_le place.part (part_of place.part entry)
 
 -- what the entries so far have come to: the settings, the lines that are loaded, and the files
 pub record SoFar : Type 0 where
@@ -133,12 +175,12 @@ with_entry so_far (Sets setting) = record so_far { given = with_setting so_far.g
 with_entry so_far (Loads line) = record so_far { lines = so_far.lines ++ line ∷ []; state = with_line so_far.state line }
 with_entry so_far _ = so_far
 
--- the number of the first bad line, where the next line has this part before it and this number
-abbrev pub first_bad : Bool → SoFar → ℕ → ℕ → List Entry → Option ℕ
-first_bad fresh so_far now number [] = None
-first_bad fresh so_far now number (entry ∷ entries) =
-    if may_stand now entry && is_taken fresh so_far entry
-    then first_bad fresh (with_entry so_far entry) (part_of now entry) (number + 1) entries
+-- the number of the first bad line, where the next line stands at this place and has this number
+abbrev pub first_bad : Bool → SoFar → Place → ℕ → List Entry → Option ℕ
+first_bad fresh so_far place number [] = None
+first_bad fresh so_far place number (entry ∷ entries) =
+    if may_stand place entry && is_taken fresh so_far entry
+    then first_bad fresh (with_entry so_far entry) (place_behind place entry) (number + 1) entries
     else Some number
 
 -- what entries say
@@ -152,7 +194,7 @@ unless_bad (Some line) entries = Err line
 
 -- the script that bytes are over a store with these files, or the number of the first bad line, from 1 on
 abbrev pub script : Bool → State → List ℕ → Result Script ℕ
-script fresh state bytes = unless_bad (first_bad fresh (begins state) 0 1 (entries_in bytes)) (entries_in bytes)
+script fresh state bytes = unless_bad (first_bad fresh (begins state) first_place 1 (entries_in bytes)) (entries_in bytes)
 
 -- the settings of a script's session, whose home is that of its user
 abbrev pub session_settings : ScriptSettings → Settings

@@ -1,10 +1,10 @@
 //! Why a script that is refused goes wrong at its first bad line. It is read once more for this.
 use crate::command::{flag, given_block_size, given_replication};
-use crate::entry::Entry;
+use crate::entry::{Entry, Place, Setting};
 use crate::fault::{link_kind, read_kind};
 use crate::line::entry;
 use crate::numbers::number;
-use crate::parsing::{SCRIPT_LIMIT, may_stand, part_of_entry};
+use crate::parsing::{FIRST_PLACE, SCRIPT_LIMIT, may_stand, place_behind};
 use crate::words::{U32_MOST, U64_MOST, is_ascii, is_text, is_word, words};
 use crate::wrong::{Complaint, Wrong};
 use hdfs_model::{Attributes, Line, is_block_size, is_path, is_permission, is_replication};
@@ -12,8 +12,10 @@ use hdfs_wire::Text;
 use std::alloc::Global;
 
 // What can be set, and what is wrong where its value isn't one of these.
-const SETTINGS: [(&str, Wrong); 10] = [
+const SETTINGS: [(&str, Wrong); 12] = [
     ("user", Wrong::User),
+    ("namenodes", Wrong::Namenodes),
+    ("active", Wrong::Active),
     ("nodes", Wrong::Nodes),
     ("block", Wrong::BlockSize),
     ("chunk", Wrong::Chunk),
@@ -300,14 +302,23 @@ fn untaken(line: &Line) -> Wrong {
     }
 }
 
-// What is wrong with a line that says this, behind this part of a script, over a store that is fresh or isn't.
-fn wrong_at(alloc: Global, fresh: bool, part: u8, line: &[u8], entry: &Entry) -> Wrong {
+// Why an entry may not stand at this place of a script.
+fn wrong_place(place: Place, entry: &Entry) -> Wrong {
+    match entry {
+        Entry::Sets(Setting::Namenodes(_)) if place.part == 0 => Wrong::Namenodes,
+        Entry::Sets(Setting::Active(_)) if place.part == 0 => Wrong::Active,
+        _ => Wrong::Order,
+    }
+}
+
+// What is wrong with a line that says this, at this place of a script, over a store that is fresh or isn't.
+fn wrong_at(alloc: Global, fresh: bool, place: Place, line: &[u8], entry: &Entry) -> Wrong {
     if !is_ascii(line) {
         return Wrong::NotAscii;
     }
     match entry {
         Entry::Bad => wrong_line(alloc, line),
-        _ if !may_stand(part, entry) => Wrong::Order,
+        _ if !may_stand(place, entry) => wrong_place(place, entry),
         Entry::Loads(line) if fresh => untaken(line),
         Entry::Sets(_) | Entry::Loads(_) => Wrong::HeldStore,
         Entry::Blank | Entry::Runs(_) => Wrong::Order,
@@ -318,10 +329,10 @@ fn wrong_at(alloc: Global, fresh: bool, part: u8, line: &[u8], entry: &Entry) ->
 pub fn complaint_at(alloc: Global, bytes: &[u8], fresh: bool, number: u64) -> Option<Complaint> {
     let front = bytes.get(..SCRIPT_LIMIT).unwrap_or(bytes);
     let mut lines = front.split(|b| *b == b'\n');
-    let mut part = 0;
+    let mut place = FIRST_PLACE;
     for _ in 1..number {
         let entry = entry(alloc, lines.next()?).ok()?;
-        part = part_of_entry(part, &entry);
+        place = place_behind(place, &entry);
     }
     let line = lines.next()?;
     if bytes.len() > SCRIPT_LIMIT && lines.next().is_none() {
@@ -329,6 +340,6 @@ pub fn complaint_at(alloc: Global, bytes: &[u8], fresh: bool, number: u64) -> Op
         return Some(Complaint { number, wrong });
     }
     let entry = entry(alloc, line).ok()?;
-    let wrong = wrong_at(alloc, fresh, part, line, &entry);
+    let wrong = wrong_at(alloc, fresh, place, line, &entry);
     Some(Complaint { number, wrong })
 }

@@ -8,6 +8,10 @@ use hdfs_wire::{List, Text};
 pub enum Setting {
     /// The user, in whose home directory relative paths stand.
     User(Text),
+    /// How many namenodes there are.
+    Namenodes(u32),
+    /// Which namenode is active, counted from 0.
+    Active(u32),
     /// How many datanodes there are.
     Nodes(u32),
     /// The block size of files that are created with the cluster's, in bytes.
@@ -51,6 +55,15 @@ pub enum Entry {
     Runs(Command),
     /// It is no line of a script.
     Bad,
+}
+
+/// Where the next line of a script stands: the part of the line before it, and the numbers of the namenodes by the settings so
+/// far, which depend on each other: how many there are, and which is active.
+#[derive(Clone, Copy)]
+pub(crate) struct Place {
+    pub(crate) part: u8,
+    pub(crate) namenodes: u32,
+    pub(crate) active: u32,
 }
 
 /// A line to load, and its number in the script, from 1 on.

@@ -4,9 +4,9 @@ ghost use Rattle.std.specs.List.{slice_split};
 ghost use Rattle.hdfs_script.specs.Entries.{entry_of};
 ghost use Rattle.hdfs_script.specs.Parsing.{Gains, Parses, bad_from, good_front, first_out};
 ghost use Rattle.hdfs_script.specs.Scripts as spec;
-ghost use Rattle.hdfs_script.specs.Scripts.{part_of, entries_in, line_entries, script_limit};
+ghost use Rattle.hdfs_script.specs.Scripts.{part_of, entries_in, first_place, line_entries, script_limit};
 
-use crate::entry::{Entry, NumberedLine, Parsed, Setting};
+use crate::entry::{Entry, NumberedLine, Parsed, Place, Setting};
 use crate::line::entry;
 use crate::settings::{no_settings, set};
 use hdfs_model::Line;
@@ -16,6 +16,13 @@ use std::alloc::Global;
 /// How many bytes a script may have.
 pub const SCRIPT_LIMIT: usize = 16777216;
 
+/// Where a script begins: with one namenode, which is active.
+pub(crate) const FIRST_PLACE: Place = Place {
+    part: 0,
+    namenodes: 1,
+    active: 0,
+};
+
 /// Whether a line plans a fault.
 pub fn is_fault(line: &Line) -> bool
     ensures { result ≡ spec.is_fault line.now }
@@ -23,8 +30,8 @@ pub fn is_fault(line: &Line) -> bool
     matches!(line, Line::Fault(_))
 }
 
-/// The part of a script in which an entry may stand, where the last one stood in this part.
-pub(crate) fn part_of_entry(now: u8, entry: &Entry) -> u8
+// The part of a script in which an entry may stand, where the last one stood in this part.
+fn part_of_entry(now: u8, entry: &Entry) -> u8
     ensures { result ≡ part_of now entry.now }
 {
     match entry {
@@ -36,11 +43,61 @@ pub(crate) fn part_of_entry(now: u8, entry: &Entry) -> u8
     }
 }
 
-/// Whether an entry may stand behind this part of a script.
-pub(crate) fn may_stand(now: u8, entry: &Entry) -> bool
-    ensures { result ≡ spec.may_stand now entry.now }
+// How many namenodes there are behind a setting, where there were so many.
+fn namenodes_with(namenodes: u32, setting: &Setting) -> u32
+    ensures { result ≡ spec.namenodes_with namenodes setting.now }
 {
-    !matches!(entry, Entry::Bad) && part_of_entry(now, entry) >= now
+    match setting {
+        Setting::Namenodes(given) => *given,
+        _ => namenodes,
+    }
+}
+
+// The number of the active namenode behind a setting, where it was this one.
+fn active_with(active: u32, setting: &Setting) -> u32
+    ensures { result ≡ spec.active_with active setting.now }
+{
+    match setting {
+        Setting::Active(given) => *given,
+        _ => active,
+    }
+}
+
+/// The place behind an entry.
+pub(crate) fn place_behind(place: Place, entry: &Entry) -> Place
+    ensures { result ≡ spec.place_behind place entry.now }
+{
+    let part = part_of_entry(place.part, entry);
+    match entry {
+        Entry::Sets(setting) => Place {
+            part,
+            namenodes: namenodes_with(place.namenodes, setting),
+            active: active_with(place.active, setting),
+        },
+        _ => Place { part, ..place },
+    }
+}
+
+// Whether a setting leaves a namenode that is active.
+fn may_set(place: Place, setting: &Setting) -> bool
+    ensures { result ≡ spec.may_set place setting.now }
+{
+    match setting {
+        Setting::Namenodes(namenodes) => place.active < *namenodes,
+        Setting::Active(active) => *active < place.namenodes,
+        _ => true,
+    }
+}
+
+/// Whether an entry may stand at this place of a script.
+pub(crate) fn may_stand(place: Place, entry: &Entry) -> bool
+    ensures { result ≡ spec.may_stand place entry.now }
+{
+    match entry {
+        Entry::Bad => false,
+        Entry::Sets(setting) => place.part == 0 && may_set(place, setting),
+        _ => part_of_entry(place.part, entry) >= place.part,
+    }
 }
 
 // What a line says, which is bad where it passes the script's limit.
@@ -82,17 +139,17 @@ fn read_lines(
     read: &mut Parsed,
 ) -> Result<Option<u64>, NoMemory>
     requires { length bytes.now ≤ script_limit }
-    ensures bad { IfOk result (λ bad. bad ≡ first_out 0 1 (bad_from limit 1 (line_entries bytes.now))) }
-    ensures gains { OnOk result (Gains read.old 1 (good_front 0 (bad_from limit 1 (line_entries bytes.now))) read.new) }
+    ensures bad { IfOk result (λ bad. bad ≡ first_out first_place 1 (bad_from limit 1 (line_entries bytes.now))) }
+    ensures gains { OnOk result (Gains read.old 1 (good_front first_place (bad_from limit 1 (line_entries bytes.now))) read.new) }
 {
-    let mut part = 0;
+    let mut place = FIRST_PLACE;
     let mut number = 1;
     for line in bytes.split(|b| *b == b'\n') {
         let entry = entry_within(alloc, line, number == limit)?;
-        if !may_stand(part, &entry) {
+        if !may_stand(place, &entry) {
             return Ok(Some(number));
         }
-        part = part_of_entry(part, &entry);
+        place = place_behind(place, &entry);
         put(read, number, entry)?;
         number += 1;
     }
@@ -108,8 +165,8 @@ fn count_lines(bytes: &[u8]) -> u64
 
 // Puts the lines of a script up to the first bad one behind what was read, and answers its number.
 fn read_script(alloc: Global, bytes: &[u8], read: &mut Parsed) -> Result<Option<u64>, NoMemory>
-    ensures bad { IfOk result (λ bad. bad ≡ first_out 0 1 (entries_in bytes.now)) }
-    ensures gains { OnOk result (Gains read.old 1 (good_front 0 (entries_in bytes.now)) read.new) }
+    ensures bad { IfOk result (λ bad. bad ≡ first_out first_place 1 (entries_in bytes.now)) }
+    ensures gains { OnOk result (Gains read.old 1 (good_front first_place (entries_in bytes.now)) read.new) }
 {
     if bytes.len() <= SCRIPT_LIMIT {
         return Ok(read_lines(alloc, bytes, 0, read)?);

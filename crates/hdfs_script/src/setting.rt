@@ -8,7 +8,9 @@ ghost use Rattle.hdfs_script.specs.Numbers.{number as number_of};
 use crate::command::flag;
 use crate::entry::{Entry, Setting};
 use crate::numbers::number;
-use crate::words::{BLOCK_SIZE_MOST, REPLICATION_MOST, SMALL_MOST, is_text, word};
+use crate::words::{
+    BLOCK_SIZE_MOST, NAMENODE_MOST, NAMENODES_MOST, REPLICATION_MOST, SMALL_MOST, is_text, word,
+};
 use hdfs_model::{MAX_CHUNK, MAX_NODES, MAX_PACKET};
 use hdfs_names::Policy;
 use hdfs_wire::{NoMemory, Text};
@@ -58,6 +60,26 @@ fn from_one(most: u32, text: &[u8]) -> Option<u32>
         return None;
     }
     Some(n as u32)
+}
+
+// `set namenodes NAMENODES`
+fn namenodes_entry(namenodes: &[u8]) -> Entry
+    ensures { result ≡ spec.from_one (λ n. Setting.Namenodes n) (number_of 10 17 namenodes.now) }
+{
+    match from_one(NAMENODES_MOST, namenodes) {
+        Some(namenodes) => Entry::Sets(Setting::Namenodes(namenodes)),
+        None => Entry::Bad,
+    }
+}
+
+// `set active ACTIVE`
+fn active_entry(active: &[u8]) -> Entry
+    ensures { result ≡ spec.from_zero (λ n. Setting.Active n) (number_of 10 16 active.now) }
+{
+    let Some(active) = number(10, NAMENODE_MOST, active) else {
+        return Entry::Bad;
+    };
+    Entry::Sets(Setting::Active(active as u32))
 }
 
 // `set nodes NODES`
@@ -195,6 +217,12 @@ fn writing_entry(key: &[u8], value: &[u8]) -> Entry
 fn cluster_entry(key: &[u8], value: &[u8]) -> Entry
     ensures { result ≡ spec.cluster_entry key.now value.now }
 {
+    if is_text(key, "namenodes") {
+        return namenodes_entry(value);
+    }
+    if is_text(key, "active") {
+        return active_entry(value);
+    }
     if is_text(key, "nodes") {
         return nodes_entry(value);
     }

@@ -39,6 +39,8 @@ pub(crate) fn set(settings: &mut ScriptSettings, setting: Setting)
 {
     match setting {
         Setting::User(user) => settings.user = user,
+        Setting::Namenodes(namenodes) => settings.cluster.namenodes = namenodes,
+        Setting::Active(active) => settings.cluster.active = active,
         Setting::Nodes(nodes) => settings.cluster.nodes = nodes,
         Setting::Block(size) => settings.cluster.defaults.block_size = size,
         Setting::Chunk(size) => settings.cluster.defaults.bytes_per_checksum = size,

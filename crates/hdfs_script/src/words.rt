@@ -9,6 +9,12 @@ use std::alloc::{AllocError, Global};
 /// The greatest number of 32 bits.
 pub(crate) const U32_MOST: u64 = 4294967295;
 
+/// How many namenodes a cluster has at most.
+pub(crate) const NAMENODES_MOST: u32 = 16;
+
+/// The greatest number of a namenode.
+pub(crate) const NAMENODE_MOST: u64 = 15;
+
 /// The greatest replication.
 pub(crate) const REPLICATION_MOST: u32 = 65535;
 

@@ -10,7 +10,7 @@ pub enum Wrong {
     CarriageReturn,
     #[error("begins with none of `set`, `dir`, `file`, `short`, `fault`, `do` and `#`")]
     Kind,
-    #[error("not `set SETTING VALUE`, with one space between words, where SETTING is `user`, `nodes`, `block`, `chunk`, `packet`, `replication`, `rebuilds`, `window`, `policy` or `besteffort`")]
+    #[error("not `set SETTING VALUE`, with one space between words, where SETTING is `user`, `namenodes`, `active`, `nodes`, `block`, `chunk`, `packet`, `replication`, `rebuilds`, `window`, `policy` or `besteffort`")]
     SetWords,
     #[error("not `dir PATH`, with one space between words")]
     DirWords,
@@ -42,6 +42,10 @@ pub enum Wrong {
     ReadWords,
     #[error("NAME isn't one or more letters and digits")]
     User,
+    #[error("NAMENODES isn't a number from 1 to 16, or isn't above the number of the active namenode")]
+    Namenodes,
+    #[error("ACTIVE isn't the number of a namenode, which are counted from 0")]
+    Active,
     #[error("NODES isn't a number from 1 to 64")]
     Nodes,
     #[error("CHUNK isn't a number of bytes from 1 to 1073741824")]

@@ -94,11 +94,6 @@ pub readies_some : (fresh : Bool) (old : Shown) (settings : MemSettings) (new : 
 readies_some true old settings new ready valid some = omega (arith, ready.namenodes, valid.active)
 readies_some false old settings new same valid some = omega (arith, ap (λ (s : Shown). s.namenodes) same, some)
 
--- there is one namenode
-pub readies_one : (fresh : Bool) (old : Shown) (settings : MemSettings) (new : Shown) → Readies fresh old settings new → settings.namenodes ≡ 1 → (fresh ≡ false → old.namenodes ≡ 1) → new.namenodes ≡ 1
-readies_one true old settings new ready one held = ready.namenodes ∙ one
-readies_one false old settings new same one held = ap (λ (s : Shown). s.namenodes) same ∙ held refl
-
 -- nothing was loaded
 pub readies_lines : (fresh : Bool) (old : Shown) (settings : MemSettings) (new : Shown) → Readies fresh old settings new → new.loaded.lines ≡ old.loaded.lines
 readies_lines true old settings new ready = ap (λ l. l.lines) ready.loaded

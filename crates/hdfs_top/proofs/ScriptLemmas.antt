@@ -1,5 +1,5 @@
 -- What a script is over a store, and what a run of it has done.
-use Rattle.std.proofs.Common.{inl, inr, ⊎_elim, ◌⊎◌, ◌≡◌, ℕ, ◌+◌, ◌<◌, ◌≤◌, nat_le, Bool, true, false, Some, List, [], ◌∷◌, ◌++◌, length, take, Ok, Err, refl, sym, ◌∙◌, ap, subst, arith}
+use Rattle.std.proofs.Common.{inl, inr, ⊎_elim, ◌⊎◌, ◌≡◌, ℕ, ◌+◌, ◌<◌, ◌≤◌, nat_le, Bool, true, false, Some, List, [], ◌++◌, length, take, Ok, Err, refl, sym, ◌∙◌, ap, subst, arith}
 use Rattle.std.proofs.lemmas.List.{take_all, length-take-le, take-take}
 use Rattle.std.proofs.lemmas.Bool.{cases_lt}
 use Rattle.std.proofs.lemmas.Bool.Decides.{nat_tests}
@@ -16,13 +16,8 @@ use Rattle.hdfs_model.specs.Shown.{Shown, Later}
 use Rattle.hdfs_model.specs.Steps.{World}
 use Rattle.hdfs_model.proofs.Frames.{told_refl, same_picture_refl, never_fall_trans, never_fall_from-SameCounts, same_counts_trans}
 use Rattle.hdfs_script.specs.declared.entry.Parsed.{Parsed}
-use Rattle.hdfs_script.specs.declared.entry.Entry.{Entry}
-use Rattle.hdfs_script.specs.declared.entry.Entry.TheVariants.{Blank, Sets, Loads, Runs, Bad}
-use Rattle.hdfs_script.specs.declared.entry.ScriptSettings.{ScriptSettings}
-use Rattle.hdfs_script.specs.declared.entry.Setting.{Setting}
-use Rattle.hdfs_script.specs.declared.entry.Setting.TheVariants as settings
-use Rattle.hdfs_script.specs.Parsing.{Parses, good_front, plain_lines}
-use Rattle.hdfs_script.specs.Scripts.{Script, script, begins, ends_bad, entries_in, first_bad, line_entries, no_settings, script_limit, session_settings, settings_from, unless_bad, with_setting}
+use Rattle.hdfs_script.specs.Parsing.{Parses, plain_lines}
+use Rattle.hdfs_script.specs.Scripts.{Script, script, begins, ends_bad, entries_in, first_bad, first_place, line_entries, script_limit, session_settings, unless_bad}
 use Rattle.hdfs_script.proofs.HalfLemmas.{refused_from, script_from, script_read}
 use Rattle.hdfs_script.specs.Texts.{replies_text, fault_text, refusal_text}
 use Rattle.hdfs_streams.specs.Streams.{SourceShown, SinkShown, TookAtMost, Wrote}
@@ -32,7 +27,7 @@ use Rattle.hdfs_top.specs.Top.{IsSession, Outside, outside, IsKnown, Loaded, Fin
 use Rattle.hdfs_top.specs.Inside.{RanSession, Gave, IsKnownStore, LoadsScript, RefusesScript, PrintsWhole, Concludes, ToEnd, ToFault, NotesStop, RanCommands, stage, world_ready}
 use Rattle.hdfs_client.proofs.Since.{cause_since, tells_since}
 use Rattle.hdfs_top.proofs.LoadLemmas.{closed_lines}
-use Rattle.hdfs_top.proofs.ReadyLemmas.{readies_counts, readies_defaults, readies_fits, readies_lines, readies_one, readies_settings, readies_some}
+use Rattle.hdfs_top.proofs.ReadyLemmas.{readies_counts, readies_defaults, readies_fits, readies_lines, readies_settings, readies_some}
 use Rattle.hdfs_top.proofs.SessionLemmas.{whole_at_2}
 use Rattle.hdfs_top.proofs.StatusLemmas.{Kept, ran_done, ran_refused, ran_stopped, ran_no_memory, ran_sink_failed}
 
@@ -65,7 +60,7 @@ entries-take bytes = ⊎_elim
 -- what the source gave is as good as all that it has
 given_is : (a : Outside) (given all : List ℕ) (left : SourceShown) (state : State) → Gave a.source given left → IsKnown a all state → script a.fresh state all ≡ script a.fresh state given
 given_is a given all left state gave known =
-    ap (λ entries. unless_bad (first_bad a.fresh (begins state) 0 1 entries) entries) (entries-take all ∙ ap entries_in (sym (gave.front all known.told)))
+    ap (λ entries. unless_bad (first_bad a.fresh (begins state) first_place 1 entries) entries) (entries-take all ∙ ap entries_in (sym (gave.front all known.told)))
 
 -- the bytes are refused at this line, and a store that isn't fresh is as it was
 abbrev RefusedAt : Outside → ℕ → Outside → Type 0
@@ -118,8 +113,6 @@ none_rose_since n m old mid new le same none = record {
 pub record LoadedRun (a : Outside) (given : List ℕ) (s : Script) (mid : Shown) (b : Outside) : Type 0 where
   pub gave : Gave a.source given b.source
   pub is : (state : State) → Fits a.store state → script a.fresh state given ≡ Ok s
-  pub some : 0 < a.store.namenodes
-  pub namenodes : (a.fresh ≡ false → a.store.namenodes ≡ 1) → mid.namenodes ≡ 1
   pub counts : SameCounts a.store.counts mid.counts
   pub world : (state : State) → Fits a.store state → world_ready s.settings mid ≡ world_over a s
   pub settings : a.fresh ≡ true → mid.loaded.settings ≡ Some s.settings.cluster
@@ -129,7 +122,7 @@ pub record LoadedRun (a : Outside) (given : List ℕ) (s : Script) (mid : Shown)
 
 after_lines : (a b : Outside) (given : List ℕ) (s : Script) (mid : Shown) → LoadedRun a given s mid b → (bytes : List ℕ) (state : State) → IsKnown a bytes state → IsKnownStore mid (with_lines state s.lines)
 after_lines a b given s mid run bytes state known =
-    record { one = run.namenodes known.one; fits = run.fits state known.fits; closed = closed_lines state s.lines known.closed }
+    record { fits = run.fits state known.fits; closed = closed_lines state s.lines known.closed }
 
 loaded_from : (a b : Outside) (given : List ℕ) (s : Script) (mid : Shown) → LoadedRun a given s mid b → (bytes : List ℕ) (state : State) → IsKnown a bytes state → Loaded a bytes state s b
 loaded_from a b given s mid run bytes state known = record {
@@ -171,7 +164,7 @@ decides_from a b given s mid status run stop two bytes state found known is limi
     let stays = run.world state known.fits in
     let within : AreLimited (world_ready s.settings mid) start s.commands =
     subst (λ (w : World). AreLimited w start s.commands) (sym stays) (subst (λ (x : Script). AreLimited (world_over a x) (with_lines state x.lines) x.commands) (sym same) limited) in
-    let none_since = none_rose_since a.store.namenodes mid.namenodes a.store.counts mid.counts b.store.counts (omega (arith, run.namenodes known.one, run.some)) run.counts none.calls in
+    let none_since = none_rose_since b.store.namenodes mid.namenodes a.store.counts mid.counts b.store.counts (omega (arith, run.later.namenodes)) run.counts none.calls in
     let fault : StatusOf (fold (world_ready s.settings mid) start s.commands) 2 = stop.complete start (after_lines a b given s mid run bytes state known) within none_since in
     let there : StatusOf (fold (world_over a s) start s.commands) 2 = subst (λ (w : World). StatusOf (fold w start s.commands) 2) stays fault in
     let this : StatusOf (fold (world_over a s) start s.commands) status = subst (λ (n : ℕ). StatusOf (fold (world_over a s) start s.commands) n) (sym two) there in
@@ -203,36 +196,12 @@ ran_ending a b given s mid status run (inl whole) words is =
 ran_ending a b given s mid status run (inr (inl end)) words is = ran_end a b given s mid status run end end.printed words is
 ran_ending a b given s mid status run (inr (inr stop)) words is = ran_fault a b given s mid status run stop stop.printed words is
 
--- no setting changes how many namenodes there are
-one_setting : (given : ScriptSettings) (setting : Setting) → (with_setting given setting).cluster.namenodes ≡ given.cluster.namenodes
-one_setting given (settings.User name) = refl
-one_setting given (settings.Nodes n) = refl
-one_setting given (settings.Block n) = refl
-one_setting given (settings.Chunk n) = refl
-one_setting given (settings.Packet n) = refl
-one_setting given (settings.Replication n) = refl
-one_setting given (settings.Rebuilds n) = refl
-one_setting given (settings.Window n) = refl
-one_setting given (settings.Policy policy) = refl
-one_setting given (settings.BestEffort best_effort) = refl
-
-one_namenode : (given : ScriptSettings) (entries : List Entry) → (settings_from given entries).cluster.namenodes ≡ given.cluster.namenodes
-one_namenode given [] = refl
-one_namenode given (Sets setting ∷ entries) = one_namenode (with_setting given setting) entries ∙ one_setting given setting
-one_namenode given (Blank ∷ entries) = one_namenode given entries
-one_namenode given (Loads line ∷ entries) = one_namenode given entries
-one_namenode given (Runs command ∷ entries) = one_namenode given entries
-one_namenode given (Bad ∷ entries) = one_namenode given entries
-
-loaded_run : (a b : Outside) (given : List ℕ) (read : Parsed) (mid : Shown) → 0 < a.store.namenodes → Gave a.source given b.source → Parses given read → LoadsScript a.fresh a.store read mid → Later mid b.store → LoadedRun a given (script_read read) mid b
-loaded_run a b given read mid some gave parses loads later =
+loaded_run : (a b : Outside) (given : List ℕ) (read : Parsed) (mid : Shown) → Gave a.source given b.source → Parses given read → LoadsScript a.fresh a.store read mid → Later mid b.store → LoadedRun a given (script_read read) mid b
+loaded_run a b given read mid gave parses loads later =
     let cluster = read.settings.cluster in
-    let one : cluster.namenodes ≡ 1 = ap (λ (g : ScriptSettings). g.cluster.namenodes) parses.settings ∙ one_namenode no_settings (good_front 0 (entries_in given)) in
     record {
       gave = gave;
       is = λ state fits. script_from a.fresh state given read parses (loads.none state fits);
-      some = some;
-      namenodes = λ held. loads.loads.namenodes ∙ readies_one a.fresh a.store cluster loads.ready loads.readies one held;
       counts = same_counts_trans a.store.counts loads.ready.counts mid.counts (readies_counts a.fresh a.store cluster loads.ready loads.readies) loads.loads.counts;
       world = λ state fits. ap (world_with (session_settings read.settings)) (loads.loads.defaults ∙ readies_defaults a.fresh a.store read.settings loads.ready loads.readies state fits);
       settings = λ fresh. loads.loads.settings ∙ readies_settings a.fresh a.store cluster loads.ready loads.readies fresh;
@@ -248,17 +217,17 @@ some_namenode fresh old read new loads valid some =
     omega (arith, loads.loads.namenodes, ready)
 
 -- the lines were loaded, and the commands run
-pub ran_loaded : (a b : Outside) (given : List ℕ) (read : Parsed) (mid : Shown) (status : ℕ) → 0 < a.store.namenodes → Gave a.source given b.source → Parses given read → LoadsScript a.fresh a.store read mid
+pub ran_loaded : (a b : Outside) (given : List ℕ) (read : Parsed) (mid : Shown) (status : ℕ) → Gave a.source given b.source → Parses given read → LoadsScript a.fresh a.store read mid
     → RanCommands read.settings read.commands (stage mid a.sink) status (stage b.store b.sink) → RanSession a status b
-ran_loaded a b given read mid status some gave parses loads ran =
-    ran_ending a b given (script_read read) mid status (loaded_run a b given read mid some gave parses loads ran.later) ran.ending
+ran_loaded a b given read mid status gave parses loads ran =
+    ran_ending a b given (script_read read) mid status (loaded_run a b given read mid gave parses loads ran.later) ran.ending
 
 -- and where they stopped, that was noted
-pub notes_loaded : (a b : Outside) (given : List ℕ) (read : Parsed) (mid : Shown) (status : ℕ) (note : Note) → 0 < a.store.namenodes → Gave a.source given b.source → Parses given read → LoadsScript a.fresh a.store read mid
+pub notes_loaded : (a b : Outside) (given : List ℕ) (read : Parsed) (mid : Shown) (status : ℕ) (note : Note) → Gave a.source given b.source → Parses given read → LoadsScript a.fresh a.store read mid
     → Later mid b.store → status ≡ 2 → NotesStop read.settings read.commands (stage mid a.sink) status note (stage b.store b.sink) → NotesFault a note b
 unfolding halts_from
-notes_loaded a b given read mid status note some gave parses loads later two noted =
-    let run : LoadedRun a given (script_read read) mid b = loaded_run a b given read mid some gave parses loads later in record {
+notes_loaded a b given read mid status note gave parses loads later two noted =
+    let run : LoadedRun a given (script_read read) mid b = loaded_run a b given read mid gave parses loads later in record {
       fault = noted.stop.fault;
       is = noted.is;
       wrote = whole_at_2 status a.sink b.sink (fault_text noted.stop.fault) noted.stop.printed two;

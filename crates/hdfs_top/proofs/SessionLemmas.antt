@@ -48,7 +48,6 @@ avoids_closed w state (commands.Close path) closed = tt
 
 ready : (w : World) (old : Shown) (state : State) (commands : List Command) → IsKnownStore old state → Ready w (record { opened = none_open; shown = old }) state commands
 ready w old state commands known = record {
-  one = known.one;
   fits = known.fits;
   opened = known.closed.opened;
   avoids = λ k d within. avoids_closed w state (get_or commands k d) known.closed;

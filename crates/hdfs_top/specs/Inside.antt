@@ -36,9 +36,8 @@ pub record Gave (before : SourceShown) (bytes : List ℕ) (after : SourceShown) 
   pub fine : after.failures ≡ before.failures
   pub front : IsFront (script_limit + 1) before bytes
 
--- The store has one namenode, tells its picture, and agrees with this state, whose files are all closed.
+-- The store tells its picture, and agrees with this state, whose files are all closed.
 pub record IsKnownStore (store : Shown) (state : State) : Type 0 where
-  pub one : store.namenodes ≡ 1
   pub fits : Fits store state
   pub closed : IsClosed state
 

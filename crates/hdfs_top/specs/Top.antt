@@ -37,11 +37,9 @@ pub record IsClosed (state : State) : Type 0 where
   pub opened : SameOpened none_open state
   pub written : (path : List ℕ) (content : Content) → state.files path ≡ Some (Writing content) → ⊥
 
--- The source tells these bytes. The store tells its picture, and agrees with this state, whose files are all closed. One that isn't
--- fresh has one namenode. (A fresh one has as many as the script says.)
+-- The source tells these bytes. The store tells its picture, and agrees with this state, whose files are all closed.
 pub record IsKnown (before : Outside) (bytes : List ℕ) (state : State) : Type 0 where
   pub told : before.source.left ≡ Some bytes
-  pub one : before.fresh ≡ false → before.store.namenodes ≡ 1
   pub fits : Fits before.store state
   pub closed : IsClosed state
 
@@ -133,11 +131,11 @@ pub record FailedSource (before after : Outside) : Type 0 where
   pub wrote : Wrote before.sink [] after.sink
   pub store : SameShown before.store after.store
 
--- no read, no write and no call of the store failed
+-- No read, no write and no call of the store failed. (It has as many namenodes as the script says, or as it had where it isn't fresh.)
 pub record NoneFailed (before after : Outside) : Type 0 where
   pub reads : Rose before.source.failures after.source.failures → ⊥
   pub writes : Rose before.sink.failures after.sink.failures → ⊥
-  pub calls : NoneRose before.store.namenodes before.store.counts after.store.counts
+  pub calls : NoneRose after.store.namenodes before.store.counts after.store.counts
 
 -- the status where nothing fails: done where the fold refuses nothing, else the fault; want of memory may always come
 abbrev pub StatusOf : Folded → ℕ → Type 0

@@ -18,8 +18,8 @@ returns-then-not-may_stand c =
     let next = entries-drop c.args.limit c.loop-line.number pieces (length c.loop-line.yielded) c.in-Some.line.now c.in_ok-entry.entry turn c.in_ok-entry.ensures in
     let bad = sym c.if-not-may_stand.ensures in
     record {
-      bad = out_bad c.loop-line.part c.loop-line.number c.in_ok-entry.entry _ _ _ next bad c.loop-line.invariant.out;
-      gains = c.loop-line.invariant.gains c.loop-line.read (gains_end c.loop-line.number _ c.loop-line.read (front_none c.loop-line.part c.in_ok-entry.entry _ _ next bad));
+      bad = out_bad c.loop-line.place c.loop-line.number c.in_ok-entry.entry _ _ _ next bad c.loop-line.invariant.out;
+      gains = c.loop-line.invariant.gains c.loop-line.read (gains_end c.loop-line.number _ c.loop-line.read (front_none c.loop-line.place c.in_ok-entry.entry _ _ next bad));
     }
 
 -- the next line was put behind those before it
@@ -30,11 +30,11 @@ loop-line-preserved c =
     let turn = YieldsList-turn (YieldsList-at c.into_iter-line-iterator.ensures.into_iter_gives (YieldsList-from_slice_split _ (λ b. b == 10) c.args.bytes.now cut.rest cut.done cut.closure (λ x b q k. search (rules, tests)))) c.loop-line.yielded _ c.loop-line.yielded_by _ _ c.in-Some.line c.in-Some.is c.next.ensures.steps in
     let next = entries-drop c.args.limit c.loop-line.number pieces (length c.loop-line.yielded) c.in-Some.line.now c.in_ok-entry.entry turn c.in_ok-entry.ensures in
     let stands = sym c.if-not-may_stand.ensures in
-    let part = c.part_of_entry-part.ensures in
+    let behind = c.place_behind-place.ensures in
     rw length_push (record {
       count = omega (arith, c.loop-line.invariant.count);
-      gains = λ last more. c.loop-line.invariant.gains last (gains_more c.loop-line.number c.in_ok-entry.entry _ _ c.loop-line.read c.put.new.read last (front_more c.loop-line.part _ c.in_ok-entry.entry _ _ next stands part) c.in_ok-put.ensures more);
-      out = out_more c.loop-line.part _ c.loop-line.number c.in_ok-entry.entry _ _ _ next stands part c.loop-line.invariant.out;
+      gains = λ last more. c.loop-line.invariant.gains last (gains_more c.loop-line.number c.in_ok-entry.entry _ _ c.loop-line.read c.put.new.read last (front_more c.loop-line.place _ c.in_ok-entry.entry _ _ next stands behind) c.in_ok-put.ensures more);
+      out = out_more c.loop-line.place _ c.loop-line.number c.in_ok-entry.entry _ _ _ next stands behind c.loop-line.invariant.out;
     })
 
 -- no line is left
@@ -45,6 +45,6 @@ returns c =
     let end = YieldsList-end (YieldsList-at c.into_iter-line-iterator.ensures.into_iter_gives (YieldsList-from_slice_split _ (λ b. b == 10) c.args.bytes.now cut.rest cut.done cut.closure (λ x b q k. search (rules, tests)))) c.loop-line.yielded _ c.loop-line.yielded_by _ _ c.in-None.is c.next.ensures.steps in
     let none = at_drop_all (λ ps. bad_from c.args.limit c.loop-line.number (map entry_of ps)) pieces (length c.loop-line.yielded) (omega (arith, end.1)) in
     record {
-      bad = out_all c.loop-line.part c.loop-line.number _ _ none c.loop-line.invariant.out;
-      gains = c.loop-line.invariant.gains c.loop-line.read (gains_end c.loop-line.number _ c.loop-line.read (ap (good_front c.loop-line.part) none));
+      bad = out_all c.loop-line.place c.loop-line.number _ _ none c.loop-line.invariant.out;
+      gains = c.loop-line.invariant.gains c.loop-line.read (gains_end c.loop-line.number _ c.loop-line.read (ap (good_front c.loop-line.place) none));
     }

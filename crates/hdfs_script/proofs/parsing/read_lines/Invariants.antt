@@ -3,7 +3,7 @@ use Rattle.std.specs.List.{slice_split}
 use Rattle.hdfs_script.specs.declared.entry.Parsed.{Parsed}
 use Rattle.hdfs_script.specs.Entries.{entry_of}
 use Rattle.hdfs_script.specs.Parsing.{Gains, bad_from, good_front, first_out}
-use Rattle.hdfs_script.specs.Scripts.{line_entries}
+use Rattle.hdfs_script.specs.Scripts.{first_place, line_entries}
 use Rattle.hdfs_script.proofs.parsing.read_lines.Given as goal
 
 -- the entries that are to come, behind what was read, make the whole
@@ -13,6 +13,6 @@ invariant-loop-line l =
     let all = bad_from l.limit 1 (line_entries l.bytes) in
     record {
       count : l.number ≡ length l.yielded + 1;
-      gains : (last : Parsed) → Gains l.read l.number (good_front l.part rest) last → Gains l.fn.read 1 (good_front 0 all) last;
-      out : first_out l.part l.number rest ≡ first_out 0 1 all;
+      gains : (last : Parsed) → Gains l.read l.number (good_front l.place rest) last → Gains l.fn.read 1 (good_front first_place all) last;
+      out : first_out l.place l.number rest ≡ first_out first_place 1 all;
     }

@@ -1,6 +1,7 @@
 use Rattle.std.proofs.Common.{ap, ◌∙◌, refl, arith}
 use Rattle.std.proofs.lemmas.List.{length-take-le}
 use Rattle.hdfs_script.specs.Parsing.{first_out}
+use Rattle.hdfs_script.specs.Scripts.{first_place}
 use Rattle.hdfs_script.proofs.GainLemmas.{gains_same}
 use Rattle.hdfs_script.proofs.ParseLemmas.{entries_short, entries_long}
 use Rattle.hdfs_script.proofs.parsing.read_script.Goals as goal
@@ -10,7 +11,7 @@ pub returns-then-bytes-le-SCRIPT_LIMIT : goal.returns-then-bytes-le-SCRIPT_LIMIT
 returns-then-bytes-le-SCRIPT_LIMIT c =
     let entries = entries_short c.args.bytes.now (omega arith) in
     record {
-      bad = c.in_ok-read_lines.ensures.bad ∙ ap (first_out 0 1) entries;
+      bad = c.in_ok-read_lines.ensures.bad ∙ ap (first_out first_place 1) entries;
       gains = gains_same 1 _ _ c.args.read.now c.read_lines.new.read entries c.in_ok-read_lines.ensures.gains;
     }
 
@@ -25,6 +26,6 @@ pub returns : goal.returns
 returns c =
     let entries = entries_long _ c.args.bytes.now _ (omega arith) refl c.count_lines-limit.ensures in
     record {
-      bad = c.in_ok-read_lines-2.ensures.bad ∙ ap (first_out 0 1) entries;
+      bad = c.in_ok-read_lines-2.ensures.bad ∙ ap (first_out first_place 1) entries;
       gains = gains_same 1 _ _ c.args.read.now c.read_lines-2.new.read entries c.in_ok-read_lines-2.ensures.gains;
     }

@@ -13,11 +13,11 @@ returns-in-Ok-load_script g c =
       ran = λ bytes source left parses gave.
           let limited = limited_settings _ given c.in-Ok.ensures parses.limited in
           let ran = rw (c.as_slice.ensures, c.in-Ok-load_script.ensures.loaded.0) at c.run_commands.ensures.ran given c.in-Ok.ensures limited in
-          ran_loaded _ _ bytes c.args.read _ _ c.requires.namenode gave parses loads ran;
+          ran_loaded _ _ bytes c.args.read _ _ gave parses loads ran;
       noted = λ two bytes source left parses gave.
           let limited = limited_settings _ given c.in-Ok.ensures parses.limited in
           let ran = rw (c.as_slice.ensures, c.in-Ok-load_script.ensures.loaded.0) at c.run_commands.ensures.ran given c.in-Ok.ensures limited in
-          notes_loaded _ _ bytes c.args.read _ _ _ c.requires.namenode gave parses loads ran.later two
+          notes_loaded _ _ bytes c.args.read _ _ _ gave parses loads ran.later two
           (rw (c.as_slice.ensures, c.in-Ok-load_script.ensures.loaded.0) at c.run_commands.ensures.noted two given c.in-Ok.ensures limited);
     }
 
