@@ -2,7 +2,7 @@
 
 use crate::{Ending, sink, source, words};
 use hdfs_cluster::{Cluster, MemCluster};
-use hdfs_namenode::NamenodeProtocol;
+use hdfs_namenode::{NameServiceProxy, NamenodeProtocol};
 use hdfs_top::{Note, top};
 use std::alloc::Global;
 use std::test::Fail;
@@ -27,10 +27,12 @@ pub fn noted(
 
 /// The uuids of the datanodes that a namenode lists for the blocks of a file, block by block, each behind a blank.
 pub fn listed(alloc: Global, path: &str, store: &mut MemCluster) -> Result<String, Fail> {
-    if store.namenodes() == 0 {
+    let namenodes = store.namenodes();
+    if namenodes == 0 {
         return Err("there is no namenode".into());
     }
-    let namenode = NamenodeProtocol::new(alloc, [0; 16])?;
+    let service = NameServiceProxy::new(0, namenodes);
+    let mut namenode = NamenodeProtocol::new(alloc, service, [0; 16])?;
     let mut uuids = String::new(alloc);
     let Some(found) = namenode.get_block_locations(store, path, 0, u64::MAX)? else {
         return Ok(uuids);

@@ -10,7 +10,7 @@ use hdfs_block_writer::RebuildSettings;
 use hdfs_cluster::MemCluster;
 use hdfs_files::{FileWriter, WriteSizes};
 use hdfs_model::{Appended, Cluster, HdfsError, Reply};
-use hdfs_namenode::NamenodeProtocol;
+use hdfs_namenode::{NameServiceProxy, NamenodeProtocol};
 use hdfs_names::{Policy, ReplaceDatanodeOnFailure};
 use hdfs_wire::Text;
 use std::alloc::Global;
@@ -34,17 +34,29 @@ fn sizes(block_size: u64) -> WriteSizes
     }
 }
 
+/// What asks the namenodes of the cluster.
+fn client(alloc: Global, cluster: &MemCluster) -> Result<NamenodeProtocol, Fail> {
+    let namenodes = cluster.namenodes();
+    if namenodes == 0 {
+        return Err("no namenode".into());
+    }
+    let service = NameServiceProxy::new(0, namenodes);
+    Ok(NamenodeProtocol::new(alloc, service, [0; 16])?)
+}
+
 /// Creates `/f`, and gives its writer.
 fn create(
     alloc: Global,
     cluster: &mut MemCluster,
-    namenode: &NamenodeProtocol,
+    namenode: &mut NamenodeProtocol,
     block_size: u64,
 ) -> Result<FileWriter, Fail>
-    requires namenode { 0 < (shown_of cluster.old).namenodes }
     requires size { (0 < block_size) × (block_size < 2 ^ 63) }
     ensures { IfOk result (λ writer. (shown : Shown) → Stands shown writer) }
 {
+    if !namenode.is_service_of(cluster) {
+        return Err("no namenode".into());
+    }
     let Ok(Some(status)) = namenode.create(cluster, "/f", 0o644, 1, true, 1, block_size) else {
         return Err("not created".into());
     };
@@ -56,13 +68,13 @@ fn create(
 fn write(
     writer: &mut FileWriter,
     cluster: &mut MemCluster,
-    namenode: &NamenodeProtocol,
+    namenode: &mut NamenodeProtocol,
     bytes: &[u8],
 ) -> Result<(), Fail>
     requires { Stands (shown_of cluster.old) writer.old }
     ensures { Stands (shown_of cluster.new) writer.new }
 {
-    if cluster.namenodes() == 0 {
+    if !namenode.reaches_all(cluster) {
         return Err("no namenode".into());
     }
     match writer.write(cluster, namenode, bytes) {
@@ -75,13 +87,13 @@ fn write(
 fn append(
     alloc: Global,
     cluster: &mut MemCluster,
-    namenode: &NamenodeProtocol,
+    namenode: &mut NamenodeProtocol,
     block_size: u64,
 ) -> Result<FileWriter, Fail>
     requires size { (0 < block_size) × (block_size < 2 ^ 63) }
     ensures { IfOk result (λ writer. (shown : Shown) → Stands shown writer) }
 {
-    if cluster.namenodes() == 0 {
+    if !namenode.is_service_of(cluster) {
         return Err("no namenode".into());
     }
     let Ok(Appended { block, .. }) = namenode.append(cluster, "/f", 4) else {
@@ -95,11 +107,11 @@ fn append(
 fn close(
     writer: FileWriter,
     cluster: &mut MemCluster,
-    namenode: &NamenodeProtocol,
+    namenode: &mut NamenodeProtocol,
 ) -> Result<(), Fail>
     requires { Stands (shown_of cluster.old) writer }
 {
-    if cluster.namenodes() == 0 {
+    if !namenode.reaches_all(cluster) {
         return Err("no namenode".into());
     }
     match writer.close(cluster, namenode) {
@@ -113,7 +125,7 @@ fn gone_on(
     alloc: Global,
     writer: FileWriter,
     cluster: &mut MemCluster,
-    namenode: &NamenodeProtocol,
+    namenode: &mut NamenodeProtocol,
     block_size: u64,
     reopens: bool,
 ) -> Result<FileWriter, Fail>
@@ -141,12 +153,19 @@ fn written_and_read(
     requires { (0 < block_size) × (block_size < 2 ^ 63) }
 {
     let mut cluster = cluster(alloc)?;
-    let namenode = NamenodeProtocol::new(alloc, [0; 16])?;
-    let mut writer = create(alloc, &mut cluster, &namenode, block_size)?;
-    write(&mut writer, &mut cluster, &namenode, first)?;
-    let mut writer = gone_on(alloc, writer, &mut cluster, &namenode, block_size, reopens)?;
-    write(&mut writer, &mut cluster, &namenode, second)?;
-    close(writer, &mut cluster, &namenode)?;
+    let mut namenode = client(alloc, &cluster)?;
+    let mut writer = create(alloc, &mut cluster, &mut namenode, block_size)?;
+    write(&mut writer, &mut cluster, &mut namenode, first)?;
+    let mut writer = gone_on(
+        alloc,
+        writer,
+        &mut cluster,
+        &mut namenode,
+        block_size,
+        reopens,
+    )?;
+    write(&mut writer, &mut cluster, &mut namenode, second)?;
+    close(writer, &mut cluster, &mut namenode)?;
     if cluster.namenodes() == 0 {
         return Err("no namenode".into());
     }
@@ -190,7 +209,7 @@ fn a_file_of_many_blocks_is_read_back(rt: HostRuntime) -> Result<(), Fail> {
 fn an_exception_of_create_is_answered_by_its_error(rt: HostRuntime) -> Result<(), Fail> {
     let alloc = rt.alloc();
     let mut cluster = cluster(alloc)?;
-    let namenode = NamenodeProtocol::new(alloc, [0; 16])?;
+    let mut namenode = client(alloc, &cluster)?;
     assert_eq!(rt;
         namenode.client_name(),
         "hdfs_native_client-00000000-0000-0000-0000-000000000000"
@@ -211,7 +230,7 @@ fn an_exception_of_create_is_answered_by_its_error(rt: HostRuntime) -> Result<()
         ("/d", 1, true, "AlreadyExists"),
     ];
     for (path, flag, parents, wanted) in &rows {
-        if cluster.namenodes() == 0 {
+        if !namenode.is_service_of(&cluster) {
             return Err("no namenode".into());
         }
         let answer = namenode.create(&mut cluster, path, 0o644, *flag, *parents, 1, 8);

@@ -4,12 +4,12 @@ use hdfs_cluster::{
     Ask, AskFault, Block, Cluster, DatanodeInfo, HdfsError, LocatedBlock, LocatedBlocks,
     MemCluster, MemSettings,
 };
-use hdfs_namenode::NamenodeProtocol;
+use hdfs_namenode::{NameServiceProxy, NamenodeProtocol};
 use hdfs_wire::Text;
 use std::alloc::Global;
 use std::test::Fail;
 
-/// A cluster in memory, and a client that asks its first namenode.
+/// A cluster in memory, and a client that asks its namenodes.
 #[derive(Drop)]
 pub(crate) struct Client {
     pub(crate) alloc: Global,
@@ -25,10 +25,15 @@ impl Client {
     }
 
     pub(crate) fn over(alloc: Global, cluster: MemCluster) -> Result<Client, Fail> {
+        let namenodes = cluster.namenodes();
+        if namenodes == 0 {
+            return Err(Fail::from("there is no namenode"));
+        }
+        let service = NameServiceProxy::new(0, namenodes);
         Ok(Client {
             alloc,
             cluster: Box::new(alloc, cluster)?,
-            namenode: NamenodeProtocol::new(alloc, [0; 16])?,
+            namenode: NamenodeProtocol::new(alloc, service, [0; 16])?,
         })
     }
 
@@ -39,8 +44,8 @@ impl Client {
         create_flag: u32,
         create_parent: bool,
     ) -> Result<(u32, Option<u64>, u32), Fail> {
-        if self.cluster.namenodes() == 0 {
-            return Err(Fail::from("there is a namenode"));
+        if !self.namenode.is_service_of(&*self.cluster) {
+            return Err(Fail::from("the namenodes are there"));
         }
         let cluster = &mut *self.cluster;
         let status = self
@@ -52,8 +57,8 @@ impl Client {
 
     /// The id of the last block, its stamp and its length.
     pub(crate) fn append(&mut self, path: &str) -> Result<(u64, u64, u64), Fail> {
-        if self.cluster.namenodes() == 0 {
-            return Err(Fail::from("there is a namenode"));
+        if !self.namenode.is_service_of(&*self.cluster) {
+            return Err(Fail::from("the namenodes are there"));
         }
         let appended = self.namenode.append(&mut *self.cluster, path, 4)?;
         let block = appended.block.ok_or("the file has a block")?;
@@ -70,7 +75,7 @@ impl Client {
         path: &str,
         previous: Option<&Block>,
     ) -> Result<(u64, u64), HdfsError> {
-        if self.cluster.namenodes() == 0 {
+        if !self.namenode.is_service_of(&*self.cluster) {
             return Err(HdfsError::Failed);
         }
         let cluster = &mut *self.cluster;
@@ -79,15 +84,15 @@ impl Client {
     }
 
     pub(crate) fn complete(&mut self, path: &str, last: Option<&Block>) -> Result<bool, HdfsError> {
-        if self.cluster.namenodes() == 0 {
+        if !self.namenode.is_service_of(&*self.cluster) {
             return Err(HdfsError::Failed);
         }
         self.namenode.complete(&mut *self.cluster, path, last, None)
     }
 
     pub(crate) fn locate(&mut self, path: &str) -> Result<LocatedBlocks, Fail> {
-        if self.cluster.namenodes() == 0 {
-            return Err(Fail::from("there is a namenode"));
+        if !self.namenode.is_service_of(&*self.cluster) {
+            return Err(Fail::from("the namenodes are there"));
         }
         let cluster = &mut *self.cluster;
         let found = self.namenode.get_block_locations(cluster, path, 0, 100)?;
@@ -96,7 +101,7 @@ impl Client {
 
     /// How many replicas a file has where a client says nothing.
     pub(crate) fn default_replication(&mut self) -> Result<u32, HdfsError> {
-        if self.cluster.namenodes() == 0 {
+        if !self.namenode.is_service_of(&*self.cluster) {
             return Err(HdfsError::Failed);
         }
         let defaults = self.namenode.get_server_defaults(&mut *self.cluster)?;
@@ -105,7 +110,7 @@ impl Client {
 
     /// The id of the block, and its new stamp.
     pub(crate) fn stamp_anew(&mut self, id: u64) -> Result<(u64, u64), HdfsError> {
-        if self.cluster.namenodes() == 0 {
+        if !self.namenode.is_service_of(&*self.cluster) {
             return Err(HdfsError::Failed);
         }
         let block = named(self.alloc, id, 1000, 0);
@@ -122,7 +127,7 @@ impl Client {
         id: u64,
         excludes: &[DatanodeInfo],
     ) -> Result<LocatedBlock, HdfsError> {
-        if self.cluster.namenodes() == 0 {
+        if !self.namenode.is_service_of(&*self.cluster) {
             return Err(HdfsError::Failed);
         }
         let block = named(self.alloc, id, 1000, 0);
@@ -140,7 +145,7 @@ impl Client {
         stamp: u64,
         uuid: &str,
     ) -> Result<(), HdfsError> {
-        if self.cluster.namenodes() == 0 {
+        if !self.namenode.is_service_of(&*self.cluster) {
             return Err(HdfsError::Failed);
         }
         let old_block = named(self.alloc, old, 1000, 0);
@@ -153,8 +158,8 @@ impl Client {
 
     /// The class of the exception that is answered. For a client two of them are one error.
     fn class(&mut self, ask: &Ask) -> Result<Text, Fail> {
-        if self.cluster.namenodes() == 0 {
-            return Err(Fail::from("there is a namenode"));
+        if !self.namenode.is_service_of(&*self.cluster) {
+            return Err(Fail::from("the namenodes are there"));
         }
         class_of(self.cluster.ask(0, ask))
     }

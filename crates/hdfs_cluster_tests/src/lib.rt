@@ -18,4 +18,6 @@ mod planning;
 #[cfg(test)]
 mod short_replicas;
 #[cfg(test)]
+mod standbys;
+#[cfg(test)]
 mod transferring;

@@ -7,7 +7,7 @@ use hdfs_cluster::{
     Attributes, Cluster, FaultLine, Line, LinkFault, LocatedBlocks, MemCluster, MemSettings,
     ReadAsk, ReadKind, ServerDefaults, Store,
 };
-use hdfs_namenode::NamenodeProtocol;
+use hdfs_namenode::{NameServiceProxy, NamenodeProtocol};
 use hdfs_wire::{Blob, Text};
 use std::alloc::Global;
 use std::test::Fail;
@@ -53,7 +53,8 @@ fn loaded(alloc: Global) -> Result<MemCluster, Fail>
 fn located(alloc: Global, cluster: &mut MemCluster) -> Result<LocatedBlocks, Fail>
     requires { (shown_of cluster.old).namenodes ≡ 1 }
 {
-    let namenode = NamenodeProtocol::new(alloc, [0; 16])?;
+    let service = NameServiceProxy::new(0, 1);
+    let mut namenode = NamenodeProtocol::new(alloc, service, [0; 16])?;
     let found = namenode.get_block_locations(cluster, "/a", 0, 10)?;
     Ok(found.ok_or("the file is located")?)
 }

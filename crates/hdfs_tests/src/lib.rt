@@ -4,6 +4,8 @@
 #[cfg(test)]
 mod fault_rows;
 #[cfg(test)]
+mod namenode_rows;
+#[cfg(test)]
 mod pipeline_rows;
 #[cfg(test)]
 mod replica_rows;

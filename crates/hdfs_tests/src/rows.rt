@@ -89,6 +89,26 @@ fn each_script_is_answered_as_by_the_plain_program(rt: HostRuntime) -> Result<()
     Ok(())
 }
 
+#[test]
+fn each_script_is_answered_the_same_whichever_namenode_is_active(
+    rt: HostRuntime,
+) -> Result<(), Fail> {
+    let alloc = rt.alloc();
+    for (script, text, status) in &ROWS {
+        let expected = expected(alloc, *status, text)?;
+        for active in 0..3u32 {
+            let script = format!(in alloc; "set namenodes 3\nset active {active}\n{script}")?;
+            assert_eq!(rt; answer(alloc, script.as_bytes())?, expected, "{script}");
+            assert_eq!(rt;
+                plain_answer(alloc, script.as_bytes())?,
+                expected,
+                "{script}"
+            );
+        }
+    }
+    Ok(())
+}
+
 /// Scripts with faults of datanodes, what is written, and the status.
 const FAULTS: [(&str, &str, u8); 8] = [
     (
@@ -147,7 +167,7 @@ fn a_broken_packet_fails_the_read_that_met_it(rt: HostRuntime) -> Result<(), Fai
 }
 
 /// Scripts that are refused, and their first bad line.
-const BAD: [(&str, u64); 107] = [
+const BAD: [(&str, u64); 116] = [
     ("file  /a 644 1 8 00", 1),
     (" file /a 644 1 8 00", 1),
     ("file /a 644 1 8 00 ", 1),
@@ -217,6 +237,15 @@ const BAD: [(&str, u64); 107] = [
     ("fault read 0 1 broken\nfile /a 644 1 8 00", 2),
     ("do read /x 0 0\nfault read 0 1 broken", 2),
     ("do read /x 0 0\nfile /a 644 1 8 00", 2),
+    ("set namenodes 0", 1),
+    ("set namenodes 17", 1),
+    ("set namenodes 03", 1),
+    ("set active 1", 1),
+    ("set active 2\nset namenodes 3", 1),
+    ("set namenodes 3\nset active 3", 2),
+    ("set namenodes 3\nset active 2\nset namenodes 2", 3),
+    ("dir /a\nset active 0", 2),
+    ("set active 0\nset active 00", 2),
     ("set nodes 65", 1),
     ("set nodes 0", 1),
     ("set block 0", 1),

@@ -124,7 +124,7 @@ fn errors_of_the_outside(rt: HostRuntime) -> Result<(), Fail> {
 }
 
 /// Scripts, and what is noted beside their status.
-const NOTES: [(&str, &str); 35] = [
+const NOTES: [(&str, &str); 38] = [
     ("", "the script has no command"),
     (
         "put\n",
@@ -132,11 +132,23 @@ const NOTES: [(&str, &str); 35] = [
     ),
     (
         "set\n",
-        "line 1: not `set SETTING VALUE`, with one space between words, where SETTING is `user`, `nodes`, `block`, `chunk`, `packet`, `replication`, `rebuilds`, `window`, `policy` or `besteffort`",
+        "line 1: not `set SETTING VALUE`, with one space between words, where SETTING is `user`, `namenodes`, `active`, `nodes`, `block`, `chunk`, `packet`, `replication`, `rebuilds`, `window`, `policy` or `besteffort`",
     ),
     (
         "set user a-b\n",
         "line 1: NAME isn't one or more letters and digits",
+    ),
+    (
+        "set namenodes 17\n",
+        "line 1: NAMENODES isn't a number from 1 to 16, or isn't above the number of the active namenode",
+    ),
+    (
+        "set namenodes 3\nset active 2\nset namenodes 2\n",
+        "line 3: NAMENODES isn't a number from 1 to 16, or isn't above the number of the active namenode",
+    ),
+    (
+        "set active 1\n",
+        "line 1: ACTIVE isn't the number of a namenode, which are counted from 0",
     ),
     (
         "set nodes 65\n",

@@ -175,6 +175,24 @@ fn each_script_that_writes_is_answered_as_by_the_plain_program(
     Ok(())
 }
 
+#[test]
+fn each_script_that_writes_is_answered_the_same_where_the_last_namenode_is_active(
+    rt: HostRuntime,
+) -> Result<(), Fail> {
+    let alloc = rt.alloc();
+    for (script, text, status) in &ROWS {
+        let expected = expected(alloc, *status, text)?;
+        let script = format!(in alloc; "set namenodes 3\nset active 2\n{script}")?;
+        assert_eq!(rt; answer(alloc, script.as_bytes())?, expected, "{script}");
+        assert_eq!(rt;
+            plain_answer(alloc, script.as_bytes())?,
+            expected,
+            "{script}"
+        );
+    }
+    Ok(())
+}
+
 /// Scripts whose numbers are out of their limits, or with a fault of a datanode, what is written, and the status.
 const OUT: [(&str, &str, u8); 7] = [
     (

@@ -102,6 +102,49 @@ fn settings_of_writes_are_read(rt: HostRuntime) -> Result<(), Fail> {
     Ok(())
 }
 
+// Scripts that set something of the namenodes, and what they come to: how many there are, which is active, and the first bad line.
+const NAMENODES: [(&str, (u32, u32, Option<u64>)); 12] = [
+    ("", (1, 0, None)),
+    ("set active 0", (1, 0, None)),
+    ("set namenodes 1", (1, 0, None)),
+    ("set namenodes 3", (3, 0, None)),
+    ("set namenodes 3\nset active 2", (3, 2, None)),
+    ("set namenodes 16\nset active 15", (16, 15, None)),
+    (
+        "set namenodes 3\nset active 2\nset active 1\nset namenodes 2",
+        (2, 1, None),
+    ),
+    (
+        "set namenodes 3\nset active 2\nset active 0\nset namenodes 1",
+        (1, 0, None),
+    ),
+    ("set active 2\nset namenodes 3", (1, 0, Some(1))),
+    ("set namenodes 3\nset active 3", (3, 0, Some(2))),
+    (
+        "set namenodes 3\nset active 2\nset namenodes 2\nset active 1",
+        (3, 2, Some(3)),
+    ),
+    (
+        "set namenodes 3\n\n# active\nset active 2\nset namenodes 17",
+        (3, 2, Some(5)),
+    ),
+];
+
+#[test]
+fn one_of_the_namenodes_is_active(rt: HostRuntime) -> Result<(), Fail> {
+    for (script, wanted) in NAMENODES {
+        let read = parse(rt.alloc(), script.as_bytes())?;
+        let cluster = read.settings.cluster;
+        assert!(rt; cluster.are_valid(), "{script}");
+        assert_eq!(rt;
+            (cluster.namenodes, cluster.active, read.bad),
+            wanted,
+            "{script}"
+        );
+    }
+    Ok(())
+}
+
 #[test]
 fn new_files_have_any_replication(rt: HostRuntime) -> Result<(), Fail> {
     for (word, wanted) in [
@@ -122,11 +165,19 @@ fn new_files_have_any_replication(rt: HostRuntime) -> Result<(), Fail> {
 }
 
 // Lines, and what is said of each as the first of a script over a fresh store.
-const WRONG: [(&str, Wrong); 61] = [
+const WRONG: [(&str, Wrong); 69] = [
     ("set", Wrong::SetWords),
     ("set racks 1", Wrong::SetWords),
     ("set user", Wrong::SetWords),
     ("set user a-b", Wrong::User),
+    ("set namenodes 0", Wrong::Namenodes),
+    ("set namenodes 17", Wrong::Namenodes),
+    ("set namenodes two", Wrong::Namenodes),
+    ("set namenodes", Wrong::SetWords),
+    ("set active 1", Wrong::Active),
+    ("set active 16", Wrong::Active),
+    ("set active -", Wrong::Active),
+    ("set active 0 1", Wrong::SetWords),
     ("set nodes 0", Wrong::Nodes),
     ("set nodes 65", Wrong::Nodes),
     ("set block 0", Wrong::BlockSize),
@@ -201,6 +252,13 @@ fn what_is_wrong_with_a_line_is_said(rt: HostRuntime) {
 fn what_is_wrong_with_the_second_line_is_said(rt: HostRuntime) {
     for (script, fresh, wrong) in [
         ("dir /a\nset nodes 1", true, Wrong::Order),
+        ("dir /a\nset namenodes 2", true, Wrong::Order),
+        ("dir /a\nset active 0", true, Wrong::Order),
+        ("dir /a\nset active 1", true, Wrong::Order),
+        ("set namenodes 3\nset active 3", true, Wrong::Active),
+        ("set namenodes 16\nset active 16", true, Wrong::Active),
+        ("#\nset namenodes 2", false, Wrong::HeldStore),
+        ("#\nset active 0", false, Wrong::HeldStore),
         ("fault ack 0 1\ndir /a", true, Wrong::Order),
         ("fault ack 0 1\nshort /a 0 0 1", true, Wrong::Order),
         ("#\nset nodes 1", false, Wrong::HeldStore),
