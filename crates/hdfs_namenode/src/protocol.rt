@@ -94,7 +94,9 @@ impl NamenodeProtocol {
             offset,
             length,
         };
-        match self.proxy.call(cluster, &ask, false) {
+        let answer = self.proxy.call(cluster, &ask, false);
+        drop(ask);
+        match answer {
             Ok(Answer::GetBlockLocations(found)) => Ok(found),
             Ok(_) => unreachable!(),
             Err(error) => Err(error),
@@ -111,11 +113,16 @@ impl NamenodeProtocol {
             (as_answer answers.GetServerDefaults result) (through self.new cluster.new) }
         ensures keeps { SameClient self.old self.new }
     {
-        match self.proxy.call(cluster, &Ask::GetServerDefaults, false) {
-            Ok(Answer::GetServerDefaults(defaults)) => Ok(defaults),
-            Ok(_) => unreachable!(),
-            Err(error) => Err(error),
-        }
+        let asked = Ask::GetServerDefaults;
+        let answer = self.proxy.call(cluster, &asked, false);
+        drop(asked);
+        let answer = answer?;
+        let defaults = match answer {
+            Answer::GetServerDefaults(defaults) => defaults,
+            _ => unreachable!(),
+        };
+        drop(answer);
+        Ok(defaults)
     }
 
     /// The same, asked for once: what was answered is kept, and given again.
@@ -157,7 +164,8 @@ impl NamenodeProtocol {
         block_size: u64,
     ) -> Result<Option<FileStatusMsg>, HdfsError>
         requires { IsServiceOf (proxy_of self.old) (C.shown cluster.old) }
-        ensures asked { AskedOnce C.serves true (asks.Create src.now masked (name_of self.old) create_flag create_parent replication block_size)
+        ensures asked { AskedOnce C.serves true
+            (asks.Create src.now masked (name_of self.old) create_flag create_parent replication block_size)
             (through self.old cluster.old) (as_answer answers.Create result) (through self.new cluster.new) }
         ensures keeps { SameClient self.old self.new }
     {
@@ -170,7 +178,9 @@ impl NamenodeProtocol {
             replication,
             block_size,
         };
-        match self.proxy.call(cluster, &ask, true) {
+        let answer = self.proxy.call(cluster, &ask, true);
+        drop(ask);
+        match answer {
             Ok(Answer::Create(status)) => Ok(status),
             Ok(_) => unreachable!(),
             Err(error) => Err(error),
@@ -195,7 +205,9 @@ impl NamenodeProtocol {
             client_name: self.client.copy(self.alloc)?,
             flag,
         };
-        match self.proxy.call(cluster, &ask, true) {
+        let answer = self.proxy.call(cluster, &ask, true);
+        drop(ask);
+        match answer {
             Ok(Answer::Append(appended)) => Ok(appended),
             Ok(_) => unreachable!(),
             Err(error) => Err(error),
@@ -213,7 +225,8 @@ impl NamenodeProtocol {
         file_id: Option<u64>,
     ) -> Result<LocatedBlock, HdfsError>
         requires { IsServiceOf (proxy_of self.old) (C.shown cluster.old) }
-        ensures asked { AskedOnce C.serves true (asks.AddBlock src.now (name_of self.old) (option_copied previous.entry) excludes.now file_id)
+        ensures asked { AskedOnce C.serves true
+            (asks.AddBlock src.now (name_of self.old) (option_copied previous.entry) excludes.now file_id)
             (through self.old cluster.old) (as_answer answers.AddBlock result) (through self.new cluster.new) }
         ensures keeps { SameClient self.old self.new }
     {
@@ -224,7 +237,9 @@ impl NamenodeProtocol {
             excludes: copy_nodes(self.alloc, excludes)?,
             file_id,
         };
-        match self.proxy.call(cluster, &ask, true) {
+        let answer = self.proxy.call(cluster, &ask, true);
+        drop(ask);
+        match answer {
             Ok(Answer::AddBlock(block)) => Ok(block),
             Ok(_) => unreachable!(),
             Err(error) => Err(error),
@@ -250,11 +265,15 @@ impl NamenodeProtocol {
             last: copy_block(self.alloc, last)?,
             file_id,
         };
-        match self.proxy.call(cluster, &ask, true) {
-            Ok(Answer::Complete(done)) => Ok(done),
-            Ok(_) => unreachable!(),
-            Err(error) => Err(error),
-        }
+        let answer = self.proxy.call(cluster, &ask, true);
+        drop(ask);
+        let answer = answer?;
+        let done = match answer {
+            Answer::Complete(done) => done,
+            _ => unreachable!(),
+        };
+        drop(answer);
+        Ok(done)
     }
 
     /// A generation stamp and a token for `block`, which is to be gone on with by another pipeline. The stamp is greater than the
@@ -273,7 +292,9 @@ impl NamenodeProtocol {
             block: block.copy(self.alloc)?,
             client_name: self.client.copy(self.alloc)?,
         };
-        match self.proxy.call(cluster, &ask, true) {
+        let answer = self.proxy.call(cluster, &ask, true);
+        drop(ask);
+        match answer {
             Ok(Answer::UpdateBlockForPipeline(block)) => Ok(block),
             Ok(_) => unreachable!(),
             Err(error) => Err(error),
@@ -308,7 +329,9 @@ impl NamenodeProtocol {
             client_name: self.client.copy(self.alloc)?,
             existing_storage_ids: copy_texts(self.alloc, existing_storage_ids)?,
         };
-        match self.proxy.call(cluster, &ask, true) {
+        let answer = self.proxy.call(cluster, &ask, true);
+        drop(ask);
+        match answer {
             Ok(Answer::GetAdditionalDatanode(block)) => Ok(block),
             Ok(_) => unreachable!(),
             Err(error) => Err(error),
@@ -337,10 +360,9 @@ impl NamenodeProtocol {
             new_nodes: copy_ids(self.alloc, new_nodes)?,
             storage_ids: copy_texts(self.alloc, storage_ids)?,
         };
-        match self.proxy.call(cluster, &ask, true) {
-            Ok(Answer::UpdatePipeline) => Ok(()),
-            Ok(_) => unreachable!(),
-            Err(error) => Err(error),
-        }
+        let answer = self.proxy.call(cluster, &ask, true);
+        drop(ask);
+        drop(answer?);
+        Ok(())
     }
 }

@@ -92,6 +92,7 @@ impl NameServiceProxy {
                 continue;
             }
             last = i;
+            drop(given);
             given = cluster.ask(i, ask);
         }
         (last, given)
