@@ -27,6 +27,7 @@ impl Client {
     pub(crate) fn over(alloc: Global, cluster: MemCluster) -> Result<Client, Fail> {
         let namenodes = cluster.namenodes();
         if namenodes == 0 {
+            drop(cluster);
             return Err(Fail::from("there is no namenode"));
         }
         let service = NameServiceProxy::new(0, namenodes);
