@@ -19,7 +19,7 @@ use Rattle.hdfs_block_writer.specs.declared.block_writer.BlockWriter.{BlockWrite
 use Rattle.hdfs_block_writer.specs.BlockWriters.{Carries, GoesOver, IsKept, link_in, link_of, safe_of, start_of}
 use Rattle.hdfs_recovery.specs.Between.{OnlyBlockOf}
 use Rattle.hdfs_recovery.proofs.Stepping.{only_block_of_trans}
-use Rattle.hdfs_block_writer.specs.OpenPipelines.{Finishes, GivesUp, IsOver, KeepsBlock, OnlyOwnLink, RebuiltOnFailures, id_of}
+use Rattle.hdfs_block_writer.specs.OpenPipelines.{Finishes, GivesUp, IsOver, KeepsBlock, KeepsStamp, OnlyOwnLink, RebuiltOnFailures, id_of}
 use Rattle.hdfs_block_writer.specs.Pushing.{CanPush, FinishesNot, IsEnding, Pushes, PushesNot}
 use Rattle.hdfs_block_writer.specs.Written.{Closes, EndsBlock, Ends, GaveUp, IsCarrying, Wrote}
 use Rattle.hdfs_block_writer.proofs.GoingOn.{gives_up_since, keeps_block_trans, since_steady, steady_end}
@@ -40,7 +40,7 @@ module _ (w : BlockWriter) (pipe : BlockPipeline) (packet : Outgoing) (a : Shown
   starts_before : total pipe.core.pushed ≤ start_of w
   starts_before = omega (arith, over.starts)
 
-  at_end : start_of w ≡ w.length
+  pub at_end : start_of w ≡ w.length
   at_end = omega (arith, ap (λ (o : Option Outgoing). length (filling_of o)) none)
 
   pub can_push_last : CanPush w.settings a pipe w.length packet
@@ -70,7 +70,7 @@ module _ (w : BlockWriter) (pipe : BlockPipeline) (packet : Outgoing) (a : Shown
     )
 
     -- what the writer carries is over the pipeline then
-    over_now : (p : Picture) → a.picture ≡ Some p → IsCarrying w p
+    pub over_now : (p : Picture) → a.picture ≡ Some p → IsCarrying w p
         → (q : Picture) × (b.picture ≡ Some q) × IsOver pipe' [] q × OnlyBlockOf (id_of pipe) p q
     over_now p told c =
         let has = over_then w pipe packet is kept.filled starts_before empty last.begins p c.0 c.1 in
@@ -83,14 +83,14 @@ module _ (w : BlockWriter) (pipe : BlockPipeline) (packet : Outgoing) (a : Shown
       not_finished fault not other there =
           subst (λ (y : BlockPipeline). GivesUp w.settings y (IsCarrying w) a fault z) (pipe_is pipe other (sym is ∙ there))
           (gives_up_since w.settings pipe pipe' (IsCarrying w) (IsOver pipe' []) a b z
-          (since_steady a b pipe pipe' pushed.continues.own.later pushed.continues.steady) pushed.continues.own pushed.continues.keeps.id over_now
+          (since_steady a b pipe pipe' pushed.continues.own.later pushed.continues.steady) pushed.continues.keeps pushed.continues.own over_now
           fault not)
 
       -- All are acknowledged.
       module _ (plan : BlockPlan) (f : Finishes w.settings b pipe' z plan) where
         whole : (p : Picture) (bytes : List ℕ) → a.picture ≡ Some p → Carries p w bytes
             → (q : Picture) × (z.picture ≡ Some q) × HoldsWhole q (id_of pipe) w.length (uuids plan.block.locs) bytes
-            × OnlyBlockOf (id_of pipe) p q
+            × OnlyBlockOf (id_of pipe) p q × KeepsStamp p pipe.plan q plan
         whole p bytes told c =
             let has = over_then w pipe packet is kept.filled starts_before empty last.begins p bytes c in
             let m = pushed.continues.told p (safe_of w pipe) bytes told has in
@@ -102,6 +102,7 @@ module _ (w : BlockWriter) (pipe : BlockPipeline) (packet : Outgoing) (a : Shown
               subst (λ (k : ℕ). HoldsWhole x.0 (id_of pipe) k (uuids plan.block.locs) bytes) (sym c.counted)
                   (subst (λ (i : ℕ). HoldsWhole x.0 i (length bytes) (uuids plan.block.locs) bytes) pushed.continues.keeps.id x.2),
               only_block_of_trans (id_of pipe) p m.0 x.0 m.3 (subst (λ (i : ℕ). OnlyBlockOf i m.0 x.0) pushed.continues.keeps.id x.3),
+              λ s. x.4 (m.4 s),
             )
 
         ends : Ends a w plan z
@@ -122,6 +123,7 @@ module _ (w : BlockWriter) (pipe : BlockPipeline) (packet : Outgoing) (a : Shown
                 x.1,
                 subst (λ (y : BlockPipeline). HoldsWhole x.0 (id_of y) w.length (uuids plan.block.locs) bytes) same x.2,
                 subst (λ (y : BlockPipeline). OnlyBlockOf (id_of y) p x.0) same x.3,
+                subst (λ (y : BlockPipeline). KeepsStamp p y.plan x.0 plan) same x.4,
               );
         }
 
@@ -155,6 +157,7 @@ closes_after a b c w x block f g =
                   (subst (λ (l : ℕ). HoldsWhole n.0 (id_of m.2.pipe) l (uuids plan.block.locs) bytes) len
                   (subst (HoldsWhole n.0 (id_of m.2.pipe) x.length (uuids plan.block.locs)) (append-nil bytes) n.2)),
               only_block_of_trans (id_of carried.pipe) p m.0 n.0 m.3 (subst (λ (i : ℕ). OnlyBlockOf i m.0 n.0) id n.3),
+              λ s. n.4 (m.4 carried.pipe m.2.pipe carried.is m.2.is s),
             );
       },
     )

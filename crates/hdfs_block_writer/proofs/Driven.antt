@@ -145,7 +145,7 @@ module _ (pipe : BlockPipeline) (more rest : List Outgoing) (a b : Shown) (core'
   -- The block has over the pipeline what it had: what was acknowledged meanwhile is safe too. Nothing changed but the block.
   pub has_drove : (q : Picture) × (b.picture ≡ Some q)
       × Has q (record pipe { core = core' }) rest (safe + total (take drove.acknowledged pipe.core.pushed)) bytes
-      × OnlyBlockOf (id_of pipe) p q
+      × OnlyBlockOf (id_of pipe) p q × (q.table (id_of pipe) ≡ p.table (id_of pipe))
   has_drove = (
     after.0,
     after.2,
@@ -157,4 +157,5 @@ module _ (pipe : BlockPipeline) (more rest : List Outgoing) (a b : Shown) (core'
       slices = drove_slices;
     },
     only_block_of-only (id_of pipe) (nodes_of pipe) p after.0 drove_only,
+    drove_only.records.table (id_of pipe),
   )

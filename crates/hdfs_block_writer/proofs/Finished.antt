@@ -26,10 +26,10 @@ use Rattle.hdfs_recovery.specs.declared.block_plan.WriteFault.TheVariants as fau
 use Rattle.hdfs_block_writer.specs.declared.pushing.Settled.TheVariants as settled
 use Rattle.hdfs_recovery.specs.Between.{OnlyBlockOf}
 use Rattle.hdfs_recovery.specs.Attempts.{GaveNoneAfter, RebuiltAfter, standing, task_of}
-use Rattle.hdfs_block_writer.specs.OpenPipelines.{Finishes, Has, IsStanding, id_of}
+use Rattle.hdfs_block_writer.specs.OpenPipelines.{Finishes, Has, IsStanding, KeepsStamp, id_of}
 use Rattle.hdfs_block_writer.specs.Pushing.{FallsFor, Settles}
 use Rattle.hdfs_block_writer.proofs.GivenUp.{bad_given_up, given_up_after, stopped_given_up}
-use Rattle.hdfs_block_writer.proofs.LettingGo.{gone_only, gone_picture, gone_told, gone_waits, long_plan, now_safe, own_none, until_gone}
+use Rattle.hdfs_block_writer.proofs.LettingGo.{gone_only, gone_picture, gone_table, gone_told, gone_waits, long_plan, now_safe, own_none, until_gone}
 use Rattle.hdfs_block_writer.proofs.Rebuilt.{FallsOff, have_failed, rebuilt_after}
 use Rattle.hdfs_block_writer.proofs.Standing.{failed_places, standing_drove}
 use Rattle.hdfs_recovery.proofs.Stepping.{keeps_links_refl}
@@ -92,6 +92,7 @@ module _ (settings : RebuildSettings) (pipe : BlockPipeline) (a z m : Shown) (la
     whole_told : (p : Picture) (safe : ℕ) (bytes : List ℕ) → a.picture ≡ Some p → Has p pipe [] safe bytes
         → safe + total pipe.core.pushed ≡ length bytes → (q : Picture) × (m.picture ≡ Some q)
         × HoldsWhole q (id_of pipe) (length bytes) (uuids pipe.plan.block.locs) bytes × OnlyBlockOf (id_of pipe) p q
+        × KeepsStamp p pipe.plan q pipe.plan
     whole_told p safe bytes told has whole =
         let q = gone_picture pipe [] last a z m drove gone (inl refl) stands.block.some [] p safe bytes told has in
         let w = gone_waits pipe [] last a z m drove gone (inl refl) stands.block.some [] p safe bytes told has 0 in (
@@ -100,6 +101,7 @@ module _ (settings : RebuildSettings) (pipe : BlockPipeline) (a z m : Shown) (la
           waits_whole q (id_of pipe) (uuids pipe.plan.block.locs) (now_safe pipe [] last a z m drove gone (inl refl) safe) bytes w.block
               (all_safe safe (length bytes) whole) some_nodes,
           gone_only pipe [] last a z m drove gone (inl refl) stands.block.some [] p safe bytes told has,
+          λ s. (s.0, gone_table pipe [] last a z m drove gone (inl refl) stands.block.some [] p safe bytes told has ∙ s.1, s.2),
         )
 
     pub finishes : Finishes settings a pipe m pipe.plan

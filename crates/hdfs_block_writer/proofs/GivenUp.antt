@@ -1,5 +1,5 @@
 -- A pipeline of which datanodes have failed isn't rebuilt, and its block is given up.
-use Rattle.std.proofs.Common.{◌≡◌, ◌⊎◌, inl, inr, ⊎_elim, ℕ, ℤ, zero, suc, ◌+◌, ◌-◌, ◌^◌, ◌<◌, Bool, true, false, cond, ◌==◌, List, [], ◌∷◌, ◌++◌, length, Some, None, refl, sym, ◌∙◌, ap, subst, arith}
+use Rattle.std.proofs.Common.{◌≡◌, ◌⊎◌, inl, inr, ⊎_elim, ℕ, ℤ, zero, suc, ◌+◌, ◌-◌, ◌^◌, ◌<◌, Bool, true, false, not, cond, ◌==◌, List, [], ◌∷◌, ◌++◌, length, Some, None, refl, sym, ◌∙◌, ap, subst, arith}
 use Rattle.std.proofs.lemmas.Bool.{eqb-true}
 use Rattle.std.proofs.lemmas.List.{get_or_default, length-map}
 use Rattle.std.proofs.lemmas.List.Folds.{Any-from_list_any}
@@ -14,14 +14,16 @@ use Rattle.hdfs_model.specs.Shown.{Shown, Later}
 use Rattle.hdfs_model.proofs.Frames.{later_refl, later_trans, rose_since}
 use Rattle.hdfs_pipeline.specs.Driving.{Drove, StopsShort}
 use Rattle.hdfs_pipeline.specs.Pipelines.{Bad, Pipeline}
+use Rattle.hdfs_names.specs.Replacements.{ShouldReplace}
+use Rattle.hdfs_names.specs.Shown.{shown as policy_of}
 use Rattle.hdfs_recovery.specs.declared.block_plan.BlockPipeline.{BlockPipeline}
 use Rattle.hdfs_recovery.specs.declared.block_plan.RebuildSettings.{RebuildSettings}
 use Rattle.hdfs_recovery.specs.declared.block_plan.WriteFault.{WriteFault}
 use Rattle.hdfs_recovery.specs.declared.block_plan.WriteFault.TheVariants as faults
 use Rattle.hdfs_recovery.specs.Attempts.{GaveNone, GaveNoneAfter, HasRebuildCause, Standing}
-use Rattle.hdfs_recovery.specs.Between.{KeepsEntry, KeepsLinks, NamenodeFailed}
-use Rattle.hdfs_block_writer.specs.OpenPipelines.{AllListedFail, GivesUp, HasCause, IsOver, ListedFails, NamenodeFails, NodesFailTimes, id_of}
-use Rattle.hdfs_recovery.specs.Plans.{without}
+use Rattle.hdfs_recovery.specs.Between.{HasLastError, KeepsEntry, KeepsLinks, NamenodeFailed}
+use Rattle.hdfs_block_writer.specs.OpenPipelines.{AllListedFail, GivesUp, HasCause, IsOver, ListedFails, MayBeDue, NamenodeFails, NodesFailTimes, id_of}
+use Rattle.hdfs_recovery.specs.Plans.{IsDue, without}
 use Rattle.hdfs_block_writer.specs.Pushing.{FallsFor}
 use Rattle.hdfs_recovery.specs.Trying.{HaveFailed}
 use Rattle.hdfs_block_writer.proofs.Failures.{fails_until}
@@ -147,6 +149,24 @@ module _ (settings : RebuildSettings) (client : List ℕ) (a : Shown) (pipe : Bl
           subst (λ (n : ℕ). NodesFailTimes (suc n) a new) (omega (arith, limit, chain.rebuilds))
           (fails_until (suc chain.times) a then.shown new chain.fails none.links.later)
 
+      -- where a datanode was due, one may be due of the pipeline that it was first
+      due : IsDue then.plan settings (without 0 then.failed then.plan.block.locs) → MayBeDue settings pipe.plan
+      due is = (
+        length (without 0 then.failed then.plan.block.locs),
+        subst
+            (λ (n : ℕ). ShouldReplace (policy_of settings.replace).0 n (length (without 0 then.failed then.plan.block.locs))
+            (not pipe.plan.created) false)
+            chain.keeps.replication
+            (subst
+            (λ (new : Bool). ShouldReplace (policy_of settings.replace).0 then.plan.replication
+            (length (without 0 then.failed then.plan.block.locs)) (not new) false)
+            chain.keeps.created is),
+      )
+
+      -- the last error is that of before too
+      last_error : HasLastError then.shown new → HasLastError a new
+      last_error (error, some, tells) = (error, some, tells_since a then.shown new new error refl tells)
+
       cause : (f : WriteFault) → HasRebuildCause (task settings client a pipe came last z m failed fell bytes unsent below) then f new
           → HasCause settings pipe.plan (IsOver pipe (came ++ more)) a f new
       cause faults.NoMemory why = tt
@@ -155,8 +175,13 @@ module _ (settings : RebuildSettings) (client : List ℕ) (a : Shown) (pipe : Bl
       cause faults.Setup why = (node_rose, links_rose why)
       cause (faults.BadAck seqno) why = links_rose why
       cause faults.AllNodes why = (node_rose, all_listed why.0 why.1)
-      cause faults.NoReplacement why =
-          (why.1, node_rose, ⊎_elim (λ links. inl (links_rose links)) (λ namenode. inr (namenode_fails namenode)) why.2, some_listed why.3)
+      cause faults.NoReplacement why = (
+        why.1,
+        node_rose,
+        ⊎_elim (λ links. inl (links_rose links)) (λ namenode. inr (namenode_fails namenode.0, last_error namenode.1)) why.2,
+        some_listed why.3,
+        due why.0,
+      )
       cause (faults.RebuildLimit rebuilds) why = (why.0 ∙ why.1, fail_times why.1, some_listed (same_entry why.2))
       cause (faults.Namenode error) why = (why.0, tells_since a then.shown new new error refl why.1, node_rose, namenode_fails why.2)
 

@@ -1,17 +1,19 @@
 -- A pipeline goes on for a while, and is given up then.
-use Rattle.std.proofs.Common.{◌≡◌, ◌⊎◌, inl, inr, ⊎_elim, ℕ, suc, ◌+◌, ◌-◌, ◌≤◌, Some, None, refl, ◌∙◌, ap, subst, arith}
+use Rattle.std.proofs.Common.{◌≡◌, ◌⊎◌, inl, inr, ⊎_elim, ℕ, suc, ◌+◌, ◌-◌, ◌≤◌, Bool, false, not, Some, None, refl, ◌∙◌, ap, subst, arith}
 use Rattle.std.specs.List.{slice_index_or}
 use Rattle.hdfs_model.specs.Counts.{Rose}
 use Rattle.hdfs_model.specs.Picture.{Picture}
 use Rattle.hdfs_model.specs.Shown.{Shown, Later}
 use Rattle.hdfs_model.proofs.Frames.{later_refl, rose_since}
+use Rattle.hdfs_names.specs.Replacements.{ShouldReplace}
+use Rattle.hdfs_names.specs.Shown.{shown as policy_of}
 use Rattle.hdfs_recovery.specs.declared.block_plan.BlockPipeline.{BlockPipeline}
 use Rattle.hdfs_recovery.specs.declared.block_plan.BlockPlan.{BlockPlan}
 use Rattle.hdfs_recovery.specs.declared.block_plan.RebuildSettings.{RebuildSettings}
 use Rattle.hdfs_recovery.specs.declared.block_plan.WriteFault.{WriteFault}
 use Rattle.hdfs_recovery.specs.declared.block_plan.WriteFault.TheVariants as faults
-use Rattle.hdfs_recovery.specs.Between.{OnlyBlockOf}
-use Rattle.hdfs_block_writer.specs.OpenPipelines.{AllListedFail, GivesUp, HasCause, IsSteady, KeepsBlock, ListedFails, NamenodeFails, NodesFailTimes, OnlyOwnLink, RebuiltOnFailures, id_of}
+use Rattle.hdfs_recovery.specs.Between.{HasLastError, OnlyBlockOf}
+use Rattle.hdfs_block_writer.specs.OpenPipelines.{AllListedFail, GivesUp, HasCause, IsSteady, KeepsBlock, ListedFails, MayBeDue, NamenodeFails, NodesFailTimes, OnlyOwnLink, RebuiltOnFailures, id_of}
 use Rattle.hdfs_block_writer.proofs.Failures.{fails_enough, fails_join, fails_since, fails_until, some_rose_since}
 use Rattle.hdfs_block_writer.proofs.OwnLinks.{own_link_refl, own_link_trans}
 use Rattle.hdfs_recovery.proofs.Stepping.{calls_rose_since, only_block_of_refl, only_block_of_trans, tells_since}
@@ -82,8 +84,8 @@ since_steady a b x y later steady = ⊎_elim
 
 -- The block went on from a to b, and was given up then.
 module _ (settings : RebuildSettings) (pipe pipe' : BlockPipeline) (W V : Picture → Type 0) (a b c : Shown)
-    (often : RebuiltSince pipe.plan.rebuilds a pipe'.plan.rebuilds b) (own : OnlyOwnLink a (Some pipe.link) b (Some pipe'.link))
-    (same : id_of pipe' ≡ id_of pipe)
+    (often : RebuiltSince pipe.plan.rebuilds a pipe'.plan.rebuilds b) (keeps : KeepsBlock pipe.plan pipe'.plan)
+    (own : OnlyOwnLink a (Some pipe.link) b (Some pipe'.link))
     (on : (p : Picture) → a.picture ≡ Some p → W p → (q : Picture) × (b.picture ≡ Some q) × V q × OnlyBlockOf (id_of pipe) p q) where
   rose_here : (x : Shown → ℕ) → x a ≤ x b → Rose (x b) (x c) → Rose (x a) (x c)
   rose_here x before rose = rose_since (x a) (x b) (x c) (x c) before rose (omega arith)
@@ -100,7 +102,7 @@ module _ (settings : RebuildSettings) (pipe pipe' : BlockPipeline) (W V : Pictur
         y.0,
         y.1,
         y.2,
-        subst (λ (i : ℕ). y.0.table i ≡ Some y.1) same y.3,
+        subst (λ (i : ℕ). y.0.table i ≡ Some y.1) keeps.id y.3,
         y.4,
         λ k d lt. (let node = slice_index_or y.1.nodes k d in
             rose_here (λ s. s.counts.nodes node) (own.later.counts.nodes node) (y.5 k d lt)),
@@ -114,9 +116,20 @@ module _ (settings : RebuildSettings) (pipe pipe' : BlockPipeline) (W V : Pictur
         y.0,
         y.1,
         y.2,
-        subst (λ (i : ℕ). y.0.table i ≡ Some y.1) same y.3,
+        subst (λ (i : ℕ). y.0.table i ≡ Some y.1) keeps.id y.3,
         (y.4.0, node, y.4.2, y.4.3, rose_here (λ s. s.counts.nodes node) (own.later.counts.nodes node) y.4.4),
       )
+
+  due_since : MayBeDue settings pipe'.plan → MayBeDue settings pipe.plan
+  due_since (left, due) = (
+    left,
+    subst (λ (n : ℕ). ShouldReplace (policy_of settings.replace).0 n left (not pipe.plan.created) false) keeps.replication
+        (subst (λ (new : Bool). ShouldReplace (policy_of settings.replace).0 pipe'.plan.replication left (not new) false) keeps.created due),
+  )
+
+  -- the last error is that of before too
+  last_since : HasLastError b c → HasLastError a c
+  last_since (error, some, tells) = (error, some, tells_since a b c c error refl tells)
 
   cause_since : (fault : WriteFault) → HasCause settings pipe'.plan V b fault c → HasCause settings pipe.plan W a fault c
   cause_since faults.NoMemory cause = tt
@@ -130,8 +143,12 @@ module _ (settings : RebuildSettings) (pipe pipe' : BlockPipeline) (W V : Pictur
   cause_since faults.NoReplacement cause = (
     cause.0,
     some_rose_since a b c own.later cause.1,
-    ⊎_elim (λ links. inl (rose_here (λ s. s.counts.links) own.later.counts.links links)) (λ namenode. inr (namenode_since namenode)) cause.2,
+    ⊎_elim
+        (λ links. inl (rose_here (λ s. s.counts.links) own.later.counts.links links))
+        (λ namenode. inr (namenode_since namenode.0, last_since namenode.1))
+        cause.2,
     listed_since cause.3,
+    due_since cause.4,
   )
   cause_since (faults.RebuildLimit rebuilds) cause = (
     cause.0,
@@ -149,12 +166,12 @@ module _ (settings : RebuildSettings) (pipe pipe' : BlockPipeline) (W V : Pictur
     touches = λ p told w.
         let x = on p told w in
         let y = g.touches x.0 x.1 x.2 in
-        (y.0, y.1, only_block_of_trans (id_of pipe) p x.0 y.0 x.3 (subst (λ (i : ℕ). OnlyBlockOf i x.0 y.0) same y.2));
+        (y.0, y.1, only_block_of_trans (id_of pipe) p x.0 y.0 x.3 (subst (λ (i : ℕ). OnlyBlockOf i x.0 y.0) keeps.id y.2));
   }
 
 -- what holds of a block that is so, holds of one that is so in another way
 pub gives_up_by : (settings : RebuildSettings) (pipe : BlockPipeline) (W V : Picture → Type 0) (a c : Shown) (fault : WriteFault)
     → ((p : Picture) → W p → V p) → GivesUp settings pipe V a fault c → GivesUp settings pipe W a fault c
 gives_up_by settings pipe W V a c fault by g =
-    gives_up_since settings pipe pipe W V a a c (0, omega arith, later_refl a) (own_link_refl a (Some pipe.link)) refl
+    gives_up_since settings pipe pipe W V a a c (0, omega arith, later_refl a) (keeps_block_refl pipe.plan) (own_link_refl a (Some pipe.link))
     (λ p told w. (p, told, by p w, only_block_of_refl (id_of pipe) p)) fault g

@@ -104,7 +104,7 @@ module _ (pipe : BlockPipeline) (came : List Outgoing) (last : Pipeline) (a z m 
   module _ (some : 0 < length pipe.plan.block.locs) (more : List Outgoing) (p : Picture) (safe : ℕ) (bytes : List ℕ) (told : a.picture ≡ Some p)
       (has : Has p pipe (came ++ more) safe bytes) where
     abbrev driven : (q : Picture) × (z.picture ≡ Some q) × Has q (record pipe { core = last }) more (now_safe safe) bytes
-        × OnlyBlockOf (id_of pipe) p q
+        × OnlyBlockOf (id_of pipe) p q × (q.table (id_of pipe) ≡ p.table (id_of pipe))
     driven = has_drove pipe came more a z last drove goes p safe bytes told has
 
     abbrev released : (r : Picture) × (m.picture ≡ Some r) × Releases pipe.link driven.0 r
@@ -120,6 +120,9 @@ module _ (pipe : BlockPipeline) (came : List Outgoing) (last : Pipeline) (a z m 
     gone_only =
         only_block_of_trans (id_of pipe) p driven.0 released.0 driven.3
         (released_only (id_of pipe) pipe.link driven.0 released.0 driven.2.on.place driven.2.on.told driven.2.on.block released.2)
+
+    pub gone_table : gone_picture.table (id_of pipe) ≡ p.table (id_of pipe)
+    gone_table = released.2.0.records.table (id_of pipe) ∙ driven.4
 
     pub gone_slices : AreSlices bytes (now_safe safe) (last.pushed ++ more)
     gone_slices = driven.2.slices

@@ -14,6 +14,7 @@ pub mod Pushed
 pub mod PushedEnded
 pub mod PushingOn
 pub mod Rebuilt
+pub mod Received
 pub mod Sent
 pub mod Standing
 pub mod Wrote

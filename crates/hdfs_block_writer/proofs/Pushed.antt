@@ -58,7 +58,7 @@ module _ (settings : RebuildSettings) (a b : Shown) (pipe : BlockPipeline) (byte
       standing = standing_drove settings pipe (packet ∷ []) [] core' a b drove is_core can.standing;
       told = λ p safe bytes told has.
           let d = has_drove pipe (packet ∷ []) [] a b core' drove (inr can.going) p safe bytes told has in
-          (d.0, d.1, d.2, d.3);
+          (d.0, d.1, d.2, d.3, λ s. (s.0, d.4 ∙ s.1, s.2));
     };
     behind = behind;
   }
@@ -115,5 +115,6 @@ continues_trans settings a b c x y z m n came more f g =
             two.1,
             subst (λ (k : ℕ). Has two.0 z more k bytes) (omega (arith, safe)) two.2,
             only_block_of_trans (id_of x) p one.0 two.0 one.3 (subst (λ (i : ℕ). OnlyBlockOf i one.0 two.0) f.keeps.id two.3),
+            λ s. two.4 (one.4 s),
           );
     }

@@ -31,14 +31,15 @@ continues_refl settings a pipe more standing = record {
   few = omega arith;
   pushed = sym (append-nil pipe.core.pushed);
   standing = standing;
-  told = λ p safe bytes told has. (p, told, subst (λ (k : ℕ). Has p pipe more k bytes) (omega arith) has, only_block_of_refl (id_of pipe) p);
+  told = λ p safe bytes told has.
+      (p, told, subst (λ (k : ℕ). Has p pipe more k bytes) (omega arith) has, only_block_of_refl (id_of pipe) p, λ s. s);
 }
 
 -- what went on was given up then
 pub gives_up_behind : (settings : RebuildSettings) (a b c : Shown) (x y : BlockPipeline) (n : ℕ) (more : List Outgoing) (fault : WriteFault)
     → Continues settings a x (traffic n [] more) b y → GivesUp settings y (IsOver y more) b fault c → GivesUp settings x (IsOver x more) a fault c
 gives_up_behind settings a b c x y n more fault f g =
-    gives_up_since settings x y (IsOver x more) (IsOver y more) a b c (since_steady a b x y f.own.later f.steady) f.own f.keeps.id
+    gives_up_since settings x y (IsOver x more) (IsOver y more) a b c (since_steady a b x y f.own.later f.steady) f.keeps f.own
     (λ p told w.
     let m = f.told p w.0 w.1 told w.2 in
     (m.0, m.1, (w.0 + total (take n x.core.pushed), w.1, m.2), m.3))
@@ -187,6 +188,7 @@ module _ (settings : RebuildSettings) (old : Shown) (pipe : BlockPipeline) where
                 n.1,
                 subst (λ (i : ℕ). HoldsWhole n.0 i (length bytes) (uuids plan.block.locs) bytes) w.continues.keeps.id n.2,
                 only_block_of_trans (id_of pipe) p m.0 n.0 m.3 (subst (λ (i : ℕ). OnlyBlockOf i m.0 n.0) w.continues.keeps.id n.3),
+                λ s. n.4 (m.4 s),
               );
         }
 

@@ -25,8 +25,8 @@ use Rattle.hdfs_recovery.specs.declared.block_plan.BlockPlan.{BlockPlan}
 use Rattle.hdfs_recovery.specs.declared.block_plan.RebuildSettings.{RebuildSettings}
 use Rattle.hdfs_recovery.specs.Attempts.{MissedTimes, RebuiltAfter, Recovered, Standing, Task, standing, task_of}
 use Rattle.hdfs_recovery.specs.Between.{OnlyBlockOf}
-use Rattle.hdfs_block_writer.specs.OpenPipelines.{Has, IsStanding, KeepsBlock, OnlyOwnLink, id_of}
-use Rattle.hdfs_recovery.specs.Plans.{KeepsPlan, Waits}
+use Rattle.hdfs_block_writer.specs.OpenPipelines.{Has, IsStanding, KeepsBlock, KeepsStamp, OnlyOwnLink, id_of}
+use Rattle.hdfs_recovery.specs.Plans.{HasStamp, KeepsPlan, Waits}
 use Rattle.hdfs_block_writer.specs.Pushing.{IsRebuilt}
 use Rattle.hdfs_recovery.specs.Trying.{HaveFailed}
 use Rattle.hdfs_recovery.proofs.Ending.{LinkOnly}
@@ -177,7 +177,7 @@ module _ (settings : RebuildSettings) (client : List ℕ) (a : Shown) (pipe : Bl
       abbrev y : (q : Picture) × (new.picture ≡ Some q)
           × LinkCarries q pipe'.link pipe'.plan.block.b.block_id (uuids pipe'.plan.block.locs) s' last.pushed all
           × IsListed q pipe'.plan.block.b.block_id (uuids pipe'.plan.block.locs) all
-          × OnlyBlockOf then.plan.block.b.block_id (then_picture then chain more p safe all told has) q
+          × OnlyBlockOf then.plan.block.b.block_id (then_picture then chain more p safe all told has) q × HasStamp q pipe'.plan.block.b
       y =
           ok.told (then_picture then chain more p safe all told has) (known_of then.plan s' all)
           (then_told then chain more p safe all told has) (then_waits then chain more p safe all told has)
@@ -202,6 +202,7 @@ module _ (settings : RebuildSettings) (client : List ℕ) (a : Shown) (pipe : Bl
           (written_still p y.0 pipe.plan.src pipe.plan.block.b pipe'.plan.block.b changes.names keeps.id has.file)
 
       pub has_now : (q : Picture) × (new.picture ≡ Some q) × Has q pipe' more s' all × OnlyBlockOf (id_of pipe) p q
+          × KeepsStamp p pipe.plan q pipe'.plan
       has_now = (
         y.0,
         y.1,
@@ -213,6 +214,7 @@ module _ (settings : RebuildSettings) (client : List ℕ) (a : Shown) (pipe : Bl
           slices = subst (λ (xs : List Outgoing). AreSlices all s' (xs ++ more)) (sym ok.pushed) (slices_then then chain more p safe all told has);
         },
         changes,
+        λ s. y.5,
       )
 
     pub is_rebuilt : IsRebuilt settings a pipe came new pipe'

@@ -16,8 +16,8 @@ use Rattle.hdfs_recovery.specs.declared.block_plan.WriteFault.{WriteFault}
 use Rattle.hdfs_block_writer.specs.declared.block_writer.BlockWriter.{BlockWriter}
 use Rattle.hdfs_block_writer.specs.BlockWriters.{AreFull, Carries, GoesOver, Holds, IsFilling, IsKept, SendsFull, Stands, link_in, link_of, safe_of, start_of}
 use Rattle.hdfs_recovery.specs.Between.{OnlyBlockOf}
-use Rattle.hdfs_block_writer.specs.OpenPipelines.{GivesUp, Has, IsOver, IsStanding, IsSteady, KeepsBlock, OnlyOwnLink, id_of}
-use Rattle.hdfs_recovery.specs.Plans.{NoneEndsBefore}
+use Rattle.hdfs_block_writer.specs.OpenPipelines.{GivesUp, Has, IsOver, IsStanding, IsSteady, KeepsBlock, KeepsStamp, OnlyOwnLink, id_of}
+use Rattle.hdfs_recovery.specs.Plans.{HasStamp, NoneEndsBefore}
 use Rattle.hdfs_block_writer.specs.Pushing.{CanPush, Pushes, PushesNot}
 use Rattle.hdfs_block_writer.specs.Written.{Fills, GaveUp, IsCarrying, Keeps, StaysFull, Wrote}
 use Rattle.hdfs_block_writer.proofs.GoingOn.{gives_up_by}
@@ -232,7 +232,7 @@ module _ (w w' : BlockWriter) (pipe pipe' : BlockPipeline) (packet : Outgoing) (
   starts_before = omega (arith, over.starts)
 
   carries_sent : (p : Picture) (bytes : List ℕ) → w.pipe ≡ Some pipe → a.picture ≡ Some p → Carries p w bytes
-      → (q : Picture) × (b.picture ≡ Some q) × Carries q w' bytes × OnlyBlockOf (id_of pipe) p q
+      → (q : Picture) × (b.picture ≡ Some q) × Carries q w' bytes × OnlyBlockOf (id_of pipe) p q × KeepsStamp p pipe.plan q pipe'.plan
   carries_sent p bytes before told c =
       let has = over_then w pipe packet before kept.filled starts_before (ap filling_of is) filling.next.begins p bytes c in
       let x = pushed.continues.told p (safe_of w pipe) bytes told (subst (λ (l : List Outgoing). Has p pipe l (safe_of w pipe) bytes) refl has) in
@@ -262,6 +262,7 @@ module _ (w w' : BlockWriter) (pipe pipe' : BlockPipeline) (packet : Outgoing) (
           has = subst (λ (k : ℕ). Has x.0 pipe' [] k bytes) safe x.2;
         },
         x.3,
+        x.4,
       )
     where
       append_join : (k : ℕ) (xs : List Outgoing) (last : Outgoing) → xs ++ last ∷ [] ≡ take k xs ++ (drop k xs ++ last ∷ [])
@@ -280,8 +281,15 @@ module _ (w w' : BlockWriter) (pipe pipe' : BlockPipeline) (packet : Outgoing) (
         subst (λ (y : BlockPipeline). StaysOne a b w' y) same (pipe', piped, pushed.continues.keeps, pushed.continues.steady);
     carries = λ p bytes told c.
         let x = carries_sent p bytes before told c in
-        let same : pipe ≡ c.pipe = pipe_is pipe c.pipe (sym before ∙ c.is) in
-        (x.0, x.1, subst (Carries x.0 w') (sym (append-nil bytes)) x.2, subst (λ (y : BlockPipeline). OnlyBlockOf (id_of y) p x.0) same x.3);
+        let same : pipe ≡ c.pipe = pipe_is pipe c.pipe (sym before ∙ c.is) in (
+          x.0,
+          x.1,
+          subst (Carries x.0 w') (sym (append-nil bytes)) x.2,
+          subst (λ (y : BlockPipeline). OnlyBlockOf (id_of y) p x.0) same x.3,
+          λ one two is_one is_two s.
+              subst (λ (y : BlockPipeline). HasStamp x.0 y.plan.block.b) (pipe_is pipe' two (sym piped ∙ is_two))
+              (x.4 (subst (λ (y : BlockPipeline). HasStamp p y.plan.block.b) (pipe_is one pipe (sym is_one ∙ before)) s)),
+        );
   }
 
 -- a writer whose packet was looked for, and is the same

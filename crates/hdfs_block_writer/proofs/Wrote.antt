@@ -23,6 +23,7 @@ use Rattle.hdfs_block_writer.specs.OpenPipelines.{GivesUp, Has, OnlyOwnLink, id_
 use Rattle.hdfs_block_writer.specs.Written.{Fails, Fills, GaveUp, IsCarrying, Keeps, Wrote}
 use Rattle.hdfs_block_writer.proofs.GoingOn.{gives_up_since, keeps_block_refl, keeps_block_trans, since_steady, steady_trans}
 use Rattle.hdfs_block_writer.proofs.OwnLinks.{own_link_ended, own_link_refl, own_link_trans}
+use Rattle.hdfs_recovery.specs.Plans.{HasStamp}
 use Rattle.hdfs_recovery.proofs.Resuming.{released_only}
 
 pub keeps_refl : (w : BlockWriter) → Keeps w w
@@ -39,6 +40,10 @@ keeps_trans a b c f g = record {
 pub pipe_is : (x y : BlockPipeline) → Some x ≡ Some y → x ≡ y
 pipe_is x y same = cc same
 
+-- the table has the stamp of one pipeline by each of its names
+same_stamp : (p : Picture) (x y : BlockPipeline) → Some x ≡ Some y → HasStamp p x.plan.block.b → HasStamp p y.plan.block.b
+same_stamp p x y same s = subst (λ (z : BlockPipeline). HasStamp p z.plan.block.b) (pipe_is x y same) s
+
 -- nothing was taken
 pub wrote_refl : (a : Shown) (w : BlockWriter) → Wrote a w [] a w
 wrote_refl a w = record {
@@ -46,7 +51,13 @@ wrote_refl a w = record {
   length = omega arith;
   own = own_link_refl a (link_of w);
   stays = λ pipe is. (pipe, is, keeps_block_refl pipe.plan, inl (refl, refl));
-  carries = λ p bytes is c. (p, is, subst (Carries p w) (sym (append-nil bytes)) c, only_block_of_refl (id_of c.pipe) p);
+  carries = λ p bytes is c. (
+    p,
+    is,
+    subst (Carries p w) (sym (append-nil bytes)) c,
+    only_block_of_refl (id_of c.pipe) p,
+    λ one two is_one is_two s. same_stamp p one two (sym is_one ∙ is_two) s,
+  );
 }
 
 -- some bytes were taken, and what a writer carries then has its block still
@@ -86,6 +97,9 @@ module _ (a b : Shown) (w x : BlockWriter) (one : List ℕ) (f : Wrote a w one b
             subst (Carries n.0 y) (append_assoc bytes one two) n.2,
             only_block_of_trans (id_of carried.pipe) p m.0 n.0 m.3
                 (subst (λ (i : ℕ). OnlyBlockOf i m.0 n.0) (same_id carried.pipe m.2.pipe carried.is m.2.is) n.3),
+            λ first then is_first is_then s.
+                (let mid = f.stays first is_first in
+                n.4 mid.0 then mid.1 is_then (m.4 first mid.0 is_first mid.1 s)),
           );
     }
 
@@ -96,7 +110,7 @@ module _ (a b : Shown) (w x : BlockWriter) (one : List ℕ) (f : Wrote a w one b
         let own : OnlyOwnLink a (Some pipe.link) b (Some s.0.link) =
         subst (λ (o : Option ℕ). OnlyOwnLink a o b (Some s.0.link)) (ap link_in is)
         (subst (λ (o : Option ℕ). OnlyOwnLink a (link_of w) b o) (ap link_in s.1) f.own) in
-        gives_up_since w.settings pipe s.0 (IsCarrying w) (IsCarrying x) a b c (since_steady a b pipe s.0 f.own.later s.3) own s.2.id
+        gives_up_since w.settings pipe s.0 (IsCarrying w) (IsCarrying x) a b c (since_steady a b pipe s.0 f.own.later s.3) s.2 own
         (λ p told carried. carries_then p told pipe is carried) fault
         (subst (λ (k : RebuildSettings). GivesUp k s.0 (IsCarrying x) b fault c) f.keeps.settings u)
 
@@ -162,7 +176,13 @@ fill_wrote a w x more filled f = record {
   length = f.length;
   own = subst (λ (o : Option ℕ). OnlyOwnLink a (link_of w) a o) (sym (ap link_in f.pipe)) (own_link_refl a (link_of w));
   stays = λ pipe is. (pipe, f.pipe ∙ is, keeps_block_refl pipe.plan, inl (refl, refl));
-  carries = λ p bytes is c. (p, is, carries p bytes c, only_block_of_refl (id_of c.pipe) p);
+  carries = λ p bytes is c. (
+    p,
+    is,
+    carries p bytes c,
+    only_block_of_refl (id_of c.pipe) p,
+    λ one two is_one is_two s. same_stamp p one two (sym is_one ∙ sym f.pipe ∙ is_two) s,
+  );
 }
   where
     start : start_of w ≡ start_of x

@@ -1,5 +1,5 @@
 -- An open pipeline of a block, which goes on as it was, or is rebuilt where datanodes of it fail.
-use Rattle.std.specs.Prelude.{◌≡◌, ◌≢◌, ◌⊎◌, ℕ, zero, suc, ◌+◌, ◌-◌, ◌<◌, ◌≤◌, false, List, [], ◌++◌, length as len, take, drop, All, Any, Option, Some, None, IsSome}
+use Rattle.std.specs.Prelude.{◌≡◌, ◌≢◌, ◌⊎◌, ℕ, zero, suc, ◌+◌, ◌-◌, ◌<◌, ◌≤◌, false, not, List, [], ◌∷◌, ◌++◌, length as len, take, drop, All, Any, Option, Some, None, IsSome}
 use Rattle.hdfs_wire.specs.Outgoing.{Outgoing}
 use Rattle.hdfs_model.specs.declared.errors.HdfsError.TheVariants as errors
 use Rattle.hdfs_model.specs.declared.picture.BlockEntry.{BlockEntry}
@@ -9,8 +9,9 @@ use Rattle.hdfs_model.specs.Counts.{Rose}
 use Rattle.hdfs_model.specs.Effects.{IsBeingWritten}
 use Rattle.hdfs_model.specs.Namenode.{IsToWrite}
 use Rattle.hdfs_model.specs.Picture.{Picture}
-use Rattle.hdfs_model.specs.Sending.{uuids}
+use Rattle.hdfs_model.specs.Sending.{WritePlace, uuids}
 use Rattle.hdfs_model.specs.Shown.{Shown, Later, SameReads}
+use Rattle.hdfs_names.specs.Replacements.{ShouldReplace}
 use Rattle.hdfs_names.specs.Shown.{shown as policy_of}
 use Rattle.hdfs_pipeline.specs.Cores.{IsCore}
 use Rattle.hdfs_pipeline.specs.Driving.{Drives, Settles}
@@ -21,9 +22,9 @@ use Rattle.hdfs_recovery.specs.declared.block_plan.BlockPlan.{BlockPlan}
 use Rattle.hdfs_recovery.specs.declared.block_plan.RebuildSettings.{RebuildSettings}
 use Rattle.hdfs_recovery.specs.declared.block_plan.WriteFault.{WriteFault}
 use Rattle.hdfs_recovery.specs.declared.block_plan.WriteFault.TheVariants as faults
-use Rattle.hdfs_recovery.specs.Between.{OnlyBlockOf}
+use Rattle.hdfs_recovery.specs.Between.{HasLastError, OnlyBlockOf}
 use Rattle.hdfs_namenode.specs.Relaying.{TellsAsk}
-use Rattle.hdfs_recovery.specs.Plans.{NoneEndsBefore}
+use Rattle.hdfs_recovery.specs.Plans.{HasStamp, NoneEndsBefore}
 
 -- the id of a pipeline's block
 abbrev pub id_of : BlockPipeline → ℕ
@@ -95,6 +96,10 @@ abbrev pub IsSteady : Shown → BlockPipeline → Shown → BlockPipeline → Ty
 IsSteady old pipe new pipe' =
     ((pipe'.plan ≡ pipe.plan) × (pipe'.link ≡ pipe.link)) ⊎ RebuiltOnFailures old pipe.plan new pipe'.plan
 
+-- where the block table has the generation stamp of a block's pipeline, it has that of another one then
+abbrev pub KeepsStamp : Picture → BlockPlan → Picture → BlockPlan → Type 0
+KeepsStamp p plan q plan' = HasStamp p plan.block.b → HasStamp q plan'.block.b
+
 -- what becomes of the packets of a pipeline: the first of them, so many, are acknowledged, others came behind the rest, and `more` are
 -- to come still
 pub record Traffic : Type 0 where
@@ -119,6 +124,7 @@ pub record Continues (settings : RebuildSettings) (old : Shown) (pipe : BlockPip
   pub told : (p : Picture) (safe : ℕ) (bytes : List ℕ) → old.picture ≡ Some p → Has p pipe (packets.came ++ packets.more) safe bytes
       → (q : Picture) × (new.picture ≡ Some q)
       × Has q pipe' packets.more (safe + total (take packets.acknowledged pipe.core.pushed)) bytes × OnlyBlockOf (id_of pipe) p q
+      × KeepsStamp p pipe.plan q pipe'.plan
 
 -- over a told picture of which this holds: a namenode has failed
 abbrev pub NamenodeFails : (Picture → Type 0) → Shown → Shown → Type 0
@@ -136,6 +142,11 @@ ListedFails W id old new = (p : Picture) → old.picture ≡ Some p → W p
     → (q : Picture) × (entry : BlockEntry) × (new.picture ≡ Some q) × (q.table id ≡ Some entry)
     × Any (λ node. Rose (old.counts.nodes node) (new.counts.nodes node)) entry.nodes
 
+-- a datanode more may be due where datanodes of a block's pipeline fail: it is where some of them are left
+abbrev pub MayBeDue : RebuildSettings → BlockPlan → Type 0
+MayBeDue settings plan =
+    (left : ℕ) × ShouldReplace (policy_of settings.replace).0 plan.replication left (not plan.created) false
+
 -- Why a block is given up, which is so in a told picture, and had this plan before. Want of memory alone is free.
 -- Its pipeline has been rebuilt as often as it may be only where datanodes have failed once more than it could be rebuilt still.
 abbrev pub HasCause : RebuildSettings → BlockPlan → (Picture → Type 0) → Shown → WriteFault → Shown → Type 0
@@ -147,7 +158,8 @@ HasCause settings plan W old (faults.BadAck seqno) new = Rose old.counts.links n
 HasCause settings plan W old faults.AllNodes new = SomeNodeRose old.counts new × AllListedFail W plan.block.b.block_id old new
 HasCause settings plan W old faults.NoReplacement new =
     ((policy_of settings.replace).1 ≡ false) × SomeNodeRose old.counts new
-    × (Rose old.counts.links new.counts.links ⊎ NamenodeFails W old new) × ListedFails W plan.block.b.block_id old new
+    × (Rose old.counts.links new.counts.links ⊎ (NamenodeFails W old new × HasLastError old new))
+    × ListedFails W plan.block.b.block_id old new × MayBeDue settings plan
 HasCause settings plan W old (faults.RebuildLimit rebuilds) new =
     (rebuilds ≡ settings.rebuild_limit) × NodesFailTimes (suc (settings.rebuild_limit - plan.rebuilds)) old new
     × ListedFails W plan.block.b.block_id old new
@@ -172,3 +184,23 @@ pub record Finishes (settings : RebuildSettings) (old : Shown) (pipe : BlockPipe
   pub told : (p : Picture) (safe : ℕ) (bytes : List ℕ) → old.picture ≡ Some p → Has p pipe [] safe bytes
       → safe + total pipe.core.pushed ≡ len bytes → (q : Picture) × (new.picture ≡ Some q)
       × HoldsWhole q (id_of pipe) (len bytes) (uuids plan'.block.locs) bytes × OnlyBlockOf (id_of pipe) p q
+      × KeepsStamp p pipe.plan q plan'
+
+-- A link has a block. This packet is the last one that was sent on it, and each of its datanodes, which are those that are listed for the
+-- block, has received all packets.
+pub record HasReceived (p : Picture) (link id : ℕ) (packet : Outgoing) : Type 0 where
+  pub place : WritePlace
+  pub at : p.writes link ≡ Some place
+  pub block : place.block ≡ id
+  pub entry : BlockEntry
+  pub is : p.table id ≡ Some entry
+  pub listed : entry.nodes ≡ place.nodes
+  pub front : List Outgoing
+  pub sent : place.sent ≡ front ++ packet ∷ []
+  pub received : (i : ℕ) → i < len place.nodes → len place.sent ≤ place.received i
+
+-- A link of a block that was so in a told picture was ended last, once its datanodes had received this packet.
+abbrev pub EndsReceived : {C : Type 0} → (C → Shown) → (C → ℕ → Type 0) → C → (Picture → Type 0) → ℕ → Outgoing → Type 0
+EndsReceived {C} shown Ended old W id packet = (before : C) × (link : ℕ) × Ended before link
+    × ((p : Picture) → (shown old).picture ≡ Some p → W p
+    → (q : Picture) × ((shown before).picture ≡ Some q) × HasReceived q link id packet)

@@ -13,7 +13,7 @@ use Rattle.hdfs_recovery.specs.declared.block_plan.WriteFault.{WriteFault}
 use Rattle.hdfs_block_writer.specs.declared.pushing.PushedOnce.{PushedOnce}
 use Rattle.hdfs_block_writer.specs.declared.pushing.Settled.{Settled}
 use Rattle.hdfs_block_writer.specs.declared.pushing.Settled.TheVariants as settled
-use Rattle.hdfs_block_writer.specs.OpenPipelines.{Continues, Finishes, GivesUp, IsOver, IsStanding, traffic}
+use Rattle.hdfs_block_writer.specs.OpenPipelines.{Continues, EndsReceived, Finishes, GivesUp, IsOver, IsStanding, id_of, traffic}
 
 -- the next packet follows on the link, wherever the packets before it began
 abbrev pub GoesOnBehind : Shown → BlockPipeline → Type 0
@@ -64,6 +64,16 @@ FallsEnded settings old pipe fault new =
 abbrev pub Settles : RebuildSettings → Shown → BlockPipeline → Settled → Shown → Type 0
 Settles settings old pipe (settled.Done plan) new = Finishes settings old pipe new plan
 Settles settings old pipe (settled.Rebuilt pipe') new = IsRebuilt settings old pipe [] new pipe' × (0 < len pipe'.core.pushed)
+
+-- A pipeline's link was ended only once its datanodes had received its packets, the last of which is this one.
+abbrev pub ReceivesAll : {C : Type 0} → (C → Shown) → (C → ℕ → C → Type 0) → C → BlockPipeline → C → Type 0
+ReceivesAll shown ends old pipe new = (front : List Outgoing) (packet : Outgoing) → pipe.core.pushed ≡ front ++ packet ∷ []
+    → EndsReceived shown (λ before link. ends before link new) old (IsOver pipe []) (id_of pipe) packet
+
+-- it was, where the pipeline is done
+abbrev pub ReceivesOnce : {C : Type 0} → (C → Shown) → (C → ℕ → C → Type 0) → C → BlockPipeline → Settled → C → Type 0
+ReceivesOnce shown ends old pipe (settled.Done plan) new = ReceivesAll shown ends old pipe new
+ReceivesOnce shown ends old pipe (settled.Rebuilt pipe') new = Unit {0}
 
 -- A packet can be pushed: the pipeline goes on, none of its packets is the last of the block, the packet follows on the link and on them,
 -- and the block has it.

@@ -21,7 +21,7 @@ use Rattle.hdfs_recovery.specs.declared.block_plan.WriteFault.TheVariants as fau
 use Rattle.hdfs_block_writer.specs.declared.block_writer.BlockWriter.{BlockWriter}
 use Rattle.hdfs_block_writer.specs.BlockWriters.{AreFull, Carries, HasFailed, length_of, link_of, size_of, start_of}
 use Rattle.hdfs_recovery.specs.Between.{OnlyBlockOf}
-use Rattle.hdfs_block_writer.specs.OpenPipelines.{GivesUp, IsSteady, KeepsBlock, OnlyOwnLink, RebuiltOnFailures, id_of, nodes_of}
+use Rattle.hdfs_block_writer.specs.OpenPipelines.{EndsReceived, GivesUp, IsSteady, KeepsBlock, KeepsStamp, OnlyOwnLink, RebuiltOnFailures, id_of, nodes_of}
 
 -- A new writer of this block, whose first packet has the seqno 0, with what it was asked to write with.
 pub record IsNew (wanted : BlockPlan) (settings : RebuildSettings) (size bytes_per_packet : ℕ) (writer : BlockWriter) : Type 0 where
@@ -66,10 +66,16 @@ pub record Keeps (writer writer' : BlockWriter) : Type 0 where
   pub chunk : writer'.chunk ≡ writer.chunk
   pub packet_size : writer'.packet_size ≡ writer.packet_size
 
+-- where the block table has the generation stamp of the writer's pipeline, it has that of its pipeline then
+abbrev pub StaysStamped : Picture → BlockWriter → Picture → BlockWriter → Type 0
+StaysStamped p writer q writer' = (pipe pipe' : BlockPipeline) → writer.pipe ≡ Some pipe → writer'.pipe ≡ Some pipe'
+    → KeepsStamp p pipe.plan q pipe'.plan
+
 -- over a told picture: these bytes more are carried, and nothing changed but the writer's block
 abbrev pub CarriesMore : Shown → BlockWriter → List ℕ → Shown → BlockWriter → Type 0
 CarriesMore old writer more new writer' = (p : Picture) (bytes : List ℕ) → old.picture ≡ Some p → (c : Carries p writer bytes)
     → (q : Picture) × (new.picture ≡ Some q) × Carries q writer' (bytes ++ more) × OnlyBlockOf (id_of c.pipe) p q
+    × StaysStamped p writer q writer'
 
 -- its pipeline is that of before, over the same link, or it was rebuilt, no more often than datanodes have failed
 abbrev pub PipelineStays : Shown → BlockWriter → Shown → BlockWriter → Type 0
@@ -99,11 +105,12 @@ pub record Fails (old : Shown) (writer : BlockWriter) (fault : WriteFault) (new 
   pub keeps : Keeps writer writer'
   pub gave_up : GaveUp old writer fault new
 
--- over a told picture: each datanode of the block's last pipeline, of which one is listed at least, holds the block whole
+-- Over a told picture: each datanode of the block's last pipeline, of which one is listed at least, holds the block whole. The block table
+-- has this pipeline's generation stamp, where it had that of the pipeline before.
 abbrev pub EndsWhole : Shown → BlockWriter → BlockPlan → Shown → Type 0
 EndsWhole old writer plan new = (p : Picture) (bytes : List ℕ) → old.picture ≡ Some p → (c : Carries p writer bytes)
     → (q : Picture) × (new.picture ≡ Some q) × HoldsWhole q (id_of c.pipe) (length_of writer) (uuids plan.block.locs) bytes
-    × OnlyBlockOf (id_of c.pipe) p q
+    × OnlyBlockOf (id_of c.pipe) p q × KeepsStamp p c.pipe.plan q plan
 
 -- The writer's link is ended, and over a told picture the block is written. Its last pipeline is that of before, or it was rebuilt, no
 -- more often than datanodes have failed, and than it may be.
@@ -117,6 +124,18 @@ pub record Ends (old : Shown) (writer : BlockWriter) (plan : BlockPlan) (new : S
 -- the block is closed, and this is its name, with the length and the generation stamp that it has
 abbrev pub Closes : Shown → BlockWriter → Block → Shown → Type 0
 Closes old writer block new = (plan : BlockPlan) × (block ≡ record plan.block.b { num_bytes = length_of writer }) × Ends old writer plan new
+
+-- the packet that ends a block of this length: an empty one behind its bytes, which is marked as the last
+pub record EndsAt (length : ℕ) (packet : Outgoing) : Type 0 where
+  pub begins : packet.header.offset_in_block ≡ pos length
+  pub last : packet.header.last_packet_in_block ≡ true
+  pub empty : packet.payload ≡ []
+
+-- Over a told picture: the packet that ends the block was sent behind all others, and the link was ended only once each datanode of the
+-- last pipeline had received all of them.
+abbrev pub WaitsForLast : {C : Type 0} → (C → Shown) → (C → ℕ → C → Type 0) → C → BlockWriter → C → Type 0
+WaitsForLast shown ends old writer new = (packet : Outgoing) × EndsAt (length_of writer) packet × ((pipe : BlockPipeline)
+    → writer.pipe ≡ Some pipe → EndsReceived shown (λ before link. ends before link new) old (IsCarrying writer) (id_of pipe) packet)
 
 -- The writer's link was ended, and nothing else was done: nothing changed but what the datanodes of its pipeline hold of its block.
 pub record LetsGo (old : Shown) (writer : BlockWriter) (new : Shown) : Type 0 where

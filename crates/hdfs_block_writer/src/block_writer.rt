@@ -48,7 +48,7 @@ impl BlockWriter {
     ghost use Rattle.hdfs_recovery.specs.declared.block_plan.BlockPipeline.{BlockPipeline};
     ghost use Rattle.hdfs_wire.specs.Outgoing.{ArePacketSizes};
     ghost use Rattle.hdfs_block_writer.specs.BlockWriters.{length_of, size_of, HasFailed, SendsFull, Holds, Stands};
-    ghost use Rattle.hdfs_block_writer.specs.Written.{IsNew, OpensLink, OpensNone, BeginsWhole, Keeps, Wrote, StaysFull, GaveUp, Fails, Ends, Closes, LetsGo};
+    ghost use Rattle.hdfs_block_writer.specs.Written.{IsNew, OpensLink, OpensNone, BeginsWhole, Wrote, StaysFull, GaveUp, Fails, Ends, Closes, WaitsForLast, LetsGo};
 
     /// Opens the pipeline of a block, which goes on behind the bytes that the block has. `packet_size` is the most bytes that a packet has
     /// with its header and checksums; 0 stands for one chunk. `settings` say how many packets wait for their acknowledgement, and how the
@@ -272,6 +272,7 @@ impl BlockWriter {
         requires open { IsSome self.old.pipe }
         requires none { self.old.packet ≡ None }
         ensures closed { IfOk result (λ block. Closes (C.shown cluster.old) self.old block (C.shown cluster.new)) }
+        ensures last { OnOk result (WaitsForLast C.shown C.ends cluster.old self.old cluster.new) }
         ensures err { IfErr result (λ fault. GaveUp (C.shown cluster.old) self.old fault (C.shown cluster.new)) }
         ensures client { SameClient namenode.old namenode.new }
     {
@@ -317,6 +318,9 @@ impl BlockWriter {
         requires reaches { ReachesAll (proxy_of namenode.old) (C.shown cluster.old) }
         requires stands { Stands (C.shown cluster.old) self }
         ensures closed { IfOk result (λ block. Closes (C.shown cluster.old) self block (C.shown cluster.new)) }
+
+        // Over a told picture the last packet of the block is an empty one that is marked so, and the datanodes have received it.
+        ensures last { OnOk result (WaitsForLast C.shown C.ends cluster.old self cluster.new) }
         ensures err { IfErr result (λ fault. GaveUp (C.shown cluster.old) self fault (C.shown cluster.new)) }
         ensures failed { HasFailed self → (result ≡ Err faults.Failed) × (cluster.new ≡ cluster.old) }
         ensures client { SameClient namenode.old namenode.new }

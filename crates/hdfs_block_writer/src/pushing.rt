@@ -1,12 +1,12 @@
 //! Packets go down the pipeline of a block, which is rebuilt where datanodes of it fail.
 
-ghost use Rattle.std.specs.Prelude.{◌≡◌, ◌<◌, ◌≤◌, ◌+◌, ◌^◌, [], Some, IsSome, IfOk, IfErr};
+ghost use Rattle.std.specs.Prelude.{◌≡◌, ◌<◌, ◌≤◌, ◌+◌, ◌^◌, [], Some, IsSome, IfOk, IfErr, OnOk};
 ghost use Rattle.hdfs_namenode.specs.Asked.{ReachesAll};
 ghost use Rattle.hdfs_namenode.specs.Clients.{SameClient, proxy_of};
 ghost use Rattle.hdfs_pipeline.specs.Pipelines.{Done};
 ghost use Rattle.hdfs_blocks.specs.Carrying.{total};
 ghost use Rattle.hdfs_block_writer.specs.OpenPipelines.{Finishes, IsStanding};
-ghost use Rattle.hdfs_block_writer.specs.Pushing.{CanPush, FallsEnded, FallsFor, FinishesNot, IsEnding, Pushes, PushesNot, PushesOnce, RebuildsEnded, Settles, bytes_in};
+ghost use Rattle.hdfs_block_writer.specs.Pushing.{CanPush, FallsEnded, FallsFor, FinishesNot, IsEnding, Pushes, PushesNot, PushesOnce, ReceivesAll, ReceivesOnce, RebuildsEnded, Settles, bytes_in};
 
 use hdfs_model::Cluster;
 use hdfs_namenode::NamenodeProtocol;
@@ -166,6 +166,7 @@ fn finish_once<C: Cluster>(
     requires ending { IsEnding pipe }
     requires few { (total pipe.core.pushed ≤ length) × (length < 2 ^ 63) }
     ensures ok { IfOk result (λ settled. Settles settings.now (C.shown cluster.old) pipe settled (C.shown cluster.new)) }
+    ensures last { IfOk result (λ settled. ReceivesOnce C.shown C.ends cluster.old pipe settled cluster.new) }
     ensures err { IfErr result (λ fault. FallsFor settings.now (C.shown cluster.old) pipe [] fault (C.shown cluster.new)) }
     ensures client { SameClient namenode.old namenode.new }
 {
@@ -200,6 +201,7 @@ pub(crate) fn finish<C: Cluster>(
     requires ending { IsEnding pipe }
     requires few { (total pipe.core.pushed ≤ length) × (length < 2 ^ 63) }
     ensures finishes { IfOk result (λ plan. Finishes settings.now (C.shown cluster.old) pipe (C.shown cluster.new) plan) }
+    ensures last { OnOk result (ReceivesAll C.shown C.ends cluster.old pipe cluster.new) }
     ensures err { IfErr result (λ fault. FinishesNot settings.now (C.shown cluster.old) pipe fault (C.shown cluster.new)) }
     ensures client { SameClient namenode.old namenode.new }
 {

@@ -1,5 +1,5 @@
 //! What is seen of block 256 once it was written.
-ghost use Rattle.std.specs.Prelude.{OnOk, IfOk, IsSome};
+ghost use Rattle.std.specs.Prelude.{IfOk, IsSome};
 ghost use Rattle.hdfs_cluster.specs.MemShown.{shown_of};
 
 use crate::messages::read_ask;

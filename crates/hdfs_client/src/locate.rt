@@ -32,9 +32,8 @@ pub(crate) fn locate<C: Cluster>(
     // over any cluster
     ensures looks { OnlyLooks (C.shown cluster.old) (C.shown cluster.new) }
     ensures length { IfOk result (λ found. found.file_length < 2 ^ 63) }
-    ensures tells { IfErr result (λ e. (offset len : ℕ)
-        → Tells (Command.Read name.now offset len) (C.shown cluster.old) (C.shown cluster.new) e) }
-    ensures owed { IfErr result IsNotOwed }
+    ensures err { IfErr result (λ e. IsNotOwed e × ((offset len : ℕ)
+        → Tells (Command.Read name.now offset len) (C.shown cluster.old) (C.shown cluster.new) e)) }
 
     // over a told picture, where nobody writes the file; an error is one of each read that the look-up is for
     ensures files { (p : Picture) → (C.shown cluster.old).picture ≡ Some p → IsClosed p path.now

@@ -5,7 +5,7 @@ ghost use Rattle.hdfs_model.specs.Files.{State};
 ghost use Rattle.hdfs_model.specs.Limits.{are_settings};
 ghost use Rattle.hdfs_model.specs.Paths.{is_path, absolute};
 ghost use Rattle.hdfs_model.specs.Sessions.{Owed, is_misplaced};
-ghost use Rattle.hdfs_model.specs.Shown.{Shown, Later, SameReads};
+ghost use Rattle.hdfs_model.specs.Shown.{Later, SameReads};
 ghost use Rattle.hdfs_model.specs.Steps.{path_of};
 ghost use Rattle.hdfs_model.specs.declared.errors.HdfsError.TheVariants as errors;
 

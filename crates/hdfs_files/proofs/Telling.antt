@@ -15,6 +15,7 @@ use Rattle.hdfs_recovery.specs.declared.block_plan.BlockPlan.{BlockPlan}
 use Rattle.hdfs_recovery.specs.declared.block_plan.RebuildSettings.{RebuildSettings}
 use Rattle.hdfs_recovery.specs.declared.block_plan.WriteFault.{WriteFault}
 use Rattle.hdfs_recovery.specs.declared.block_plan.WriteFault.TheVariants as faults
+use Rattle.hdfs_recovery.specs.Between.{HasLastError}
 use Rattle.hdfs_block_writer.specs.OpenPipelines.{AllListedFail, HasCause, ListedFails, NamenodeFails}
 use Rattle.hdfs_block_writer.proofs.Failures.{some_fails}
 use Rattle.hdfs_files.specs.Failing.{TellsWrite, CauseOfWrite}
@@ -83,9 +84,9 @@ module _ (a b : Shown) (path : List ℕ) (file : FileEntry) (front : List ℕ) (
       f.0 f.1 f.2 f.3 (f.4, f.5)
 
   -- the links have failed, or a namenode
-  help_failed : Rose a.counts.links b.counts.links ⊎ NamenodeFails W a b → Rose a.counts.links b.counts.links ⊎ CallsRose a.counts b
+  help_failed : Rose a.counts.links b.counts.links ⊎ (NamenodeFails W a b × HasLastError a b) → Rose a.counts.links b.counts.links ⊎ CallsRose a.counts b
   help_failed (inl links) = inl links
-  help_failed (inr namenode) = inr (namenode p told w)
+  help_failed (inr namenode) = inr (namenode.0 p told w)
 
   -- it was for this cause
   pub fault_cause : (settings : RebuildSettings) (fault : WriteFault) → HasCause settings plan W a fault b → CauseOfWrite settings path a b (error_of fault)

@@ -33,7 +33,7 @@ use Rattle.hdfs_namenode.specs.Asked.{AskedOnce, ReachesAll, Through}
 use Rattle.hdfs_recovery.specs.declared.block_plan.BlockPlan.{BlockPlan}
 use Rattle.hdfs_recovery.specs.declared.block_plan.WriteFault.TheVariants as faults
 use Rattle.hdfs_recovery.specs.declared.block_plan.RebuildSettings.{RebuildSettings}
-use Rattle.hdfs_recovery.specs.Between.{HelpFailed, KeepsLinks, OnlyBlockOf, WaitsOn}
+use Rattle.hdfs_recovery.specs.Between.{HelpLacks, KeepsLinks, OnlyBlockOf, WaitsOn}
 use Rattle.hdfs_recovery.specs.Plans.{IsDue, Known, Waits}
 use Rattle.hdfs_recovery.specs.Replacing.{AddsNode, AddsNone, AreApart, Completes, GivesToAdded, fault_of_none, fault_of_transfer, with_nodes}
 use Rattle.hdfs_recovery.proofs.Adding.{all_in, each_apart, only_given, waits_added, waits_without}
@@ -106,7 +106,7 @@ module _ {C : Type 0} (shown : C → Shown) (serves : C → ℕ → Ask → Resu
         (λ memory. inl (ap fault_of_none memory))
         (λ other. inr (
           none_fault error other.0,
-          inr (λ p known is w. other.2 p is (again p known w) (λ class none. none)),
+          inr (λ p known is w. other.2 p is (again p known w) (λ class none. none), (error, other.0, other.1)),
         ))
         (asked_error shown serves rows active ask old mid reaches error asked);
     waits = waits_asked (Err error) asked;
@@ -162,12 +162,12 @@ module _ {C : Type 0} (shown : C → Shown) (serves : C → ℕ → Ask → Resu
           before : a.counts.links ≤ m.counts.links
           before = (asked_links shown serves rows active ask old mid reaches (Ok (answers.GetAdditionalDatanode located)) asked).later.counts.links
 
-          failed : Rose m.counts.links new.counts.links → HelpFailed plan a new
+          failed : Rose m.counts.links new.counts.links → HelpLacks plan a new
           failed rose = inl (rose_since a.counts.links m.counts.links new.counts.links new.counts.links before rose (omega arith))
 
           why : (fault : LinkFault) → (fault ≢ links.NoMemory → Rose m.counts.links new.counts.links)
               → (fault_of_transfer fault ≡ faults.NoMemory)
-              ⊎ ((fault_of_transfer fault ≡ faults.NoReplacement) × HelpFailed plan a new)
+              ⊎ ((fault_of_transfer fault ≡ faults.NoReplacement) × HelpLacks plan a new)
           why links.NoMemory cause = inl refl
           why links.Broken cause = inr (refl, failed (cause (λ same. absurd (cc))))
           why links.Refused cause = inr (refl, failed (cause (λ same. absurd (cc))))
@@ -206,7 +206,11 @@ module _ (plan : BlockPlan) (settings : RebuildSettings) (excluded : List Datano
   pub completes_without : (b : Shown) → IsDue plan settings plan.block.locs → (policy_of settings.replace).1 ≡ true
       → AddsNone plan a faults.NoReplacement b → Completes plan settings excluded a plan b
   completes_without b due best none = record {
-    how = ⊎_elim (λ memory. absurd (cc)) (λ failed. inr (inl (due, best, refl, failed.1))) none.cause;
+    how =
+        ⊎_elim
+        (λ memory. absurd (cc))
+        (λ lacks. inr (inl (due, best, refl, ⊎_elim (λ links. inl links) (λ namenode. inr namenode.0) lacks.1)))
+        none.cause;
     block = block;
     apart = each_there plan a excluded;
     waits = none.waits;

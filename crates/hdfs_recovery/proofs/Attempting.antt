@@ -31,11 +31,11 @@ use Rattle.hdfs_recovery.specs.declared.block_plan.WriteFault.{WriteFault}
 use Rattle.hdfs_recovery.specs.declared.block_plan.WriteFault.TheVariants as faults
 use Rattle.hdfs_recovery.specs.declared.replay.SentAgain.{SentAgain}
 use Rattle.hdfs_recovery.specs.Between.{KeepsLinks, NamenodeFailed, OnlyBlockOf, Touches}
-use Rattle.hdfs_recovery.specs.Plans.{IsRecovery, Known, Waits}
+use Rattle.hdfs_recovery.specs.Plans.{HasStamp, IsRecovery, Known, Waits}
 use Rattle.hdfs_recovery.specs.Resuming.{NamesNot, NamesSo, Reopens, ReopensNot, SendsAgain}
 use Rattle.hdfs_recovery.specs.Trying.{Collects, CollectsNot, FallsAgain, HaveFailed, ResumedNot, StandsAgain, course_of}
 use Rattle.hdfs_recovery.proofs.Ending.{Drifts, LinkOnly, keeps_links_by, link_only_trans, link_only_of-ended, link_only_of-keeps, link_only_of-on, link_only_of-opened}
-use Rattle.hdfs_recovery.proofs.Resuming.{opened_goes, opened_empty, opened_window, opened_nodes, opened_picture, opened_told, opened_carries, opened_lists, opened_only, opened_settles, sent_picture, sent_told, sent_only, sent_place, sent_at, sent_block, sent_settled, sent_entry, sent_holds, sent_carries, named_holds, named_carries, may_be_named_only, may_be_named_writes, released_only, some_is}
+use Rattle.hdfs_recovery.proofs.Resuming.{opened_goes, opened_empty, opened_window, opened_nodes, opened_picture, opened_told, opened_carries, opened_lists, opened_only, opened_settles, sent_picture, sent_told, sent_only, sent_place, sent_at, sent_block, sent_settled, sent_entry, sent_holds, sent_carries, named_holds, named_carries, named_stamp, may_be_named_only, may_be_named_writes, released_only, some_is}
 use Rattle.hdfs_recovery.proofs.Stepping.{calls_rose_since, only_block_of_refl, only_block_of-named, only_block_of-only, only_block_of-same, only_block_of_trans, tells_since, written_still}
 
 -- A link was set up, packets were sent again on it, and the namenode was asked something.
@@ -198,6 +198,7 @@ module _ (plan : BlockPlan) (block : Block) (least : ℕ) (client : List ℕ) (w
                 (named_holds plan block same link r q.0 known q.2 (h2 p known told w slices)).lists,
                 only_block_of_trans id p r q.0 (o2 p known told w)
                     (only_block_of-named id block plan.block.b (map (λ node. node.id) plan.block.locs) r q.0 same q.2),
+                named_stamp block plan.block.b (map (λ node. node.id) plan.block.locs) r q.0 q.2,
               );
         }
 
@@ -235,7 +236,7 @@ module _ (plan : BlockPlan) (block : Block) (least : ℕ) (client : List ℕ) (w
       -- the block waits with the datanodes of the plan, which are listed
       waits_again : (p : Picture) (known : Known) → a.picture ≡ Some p → Waits p plan known → AreSlices known.bytes known.safe replay
           → (q : Picture) × (z.picture ≡ Some q) × Waits q plan (record known { listed = nodes })
-          × OnlyBlockOf id p q
+          × OnlyBlockOf id p q × HasStamp q plan.block.b
       waits_again p known told w slices =
           let r = p2 p known told w in
           let q = names r (entry2 p known told w) (t2 p known told w) (is2 p known told w) in
@@ -248,6 +249,7 @@ module _ (plan : BlockPlan) (block : Block) (least : ℕ) (client : List ℕ) (w
           let h4 = block_further q.0 d.0 id link nodes nodes known.safe known.bytes h3 further tt in
           let e = told_after (Releases link) x.picture z.picture d.0 gone.released d.2 in
           let t = fallen_touches p known told w in
+          let stamp = named_stamp block plan.block.b (map (λ node. node.id) plan.block.locs) r q.0 q.2 in
           let o : OnlyBlockOf id p e.0 = subst (OnlyBlockOf id p) (some_is t.0 e.0 (sym t.1 ∙ e.1)) t.2 in (
             e.0,
             e.1,
@@ -258,6 +260,7 @@ module _ (plan : BlockPlan) (block : Block) (least : ℕ) (client : List ℕ) (w
                   (λ k node lt. (k, lt, get_or_default nodes k (slice_index_or nodes k node) node lt));
             },
             o,
+            (stamp.0, e.2.0.records.table id ∙ d.4.only.records.table id ∙ stamp.1, stamp.2),
           )
 
       pub falls_again : (fallen : Fallen) → Collects plan sent fallen → FallsAgain (course_of plan block least client window replay) a fallen z

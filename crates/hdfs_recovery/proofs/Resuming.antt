@@ -1,12 +1,15 @@
 -- A pipeline is set up to go on with a block, packets are sent again on it, and it is named.
-use Rattle.std.proofs.Common.{◌≡◌, inl, inr, ℕ, ◌+◌, ◌<◌, ◌≤◌, List, [], ◌∷◌, ◌++◌, length, drop, Some, None, refl, sym, ◌∙◌, ap, subst, arith, append_assoc}
+use Rattle.std.proofs.Common.{◌≡◌, inl, inr, ℕ, ◌+◌, ◌<◌, ◌≤◌, ◌==◌, List, [], ◌∷◌, ◌++◌, length, drop, Some, None, refl, sym, ◌∙◌, ap, subst, arith, append_assoc, eq-eqb}
+use Rattle.std.proofs.lemmas.Bool.{cond-true}
 use Rattle.std.specs.Prelude.{map}
 use Rattle.std.specs.List.{slice_index_or}
 use Rattle.std.proofs.lemmas.List.{append-nil, length-map}
 use Rattle.hdfs_wire.specs.Outgoing.{Outgoing}
 use Rattle.hdfs_model.specs.declared.messages.Block.{Block}
+use Rattle.hdfs_model.specs.declared.messages.DatanodeId.{DatanodeId}
 use Rattle.hdfs_model.specs.declared.messages.DatanodeInfo.{DatanodeInfo}
 use Rattle.hdfs_model.specs.declared.messages.Setup.{Setup}
+use Rattle.hdfs_model.specs.declared.picture.BlockEntry.{BlockEntry}
 use Rattle.hdfs_model.specs.declared.picture.OpenWrite.{OpenWrite}
 use Rattle.hdfs_model.specs.Effects.{NamesPipeline, names_of}
 use Rattle.hdfs_model.specs.Namenode.{IsToWrite}
@@ -28,7 +31,7 @@ use Rattle.hdfs_blocks.proofs.Recovering.{holds_named, replay_fails, replay_furt
 use Rattle.hdfs_recovery.specs.declared.block_plan.BlockPlan.{BlockPlan}
 use Rattle.hdfs_recovery.specs.declared.replay.SentAgain.{SentAgain}
 use Rattle.hdfs_recovery.specs.Between.{OnlyBlockOf}
-use Rattle.hdfs_recovery.specs.Plans.{IsRecovery, Known, Waits}
+use Rattle.hdfs_recovery.specs.Plans.{HasStamp, IsRecovery, Known, Waits}
 use Rattle.hdfs_recovery.specs.Resuming.{MayBeNamed, Reopens, SendsAgain}
 use Rattle.hdfs_recovery.proofs.Stepping.{only_block_of-named, only_block_of-only, only_block_of-same}
 
@@ -258,6 +261,17 @@ module _ (plan : BlockPlan) (block : Block) (same : block.block_id ≡ plan.bloc
       link_stays p link plan.block.b.block_id (uuids plan.block.locs) known.safe replay known.bytes l q
       (names.changes.bytes.writes link ∙ l.on.told)
       (λ i lt. names.changes.bytes.held (slice_index_or (uuids plan.block.locs) i []) plan.block.b.block_id)
+
+-- The block table has the generation stamp with which a block was named.
+pub named_stamp : (block block' : Block) (nodes : List DatanodeId) (p q : Picture) → NamesPipeline block block' nodes p q → HasStamp q block'
+named_stamp block block' nodes p q names =
+    let entry : BlockEntry = record { length = names.entry.length; stamp = block'.generation_stamp; nodes = names_of nodes } in (
+      entry,
+      names.changes.table block'.block_id
+          ∙ cond-true (block.block_id == block'.block_id) (Some entry) (p.table block'.block_id)
+          (eq-eqb block.block_id block'.block_id (sym names.same_id)),
+      refl,
+    )
 
 -- An ask to name it changes nothing but the block.
 pub may_be_named_only : (plan : BlockPlan) (block : Block) (p q : Picture) → block.block_id ≡ plan.block.b.block_id

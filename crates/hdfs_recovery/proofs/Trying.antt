@@ -25,7 +25,7 @@ use Rattle.hdfs_recovery.specs.declared.block_plan.RebuildSettings.{RebuildSetti
 use Rattle.hdfs_recovery.specs.declared.block_plan.BlockPipeline.{BlockPipeline}
 use Rattle.hdfs_recovery.specs.Attempts.{Attempted, Begins, GaveNone, HasRebuildCause, Missed, Recovered, standing, task_of}
 use Rattle.hdfs_recovery.specs.Between.{HelpFailed, KeepsLinks, OnlyBlockOf, WaitsOn}
-use Rattle.hdfs_recovery.specs.Plans.{CanRebuild, IsDue, IsRecovery, IsNextPlan, IsNextPipeline, KeepsPlan, Known, Waits, nodes_at, without}
+use Rattle.hdfs_recovery.specs.Plans.{CanRebuild, HasLeft, HasStamp, IsDue, IsRecovery, IsNextPlan, IsNextPipeline, KeepsPlan, Known, Waits, nodes_at, without}
 use Rattle.hdfs_recovery.specs.Replacing.{Completes, CompletesNot, GoesOnWith, with_nodes}
 use Rattle.hdfs_recovery.specs.Resuming.{Restamps, RestampsNot, with_stamp}
 use Rattle.hdfs_recovery.specs.Trying.{FallsAgain, ResumeCause, Resumed, ResumedNot, StandsAgain, course_of}
@@ -111,11 +111,33 @@ module _ (plan0 plan2 plan3 : BlockPlan) (settings : RebuildSettings) (failed : 
       due)
       completes.how)
 
+  left_storages : plan2 ≡ left_plan plan0 failed → HasLeft failed plan0.block plan3.block
+  left_storages same = record {
+    nodes = same_nodes ∙ ap (λ (x : BlockPlan). x.block.locs) same;
+    types = ap (λ (x : BlockPlan). x.block.storage_types) restamps.is ∙ ap (λ (x : BlockPlan). x.block.storage_types) same;
+    ids = ap (λ (x : BlockPlan). x.block.storage_ids) restamps.is ∙ ap (λ (x : BlockPlan). x.block.storage_ids) same;
+  }
+
+  next_storages : plan3.block.locs ≡ left → HasLeft failed plan0.block plan3.block
+  next_storages same = ⊎_elim
+      (λ alone. left_storages alone.1)
+      (λ due. ⊎_elim
+      (λ best. left_storages best.2)
+      (λ added.
+      absurd (omega (
+        arith,
+        one_more_long left added.1.0.locs added.1.1,
+        ap length (sym (ap (λ (x : BlockPlan). x.block.locs) added.1.2) ∙ sym same_nodes ∙ same),
+      )))
+      due)
+      completes.how
+
   is_next : IsNextPlan plan0 settings failed plan3
   is_next = record {
     keeps = to_next;
     block = next_to_write;
     nodes = next_nodes;
+    storages = next_storages;
     once = ap (λ (x : BlockPlan). x.rebuilds) restamps.is ∙ went.1;
     within = omega (arith, within, ap (λ (x : BlockPlan). x.rebuilds) restamps.is, went.1);
   }
@@ -217,6 +239,7 @@ module _ (plan0 plan2 plan3 : BlockPlan) (settings : RebuildSettings) (failed : 
                 (sym stands.plan) y.2,
             subst (λ (b : BlockPlan). IsListed y.0 b.block.b.block_id (uuids b.block.locs) known.bytes) (sym stands.plan) y.3,
             only_block_of_trans id p x.0 y.0 x.4 (subst (λ (i : ℕ). OnlyBlockOf i x.0 y.0) to_next.id y.4),
+            subst (λ (b : BlockPlan). HasStamp y.0 b.block.b) (sym stands.plan) y.5,
           );
     }
 
@@ -241,6 +264,7 @@ module _ (plan0 plan2 plan3 : BlockPlan) (settings : RebuildSettings) (failed : 
                   y.1,
                   y.2,
                   only_block_of_trans id p x.0 y.0 x.4 (subst (λ (i : ℕ). OnlyBlockOf i x.0 y.0) to_next.id y.3),
+                  y.4,
                 );
           }),
       falls.replay,
@@ -315,7 +339,7 @@ complete_gave_none plan0 settings failed a m client replay unsent fault stays no
         none.2,
         ⊎_elim
             (λ links. inl links)
-            (λ namenode. inr (λ p known told w. namenode p known told (waits_for_left p plan0 failed known w)))
+            (λ namenode. inr (λ p known told w. namenode.0 p known told (waits_for_left p plan0 failed known w), namenode.1))
             none.3,
         λ p known told w. (let x = not.waits p known told (waits_for_left p plan0 failed known w) in (x.0, x.1, x.3)),
       ))

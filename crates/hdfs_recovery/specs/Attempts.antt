@@ -21,11 +21,11 @@ use Rattle.hdfs_recovery.specs.declared.block_plan.WriteFault.{WriteFault}
 use Rattle.hdfs_recovery.specs.declared.block_plan.WriteFault.TheVariants as faults
 use Rattle.hdfs_recovery.specs.declared.block_plan.RebuildSettings.{RebuildSettings}
 use Rattle.hdfs_blocks.specs.Carrying.{AreSlices, FollowFrom, LinkCarries, total}
-use Rattle.hdfs_recovery.specs.Plans.{IsDue, IsNextPlan, IsRecovery, Known, Waits, without}
+use Rattle.hdfs_recovery.specs.Plans.{HasStamp, IsDue, IsNextPlan, IsRecovery, Known, Waits, without}
 use Rattle.hdfs_blocks.specs.Rebuilding.{IsListed}
 use Rattle.hdfs_recovery.specs.Trying.{HaveFailed}
 use Rattle.hdfs_namenode.specs.Relaying.{TellsAsk}
-use Rattle.hdfs_recovery.specs.Between.{KeepsLinks, OnlyBlockOf, Touches, HelpFailed, NamenodeFailed, KeepsEntry}
+use Rattle.hdfs_recovery.specs.Between.{KeepsLinks, OnlyBlockOf, Touches, HelpFailed, HelpLacks, NamenodeFailed, KeepsEntry}
 
 -- what a rebuild is to do: with these settings, in the name of this client, these packets are sent again, and behind them the block has
 -- so many bytes that weren't sent
@@ -77,7 +77,7 @@ pub record Missed (task : Task) (before after : Standing) : Type 0 where
   pub told : (p : Picture) (known : Known) → before.shown.picture ≡ Some p → Waits p before.plan known
       → AreSlices known.bytes known.safe task.replay
       → (q : Picture) × (after.shown.picture ≡ Some q) × Waits q after.plan (record known { listed = uuids after.plan.block.locs })
-      × OnlyBlockOf before.plan.block.b.block_id p q
+      × OnlyBlockOf before.plan.block.b.block_id p q × HasStamp q after.plan.block.b
 
 -- so many attempts have failed, one behind another
 abbrev pub MissedTimes : ℕ → Task → Standing → Standing → Type 0
@@ -101,7 +101,7 @@ pub record Recovered (task : Task) (before : Standing) (rebuilt : BlockPipeline)
       → (q : Picture) × (new.picture ≡ Some q)
       × LinkCarries q rebuilt.link rebuilt.plan.block.b.block_id (uuids rebuilt.plan.block.locs) known.safe task.replay known.bytes
       × IsListed q rebuilt.plan.block.b.block_id (uuids rebuilt.plan.block.locs) known.bytes
-      × OnlyBlockOf before.plan.block.b.block_id p q
+      × OnlyBlockOf before.plan.block.b.block_id p q × HasStamp q rebuilt.plan.block.b
 
 -- Why an attempt comes to no link. Want of memory alone is free.
 abbrev pub HasRebuildCause : Task → Standing → WriteFault → Shown → Type 0
@@ -112,7 +112,7 @@ HasRebuildCause task before faults.Setup new = Rose before.shown.counts.links ne
 HasRebuildCause task before (faults.BadAck seqno) new = Rose before.shown.counts.links new.counts.links
 HasRebuildCause task before faults.AllNodes new = (left_of before ≡ []) × (new ≡ before.shown)
 HasRebuildCause task before faults.NoReplacement new = IsDue before.plan task.settings (left_of before)
-    × ((policy_of task.settings.replace).1 ≡ false) × HelpFailed before.plan before.shown new × KeepsEntry before.plan before.shown new
+    × ((policy_of task.settings.replace).1 ≡ false) × HelpLacks before.plan before.shown new × KeepsEntry before.plan before.shown new
 HasRebuildCause task before (faults.RebuildLimit rebuilds) new =
     (rebuilds ≡ before.plan.rebuilds) × (before.plan.rebuilds ≡ task.settings.rebuild_limit) × (new ≡ before.shown)
 HasRebuildCause task before (faults.Namenode error) new =

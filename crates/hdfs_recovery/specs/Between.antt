@@ -1,5 +1,8 @@
 -- What happens to a block between two pipelines.
 use Rattle.std.specs.Prelude.{◌≡◌, ◌≢◌, ◌⊎◌, ℕ, List, Some}
+use Rattle.hdfs_model.specs.declared.errors.HdfsError.{HdfsError}
+use Rattle.hdfs_model.specs.declared.errors.HdfsError.TheVariants as errors
+use Rattle.hdfs_namenode.specs.Relaying.{TellsAsk}
 use Rattle.hdfs_model.specs.Causes.{CallsRose}
 use Rattle.hdfs_model.specs.Counts.{Rose}
 use Rattle.hdfs_model.specs.Picture.{Picture}
@@ -47,3 +50,11 @@ NamenodeFailed plan old new = (p : Picture) (known : Known) → old.picture ≡ 
 -- the links have failed, as a transfer or a set-up does, or a namenode has
 abbrev pub HelpFailed : BlockPlan → Shown → Shown → Type 0
 HelpFailed plan old new = Rose old.counts.links new.counts.links ⊎ NamenodeFailed plan old new
+
+-- the last answer of a namenode stands for an error, and not for want of memory
+abbrev pub HasLastError : Shown → Shown → Type 0
+HasLastError old new = (error : HdfsError) × (error ≢ errors.NoMemory) × TellsAsk old new error
+
+-- why no datanode was added: the links have failed, as a transfer does, or a namenode has answered an error last, and one has failed
+abbrev pub HelpLacks : BlockPlan → Shown → Shown → Type 0
+HelpLacks plan old new = Rose old.counts.links new.counts.links ⊎ (NamenodeFailed plan old new × HasLastError old new)

@@ -7,6 +7,7 @@ use Rattle.hdfs_model.specs.declared.messages.LocatedBlock.{LocatedBlock}
 use Rattle.hdfs_model.specs.declared.messages.Block.{Block}
 use Rattle.hdfs_model.specs.declared.messages.Setup.{Setup}
 use Rattle.hdfs_model.specs.declared.messages.Stage.TheVariants as stages
+use Rattle.hdfs_model.specs.declared.picture.BlockEntry.{BlockEntry}
 use Rattle.hdfs_model.specs.Effects.{HasOneMore, IsBeingWritten}
 use Rattle.hdfs_model.specs.Namenode.{IsToWrite}
 use Rattle.hdfs_model.specs.Picture.{Picture}
@@ -87,11 +88,18 @@ IsNextPipeline plan settings failed nodes =
     (nodes ≡ without 0 failed plan.block.locs)
     ⊎ (IsDue plan settings (without 0 failed plan.block.locs) × HasOneMore (without 0 failed plan.block.locs) nodes)
 
--- The plan of the next pipeline: it is rebuilt once more.
+-- the datanodes of a block are those that are left of another one, and so are their storages
+pub record HasLeft (failed : List ℕ) (block block' : LocatedBlock) : Type 0 where
+  pub nodes : block'.locs ≡ without 0 failed block.locs
+  pub types : block'.storage_types ≡ without 0 failed block.storage_types
+  pub ids : block'.storage_ids ≡ without 0 failed block.storage_ids
+
+-- The plan of the next pipeline: it is rebuilt once more. Where no datanode was added, it has the storages of those that are left.
 pub record IsNextPlan (plan : BlockPlan) (settings : RebuildSettings) (failed : List ℕ) (plan' : BlockPlan) : Type 0 where
   pub keeps : KeepsPlan plan plan'
   pub block : IsToWrite plan'.block
   pub nodes : IsNextPipeline plan settings failed plan'.block.locs
+  pub storages : plan'.block.locs ≡ without 0 failed plan.block.locs → HasLeft failed plan.block plan'.block
   pub once : plan'.rebuilds ≡ plan.rebuilds + 1
   pub within : plan'.rebuilds ≤ settings.rebuild_limit
 
@@ -107,6 +115,7 @@ pub record IsRecovery (block : Block) (plan : BlockPlan) (safe : ℕ) (client : 
   pub least : setup.min_bytes ≡ safe
   pub most : setup.max_bytes ≡ plan.block.b.num_bytes
   pub chunk : setup.chunk ≡ plan.chunk
+  pub token : setup.token ≡ plan.block.block_token
   pub named_so : setup.client ≡ client
 
 -- what is known of a block while it is written: the datanodes that are listed for it, how many of its bytes are safe, and its bytes
@@ -119,3 +128,7 @@ pub record Known : Type 0 where
 pub record Waits (p : Picture) (plan : BlockPlan) (known : Known) : Type 0 where
   pub file : IsBeingWritten p plan.src plan.block.b
   pub block : BlockWaits p plan.block.b.block_id known.listed (uuids plan.block.locs) known.safe known.bytes
+
+-- the block table has the generation stamp with which the block is named
+abbrev pub HasStamp : Picture → Block → Type 0
+HasStamp p block = (entry : BlockEntry) × (p.table block.block_id ≡ Some entry) × (entry.stamp ≡ block.generation_stamp)

@@ -18,7 +18,7 @@ use Rattle.hdfs_recovery.specs.declared.block_plan.BlockPlan.{BlockPlan}
 use Rattle.hdfs_recovery.specs.declared.block_plan.WriteFault.{WriteFault}
 use Rattle.hdfs_recovery.specs.declared.block_plan.WriteFault.TheVariants as faults
 use Rattle.hdfs_recovery.specs.declared.block_plan.RebuildSettings.{RebuildSettings}
-use Rattle.hdfs_recovery.specs.Between.{HelpFailed, WaitsOn}
+use Rattle.hdfs_recovery.specs.Between.{HelpFailed, HelpLacks, WaitsOn}
 use Rattle.hdfs_recovery.specs.Plans.{IsDue, Known, Waits}
 
 -- where the datanode stands that was added to others: at the first place at which the lists differ
@@ -73,7 +73,7 @@ pub record AddsNode (plan : BlockPlan) (excluded : List DatanodeInfo) (old : Sho
 
 -- None was: for want of memory, or since a namenode or the transfer has failed. The block waits as before.
 pub record AddsNone (plan : BlockPlan) (old : Shown) (fault : WriteFault) (new : Shown) : Type 0 where
-  pub cause : (fault ≡ faults.NoMemory) ⊎ ((fault ≡ faults.NoReplacement) × HelpFailed plan old new)
+  pub cause : (fault ≡ faults.NoMemory) ⊎ ((fault ≡ faults.NoReplacement) × HelpLacks plan old new)
   pub waits : WaitsOn plan old plan new
 
 -- how the datanodes of a plan are gone on with: a datanode is added where one is due; with best effort none is, where a namenode or the
@@ -96,5 +96,5 @@ pub record Completes (plan : BlockPlan) (settings : RebuildSettings) (excluded :
 -- A datanode was due, and the write doesn't go on without it, or memory was wanting.
 pub record CompletesNot (plan : BlockPlan) (settings : RebuildSettings) (old : Shown) (fault : WriteFault) (new : Shown) : Type 0 where
   pub cause : (fault ≡ faults.NoMemory) ⊎ ((fault ≡ faults.NoReplacement) × IsDue plan settings plan.block.locs
-      × ((policy_of settings.replace).1 ≡ false) × HelpFailed plan old new)
+      × ((policy_of settings.replace).1 ≡ false) × HelpLacks plan old new)
   pub waits : WaitsOn plan old plan new

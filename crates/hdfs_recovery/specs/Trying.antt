@@ -23,7 +23,7 @@ use Rattle.hdfs_recovery.specs.declared.block_plan.RebuildSettings.{RebuildSetti
 use Rattle.hdfs_recovery.specs.declared.replay.SentAgain.{SentAgain}
 use Rattle.hdfs_recovery.specs.Between.{KeepsLinks, OnlyBlockOf, Touches}
 use Rattle.hdfs_blocks.specs.Carrying.{AreSlices, FollowFrom, LinkCarries}
-use Rattle.hdfs_recovery.specs.Plans.{IsRecovery, Known, Waits, block_without, without}
+use Rattle.hdfs_recovery.specs.Plans.{HasStamp, IsRecovery, Known, Waits, block_without, without}
 use Rattle.hdfs_blocks.specs.Rebuilding.{IsListed}
 use Rattle.hdfs_recovery.specs.Resuming.{AskFails}
 
@@ -73,7 +73,7 @@ pub record StandsAgain (course : Course) (old : Shown) (rebuilt : BlockPipeline)
       → (q : Picture) × (new.picture ≡ Some q)
       × LinkCarries q rebuilt.link course.plan.block.b.block_id (uuids course.plan.block.locs) known.safe course.replay known.bytes
       × IsListed q course.plan.block.b.block_id (uuids course.plan.block.locs) known.bytes
-      × OnlyBlockOf course.plan.block.b.block_id p q
+      × OnlyBlockOf course.plan.block.b.block_id p q × HasStamp q course.plan.block.b
 
 -- the datanodes at these places of a plan have failed
 abbrev pub HaveFailed : BlockPlan → List ℕ → Shown → Shown → Type 0
@@ -90,7 +90,7 @@ pub record FallsAgain (course : Course) (old : Shown) (fallen : Fallen) (new : S
   pub told : (p : Picture) (known : Known) → old.picture ≡ Some p → Waits p course.plan known
       → AreSlices known.bytes known.safe course.replay
       → (q : Picture) × (new.picture ≡ Some q) × Waits q course.plan (record known { listed = uuids course.plan.block.locs })
-      × OnlyBlockOf course.plan.block.b.block_id p q
+      × OnlyBlockOf course.plan.block.b.block_id p q × HasStamp q course.plan.block.b
 
 -- what came of the next pipeline
 abbrev pub Resumed : Course → Shown → Attempt → Shown → Type 0

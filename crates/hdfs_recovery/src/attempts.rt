@@ -94,10 +94,10 @@ fn replay_and_name<C: Cluster>(
     requires reaches { ReachesAll (proxy_of namenode.old) (C.shown cluster.old) }
     requires same { block.now.block_id ≡ plan.now.block.b.block_id }
     requires going { IsGoing (C.shown cluster.old) link core }
-    requires none { core.pushed ≡ [] }
-    requires packets { IsReplay core.window replay }
+    requires packets { (core.pushed ≡ []) × IsReplay core.window replay }
     requires fresh { (write : OpenWrite) → (C.shown cluster.old).writes link ≡ Some write → write.end ≡ None }
-    ensures ok { IfOk result (λ sent. SendsAndNames (resending link replay core (C.shown cluster.old)) block.now plan.now sent (C.shown cluster.new)) }
+    ensures ok { IfOk result (λ sent.
+        SendsAndNames (resending link replay core (C.shown cluster.old)) block.now plan.now sent (C.shown cluster.new)) }
     ensures err { IfErr result (λ fault.
         SendsOrNamesNot (resending link replay core (C.shown cluster.old)) block.now plan.now fault (C.shown cluster.new)) }
     ensures client { SameClient namenode.old namenode.new }

@@ -1,4 +1,4 @@
-//! Writers of blocks: how a block gets another pipeline once one has failed.
+//! How a block gets another pipeline once datanodes of its pipeline have failed.
 #![tactic(auto)]
 
 mod attempts;

@@ -79,10 +79,12 @@ fn with_nodes(plan: BlockPlan, located: LocatedBlock) -> BlockPlan
 fn fault_of_none(error: HdfsError) -> WriteFault
     ensures { result ≡ fault_of_none error }
 {
-    match error {
+    let fault = match error {
         HdfsError::NoMemory => WriteFault::NoMemory,
         _ => WriteFault::NoReplacement,
-    }
+    };
+    drop(error);
+    fault
 }
 
 /// What it is for a rebuild that the datanode that was added wasn't given the block.

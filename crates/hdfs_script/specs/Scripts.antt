@@ -115,11 +115,12 @@ abbrev pub active_with : ℕ → Setting → ℕ
 active_with active (settings.Active i) = i
 active_with active _ = active
 
--- the same behind an entry
+-- the number of namenodes behind an entry
 abbrev pub namenodes_behind : ℕ → Entry → ℕ
 namenodes_behind namenodes (Sets setting) = namenodes_with namenodes setting
 namenodes_behind namenodes _ = namenodes
 
+-- the number of the active namenode behind an entry
 abbrev pub active_behind : ℕ → Entry → ℕ
 active_behind active (Sets setting) = active_with active setting
 active_behind active _ = active

@@ -4,8 +4,9 @@ use Rattle.std.proofs.lemmas.Result.{err_from_is_err_and}
 use Rattle.hdfs_namenode.specs.Clients.{SameClient, proxy_of}
 use Rattle.hdfs_namenode.proofs.Services.{reaches_later, same_client_refl, same_client_trans}
 use Rattle.hdfs_block_writer.specs.declared.pushing.Settled.{Settled}
-use Rattle.hdfs_block_writer.specs.Pushing.{Settles}
+use Rattle.hdfs_block_writer.specs.Pushing.{ReceivesOnce, Settles}
 use Rattle.hdfs_block_writer.proofs.PushingOn.{few_still, fewer_waits, finished_then, first_wait, not_finished, waits_again}
+use Rattle.hdfs_block_writer.proofs.Received.{all_received}
 use Rattle.hdfs_block_writer.proofs.pushing.finish.Goals as goal
 
 pub loop-plan-init : goal.loop-plan-init
@@ -55,6 +56,13 @@ returns-in-Done-clause-finishes g c =
     (g.C.Cluster.shown c.finish_once.new.cluster) c.loop-plan.pipe c.loop-plan.invariant.waits c.in-Done.plan
     (subst (λ (s : Settled). Settles c.args.settings.now (g.C.Cluster.shown c.loop-plan.cluster) c.loop-plan.pipe s
     (g.C.Cluster.shown c.finish_once.new.cluster)) c.in-Done.is c.in_ok-plan.ensures.ok)
+
+pub returns-in-Done-clause-last : goal.returns-in-Done-clause-last
+returns-in-Done-clause-last g c =
+    all_received g.C.Cluster.shown g.C.Cluster.ends c.args.settings.now c.args.cluster.now c.loop-plan.cluster c.finish_once.new.cluster
+    c.args.pipe c.loop-plan.pipe c.loop-plan.invariant.waits
+    (subst (λ (s : Settled). ReceivesOnce g.C.Cluster.shown g.C.Cluster.ends c.loop-plan.cluster c.loop-plan.pipe s c.finish_once.new.cluster)
+    c.in-Done.is c.in_ok-plan.ensures.last)
 
 pub loop-plan-smaller : goal.loop-plan-smaller
 loop-plan-smaller g c =

@@ -9,6 +9,7 @@ use Rattle.hdfs_recovery.specs.declared.block_plan.BlockPlan.{BlockPlan}
 use Rattle.hdfs_recovery.specs.Plans.{CanRebuild}
 use Rattle.hdfs_block_writer.proofs.EndedRebuilt.{bad_is, recovers_is}
 use Rattle.hdfs_block_writer.proofs.Finished.{done_is, finishes, fewer_bytes, once_bad, once_given_up, once_rebuilt, once_stopped}
+use Rattle.hdfs_block_writer.proofs.Received.{receives}
 use Rattle.hdfs_block_writer.proofs.Standing.{can_rebuild_standing, standing_drove}
 use Rattle.hdfs_block_writer.proofs.pushing.finish_once.Goals as goal
 
@@ -32,6 +33,34 @@ returns-then-is_empty-clause-ok g c =
     let none : length c.as_slice.result.now ≡ 0 = eqb-true (length c.as_slice.result.now) 0 (sym c.is_empty.ensures ∙ c.if-is_empty.true) in
     finishes c.args.settings.now c.args.pipe a z m d.last c.requires.standing c.requires.ending.0 d.drove e d.is_core
     (sym r.1 ∙ nil_from_length c.in-Recover.replay (ap length (sym c.as_slice.ensures) ∙ none))
+
+pub returns-then-is_empty-clause-last : goal.returns-then-is_empty-clause-last
+returns-then-is_empty-clause-last g c =
+    let d = c.in_ok-drive_end.ensures.drove in
+    let a = g.C.Cluster.shown c.args.cluster.now in
+    let z = g.C.Cluster.shown d.before in
+    let r = recovers_is d.last c.in_ok-drive_end.field-0 c.in-Recover.failed c.in-Recover.replay d.is_core d.has_ended d.is c.in-Recover.is in
+    let none : length c.as_slice.result.now ≡ 0 = eqb-true (length c.as_slice.result.now) 0 (sym c.is_empty.ensures ∙ c.if-is_empty.true) in
+    λ front packet is. (
+      d.before,
+      c.args.pipe.link,
+      d.ended,
+      receives c.args.pipe a z d.last d.drove c.requires.ending.0
+          (sym r.1 ∙ nil_from_length c.in-Recover.replay (ap length (sym c.as_slice.ensures) ∙ none)) front packet is,
+    )
+
+pub returns-in-Success-clause-last : goal.returns-in-Success-clause-last
+returns-in-Success-clause-last g c =
+    let d = c.in_ok-drive_end.ensures.drove in
+    let a = g.C.Cluster.shown c.args.cluster.now in
+    let z = g.C.Cluster.shown d.before in
+    λ front packet is. (
+      d.before,
+      c.args.pipe.link,
+      d.ended,
+      receives c.args.pipe a z d.last d.drove c.requires.ending.0
+          (d.none_left c.requires.ending.0 (done_is d.last c.in_ok-drive_end.field-0 d.has_ended d.is c.in-Success.is)) front packet is,
+    )
 
 pub rebuild-requires-clause-reaches : goal.rebuild-requires-clause-reaches
 rebuild-requires-clause-reaches g c =

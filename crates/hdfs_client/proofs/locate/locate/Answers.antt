@@ -29,11 +29,14 @@ returns-in-Err-clause-files g c = λ p told closed.
     files_looked g.C.Cluster.shown g.C.Cluster.serves g.met.C.Cluster.serves_rows c.args.path.now 0 9223372036854775807 (through c.args.namenode.now c.args.cluster.now)
     (through c.get_block_locations.new.self c.get_block_locations.new.cluster) (g.met.C.Cluster.active_below c.args.cluster.now) c.requires p told closed (Err c.in-Err.error) c.in-Err.ensures.asked
 
-pub returns-in-Err-clause-tells : goal.returns-in-Err-clause-tells
-returns-in-Err-clause-tells g c = λ from len.
-    tells_from-TellsAsk c.args.name.now from len (g.C.Cluster.shown c.args.cluster.now) (g.C.Cluster.shown c.get_block_locations.new.cluster) c.in-Err.error
-    (tells_looked g.C.Cluster.shown g.C.Cluster.serves g.met.C.Cluster.serves_rows c.args.path.now 0 9223372036854775807 (through c.args.namenode.now c.args.cluster.now)
-    (through c.get_block_locations.new.self c.get_block_locations.new.cluster) c.in-Err.error c.in-Err.ensures.asked)
+pub returns-in-Err-clause-err : goal.returns-in-Err-clause-err
+returns-in-Err-clause-err g c =
+    let s = g.C.Cluster.shown c.args.cluster.now in
+    let t = g.C.Cluster.shown c.get_block_locations.new.cluster in
+    let told = tells_looked g.C.Cluster.shown g.C.Cluster.serves g.met.C.Cluster.serves_rows c.args.path.now 0 9223372036854775807
+    (through c.args.namenode.now c.args.cluster.now) (through c.get_block_locations.new.self c.get_block_locations.new.cluster)
+    c.in-Err.error c.in-Err.ensures.asked in
+    (ask_not_owed s t c.in-Err.error told, λ from len. tells_from-TellsAsk c.args.name.now from len s t c.in-Err.error told)
 
 pub returns-in-Err-clause-cause : goal.returns-in-Err-clause-cause
 returns-in-Err-clause-cause g c = λ w state offset len meets.
@@ -45,12 +48,6 @@ returns-in-Err-clause-cause g c = λ w state offset len meets.
     looked_cause w s t state c.args.name.now path offset len meets 0 9223372036854775807 c.in-Err.error
     (tells_looked g.C.Cluster.shown g.C.Cluster.serves g.met.C.Cluster.serves_rows path 0 9223372036854775807 old new c.in-Err.error c.in-Err.ensures.asked)
     (λ p told closed. error_looked g.C.Cluster.shown g.C.Cluster.serves g.met.C.Cluster.serves_rows path 0 9223372036854775807 old new (g.met.C.Cluster.active_below c.args.cluster.now) c.requires p told closed c.in-Err.error c.in-Err.ensures.asked)
-
-pub returns-in-Err-clause-owed : goal.returns-in-Err-clause-owed
-returns-in-Err-clause-owed g c =
-    ask_not_owed (g.C.Cluster.shown c.args.cluster.now) (g.C.Cluster.shown c.get_block_locations.new.cluster) c.in-Err.error
-    (tells_looked g.C.Cluster.shown g.C.Cluster.serves g.met.C.Cluster.serves_rows c.args.path.now 0 9223372036854775807 (through c.args.namenode.now c.args.cluster.now)
-    (through c.get_block_locations.new.self c.get_block_locations.new.cluster) c.in-Err.error c.in-Err.ensures.asked)
 
 pub returns-in_err-copy-in-Ok-None-clause-looks : goal.returns-in_err-copy-in-Ok-None-clause-looks
 returns-in_err-copy-in-Ok-None-clause-looks g c =

@@ -13,7 +13,7 @@ pub returns-in_err-found-clause-anywhere : goal.returns-in_err-found-clause-anyw
 returns-in_err-found-clause-anywhere g c =
     let p = err_from_is_err_and c.from_residual.result c.from_residual.ensures.1 in
     let h = c.in_err-found.ensures in
-    rw (p.1, p.2) (applies_looked c.args.name.now c.args.offset c.args.len (g.C.Cluster.shown c.args.cluster.now) (g.C.Cluster.shown c.locate.new.cluster) c.in_err-found.field-0.0 h.looks (h.tells c.args.offset c.args.len))
+    rw (p.1, p.2) (applies_looked c.args.name.now c.args.offset c.args.len (g.C.Cluster.shown c.args.cluster.now) (g.C.Cluster.shown c.locate.new.cluster) c.in_err-found.field-0.0 h.looks (h.err.1 c.args.offset c.args.len))
 
 pub returns-in_err-found-clause-err : goal.returns-in_err-found-clause-err
 returns-in_err-found-clause-err g c =
@@ -74,7 +74,7 @@ returns-clause-ok g c =
 pub returns-in_err-found-clause-owed : goal.returns-in_err-found-clause-owed
 returns-in_err-found-clause-owed g c =
     let p = err_from_is_err_and c.from_residual.result c.from_residual.ensures.1 in
-    rw (p.1, p.2) c.in_err-found.ensures.owed
+    rw (p.1, p.2) c.in_err-found.ensures.err.0
 
 pub returns-in_err-read_blocks-clause-owed : goal.returns-in_err-read_blocks-clause-owed
 returns-in_err-read_blocks-clause-owed g c =

@@ -1,8 +1,9 @@
 -- The goals of BlockWriter::close.
 use Rattle.std.proofs.Common.{[]}
 use Rattle.hdfs_namenode.proofs.Services.{same_client_trans}
-use Rattle.hdfs_block_writer.specs.Written.{Closes, GaveUp}
+use Rattle.hdfs_block_writer.specs.Written.{Closes, GaveUp, WaitsForLast}
 use Rattle.hdfs_block_writer.proofs.Closed.{closes_after}
+use Rattle.hdfs_block_writer.proofs.Received.{last_after, on_ok_by}
 use Rattle.hdfs_recovery.proofs.Tried.{err_by, ok_by}
 use Rattle.hdfs_block_writer.proofs.Wrote.{gave_up_after}
 use Rattle.hdfs_block_writer.proofs.block_writer.BlockWriter.close.Goals as goal
@@ -17,6 +18,15 @@ returns-in-Ok-clause-closed g c =
     let z = g.C.Cluster.shown c.end.new.cluster in
     ok_by (λ block. Closes b c.flush.new.self block z) (λ block. Closes a c.args.self block z) c.end.result
     (λ block closed. closes_after a b z c.args.self c.flush.new.self block c.in-Ok.ensures.wrote closed) c.end.ensures.closed
+
+pub returns-in-Ok-clause-last : goal.returns-in-Ok-clause-last
+returns-in-Ok-clause-last g c =
+    on_ok_by (WaitsForLast g.C.Cluster.shown g.C.Cluster.ends c.flush.new.cluster c.flush.new.self c.end.new.cluster)
+    (WaitsForLast g.C.Cluster.shown g.C.Cluster.ends c.args.cluster.now c.args.self c.end.new.cluster) c.end.result
+    (λ last.
+    last_after g.C.Cluster.shown g.C.Cluster.ends c.args.cluster.now c.flush.new.cluster c.end.new.cluster c.args.self c.flush.new.self
+    c.in-Ok.ensures.wrote last)
+    c.end.ensures.last
 
 pub returns-in-Ok-clause-err : goal.returns-in-Ok-clause-err
 returns-in-Ok-clause-err g c =

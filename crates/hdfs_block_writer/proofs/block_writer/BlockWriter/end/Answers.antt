@@ -2,6 +2,7 @@
 use Rattle.std.proofs.Common.{rules, ◌≡◌, [], Some, arith}
 use Rattle.hdfs_namenode.proofs.Services.{same_client_trans}
 use Rattle.hdfs_block_writer.proofs.Closed.{can_push_last, closes, ending, few, last_not_pushed, not_finished}
+use Rattle.hdfs_block_writer.proofs.Received.{waits_for_last}
 use Rattle.hdfs_block_writer.proofs.Sent.{is_open, pipe_of}
 use Rattle.hdfs_block_writer.proofs.Wrote.{gave_up_ended}
 use Rattle.hdfs_block_writer.proofs.block_writer.BlockWriter.end.Goals as goal
@@ -58,6 +59,14 @@ returns-in-Ok-finish-clause-closed g c =
     closes c.args.self.now c.in-Some.pipe c.in-Ok.packet (g.C.Cluster.shown c.args.cluster.now) piped c.requires.none held.0 held.1
     c.in-Ok.ensures (g.C.Cluster.shown c.push-pushed.new.cluster) c.in-Ok-pushed.pipe c.in-Ok-pushed.ensures.ok
     (g.C.Cluster.shown c.finish.new.cluster) c.in-Ok-finish.plan c.in-Ok-finish.ensures.finishes c.named.result c.named.ensures
+
+pub returns-in-Ok-finish-clause-last : goal.returns-in-Ok-finish-clause-last
+returns-in-Ok-finish-clause-last g c =
+    let piped : c.args.self.now.pipe ≡ Some c.in-Some.pipe = search rules in
+    let held = c.requires.holds c.in-Some.pipe piped in
+    waits_for_last g.C.Cluster.shown g.C.Cluster.ends c.args.self.now c.in-Some.pipe c.in-Ok-pushed.pipe c.in-Ok.packet c.args.cluster.now
+    c.push-pushed.new.cluster c.finish.new.cluster piped c.requires.none held.0 held.1 c.in-Ok.ensures c.in-Ok-pushed.ensures.ok
+    c.in-Ok-finish.ensures.last
 
 pub returns-in-Err-finish-clause-err : goal.returns-in-Err-finish-clause-err
 returns-in-Err-finish-clause-err g c =
