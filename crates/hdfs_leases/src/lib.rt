@@ -1,0 +1,11 @@
+//! The leases of the files that a client is writing.
+#![tactic(auto)]
+
+mod file_leases;
+mod files;
+mod namespaces;
+#[cfg(test)]
+mod tests;
+
+pub use file_leases::{FileLeases, LeaseTurn};
+pub use hdfs_wire::{List, NoMemory, Text};
