@@ -165,7 +165,7 @@ module _ (settings : RebuildSettings) (client : List ℕ) (a : Shown) (pipe : Bl
 
       -- the last error is that of before too
       last_error : HasLastError then.shown new → HasLastError a new
-      last_error (error, some, tells) = (error, some, tells_since a then.shown new new error refl tells)
+      last_error (error, some, tells) = (error, some, tells_since a then.shown new new error chain.later (later_refl new) refl tells)
 
       cause : (f : WriteFault) → HasRebuildCause (task settings client a pipe came last z m failed fell bytes unsent below) then f new
           → HasCause settings pipe.plan (IsOver pipe (came ++ more)) a f new
@@ -183,7 +183,7 @@ module _ (settings : RebuildSettings) (client : List ℕ) (a : Shown) (pipe : Bl
         due why.0,
       )
       cause (faults.RebuildLimit rebuilds) why = (why.0 ∙ why.1, fail_times why.1, some_listed (same_entry why.2))
-      cause (faults.Namenode error) why = (why.0, tells_since a then.shown new new error refl why.1, node_rose, namenode_fails why.2)
+      cause (faults.Namenode error) why = (why.0, tells_since a then.shown new new error chain.later (later_refl new) refl why.1, node_rose, namenode_fails why.2)
 
       pub gives_up : GivesUp settings pipe (IsOver pipe (came ++ more)) a fault new
       gives_up = record {

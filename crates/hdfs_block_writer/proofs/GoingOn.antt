@@ -129,7 +129,7 @@ module _ (settings : RebuildSettings) (pipe pipe' : BlockPipeline) (W V : Pictur
 
   -- the last error is that of before too
   last_since : HasLastError b c → HasLastError a c
-  last_since (error, some, tells) = (error, some, tells_since a b c c error refl tells)
+  last_since (error, some, tells) = (error, some, tells_since a b c c error own.later (later_refl c) refl tells)
 
   cause_since : (fault : WriteFault) → HasCause settings pipe'.plan V b fault c → HasCause settings pipe.plan W a fault c
   cause_since faults.NoMemory cause = tt
@@ -157,7 +157,7 @@ module _ (settings : RebuildSettings) (pipe pipe' : BlockPipeline) (W V : Pictur
     listed_since cause.2,
   )
   cause_since (faults.Namenode error) cause =
-      (cause.0, tells_since a b c c error refl cause.1, some_rose_since a b c own.later cause.2, namenode_since cause.3)
+      (cause.0, tells_since a b c c error own.later (later_refl c) refl cause.1, some_rose_since a b c own.later cause.2, namenode_since cause.3)
 
   pub gives_up_since : (fault : WriteFault) → GivesUp settings pipe' V b fault c → GivesUp settings pipe W a fault c
   gives_up_since fault g = record {

@@ -1,25 +1,22 @@
 -- A block goes on over another pipeline: the packets that aren't acknowledged are sent again, and the table names its datanodes.
 use Rattle.std.proofs.Common.{take-append-drop, eq-eqb, ◌≡◌, ℕ, suc, zero, ◌+◌, ◌<◌, ◌==◌, List, [], ◌∷◌, ◌++◌, length, take, drop, Some, refl, sym, ◌∙◌, ap, subst, arith, append_assoc}
-use Rattle.std.proofs.Math.Seq.{take-length}
 use Rattle.std.proofs.lemmas.Bool.{cond-true}
-use Rattle.std.proofs.lemmas.List.{append-nil, get_or_default, length-map}
-use Rattle.std.specs.List.{All, Contains, slice_index_or}
+use Rattle.std.proofs.lemmas.List.{append-nil, get_or_default}
+use Rattle.std.specs.List.{slice_index_or}
 use Rattle.hdfs_wire.specs.Outgoing.{Outgoing}
 use Rattle.hdfs_model.specs.declared.messages.Block.{Block}
 use Rattle.hdfs_model.specs.declared.messages.DatanodeId.{DatanodeId}
-use Rattle.hdfs_model.specs.declared.messages.Setup.{Setup}
 use Rattle.hdfs_model.specs.declared.picture.BlockEntry.{BlockEntry}
 use Rattle.hdfs_model.specs.Effects.{NamesPipeline, names_of}
 use Rattle.hdfs_model.specs.Picture.{Picture}
-use Rattle.hdfs_model.specs.Sending.{uuids}
 use Rattle.hdfs_model.specs.Stores.{HoldsPrefix}
-use Rattle.hdfs_model.specs.Writing.{Starts, Sends, IsBehind, Releases}
-use Rattle.hdfs_blocks.specs.Carrying.{total, joined, AreSlices, FollowFrom, Awaits, LinkHolds, LinkCarries, LinkGoesOn, BlockView, BlockCarries}
-use Rattle.hdfs_blocks.specs.Rebuilding.{IsListed, BlockHolds, BlockWaits}
+use Rattle.hdfs_model.specs.Writing.{Sends, IsBehind}
+use Rattle.hdfs_blocks.specs.Carrying.{total, joined, AreSlices, FollowFrom, Awaits, LinkHolds, LinkCarries, LinkGoesOn}
+use Rattle.hdfs_blocks.specs.Rebuilding.{IsListed, BlockHolds}
 use Rattle.hdfs_blocks.proofs.Further.{link_further}
-use Rattle.hdfs_blocks.proofs.Links.{each_holds, safe_within, holds_stays, link_stays, link_sends, next_at}
-use Rattle.hdfs_blocks.proofs.Prefixes.{total_cut, joined_behind, slices_front, slices_from-joined}
-use Rattle.hdfs_blocks.proofs.Rebuilding.{block_further, block_waits, waits_opens}
+use Rattle.hdfs_blocks.proofs.Links.{each_holds, holds_stays, link_sends, next_at}
+use Rattle.hdfs_blocks.proofs.Prefixes.{total_cut, joined_behind, slices_front}
+use Rattle.hdfs_blocks.proofs.Rebuilding.{block_further}
 
 -- Behind the first of some packets, the payloads of the others with what is behind them are the bytes from there on.
 pub kept_after : (bytes rest : List ℕ) (packets : List Outgoing) (k at : ℕ) → joined packets ++ rest ≡ drop at bytes

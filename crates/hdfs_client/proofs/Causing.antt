@@ -3,12 +3,12 @@ use Rattle.std.proofs.Common.{◌≡◌, ◌⊎◌, inl, inr, ⊎_elim, ℕ, ◌
 use Rattle.std.proofs.lemmas.Bool.{false≢true}
 use Rattle.hdfs_model.specs.declared.messages.LocatedBlocks.{LocatedBlocks}
 use Rattle.hdfs_model.specs.declared.asks.Ask.TheVariants as asks
-use Rattle.hdfs_model.specs.declared.asks.AskFault.TheVariants as faults
 use Rattle.hdfs_model.specs.declared.commands.Command.{Command}
 use Rattle.hdfs_model.specs.declared.commands.Command.TheVariants as commands
 use Rattle.hdfs_model.specs.declared.commands.Reply.TheVariants as replies
 use Rattle.hdfs_model.specs.declared.errors.HdfsError.{HdfsError}
 use Rattle.hdfs_model.specs.declared.errors.HdfsError.TheVariants as errors
+use Rattle.hdfs_model.specs.declared.errors.IoFault.TheVariants as io_faults
 use Rattle.hdfs_model.specs.declared.errors.ArgFault.TheVariants as args
 use Rattle.hdfs_model.specs.declared.errors.TransferFault.TheVariants as transfer
 use Rattle.hdfs_model.specs.Files.{State, NoFile, NotDirectory, Missing, NotFile}
@@ -19,7 +19,7 @@ use Rattle.hdfs_model.specs.Shown.{Shown, Later, OnlyReads}
 use Rattle.hdfs_model.specs.Stores.{Agrees}
 use Rattle.hdfs_model.specs.Causes.{AllFailed, ByteLost, CallsRose, FileLost, HasLength, Cause, Tells, IsEarly}
 use Rattle.hdfs_model.proofs.Frames.{told_after, rose_since}
-use Rattle.hdfs_namenode.specs.Asked.{error_of}
+use Rattle.hdfs_namenode.specs.Asked.{exception_error}
 use Rattle.hdfs_namenode.specs.Relaying.{RefusedBy, TellsAsk}
 use Rattle.hdfs_client.specs.Meeting.{Meets, IsClosed}
 use Rattle.hdfs_client.specs.Ranges.{Stored, FailsAt}
@@ -61,7 +61,7 @@ module _ (w : World) (s s' : Shown) (state : State) (name path : List ℕ) (offs
       let lacking = h t.0 t.1 t.2 in
       (lacking.0, refused_read w s state name path meets t.0 t.1 offset len lacking.0 lacking.1)
 
-  exception_cause : (class message : List ℕ) → (p : Picture) → s.picture ≡ Some p → StandsForNoFile (kinds p) path class ⊎ CallsRose s.counts s' → Cause w state command s s' (error_of (faults.Exception class message))
+  exception_cause : (class message : List ℕ) → (p : Picture) → s.picture ≡ Some p → StandsForNoFile (kinds p) path class ⊎ CallsRose s.counts s' → Cause w state command s s' (exception_error class message)
   exception_cause class message p told h = by_test (is_taken class) refl
     where
       by_test : (b : Bool) → is_taken class ≡ b → Cause w state command s s' (cond b (errors.AlreadyExists message) (errors.RPCError class message))
@@ -73,6 +73,9 @@ module _ (w : World) (s s' : Shown) (state : State) (name path : List ℕ) (offs
   rose_cause errors.NoMemory tells rose = tt
   rose_cause (errors.AlreadyExists message) tells rose = inr rose
   rose_cause (errors.RPCError class message) tells rose = inr rose
+  rose_cause (errors.IOError (io_faults.Namenode last)) tells rose = rose
+  rose_cause (errors.InvalidRPCResponse fault) tells rose = rose
+  rose_cause (errors.FatalRPCError class message) tells rose = rose
   rose_cause e tells rose = absurd tells
 
   -- why the look-up fails

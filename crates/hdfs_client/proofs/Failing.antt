@@ -20,7 +20,7 @@ use Rattle.hdfs_model.specs.Limits.{are_defaults, are_options}
 use Rattle.hdfs_model.specs.Shown.{Shown}
 use Rattle.hdfs_model.specs.Steps.{is_opened, path_of, target_of}
 use Rattle.hdfs_model.specs.Stores.{Agrees}
-use Rattle.hdfs_model.proofs.Frames.{rose_since, told_before, told_weaker}
+use Rattle.hdfs_model.proofs.Frames.{never_fall_refl, rose_since, told_before, told_weaker}
 use Rattle.hdfs_model.proofs.Relaying.{Repeats}
 use Rattle.hdfs_namenode.specs.Relaying.{DoneOrNot, RelaysTold, TellsAsk}
 use Rattle.hdfs_namenode.proofs.Relayed.{relayed_done}
@@ -113,7 +113,7 @@ module _ (command : Command) (opens : Opens command) (s m : Shown) (session sess
   -- no defaults
   pub lacks_acts : (error : HdfsError) → LacksDefaults s session error m → Acts command s session m (after {T = Reply} session' (Err error)) (Err error)
   lacks_acts error (inl fault) =
-      failed_acts command s m session session' error stands prepares.looks kept prepares.remembers (ask_tells command s s m error fault.0) (opens.found s m)
+      failed_acts command s m session session' error stands prepares.looks kept prepares.remembers (ask_tells command s s m error (never_fall_refl s.counts) fault.0) (opens.found s m)
       (λ state ready. (lacks_cause state ready error fault.0 fault.1, agrees_but (spared (world_at session s) state command error) m.picture state.files (agrees_still state ready)))
       open_still
   lacks_acts error (inr out) =
@@ -175,7 +175,7 @@ module _ (command : Command) (opens : Opens command) (s m : Shown) (session sess
     -- an error of the ask
     pub refused_acts : (error : HdfsError) → Came m ask (Err error) t → ((p : Picture) → Repeats ask p) → Acts command s session t (after {T = Reply} session'' (Err error)) (Err error)
     refused_acts error came repeats =
-        late_acts error (ask_not_early m t error came.relays.tells) (looks_from-Leaves m t came.relays.leaves) (ask_tells command s m t error came.relays.tells)
+        late_acts error (ask_not_early m t error came.relays.tells) (looks_from-Leaves m t came.relays.leaves) (ask_tells command s m t error prepares.looks.later.counts came.relays.tells)
         (λ state ready p told.
         (let to = came.told p told (repeats p) in
         (asked_cause state ready p told error came.relays.tells to.0 to.2, (to.0, to.1, may_be_done ask p to.0 (relayed_done (CallsRose m.counts t) p ask (Err error) to.0 tt to.2)))))

@@ -9,6 +9,7 @@ use Rattle.hdfs_model.specs.declared.asks.AskFault.{AskFault}
 use Rattle.hdfs_model.specs.declared.commands.Command.TheVariants as commands
 use Rattle.hdfs_model.specs.declared.errors.HdfsError.{HdfsError}
 use Rattle.hdfs_model.specs.declared.errors.HdfsError.TheVariants as errors
+use Rattle.hdfs_model.specs.declared.errors.IoFault.TheVariants as io_faults
 use Rattle.hdfs_model.specs.declared.picture.LastAnswer.TheVariants as last_answers
 use Rattle.hdfs_model.specs.Anywhere.{Applies}
 use Rattle.hdfs_model.specs.Causes.{CallsRose, Tells}
@@ -21,6 +22,7 @@ use Rattle.hdfs_model.proofs.Framing.{Leaves}
 use Rattle.hdfs_model.proofs.Repeating.{locations_repeats}
 use Rattle.hdfs_namenode.specs.Asked.{AskedOnce, ReachesAll, Through}
 use Rattle.hdfs_namenode.specs.Relaying.{DoneOrNot, RefusedBy, RelaysTold, TellsAsk}
+use Rattle.hdfs_namenode.proofs.Services.{reaches_service}
 use Rattle.hdfs_namenode.proofs.Relayed.{Relays, relayed_done, relayed_once, relayed_row, relayed_told_once}
 use Rattle.hdfs_client.specs.Meeting.{IsClosed}
 use Rattle.hdfs_client.specs.Looking.{OnlyLooks}
@@ -53,17 +55,20 @@ pub tells_from-TellsAsk : (name : List ℕ) (from len : ℕ) (old new : Shown) (
 tells_from-TellsAsk name from len old new errors.NoMemory tells = tt
 tells_from-TellsAsk name from len old new (errors.AlreadyExists message) tells = tells
 tells_from-TellsAsk name from len old new (errors.RPCError class message) tells = tells
+tells_from-TellsAsk name from len old new (errors.IOError (io_faults.Namenode last)) tells = tells
+tells_from-TellsAsk name from len old new (errors.InvalidRPCResponse fault) tells = tells
+tells_from-TellsAsk name from len old new (errors.FatalRPCError class message) tells = tells
 tells_from-TellsAsk name from len old new e tells = absurd tells
 
 -- the same, where it was asked in a client's name
 module _ {C : Type 0} (shown : C → Shown) (serves : C → ℕ → Ask → Result Answer AskFault → C → Type 0)
     (rows : (old new : C) (i : ℕ) (ask : Ask) (result : Result Answer AskFault) → serves old i ask result new → Served (shown old) i ask result (shown new))
-    (src : List ℕ) (offset length : ℕ) (old new : Through C) where
+    (src : List ℕ) (offset length : ℕ) (old new : Through C) (reaches : ReachesAll old.proxy (shown old.cluster)) where
   abbrev looking : Ask
   looking = asks.GetBlockLocations src offset length
 
   relays : (outcome : Result Answer HdfsError) → AskedOnce serves false looking old outcome new → Relays (shown old.cluster) looking outcome (shown new.cluster)
-  relays outcome asked = relayed_once shown serves rows false looking old outcome new asked
+  relays outcome asked = relayed_once shown serves rows false looking old outcome new (reaches_service old.proxy (shown old.cluster) reaches) asked
 
   pub only_looks : (outcome : Result Answer HdfsError) → AskedOnce serves false looking old outcome new → OnlyLooks (shown old.cluster) (shown new.cluster)
   only_looks outcome asked = looks_from-Leaves (shown old.cluster) (shown new.cluster) (relays outcome asked).leaves
@@ -79,7 +84,7 @@ module _ {C : Type 0} (shown : C → Shown) (serves : C → ℕ → Ask → Resu
   tells_looked e asked = (relays (Err e) asked).tells
 
   -- over a told picture, where nobody writes the file, and all namenodes are asked
-  module _ (active : (p : Picture) → (shown old.cluster).picture ≡ Some p → p.active < (shown old.cluster).namenodes) (reaches : ReachesAll old.proxy (shown old.cluster))
+  module _ (active : (p : Picture) → (shown old.cluster).picture ≡ Some p → p.active < (shown old.cluster).namenodes)
       (p : Picture) (told : (shown old.cluster).picture ≡ Some p) (closed : IsClosed p src) where
     abbrev risen : Type 0
     risen = CallsRose (shown old.cluster).counts (shown new.cluster)

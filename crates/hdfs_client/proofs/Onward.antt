@@ -11,13 +11,14 @@ use Rattle.hdfs_model.specs.declared.errors.IoFault.TheVariants as io_faults
 use Rattle.hdfs_model.specs.declared.errors.TransferFault.TheVariants as transfer
 use Rattle.hdfs_model.specs.declared.picture.BlockEntry.{BlockEntry}
 use Rattle.hdfs_model.specs.Causes.{LiesAt, FileLost, CommandLost, OfLastBlock, PipelineFailed, SomeListedFailed, CallsRose, Cause, Tells}
-use Rattle.hdfs_model.specs.Counts.{FaultCounts, NeverFall, NoneRose, Rose}
+use Rattle.hdfs_model.specs.Counts.{CallsRoseTimes, FaultCounts, NeverFall, NoneRose, Rose}
 use Rattle.hdfs_model.specs.Files.{State, Content, File}
 use Rattle.hdfs_model.specs.Sessions.{Avoids}
 use Rattle.hdfs_model.specs.Shown.{Shown, Later, SameReadPlaces, SameReads}
 use Rattle.hdfs_model.specs.Steps.{World, Done, step, target_of}
 use Rattle.hdfs_model.proofs.Frames.{rose_since, told_after}
 use Rattle.hdfs_files.proofs.Storing.{contains_head, contains_later}
+use Rattle.hdfs_files.proofs.Times.{times_until}
 use Rattle.hdfs_client.specs.Session.{LeavesFiles}
 use Rattle.hdfs_client.proofs.Avoiding.{read_closed}
 
@@ -44,10 +45,16 @@ module _ (old u v : Shown) (later : Later u v) where
       let i = rose.0 in
       (i, subst (λ (n : ℕ). i < n) (sym later.namenodes) rose.1, rose_since (old.counts.calls i) (old.counts.calls i) (u.counts.calls i) (v.counts.calls i) (omega arith) rose.2 (later.counts.calls i))
 
+  times_on : CallsRoseTimes u.namenodes 5 old.counts u.counts → CallsRoseTimes v.namenodes 5 old.counts v.counts
+  times_on times =
+      subst (λ (n : ℕ). CallsRoseTimes n 5 old.counts v.counts) (sym later.namenodes)
+      (times_until u.namenodes 5 old.counts u.counts v.counts times later.counts)
+
   -- what an error tells
   pub tells_on : v.last ≡ u.last → (command : Command) (e : HdfsError) → Tells command old u e → Tells command old v e
   tells_on last command errors.NoMemory h = tt
   tells_on last command errors.Failed h = h
+  tells_on last command (errors.IOError (io_faults.Namenode i)) h = (last ∙ h.0, omega (arith, h.1, later.namenodes), omega (arith, h.2, later.counts.calls i))
   tells_on last command (errors.IOError io_faults.Link) h = (h.0, links_on h.1)
   tells_on last command (errors.DataTransferError (transfer.Read byte)) h = h
   tells_on last command (errors.DataTransferError transfer.Setup) h = (h.0, links_on h.1)
@@ -62,9 +69,11 @@ module _ (old u v : Shown) (later : Later u v) where
   tells_on last command (errors.InvalidArgument args.Defaults) h = h
   tells_on last command (errors.InvalidArgument (args.Range offset len length)) h = h
   tells_on last command (errors.AlreadyExists message) h = (h.0, h.1, last ∙ h.2)
-  tells_on last command (errors.OperationFailed name) h = (h.0, last ∙ h.1)
+  tells_on last command (errors.OperationFailed name) h = (h.0, last ∙ h.1, times_on h.2)
   tells_on last command (errors.FileNotFound name) h = (h.0, last ∙ h.1)
   tells_on last command (errors.RPCError class message) h = (h.0, last ∙ h.1)
+  tells_on last command (errors.InvalidRPCResponse fault) h = (last ∙ h.0, calls_on h.1)
+  tells_on last command (errors.FatalRPCError class message) h = (last ∙ h.0, calls_on h.1)
 
   module _ (reads : SameReads u v) (state : State) (leaves : LeavesFiles u v state) where
     of_last_on : (path : List ℕ) (P Q : BlockEntry → Type 0) → ((entry : BlockEntry) → P entry → Q entry) → OfLastBlock u path P → OfLastBlock v path Q
@@ -137,6 +146,7 @@ module _ (old u v : Shown) (later : Later u v) where
     pub cause_on : (w : World) (command : Command) → Avoids w state command → (e : HdfsError) → Cause w state command old u e → Cause w state command old v e
     cause_on w command avoids errors.NoMemory h = tt
     cause_on w command avoids errors.Failed h = h
+    cause_on w command avoids (errors.IOError (io_faults.Namenode i)) h = calls_on h
     cause_on w command avoids (errors.IOError io_faults.Link) h = (h.0, links_on h.1)
     cause_on w command avoids (errors.DataTransferError (transfer.Read byte)) h = (h.0, command_lost_on w command avoids h.0.0 h.0.1 h.0.2 byte h.1)
     cause_on w command avoids (errors.DataTransferError transfer.Setup) h = (h.0, links_on h.1)
@@ -155,6 +165,8 @@ module _ (old u v : Shown) (later : Later u v) where
     cause_on w command avoids (errors.OperationFailed name) h = (h.0, calls_on h.1, h.2)
     cause_on w command avoids (errors.FileNotFound name) h = h
     cause_on w command avoids (errors.RPCError class message) h = ⊎_elim (λ is. inl is) (λ rose. inr (calls_on rose)) h
+    cause_on w command avoids (errors.InvalidRPCResponse fault) h = calls_on h
+    cause_on w command avoids (errors.FatalRPCError class message) h = calls_on h
 
 -- where no count rose until a time none did until an earlier time
 pub none_rose_earlier : (n : ℕ) (a b c : FaultCounts) → NeverFall b c → NoneRose n a c → NoneRose n a b

@@ -15,6 +15,9 @@ pub ask_not_owed : (old new : Shown) (error : HdfsError) → TellsAsk old new er
 ask_not_owed old new errors.NoMemory tells = tt
 ask_not_owed old new (errors.AlreadyExists message) tells = tt
 ask_not_owed old new (errors.RPCError class message) tells = tt
+ask_not_owed old new (errors.IOError fault) tells = tt
+ask_not_owed old new (errors.InvalidRPCResponse fault) tells = tt
+ask_not_owed old new (errors.FatalRPCError class message) tells = tt
 ask_not_owed old new error tells = absurd tells
 
 -- an error of a reader
@@ -22,6 +25,7 @@ pub reader_not_owed : (P : ℕ → Type 0) (error : HdfsError) → FailsAt P err
 reader_not_owed P errors.NoMemory fails = tt
 reader_not_owed P (errors.DataTransferError (transfer.Read byte)) fails = tt
 reader_not_owed P errors.Failed fails = absurd fails
+reader_not_owed P (errors.IOError (io_faults.Namenode last)) fails = absurd fails
 reader_not_owed P (errors.IOError io_faults.Link) fails = absurd fails
 reader_not_owed P (errors.DataTransferError transfer.Setup) fails = absurd fails
 reader_not_owed P (errors.DataTransferError transfer.AllNodes) fails = absurd fails
@@ -38,3 +42,5 @@ reader_not_owed P (errors.AlreadyExists message) fails = absurd fails
 reader_not_owed P (errors.OperationFailed name) fails = absurd fails
 reader_not_owed P (errors.FileNotFound name) fails = absurd fails
 reader_not_owed P (errors.RPCError class message) fails = absurd fails
+reader_not_owed P (errors.InvalidRPCResponse fault) fails = absurd fails
+reader_not_owed P (errors.FatalRPCError class message) fails = absurd fails

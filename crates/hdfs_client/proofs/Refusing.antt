@@ -1,17 +1,18 @@
 -- What refuses a command that opens a file to be written, over a picture that agrees with the files.
-use Rattle.std.proofs.Common.{◌≡◌, ◌⊎◌, inl, inr, ⊎_elim, ℕ, Bool, true, false, cond, List, Option, Some, None, refl, sym, ◌∙◌, ap}
+use Rattle.std.proofs.Common.{◌≡◌, ◌⊎◌, inl, inr, ⊎_elim, ℕ, Bool, true, false, cond, List, Option, Some, None, refl, sym, ◌∙◌, ap, arith}
 use Rattle.std.proofs.Math.Path.{fun_ext}
 use Rattle.std.proofs.lemmas.Bool.{false≢true}
 use Rattle.std.specs.Option.{option_map}
-use Rattle.hdfs_model.specs.declared.asks.AskFault.TheVariants as faults
 use Rattle.hdfs_model.specs.declared.commands.Command.{Command}
 use Rattle.hdfs_model.specs.declared.commands.Command.TheVariants as commands
 use Rattle.hdfs_model.specs.declared.commands.WriteOptions.{WriteOptions}
 use Rattle.hdfs_model.specs.declared.errors.HdfsError.{HdfsError}
 use Rattle.hdfs_model.specs.declared.errors.HdfsError.TheVariants as errors
+use Rattle.hdfs_model.specs.declared.errors.IoFault.TheVariants as io_faults
 use Rattle.hdfs_model.specs.declared.picture.Entry.{Entry}
 use Rattle.hdfs_model.specs.declared.picture.Entry.TheVariants as entries
 use Rattle.hdfs_model.specs.Causes.{Cause, CallsRose, Tells}
+use Rattle.hdfs_model.specs.Counts.{NeverFall}
 use Rattle.hdfs_model.specs.Files.{Files, State, Node, Dir, File, Writing, Kind, Directory, ClosedFile, OpenFile, NoFile, NotDirectory, Missing, NotFile, kind_of, kinds_of}
 use Rattle.hdfs_model.specs.Namenode.{StandsForAny, StandsForRefusal, class_for, class_in_the_way, is_taken}
 use Rattle.hdfs_model.specs.Paths.{is_path}
@@ -21,7 +22,8 @@ use Rattle.hdfs_model.specs.Shown.{Shown}
 use Rattle.hdfs_model.specs.Steps.{World, Refused, append_file, create_file, created, is_opened, step, step_at, target_of}
 use Rattle.hdfs_model.specs.Stores.{AgreesAt}
 use Rattle.hdfs_model.specs.Sessions.{is_before_asking}
-use Rattle.hdfs_namenode.specs.Asked.{error_of}
+use Rattle.hdfs_model.proofs.Frames.{rose_since}
+use Rattle.hdfs_namenode.specs.Asked.{exception_error}
 use Rattle.hdfs_namenode.specs.Relaying.{TellsAsk}
 
 same_kind : (p : Picture) (entry : Option Entry) (node : Option Node) → AgreesAt p entry node → option_map entry_kind entry ≡ option_map kind_of node
@@ -68,18 +70,29 @@ not_taken NotDirectory = refl
 not_taken Missing = refl
 not_taken NotFile = refl
 
+calls_before : (s m t : Shown) → NeverFall s.counts m.counts → CallsRose m.counts t → CallsRose s.counts t
+calls_before s m t fall rose =
+    let i = rose.0 in
+    (i, rose.1, rose_since (s.counts.calls i) (m.counts.calls i) (t.counts.calls i) (t.counts.calls i) (fall.calls i) rose.2 (omega arith))
+
 -- what an error of an ask tells of the command that asked
-pub ask_tells : (command : Command) (s m t : Shown) (error : HdfsError) → TellsAsk m t error → Tells command s t error
-ask_tells command s m t errors.NoMemory tells = tt
-ask_tells command s m t (errors.AlreadyExists message) tells = tells
-ask_tells command s m t (errors.RPCError class message) tells = tells
-ask_tells command s m t error tells = absurd tells
+pub ask_tells : (command : Command) (s m t : Shown) (error : HdfsError) → NeverFall s.counts m.counts → TellsAsk m t error → Tells command s t error
+ask_tells command s m t errors.NoMemory fall tells = tt
+ask_tells command s m t (errors.IOError (io_faults.Namenode last)) fall tells = (tells.0, tells.1, omega (arith, fall.calls last, tells.2))
+ask_tells command s m t (errors.AlreadyExists message) fall tells = tells
+ask_tells command s m t (errors.RPCError class message) fall tells = tells
+ask_tells command s m t (errors.InvalidRPCResponse fault) fall tells = (tells.0, calls_before s m t fall tells.1)
+ask_tells command s m t (errors.FatalRPCError class message) fall tells = (tells.0, calls_before s m t fall tells.1)
+ask_tells command s m t error fall tells = absurd tells
 
 -- it is none that comes before anything is asked
 pub ask_not_early : (m t : Shown) (error : HdfsError) → TellsAsk m t error → is_before_asking error ≡ false
 ask_not_early m t errors.NoMemory tells = refl
 ask_not_early m t (errors.AlreadyExists message) tells = refl
 ask_not_early m t (errors.RPCError class message) tells = refl
+ask_not_early m t (errors.IOError fault) tells = refl
+ask_not_early m t (errors.InvalidRPCResponse fault) tells = refl
+ask_not_early m t (errors.FatalRPCError class message) tells = refl
 ask_not_early m t error tells = absurd tells
 
 -- where a namenode has failed, it has its cause
@@ -88,6 +101,9 @@ pub rose_cause : (world : World) (state : State) (command : Command) (s m t : Sh
 rose_cause world state command s m t errors.NoMemory tells rose = tt
 rose_cause world state command s m t (errors.AlreadyExists message) tells rose = inr rose
 rose_cause world state command s m t (errors.RPCError class message) tells rose = inr rose
+rose_cause world state command s m t (errors.IOError (io_faults.Namenode last)) tells rose = rose
+rose_cause world state command s m t (errors.InvalidRPCResponse fault) tells rose = rose
+rose_cause world state command s m t (errors.FatalRPCError class message) tells rose = rose
 rose_cause world state command s m t error tells rose = absurd tells
 
 module _ (world : World) (state : State) (command : Command) (s t : Shown) (kind : Option Kind) (refusal : Option Refusal) (stepped : (why : Refusal) → refusal ≡ Some why → step world state command ≡ Refused why) where
@@ -107,7 +123,7 @@ module _ (world : World) (state : State) (command : Command) (s t : Shown) (kind
   lacks_by class BadRange is refused stands = absurd stands
 
   -- the cause of an exception that stands for a refusal, or where a namenode has failed
-  pub exception_cause : (class message : List ℕ) → StandsForAny kind refusal class ⊎ CallsRose s.counts t → Cause world state command s t (error_of (faults.Exception class message))
+  pub exception_cause : (class message : List ℕ) → StandsForAny kind refusal class ⊎ CallsRose s.counts t → Cause world state command s t (exception_error class message)
   exception_cause class message h = by_test (is_taken class) refl
     where
       by_test : (b : Bool) → is_taken class ≡ b → Cause world state command s t (cond b (errors.AlreadyExists message) (errors.RPCError class message))

@@ -6,7 +6,7 @@ use Rattle.hdfs_model.specs.declared.commands.Command.TheVariants as commands
 use Rattle.hdfs_model.specs.declared.errors.ArgFault.TheVariants as args
 use Rattle.hdfs_model.specs.declared.errors.HdfsError.{HdfsError}
 use Rattle.hdfs_model.specs.declared.errors.HdfsError.TheVariants as errors
-use Rattle.hdfs_model.specs.Causes.{Sends, TouchesNothing, CommandLost, IsDone}
+use Rattle.hdfs_model.specs.Causes.{IsClose, Sends, TouchesNothing, CommandLost, IsDone}
 use Rattle.hdfs_model.specs.Counts.{FaultCounts}
 use Rattle.hdfs_model.specs.Files.{State, Writing}
 use Rattle.hdfs_model.specs.Paths.{absolute}
@@ -78,11 +78,12 @@ module _ (command : Command) (sends : Sends command) (old new : Shown) (session 
       causes
 
   -- a write or a close that fails once something was asked
-  pub sending_fails : (TouchesNothing command → SameNodes old new) → ((p : Picture) → old.picture ≡ Some p → IsSound p) → (error : HdfsError) → TellsClose path old new error → TouchesFile old writer new → HasCause old writer error new
+  pub sending_fails : (TouchesNothing command → SameNodes old new) → ((p : Picture) → old.picture ≡ Some p → IsSound p) → (error : HdfsError)
+      → ((name : List ℕ) → error ≡ errors.OperationFailed name → IsClose command) → TellsClose path old new error → TouchesFile old writer new → HasCause old writer error new
       → Acts command old session new session' (Err error)
-  sending_fails idle sound error tells touches causes =
+  sending_fails idle sound error closes tells touches causes =
       acts_failed command old new session session' later reads idle links stands writers error
-      (tells_sending path old new command sends error tells)
+      (tells_sending path old new command sends error closes tells)
       (λ early. absurd (not_early path old new command sends error tells early))
       (λ at byte lost. loses_none command sends old.counts new at byte lost)
       (λ state ready.

@@ -15,6 +15,7 @@ use Rattle.hdfs_model.specs.Shown.{Shown}
 use Rattle.hdfs_model.specs.Steps.{World, target_of}
 use Rattle.hdfs_model.proofs.Frames.{rose_since}
 use Rattle.hdfs_files.proofs.Joining.{of_last_since}
+use Rattle.hdfs_files.proofs.Times.{times_since}
 
 module _ (old middle new : Shown) (before : NeverFall old.counts middle.counts) where
   links_since : Rose middle.counts.links new.counts.links → Rose old.counts.links new.counts.links
@@ -70,6 +71,7 @@ module _ (old middle new : Shown) (before : NeverFall old.counts middle.counts) 
   pub cause_since : (w : World) (state : State) (command : Command) (e : HdfsError) → Cause w state command middle new e → Cause w state command old new e
   cause_since w state command errors.NoMemory h = tt
   cause_since w state command errors.Failed h = h
+  cause_since w state command (errors.IOError (io_faults.Namenode last)) h = calls_since h
   cause_since w state command (errors.IOError io_faults.Link) h = (h.0, links_since h.1)
   cause_since w state command (errors.DataTransferError (transfer.Read byte)) h = (h.0, command_lost_since (target_of w command) command byte h.1)
   cause_since w state command (errors.DataTransferError transfer.Setup) h = (h.0, links_since h.1)
@@ -88,11 +90,14 @@ module _ (old middle new : Shown) (before : NeverFall old.counts middle.counts) 
   cause_since w state command (errors.OperationFailed name) h = (h.0, calls_since h.1, h.2)
   cause_since w state command (errors.FileNotFound name) h = h
   cause_since w state command (errors.RPCError class message) h = ⊎_elim (λ is. inl is) (λ rose. inr (calls_since rose)) h
+  cause_since w state command (errors.InvalidRPCResponse fault) h = calls_since h
+  cause_since w state command (errors.FatalRPCError class message) h = calls_since h
 
   -- what an error tells
   pub tells_since : (command : Command) (e : HdfsError) → Tells command middle new e → Tells command old new e
   tells_since command errors.NoMemory h = tt
   tells_since command errors.Failed h = h
+  tells_since command (errors.IOError (io_faults.Namenode last)) h = (h.0, h.1, omega (arith, before.calls last, h.2))
   tells_since command (errors.IOError io_faults.Link) h = (h.0, links_since h.1)
   tells_since command (errors.DataTransferError (transfer.Read byte)) h = h
   tells_since command (errors.DataTransferError transfer.Setup) h = (h.0, links_since h.1)
@@ -107,9 +112,11 @@ module _ (old middle new : Shown) (before : NeverFall old.counts middle.counts) 
   tells_since command (errors.InvalidArgument args.Defaults) h = h
   tells_since command (errors.InvalidArgument (args.Range offset len length)) h = h
   tells_since command (errors.AlreadyExists message) h = h
-  tells_since command (errors.OperationFailed name) h = h
+  tells_since command (errors.OperationFailed name) h = (h.0, h.1, times_since new.namenodes 5 old.counts middle.counts new.counts before h.2)
   tells_since command (errors.FileNotFound name) h = h
   tells_since command (errors.RPCError class message) h = h
+  tells_since command (errors.InvalidRPCResponse fault) h = (h.0, calls_since h.1)
+  tells_since command (errors.FatalRPCError class message) h = (h.0, calls_since h.1)
 
 -- where no count rose since a time none did since a later time
 pub none_rose_later : (n : ℕ) (a b c : FaultCounts) → NeverFall a b → NoneRose n a c → NoneRose n b c

@@ -13,7 +13,7 @@ use Rattle.hdfs_model.specs.Sessions.{IsNotOwed}
 use Rattle.hdfs_model.specs.Shown.{Shown, SameNodes}
 use Rattle.hdfs_model.specs.Sound.{IsSound}
 use Rattle.hdfs_namenode.specs.Clients.{SameClient}
-use Rattle.hdfs_files.specs.Failing.{TellsClose}
+use Rattle.hdfs_files.specs.Failing.{TellsClose, TellsWrite}
 use Rattle.hdfs_files.specs.Writers as files
 use Rattle.hdfs_files.specs.declared.file_writer.FileWriter.{FileWriter}
 use Rattle.hdfs_files.proofs.Moving.{own_link_refl}
@@ -111,7 +111,7 @@ module _ (old new : Shown) (session session' : Session) (name path : List ℕ) (
             ))
             own.later own.reads (links_of_one old new session session' path (Some writer) (Some writer') (call_of (Some writer') c own)) (fails_stands own) (elsewhere (Some writer') c)
             (others_open old new session session' path (Some writer) (Some writer') (call_of (Some writer') c own) (λ w is. (let one : writer' ≡ w = cc in subst (λ (x : FileWriter). files.has_failed x ≡ true) one has)))
-            empty c.sound error (fails_as_close path old new error fails.tells) fails.touches fails.cause
+            empty c.sound error (λ name is. absurd (subst (TellsWrite old new) is fails.tells)) (fails_as_close path old new error fails.tells) fails.touches fails.cause
 
         -- a write that is refused
         refused_acts : (files.AreLimited (files.sizes_of writer) → ⊥) → files.link_of writer ≡ None → new ≡ old → Acts (commands.Write name more) old session new session' (Err (errors.InvalidArgument args.Options))
@@ -159,7 +159,7 @@ module _ (old new : Shown) (session session' : Session) (name path : List ℕ) (
         own.later own.reads (links_of_one old new session session' path (Some writer) None (call_of None c own))
         (close_stands own (λ is. absurd (false≢true (sym is ∙ failed)))) (elsewhere None c)
         (others_open old new session session' path (Some writer) None (call_of None c own) (λ w is. absurd (cc)))
-        (λ none. absurd none) c.sound error (subst (λ (x : List ℕ). TellsClose x old new error) (c.before.each path writer c.here).1 fails.tells) fails.touches fails.cause
+        (λ none. absurd none) c.sound error (λ name is. tt) (subst (λ (x : List ℕ). TellsClose x old new error) (c.before.each path writer c.here).1 fails.tells) fails.touches fails.cause
 
 -- a write that isn't done says neither of the path rule nor of what is open
 pub write_not_owed : (old new : Shown) (writer : FileWriter) (error : HdfsError) → (files.AreLimited (files.sizes_of writer) → files.Fails old writer error new)

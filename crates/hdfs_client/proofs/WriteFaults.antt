@@ -1,11 +1,11 @@
 -- What the error of a writer of a file is for the command that has it.
-use Rattle.std.proofs.Common.{◌≡◌, inr, ℕ, false, List, refl, sym, ◌∙◌, subst}
+use Rattle.std.proofs.Common.{◌≡◌, inr, ℕ, false, List, refl, sym, ◌∙◌, subst, arith}
 use Rattle.hdfs_model.specs.declared.commands.Command.{Command}
 use Rattle.hdfs_model.specs.declared.errors.HdfsError.{HdfsError}
 use Rattle.hdfs_model.specs.declared.errors.HdfsError.TheVariants as errors
 use Rattle.hdfs_model.specs.declared.errors.IoFault.TheVariants as io_faults
 use Rattle.hdfs_model.specs.declared.errors.TransferFault.TheVariants as transfer
-use Rattle.hdfs_model.specs.Causes.{PipelineFailed, SomeListedFailed, IsDone, Sends, Tells, IsEarly, Cause}
+use Rattle.hdfs_model.specs.Causes.{PipelineFailed, SomeListedFailed, IsClose, IsDone, Sends, Tells, IsEarly, Cause}
 use Rattle.hdfs_model.specs.Files.{State}
 use Rattle.hdfs_model.specs.Sessions.{IsNotOwed, is_before_asking}
 use Rattle.hdfs_model.specs.Shown.{Shown}
@@ -25,6 +25,8 @@ fails_as_close path old new (errors.InvalidArgument fault) h = h
 fails_as_close path old new (errors.AlreadyExists message) h = h
 fails_as_close path old new (errors.FileNotFound name) h = h
 fails_as_close path old new (errors.RPCError class message) h = h
+fails_as_close path old new (errors.InvalidRPCResponse fault) h = h
+fails_as_close path old new (errors.FatalRPCError class message) h = h
 
 module _ (path : List ℕ) (old new : Shown) where
   -- such an error comes once something was asked
@@ -34,6 +36,8 @@ module _ (path : List ℕ) (old new : Shown) where
   is_after_asking (errors.DataTransferError fault) h = refl
   is_after_asking (errors.AlreadyExists message) h = refl
   is_after_asking (errors.RPCError class message) h = refl
+  is_after_asking (errors.InvalidRPCResponse fault) h = refl
+  is_after_asking (errors.FatalRPCError class message) h = refl
   is_after_asking (errors.OperationFailed name) h = refl
   is_after_asking errors.Failed h = absurd h
   is_after_asking (errors.InvalidPath text) h = absurd h
@@ -48,38 +52,46 @@ module _ (path : List ℕ) (old new : Shown) where
   not_owed (errors.DataTransferError fault) h = tt
   not_owed (errors.AlreadyExists message) h = tt
   not_owed (errors.RPCError class message) h = tt
+  not_owed (errors.InvalidRPCResponse fault) h = tt
+  not_owed (errors.FatalRPCError class message) h = tt
   not_owed (errors.OperationFailed name) h = tt
   not_owed (errors.FileNotFound name) h = tt
   not_owed (errors.InvalidPath text) h = absurd h
   not_owed (errors.InvalidArgument fault) h = absurd h
 
   module _ (command : Command) (sends : Sends command) where
-    -- what it tells it tells of a command that sends bytes
-    pub tells_sending : (error : HdfsError) → TellsClose path old new error → Tells command old new error
-    tells_sending errors.NoMemory h = tt
-    tells_sending (errors.IOError io_faults.Link) h = (sends, h)
-    tells_sending (errors.DataTransferError transfer.Setup) h = (sends, h)
-    tells_sending (errors.DataTransferError transfer.AllNodes) h = (sends, h)
-    tells_sending (errors.DataTransferError transfer.NoReplacement) h = (sends, h)
-    tells_sending (errors.DataTransferError (transfer.RebuildLimit rebuilds)) h = (sends, h)
-    tells_sending (errors.DataTransferError (transfer.BadAck seqno)) h = (sends, h)
-    tells_sending (errors.AlreadyExists message) h = h
-    tells_sending (errors.RPCError class message) h = h
-    tells_sending (errors.OperationFailed name) h = (sends, h.1)
-    tells_sending errors.Failed h = absurd h
-    tells_sending (errors.DataTransferError (transfer.Read byte)) h = absurd h
-    tells_sending (errors.InvalidPath text) h = absurd h
-    tells_sending (errors.InvalidArgument fault) h = absurd h
-    tells_sending (errors.FileNotFound name) h = absurd h
+    -- what it tells it tells of a command that sends bytes, where only a close says that it isn't done
+    pub tells_sending : (error : HdfsError) → ((name : List ℕ) → error ≡ errors.OperationFailed name → IsClose command) → TellsClose path old new error → Tells command old new error
+    tells_sending errors.NoMemory closes h = tt
+    tells_sending (errors.IOError (io_faults.Namenode last)) closes h = h
+    tells_sending (errors.IOError io_faults.Link) closes h = (sends, h)
+    tells_sending (errors.DataTransferError transfer.Setup) closes h = (sends, h)
+    tells_sending (errors.DataTransferError transfer.AllNodes) closes h = (sends, h)
+    tells_sending (errors.DataTransferError transfer.NoReplacement) closes h = (sends, h)
+    tells_sending (errors.DataTransferError (transfer.RebuildLimit rebuilds)) closes h = (sends, h)
+    tells_sending (errors.DataTransferError (transfer.BadAck seqno)) closes h = (sends, h)
+    tells_sending (errors.AlreadyExists message) closes h = h
+    tells_sending (errors.RPCError class message) closes h = h
+    tells_sending (errors.InvalidRPCResponse fault) closes h = h
+    tells_sending (errors.FatalRPCError class message) closes h = h
+    tells_sending (errors.OperationFailed name) closes h = (closes name refl, h.1, h.2)
+    tells_sending errors.Failed closes h = absurd h
+    tells_sending (errors.DataTransferError (transfer.Read byte)) closes h = absurd h
+    tells_sending (errors.InvalidPath text) closes h = absurd h
+    tells_sending (errors.InvalidArgument fault) closes h = absurd h
+    tells_sending (errors.FileNotFound name) closes h = absurd h
 
     -- of such a command it is no refusal
     pub not_early : (error : HdfsError) → TellsClose path old new error → IsEarly command error → ⊥
     not_early errors.NoMemory h early = early
     not_early errors.Failed h early = h
-    not_early (errors.IOError fault) h early = early
+    not_early (errors.IOError (io_faults.Namenode last)) h early = early sends
+    not_early (errors.IOError io_faults.Link) h early = early
     not_early (errors.DataTransferError fault) h early = early
     not_early (errors.AlreadyExists message) h early = early sends
     not_early (errors.RPCError class message) h early = early sends
+    not_early (errors.InvalidRPCResponse fault) h early = early sends
+    not_early (errors.FatalRPCError class message) h early = early sends
     not_early (errors.OperationFailed name) h early = early
     not_early (errors.InvalidPath text) h early = h
     not_early (errors.InvalidArgument fault) h early = h
@@ -90,6 +102,7 @@ module _ (path : List ℕ) (old new : Shown) where
         (limit : settings.rebuild_limit ≡ world.rebuild_limit) (effort : settings.replace.best_effort ≡ world.best_effort) where
       pub cause_sending : (error : HdfsError) → TellsClose path old new error → CauseOfWrite settings path old new error → Cause world state command old new error
       cause_sending errors.NoMemory h cause = tt
+      cause_sending (errors.IOError (io_faults.Namenode last)) h cause = (last, h.1, omega (arith, h.2))
       cause_sending (errors.IOError io_faults.Link) h cause = (done, h)
       cause_sending (errors.DataTransferError transfer.Setup) h cause = (done, h)
       cause_sending (errors.DataTransferError transfer.AllNodes) h cause = (done, subst (PipelineFailed old.counts new) (sym called) cause)
@@ -100,6 +113,8 @@ module _ (path : List ℕ) (old new : Shown) where
       cause_sending (errors.DataTransferError (transfer.BadAck seqno)) h cause = (done, h)
       cause_sending (errors.AlreadyExists message) h cause = inr cause
       cause_sending (errors.RPCError class message) h cause = inr cause
+      cause_sending (errors.InvalidRPCResponse fault) h cause = h.1
+      cause_sending (errors.FatalRPCError class message) h cause = h.1
       cause_sending (errors.OperationFailed name) h cause = (done, cause, h.0 ∙ sym called)
       cause_sending errors.Failed h cause = absurd h
       cause_sending (errors.DataTransferError (transfer.Read byte)) h cause = absurd h

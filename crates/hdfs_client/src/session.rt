@@ -141,13 +141,15 @@ impl Session {
     /// | `AlreadyExists` | where something stands at the path of a new file, or a file that is appended to is being written, or where a namenode has failed |
     /// | `FileNotFound` | where there is no file at the path |
     /// | `RPCError` | for the same reason, or where a namenode has failed |
+    /// | `IOError(Namenode)` | where the connection to the last namenode that was asked broke, twice |
+    /// | `InvalidRPCResponse`, `FatalRPCError` | where the last namenode that was asked gave no answer that can be read, or gave up the connection |
     /// | `DataTransferError(Read)` | where each datanode has failed that holds a block of the range whole; the offset is in that block |
     /// | `IOError(Link)`, `DataTransferError(Setup)` | where the link to the first datanode of a pipeline, or its set-up, has failed |
     /// | `DataTransferError(AllNodes)` | where each datanode of a pipeline has failed |
     /// | `DataTransferError(NoReplacement)` | where a datanode of a pipeline has failed and none could be added in its place, since links or a namenode have failed too, and the settings have no best effort |
     /// | `DataTransferError(RebuildLimit)` | where a datanode of a pipeline has failed that was rebuilt as often as the settings say |
     /// | `DataTransferError(BadAck)` | where the link of a pipeline has failed |
-    /// | `OperationFailed` | where a namenode has failed, and doesn't say that the file is closed |
+    /// | `OperationFailed` | where namenodes have failed five times, and don't say that the file is closed |
     /// | `NoMemory` | for want of memory, at any time |
     pub fn apply<C: Cluster>(
         &mut self,

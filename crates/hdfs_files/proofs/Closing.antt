@@ -1,5 +1,5 @@
 -- A writer asks until its file is closed.
-use Rattle.std.proofs.Common.{◌≡◌, ◌≢◌, ◌⊎◌, ⊎_elim, inl, inr, ℕ, ◌+◌, List, Option, Some, None, refl, sym, ap, subst}
+use Rattle.std.proofs.Common.{◌≡◌, ◌≢◌, ◌⊎◌, ⊎_elim, inl, inr, ℕ, suc, ◌+◌, ◌<◌, ◌≤◌, List, Option, Some, None, refl, sym, ap, subst, arith}
 use Rattle.std.specs.Prelude.{Result, Ok, Err, Bool, true, false}
 use Rattle.hdfs_model.specs.declared.asks.Answer.{Answer}
 use Rattle.hdfs_model.specs.declared.asks.Ask.{Ask}
@@ -13,12 +13,14 @@ use Rattle.hdfs_model.specs.declared.errors.HdfsError.TheVariants as errors
 use Rattle.hdfs_model.specs.declared.messages.Block.{Block}
 use Rattle.hdfs_model.specs.declared.picture.LastAnswer.TheVariants as last_answers
 use Rattle.hdfs_model.specs.Causes.{CallsRose}
+use Rattle.hdfs_model.specs.Counts.{CallsRoseTimes}
 use Rattle.hdfs_model.specs.Effects.{blocks_at}
 use Rattle.hdfs_model.specs.Picture.{Picture}
 use Rattle.hdfs_model.specs.Shown.{Shown}
 use Rattle.hdfs_model.specs.Files.{File}
 use Rattle.hdfs_model.specs.Sound.{IsSound}
 use Rattle.hdfs_model.specs.Stores.{AgreesAt}
+use Rattle.hdfs_model.proofs.Frames.{never_fall_refl}
 use Rattle.hdfs_model.proofs.Framing.{Leaves}
 use Rattle.hdfs_block_writer.specs.declared.block_writer.BlockWriter.{BlockWriter}
 use Rattle.hdfs_namenode.specs.Asked.{AskedOnce, Through, as_answer}
@@ -35,11 +37,13 @@ use Rattle.hdfs_files.proofs.Joining.{calls_since, tells_since, tells_close}
 use Rattle.hdfs_files.proofs.Moving.{own_link_refl, own_link_trans, own_link_left, only_file_refl}
 use Rattle.hdfs_files.proofs.Steps.{Shows, as_done}
 use Rattle.hdfs_files.proofs.Telling.{tells_asked, asked_cause}
+use Rattle.hdfs_files.proofs.Times.{times_enough, times_more}
 
--- So many answers were false, each of which says that a namenode has failed; and the file is closed, or not yet.
+-- So many answers were false, each of which says that a namenode has failed, over any cluster; and the file is closed, or not yet.
 pub record Asking (tries : ℕ) (a : Shown) (w : FileWriter) (b : Shown) : Type 0 where
   pub own : OnlyOwnLink a None b None
   pub last : (tries ≡ 0) ⊎ (b.last ≡ last_answers.Fine)
+  pub times : CallsRoseTimes a.namenodes tries a.counts b.counts
   pub told : (p : Picture) (bytes : List ℕ) → a.picture ≡ Some p → (c : FileCarries p w.path (tail_done w.last) bytes)
       → (q : Picture) × (b.picture ≡ Some q) × IsAsked p w.path bytes w.last c.file q × ((tries ≡ 0) ⊎ CallsRose a.counts b)
 
@@ -63,11 +67,16 @@ module _ (a b : Shown) (w : FileWriter) (between : IsBetweenBlocks w) (sound : S
     cause = λ p bytes told c. tt;
   }
 
-  -- all answers were false
-  pub not_closed : tries ≢ 0 → FailsToClose a w (errors.OperationFailed w.path) b
-  not_closed some = record {
+  -- five answers were false
+  pub not_closed : tries ≢ 0 → 5 ≤ tries → FailsToClose a w (errors.OperationFailed w.path) b
+  not_closed some enough = record {
     own = own_link b asking.own;
-    tells = (refl, ⊎_elim (λ first. absurd (some first)) (λ fine. fine) asking.last);
+    tells = (
+      refl,
+      ⊎_elim (λ first. absurd (some first)) (λ fine. fine) asking.last,
+      subst (λ (n : ℕ). CallsRoseTimes n 5 a.counts b.counts) (sym asking.own.later.namenodes)
+          (times_enough a.namenodes 5 tries a.counts b.counts enough asking.times),
+    );
     touches = no_memory.touches;
     cause = λ p bytes told c. ⊎_elim (λ first. absurd (some first)) (λ rose. rose) (asking.told p bytes told (known p bytes told c)).3;
   }
@@ -90,11 +99,20 @@ module _ (a b : Shown) (w : FileWriter) (between : IsBetweenBlocks w) (sound : S
         (complete_again (CallsRose b.counts c) p w.path bytes w.last carried.file client w.file_id f.0 (sound f.0 f.1) f.2) in
         (f.0, t.0, t.1, sound f.0 f.1, f.2, t.2)
 
+    rises_below : (i : ℕ) → i < c.namenodes → Leaves b c → i < a.namenodes
+    rises_below i low left = omega (arith, low, left.later.namenodes, asking.own.later.namenodes)
+
+    rises_once : Leaves b c → CallsRose b.counts c → CallsRoseTimes a.namenodes (suc tries) a.counts c.counts
+    rises_once left rose = times_more a.namenodes tries a.counts b.counts c.counts asking.times left.later.counts rose.0 (rises_below rose.0 rose.1 left) rose.2
+
     -- one more was false
     pub asked_false : Came b completing (Ok (answers.Complete false)) c → Asking (tries + 1) a w c
     asked_false came = record {
       own = own_asked came.relays.leaves;
       last = inr came.relays.fine;
+      times =
+          let one : suc tries ≡ tries + 1 = omega arith in
+          subst (λ (n : ℕ). CallsRoseTimes a.namenodes n a.counts c.counts) one (rises_once came.relays.leaves (came.relays.denied refl));
       told = λ p bytes told carried.
           (let m = asked_more (Ok (answers.Complete false)) came p bytes told carried in
           let says = says_not (CallsRose b.counts c) p w.path bytes w.last carried.file client w.file_id m.0 m.3 m.1 m.4 m.5 in
@@ -146,6 +164,7 @@ pub asks_first : (a : Shown) (w : FileWriter) → Asking 0 a w a
 asks_first a w = record {
   own = own_link_refl a None;
   last = inl refl;
+  times = never_fall_refl a.counts;
   told = λ p bytes told c. (p, told, inl (record { kept = λ id. (refl, λ node. refl); only = only_file_refl w.path p; carried = c; same = refl }), inl refl);
 }
 

@@ -28,6 +28,7 @@ use Rattle.hdfs_files.specs.WholeBlocks.{ClosesWhole}
 use Rattle.hdfs_files.specs.Writers.{blocks_in, link_of, tail_of, Keeps, Wrote, Fails, FailsToClose, Closed, HasCause}
 use Rattle.hdfs_files.proofs.Moving.{own_link_refl, own_link_trans, only_file_trans}
 use Rattle.hdfs_files.proofs.Steps.{carries_nothing, carries_trans, touches_behind}
+use Rattle.hdfs_files.proofs.Times.{times_since}
 use Rattle.hdfs_files.proofs.WholeBlocks.{closes_trans}
 
 pub keeps_refl : (w : FileWriter) → Keeps w w
@@ -53,9 +54,14 @@ node_since : (a b c : Shown) → Later a b → (node : List ℕ) → Rose (b.cou
 node_since a b c later node rose =
     rose_since (a.counts.nodes node) (b.counts.nodes node) (c.counts.nodes node) (c.counts.nodes node) (later.counts.nodes node) rose (omega arith)
 
+-- a namenode has failed since an earlier call
+pub calls_since : (a b c : Shown) → Later a b → CallsRose b.counts c → CallsRose a.counts c
+calls_since a b c later h = (h.0, h.1, rose_since (a.counts.calls h.0) (b.counts.calls h.0) (c.counts.calls h.0) (c.counts.calls h.0) (later.counts.calls h.0) h.2 (omega arith))
+
 pub tells_since : (a b c : Shown) (e : HdfsError) → Later a b → Later b c → TellsWrite b c e → TellsWrite a c e
 tells_since a b c errors.NoMemory later after h = tt
 tells_since a b c errors.Failed later after h = absurd h
+tells_since a b c (errors.IOError (io_faults.Namenode last)) later after h = (h.0, h.1, omega (arith, later.counts.calls last, h.2))
 tells_since a b c (errors.IOError io_faults.Link) later after h = rose_since a.counts.links b.counts.links c.counts.links c.counts.links later.counts.links h (omega arith)
 tells_since a b c (errors.DataTransferError (transfer.Read byte)) later after h = absurd h
 tells_since a b c (errors.DataTransferError transfer.Setup) later after h = rose_since a.counts.links b.counts.links c.counts.links c.counts.links later.counts.links h (omega arith)
@@ -69,6 +75,8 @@ tells_since a b c (errors.AlreadyExists message) later after h = h
 tells_since a b c (errors.OperationFailed name) later after h = absurd h
 tells_since a b c (errors.FileNotFound name) later after h = absurd h
 tells_since a b c (errors.RPCError class message) later after h = h
+tells_since a b c (errors.InvalidRPCResponse fault) later after h = (h.0, calls_since a b c later h.1)
+tells_since a b c (errors.FatalRPCError class message) later after h = (h.0, calls_since a b c later h.1)
 
 -- what a write tells a close tells
 pub tells_close : (path : List ℕ) (a b : Shown) (e : HdfsError) → TellsWrite a b e → TellsClose path a b e
@@ -82,6 +90,8 @@ tells_close path a b (errors.AlreadyExists message) h = h
 tells_close path a b (errors.OperationFailed name) h = absurd h
 tells_close path a b (errors.FileNotFound name) h = h
 tells_close path a b (errors.RPCError class message) h = h
+tells_close path a b (errors.InvalidRPCResponse fault) h = h
+tells_close path a b (errors.FatalRPCError class message) h = h
 
 close_since : (path : List ℕ) (a b c : Shown) (e : HdfsError) → Later a b → Later b c → TellsClose path b c e → TellsClose path a c e
 close_since path a b c errors.NoMemory later after h = tells_since a b c errors.NoMemory later after h
@@ -91,13 +101,11 @@ close_since path a b c (errors.DataTransferError fault) later after h = tells_si
 close_since path a b c (errors.InvalidPath text) later after h = tells_since a b c (errors.InvalidPath text) later after h
 close_since path a b c (errors.InvalidArgument fault) later after h = tells_since a b c (errors.InvalidArgument fault) later after h
 close_since path a b c (errors.AlreadyExists message) later after h = tells_since a b c (errors.AlreadyExists message) later after h
-close_since path a b c (errors.OperationFailed name) later after h = h
+close_since path a b c (errors.OperationFailed name) later after h = (h.0, h.1, times_since c.namenodes 5 a.counts b.counts c.counts later.counts h.2)
 close_since path a b c (errors.FileNotFound name) later after h = tells_since a b c (errors.FileNotFound name) later after h
 close_since path a b c (errors.RPCError class message) later after h = tells_since a b c (errors.RPCError class message) later after h
-
--- a namenode has failed since an earlier call
-pub calls_since : (a b c : Shown) → Later a b → CallsRose b.counts c → CallsRose a.counts c
-calls_since a b c later h = (h.0, h.1, rose_since (a.counts.calls h.0) (b.counts.calls h.0) (c.counts.calls h.0) (c.counts.calls h.0) (later.counts.calls h.0) h.2 (omega arith))
+close_since path a b c (errors.InvalidRPCResponse fault) later after h = tells_since a b c (errors.InvalidRPCResponse fault) later after h
+close_since path a b c (errors.FatalRPCError class message) later after h = tells_since a b c (errors.FatalRPCError class message) later after h
 
 -- what is so of the last block of a file follows from what else is
 pub of_last_since : (c : Shown) (path : List ℕ) (P Q : BlockEntry → Type 0) → ((entry : BlockEntry) → P entry → Q entry) → OfLastBlock c path P
@@ -148,6 +156,8 @@ cause_since settings path a b c (errors.AlreadyExists message) later h = calls_s
 cause_since settings path a b c (errors.OperationFailed name) later h = calls_since a b c later h
 cause_since settings path a b c (errors.FileNotFound name) later h = tt
 cause_since settings path a b c (errors.RPCError class message) later h = calls_since a b c later h
+cause_since settings path a b c (errors.InvalidRPCResponse fault) later h = tt
+cause_since settings path a b c (errors.FatalRPCError class message) later h = tt
 
 has_cause_behind : (a b c : Shown) (w x : FileWriter) (one : List ℕ) (e : HdfsError) → Wrote a w one b x → HasCause b x e c → HasCause a w e c
 has_cause_behind a b c w x one e first then p bytes told carried =

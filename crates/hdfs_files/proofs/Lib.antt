@@ -12,6 +12,7 @@ pub mod Growing
 pub mod Filling
 pub mod Completing
 pub mod Steps
+pub mod Times
 pub mod Joining
 pub mod Closing
 pub mod Standing

@@ -3,6 +3,7 @@ use Rattle.std.proofs.Common.{◌≡◌, ◌⊎◌, inl, inr, ℕ, ◌-◌, ◌<
 use Rattle.std.specs.Prelude.{Any, All}
 use Rattle.hdfs_model.specs.declared.errors.HdfsError.{HdfsError}
 use Rattle.hdfs_model.specs.declared.errors.HdfsError.TheVariants as errors
+use Rattle.hdfs_model.specs.declared.errors.IoFault.TheVariants as io_faults
 use Rattle.hdfs_model.specs.declared.picture.BlockEntry.{BlockEntry}
 use Rattle.hdfs_model.specs.declared.picture.FileEntry.{FileEntry}
 use Rattle.hdfs_model.specs.Causes.{CallsRose, OfLastBlock, PipelineFailed, SomeListedFailed}
@@ -26,6 +27,9 @@ pub tells_asked : (a b : Shown) (error : HdfsError) → TellsAsk a b error → T
 tells_asked a b errors.NoMemory tells = tt
 tells_asked a b (errors.AlreadyExists message) tells = tells
 tells_asked a b (errors.RPCError class message) tells = tells
+tells_asked a b (errors.IOError (io_faults.Namenode last)) tells = tells
+tells_asked a b (errors.InvalidRPCResponse fault) tells = tells
+tells_asked a b (errors.FatalRPCError class message) tells = tells
 tells_asked a b error tells = absurd tells
 
 -- and where it has its cause, from an earlier call on
@@ -34,6 +38,9 @@ pub asked_cause : (settings : RebuildSettings) (path : List ℕ) (a b c : Shown)
 asked_cause settings path a b c errors.NoMemory tells rose = tt
 asked_cause settings path a b c (errors.AlreadyExists message) tells rose = rose (λ same. absurd (cc same))
 asked_cause settings path a b c (errors.RPCError class message) tells rose = rose (λ same. absurd (cc same))
+asked_cause settings path a b c (errors.IOError fault) tells rose = tt
+asked_cause settings path a b c (errors.InvalidRPCResponse fault) tells rose = tt
+asked_cause settings path a b c (errors.FatalRPCError class message) tells rose = tt
 asked_cause settings path a b c error tells rose = absurd tells
 
 -- what a fault tells by its cause

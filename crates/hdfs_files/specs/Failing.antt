@@ -6,7 +6,7 @@ use Rattle.hdfs_model.specs.declared.errors.IoFault.TheVariants as io_faults
 use Rattle.hdfs_model.specs.declared.errors.TransferFault.TheVariants as transfer
 use Rattle.hdfs_model.specs.declared.picture.LastAnswer.TheVariants as last_answers
 use Rattle.hdfs_model.specs.Causes.{CallsRose, PipelineFailed, SomeListedFailed, SomeNodeRose}
-use Rattle.hdfs_model.specs.Counts.{Rose}
+use Rattle.hdfs_model.specs.Counts.{CallsRoseTimes, Rose}
 use Rattle.hdfs_model.specs.Shown.{Shown}
 use Rattle.hdfs_namenode.specs.Relaying.{TellsAsk}
 use Rattle.hdfs_recovery.specs.declared.block_plan.RebuildSettings.{RebuildSettings}
@@ -14,6 +14,7 @@ use Rattle.hdfs_recovery.specs.declared.block_plan.RebuildSettings.{RebuildSetti
 -- What holds of an error of a writer over any cluster, from what is shown before the call to what is shown once it has ended.
 abbrev pub TellsWrite : Shown → Shown → HdfsError → Type 0
 TellsWrite old new errors.NoMemory = Unit {0}
+TellsWrite old new (errors.IOError (io_faults.Namenode last)) = TellsAsk old new (errors.IOError (io_faults.Namenode last))
 TellsWrite old new (errors.IOError io_faults.Link) = Rose old.counts.links new.counts.links
 TellsWrite old new (errors.DataTransferError transfer.Setup) = Rose old.counts.links new.counts.links
 TellsWrite old new (errors.DataTransferError transfer.AllNodes) = SomeNodeRose old.counts new
@@ -22,11 +23,14 @@ TellsWrite old new (errors.DataTransferError (transfer.RebuildLimit rebuilds)) =
 TellsWrite old new (errors.DataTransferError (transfer.BadAck seqno)) = Rose old.counts.links new.counts.links
 TellsWrite old new (errors.AlreadyExists message) = TellsAsk old new (errors.AlreadyExists message)
 TellsWrite old new (errors.RPCError class message) = TellsAsk old new (errors.RPCError class message)
+TellsWrite old new (errors.InvalidRPCResponse fault) = TellsAsk old new (errors.InvalidRPCResponse fault)
+TellsWrite old new (errors.FatalRPCError class message) = TellsAsk old new (errors.FatalRPCError class message)
 TellsWrite old new error = ⊥
 
--- The same of a close, which may also not be done: the last answer to `complete` was false.
+-- The same of a close, which may also not be done: five answers to `complete` were false, each of which says that a namenode has failed.
 abbrev pub TellsClose : List ℕ → Shown → Shown → HdfsError → Type 0
-TellsClose path old new (errors.OperationFailed name) = (name ≡ path) × (new.last ≡ last_answers.Fine)
+TellsClose path old new (errors.OperationFailed name) =
+    (name ≡ path) × (new.last ≡ last_answers.Fine) × CallsRoseTimes new.namenodes 5 old.counts new.counts
 TellsClose path old new error = TellsWrite old new error
 
 -- The cause of an error of a writer that carries the file at this path, and rebuilds pipelines so: an exception, or false, of a namenode

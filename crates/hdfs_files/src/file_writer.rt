@@ -308,7 +308,8 @@ impl FileWriter {
     /// `DataTransferError(AllNodes)` where each datanode of a pipeline has failed; `DataTransferError(NoReplacement)` where a datanode
     /// was to be added in the place of one that failed, none could be, and the settings don't let a write go on without it;
     /// `DataTransferError(RebuildLimit)` where a pipeline has failed that was rebuilt as often as the settings say;
-    /// `DataTransferError(BadAck)` where an acknowledgement wasn't due; `RPCError` and `AlreadyExists` with a namenode's exception.
+    /// `DataTransferError(BadAck)` where an acknowledgement wasn't due; `RPCError` and `AlreadyExists` with a namenode's exception;
+    /// `IOError(Namenode)`, `InvalidRPCResponse` and `FatalRPCError` where no namenode gave an answer.
     /// After an error the writer has failed, and its link is ended.
     pub fn write<C: Cluster>(
         &mut self,
@@ -413,7 +414,7 @@ impl FileWriter {
 
     /// Ends the block that is being written, and closes the file.
     ///
-    /// Errors: those of `write`, and `OperationFailed` with the path where a namenode answers five times that the file isn't closed.
+    /// Errors: those of `write`, and `OperationFailed` with the path where it is answered five times that the file isn't closed.
     /// Whatever comes of it, the writer's link is ended.
     pub fn close<C: Cluster>(
         mut self,

@@ -58,3 +58,6 @@ served_keeps risen p q i ask (Ok answer) h =
 served_keeps risen p q i ask (Err faults.NoMemory) h = may_be_done_keeps ask p q h.1
 served_keeps risen p q i ask (Err (faults.Exception class message)) h =
     ⊎_elim (λ standby. keeps_same p q standby.2.rest) (λ rest. ⊎_elim (λ refused. keeps_same p q refused.2.rest) (λ more. ⊎_elim (λ own. keeps_own ask p q own.2) (λ rose. may_be_done_keeps ask p q rose.1) more) rest) h
+served_keeps risen p q i ask (Err faults.Broken) h = may_be_done_keeps ask p q h.1
+served_keeps risen p q i ask (Err (faults.BadReply fault)) h = may_be_done_keeps ask p q h.1
+served_keeps risen p q i ask (Err (faults.Fatal class message)) h = may_be_done_keeps ask p q h.1

@@ -50,6 +50,7 @@ module _ (world : World) (state : State) (command : Command) (old new : Shown) (
   pub cause_completes : (error : HdfsError) → Cause world state command old new error → Answers (step world state command) error
   cause_completes errors.NoMemory h = memory_answers (step world state command)
   cause_completes errors.Failed h = absurd h
+  cause_completes (errors.IOError (io_faults.Namenode last)) h = absurd (none_called h.0 h.1 h.2)
   cause_completes (errors.IOError io_faults.Link) h = absurd (none.links h.1)
   cause_completes (errors.DataTransferError (transfer.Read byte)) h = absurd (found byte h.1)
   cause_completes (errors.DataTransferError transfer.Setup) h = absurd (none.links h.1)
@@ -67,3 +68,5 @@ module _ (world : World) (state : State) (command : Command) (old new : Shown) (
   cause_completes (errors.OperationFailed name) h = absurd (none_called h.1.0 h.1.1 h.1.2)
   cause_completes (errors.FileNotFound name) h = at_refusal (Lacks h.0) (errors.FileNotFound name) h.1 (inr tt)
   cause_completes (errors.RPCError class message) h = ⊎_elim (λ is. at_refusal (Lacks is.0) (errors.RPCError class message) is.1 (inr tt)) (λ rose. absurd (none_called rose.0 rose.1 rose.2)) h
+  cause_completes (errors.InvalidRPCResponse fault) h = absurd (none_called h.0 h.1 h.2)
+  cause_completes (errors.FatalRPCError class message) h = absurd (none_called h.0 h.1 h.2)

@@ -10,7 +10,7 @@ use Rattle.hdfs_model.specs.declared.asks.AskFault.{AskFault}
 use Rattle.hdfs_model.specs.declared.asks.AskFault.TheVariants as faults
 use Rattle.hdfs_model.specs.Causes.{CallsRose}
 use Rattle.hdfs_model.specs.Counts.{Rose}
-use Rattle.hdfs_model.specs.Failover.{passes_on, PassedOn, AsksInOrder}
+use Rattle.hdfs_model.specs.Failover.{passes_on, AsksOne, PassedOn, AsksInOrder}
 use Rattle.hdfs_model.specs.Files.{Kind, Directory, ClosedFile, OpenFile, NoFile, NotDirectory, Missing, NotFile}
 use Rattle.hdfs_model.specs.Namenode.{Row, IsShaped, IsOwn, IsRefusal, MayBeDone, IsFalse, ServesTold, StandsForAny, StandsForNoFile, StandsForRefusal, class_for, class_in_the_way, is_retriable, overwrites}
 use Rattle.hdfs_model.specs.Picture.{Picture, SameButActive, SamePicture, entry_kind, kinds}
@@ -89,6 +89,9 @@ passed_told : (risen : Type 0) (p : Picture) (i : ℕ) (ask : Ask) (given : Resu
     → ServesTold risen p i ask given q → ((i ≢ p.active) × SamePicture p q) ⊎ (risen × DoneOrNot ask p q)
 passed_told risen p i ask (Ok answer) q none passes h = absurd (false≢true passes)
 passed_told risen p i ask (Err faults.NoMemory) q none passes h = absurd (false≢true passes)
+passed_told risen p i ask (Err faults.Broken) q none passes h = inr (h.0, none_own ask p q none h.1)
+passed_told risen p i ask (Err (faults.BadReply fault)) q none passes h = inr (h.0, none_own ask p q none h.1)
+passed_told risen p i ask (Err (faults.Fatal class message)) q none passes h = inr (h.0, none_own ask p q none h.1)
 passed_told risen p i ask (Err (faults.Exception class message)) q none passes h =
     ⊎_elim
     (λ standby. inl (standby.0, standby.2))
@@ -122,6 +125,9 @@ gave_told : (risen : Type 0) (p : Picture) (i : ℕ) (ask : Ask) (given : Result
 gave_told risen p i ask (Ok answer) q none stays h =
     ⊎_elim (λ by. ⊎_elim (λ row. inl row) (λ own. absurd (none own.0)) by.2) (λ no. inr (no.0, no.1, none_own ask p q none no.2)) h
 gave_told risen p i ask (Err faults.NoMemory) q none stays h = inl (refl, none_own ask p q none h.1)
+gave_told risen p i ask (Err faults.Broken) q none stays h = absurd (false≢true (sym stays))
+gave_told risen p i ask (Err (faults.BadReply fault)) q none stays h = absurd (false≢true (sym stays))
+gave_told risen p i ask (Err (faults.Fatal class message)) q none stays h = absurd (false≢true (sym stays))
 gave_told risen p i ask (Err (faults.Exception class message)) q none stays h =
     ⊎_elim
     (λ standby. absurd (false≢true (sym stays ∙ ap is_retriable standby.1)))
@@ -221,11 +227,18 @@ module _ {C : Type 0} (shown : C → Shown) (serves : C → ℕ → Ask → Resu
   at_step : (missed : Type 0) (t u : C) (i : ℕ) (given : Result Answer AskFault) → At missed t → i < (shown start).namenodes → passes_on given ≡ true → serves t i ask given u → At (missed × (i ≢ p.active)) u
   at_step missed t u i given at below passes served = step_on missed t u i given at.0 at.1 at.2 (omega (arith, below, at.2.namenodes)) at.3 passes served
 
+  -- one namenode that passes the ask on
+  at_one : (missed : Type 0) (t u : C) (i : ℕ) (given : Result Answer AskFault) → At missed t → i < (shown start).namenodes → passes_on given ≡ true → AsksOne serves i ask t given u → At (missed × (i ≢ p.active)) u
+  at_one missed t u i given at below passes (inl once) = at_step missed t u i given at below passes once.0
+  at_one missed t u i given at below passes (inr twice) =
+      at_weaker ((missed × (i ≢ p.active)) × (i ≢ p.active)) (missed × (i ≢ p.active)) u (λ h. h.0)
+      (at_step (missed × (i ≢ p.active)) twice.0 u i given (at_step missed t twice.0 i (Err faults.Broken) at below refl twice.1) below passes twice.2)
+
   at_all : (front : List ℕ) (missed : Type 0) (t u : C) → At missed t → Below (shown start).namenodes front → PassedOn serves front ask t u → At (missed × Misses p.active front) u
   at_all [] missed t u at below passed = subst (λ (x : C). At (missed × Unit {0}) x) (sym passed) (at_weaker missed (missed × Unit {0}) t (λ h. (h, tt)) at)
   at_all (i ∷ others) missed t u at below passed =
       at_weaker ((missed × (i ≢ p.active)) × Misses p.active others) (missed × ((i ≢ p.active) × Misses p.active others)) u (λ h. (h.0.0, (h.0.1, h.1)))
-      (at_all others (missed × (i ≢ p.active)) passed.1 u (at_step missed t passed.1 i passed.0 at below.0 passed.3 passed.2) below.1 passed.4)
+      (at_all others (missed × (i ≢ p.active)) passed.1 u (at_one missed t passed.1 i passed.0 at below.0 passed.3 passed.2) below.1 passed.4)
 
   -- what one gives that doesn't pass the ask on, by what was before
   comes_from : (missed risen : Type 0) (t u : C) (q : Picture) (given : Result Answer AskFault) (r : Picture) → SoFar missed t q → Later (shown t) (shown u) → (risen → CallsRose (shown start).counts (shown u))
@@ -254,10 +267,15 @@ module _ {C : Type 0} (shown : C → Shown) (serves : C → ℕ → Ask → Resu
             (gave_told (Rose ((shown t).counts.calls i) ((shown u).counts.calls i)) at.0 i ask given one.0 (no_own missed t at.0 at.3) stays one.2),
       )
 
+  last_one : (missed : Type 0) (t u : C) (i : ℕ) (given : Result Answer AskFault) → At missed t → i < (shown start).namenodes → passes_on given ≡ false → AsksOne serves i ask t given u → Told u given
+  last_one missed t u i given at below stays (inl once) = last_step missed t u i given at below stays once.0
+  last_one missed t u i given at below stays (inr twice) =
+      last_step (missed × (i ≢ p.active)) twice.0 u i given (at_step missed t twice.0 i (Err faults.Broken) at below refl twice.1) below stays twice.2
+
   -- where the last one passes the ask on too, some namenode has failed: the active one is among those that were asked
-  last_passes : (front : List ℕ) (t u : C) (i : ℕ) (given : Result Answer AskFault) → At (Unit {0} × Misses p.active front) t → i < (shown start).namenodes → passes_on given ≡ true → Has p.active (front ++ i ∷ []) → serves t i ask given u → Told u given
+  last_passes : (front : List ℕ) (t u : C) (i : ℕ) (given : Result Answer AskFault) → At (Unit {0} × Misses p.active front) t → i < (shown start).namenodes → passes_on given ≡ true → Has p.active (front ++ i ∷ []) → AsksOne serves i ask t given u → Told u given
   last_passes front t u i given at below passes has asked =
-      let now = at_step (Unit {0} × Misses p.active front) t u i given at below passes asked in
+      let now = at_one (Unit {0} × Misses p.active front) t u i given at below passes asked in
       (now.0, now.1, by given passes now.3)
     where
       by : {r : Picture} → (g : Result Answer AskFault) → passes_on g ≡ true → SoFar ((Unit {0} × Misses p.active front) × (i ≢ p.active)) u r → Comes (CallsRose (shown start).counts (shown u)) p ask g r
@@ -279,7 +297,7 @@ module _ {C : Type 0} (shown : C → Shown) (serves : C → ℕ → Ask → Resu
       before = at_all asks.front (Unit {0}) start asks.mid (p, told, later_refl (shown start), inr (same_self, tt)) parts.0 asks.passed
 
       by_passing : (b : Bool) → passes_on given ≡ b → Told new given
-      by_passing false stays = last_step (Unit {0} × Misses p.active asks.front) asks.mid new last given before parts.1 stays asks.served
+      by_passing false stays = last_one (Unit {0} × Misses p.active asks.front) asks.mid new last given before parts.1 stays asks.asked
       by_passing true passes =
           last_passes asks.front asks.mid new last given before parts.1 passes
-          (subst (λ (l : List ℕ). Has p.active (asks.front ++ last ∷ l)) (asks.ends passes) (subst (Has p.active) asks.in_order has)) asks.served
+          (subst (λ (l : List ℕ). Has p.active (asks.front ++ last ∷ l)) (asks.ends passes) (subst (Has p.active) asks.in_order has)) asks.asked

@@ -12,7 +12,7 @@ use Rattle.hdfs_model.specs.declared.errors.HdfsError.TheVariants as errors
 use Rattle.hdfs_model.specs.declared.errors.IoFault.TheVariants as io_faults
 use Rattle.hdfs_model.specs.declared.errors.TransferFault.TheVariants as transfer
 use Rattle.hdfs_model.specs.declared.errors.ArgFault.TheVariants as args
-use Rattle.hdfs_model.specs.Counts.{FaultCounts, Rose}
+use Rattle.hdfs_model.specs.Counts.{CallsRoseTimes, FaultCounts, Rose, RoseTwice}
 use Rattle.hdfs_model.specs.Files.{State, Content, NoFile, Writing}
 use Rattle.hdfs_model.specs.Limits.{are_options, are_defaults, are_attributes}
 use Rattle.hdfs_model.specs.Steps.{World, Outcome, Refused, Done, Refusal, BadPath, WrongState, Exists, Lacks, BadRange, content_of, step, path_of, target_of}
@@ -115,6 +115,11 @@ Sends (commands.Write path bytes) = Unit {0}
 Sends (commands.Close path) = Unit {0}
 Sends command = ⊥
 
+-- the command closes a file
+abbrev pub IsClose : Command → Type 0
+IsClose (commands.Close path) = Unit {0}
+IsClose command = ⊥
+
 -- the command neither asks for bytes nor sends any
 abbrev pub TouchesNothing : Command → Type 0
 TouchesNothing (commands.Create path options) = Unit {0}
@@ -150,6 +155,8 @@ OptionsOut state path command = ⊥
 -- earlier one, to what is shown once it has ended.
 abbrev pub Tells : Command → Shown → Shown → HdfsError → Type 0
 Tells command old new errors.NoMemory = Unit {0}
+Tells command old new (errors.IOError (io_faults.Namenode last)) =
+    (new.last ≡ last_answers.Broken) × (last < new.namenodes) × RoseTwice (old.counts.calls last) (new.counts.calls last)
 Tells command old new (errors.IOError io_faults.Link) = Sends command × Rose old.counts.links new.counts.links
 Tells command old new (errors.DataTransferError (transfer.Read byte)) = (offset : ℕ) × (len : ℕ) × Asks command offset len × (0 < len)
 Tells command old new (errors.DataTransferError transfer.Setup) = Sends command × Rose old.counts.links new.counts.links
@@ -163,9 +170,12 @@ Tells command old new (errors.InvalidArgument args.Options) = HasOptions command
 Tells command old new (errors.InvalidArgument args.Defaults) = UsesDefaults command
 Tells command old new (errors.InvalidArgument (args.Range offset len length)) = Asks command offset len × (length < offset + len)
 Tells command old new (errors.AlreadyExists message) = IsTakenBy message new
-Tells command old new (errors.OperationFailed name) = Sends command × (new.last ≡ last_answers.Fine)
+Tells command old new (errors.OperationFailed name) =
+    IsClose command × (new.last ≡ last_answers.Fine) × CallsRoseTimes new.namenodes 5 old.counts new.counts
 Tells command old new (errors.FileNotFound path) = (path ≡ path_of command) × (new.last ≡ last_answers.Fine)
 Tells command old new (errors.RPCError class message) = (is_taken class ≡ false) × (new.last ≡ last_answers.Exception class message)
+Tells command old new (errors.InvalidRPCResponse fault) = (new.last ≡ last_answers.BadReply fault) × CallsRose old.counts new
+Tells command old new (errors.FatalRPCError class message) = (new.last ≡ last_answers.Fatal class message) × CallsRose old.counts new
 Tells command old new error = ⊥
 
 -- the error is a refusal, which comes before any datanode is asked or sent anything
@@ -175,12 +185,16 @@ IsEarly command (errors.InvalidArgument fault) = Unit {0}
 IsEarly command (errors.FileNotFound path) = Unit {0}
 IsEarly command (errors.AlreadyExists message) = Sends command → ⊥
 IsEarly command (errors.RPCError class message) = Sends command → ⊥
+IsEarly command (errors.IOError (io_faults.Namenode last)) = Sends command → ⊥
+IsEarly command (errors.InvalidRPCResponse fault) = Sends command → ⊥
+IsEarly command (errors.FatalRPCError class message) = Sends command → ⊥
 IsEarly command error = ⊥
 
 -- The cause of an error of a command over a state, from what is shown before the command to what is shown once it has
 -- ended. Want of memory has none.
 abbrev pub Cause : World → State → Command → Shown → Shown → HdfsError → Type 0
 Cause world state command old new errors.NoMemory = Unit {0}
+Cause world state command old new (errors.IOError (io_faults.Namenode last)) = CallsRose old.counts new
 Cause world state command old new (errors.IOError io_faults.Link) =
     IsDone (step world state command) × Rose old.counts.links new.counts.links
 Cause world state command old new (errors.DataTransferError (transfer.Read byte)) =
@@ -208,6 +222,8 @@ Cause world state command old new (errors.OperationFailed name) =
 Cause world state command old new (errors.FileNotFound name) = IsLacking (step world state command)
 Cause world state command old new (errors.RPCError class message) =
     StandsForLacking (step world state command) class ⊎ CallsRose old.counts new
+Cause world state command old new (errors.InvalidRPCResponse fault) = CallsRose old.counts new
+Cause world state command old new (errors.FatalRPCError class message) = CallsRose old.counts new
 Cause world state command old new error = ⊥
 
 -- the errors that stand for a refusal

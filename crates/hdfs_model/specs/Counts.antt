@@ -1,5 +1,5 @@
 -- How often the outside has failed. A count never falls, and one that stands at its last value counts as risen.
-use Rattle.std.specs.Prelude.{◌≡◌, ℕ, ◌+◌, ◌-◌, ◌^◌, ◌<◌, ◌≤◌, min, List}
+use Rattle.std.specs.Prelude.{◌≡◌, ℕ, zero, suc, ◌+◌, ◌-◌, ◌^◌, ◌<◌, ◌≤◌, min, List}
 
 -- the counts of a cluster
 pub record FaultCounts : Type 0 where
@@ -23,6 +23,13 @@ pub record NeverFall (before now : FaultCounts) : Type 0 where
   pub calls : (i : ℕ) → before.calls i ≤ now.calls i
   pub links : before.links ≤ now.links
   pub nodes : (d : List ℕ) → before.nodes d ≤ now.nodes d
+
+-- namenodes below this number have failed so many times, one time behind another
+abbrev pub CallsRoseTimes : ℕ → ℕ → FaultCounts → FaultCounts → Type 0
+CallsRoseTimes namenodes zero before now = NeverFall before now
+CallsRoseTimes namenodes (suc times) before now =
+    (between : FaultCounts) × CallsRoseTimes namenodes times before between × NeverFall between now
+    × ((i : ℕ) × (i < namenodes) × Rose (between.calls i) (now.calls i))
 
 -- each count is what it was
 pub record SameCounts (before now : FaultCounts) : Type 0 where

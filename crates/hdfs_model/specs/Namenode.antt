@@ -57,7 +57,10 @@ parent_not_directory = codes "org.apache.hadoop.fs.ParentNotDirectoryException"
 abbrev pub last_of : Result Answer AskFault → LastAnswer
 last_of (Ok answer) = last_answers.Fine
 last_of (Err faults.NoMemory) = last_answers.NoMemory
+last_of (Err faults.Broken) = last_answers.Broken
+last_of (Err (faults.BadReply fault)) = last_answers.BadReply fault
 last_of (Err (faults.Exception class message)) = last_answers.Exception class message
+last_of (Err (faults.Fatal class message)) = last_answers.Fatal class message
 
 -- the class of the exception that stands for a path without a file
 abbrev pub class_for : NoFile → List ℕ
@@ -250,9 +253,18 @@ MayBeDone ask old new = SameButActive old new ⊎ ((answer : Answer) × IsShaped
 abbrev pub IsFalse : Answer → Type 0
 IsFalse answer = answer ≡ answers.Complete false
 
+-- what only a namenode gives that has failed: no answer, or false to `complete`
+abbrev pub IsFailure : Result Answer AskFault → Type 0
+IsFailure (Ok answer) = IsFalse answer
+IsFailure (Err faults.NoMemory) = ⊥
+IsFailure (Err faults.Broken) = Unit {0}
+IsFailure (Err (faults.BadReply fault)) = Unit {0}
+IsFailure (Err (faults.Exception class message)) = ⊥
+IsFailure (Err (faults.Fatal class message)) = Unit {0}
+
 -- From one picture to the next, for an ask of namenode i whose count has risen or not. Only the active namenode answers,
 -- and only where the count has risen does another one answer or become active, does an exception come that nothing
--- explains, or false to `complete`.
+-- explains, does no answer come, or false to `complete`. Then the ask may have had its effect all the same.
 abbrev pub ServesTold : Type 0 → Picture → ℕ → Ask → Result Answer AskFault → Picture → Type 0
 ServesTold risen old i ask (Ok answer) new =
     (((i ≡ old.active) ⊎ risen) × ((new.active ≡ old.active) ⊎ risen) × (Row old ask answer new ⊎ IsOwnOf ask old new))
@@ -263,3 +275,6 @@ ServesTold risen old i ask (Err (faults.Exception class message)) new =
     ⊎ ((i ≡ old.active) × IsRefusal old ask class × SamePicture old new)
     ⊎ ((i ≡ old.active) × (new.active ≡ old.active) × IsOwnOf ask old new)
     ⊎ (risen × MayBeDone ask old new)
+ServesTold risen old i ask (Err faults.Broken) new = risen × MayBeDone ask old new
+ServesTold risen old i ask (Err (faults.BadReply fault)) new = risen × MayBeDone ask old new
+ServesTold risen old i ask (Err (faults.Fatal class message)) new = risen × MayBeDone ask old new

@@ -7,7 +7,7 @@ use crate::messages::{
     Appended, Block, DatanodeId, DatanodeInfo, FileStatusMsg, LocatedBlock, LocatedBlocks,
     ServerDefaults,
 };
-use hdfs_wire::{List, NoMemory, Text};
+use hdfs_wire::{List, NoMemory, Text, WireFault};
 use std::alloc::{AllocError, AllocFailed};
 use thiserror::Error;
 
@@ -104,9 +104,18 @@ pub enum Answer {
 pub enum AskFault {
     #[error("out of memory")]
     NoMemory,
+    /// The connection broke; the namenode may have done the ask all the same.
+    #[error("the connection broke")]
+    Broken,
+    /// What came back is no answer to the ask.
+    #[error("{}", .0)]
+    BadReply(WireFault),
     /// The namenode's exception, by its Java class.
     #[error("{} {}", .class.as_str(), .message.as_str())]
     Exception { class: Text, message: Text },
+    /// The same, behind which the namenode gives up the connection.
+    #[error("{} {}", .class.as_str(), .message.as_str())]
+    Fatal { class: Text, message: Text },
 }
 
 /// Why a call on a data transfer link failed.

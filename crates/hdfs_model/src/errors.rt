@@ -3,13 +3,16 @@ ghost use Rattle.std.specs.Prelude.{◌≡◌};
 ghost use Rattle.hdfs_model.specs.declared.errors.HdfsError.TheVariants as errors;
 
 use crate::commands::Reply;
-use hdfs_wire::{List, NoMemory, Text};
+use hdfs_wire::{List, NoMemory, Text, WireFault};
 use std::alloc::{AllocError, AllocFailed};
 use thiserror::Error;
 
 /// Which connection broke.
 #[derive(Debug, Drop, Error)]
 pub enum IoFault {
+    /// The one to the namenode of this number, the last that was asked, twice.
+    #[error("the connection to namenode {last} broke")]
+    Namenode { last: u32 },
     /// One to datanodes, while a pipeline was set up.
     #[error("the connection to the pipeline broke")]
     Link,
@@ -87,6 +90,12 @@ pub enum HdfsError {
     /// A namenode's exception: its class and its message.
     #[error("RPC error: {} {}", .0.as_str(), .1.as_str())]
     RPCError(Text, Text),
+    /// The last namenode that was asked gave no answer that can be read.
+    #[error("failed to decode RPC response: {}", wire_name(.0))]
+    InvalidRPCResponse(WireFault),
+    /// The exception behind which the last namenode that was asked gave up the connection: its class and its message.
+    #[error("fatal RPC error: {} {}", .0.as_str(), .1.as_str())]
+    FatalRPCError(Text, Text),
 }
 
 /// Where a session stopped: at which command, counted from 1, or at 0 before the first; with which error; and with which
@@ -99,10 +108,23 @@ pub struct Fault {
     pub done: List<Reply>,
 }
 
+// The name of the variant, which the text of an `HdfsError` shows.
+fn wire_name(fault: &WireFault) -> &'static str {
+    match fault {
+        WireFault::NoMemory => "NoMemory",
+        WireFault::Cut => "Cut",
+        WireFault::LongVarint => "LongVarint",
+        WireFault::BadType => "BadType",
+        WireFault::BadLength => "BadLength",
+        WireFault::BadText => "BadText",
+    }
+}
+
 impl IoFault {
     // The name of the variant, which the text of an `HdfsError` shows.
     fn name(&self) -> &'static str {
         match self {
+            IoFault::Namenode { .. } => "Namenode",
             IoFault::Link => "Link",
         }
     }

@@ -27,4 +27,4 @@ pub use messages::{
     ServerDefaults, Setup, Stage, Token, Transfer,
 };
 pub use picture::{BlockEntry, Entry, FileEntry, LastAnswer, OpenRead, OpenWrite, ReadPlace};
-pub use store::{AddFault, FaultLine, Line, LinkKind, ReadKind, Store};
+pub use store::{AddFault, AskKind, FaultLine, Line, LinkKind, ReadKind, Store};

@@ -2,7 +2,7 @@
 use crate::attributes::Attributes;
 use crate::messages::{ReadAsk, Setup};
 use bytes::Bytes;
-use hdfs_wire::{ChecksumInfo, List, Text};
+use hdfs_wire::{ChecksumInfo, List, Text, WireFault};
 
 /// A file: its attributes and the ids of its blocks in order. It is open while a client holds its lease.
 #[derive(Debug, Drop)]
@@ -63,6 +63,12 @@ pub enum LastAnswer {
     Fine,
     /// For want of memory.
     NoMemory,
+    /// With a connection that broke.
+    Broken,
+    /// With something that is no answer.
+    BadReply(WireFault),
     /// With an exception, by its Java class.
     Exception { class: Text, message: Text },
+    /// With an exception behind which the connection is given up.
+    Fatal { class: Text, message: Text },
 }

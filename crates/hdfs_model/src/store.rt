@@ -1,5 +1,5 @@
 //! A cluster that files and faults can be loaded into.
-ghost use Rattle.std.specs.Prelude.{◌≡◌, ◌↔◌, Bool, IsTrue, [], Some, OnOk, OnErr, IsErrOf, MatchResult, true, false};
+ghost use Rattle.std.specs.Prelude.{◌≡◌, ◌↔◌, Bool, IsTrue, [], Some, IfOk, OnOk, OnErr, IsErrOf, MatchResult, true, false};
 ghost use Rattle.hdfs_model.specs.Loading.{AreValid, IsDecided, Loads, LoadsNothing, Prepares, SameShown, takes};
 ghost use Rattle.hdfs_model.specs.Files.{State, only_root};
 ghost use Rattle.hdfs_model.specs.Picture.{Picture};
@@ -9,6 +9,7 @@ use crate::attributes::Attributes;
 use crate::cluster::Cluster;
 use crate::mem_settings::MemSettings;
 use hdfs_wire::{Blob, NoMemory, Text};
+use std::alloc::Global;
 use thiserror::Error;
 
 /// How the set-up of a pipeline fails.
@@ -35,18 +36,103 @@ pub enum ReadKind {
     Refused,
 }
 
-/// A fault that a store is to have: an object fails its `nth` call, from 1 on, counted from the making of the cluster. Datanodes
-/// are numbered from 0. Of two faults of one call the first one that was loaded acts.
-#[derive(Clone, Copy, Debug, PartialEq, Eq)]
+/// How a namenode fails an ask.
+#[derive(Debug, Drop)]
+pub enum AskKind {
+    /// The connection breaks before the ask is done.
+    Lost,
+    /// The connection breaks once the ask is done.
+    Late,
+    /// It answers that the file isn't closed, and does nothing. Another ask than `complete` is lost.
+    FalseAnswer,
+    /// It gives up the connection, and does nothing.
+    Fatal,
+    /// It answers an exception of this Java class, and does nothing.
+    Exception(Text),
+}
+
+/// A fault that a store is to have: an object fails its `nth` call, from 1 on, counted from the making of the cluster. Namenodes and
+/// datanodes are numbered from 0. Of two faults of one call the first one that was loaded acts.
+#[derive(Debug, Drop)]
 pub enum FaultLine {
+    /// Namenode `namenode` fails in the `nth` ask that it is asked.
+    Ask {
+        namenode: u32,
+        nth: u64,
+        kind: AskKind,
+    },
     /// The `nth` set-up of a pipeline fails.
-    Link { nth: u64, kind: LinkKind },
+    Link {
+        nth: u64,
+        kind: LinkKind,
+    },
     /// Datanode `node` has failed in the `nth` acknowledgement that tells of it.
-    AckOf { node: u32, nth: u64 },
+    AckOf {
+        node: u32,
+        nth: u64,
+    },
     /// The connection breaks in place of the `nth` packet that is sent down a pipeline whose first datanode is `node`.
-    SendTo { node: u32, nth: u64 },
+    SendTo {
+        node: u32,
+        nth: u64,
+    },
     /// Datanode `node` fails in its `nth` packet, or in the `nth` read that is opened on it.
-    ReadOf { node: u32, nth: u64, kind: ReadKind },
+    ReadOf {
+        node: u32,
+        nth: u64,
+        kind: ReadKind,
+    },
+}
+
+impl AskKind {
+    /// The same in memory of its own.
+    pub fn copy(&self, alloc: Global) -> Result<AskKind, NoMemory>
+        ensures { IfOk result (λ kind. kind ≡ self.now) }
+    {
+        match self {
+            AskKind::Lost => Ok(AskKind::Lost),
+            AskKind::Late => Ok(AskKind::Late),
+            AskKind::FalseAnswer => Ok(AskKind::FalseAnswer),
+            AskKind::Fatal => Ok(AskKind::Fatal),
+            AskKind::Exception(class) => Ok(AskKind::Exception(class.copy(alloc)?)),
+        }
+    }
+}
+
+impl FaultLine {
+    /// The same in memory of its own.
+    pub fn copy(&self, alloc: Global) -> Result<FaultLine, NoMemory>
+        ensures { IfOk result (λ fault. fault ≡ self.now) }
+    {
+        match self {
+            FaultLine::Ask {
+                namenode,
+                nth,
+                kind,
+            } => Ok(FaultLine::Ask {
+                namenode: *namenode,
+                nth: *nth,
+                kind: kind.copy(alloc)?,
+            }),
+            FaultLine::Link { nth, kind } => Ok(FaultLine::Link {
+                nth: *nth,
+                kind: *kind,
+            }),
+            FaultLine::AckOf { node, nth } => Ok(FaultLine::AckOf {
+                node: *node,
+                nth: *nth,
+            }),
+            FaultLine::SendTo { node, nth } => Ok(FaultLine::SendTo {
+                node: *node,
+                nth: *nth,
+            }),
+            FaultLine::ReadOf { node, nth, kind } => Ok(FaultLine::ReadOf {
+                node: *node,
+                nth: *nth,
+                kind: *kind,
+            }),
+        }
+    }
 }
 
 /// A line that a store takes.

@@ -1,11 +1,13 @@
 -- An ask on its way from namenode to namenode of an order.
-use Rattle.std.proofs.Common.{◌≡◌, ℕ, suc, ◌+◌, ◌-◌, ◌<◌, ◌==◌, Bool, true, false, cond, List, [], ◌∷◌, ◌++◌, refl, sym, ◌∙◌, ap, subst, append_assoc, arith}
+use Rattle.std.proofs.Common.{◌≡◌, inr, ℕ, suc, ◌+◌, ◌-◌, ◌<◌, ◌==◌, Bool, true, false, cond, List, [], ◌∷◌, ◌++◌, refl, sym, ◌∙◌, ap, subst, append_assoc, arith}
 use Rattle.std.proofs.lemmas.Bool.Decides.{nat_tests}
-use Rattle.std.specs.Prelude.{Result}
+use Rattle.std.proofs.lemmas.Bool.{false≢true}
+use Rattle.std.specs.Prelude.{Result, Ok, Err}
 use Rattle.hdfs_model.specs.declared.asks.Ask.{Ask}
 use Rattle.hdfs_model.specs.declared.asks.Answer.{Answer}
 use Rattle.hdfs_model.specs.declared.asks.AskFault.{AskFault}
-use Rattle.hdfs_model.specs.Failover.{AsksInOrder, PassedOn, numbers_but, passes_on}
+use Rattle.hdfs_model.specs.declared.asks.AskFault.TheVariants as faults
+use Rattle.hdfs_model.specs.Failover.{AsksInOrder, AsksOne, PassedOn, is_broken, numbers_but, passes_on}
 
 -- Those in front passed the ask on, the last one asked gave this, and these are left.
 pub record Going {C : Type 0} (serves : C → ℕ → Ask → Result Answer AskFault → C → Type 0) (order left : List ℕ) (ask : Ask) (old : C)
@@ -14,28 +16,41 @@ pub record Going {C : Type 0} (serves : C → ℕ → Ask → Result Answer AskF
   pub in_order : order ≡ front ++ last ∷ left
   pub mid : C
   pub passed : PassedOn serves front ask old mid
-  pub served : serves mid last ask given new
+  pub asked : AsksOne serves last ask mid given new
+
+broken_is : (given : Result Answer AskFault) → is_broken given ≡ true → given ≡ Err faults.Broken
+broken_is (Ok answer) is = absurd (false≢true is)
+broken_is (Err faults.NoMemory) is = absurd (false≢true is)
+broken_is (Err faults.Broken) is = refl
+broken_is (Err (faults.BadReply fault)) is = absurd (false≢true is)
+broken_is (Err (faults.Exception class message)) is = absurd (false≢true is)
+broken_is (Err (faults.Fatal class message)) is = absurd (false≢true is)
 
 module _ {C : Type 0} (serves : C → ℕ → Ask → Result Answer AskFault → C → Type 0) (ask : Ask) where
-  passed_push : (front : List ℕ) (old mid new : C) (i : ℕ) (given : Result Answer AskFault) → PassedOn serves front ask old mid → serves mid i ask given new
+  -- a namenode whose connection broke is asked once more
+  pub asks_again : (i : ℕ) (given again : Result Answer AskFault) (old mid new : C) → serves old i ask given mid → is_broken given ≡ true → serves mid i ask again new
+      → AsksOne serves i ask old again new
+  asks_again i given again old mid new first broken second = inr (mid, subst (λ (g : Result Answer AskFault). serves old i ask g mid) (broken_is given broken) first, second)
+
+  passed_push : (front : List ℕ) (old mid new : C) (i : ℕ) (given : Result Answer AskFault) → PassedOn serves front ask old mid → AsksOne serves i ask mid given new
       → passes_on given ≡ true → PassedOn serves (front ++ i ∷ []) ask old new
-  passed_push [] old mid new i given passed served passes = (given, new, subst (λ (x : C). serves x i ask given new) passed served, passes, refl)
-  passed_push (j ∷ front) old mid new i given passed served passes =
-      (passed.0, passed.1, passed.2, passed.3, passed_push front passed.1 mid new i given passed.4 served passes)
+  passed_push [] old mid new i given passed asked passes = (given, new, subst (λ (x : C). AsksOne serves i ask x given new) passed asked, passes, refl)
+  passed_push (j ∷ front) old mid new i given passed asked passes =
+      (passed.0, passed.1, passed.2, passed.3, passed_push front passed.1 mid new i given passed.4 asked passes)
 
   -- the first one is asked
-  pub going_first : (i : ℕ) (left : List ℕ) (given : Result Answer AskFault) (old new : C) → serves old i ask given new → Going serves (i ∷ left) left ask old i given new
-  going_first i left given old new served = record { front = []; in_order = refl; mid = old; passed = refl; served = served }
+  pub going_first : (i : ℕ) (left : List ℕ) (given : Result Answer AskFault) (old new : C) → AsksOne serves i ask old given new → Going serves (i ∷ left) left ask old i given new
+  going_first i left given old new asked = record { front = []; in_order = refl; mid = old; passed = refl; asked = asked }
 
   -- the next one is asked
   pub going_next : (order left : List ℕ) (old mid new : C) (last i : ℕ) (given next : Result Answer AskFault) → Going serves order (i ∷ left) ask old last given mid
-      → passes_on given ≡ true → serves mid i ask next new → Going serves order left ask old i next new
-  going_next order left old mid new last i given next so_far passes served = record {
+      → passes_on given ≡ true → AsksOne serves i ask mid next new → Going serves order left ask old i next new
+  going_next order left old mid new last i given next so_far passes asked = record {
     front = so_far.front ++ last ∷ [];
     in_order = so_far.in_order ∙ sym (append_assoc so_far.front (last ∷ []) (i ∷ left));
     mid = mid;
-    passed = passed_push so_far.front old so_far.mid mid last given so_far.passed so_far.served passes;
-    served = served;
+    passed = passed_push so_far.front old so_far.mid mid last given so_far.passed so_far.asked passes;
+    asked = asked;
   }
 
   -- it ends where the last one asked doesn't pass it on, or none is left
@@ -47,7 +62,7 @@ module _ {C : Type 0} (serves : C → ℕ → Ask → Result Answer AskFault →
     in_order = so_far.in_order;
     mid = so_far.mid;
     passed = so_far.passed;
-    served = so_far.served;
+    asked = so_far.asked;
     ends = ends;
   }
 

@@ -1,3 +1,4 @@
+pub mod Called
 pub mod Going
 pub mod Relayed
 pub mod Services

@@ -1,5 +1,5 @@
 -- What an ask of a service comes to for its caller: over any cluster, and over a told picture.
-use Rattle.std.proofs.Common.{◌≡◌, inl, inr, ℕ, ◌<◌, Bool, true, false, cond, List, Some, refl, sym, ap, subst}
+use Rattle.std.proofs.Common.{◌≡◌, inl, inr, ℕ, ◌<◌, Bool, true, false, cond, List, Some, refl, sym, ap, subst, arith}
 use Rattle.std.specs.Prelude.{Result, Ok, Err, IfOk, IfErr}
 use Rattle.hdfs_model.specs.declared.asks.Ask.{Ask}
 use Rattle.hdfs_model.specs.declared.asks.Answer.{Answer}
@@ -9,45 +9,64 @@ use Rattle.hdfs_model.specs.declared.errors.HdfsError.{HdfsError}
 use Rattle.hdfs_model.specs.declared.errors.HdfsError.TheVariants as errors
 use Rattle.hdfs_model.specs.declared.picture.LastAnswer.TheVariants as last_answers
 use Rattle.hdfs_model.specs.Causes.{CallsRose}
-use Rattle.hdfs_model.specs.Namenode.{Row, IsShaped, IsFalse, is_taken, last_of}
+use Rattle.hdfs_model.specs.Counts.{Rose, RoseTwice}
+use Rattle.hdfs_model.specs.Namenode.{Row, IsFailure, IsShaped, IsFalse, is_taken, last_of}
 use Rattle.hdfs_model.specs.Picture.{Picture}
 use Rattle.hdfs_model.specs.Shown.{Shown, Served}
 use Rattle.hdfs_model.proofs.Frames.{same_picture_refl}
-use Rattle.hdfs_model.proofs.Framing.{Leaves, asked_leaves, leaves_refl}
+use Rattle.hdfs_model.specs.Failover.{AsksInOrder}
+use Rattle.hdfs_model.proofs.Framing.{Leaves, asked_leaves, broken_rose, failure_rose, leaves_refl}
 use Rattle.hdfs_model.proofs.Relaying.{Comes, Repeats, asked_told}
-use Rattle.hdfs_namenode.specs.Asked.{Asked, AskedNothing, AskedOnce, ReachesAll, Through, error_of, order_of, outcome_of}
+use Rattle.hdfs_namenode.specs.Asked.{Asked, AskedNothing, AskedOnce, IsServiceOf, ReachesAll, Through, error_of, order_of, outcome_of}
 use Rattle.hdfs_namenode.specs.Relaying.{DoneOrNot, RefusedBy, RelaysTold, TellsAsk}
-use Rattle.hdfs_namenode.proofs.Services.{reaches_has, reaches_service, service_below}
+use Rattle.hdfs_namenode.proofs.Services.{last_below, reaches_has, reaches_service, service_below}
 
--- What an ask leaves over any cluster; its answer is of its ask, and its error tells the last answer of a namenode.
+-- What an ask leaves over any cluster; its answer is of its ask, and false to `complete` says that a namenode has failed. Its error tells
+-- the last answer of a namenode.
 pub record Relays (old : Shown) (ask : Ask) (result : Result Answer HdfsError) (new : Shown) : Type 0 where
   pub leaves : Leaves old new
   pub shaped : IfOk result (IsShaped ask)
   pub tells : IfErr result (TellsAsk old new)
   pub fine : IfOk result (λ answer. new.last ≡ last_answers.Fine)
+  pub denied : IfOk result (λ answer. IsFalse answer → CallsRose old.counts new)
 
 exception_tells : (old new : Shown) (class message : List ℕ) (b : Bool) → is_taken class ≡ b → new.last ≡ last_answers.Exception class message
     → TellsAsk old new (cond b (errors.AlreadyExists message) (errors.RPCError class message))
 exception_tells old new class message true is last = (class, is, last)
 exception_tells old new class message false is last = (is, last)
 
-relays_given : (old new : Shown) (ask : Ask) (given : Result Answer AskFault) → Leaves old new → IfOk given (IsShaped ask) → new.last ≡ last_of given
-    → Relays old ask (outcome_of given) new
-relays_given old new ask (Ok answer) leaves shaped last = record { leaves = leaves; shaped = shaped; tells = tt; fine = last }
-relays_given old new ask (Err faults.NoMemory) leaves shaped last = record { leaves = leaves; shaped = tt; tells = tt; fine = tt }
-relays_given old new ask (Err (faults.Exception class message)) leaves shaped last =
-    record { leaves = leaves; shaped = tt; tells = exception_tells old new class message (is_taken class) refl last; fine = tt }
+-- what its last answer tells, where it is a fault
+fault_tells : (old new : Shown) (last : ℕ) (fault : AskFault) → new.last ≡ last_of (Err fault) → last < new.namenodes
+    → (IsFailure (Err fault) → Rose (old.counts.calls last) (new.counts.calls last))
+    → (fault ≡ faults.Broken → RoseTwice (old.counts.calls last) (new.counts.calls last)) → TellsAsk old new (error_of last fault)
+fault_tells old new last faults.NoMemory is low rose twice = tt
+fault_tells old new last faults.Broken is low rose twice = (is, low, twice refl)
+fault_tells old new last (faults.BadReply fault) is low rose twice = (is, (last, low, rose tt))
+fault_tells old new last (faults.Exception class message) is low rose twice = exception_tells old new class message (is_taken class) refl is
+fault_tells old new last (faults.Fatal class message) is low rose twice = (is, (last, low, rose tt))
+
+relays_given : (old new : Shown) (ask : Ask) (last : ℕ) (given : Result Answer AskFault) → Leaves old new → IfOk given (IsShaped ask) → new.last ≡ last_of given
+    → last < new.namenodes → (IsFailure given → Rose (old.counts.calls last) (new.counts.calls last))
+    → (given ≡ Err faults.Broken → RoseTwice (old.counts.calls last) (new.counts.calls last)) → Relays old ask (outcome_of last given) new
+relays_given old new ask last (Ok answer) leaves shaped is low rose twice = record { leaves = leaves; shaped = shaped; tells = tt; fine = is; denied = λ no. (last, low, rose no) }
+relays_given old new ask last (Err fault) leaves shaped is low rose twice = record {
+  leaves = leaves;
+  shaped = tt;
+  tells = fault_tells old new last fault is low rose (λ broken. twice (ap (λ (f : AskFault). Err f) broken));
+  fine = tt;
+  denied = tt;
+}
 
 -- nothing was asked
 pub relays_nothing : (a : Shown) (ask : Ask) → Relays a ask (Err errors.NoMemory) a
-relays_nothing a ask = record { leaves = leaves_refl a; shaped = tt; tells = tt; fine = tt }
+relays_nothing a ask = record { leaves = leaves_refl a; shaped = tt; tells = tt; fine = tt; denied = tt }
 
-comes_relayed : (risen : Type 0) (p : Picture) (ask : Ask) (given : Result Answer AskFault) (q : Picture) → Comes risen p ask given q
-    → RelaysTold risen p ask (outcome_of given) q
-comes_relayed risen p ask (Ok answer) q comes = comes
-comes_relayed risen p ask (Err fault) q (inl memory) = inl (ap error_of memory.0, memory.1)
-comes_relayed risen p ask (Err fault) q (inr (inl refused)) = inr (inl ((refused.0.0, refused.0.1, refused.0.3, ap error_of refused.0.2), refused.1))
-comes_relayed risen p ask (Err fault) q (inr (inr rose)) = inr (inr rose)
+comes_relayed : (risen : Type 0) (p : Picture) (ask : Ask) (last : ℕ) (given : Result Answer AskFault) (q : Picture) → Comes risen p ask given q
+    → RelaysTold risen p ask (outcome_of last given) q
+comes_relayed risen p ask last (Ok answer) q comes = comes
+comes_relayed risen p ask last (Err fault) q (inl memory) = inl (ap (error_of last) memory.0, memory.1)
+comes_relayed risen p ask last (Err fault) q (inr (inl refused)) = inr (inl ((refused.0.0, refused.0.1, refused.0.3, ap (error_of last) refused.0.2), refused.1))
+comes_relayed risen p ask last (Err fault) q (inr (inr rose)) = inr (inr rose)
 
 -- what is answered is by the row, but for the answer that a file isn't closed
 pub relayed_row : (risen : Type 0) (p : Picture) (ask : Ask) (answer : Answer) (q : Picture) → (IsFalse answer → ⊥) → RelaysTold risen p ask (Ok answer) q
@@ -74,21 +93,35 @@ relayed_rose risen p ask error q some allowed (inr (inr rose)) = rose.0
 module _ {C : Type 0} (shown : C → Shown) (serves : C → ℕ → Ask → Result Answer AskFault → C → Type 0)
     (rows : (old new : C) (i : ℕ) (ask : Ask) (result : Result Answer AskFault) → serves old i ask result new → Served (shown old) i ask result (shown new))
     (write : Bool) (ask : Ask) (old : Through C) (outcome : Result Answer HdfsError) (new : Through C) where
+  -- whether the last one asked has failed
+  last_rose : (last : ℕ) (given : Result Answer AskFault) → AsksInOrder serves (order_of old.proxy) ask old.cluster last given new.cluster → IsFailure given
+      → Rose ((shown old.cluster).counts.calls last) ((shown new.cluster).counts.calls last)
+  last_rose last given asks fails = failure_rose shown serves rows ask (order_of old.proxy) last given old.cluster new.cluster fails asks
+
+  last_twice : (last : ℕ) (given : Result Answer AskFault) → AsksInOrder serves (order_of old.proxy) ask old.cluster last given new.cluster
+      → given ≡ Err faults.Broken → RoseTwice ((shown old.cluster).counts.calls last) ((shown new.cluster).counts.calls last)
+  last_twice last given asks broken =
+      broken_rose shown serves rows ask (order_of old.proxy) last old.cluster new.cluster
+      (subst (λ (g : Result Answer AskFault). AsksInOrder serves (order_of old.proxy) ask old.cluster last g new.cluster) broken asks)
+
   -- over any cluster
-  pub relayed : Asked serves write ask old outcome new → Relays (shown old.cluster) ask outcome (shown new.cluster)
-  relayed asked =
+  pub relayed : IsServiceOf old.proxy (shown old.cluster) → Asked serves write ask old outcome new → Relays (shown old.cluster) ask outcome (shown new.cluster)
+  relayed of asked =
       let left = asked_leaves shown serves rows ask (order_of old.proxy) asked.last asked.given old.cluster new.cluster asked.asks in
+      let low = last_below old.proxy (shown old.cluster) asked.asks.front asked.last asked.asks.left of asked.asks.in_order in
       subst (λ (r : Result Answer HdfsError). Relays (shown old.cluster) ask r (shown new.cluster)) (sym asked.is)
-      (relays_given (shown old.cluster) (shown new.cluster) ask asked.given left.0 asked.shaped left.1)
+      (relays_given (shown old.cluster) (shown new.cluster) ask asked.last asked.given left.0 asked.shaped left.1 (omega (arith, low, left.0.later.namenodes))
+      (last_rose asked.last asked.given asked.asks) (last_twice asked.last asked.given asked.asks))
 
   pub relayed_nothing : AskedNothing old outcome new → Relays (shown old.cluster) ask outcome (shown new.cluster)
   relayed_nothing nothing =
       subst (λ (r : Result Answer HdfsError). Relays (shown old.cluster) ask r (shown new.cluster)) (sym nothing.is)
       (subst (λ (t : Through C). Relays (shown old.cluster) ask (Err errors.NoMemory) (shown t.cluster)) (sym nothing.same) (relays_nothing (shown old.cluster) ask))
 
-  pub relayed_once : AskedOnce serves write ask old outcome new → Relays (shown old.cluster) ask outcome (shown new.cluster)
-  relayed_once (inl asked) = relayed asked
-  relayed_once (inr nothing) = relayed_nothing nothing
+  pub relayed_once : IsServiceOf old.proxy (shown old.cluster) → AskedOnce serves write ask old outcome new
+      → Relays (shown old.cluster) ask outcome (shown new.cluster)
+  relayed_once of (inl asked) = relayed of asked
+  relayed_once of (inr nothing) = relayed_nothing nothing
 
   -- what is told of it
   abbrev pub IsTold : Picture → Type 0
@@ -104,7 +137,7 @@ module _ {C : Type 0} (shown : C → Shown) (serves : C → ℕ → Ask → Resu
       let risen = CallsRose (shown old.cluster).counts (shown new.cluster) in (
         came.0,
         came.1,
-        subst (λ (r : Result Answer HdfsError). RelaysTold risen p ask r came.0) (sym asked.is) (comes_relayed risen p ask asked.given came.0 came.2),
+        subst (λ (r : Result Answer HdfsError). RelaysTold risen p ask r came.0) (sym asked.is) (comes_relayed risen p ask asked.last asked.given came.0 came.2),
       )
 
   pub told_nothing : (p : Picture) → (shown old.cluster).picture ≡ Some p → AskedNothing old outcome new → IsTold p

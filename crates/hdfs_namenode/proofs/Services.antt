@@ -1,5 +1,5 @@
 -- Services of namenodes: what is kept of them from call to call, and that one that has all namenodes asks each of them.
-use Rattle.std.proofs.Common.{◌≡◌, ℕ, ◌<◌, refl, sym, ◌∙◌, arith}
+use Rattle.std.proofs.Common.{◌≡◌, ℕ, ◌<◌, List, [], ◌∷◌, ◌++◌, refl, sym, ◌∙◌, subst, arith}
 use Rattle.hdfs_model.specs.Shown.{Shown, Later}
 use Rattle.hdfs_model.proofs.Ordering.{order_below, order_has}
 use Rattle.hdfs_model.proofs.Relaying.{Below, Has}
@@ -61,6 +61,15 @@ service_later proxy proxy' s s' same later of =
 -- each namenode that a service asks is one of the cluster's
 pub service_below : (proxy : NameServiceProxy) (s : Shown) → IsServiceOf proxy s → Below s.namenodes (order_of proxy)
 service_below proxy s of = order_below s.namenodes proxy.remembered proxy.first proxy.count (omega (arith, of.below, of.within)) of.within
+
+below_at : (n : ℕ) (front : List ℕ) (i : ℕ) (left : List ℕ) → Below n (front ++ i ∷ left) → i < n
+below_at n [] i left below = below.0
+below_at n (j ∷ front) i left below = below_at n front i left below.1
+
+-- the last one that it has asked is one too
+pub last_below : (proxy : NameServiceProxy) (s : Shown) (front : List ℕ) (last : ℕ) (left : List ℕ) → IsServiceOf proxy s → order_of proxy ≡ front ++ last ∷ left
+    → last < s.namenodes
+last_below proxy s front last left of is = below_at s.namenodes front last left (subst (Below s.namenodes) is (service_below proxy s of))
 
 -- and where it has all of them, each one of the cluster's is asked
 pub reaches_has : (proxy : NameServiceProxy) (s : Shown) (a : ℕ) → ReachesAll proxy s → a < s.namenodes → Has a (order_of proxy)

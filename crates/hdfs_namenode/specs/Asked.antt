@@ -6,6 +6,7 @@ use Rattle.hdfs_model.specs.declared.asks.AskFault.{AskFault}
 use Rattle.hdfs_model.specs.declared.asks.AskFault.TheVariants as faults
 use Rattle.hdfs_model.specs.declared.errors.HdfsError.{HdfsError}
 use Rattle.hdfs_model.specs.declared.errors.HdfsError.TheVariants as errors
+use Rattle.hdfs_model.specs.declared.errors.IoFault.TheVariants as io_faults
 use Rattle.hdfs_model.specs.Failover.{AsksInOrder, order_from}
 use Rattle.hdfs_model.specs.Namenode.{IsShaped, is_taken}
 use Rattle.hdfs_model.specs.Shown.{Shown}
@@ -15,15 +16,18 @@ use Rattle.hdfs_namenode.specs.declared.proxy.NameServiceProxy.{NameServiceProxy
 abbrev pub exception_error : List ℕ → List ℕ → HdfsError
 exception_error class message = if is_taken class then errors.AlreadyExists message else errors.RPCError class message
 
--- the error that stands for a fault of a namenode
-abbrev pub error_of : AskFault → HdfsError
-error_of faults.NoMemory = errors.NoMemory
-error_of (faults.Exception class message) = exception_error class message
+-- the error that stands for a fault of the last namenode that was asked, which has this number
+abbrev pub error_of : ℕ → AskFault → HdfsError
+error_of last faults.NoMemory = errors.NoMemory
+error_of last faults.Broken = errors.IOError (io_faults.Namenode last)
+error_of last (faults.BadReply fault) = errors.InvalidRPCResponse fault
+error_of last (faults.Exception class message) = exception_error class message
+error_of last (faults.Fatal class message) = errors.FatalRPCError class message
 
--- what a caller has of what a namenode gave
-abbrev pub outcome_of : Result Answer AskFault → Result Answer HdfsError
-outcome_of (Ok answer) = Ok answer
-outcome_of (Err fault) = Err (error_of fault)
+-- what a caller has of what it gave
+abbrev pub outcome_of : ℕ → Result Answer AskFault → Result Answer HdfsError
+outcome_of last (Ok answer) = Ok answer
+outcome_of last (Err fault) = Err (error_of last fault)
 
 -- the answer that a value is a part of
 abbrev pub as_answer : {T : Type 0} → (T → Answer) → Result T HdfsError → Result Answer HdfsError
@@ -77,7 +81,7 @@ pub record Asked {C : Type 0} (serves : C → ℕ → Ask → Result Answer AskF
   pub given : Result Answer AskFault
   pub asks : AsksInOrder serves (order_of old.proxy) ask old.cluster last given new.cluster
   pub shaped : IfOk given (IsShaped ask)
-  pub is : outcome ≡ outcome_of given
+  pub is : outcome ≡ outcome_of last given
   pub remembered : new.proxy ≡ remembers write last given old.proxy
 
 -- nothing was asked for want of memory

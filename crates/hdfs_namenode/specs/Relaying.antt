@@ -1,23 +1,63 @@
 -- What an ask that goes from namenode to namenode comes to, for the caller.
-use Rattle.std.specs.Prelude.{◌≡◌, ◌⊎◌, false, List, ℕ, Result, Ok, Err}
+use Rattle.std.specs.Prelude.{◌≡◌, ◌⊎◌, ◌<◌, true, false, List, All, Any, Contains, ℕ, Result, Ok, Err}
 use Rattle.hdfs_model.specs.declared.asks.Ask.{Ask}
 use Rattle.hdfs_model.specs.declared.asks.Answer.{Answer}
+use Rattle.hdfs_model.specs.declared.asks.AskFault.{AskFault}
+use Rattle.hdfs_model.specs.declared.asks.AskFault.TheVariants as faults
 use Rattle.hdfs_model.specs.declared.errors.HdfsError.{HdfsError}
 use Rattle.hdfs_model.specs.declared.errors.HdfsError.TheVariants as errors
+use Rattle.hdfs_model.specs.declared.errors.IoFault.TheVariants as io_faults
 use Rattle.hdfs_model.specs.declared.picture.LastAnswer.TheVariants as last_answers
-use Rattle.hdfs_model.specs.Causes.{IsTakenBy}
-use Rattle.hdfs_model.specs.Namenode.{Row, IsShaped, IsRefusal, IsFalse, is_taken}
+use Rattle.hdfs_model.specs.Causes.{CallsRose, IsTakenBy}
+use Rattle.hdfs_model.specs.Counts.{Rose, RoseTwice}
+use Rattle.hdfs_model.specs.Namenode.{Row, IsShaped, IsRefusal, IsFalse, is_retriable, is_taken}
 use Rattle.hdfs_model.specs.Picture.{Picture, SameButActive}
-use Rattle.hdfs_model.specs.Shown.{Shown}
+use Rattle.hdfs_model.specs.Shown.{Shown, Later}
 use Rattle.hdfs_namenode.specs.Asked.{exception_error}
 
--- What an error of an ask tells over any cluster: the last answer of a namenode was the exception for which it stands. Want of memory
--- tells nothing.
+-- What an error of an ask tells over any cluster: the last answer of a namenode was that for which it stands, and where that was none
+-- a namenode has failed, twice where its connection broke. Want of memory tells nothing.
 abbrev pub TellsAsk : Shown → Shown → HdfsError → Type 0
 TellsAsk old new errors.NoMemory = Unit {0}
+TellsAsk old new (errors.IOError (io_faults.Namenode last)) =
+    (new.last ≡ last_answers.Broken) × (last < new.namenodes) × RoseTwice (old.counts.calls last) (new.counts.calls last)
 TellsAsk old new (errors.AlreadyExists message) = IsTakenBy message new
 TellsAsk old new (errors.RPCError class message) = (is_taken class ≡ false) × (new.last ≡ last_answers.Exception class message)
+TellsAsk old new (errors.InvalidRPCResponse fault) = (new.last ≡ last_answers.BadReply fault) × CallsRose old.counts new
+TellsAsk old new (errors.FatalRPCError class message) = (new.last ≡ last_answers.Fatal class message) × CallsRose old.counts new
 TellsAsk old new error = ⊥
+
+-- Between the two the namenode answered the ask with an exception for which another namenode is asked.
+pub record HasPassedOn {C : Type 0} (shown : C → Shown) (serves : C → ℕ → Ask → Result Answer AskFault → C → Type 0) (ask : Ask) (old new : C)
+    (i : ℕ) : Type 0 where
+  pub before : C
+  pub after : C
+  pub class : List ℕ
+  pub message : List ℕ
+  pub retriable : is_retriable class ≡ true
+  pub gave : serves before i ask (Err (faults.Exception class message)) after
+  pub since : Later (shown old) (shown before)
+  pub until : Later (shown after) (shown new)
+
+-- the namenode has failed between the two
+abbrev pub HasFailed : Shown → Shown → ℕ → Type 0
+HasFailed old new i = Rose (old.counts.calls i) (new.counts.calls i)
+
+-- that, or it passed the ask on
+abbrev pub HasGivenUp : {C : Type 0} → (C → Shown) → (C → ℕ → Ask → Result Answer AskFault → C → Type 0) → Ask → C → C → ℕ → Type 0
+HasGivenUp shown serves ask old new i = HasPassedOn shown serves ask old new i ⊎ HasFailed (shown old) (shown new) i
+
+-- Why an ask of namenodes in this order has no answer, over any cluster: each of them has passed it on or has failed, and one has failed,
+-- the last one twice where its connection broke. Other errors stand for what one has answered, or for want of memory.
+abbrev pub HasNoAnswer : {C : Type 0} → (C → Shown) → (C → ℕ → Ask → Result Answer AskFault → C → Type 0) → List ℕ → Ask → C → C → HdfsError → Type 0
+HasNoAnswer shown serves order ask old new (errors.IOError (io_faults.Namenode last)) =
+    All (HasGivenUp shown serves ask old new) order × Contains order last
+    × RoseTwice ((shown old).counts.calls last) ((shown new).counts.calls last)
+HasNoAnswer shown serves order ask old new (errors.InvalidRPCResponse fault) =
+    All (HasGivenUp shown serves ask old new) order × Any (HasFailed (shown old) (shown new)) order
+HasNoAnswer shown serves order ask old new (errors.FatalRPCError class message) =
+    All (HasGivenUp shown serves ask old new) order × Any (HasFailed (shown old) (shown new)) order
+HasNoAnswer shown serves order ask old new error = Unit {0}
 
 -- the ask had its effect once, or none
 abbrev pub DoneOrNot : Ask → Picture → Picture → Type 0

@@ -18,9 +18,8 @@ use std::alloc::Global;
 use uuid::Uuid;
 
 /// What is asked of namenodes in the name of one client, by the names of ClientProtocol's calls (upstream's
-/// `NamenodeProtocol`). Each call makes one ask, through a name service's proxy. Its errors: `AlreadyExists` with the exception's
-/// message where something stands at the path already or is being written, `RPCError` with the class and the message of any other
-/// exception, and `NoMemory`, also where there was none for the ask, which wasn't made then.
+/// `NamenodeProtocol`). Each call makes one ask, through a name service's proxy. Its errors are those of `NameServiceProxy::call`;
+/// `NoMemory` comes also where there was none for the ask, which wasn't made then.
 #[derive(Drop)]
 pub struct NamenodeProtocol {
     pub(crate) alloc: Global,

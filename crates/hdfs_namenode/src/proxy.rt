@@ -1,10 +1,11 @@
 //! A name service: several namenodes, one of which is active.
-ghost use Rattle.std.specs.Prelude.{◌≡◌, ◌+◌, ◌≤◌, ◌<◌, ◌↔◌, IfOk, IsTrue};
-ghost use Rattle.hdfs_model.specs.Failover.{AsksInOrder};
+ghost use Rattle.std.specs.Prelude.{◌≡◌, ◌+◌, ◌≤◌, ◌<◌, ◌↔◌, IfErr, IfOk, IsTrue};
+ghost use Rattle.hdfs_model.specs.Failover.{AsksInOrder, AsksOne};
 ghost use Rattle.hdfs_model.specs.Namenode.{IsShaped};
 ghost use Rattle.hdfs_namenode.specs.Asked.{Asked, IsNew, IsServiceOf, ReachesAll, SameService, order_of, remembers};
+ghost use Rattle.hdfs_namenode.specs.Relaying.{HasNoAnswer};
 
-use crate::faults::{outcome_of, passes_on};
+use crate::faults::{is_broken, outcome_of, passes_on};
 use hdfs_model::{Answer, Ask, AskFault, Cluster, HdfsError};
 
 /// The namenodes of one service. The one that answered the last write is asked first (upstream's `NameServiceProxy`).
@@ -46,12 +47,14 @@ impl NameServiceProxy {
         self.first == 0 && self.count == cluster.namenodes() && self.remembered < self.count
     }
 
-    /// Asks the namenode that answered the last write (at first the first one), and then the others by their numbers, each once, as long
-    /// as they pass the ask on: a standby does, and an observer that answers no writes. `write` says whether an answer is to be
-    /// remembered.
+    /// Asks the namenode that answered the last write (at first the first one), and then the others by their numbers, as long as they pass
+    /// the ask on: a standby does, an observer that answers no writes, and one that gives no answer. Each is asked once, or once more where
+    /// its connection broke. `write` says whether an answer is to be remembered.
     ///
     /// Errors: that of the last namenode asked: `AlreadyExists` with the exception's message where something stands at the path already or
-    /// is being written, `RPCError` with the class and the message of any other exception, and `NoMemory`.
+    /// is being written, `RPCError` with the class and the message of any other exception, `IOError` with its number where its connection
+    /// broke twice, `InvalidRPCResponse` where what came is no answer, `FatalRPCError` with the class and the message of an exception
+    /// behind which it gave up the connection, and `NoMemory`. Behind an error the ask may have been done.
     pub fn call<C: Cluster>(
         &mut self,
         cluster: &mut C,
@@ -62,11 +65,12 @@ impl NameServiceProxy {
         ensures asked { Asked C.serves write ask.now (record { cluster = cluster.old; proxy = self.old }) result
             (record { cluster = cluster.new; proxy = self.new }) }
         ensures shape { IfOk result (IsShaped ask.now) }
+        ensures cause { IfErr result (HasNoAnswer C.shown C.serves (order_of self.old) ask.now cluster.old cluster.new) }
         ensures keeps { SameService self.old self.new }
     {
         let (last, given) = self.ask_in_order(cluster, ask);
         self.remember(write, last, &given);
-        outcome_of(given)
+        outcome_of(last, given)
     }
 
     /// Asks the namenodes in their order, as long as they pass the ask on. The answer is the last one asked, and what it gave.
@@ -83,7 +87,7 @@ impl NameServiceProxy {
     {
         let end = self.end(cluster);
         let mut last = self.remembered;
-        let mut given = cluster.ask(last, ask);
+        let mut given = ask_one(cluster, last, ask);
         'others: for i in self.first..end {
             if !passes_on(&given) {
                 return (last, given);
@@ -93,7 +97,7 @@ impl NameServiceProxy {
             }
             last = i;
             drop(given);
-            given = cluster.ask(i, ask);
+            given = ask_one(cluster, i, ask);
         }
         (last, given)
     }
@@ -115,5 +119,21 @@ impl NameServiceProxy {
         if write && given.is_ok() {
             self.remembered = last;
         }
+    }
+}
+
+/// Asks this namenode, and once more where its connection broke.
+fn ask_one<C: Cluster>(cluster: &mut C, i: u32, ask: &Ask) -> Result<Answer, AskFault>
+    requires { i < (C.shown cluster.old).namenodes }
+    ensures asks { AsksOne C.serves i ask.now cluster.old result cluster.new }
+    ensures shaped { IfOk result (IsShaped ask.now) }
+    ensures namenodes { (C.shown cluster.new).namenodes ≡ (C.shown cluster.old).namenodes }
+{
+    let given = cluster.ask(i, ask);
+    if is_broken(&given) {
+        drop(given);
+        cluster.ask(i, ask)
+    } else {
+        given
     }
 }

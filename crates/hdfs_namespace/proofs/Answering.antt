@@ -54,6 +54,9 @@ module _ (p q : Picture) (i : ℕ) (active : i ≡ p.active) (same : SamePicture
   pub answers_excused : (src : List ℕ) (offset length : ℕ) (fault : AskFault) → StandsForRefusal (kinds p) src fault → Answers p i (asks.GetBlockLocations src offset length) (Err fault) q
   answers_excused src offset length faults.NoMemory h = same
   answers_excused src offset length (faults.Exception class message) h = (h.3, same, inr (active, inl (h.0, h.1, h.2)))
+  answers_excused src offset length faults.Broken h = absurd h
+  answers_excused src offset length (faults.BadReply fault) h = absurd h
+  answers_excused src offset length (faults.Fatal class message) h = absurd h
 
 -- a datanode among these is named
 named_at : (locs : List DatanodeInfo) (uuid : List ℕ) (k : ℕ) → k < length (uuids locs) → get_or (uuids locs) k uuid ≡ uuid → is_named locs uuid ≡ true
@@ -104,6 +107,9 @@ module _ (p q : Picture) (i : ℕ) (active : i ≡ p.active) where
   pub answers_stray : (ask : Ask) (fault : AskFault) → StandsForStray (IsStray p ask) fault → SamePicture p q → Answers p i ask (Err fault) q
   answers_stray ask faults.NoMemory stray same = same
   answers_stray ask (faults.Exception class message) stray same = (stray.2, same, inr (active, inr (stray.0, stray.1)))
+  answers_stray ask faults.Broken stray same = absurd stray
+  answers_stray ask (faults.BadReply fault) stray same = absurd stray
+  answers_stray ask (faults.Fatal class message) stray same = absurd stray
 
   pub answers_stamped : (block : Block) (client : List ℕ) (located : LocatedBlock) → GivesStamp p.table block.block_id located → SamePicture p q
       → Answers p i (asks.UpdateBlockForPipeline block client) (Ok (answers.UpdateBlockForPipeline located)) q
@@ -124,6 +130,9 @@ module _ (p q : Picture) (i : ℕ) (active : i ≡ p.active) where
     stray_text : (fault : AskFault) → StandsForStray (IsOfOpen p.names text block.block_id → ⊥) fault → StandsForStray (IsBeingWritten p src block → ⊥) fault
     stray_text faults.NoMemory stray = stray
     stray_text (faults.Exception class message) stray = (λ written. stray.0 (subst (λ (t : List ℕ). IsOfOpen p.names t block.block_id) (sym is_text) (of_open p src block written)), stray.1, stray.2)
+    stray_text faults.Broken stray = absurd stray
+    stray_text (faults.BadReply fault) stray = absurd stray
+    stray_text (faults.Fatal class message) stray = absurd stray
 
     pub answers_not_one_more : (fault : AskFault) → StandsForStray (IsOfOpen p.names text block.block_id → ⊥) fault → SamePicture p q
         → Answers p i (asks.GetAdditionalDatanode src block existing excludes number client ids) (Err fault) q
@@ -181,3 +190,6 @@ serves_answer risen p q i ask (Err (faults.Exception class message)) h =
     (λ other. inl (other.0, other.1, h.1))
     (λ here. ⊎_elim (λ refusal. inr (inl (here.0, refusal, h.1))) (λ stray. inr (inr (inl (here.0, h.1.active, (serves_own p ask stray.0, keeps_others p q (src_of ask) h.1))))) here.1)
     h.2
+serves_answer risen p q i ask (Err faults.Broken) h = absurd h
+serves_answer risen p q i ask (Err (faults.BadReply fault)) h = absurd h
+serves_answer risen p q i ask (Err (faults.Fatal class message)) h = absurd h

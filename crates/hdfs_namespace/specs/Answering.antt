@@ -26,16 +26,19 @@ pub record LocatesFile (names : List ℕ → Option Entry) (table : ℕ → Opti
 abbrev pub StandsForRefusal : (List ℕ → Option Kind) → List ℕ → AskFault → Type 0
 StandsForRefusal kinds src faults.NoMemory = Unit {0}
 StandsForRefusal kinds src (faults.Exception class message) = (why : NoFile) × (no_file kinds src ≡ Some why) × (class ≡ class_for why) × (message ≡ [])
+StandsForRefusal kinds src fault = ⊥
 
 -- the same of a refusal of a writer, at a path at which this stands
 abbrev pub StandsForWritten : Option Kind → Option Refusal → AskFault → Type 0
 StandsForWritten kind refusal faults.NoMemory = Unit {0}
 StandsForWritten kind refusal (faults.Exception class message) = StandsForAny kind refusal class × (message ≡ [])
+StandsForWritten kind refusal fault = ⊥
 
 -- want of memory, or a file that isn't found, where a writer strays
 abbrev pub StandsForStray : Type 0 → AskFault → Type 0
 StandsForStray strays faults.NoMemory = Unit {0}
 StandsForStray strays (faults.Exception class message) = strays × (class ≡ not_found) × (message ≡ [])
+StandsForStray strays fault = ⊥
 
 -- a namenode looks up every file, also one that is being written, and answers never that there is none
 abbrev pub IsLocated : Answer → Type 0
@@ -63,3 +66,4 @@ Answers p i ask (Ok answer) q = (i ≡ p.active) × (q.active ≡ p.active) × I
 Answers p i ask (Err faults.NoMemory) q = SamePicture p q
 Answers p i ask (Err (faults.Exception class message)) q =
     (message ≡ []) × SamePicture p q × (((i ≢ p.active) × (class ≡ standby)) ⊎ ((i ≡ p.active) × IsExcused p ask class))
+Answers p i ask (Err fault) q = ⊥

@@ -45,7 +45,13 @@ pub fn last_answer(alloc: Global, answer: &Result<Answer, AskFault>) -> Result<L
     match answer {
         Ok(_) => Ok(LastAnswer::Fine),
         Err(AskFault::NoMemory) => Ok(LastAnswer::NoMemory),
+        Err(AskFault::Broken) => Ok(LastAnswer::Broken),
+        Err(AskFault::BadReply(fault)) => Ok(LastAnswer::BadReply(*fault)),
         Err(AskFault::Exception { class, message }) => Ok(LastAnswer::Exception {
+            class: class.copy(alloc)?,
+            message: message.copy(alloc)?,
+        }),
+        Err(AskFault::Fatal { class, message }) => Ok(LastAnswer::Fatal {
             class: class.copy(alloc)?,
             message: message.copy(alloc)?,
         }),

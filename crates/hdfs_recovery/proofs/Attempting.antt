@@ -309,7 +309,7 @@ module _ (plan : BlockPlan) (block : Block) (least : ℕ) (client : List ℕ) (w
             asked.0,
             asked.1,
             asked.2,
-            tells_since a m n z asked.0 gone.writes.only.last asked.3,
+            tells_since a m n z asked.0 until_sent.later gone.writes.only.later gone.writes.only.last asked.3,
             unnamed_failed asked.0 asked.1 asked.4,
           ))
           not.cause);

@@ -4,6 +4,7 @@ use Rattle.std.proofs.lemmas.Bool.{cond-false, ne_eqb}
 use Rattle.std.specs.List.{Contains}
 use Rattle.hdfs_model.specs.declared.errors.HdfsError.{HdfsError}
 use Rattle.hdfs_model.specs.declared.errors.HdfsError.TheVariants as errors
+use Rattle.hdfs_model.specs.declared.errors.IoFault.TheVariants as io_faults
 use Rattle.hdfs_model.specs.declared.messages.Block.{Block}
 use Rattle.hdfs_model.specs.declared.messages.DatanodeId.{DatanodeId}
 use Rattle.hdfs_model.specs.declared.picture.BlockEntry.{BlockEntry}
@@ -95,11 +96,18 @@ calls_rose_since a b c d first then rose = (
 )
 
 -- An error tells as much of more calls, where the last ask is the same.
-pub tells_since : (a b c d : Shown) (error : HdfsError) → d.last ≡ c.last → TellsAsk b c error → TellsAsk a d error
-tells_since a b c d errors.NoMemory same tells = tt
-tells_since a b c d (errors.AlreadyExists message) same tells = (tells.0, tells.1, same ∙ tells.2)
-tells_since a b c d (errors.RPCError class message) same tells = (tells.0, same ∙ tells.1)
-tells_since a b c d error same tells = absurd tells
+pub tells_since : (a b c d : Shown) (error : HdfsError) → Later a b → Later c d → d.last ≡ c.last → TellsAsk b c error → TellsAsk a d error
+tells_since a b c d errors.NoMemory first then same tells = tt
+tells_since a b c d (errors.IOError (io_faults.Namenode last)) first then same tells = (
+  same ∙ tells.0,
+  omega (arith, tells.1, then.namenodes),
+  omega (arith, first.counts.calls last, tells.2, then.counts.calls last),
+)
+tells_since a b c d (errors.AlreadyExists message) first then same tells = (tells.0, tells.1, same ∙ tells.2)
+tells_since a b c d (errors.RPCError class message) first then same tells = (tells.0, same ∙ tells.1)
+tells_since a b c d (errors.InvalidRPCResponse fault) first then same tells = (same ∙ tells.0, calls_rose_since a b c d first then tells.1)
+tells_since a b c d (errors.FatalRPCError class message) first then same tells = (same ∙ tells.0, calls_rose_since a b c d first then tells.1)
+tells_since a b c d error first then same tells = absurd tells
 
 -- The block is written still where names stay.
 pub written_still : (p q : Picture) (path : List ℕ) (block block' : Block) → ((at : List ℕ) → q.names at ≡ p.names at)

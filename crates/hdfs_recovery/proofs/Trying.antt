@@ -11,7 +11,7 @@ use Rattle.hdfs_model.specs.Namenode.{IsToWrite}
 use Rattle.hdfs_model.specs.Picture.{Picture}
 use Rattle.hdfs_model.specs.Sending.{uuids}
 use Rattle.hdfs_model.specs.Shown.{Shown, Later, SameReads}
-use Rattle.hdfs_model.proofs.Frames.{later_trans, rose_since, same_reads_trans}
+use Rattle.hdfs_model.proofs.Frames.{later_refl, later_trans, rose_since, same_reads_trans}
 use Rattle.hdfs_names.specs.Shown.{shown as policy_of}
 use Rattle.hdfs_blocks.specs.Carrying.{LinkCarries, total}
 use Rattle.hdfs_blocks.specs.Rebuilding.{IsListed}
@@ -284,7 +284,7 @@ module _ (plan0 plan2 plan3 : BlockPlan) (settings : RebuildSettings) (failed : 
     resume_cause fault kept (inl (inr asked)) =
         subst (λ (f : WriteFault). HasRebuildCause (task_of settings client replay unsent) (standing plan0 failed a) f z) (sym asked.1) (
           asked.2,
-          tells_since a n z z asked.0 refl asked.3,
+          tells_since a n z z asked.0 stays_until.later (later_refl z) refl asked.3,
           failed_behind plan0 plan3 a n z to_next.id stays_until.later waits_next asked.4,
         )
     resume_cause fault kept (inr (which, rose)) =
@@ -319,7 +319,7 @@ restamp_gave_none plan0 plan2 settings failed a m n client replay unsent fault s
           (λ memory. subst (λ (f : WriteFault). HasRebuildCause (task_of settings client replay unsent) (standing plan0 failed a) f n) (sym memory) tt)
           (λ asked. subst (λ (f : WriteFault). HasRebuildCause (task_of settings client replay unsent) (standing plan0 failed a) f n) (sym asked.1) (
             asked.2,
-            tells_since a m n n asked.0 refl asked.3,
+            tells_since a m n n asked.0 stays.later (later_refl n) refl asked.3,
             failed_behind plan0 plan2 a m n kept.0.id stays.later waits asked.4,
           ))
           not.cause;

@@ -36,5 +36,7 @@ pub(crate) fn advice_on(error: &HdfsError) -> Advice {
             Advice::ChangeTheRequest
         }
         HdfsError::RPCError(_, _) => Advice::AskAgain,
+        HdfsError::InvalidRPCResponse(_) => Advice::AskAgain,
+        HdfsError::FatalRPCError(_, _) => Advice::AskAgain,
     }
 }

@@ -93,6 +93,7 @@ returns-in-Ok-clause-err g c =
     let s = g.C.Cluster.shown c.args.cluster.now in
     let m = g.C.Cluster.shown c.loop.cluster in
     let w = c.args.self.now in
-    let all : c.loop.counter ≢ 0 = λ none. (let most : 5 ≤ c.loop.counter = omega (arith, c.loop-test.false) in absurd (omega (arith, none, most))) in
+    let most : 5 ≤ c.loop.counter = omega (arith, c.loop-test.false) in
+    let all : c.loop.counter ≢ 0 = λ none. absurd (omega (arith, none, most)) in
     subst (λ (path : List ℕ). FailsToClose s w (errors.OperationFailed path) m) (sym c.in-Ok.ensures)
-    (not_closed s m w c.requires.between (g.met.C.Cluster.sound c.loop.cluster) c.loop.counter c.loop.invariant.asking all)
+    (not_closed s m w c.requires.between (g.met.C.Cluster.sound c.loop.cluster) c.loop.counter c.loop.invariant.asking all most)

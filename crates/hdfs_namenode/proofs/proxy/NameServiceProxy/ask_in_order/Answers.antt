@@ -26,10 +26,10 @@ others-preserved g c =
     let left = numbers_but remembered (o.i + 1) (end - (o.i + 1)) in
     let going = going_same g.C.Cluster.serves c.args.ask.now (order_of c.args.self.now) (numbers_but remembered o.i (end - o.i)) (o.i ∷ left)
     c.args.cluster.now o.cluster o.last o.given (numbers_take remembered o.i end c.others-test.true c.if-i-self.false) o.invariant.going in record {
-      going = going_next g.C.Cluster.serves c.args.ask.now (order_of c.args.self.now) left c.args.cluster.now o.cluster c.ask-given-in-others.new.self o.last o.i o.given
-          c.ask-given-in-others.result going (sym c.passes_on.ensures ∙ c.if-not-passes_on.false) c.ask-given-in-others.ensures.serves;
-      shaped = c.ask-given-in-others.ensures.shape;
+      going = going_next g.C.Cluster.serves c.args.ask.now (order_of c.args.self.now) left c.args.cluster.now o.cluster c.ask_one-given-in-others.new.cluster o.last o.i o.given
+          c.ask_one-given-in-others.result going (sym c.passes_on.ensures ∙ c.if-not-passes_on.false) c.ask_one-given-in-others.ensures.asks;
+      shaped = c.ask_one-given-in-others.ensures.shaped;
       from = o.auto.i;
       below = omega (arith, c.others-test.true, c.end-end.ensures);
-      namenodes = c.ask-given-in-others.ensures.served.later.namenodes ∙ o.invariant.namenodes;
+      namenodes = c.ask_one-given-in-others.ensures.namenodes ∙ o.invariant.namenodes;
     }
