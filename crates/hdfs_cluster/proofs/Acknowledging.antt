@@ -13,7 +13,7 @@ use Rattle.hdfs_model.specs.declared.picture.LastAnswer.{LastAnswer}
 use Rattle.hdfs_model.specs.declared.picture.OpenWrite.{OpenWrite}
 use Rattle.hdfs_model.specs.declared.store.Line.{Line}
 use Rattle.hdfs_model.specs.Picture.{Picture}
-use Rattle.hdfs_model.specs.Counts.{NeverFall, Rose}
+use Rattle.hdfs_model.specs.Counts.{Rose}
 use Rattle.hdfs_model.specs.Pipes.{WritesLink, Waits, Acknowledged, IsWellFormed, WriteEnded, nodes_of}
 use Rattle.hdfs_model.specs.declared.messages.DatanodeInfo.{DatanodeInfo}
 use Rattle.hdfs_faults.specs.declared.fault_plan.FaultPlan.{FaultPlan}
@@ -28,11 +28,11 @@ use Rattle.hdfs_cluster.specs.declared.mem_link.MemLink.{MemLink}
 use Rattle.hdfs_cluster.specs.declared.mem_link.MemLink.TheVariants as links
 use Rattle.hdfs_cluster.specs.declared.write_link.MemWrite.{MemWrite}
 use Rattle.hdfs_cluster.specs.Links.{read_told, read_place, write_told, write_place, OnWrite, OnWrites, IsDueOn, AckedOn}
-use Rattle.hdfs_cluster.specs.MemShown.{picture_at, counts_of}
+use Rattle.hdfs_cluster.specs.MemShown.{picture_at}
 use Rattle.hdfs_cluster.specs.Telling.{failures}
 use Rattle.hdfs_cluster.specs.Writes.{told_at, told_of, place_at, place_of, disturbed_at}
 use Rattle.hdfs_cluster.proofs.Places.{slot_stays, no_read, no_read_place}
-use Rattle.hdfs_cluster.proofs.Counting.{falls_beside}
+use Rattle.hdfs_cluster.proofs.Counting.{same_namenodes, NoneFalls, falls_beside}
 use Rattle.hdfs_cluster.proofs.Stills.{shown_at}
 use Rattle.hdfs_cluster.proofs.Telling.{failed_status}
 
@@ -62,7 +62,7 @@ pub awaited_on : (o : MemLink) (write : OpenWrite) → write_told (Some o) ≡ S
 awaited_on (links.Write v) write is some = awaited v write (write_told (Some (links.Write v))) refl is some
 awaited_on (links.Read v) write is some = absurd (cc)
 
-module _ (space : Namespace) (settings : MemSettings) (last : LastAnswer) (failures : ℕ) (loaded : List Line) (faults faults' : FaultPlan) (fall : NeverFall (counts_of faults) (counts_of faults')) (nodes : Datanodes) (s s' : Slab MemLink) (link : ℕ) (slot : Option MemLink) (there : IsSome (write_told (slab.get s link))) (updates : Updates s s' link slot) (told_none : read_told slot ≡ None) (place_none : read_place slot ≡ None) where
+module _ (space : Namespace) (settings : MemSettings) (last : LastAnswer) (failures : ℕ) (loaded : List Line) (faults faults' : FaultPlan) (fall : NoneFalls faults faults') (nodes : Datanodes) (s s' : Slab MemLink) (link : ℕ) (slot : Option MemLink) (there : IsSome (write_told (slab.get s link))) (updates : Updates s s' link slot) (told_none : read_told slot ≡ None) (place_none : read_place slot ≡ None) where
   abbrev old : Shown
   old = shown_at space settings last failures loaded faults nodes s
 
@@ -88,7 +88,7 @@ module _ (space : Namespace) (settings : MemSettings) (last : LastAnswer) (failu
     only = record {
       later = record { counts = falls_beside settings failures faults faults' fall; namenodes = refl; loaded = refl };
       last = refl;
-      calls = λ i. refl;
+      calls = same_namenodes settings failures faults faults' fall.asks;
       reads = slot_stays (λ l. read_told) s s' link (slab.get s link) slot refl updates (told_none ∙ sym (no_read (slab.get s link) there));
       places = λ l is. quiet_writes.records.reads l;
     };
@@ -245,8 +245,8 @@ module _ (link : ℕ) (ack : Ack) (faults faults' : FaultPlan) (v w : MemWrite) 
   pub acked_nodes : (d : List ℕ) → node_faults_of faults' d ≡ node_faults_of faults d + failures d (uuids v.setup.locs) ack.replies
   acked_nodes d = h.takes.nodes d ∙ h.tells.nodes d
 
-  pub acked_falls : NeverFall (counts_of faults) (counts_of faults')
-  acked_falls = record { calls = λ i. omega arith; links = omega (arith, acked_links); nodes = λ d. omega (arith, acked_nodes d) }
+  pub acked_falls : NoneFalls faults faults'
+  acked_falls = record { asks = λ i. h.takes.asks i ∙ h.tells.asks i; links = omega (arith, acked_links); nodes = λ d. omega (arith, acked_nodes d) }
 
   pub acked_replies : length ack.replies ≡ length v.setup.locs
   acked_replies = h.tells.len ∙ length_uuids v.setup.locs

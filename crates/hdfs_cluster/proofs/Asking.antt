@@ -17,7 +17,6 @@ use Rattle.hdfs_model.specs.declared.picture.OpenWrite.{OpenWrite}
 use Rattle.hdfs_model.specs.declared.store.Line.{Line}
 use Rattle.hdfs_model.specs.declared.store.LinkKind.{LinkKind}
 use Rattle.hdfs_model.specs.declared.store.LinkKind.TheVariants as kinds
-use Rattle.hdfs_model.specs.Counts.{NeverFall}
 use Rattle.hdfs_model.specs.Sending.{seqno_of, uuids}
 use Rattle.hdfs_faults.specs.declared.fault_plan.FaultPlan.{FaultPlan}
 use Rattle.hdfs_faults.specs.declared.node_plan.NodeCall.TheVariants as calls
@@ -35,12 +34,11 @@ use Rattle.hdfs_cluster.specs.Counting.{AsksAck, AsksSend, AsksSetUp, CanCount, 
 use Rattle.hdfs_cluster.specs.Failures.{failure_of, is_broken, is_counted, planned_failure}
 use Rattle.hdfs_cluster.specs.Links.{write_told, OnWrites, AckedOn, AreEarlier, SendsOn, among, first_uuid}
 use Rattle.hdfs_cluster.specs.Lines.{line_of}
-use Rattle.hdfs_cluster.specs.MemShown.{counts_of}
 use Rattle.hdfs_replicas.specs.Nodes.{SameNodes, node_at}
 use Rattle.hdfs_cluster.specs.Telling.{TellsAll, times}
 use Rattle.hdfs_cluster.specs.Writes.{told_of}
 use Rattle.hdfs_cluster.proofs.Acknowledging.{acked_falls, acked_links, acked_nodes, acked_replies, one_of, rest_due}
-use Rattle.hdfs_cluster.proofs.Counting.{SameCalls, at_once, calls_node, calls_nothing, falls_counts, falls_same, nodes_stay, one_more}
+use Rattle.hdfs_cluster.proofs.Counting.{NoneFalls, SameCalls, at_once, calls_node, calls_nothing, falls_counts, falls_same, nodes_stay, one_more}
 use Rattle.hdfs_cluster.proofs.Earlier.{written_earlier}
 
 -- what a packet that was sent counts, whether it broke or not
@@ -205,6 +203,7 @@ module _ (m m' : MemCluster) (link : ℕ) (ack : Ack) (v w : MemWrite) (h : Acke
         h.tells.exact i d within is there room ∙ ap one_if (as_lines (acks_of d) n there later));
     others = λ s apart. h.takes.calls s ∙ h.tells.others s apart;
     nodes = acked_nodes link ack m.faults m'.faults v w h;
+    asks = λ i. h.takes.asks i ∙ h.tells.asks i;
     there = λ d. h.takes.plans.there d ∙ h.tells.there d;
   }
 
@@ -276,13 +275,13 @@ acks_follow_on P link (Ok ack) faults faults' loaded o o' ok err was = acks_foll
 acks_follow_on P link (Err e) faults faults' loaded o o' ok err was = subst (λ (p : FaultPlan). Follows p loaded) (sym err.1) was
 
 -- no count falls where a packet was sent
-sends_fall : (link : ℕ) (packet : Outgoing) (broke : Bool) (nodes nodes' : Datanodes) (faults faults' : FaultPlan) (o o' : MemLink) → OnWrites (λ v w. SendsOn link packet broke (among nodes faults v) (among nodes' faults' w)) o o' → NeverFall (counts_of faults) (counts_of faults')
+sends_fall : (link : ℕ) (packet : Outgoing) (broke : Bool) (nodes nodes' : Datanodes) (faults faults' : FaultPlan) (o o' : MemLink) → OnWrites (λ v w. SendsOn link packet broke (among nodes faults v) (among nodes' faults' w)) o o' → NoneFalls faults faults'
 sends_fall link packet broke nodes nodes' faults faults' (links.Write v) (links.Write w) h = falls_counts faults faults' (sends_to (first_uuid v)) broke (sends_counts link packet broke nodes nodes' faults faults' v w h)
 sends_fall link packet broke nodes nodes' faults faults' (links.Write v) (links.Read w) h = absurd h
 sends_fall link packet broke nodes nodes' faults faults' (links.Read v) (links.Read w) h = absurd h
 sends_fall link packet broke nodes nodes' faults faults' (links.Read v) (links.Write w) h = absurd h
 
-acks_fall : (link : ℕ) (ack : Ack) (faults faults' : FaultPlan) (o o' : MemLink) → OnWrites (AckedOn link ack faults faults') o o' → NeverFall (counts_of faults) (counts_of faults')
+acks_fall : (link : ℕ) (ack : Ack) (faults faults' : FaultPlan) (o o' : MemLink) → OnWrites (AckedOn link ack faults faults') o o' → NoneFalls faults faults'
 acks_fall link ack faults faults' (links.Write v) (links.Write w) h = acked_falls link ack faults faults' v w h
 acks_fall link ack faults faults' (links.Write v) (links.Read w) h = absurd h
 acks_fall link ack faults faults' (links.Read v) (links.Read w) h = absurd h

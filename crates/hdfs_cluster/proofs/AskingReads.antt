@@ -45,6 +45,7 @@ under_test true o apart is = apart is
 under_test false o apart is = cc
 
 fault_never : (d : List ℕ) (nth : ℕ) (fault : FaultLine) → packet_kind_of_line d nth (lines.Fault fault) ≢ refused
+fault_never d nth (lines_of.Ask i n kind) = under_test (is_fault_at (reads_of d) nth (lines_of.Ask i n kind)) None (λ is. (cc))
 fault_never d nth (lines_of.Link n kind) = under_test (is_fault_at (reads_of d) nth (lines_of.Link n kind)) None (λ is. (cc))
 fault_never d nth (lines_of.AckOf node n) = under_test (is_fault_at (reads_of d) nth (lines_of.AckOf node n)) None (λ is. (cc))
 fault_never d nth (lines_of.SendTo node n) = under_test (is_fault_at (reads_of d) nth (lines_of.SendTo node n)) None (λ is. (cc))

@@ -1,5 +1,5 @@
 -- What a counted call does to the counts of a cluster, and which of them fail.
-use Rattle.std.proofs.Common.{◌≡◌, ◌≢◌, ℕ, ◌+◌, ◌^◌, ◌<◌, ◌≤◌, Bool, true, false, ◌&&◌, List, Option, Some, None, is_some, map, refl, sym, ◌∙◌, ap, subst, arith}
+use Rattle.std.proofs.Common.{◌≡◌, ◌≢◌, ℕ, ◌+◌, ◌-◌, ◌^◌, ◌<◌, ◌≤◌, min, nat_lt, Bool, true, false, ◌&&◌, if◌then◌else◌, List, Option, Some, None, is_some, map, refl, sym, ◌∙◌, ap, subst, arith}
 use Rattle.std.proofs.lemmas.Bool.{false≢true}
 use Rattle.std.proofs.lemmas.Slice.Eq.{bytes_eq-Decides}
 use Rattle.std.specs.Str.{bytes_eq}
@@ -12,7 +12,7 @@ use Rattle.hdfs_model.specs.Counts.{NeverFall, Rose}
 use Rattle.hdfs_faults.specs.declared.fault_plan.FaultPlan.{FaultPlan}
 use Rattle.hdfs_faults.specs.declared.node_plan.NodeCall.{NodeCall}
 use Rattle.hdfs_faults.specs.Calls.{after_one, is_at_once, one_if}
-use Rattle.hdfs_faults.specs.Plans.{AddsNodes, Counts, Forgets, PlansFault, SamePlan, SetsUp, calls_of, has_node, is_bad, link_faults_of, node_faults_of}
+use Rattle.hdfs_faults.specs.Plans.{AddsNodes, Counts, Forgets, PlansFault, SameAskFaults, SamePlan, SetsUp, calls_of, has_node, is_bad, link_faults_of, node_faults_of}
 use Rattle.hdfs_faults.specs.Series.{Series, CallsOf, is_of, link_fault_count, node_fault_count}
 use Rattle.hdfs_faults.proofs.Bounds.{link_faults-le, node_faults-le}
 use Rattle.hdfs_faults.proofs.Following.{next_follows}
@@ -20,19 +20,29 @@ use Rattle.hdfs_cluster.specs.declared.mem_cluster.MemCluster.{MemCluster}
 use Rattle.hdfs_cluster.specs.Counting.{CallsNode, CountsNothing}
 use Rattle.hdfs_cluster.specs.Failures.{planned_failure}
 use Rattle.hdfs_cluster.specs.Lines.{line_of}
-use Rattle.hdfs_cluster.specs.MemShown.{HasNodesOf, counts_at, counts_of, shown_of}
+use Rattle.hdfs_cluster.specs.MemShown.{HasNodesOf, counts_at, failed_calls, namenode_faults, shown_of}
 use Rattle.hdfs_replicas.specs.Nodes.{SameNodes}
 
-pub falls_refl : (plan : FaultPlan) → NeverFall (counts_of plan) (counts_of plan)
-falls_refl plan = record { calls = λ i. omega arith; links = omega arith; nodes = λ d. omega arith }
+-- no count of a plan fell, and those of the namenodes stay
+pub record NoneFalls (old new : FaultPlan) : Type 0 where
+  pub asks : SameAskFaults old new
+  pub links : link_faults_of old ≤ link_faults_of new
+  pub nodes : (d : List ℕ) → node_faults_of old d ≤ node_faults_of new d
+
+pub falls_refl : (plan : FaultPlan) → NoneFalls plan plan
+falls_refl plan = record { asks = λ i. refl; links = omega arith; nodes = λ d. omega arith }
+
+-- the counts of the namenodes stay with those of the plan
+pub same_namenodes : (settings : MemSettings) (calls : ℕ) (old new : FaultPlan) → SameAskFaults old new → (i : ℕ) → namenode_faults settings calls new i ≡ namenode_faults settings calls old i
+same_namenodes settings calls old new same i = ap (λ (n : ℕ). if nat_lt i settings.namenodes then min (n + failed_calls settings calls i) (2 ^ 64 - 1) else 0) (same i)
 
 -- beside the counts of the namenodes, which stay
-pub falls_beside : (settings : MemSettings) (calls : ℕ) (old new : FaultPlan) → NeverFall (counts_of old) (counts_of new) → NeverFall (counts_at settings calls old) (counts_at settings calls new)
-falls_beside settings calls old new fall = record { calls = λ i. omega arith; links = fall.links; nodes = fall.nodes }
+pub falls_beside : (settings : MemSettings) (calls : ℕ) (old new : FaultPlan) → NoneFalls old new → NeverFall (counts_at settings calls old) (counts_at settings calls new)
+falls_beside settings calls old new fall = record { calls = λ i. omega (arith, same_namenodes settings calls old new fall.asks i); links = fall.links; nodes = fall.nodes }
 
 -- a call of a datanode
-pub falls_counts : (old new : FaultPlan) (series : Series) (fails : Bool) → Counts old series fails new → NeverFall (counts_of old) (counts_of new)
-falls_counts old new series fails h = record { calls = λ i. omega arith; links = omega (arith, h.links.faults); nodes = λ d. omega (arith, h.nodes d) }
+pub falls_counts : (old new : FaultPlan) (series : Series) (fails : Bool) → Counts old series fails new → NoneFalls old new
+falls_counts old new series fails h = record { asks = h.asks; links = omega (arith, h.links.faults); nodes = λ d. omega (arith, h.nodes d) }
 
 own_adds : (fails : Bool) (call : NodeCall) (u : List ℕ) → one_if (fails && is_of u (CallsOf call u)) ≡ one_if fails
 own_adds true call u = ap one_if ((bytes_eq-Decides u u).1 refl)
@@ -54,26 +64,26 @@ pub rose_counts : (old new : FaultPlan) (call : NodeCall) (u : List ℕ) → Cou
 rose_counts old new call u h = omega (arith, own_count old new call u true h)
 
 -- the set-up of a pipeline
-pub falls_set_up : (old new : FaultPlan) (link : ℕ) (kind : Option LinkKind) → SetsUp old link kind new → NeverFall (counts_of old) (counts_of new)
-falls_set_up old new link kind h = record { calls = λ i. omega arith; links = omega (arith, h.faults); nodes = λ d. omega (arith, h.nodes d) }
+pub falls_set_up : (old new : FaultPlan) (link : ℕ) (kind : Option LinkKind) → SetsUp old link kind new → NoneFalls old new
+falls_set_up old new link kind h = record { asks = h.asks; links = omega (arith, h.faults); nodes = λ d. omega (arith, h.nodes d) }
 
-pub falls_end : (old new : FaultPlan) (link : ℕ) → Forgets old link new → NeverFall (counts_of old) (counts_of new)
-falls_end old new link h = record { calls = λ i. omega arith; links = omega (arith, h.faults); nodes = λ d. omega (arith, h.nodes d) }
+pub falls_end : (old new : FaultPlan) (link : ℕ) → Forgets old link new → NoneFalls old new
+falls_end old new link h = record { asks = h.asks; links = omega (arith, h.faults); nodes = λ d. omega (arith, h.nodes d) }
 
-pub falls_same : (old new : FaultPlan) → new ≡ old → NeverFall (counts_of old) (counts_of new)
-falls_same old new same = subst (λ (p : FaultPlan). NeverFall (counts_of old) (counts_of p)) (sym same) (falls_refl old)
+pub falls_same : (old new : FaultPlan) → new ≡ old → NoneFalls old new
+falls_same old new same = subst (λ (p : FaultPlan). NoneFalls old p) (sym same) (falls_refl old)
 
-pub falls_same_plan : (old new : FaultPlan) → SamePlan old new → NeverFall (counts_of old) (counts_of new)
-falls_same_plan old new h = record { calls = λ i. omega arith; links = omega (arith, h.links.faults); nodes = λ d. omega (arith, h.nodes d) }
+pub falls_same_plan : (old new : FaultPlan) → SamePlan old new → NoneFalls old new
+falls_same_plan old new h = record { asks = h.asks; links = omega (arith, h.links.faults); nodes = λ d. omega (arith, h.nodes d) }
 
-pub falls_fault : (old new : FaultPlan) (fault : FaultLine) → PlansFault old fault new → NeverFall (counts_of old) (counts_of new)
-falls_fault old new fault h = record { calls = λ i. omega arith; links = omega (arith, h.links.faults); nodes = λ d. omega (arith, h.nodes d) }
+pub falls_fault : (old new : FaultPlan) (fault : FaultLine) → PlansFault old fault new → NoneFalls old new
+falls_fault old new fault h = record { asks = h.asks; links = omega (arith, h.links.faults); nodes = λ d. omega (arith, h.nodes d) }
 
-pub falls_adds : (old new : FaultPlan) → AddsNodes old new → NeverFall (counts_of old) (counts_of new)
-falls_adds old new h = record { calls = λ i. omega arith; links = omega (arith, h.links.faults); nodes = λ d. omega (arith, h.nodes d) }
+pub falls_adds : (old new : FaultPlan) → AddsNodes old new → NoneFalls old new
+falls_adds old new h = record { asks = h.asks; links = omega (arith, h.links.faults); nodes = λ d. omega (arith, h.nodes d) }
 
-pub falls_trans : (a b c : FaultPlan) → NeverFall (counts_of a) (counts_of b) → NeverFall (counts_of b) (counts_of c) → NeverFall (counts_of a) (counts_of c)
-falls_trans a b c f g = record { calls = λ i. omega arith; links = omega (arith, f.links, g.links); nodes = λ d. omega (arith, f.nodes d, g.nodes d) }
+pub falls_trans : (a b c : FaultPlan) → NoneFalls a b → NoneFalls b c → NoneFalls a c
+falls_trans a b c f g = record { asks = λ i. g.asks i ∙ f.asks i; links = omega (arith, f.links, g.links); nodes = λ d. omega (arith, f.nodes d, g.nodes d) }
 
 -- how it fails is seen at once
 pub at_once : (kind : Option LinkKind) → is_some (planned_failure kind) ≡ is_at_once kind

@@ -5,21 +5,24 @@ use Rattle.slab.specs.Slab as slab
 use Rattle.slab.specs.Slab.{Slab, Updates, with_value}
 use Rattle.hdfs_model.specs.declared.messages.ReadAsk.{ReadAsk}
 use Rattle.hdfs_model.specs.declared.picture.OpenRead.{OpenRead}
-use Rattle.hdfs_model.specs.Counts.{NeverFall}
 use Rattle.hdfs_faults.specs.declared.fault_plan.FaultPlan.{FaultPlan}
-use Rattle.hdfs_faults.specs.Plans.{node_faults_of}
+use Rattle.hdfs_faults.specs.Plans.{SameNodeFaults, node_faults_of}
 use Rattle.hdfs_cluster.specs.declared.mem_link.MemLink.{MemLink}
 use Rattle.hdfs_cluster.specs.declared.mem_link.MemLink.TheVariants as links
 use Rattle.hdfs_cluster.specs.declared.read_link.MemRead.{MemRead}
 use Rattle.hdfs_cluster.specs.declared.write_link.MemWrite.{MemWrite}
 use Rattle.hdfs_cluster.specs.Links.{AreEarlier, IsEarlier, OnWrites, read_told}
-use Rattle.hdfs_cluster.specs.MemShown.{counts_of}
 use Rattle.hdfs_cluster.specs.Slices.{told_for}
 use Rattle.hdfs_cluster.proofs.Places.{updates_with}
+use Rattle.hdfs_cluster.proofs.Counting.{NoneFalls}
 
 -- no link changes
-pub later_earlier : (s : Slab MemLink) (faults faults' : FaultPlan) → NeverFall (counts_of faults) (counts_of faults') → AreEarlier s faults → AreEarlier s faults'
+pub later_earlier : (s : Slab MemLink) (faults faults' : FaultPlan) → NoneFalls faults faults' → AreEarlier s faults → AreEarlier s faults'
 later_earlier s faults faults' fall was link read is = omega (arith, was link read is, fall.nodes read.ask.node.datanode_uuid)
+
+-- nor has a datanode failed
+pub counted_earlier : (s : Slab MemLink) (faults faults' : FaultPlan) → SameNodeFaults faults faults' → AreEarlier s faults → AreEarlier s faults'
+counted_earlier s faults faults' same was link read is = omega (arith, was link read is, same read.ask.node.datanode_uuid)
 
 -- each slot is what it was
 pub same_earlier : (s s' : Slab MemLink) (faults : FaultPlan) → ((l : ℕ) → slab.get s' l ≡ slab.get s l) → AreEarlier s faults → AreEarlier s' faults
@@ -51,7 +54,7 @@ no_read P faults (links.Read v) (links.Read w) h read is = absurd h
 no_read P faults (links.Read v) (links.Write w) h read is = absurd h
 
 -- a write link is written back
-pub written_earlier : (P : MemWrite → MemWrite → Type 0) (s : Slab MemLink) (faults faults' : FaultPlan) (link : ℕ) (o o' : MemLink) → slab.get s link ≡ Some o → OnWrites P o o' → NeverFall (counts_of faults) (counts_of faults')
+pub written_earlier : (P : MemWrite → MemWrite → Type 0) (s : Slab MemLink) (faults faults' : FaultPlan) (link : ℕ) (o o' : MemLink) → slab.get s link ≡ Some o → OnWrites P o o' → NoneFalls faults faults'
     → AreEarlier s faults → AreEarlier (with_value s link o') faults'
 written_earlier P s faults faults' link o o' was h fall earlier =
     changed_earlier s (with_value s link o') faults' link (Some o') (updates_with s link o o' was) (no_read P faults' o o' h) (later_earlier s faults faults' fall earlier)

@@ -1,7 +1,8 @@
 -- When a namenode of a cluster in memory has failed.
-use Rattle.std.proofs.Common.{◌≡◌, ◌≢◌, ⊎_elim, inl, inr, ℕ, ◌≤◌, ◌==◌, Bool, true, false, if◌then◌else◌, not, List, [], ◌∷◌, ◌++◌, map, Option, Some, None, Result, Ok, Err, refl, sym, ◌∙◌, ap, subst, arith, eq-eqb, ne_eqb}
+use Rattle.std.proofs.Common.{◌≡◌, ◌≢◌, ⊎_elim, inl, inr, ℕ, ◌+◌, ◌-◌, ◌^◌, ◌<◌, ◌≤◌, ◌==◌, min, nat_lt, Bool, true, false, if◌then◌else◌, not, List, [], ◌∷◌, ◌++◌, get_or, length, map, Option, Some, None, Result, Ok, Err, refl, sym, ◌∙◌, ap, subst, arith, eq-eqb, ne_eqb}
 use Rattle.std.proofs.lemmas.Bool.{false≢true, or_parts}
-use Rattle.std.proofs.lemmas.List.{map-append}
+use Rattle.std.proofs.lemmas.Bool.Decides.{nat_tests}
+use Rattle.std.proofs.lemmas.List.{get_or_past, map-append}
 use Rattle.std.proofs.lemmas.List.Folds.{list_any-append}
 use Rattle.std.specs.List.{list_any}
 use Rattle.std.specs.Str.{bytes_eq}
@@ -13,13 +14,16 @@ use Rattle.hdfs_model.specs.declared.asks.AskFault.TheVariants as faults
 use Rattle.hdfs_model.specs.declared.messages.Block.{Block}
 use Rattle.hdfs_model.specs.declared.messages.DatanodeInfo.{DatanodeInfo}
 use Rattle.hdfs_model.specs.declared.mem_settings.MemSettings.{MemSettings}
+use Rattle.hdfs_model.specs.declared.store.AskKind.{AskKind}
 use Rattle.hdfs_model.specs.declared.store.Line.{Line}
-use Rattle.hdfs_model.specs.Counts.{Rose}
 use Rattle.hdfs_model.specs.Files.{Kind, Directory, ClosedFile, OpenFile, NoFile, NotDirectory, Missing, NotFile}
 use Rattle.hdfs_model.specs.Namenode.{IsRefusal, StandsForAny, StandsForRefusal, class_for, class_in_the_way}
 use Rattle.hdfs_model.specs.Picture.{Picture}
 use Rattle.hdfs_model.specs.Refusals.{Refusal, BadPath, WrongState, Exists, Lacks, BadRange}
-use Rattle.hdfs_faults.specs.Series.{is_fault}
+use Rattle.hdfs_faults.specs.declared.fault_plan.FaultPlan.{FaultPlan}
+use Rattle.hdfs_faults.specs.Plans.{SameAskFaults, ask_faults_of}
+use Rattle.hdfs_faults.specs.Series.{AsksOf, ask_fault_count, is_fault}
+use Rattle.hdfs_faults.proofs.Bounds.{ask_faults-le, no_faults}
 use Rattle.hdfs_cluster.specs.declared.loaded.Kept.{Kept}
 use Rattle.hdfs_cluster.specs.declared.mem_cluster.MemCluster.{MemCluster}
 use Rattle.hdfs_namespace.specs.Answering.{Answers}
@@ -27,10 +31,10 @@ use Rattle.hdfs_namespace.specs.Pipelines.{AreBarred, IsOfOpen, is_barred}
 use Rattle.hdfs_namespace.proofs.Answering.{same_picture}
 use Rattle.hdfs_cluster.specs.Lines.{NeedsFault, line_of}
 use Rattle.hdfs_cluster.specs.Laws.{nil_from_test}
-use Rattle.hdfs_cluster.specs.MemShown.{failed_calls, is_fresh_of, shown_of}
+use Rattle.hdfs_cluster.specs.MemShown.{failed_calls, is_fresh_of, namenode_faults, picture_of, shown_of}
 use Rattle.hdfs_model.proofs.Loads.{and_parts}
 use Rattle.hdfs_namespace.specs.Memory.{is_nil}
-use Rattle.hdfs_cluster.specs.Responding.{Fails, LacksDatanode, Responds, StandsForNone, failed_after, io_exception, is_failure}
+use Rattle.hdfs_cluster.specs.Responding.{AskComesTo, Fails, LacksDatanode, Responds, StandsForNone, failed_after, io_exception, is_failure, own_failure}
 
 -- the class of an exception that stands for a refusal is another
 class_for_no_file : (why : NoFile) → bytes_eq (class_for why) io_exception ≡ false
@@ -77,6 +81,9 @@ answers_fine p q i ask (Err (faults.Exception class message)) h =
     (λ other. same_class class _ other.1 refl)
     (λ here. ⊎_elim (class_for_refusal p ask class) (λ stray. same_class class _ stray.1 refl) here.1)
     h.2
+answers_fine p q i ask (Err faults.Broken) h = refl
+answers_fine p q i ask (Err (faults.BadReply fault)) h = refl
+answers_fine p q i ask (Err (faults.Fatal class message)) h = refl
 
 pub fails_so : (loaded : List Line) (count : ℕ) (p q : Picture) (i : ℕ) (ask : Ask) (result : Result Answer AskFault) → Fails loaded count p i ask result q → is_failure result ≡ true
 fails_so loaded count p q i ask result h = ap is_failure h.is
@@ -102,6 +109,9 @@ lacks_datanode p src text is_text block client existing excludes number ids coun
 pub responds_none : (loaded : List Line) (count : ℕ) (p : Picture) (i : ℕ) (ask : Ask) → i ≡ p.active → LacksDatanode count p ask → (fault : AskFault) → StandsForNone loaded fault → Responds loaded count p i ask (Err fault) p
 responds_none loaded count p i ask here lacks faults.NoMemory stands = inl (same_picture p)
 responds_none loaded count p i ask here lacks (faults.Exception class message) stands = inr (record { here = here; lacks = lacks; planned = stands.0; is = cc (stands.1, stands.2); same = same_picture p })
+responds_none loaded count p i ask here lacks faults.Broken stands = absurd stands
+responds_none loaded count p i ask here lacks (faults.BadReply fault) stands = absurd stands
+responds_none loaded count p i ask here lacks (faults.Fatal class message) stands = absurd stands
 
 -- the count of the active namenode, and that of another one
 at_active : (settings : MemSettings) (calls i : ℕ) → i ≡ settings.active → failed_calls settings calls i ≡ calls
@@ -125,10 +135,7 @@ failed_more settings calls calls' more i = by_test (i == settings.active)
     by_test true = more
     by_test false = omega arith
 
--- that of the active namenode rises where it has failed
-pub failed_rose : (settings : MemSettings) (calls i : ℕ) → i ≡ settings.active → Rose (failed_calls settings calls i) (failed_calls settings (failed_after true calls) i)
-failed_rose settings calls i here = omega (arith, at_active settings calls i here, at_active settings (failed_after true calls) i here)
-
+-- that of the active namenode rises where it has failed beside what was planned
 pub failed_own : (settings : MemSettings) (failed : Bool) (calls i : ℕ) → (failed ≡ true → i ≡ settings.active) → failed_calls settings (failed_after failed calls) i ≡ failed_after failed (failed_calls settings calls i)
 failed_own settings true calls i here = at_active settings (failed_after true calls) i (here refl) ∙ sym (ap (failed_after true) (at_active settings calls i (here refl)))
 failed_own settings false calls i here = refl
@@ -150,22 +157,62 @@ unfailed_push items items' kept calls same was none =
     (sym (list_any-append is_fault (map line_of items) (line_of kept ∷ [])) ∙ ap (list_any is_fault) (sym (ap (map line_of) same ∙ map-append line_of items (kept ∷ []))) ∙ none)).0
 
 -- an ask
-pub unfailed_after : (loaded : List Line) (count : ℕ) (p q : Picture) (i : ℕ) (ask : Ask) (result : Result Answer AskFault) → Responds loaded count p i ask result q
-    → (calls calls' : ℕ) → calls' ≡ failed_after (is_failure result) calls → NeedsFault loaded calls → NeedsFault loaded calls'
-unfailed_after loaded count p q i ask result responds calls calls' counted was none =
-    counted ∙ by_test (is_failure result) (λ failed. false≢true (sym none ∙ (fails_if loaded count p q i ask result responds failed).planned))
+pub unfailed_after : (loaded : List Line) (count : ℕ) (kind : Option AskKind) (p q : Picture) (i : ℕ) (ask : Ask) (result : Result Answer AskFault) → AskComesTo loaded count kind p i ask result q
+    → (calls calls' : ℕ) → calls' ≡ failed_after (own_failure kind result) calls → NeedsFault loaded calls → NeedsFault loaded calls'
+unfailed_after loaded count (Some kind) p q i ask result comes calls calls' counted was none = counted ∙ was none
+unfailed_after loaded count None p q i ask result comes calls calls' counted was none =
+    counted ∙ by_test (is_failure result) (λ failed. false≢true (sym none ∙ (fails_if loaded count p q i ask result comes failed).planned))
   where
     by_test : (b : Bool) → (b ≡ true → ⊥) → failed_after b calls ≡ 0
     by_test true never = absurd (never refl)
     by_test false never = was none
 
+-- a namenode that has not failed as it was planned to, nor beside that
+pub no_namenode_faults : (settings : MemSettings) (calls : ℕ) (plan : FaultPlan) (i : ℕ) → ask_faults_of plan i ≡ 0 → calls ≡ 0 → namenode_faults settings calls plan i ≡ 0
+no_namenode_faults settings calls plan i unplanned none = by_test (nat_lt i settings.namenodes)
+  where
+    by_test : (b : Bool) → (if b then min (ask_faults_of plan i + failed_calls settings calls i) (2 ^ 64 - 1) else 0) ≡ 0
+    by_test true = omega (arith, unplanned, no_calls settings calls none i)
+    by_test false = refl
+
+-- none has failed as it was planned to before a fault was loaded
+none_planned : (m : MemCluster) → list_any is_fault (map line_of m.loaded.items) ≡ false → (i : ℕ) → ask_faults_of m.faults i ≡ 0
+none_planned m none i = omega (arith, ask_faults-le m.faults (map line_of m.loaded.items) m.follows i, no_faults (map line_of m.loaded.items) (AsksOf i) none)
+
 -- no namenode has failed before a fault was loaded
 pub calls_planned : (m : MemCluster) (i : ℕ) → NeedsFault (shown_of m).loaded.lines ((shown_of m).counts.calls i)
-calls_planned m i none = no_calls m.config.settings m.calls (m.unfailed none) i
+calls_planned m i none = no_namenode_faults m.config.settings m.calls m.faults i (none_planned m none i) (m.unfailed none)
+
+-- one that isn't active has failed no more often than lines are faults of its asks
+pub asks_planned : (m : MemCluster) (i : ℕ) → i ≢ (picture_of m).active → (shown_of m).counts.calls i ≤ ask_fault_count (shown_of m).loaded.lines i
+asks_planned m i apart = by_test (nat_lt i m.config.settings.namenodes)
+  where
+    by_test : (b : Bool) → (if b then min (ask_faults_of m.faults i + failed_calls m.config.settings m.calls i) (2 ^ 64 - 1) else 0) ≤ ask_fault_count (map line_of m.loaded.items) i
+    by_test true = omega (arith, ask_faults-le m.faults (map line_of m.loaded.items) m.follows i, at_other m.config.settings m.calls i apart)
+    by_test false = omega arith
 
 -- so none has where nothing was loaded
-pub fresh_calls : (m : MemCluster) → is_fresh_of m ≡ true → (settings : MemSettings) (i : ℕ) → failed_calls settings m.calls i ≡ failed_calls m.config.settings m.calls i
-fresh_calls m fresh settings i =
+pub fresh_calls : (m : MemCluster) → is_fresh_of m ≡ true → (settings : MemSettings) (plan : FaultPlan) → SameAskFaults m.faults plan → (i : ℕ) → namenode_faults settings m.calls plan i ≡ namenode_faults m.config.settings m.calls m.faults i
+fresh_calls m fresh settings plan same i =
     let nil = nil_from_test (map line_of m.loaded.items) (and_parts (is_nil (map line_of m.loaded.items)) (not m.space.grown) fresh).0 in
-    let none : m.calls ≡ 0 = m.unfailed (ap (list_any is_fault) nil) in
-    no_calls settings m.calls none i ∙ sym (no_calls m.config.settings m.calls none i)
+    let unfaulted = ap (list_any is_fault) nil in
+    let none : m.calls ≡ 0 = m.unfailed unfaulted in
+    let before = none_planned m unfaulted i in
+    no_namenode_faults settings m.calls plan i (same i ∙ before) none ∙ sym (no_namenode_faults m.config.settings m.calls m.faults i before none)
+
+-- the counts of all namenodes, by their numbers
+pub all_at : (settings : MemSettings) (calls : ℕ) (plan : FaultPlan) (all : List ℕ) → length all ≡ settings.namenodes → ((k : ℕ) → k < settings.namenodes → get_or all k 0 ≡ namenode_faults settings calls plan k) → (i : ℕ) → get_or all i 0 ≡ namenode_faults settings calls plan i
+all_at settings calls plan all len each i = by_test (nat_lt i settings.namenodes) refl
+  where
+    by_test : (b : Bool) → nat_lt i settings.namenodes ≡ b → get_or all i 0 ≡ namenode_faults settings calls plan i
+    by_test true is = each i (grind (arith, nat_tests))
+    by_test false is =
+        let past : settings.namenodes ≤ i = grind (arith, nat_tests) in
+        get_or_past all i 0 (omega (arith, len, past))
+        ∙ sym (ap (λ (b : Bool). if b then min (ask_faults_of plan i + failed_calls settings calls i) (2 ^ 64 - 1) else 0) is)
+
+-- one more of them
+pub one_at : (settings : MemSettings) (calls : ℕ) (plan : FaultPlan) (i n : ℕ) → i < settings.namenodes → n ≡ min (ask_faults_of plan i + failed_calls settings calls i) (2 ^ 64 - 1) → n ≡ namenode_faults settings calls plan i
+one_at settings calls plan i n below is =
+    let there : nat_lt i settings.namenodes ≡ true = grind (arith, nat_tests) in
+    is ∙ sym (ap (λ (b : Bool). if b then min (ask_faults_of plan i + failed_calls settings calls i) (2 ^ 64 - 1) else 0) there)

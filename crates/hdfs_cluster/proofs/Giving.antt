@@ -21,7 +21,7 @@ use Rattle.hdfs_faults.specs.declared.node_plan.NodeCall.TheVariants as calls
 use Rattle.hdfs_faults.specs.Calls.{one_if}
 use Rattle.hdfs_faults.specs.Plans.{Counts, node_faults_of}
 use Rattle.hdfs_faults.specs.Series.{opens_of, reads_of}
-use Rattle.hdfs_model.specs.Counts.{NeverFall, Rose}
+use Rattle.hdfs_model.specs.Counts.{Rose}
 use Rattle.hdfs_model.specs.Picture.{Picture}
 use Rattle.hdfs_model.specs.Reading.{Gives, IsHonest, IsSlice, ReadsAt, placed_at}
 use Rattle.hdfs_model.specs.Shown.{Shown, Opened, NotOpened, Given, NotGiven, Ended, HasFailedSince}
@@ -31,11 +31,11 @@ use Rattle.hdfs_cluster.specs.declared.read_link.MemRead.{MemRead}
 use Rattle.hdfs_cluster.specs.declared.mem_link.MemLink.{MemLink}
 use Rattle.hdfs_cluster.specs.declared.mem_link.MemLink.TheVariants as links
 use Rattle.hdfs_cluster.specs.Links.{read_told, read_place, write_told, write_place, AreEarlier, GaveOn, GivesOn, IsEarlier, SameRead, next_of, node_of}
-use Rattle.hdfs_cluster.specs.MemShown.{counts_of, picture_at}
+use Rattle.hdfs_cluster.specs.MemShown.{picture_at}
 use Rattle.hdfs_cluster.specs.Slices.{crc32c_for, place_for, told_for}
 use Rattle.hdfs_replicas.specs.Nodes.{held_in, SameHeld}
 use Rattle.hdfs_replicas.proofs.Pipelines.{same_held_refl}
-use Rattle.hdfs_cluster.proofs.Counting.{falls_beside, falls_counts, falls_refl, falls_same, own_count, rose_counts}
+use Rattle.hdfs_cluster.proofs.Counting.{NoneFalls, falls_beside, falls_counts, falls_refl, falls_same, own_count, rose_counts}
 use Rattle.hdfs_cluster.proofs.Earlier.{changed_earlier, later_earlier, told_earlier}
 use Rattle.hdfs_cluster.proofs.Places.{slot_stays, no_write, no_write_place}
 use Rattle.hdfs_cluster.proofs.AskingReads.{counted_packet}
@@ -44,7 +44,7 @@ use Rattle.hdfs_cluster.proofs.Stills.{shown_at, still_later, still_files, still
 
 -- a read was opened
 pub opened_read : (space : Namespace) (settings : MemSettings) (last : LastAnswer) (failures : ℕ) (loaded : List Line) (faults faults' : FaultPlan) (nodes nodes' : Datanodes) (s s' : Slab MemLink) (link : ℕ) (v : MemRead) (ask : ReadAsk)
-    → NeverFall (counts_of faults) (counts_of faults') → SameHeld nodes nodes' → slab.get s link ≡ None → Updates s s' link (Some (links.Read v)) → v.told ≡ told_for ask (node_faults_of faults ask.node.datanode_uuid) v.chunk
+    → NoneFalls faults faults' → SameHeld nodes nodes' → slab.get s link ≡ None → Updates s s' link (Some (links.Read v)) → v.told ≡ told_for ask (node_faults_of faults ask.node.datanode_uuid) v.chunk
     → (base : List ℕ) → v.place ≡ place_for ask base v.place.place → base ≡ held_in nodes ask.node.datanode_uuid ask.block.block_id → v.place.place ≤ ask.offset
     → Opened (shown_at space settings last failures loaded faults nodes s) ask link (shown_at space settings last failures loaded faults' nodes' s')
 opened_read space settings last failures loaded faults faults' nodes nodes' s s' link v ask fall held vacant updates told base is holds behind =
@@ -179,7 +179,7 @@ module _ (space : Namespace) (settings : MemSettings) (last : LastAnswer) (failu
     }
 
   -- none was
-  module _ (fault : LinkFault) (same : SameRead v w) (fall : NeverFall (counts_of faults) (counts_of faults')) where
+  module _ (fault : LinkFault) (same : SameRead v w) (fall : NoneFalls faults faults') where
     gave_none : fault ≢ link_faults.Refused → (fault ≡ link_faults.Broken → Rose (node_faults_of faults (node_of v)) (node_faults_of faults' (node_of v))) → NotGiven old link fault new
     gave_none not_refused cause =
         not_given space settings last failures loaded faults faults' fall nodes nodes s s' (same_held_refl nodes) (links_from_read s s' link v w was updates same.told same.place) link fault not_refused
@@ -198,7 +198,7 @@ module _ (space : Namespace) (settings : MemSettings) (last : LastAnswer) (failu
       gave_none link_faults.Broken h.0 (falls_counts faults faults' (reads_of (node_of v)) true failed) (λ is. (cc)) (λ is. rose_counts faults faults' calls.Read (node_of v) failed)
   gives_none (Err link_faults.Refused) h = absurd h
 
-  told_after : w.told ≡ v.told → NeverFall (counts_of faults) (counts_of faults') → AreEarlier s' faults'
+  told_after : w.told ≡ v.told → NoneFalls faults faults' → AreEarlier s' faults'
   told_after same fall =
       changed_earlier s s' faults' link (Some (links.Read w)) updates (told_earlier faults' w (subst (IsEarlier faults') (sym same) (later_earlier s faults faults' fall earlier link v.told (ap read_told was))))
       (later_earlier s faults faults' fall earlier)

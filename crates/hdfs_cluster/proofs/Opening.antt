@@ -101,3 +101,6 @@ module _ (space space' : Namespace) (nodes nodes' : Datanodes) (settings : MemSe
     answers_not_appended (faults.Exception class message) excused same =
         subst (λ (s : List ℕ). Answers p i (asks.Append s client flag) (Err (faults.Exception class message)) q) is
         (excused.1, same_space same, inr (here, inl excused.0))
+    answers_not_appended faults.Broken excused same = absurd excused
+    answers_not_appended (faults.BadReply fault) excused same = absurd excused
+    answers_not_appended (faults.Fatal class message) excused same = absurd excused

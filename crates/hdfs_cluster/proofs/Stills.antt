@@ -10,7 +10,7 @@ use Rattle.hdfs_model.specs.declared.mem_settings.MemSettings.{MemSettings}
 use Rattle.hdfs_model.specs.declared.picture.LastAnswer.{LastAnswer}
 use Rattle.hdfs_model.specs.declared.store.Line.{Line}
 use Rattle.hdfs_model.specs.Picture.{Picture, SameFiles, SamePicture}
-use Rattle.hdfs_model.specs.Counts.{NeverFall, Rose}
+use Rattle.hdfs_model.specs.Counts.{Rose}
 use Rattle.hdfs_model.specs.Pipes.{OnlyWrites, WritesLink, NotSent, NotAcknowledged, nodes_of}
 use Rattle.hdfs_model.specs.Sending.{WritePlace, MovesOn, StaysHeld, uuids}
 use Rattle.hdfs_model.specs.Writing.{MayBeBehind, Sends, WritesAt}
@@ -25,10 +25,10 @@ use Rattle.hdfs_cluster.specs.declared.mem_link.MemLink.TheVariants as links
 use Rattle.hdfs_cluster.specs.declared.read_link.MemRead.{MemRead}
 use Rattle.hdfs_cluster.specs.declared.write_link.MemWrite.{MemWrite}
 use Rattle.hdfs_cluster.specs.Links.{read_told, read_place, write_told, write_place, OnWrites, UnsentOn, UnackedOn, first_uuid}
-use Rattle.hdfs_cluster.specs.MemShown.{picture_at, loaded_at, counts_of, counts_at}
+use Rattle.hdfs_cluster.specs.MemShown.{picture_at, loaded_at, counts_at}
 use Rattle.hdfs_cluster.specs.Writes.{place_of, told_of}
 use Rattle.hdfs_replicas.specs.Nodes.{SameHeld}
-use Rattle.hdfs_cluster.proofs.Counting.{falls_beside}
+use Rattle.hdfs_cluster.proofs.Counting.{same_namenodes, NoneFalls, falls_beside}
 use Rattle.hdfs_cluster.proofs.Places.{slot_stays, place_same, told_kept, place_kept}
 
 -- what a cluster with these parts shows
@@ -91,7 +91,7 @@ links_unacked s s' link (links.Write v) (links.Read w) was updates h = absurd h
 links_unacked s s' link (links.Read v) (links.Read w) was updates h = absurd h
 links_unacked s s' link (links.Read v) (links.Write w) was updates h = absurd h
 
-module _ (space : Namespace) (settings : MemSettings) (last : LastAnswer) (failures : ℕ) (loaded : List Line) (faults faults' : FaultPlan) (fall : NeverFall (counts_of faults) (counts_of faults')) (nodes nodes' : Datanodes) (s s' : Slab MemLink) where
+module _ (space : Namespace) (settings : MemSettings) (last : LastAnswer) (failures : ℕ) (loaded : List Line) (faults faults' : FaultPlan) (fall : NoneFalls faults faults') (nodes nodes' : Datanodes) (s s' : Slab MemLink) where
   abbrev old : Shown
   old = shown_at space settings last failures loaded faults nodes s
 
@@ -119,7 +119,7 @@ module _ (space : Namespace) (settings : MemSettings) (last : LastAnswer) (failu
       still_picture = record { rest = record { files = still_files; reads = same.read_places; writes = λ l. still_place l (slab.get s' l) ∙ same.write_places nodes l }; active = refl }
 
       only : OnlyWrites old new
-      only = record { later = still_later; last = refl; calls = λ i. refl; reads = same.reads; places = λ l is. same.read_places l }
+      only = record { later = still_later; last = refl; calls = same_namenodes settings failures faults faults' fall.asks; reads = same.reads; places = λ l is. same.read_places l }
 
       still_link : (link : ℕ) → WritesLink link old new
       still_link link = record { only = only; others = λ l apart. same.writes l; picture = inl still_picture }

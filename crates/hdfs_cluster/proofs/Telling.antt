@@ -21,6 +21,7 @@ tells_none planned plan = record {
   exact = λ i d within is there room. absurd (omega (arith, within));
   others = λ s apart. refl;
   nodes = λ d. omega arith;
+  asks = λ i. refl;
   there = λ d. refl;
 }
 
@@ -118,6 +119,7 @@ module _ (old mid new : FaultPlan) (uuids : List (List ℕ)) (statuses : List �
     exact = exact_after;
     others = λ s apart. counts.call.others s (apart u) ∙ was.others s apart;
     nodes = λ d. omega (arith, counts.nodes d, was.nodes d, failures_push d uuids statuses u (one_if fails) was.len, one_of_both fails (bytes_eq u d));
+    asks = λ i. counts.asks i ∙ was.asks i;
     there = λ d. counts.call.plans.there d ∙ was.there d;
   }
 
@@ -136,6 +138,7 @@ same_plans_trans a b c f g = record {
   fails = λ s nth. g.fails s nth ∙ f.fails s nth;
   kinds = λ nth. g.kinds nth ∙ f.kinds nth;
   packets = λ d nth. g.packets d nth ∙ f.packets d nth;
+  asks = λ i nth. g.asks i nth ∙ f.asks i nth;
 }
 
 pub same_links_trans : (a b c : FaultPlan) → SameLinks a b → SameLinks b c → SameLinks a c

@@ -16,7 +16,7 @@ use Rattle.hdfs_model.specs.declared.picture.LastAnswer.{LastAnswer}
 use Rattle.hdfs_model.specs.declared.store.Line.{Line}
 use Rattle.hdfs_model.specs.declared.store.LinkKind.{LinkKind}
 use Rattle.hdfs_model.specs.declared.store.LinkKind.TheVariants as kinds
-use Rattle.hdfs_model.specs.Counts.{NeverFall, Rose}
+use Rattle.hdfs_model.specs.Counts.{Rose}
 use Rattle.hdfs_model.specs.Picture.{Picture}
 use Rattle.hdfs_model.specs.Pipes.{OnlyWrites}
 use Rattle.hdfs_model.specs.Sending.{WritePlace, uuids}
@@ -39,9 +39,9 @@ use Rattle.hdfs_cluster.specs.Counting.{AsksTransfer}
 use Rattle.hdfs_cluster.specs.Failures.{failure_of, is_counted, planned_transfer_failure}
 use Rattle.hdfs_cluster.specs.Lines.{line_of}
 use Rattle.hdfs_cluster.specs.Links.{write_place}
-use Rattle.hdfs_cluster.specs.MemShown.{counts_of, picture_at}
+use Rattle.hdfs_cluster.specs.MemShown.{picture_at}
 use Rattle.hdfs_cluster.specs.Writes.{place_of}
-use Rattle.hdfs_cluster.proofs.Counting.{nodes_stay, one_more}
+use Rattle.hdfs_cluster.proofs.Counting.{same_namenodes, NoneFalls, nodes_stay, one_more}
 use Rattle.hdfs_cluster.proofs.Packets.{contains_named}
 use Rattle.hdfs_cluster.proofs.Places.{place_same_for}
 use Rattle.hdfs_cluster.proofs.Stills.{shown_at, still_later}
@@ -49,8 +49,8 @@ use Rattle.hdfs_cluster.proofs.Stills.{shown_at, still_later}
 -- ---- what is counted
 
 -- no count falls
-pub falls_transfer : (old new : FaultPlan) (kind : Option LinkKind) → CountsTransfer old kind new → NeverFall (counts_of old) (counts_of new)
-falls_transfer old new kind h = record { calls = λ i. omega arith; links = omega (arith, h.faults); nodes = λ d. omega (arith, h.nodes d) }
+pub falls_transfer : (old new : FaultPlan) (kind : Option LinkKind) → CountsTransfer old kind new → NoneFalls old new
+falls_transfer old new kind h = record { asks = h.asks; links = omega (arith, h.faults); nodes = λ d. omega (arith, h.nodes d) }
 
 -- a transfer fails in whatever way it is planned to
 fails_so : (kind : Option LinkKind) → is_some (planned_transfer_failure kind) ≡ is_some kind
@@ -103,7 +103,7 @@ not_on locs block d b apart = by_tests (is_named locs d) (eqb block b) (contains
     by_tests false t named same = refl
 
 -- The datanodes after a transfer, over which links and names stay as they are. Which datanodes it names is known by equations.
-module _ (space : Namespace) (settings : MemSettings) (last : LastAnswer) (failures : ℕ) (loaded : List Line) (faults faults' : FaultPlan) (fall : NeverFall (counts_of faults) (counts_of faults')) (nodes nodes' : Datanodes) (s : Slab MemLink) (transfer : Transfer) (source : List ℕ) (targets : List DatanodeInfo) (is_source : source ≡ transfer.source.id.datanode_uuid) (is_targets : targets ≡ transfer.targets)
+module _ (space : Namespace) (settings : MemSettings) (last : LastAnswer) (failures : ℕ) (loaded : List Line) (faults faults' : FaultPlan) (fall : NoneFalls faults faults') (nodes nodes' : Datanodes) (s : Slab MemLink) (transfer : Transfer) (source : List ℕ) (targets : List DatanodeInfo) (is_source : source ≡ transfer.source.id.datanode_uuid) (is_targets : targets ≡ transfer.targets)
     (others : (d : List ℕ) (b : ℕ) → is_on targets transfer.block.block_id d b ≡ false → SameReplica (replica_at nodes d b) (replica_at nodes' d b)) where
   abbrev old : Shown
   old = shown_at space settings last failures loaded faults nodes s
@@ -122,7 +122,7 @@ module _ (space : Namespace) (settings : MemSettings) (last : LastAnswer) (failu
 
   -- what was asked of namenodes and the read links stay
   only_writes : OnlyWrites old new
-  only_writes = record { later = still_later space settings last failures loaded faults faults' fall nodes nodes' s s; last = refl; calls = λ i. refl; reads = λ l. refl; places = λ l is. refl }
+  only_writes = record { later = still_later space settings last failures loaded faults faults' fall nodes nodes' s s; last = refl; calls = same_namenodes settings failures faults faults' fall.asks; reads = λ l. refl; places = λ l is. refl }
 
   -- the other replicas stay
   apart_stays : (d : List ℕ) (b : ℕ) → (block ≡ b → Contains (uuids transfer.targets) d → ⊥) → SameReplica (replica_at nodes d b) (replica_at nodes' d b)

@@ -15,7 +15,7 @@ use Rattle.hdfs_model.specs.declared.mem_settings.MemSettings.{MemSettings}
 use Rattle.hdfs_model.specs.declared.picture.LastAnswer.{LastAnswer}
 use Rattle.hdfs_model.specs.declared.picture.OpenWrite.{OpenWrite}
 use Rattle.hdfs_model.specs.declared.store.Line.{Line}
-use Rattle.hdfs_model.specs.Counts.{NeverFall, Rose}
+use Rattle.hdfs_model.specs.Counts.{Rose}
 use Rattle.hdfs_model.specs.Picture.{Picture}
 use Rattle.hdfs_model.specs.Pipes.{WriteOpened, WriteNotOpened, Sent, NotSent}
 use Rattle.hdfs_model.specs.Sending.{WritePlace, IsDisturbed, MovesOn, StaysHeld, uuids, end_of, seqno_of, put_packet, put_packets}
@@ -31,12 +31,12 @@ use Rattle.hdfs_cluster.specs.declared.mem_link.MemLink.{MemLink}
 use Rattle.hdfs_cluster.specs.declared.mem_link.MemLink.TheVariants as links
 use Rattle.hdfs_cluster.specs.declared.write_link.MemWrite.{MemWrite}
 use Rattle.hdfs_cluster.specs.Links.{read_told, read_place, write_told, write_place, OnWrites, SendsOn, among, UnsentOn, first_uuid}
-use Rattle.hdfs_cluster.specs.MemShown.{picture_at, counts_of}
+use Rattle.hdfs_cluster.specs.MemShown.{picture_at}
 use Rattle.hdfs_replicas.specs.Nodes.{held_in, undisturbed_in, is_named, is_on}
 use Rattle.hdfs_cluster.specs.Writes.{told_at, told_of, place_at, place_of, disturbed_at, SameWrite, PutsPacket}
 use Rattle.hdfs_cluster.proofs.Packets.{last_end-push, put_packets-push, waiting-push, named_at, named_any, contains_named, answered}
 use Rattle.hdfs_cluster.proofs.Places.{slot_stays, place_same_for, place_same_at}
-use Rattle.hdfs_cluster.proofs.Counting.{falls_counts, rose_counts}
+use Rattle.hdfs_cluster.proofs.Counting.{same_namenodes, NoneFalls, falls_counts, rose_counts}
 use Rattle.hdfs_cluster.proofs.Stills.{shown_at, still_later, broke_off_sent, links_from_write}
 
 -- the test on a block
@@ -79,12 +79,12 @@ other_link false false u' link other apart is = ap not is
 
 -- No pipeline was set up. What its datanodes note of the link is not seen, since it is vacant.
 pub not_opened_write : (space : Namespace) (settings : MemSettings) (last : LastAnswer) (failures : ℕ) (loaded : List Line) (faults faults' : FaultPlan) (nodes nodes' : Datanodes) (s s' : Slab MemLink) (link : ℕ) (setup : Setup) (fault : LinkFault)
-    → NeverFall (counts_of faults) (counts_of faults') → slab.get s link ≡ None → ((l : ℕ) → slab.get s' l ≡ slab.get s l)
+    → NoneFalls faults faults' → slab.get s link ≡ None → ((l : ℕ) → slab.get s' l ≡ slab.get s l)
     → ((d : List ℕ) (b other : ℕ) → (link ≡ other → ⊥) → undisturbed_in nodes' d b other ≡ undisturbed_in nodes d b other) → ((d : List ℕ) (b : ℕ) → held_in nodes' d b ≡ held_in nodes d b)
     → (fault ≢ link_faults.NoMemory → Rose (link_faults_of faults) (link_faults_of faults'))
     → WriteNotOpened (shown_at space settings last failures loaded faults nodes s) setup fault (shown_at space settings last failures loaded faults' nodes' s')
 not_opened_write space settings last failures loaded faults faults' nodes nodes' s s' link setup fault fall vacant slots others bytes rose = record {
-  only = record { later = still_later space settings last failures loaded faults faults' fall nodes nodes' s s'; last = refl; calls = λ i. refl; reads = λ l. ap read_told (slots l); places = λ l is. ap read_place (slots l) };
+  only = record { later = still_later space settings last failures loaded faults faults' fall nodes nodes' s s'; last = refl; calls = same_namenodes settings failures faults faults' fall.asks; reads = λ l. ap read_told (slots l); places = λ l is. ap read_place (slots l) };
   writes = λ l. ap write_told (slots l);
   picture = record {
     rest = record {
@@ -100,7 +100,7 @@ not_opened_write space settings last failures loaded faults faults' nodes nodes'
   cause = rose;
 }
 
-module _ (space : Namespace) (settings : MemSettings) (last : LastAnswer) (failures : ℕ) (loaded : List Line) (faults faults' : FaultPlan) (fall : NeverFall (counts_of faults) (counts_of faults')) (nodes nodes' : Datanodes) (s s' : Slab MemLink) (link : ℕ) (w : MemWrite) (updates : Updates s s' link (Some (links.Write w))) where
+module _ (space : Namespace) (settings : MemSettings) (last : LastAnswer) (failures : ℕ) (loaded : List Line) (faults faults' : FaultPlan) (fall : NoneFalls faults faults') (nodes nodes' : Datanodes) (s s' : Slab MemLink) (link : ℕ) (w : MemWrite) (updates : Updates s s' link (Some (links.Write w))) where
   abbrev old : Shown
   old = shown_at space settings last failures loaded faults nodes s
 
@@ -164,7 +164,7 @@ module _ (space : Namespace) (settings : MemSettings) (last : LastAnswer) (failu
       only = record {
         later = later;
         last = refl;
-        calls = λ i. refl;
+        calls = same_namenodes settings failures faults faults' fall.asks;
         reads = slot_stays (λ l. read_told) s s' link None (Some (links.Write w)) vacant updates refl;
         places = λ l is. starts.reads l;
       };
@@ -317,7 +317,7 @@ module _ (space : Namespace) (settings : MemSettings) (last : LastAnswer) (failu
         only = record {
           later = later;
           last = refl;
-          calls = λ i. refl;
+          calls = same_namenodes settings failures faults faults' fall.asks;
           reads = slot_stays (λ l. read_told) s s' link (Some (links.Write v)) (Some (links.Write w)) was updates refl;
           places = λ l is. slot_stays (λ l. read_place) s s' link (Some (links.Write v)) (Some (links.Write w)) was updates refl l;
         };

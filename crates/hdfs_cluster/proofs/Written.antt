@@ -100,6 +100,9 @@ module _ (space space' : Namespace) (nodes : Datanodes) (settings : MemSettings)
     answers_not_created masked client flag parents replication block_size (faults.Exception class message) excused same =
         subst (λ (s : List ℕ). Answers p i (asks.Create s masked client flag parents replication block_size) (Err (faults.Exception class message)) q) is
         (excused.1, same_space same, inr (here, inl excused.0))
+    answers_not_created masked client flag parents replication block_size faults.Broken excused same = absurd excused
+    answers_not_created masked client flag parents replication block_size (faults.BadReply fault) excused same = absurd excused
+    answers_not_created masked client flag parents replication block_size (faults.Fatal class message) excused same = absurd excused
 
     closes_if : (b : Bool) (file : FileEntry) (last : Option Block) → ((path : List ℕ) → get_by_text space'.names path ≡ cond b (with_entry (get_by_text space.names) text (with_open file false) path) (get_by_text space.names path))
         → ((id : ℕ) → table_of space'.table.entries id ≡ cond b (with_length (table_of space.table.entries) last id) (table_of space.table.entries id)) → ClosesIf b text file last p q
@@ -121,6 +124,9 @@ module _ (space space' : Namespace) (nodes : Datanodes) (settings : MemSettings)
     answers_not_completed client last file_id (faults.Exception class message) stray same =
         subst (λ (s : List ℕ). Answers p i (asks.Complete s client last file_id) (Err (faults.Exception class message)) q) is
         (stray.2, same_space same, inr (here, inr (stray.0, stray.1)))
+    answers_not_completed client last file_id faults.Broken stray same = absurd stray
+    answers_not_completed client last file_id (faults.BadReply fault) stray same = absurd stray
+    answers_not_completed client last file_id (faults.Fatal class message) stray same = absurd stray
 
     pub answers_added : (client : List ℕ) (previous : Option Block) (excludes : List DatanodeInfo) (file_id : Option ℕ) (block : LocatedBlock) → (file : FileEntry) × (get_by_text space.names text ≡ Some (entries.File file))
         × (GivesLast (space_of space nodes) file previous (space_of space' nodes) block
@@ -138,3 +144,6 @@ module _ (space space' : Namespace) (nodes : Datanodes) (settings : MemSettings)
     answers_not_added client previous excludes file_id (faults.Exception class message) stray same =
         subst (λ (s : List ℕ). Answers p i (asks.AddBlock s client previous excludes file_id) (Err (faults.Exception class message)) q) is
         (stray.2, same_looks same, inr (here, inr (stray.0, stray.1)))
+    answers_not_added client previous excludes file_id faults.Broken stray same = absurd stray
+    answers_not_added client previous excludes file_id (faults.BadReply fault) stray same = absurd stray
+    answers_not_added client previous excludes file_id (faults.Fatal class message) stray same = absurd stray

@@ -10,6 +10,7 @@ use Rattle.hdfs_model.specs.declared.asks.LinkFault.TheVariants as link_faults
 use Rattle.hdfs_model.specs.declared.picture.OpenRead.{OpenRead}
 use Rattle.hdfs_model.specs.declared.picture.OpenWrite.{OpenWrite}
 use Rattle.hdfs_model.specs.declared.picture.ReadPlace.{ReadPlace}
+use Rattle.hdfs_model.specs.declared.store.AskKind.{AskKind}
 use Rattle.hdfs_model.specs.declared.store.LinkKind.{LinkKind}
 use Rattle.hdfs_model.specs.declared.store.ReadKind.{ReadKind}
 use Rattle.hdfs_model.specs.Counts.{SameCounts}
@@ -17,12 +18,11 @@ use Rattle.hdfs_model.specs.Pipes.{IsWellFormed, nodes_of as write_nodes}
 use Rattle.hdfs_model.specs.Shown.{Served}
 use Rattle.hdfs_faults.specs.Calls.{is_bad_ack, one_if}
 use Rattle.hdfs_faults.specs.Plans.{calls_of, has_series, is_bad}
-use Rattle.hdfs_faults.specs.Series.{Series, SetUps, kind_of, opens_of, packet_kind_of, plans, reads_of, sends_to, uuid_of}
+use Rattle.hdfs_faults.specs.Series.{Series, SetUps, AsksOf, ask_kind_of, kind_of, opens_of, packet_kind_of, plans, reads_of, sends_to, uuid_of}
 use Rattle.hdfs_cluster.specs.declared.mem_cluster.MemCluster.{MemCluster}
-use Rattle.hdfs_namespace.specs.Answering.{Answers}
 use Rattle.hdfs_cluster.specs.Failures.{failure_of, is_broken, is_counted, is_refused, planned_failure, planned_transfer_failure}
 use Rattle.hdfs_cluster.specs.Coming.{ComesTo}
-use Rattle.hdfs_cluster.specs.Responding.{Fails, failed_after, is_failure}
+use Rattle.hdfs_cluster.specs.Responding.{AskComesTo, failed_after, has_failed, is_answered}
 use Rattle.hdfs_cluster.specs.Telling.{TellsAll}
 use Rattle.hdfs_cluster.specs.MemShown.{HasNode, HasNodesOf, nodes_of, picture_of, shown_of}
 
@@ -56,29 +56,35 @@ pub record CountsNothing (old new : MemCluster) : Type 0 where
   pub bad : (link : ℕ) → IsSome ((shown_of new).writes link) → is_bad_at new link ≡ is_bad_at old link
   pub there : HasNodesOf old new
 
--- The count of the namenode that was asked rises by one where it has failed, and no other count does. No call was counted, and the
--- datanodes are still there. What is open afterwards has the same bad acknowledgements to come.
-pub record CountsAsk (old : MemCluster) (i : ℕ) (failed : Bool) (new : MemCluster) : Type 0 where
-  pub own : (shown_of new).counts.calls i ≡ failed_after failed ((shown_of old).counts.calls i)
-  pub others : (j : ℕ) → j ≢ i → (shown_of new).counts.calls j ≡ (shown_of old).counts.calls j
-  pub links : (shown_of new).counts.links ≡ (shown_of old).counts.links
-  pub nodes : (d : List ℕ) → (shown_of new).counts.nodes d ≡ (shown_of old).counts.nodes d
-  pub calls : (s : Series) → calls_at new s ≡ calls_at old s
-  pub bad : (link : ℕ) → IsSome ((shown_of new).writes link) → is_bad_at new link ≡ is_bad_at old link
-  pub there : HasNodesOf old new
-
--- What an ask does, exactly: it is served, and the answer is that of the picture; or the namenode has failed, and then its count rises.
-pub record MemServes (old : MemCluster) (i : ℕ) (ask : Ask) (result : Result Answer AskFault) (new : MemCluster) : Type 0 where
-  pub served : Served (shown_of old) i ask result (shown_of new)
-  pub counted : CountsAsk old i (is_failure result) new
-  pub answers : is_failure result ≡ false → Answers (picture_of old) i ask result (picture_of new)
-  pub fails : is_failure result ≡ true → Fails (shown_of old).loaded.lines (nodes_of old) (picture_of old) i ask result (picture_of new)
-
 -- One call of a series was counted, where there was memory for it. No other call was, and the datanodes are still there.
 pub record CountsCall (old : MemCluster) (series : Series) (counted : Bool) (new : MemCluster) : Type 0 where
   pub own : CanCount old series → calls_at new series ≡ calls_at old series + one_if counted
   pub others : (s : Series) → s ≢ series → calls_at new s ≡ calls_at old s
   pub there : HasNodesOf old new
+
+-- An ask of a namenode was made. It has the next number, where there was memory for it, and the count of that namenode rises by one
+-- where it has failed. No other count does. What is open afterwards has the same bad acknowledgements to come.
+pub record CountsAsk (old : MemCluster) (i : ℕ) (counted failed : Bool) (new : MemCluster) : Type 0 where
+  pub call : CountsCall old (AsksOf i) counted new
+  pub own : (shown_of new).counts.calls i ≡ failed_after failed ((shown_of old).counts.calls i)
+  pub others : (j : ℕ) → j ≢ i → (shown_of new).counts.calls j ≡ (shown_of old).counts.calls j
+  pub links : (shown_of new).counts.links ≡ (shown_of old).counts.links
+  pub nodes : (d : List ℕ) → (shown_of new).counts.nodes d ≡ (shown_of old).counts.nodes d
+  pub bad : (link : ℕ) → IsSome ((shown_of new).writes link) → is_bad_at new link ≡ is_bad_at old link
+
+-- how the loaded lines make the next ask of a namenode fail
+abbrev pub next_ask_kind : MemCluster → ℕ → Option AskKind
+next_ask_kind m i = ask_kind_of (shown_of m).loaded.lines i (calls_at m (AsksOf i) + 1)
+
+-- What an ask does, exactly. It is served, and fails exactly as a line plans its number to, however many namenodes there are and
+-- whichever is active; then the count of its namenode rises. Without a line it is answered as by the picture, or the active namenode has
+-- failed, and then its count rises too.
+pub record MemServes (old : MemCluster) (i : ℕ) (ask : Ask) (result : Result Answer AskFault) (new : MemCluster) : Type 0 where
+  pub served : Served (shown_of old) i ask result (shown_of new)
+  pub kind : Option AskKind
+  pub planned : CanCount old (AsksOf i) → kind ≡ next_ask_kind old i
+  pub counted : CountsAsk old i (is_answered result) (has_failed kind result) new
+  pub comes : AskComesTo (shown_of old).loaded.lines (nodes_of old) kind (picture_of old) i ask result (picture_of new)
 
 -- A call of a datanode was made. It has the next number of its series, and fails exactly where a line plans that number; then
 -- the datanode's count rises by one. No other count rises.

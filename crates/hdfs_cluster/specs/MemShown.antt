@@ -1,12 +1,12 @@
 -- What the cluster in memory shows.
-use Rattle.std.specs.Prelude.{◌≡◌, ℕ, ◌<◌, ◌==◌, Bool, true, not, ◌&&◌, List, length, slice_index, map, Some, is_some, if◌then◌else◌}
+use Rattle.std.specs.Prelude.{◌≡◌, ℕ, ◌+◌, ◌-◌, ◌^◌, ◌<◌, ◌==◌, min, nat_lt, Bool, true, not, ◌&&◌, List, length, slice_index, map, Some, is_some, if◌then◌else◌}
 use Rattle.std.specs.BTreeMap.{get_by_text}
 use Rattle.slab.specs.Slab as slab
 use Rattle.slab.specs.Slab.{Slab}
 use Rattle.hdfs_model.specs.declared.store.Line.{Line}
 use Rattle.hdfs_model.specs.declared.mem_settings.MemSettings.{MemSettings}
 use Rattle.hdfs_faults.specs.declared.fault_plan.FaultPlan.{FaultPlan}
-use Rattle.hdfs_faults.specs.Plans.{has_node, link_faults_of, node_faults_of}
+use Rattle.hdfs_faults.specs.Plans.{ask_faults_of, has_node, link_faults_of, node_faults_of}
 use Rattle.hdfs_faults.specs.Series.{uuid_of}
 use Rattle.hdfs_model.specs.Counts.{FaultCounts}
 use Rattle.hdfs_model.specs.Picture.{Picture}
@@ -41,17 +41,22 @@ loaded_at settings lines = record { settings = Some settings; lines = lines }
 abbrev pub picture_of : MemCluster → Picture
 picture_of m = picture_at m.space m.nodes m.config.settings m.links
 
--- the counts of the links and of the datanodes are those of the plan
-abbrev pub counts_of : FaultPlan → FaultCounts
-counts_of plan = record { calls = λ i. 0; links = link_faults_of plan; nodes = λ d. node_faults_of plan d }
-
--- how often each namenode has failed: only the active one does
+-- how often each namenode has failed beside what was planned: only the active one does
 abbrev pub failed_calls : MemSettings → ℕ → ℕ → ℕ
 failed_calls settings calls i = if i == settings.active then calls else 0
 
--- the same with those of the namenodes
+-- how often each namenode has failed in all: as it was planned to, and beside that
+abbrev pub namenode_faults : MemSettings → ℕ → FaultPlan → ℕ → ℕ
+namenode_faults settings calls plan i =
+    if nat_lt i settings.namenodes then min (ask_faults_of plan i + failed_calls settings calls i) (2 ^ 64 - 1) else 0
+
+-- the counts of a cluster with this plan, whose active namenode has failed so often beside it
 abbrev pub counts_at : MemSettings → ℕ → FaultPlan → FaultCounts
-counts_at settings calls plan = record (counts_of plan) { calls = failed_calls settings calls }
+counts_at settings calls plan = record {
+  calls = namenode_faults settings calls plan;
+  links = link_faults_of plan;
+  nodes = λ d. node_faults_of plan d;
+}
 
 -- what the cluster in memory shows: always its picture too
 abbrev pub shown_of : MemCluster → Shown

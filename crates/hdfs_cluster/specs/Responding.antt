@@ -1,16 +1,20 @@
 -- What a namenode of a cluster in memory responds, and when it fails.
-use Rattle.std.specs.Prelude.{◌≡◌, ◌⊎◌, ℕ, Bool, true, false, List, [], Result, Ok, Err, codes, if◌then◌else◌}
+use Rattle.std.specs.Prelude.{◌≡◌, ◌⊎◌, ℕ, Bool, true, false, ◌&&◌, ◌||◌, List, [], Option, Some, None, is_some, Result, Ok, Err, IfOk, codes, if◌then◌else◌}
 use Rattle.std.specs.List.{list_any}
 use Rattle.std.specs.Str.{bytes_eq}
 use Rattle.slab.specs.Slab.{Slab}
 use Rattle.hdfs_model.specs.declared.asks.Ask.{Ask}
 use Rattle.hdfs_model.specs.declared.asks.Ask.TheVariants as asks
 use Rattle.hdfs_model.specs.declared.asks.Answer.{Answer}
+use Rattle.hdfs_model.specs.declared.asks.Answer.TheVariants as answers
 use Rattle.hdfs_model.specs.declared.asks.AskFault.{AskFault}
 use Rattle.hdfs_model.specs.declared.asks.AskFault.TheVariants as faults
 use Rattle.hdfs_model.specs.declared.mem_settings.MemSettings.{MemSettings}
+use Rattle.hdfs_model.specs.declared.store.AskKind.{AskKind}
+use Rattle.hdfs_model.specs.declared.store.AskKind.TheVariants as ask_kinds
 use Rattle.hdfs_model.specs.declared.store.Line.{Line}
 use Rattle.hdfs_model.specs.Effects.{IsBeingWritten}
+use Rattle.hdfs_model.specs.Namenode.{IsShaped}
 use Rattle.hdfs_model.specs.Picture.{Picture, SamePicture}
 use Rattle.hdfs_faults.specs.Calls.{after_one}
 use Rattle.hdfs_faults.specs.Series.{is_fault}
@@ -46,11 +50,11 @@ AnswersHere old ask result new = (nodes : Datanodes) (settings : MemSettings) (l
 abbrev pub io_exception : List ℕ
 io_exception = codes "java.io.IOException"
 
--- whether this is the answer of a namenode that has failed
+-- whether this is the answer of a namenode that has failed and wasn't planned to
 abbrev pub is_failure : Result Answer AskFault → Bool
 is_failure (Ok answer) = false
-is_failure (Err faults.NoMemory) = false
 is_failure (Err (faults.Exception class message)) = bytes_eq class io_exception
+is_failure (Err fault) = false
 
 -- how often a namenode has failed, once it has failed again or not
 abbrev pub failed_after : Bool → ℕ → ℕ
@@ -60,6 +64,7 @@ failed_after failed calls = if failed then after_one calls else calls
 abbrev pub StandsForNone : List Line → AskFault → Type 0
 StandsForNone loaded faults.NoMemory = Unit {0}
 StandsForNone loaded (faults.Exception class message) = (list_any is_fault loaded ≡ true) × (class ≡ io_exception) × (message ≡ [])
+StandsForNone loaded fault = ⊥
 
 -- a datanode more is asked for, of a block of an open file, and each of so many datanodes is existing or excluded
 abbrev pub LacksDatanode : ℕ → Picture → Ask → Type 0
@@ -85,3 +90,46 @@ abbrev pub RespondsHere : List Line → ℕ → Namespace → Ask → Result Ans
 RespondsHere loaded count space ask result =
     (nodes : Datanodes) (settings : MemSettings) (links : Slab MemLink) (i : ℕ) → i ≡ settings.active
     → Responds loaded count (picture_at space nodes settings links) i ask result (picture_at space nodes settings links)
+
+-- there was memory for an ask, and so it is counted
+abbrev pub is_answered : Result Answer AskFault → Bool
+is_answered (Ok answer) = true
+is_answered (Err faults.NoMemory) = false
+is_answered (Err fault) = true
+
+-- `complete` is answered that the file isn't closed, and another ask is lost
+abbrev pub false_answer : Ask → Result Answer AskFault
+false_answer (asks.Complete src client last file_id) = Ok (answers.Complete false)
+false_answer ask = Err faults.Broken
+
+-- what a namenode answers that is planned to fail so: an exception has no message
+abbrev pub planned_answer : AskKind → Ask → Result Answer AskFault
+planned_answer ask_kinds.Lost ask = Err faults.Broken
+planned_answer ask_kinds.Late ask = Err faults.Broken
+planned_answer ask_kinds.FalseAnswer ask = false_answer ask
+planned_answer ask_kinds.Fatal ask = Err (faults.Fatal [] [])
+planned_answer (ask_kinds.Exception class) ask = Err (faults.Exception class [])
+
+-- What it does: the ask, where its answer is late, whatever that would have been; and else nothing.
+abbrev pub DoesPlanned : List Line → ℕ → AskKind → Picture → ℕ → Ask → Picture → Type 0
+DoesPlanned loaded count ask_kinds.Lost p i ask q = SamePicture p q
+DoesPlanned loaded count ask_kinds.Late p i ask q =
+    (given : Result Answer AskFault) × IfOk given (IsShaped ask) × Responds loaded count p i ask given q
+DoesPlanned loaded count ask_kinds.FalseAnswer p i ask q = SamePicture p q
+DoesPlanned loaded count ask_kinds.Fatal p i ask q = SamePicture p q
+DoesPlanned loaded count (ask_kinds.Exception class) p i ask q = SamePicture p q
+
+-- What an ask comes to that is planned to fail so, or isn't planned to. For want of memory a planned one does nothing.
+abbrev pub AskComesTo : List Line → ℕ → Option AskKind → Picture → ℕ → Ask → Result Answer AskFault → Picture → Type 0
+AskComesTo loaded count None p i ask result q = Responds loaded count p i ask result q
+AskComesTo loaded count (Some kind) p i ask result q =
+    ((result ≡ Err faults.NoMemory) × SamePicture p q) ⊎ ((result ≡ planned_answer kind ask) × DoesPlanned loaded count kind p i ask q)
+
+-- whether a namenode has failed that wasn't planned to
+abbrev pub own_failure : Option AskKind → Result Answer AskFault → Bool
+own_failure None result = is_failure result
+own_failure (Some kind) result = false
+
+-- whether a namenode has failed, that was planned to fail so or wasn't; for want of memory it hasn't
+abbrev pub has_failed : Option AskKind → Result Answer AskFault → Bool
+has_failed kind result = is_answered result && (is_some kind || is_failure result)

@@ -5,7 +5,7 @@ use Rattle.hdfs_model.specs.declared.store.Line.{Line}
 use Rattle.hdfs_faults.specs.declared.fault_plan.FaultPlan.{FaultPlan}
 use Rattle.hdfs_faults.specs.Calls.{one_if}
 use Rattle.hdfs_faults.specs.Following.{Follows}
-use Rattle.hdfs_faults.specs.Plans.{calls_of, has_node, node_faults_of}
+use Rattle.hdfs_faults.specs.Plans.{ask_faults_of, calls_of, has_node, node_faults_of}
 use Rattle.hdfs_faults.specs.Series.{Series, acks_of}
 
 -- how many of these are this datanode
@@ -29,6 +29,7 @@ pub record TellsAll (planned : Series → ℕ → Bool) (old : FaultPlan) (uuids
       → slice_index_or statuses i 0 ≡ one_if (planned (acks_of d) (calls_of old (acks_of d) + times d (take (i + 1) uuids)))
   pub others : (s : Series) → ((d : List ℕ) → s ≢ acks_of d) → calls_of new s ≡ calls_of old s
   pub nodes : (d : List ℕ) → node_faults_of new d ≡ node_faults_of old d + failures d uuids statuses
+  pub asks : (i : ℕ) → ask_faults_of new i ≡ ask_faults_of old i
   pub there : (d : List ℕ) → has_node new d ≡ has_node old d
 
 -- a plan goes on following the lines that it follows

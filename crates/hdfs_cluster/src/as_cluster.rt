@@ -9,13 +9,12 @@ ghost use Rattle.hdfs_cluster.specs.Failures.{planned_failure, planned_transfer_
 
 use crate::mem_cluster::MemCluster;
 use crate::mem_link::MemLink;
+use crate::planned_asks::{answer, failures_after};
 use crate::read_link::MemRead;
-use crate::responding::{failures_after, respond};
 use crate::write_link::MemWrite;
 use hdfs_model::{
     Answer, Ask, AskFault, Cluster, LastAnswer, LinkFault, LinkKind, ReadAsk, Setup, Transfer,
 };
-use hdfs_namespace::last_answer;
 use hdfs_wire::{Ack, ChecksumInfo, NoMemory, ReadPacket, WritePacket};
 
 /// How a set-up fails that is planned so. One with a bad acknowledgement to come doesn't.
@@ -60,7 +59,11 @@ impl Cluster for MemCluster {
     }
 
     fn ask(&mut self, i: u32, ask: &Ask) -> Result<Answer, AskFault> {
-        let result = respond(
+        if self.faults.add_namenode(self.alloc, i).is_err() {
+            self.last = LastAnswer::NoMemory;
+            return Err(AskFault::NoMemory);
+        }
+        let answered = answer(
             self.alloc,
             &self.config,
             self.loaded.as_slice(),
@@ -68,12 +71,14 @@ impl Cluster for MemCluster {
             &mut self.nodes,
             i,
             ask,
+            self.faults.next_ask(i),
         );
-        match last_answer(self.alloc, &result) {
-            Ok(last) => {
-                self.calls = failures_after(self.calls, &result);
-                self.last = last;
-                result
+        match answered {
+            Ok(answered) => {
+                self.faults.ask(i);
+                self.calls = failures_after(self.calls, answered.failed);
+                self.last = answered.last;
+                answered.result
             }
             Err(NoMemory) => {
                 self.last = LastAnswer::NoMemory;

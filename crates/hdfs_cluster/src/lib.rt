@@ -9,6 +9,7 @@ mod loaded;
 mod loading;
 mod mem_cluster;
 mod mem_link;
+mod planned_asks;
 mod read_link;
 mod responding;
 mod shortening;
@@ -17,8 +18,8 @@ mod write_link;
 
 pub use counts::Counts;
 pub use hdfs_model::{
-    AddFault, Answer, Appended, ArgFault, Ask, AskFault, Attributes, Block, BlockEntry, Cluster,
-    Command, DatanodeId, DatanodeInfo, Entry, Fault, FaultLine, FileEntry, FileStatusMsg,
+    AddFault, Answer, Appended, ArgFault, Ask, AskFault, AskKind, Attributes, Block, BlockEntry,
+    Cluster, Command, DatanodeId, DatanodeInfo, Entry, Fault, FaultLine, FileEntry, FileStatusMsg,
     HdfsError, LastAnswer, Line, LinkFault, LinkKind, LocatedBlock, LocatedBlocks, MemSettings,
     OpenRead, OpenWrite, ReadAsk, ReadKind, ReadPlace, Reply, ServerDefaults, Settings, Setup,
     Stage, Store, Token, Transfer, TransferFault, is_path, nearest_ancestor, parent_of,

@@ -1,5 +1,5 @@
 //! How the namenodes of a cluster in memory respond to what is asked.
-ghost use Rattle.std.specs.Prelude.{◌≡◌, ◌≤◌, ℕ, map, IfOk};
+ghost use Rattle.std.specs.Prelude.{◌≡◌, ℕ, map, IfOk};
 ghost use Rattle.std.specs.List.{list_any};
 ghost use Rattle.hdfs_model.specs.Namenode.{IsShaped};
 ghost use Rattle.slab.specs.Slab.{Slab};
@@ -7,7 +7,7 @@ ghost use Rattle.hdfs_cluster.specs.declared.mem_link.MemLink.{MemLink};
 ghost use Rattle.hdfs_faults.specs.Series.{is_fault};
 ghost use Rattle.hdfs_cluster.specs.Lines.{line_of};
 ghost use Rattle.hdfs_cluster.specs.MemShown.{picture_at};
-ghost use Rattle.hdfs_cluster.specs.Responding.{AnswersHere, IsCreate, IsGetAdditionalDatanode, IsUpdatePipeline, Responds, RespondsHere, StandsForNone, failed_after, is_failure};
+ghost use Rattle.hdfs_cluster.specs.Responding.{AnswersHere, IsCreate, IsGetAdditionalDatanode, IsUpdatePipeline, Responds, RespondsHere, StandsForNone, is_failure};
 ghost use Rattle.hdfs_replicas.specs.Nodes.{SameNodes};
 
 use crate::config::Config;
@@ -57,16 +57,13 @@ fn no_datanode(alloc: Global, loaded: &[Kept]) -> Result<AskFault, NoMemory>
     exception(alloc, IO_EXCEPTION)
 }
 
-/// How often a namenode has failed, once this was its answer.
-pub(crate) fn failures_after(calls: u64, answer: &Result<Answer, AskFault>) -> u64
-    ensures after { result ≡ failed_after (is_failure answer.now) calls }
-    ensures more { calls ≤ result }
+/// Whether this is the answer of a namenode that has failed and wasn't planned to.
+pub(crate) fn is_failure_of(answer: &Result<Answer, AskFault>) -> bool
+    ensures { result ≡ is_failure answer.now }
 {
     match answer {
-        Err(AskFault::Exception { class, .. }) if class.as_str() == IO_EXCEPTION => {
-            calls.saturating_add(1)
-        }
-        _ => calls,
+        Err(AskFault::Exception { class, .. }) => class.as_str() == IO_EXCEPTION,
+        _ => false,
     }
 }
 

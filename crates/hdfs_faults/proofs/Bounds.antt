@@ -1,6 +1,9 @@
 -- No object has failed more often than lines are faults of it.
-use Rattle.std.proofs.Common.{◌≡◌, ℕ, ◌+◌, ◌≤◌, Bool, true, false, ◌&&◌, eqb, List, [], ◌∷◌, Option, Some, None, arith}
+use Rattle.std.proofs.Common.{◌≡◌, ℕ, ◌+◌, ◌≤◌, Bool, true, false, ◌&&◌, eqb, List, [], ◌∷◌, Option, Some, None, is_some, refl, arith}
+use Rattle.std.proofs.lemmas.Bool.{or_parts}
 use Rattle.std.proofs.lemmas.List.Sums.{sum_by-cons}
+use Rattle.std.specs.List.{list_any}
+use Rattle.hdfs_model.specs.declared.store.AskKind.{AskKind}
 use Rattle.hdfs_model.specs.declared.store.Line.{Line}
 use Rattle.hdfs_model.specs.declared.store.Line.TheVariants as lines
 use Rattle.hdfs_model.specs.declared.store.FaultLine.TheVariants as faults
@@ -10,12 +13,14 @@ use Rattle.hdfs_faults.specs.declared.node_plan.NodeCall.{NodeCall}
 use Rattle.hdfs_faults.specs.declared.node_plan.NodeCall.TheVariants as calls
 use Rattle.hdfs_faults.specs.declared.node_plan.NodePlan.{NodePlan}
 use Rattle.hdfs_faults.specs.declared.tally.Tally.{Tally}
+use Rattle.hdfs_faults.specs.Asks.{ask_kind_at, asks_at, failed_asks}
 use Rattle.hdfs_faults.specs.Calls.{fails_in, one_if}
 use Rattle.hdfs_faults.specs.Following.{Follows}
 use Rattle.hdfs_faults.specs.NodePlans.{failed_in, node_at, planned_in}
-use Rattle.hdfs_faults.specs.Plans.{fails_at, link_faults_of, node_faults_of}
-use Rattle.hdfs_faults.specs.Series.{Series, SetUps, CallsOf, acks_of, is_fault_at, is_of, link_fault_count, node_fault_count, nth_of, of_fault, opens_of, plans, reads_of, same_series, sends_to, series_fault_count, series_of}
+use Rattle.hdfs_faults.specs.Plans.{ask_faults_of, fails_at, link_faults_of, node_faults_of}
+use Rattle.hdfs_faults.specs.Series.{Series, SetUps, AsksOf, CallsOf, acks_of, ask_fault_count, is_fault, is_fault_at, is_of, link_fault_count, node_fault_count, nth_of, of_fault, opens_of, plans, reads_of, same_series, sends_to, series_fault_count, series_of}
 use Rattle.hdfs_faults.specs.Tallies.{is_planned}
+use Rattle.hdfs_faults.proofs.Lines.{none_is}
 use Rattle.hdfs_faults.proofs.Failing.{fails-more, fails-never, fails-only, fails-or}
 
 -- a line makes one call of its series fail, and none of another
@@ -50,6 +55,7 @@ one_series : (d : List ℕ) (line : Line) → one_if (is_of_series (acks_of d) l
 one_series d (lines.Dir path) = omega arith
 one_series d (lines.File path attributes bytes) = omega arith
 one_series d (lines.Short path block node len) = omega arith
+one_series d (lines.Fault (faults.Ask i n kind)) = omega arith
 one_series d (lines.Fault (faults.Link n kind)) = omega arith
 one_series d (lines.Fault (faults.AckOf node n)) = omega arith
 one_series d (lines.Fault (faults.SendTo node n)) = omega arith
@@ -92,3 +98,27 @@ node_faults-le plan loaded follows d = node_le d loaded (node_at plan.nodes d) (
 pub link_faults-le : (plan : FaultPlan) (loaded : List Line) → Follows plan loaded → link_faults_of plan ≤ link_fault_count loaded
 link_faults-le plan loaded follows =
     omega (arith, plan.links.counted, fails-more (fails_at plan SetUps) (plans loaded SetUps) plan.links.set_ups (follows.planned SetUps), fails-lines SetUps loaded plan.links.set_ups)
+
+-- the same of a namenode, which may have no tally
+asks_le : (i : ℕ) (loaded : List Line) (o : Option (Tally AskKind)) → ((k : ℕ) → is_some (ask_kind_at o k) ≡ true → plans loaded (AsksOf i) k ≡ true) → failed_asks o ≤ ask_fault_count loaded i
+asks_le i loaded None planned = omega arith
+asks_le i loaded (Some tally) planned = tally_le tally (AsksOf i) loaded planned
+
+-- THE LAW for namenodes: none has failed as planned more often than lines are faults of its asks
+pub ask_faults-le : (plan : FaultPlan) (loaded : List Line) → Follows plan loaded → (i : ℕ) → ask_faults_of plan i ≤ ask_fault_count loaded i
+ask_faults-le plan loaded follows i = asks_le i loaded (asks_at plan.asks i) (follows.planned (AsksOf i))
+
+-- a line that is no fault is none of a series
+no_fault_of : (s : Series) (line : Line) → is_fault line ≡ false → one_if (is_of_series s line) ≡ 0
+no_fault_of s (lines.Dir path) none = refl
+no_fault_of s (lines.File path attributes bytes) none = refl
+no_fault_of s (lines.Short path block node len) none = refl
+no_fault_of s (lines.Fault fault) none = none_is none
+
+-- where no line is a fault, none is one of a series
+pub no_faults : (loaded : List Line) (s : Series) → list_any is_fault loaded ≡ false → series_fault_count loaded s ≡ 0
+no_faults [] s none = refl
+no_faults (line ∷ loaded) s none =
+    let parts = or_parts (is_fault line) (list_any is_fault loaded) none in
+    let counts : series_fault_count (line ∷ loaded) s ≡ one_if (is_of_series s line) + series_fault_count loaded s = sum_by-cons (λ l. one_if (is_of_series s l)) line loaded in
+    omega (arith, counts, no_fault_of s line parts.0, no_faults loaded s parts.1)

@@ -3,6 +3,7 @@ use Rattle.std.proofs.Common.{◌≡◌, ⊎_elim, ℕ, ◌+◌, ◌^◌, ◌<�
 use Rattle.std.specs.Option.{option_or}
 use Rattle.std.proofs.lemmas.Bool.{or_cases}
 use Rattle.std.proofs.lemmas.Bool.Decides.{nat_tests}
+use Rattle.hdfs_model.specs.declared.store.AskKind.{AskKind}
 use Rattle.hdfs_model.specs.declared.store.Line.{Line}
 use Rattle.hdfs_model.specs.declared.store.Line.TheVariants as lines
 use Rattle.hdfs_model.specs.declared.store.FaultLine.{FaultLine}
@@ -14,10 +15,10 @@ use Rattle.hdfs_faults.specs.declared.node_plan.NodeCall.TheVariants as calls
 use Rattle.hdfs_faults.specs.declared.node_plan.NodePlan.{NodePlan}
 use Rattle.hdfs_faults.specs.Calls.{next_fails, next_kind}
 use Rattle.hdfs_faults.specs.Following.{Follows}
-use Rattle.hdfs_faults.specs.Plans.{AddsNodes, Counts, CountsOne, CountsTransfer, Forgets, IsNew, PlansFault, SameCalls, SamePlan, SamePlans, SetsUp, TakesAck, calls_of, fails_at, has_series, has_node, kind_at, may_come, packet_kind}
+use Rattle.hdfs_faults.specs.Plans.{AddsNodes, Counts, CountsAsk, CountsOne, CountsTransfer, Forgets, IsNew, PlansFault, SameCalls, SamePlan, SamePlans, SetsUp, TakesAck, ask_kind, calls_of, fails_at, has_series, has_node, kind_at, may_come, packet_kind}
 use Rattle.hdfs_faults.specs.NodePlans.{node_at, packet_kind_at, planned_in}
-use Rattle.hdfs_faults.specs.Series.{Series, SetUps, CallsOf, is_fault_at, is_fault, kind_in, kind_of, nth_of, of_fault, packet_kind_in, packet_kind_of, plans, reads_of, said_kind, same_series, series_of}
-use Rattle.hdfs_faults.proofs.Lines.{both, kind_push, none_is, nothing_of, packet_push, plans_kind, plans_packet, plans_push, same_series-is, series_cases, together}
+use Rattle.hdfs_faults.specs.Series.{Series, SetUps, AsksOf, CallsOf, ask_kind_in, ask_kind_of, is_fault_at, is_fault, kind_in, kind_of, nth_of, of_fault, packet_kind_in, packet_kind_of, plans, reads_of, said_ask, said_kind, same_series, series_of}
+use Rattle.hdfs_faults.proofs.Lines.{ask_push, both, kind_push, none_is, nothing_of, packet_push, plans_ask, plans_kind, plans_packet, plans_push, same_series-is, series_cases, together}
 
 -- ---- plans that follow lines
 
@@ -31,6 +32,7 @@ new_follows plan new = record {
   planned = λ s nth is. none_is (sym is ∙ new.fails s nth);
   kinds = λ nth kind is. none_some kind (sym (new.kinds nth) ∙ is);
   packets = λ d nth kind is. none_some kind (sym (new.packets d nth) ∙ is);
+  asks = λ i nth kind is. none_some kind (sym (new.ask_kinds i nth) ∙ is);
   acts = λ s nth there later is. none_is (sym is);
 }
 
@@ -40,6 +42,7 @@ added_follows old new added was = record {
   planned = λ s nth is. was.planned s nth (sym (added.fails s nth) ∙ is);
   kinds = λ nth kind is. was.kinds nth kind (sym (added.kinds nth) ∙ is);
   packets = λ d nth kind is. was.packets d nth kind (sym (added.packets d nth) ∙ is);
+  asks = λ i nth kind is. was.asks i nth kind (sym (added.ask_kinds i nth) ∙ is);
   acts = λ s nth there later is. none_is (sym is);
 }
 
@@ -50,6 +53,7 @@ Holds old new = SamePlans old new × ((s : Series) → calls_of old s ≤ calls_
 -- where the same datanodes are there, the same series are
 series_there : (old new : FaultPlan) → ((d : List ℕ) → has_node new d ≡ has_node old d) → (s : Series) → has_series new s ≡ has_series old s
 series_there old new there SetUps = refl
+series_there old new there (AsksOf i) = refl
 series_there old new there (CallsOf call d) = there d
 
 -- where the same is planned and no count falls, a plan goes on following
@@ -58,6 +62,7 @@ kept_follows old new loaded holds was = record {
   planned = λ s nth is. was.planned s nth (sym (holds.0.fails s nth) ∙ is);
   kinds = λ nth kind is. was.kinds nth kind (sym (holds.0.kinds nth) ∙ is);
   packets = λ d nth kind is. was.packets d nth kind (sym (holds.0.packets d nth) ∙ is);
+  asks = λ i nth kind is. was.asks i nth kind (sym (holds.0.asks i nth) ∙ is);
   acts = λ s nth there later is.
       (let le : calls_of old s ≤ calls_of new s = holds.1 s in
       holds.0.fails s nth ∙ was.acts s nth (sym (series_there old new holds.0.there s) ∙ there) (omega (arith, le, later)) is);
@@ -81,6 +86,10 @@ same_follows old new loaded same = kept_follows old new loaded (same.plans, same
 -- so does one that counted a call of a datanode
 pub counts_follows : (old new : FaultPlan) (loaded : List Line) (series : Series) (fails : Bool) → Counts old series fails new → Follows old loaded → Follows new loaded
 counts_follows old new loaded series fails counts = kept_follows old new loaded (counts.call.plans, one_call_le old new series counts.call)
+
+-- an ask of a namenode
+pub ask_follows : (old new : FaultPlan) (loaded : List Line) (i : ℕ) (fails : Bool) → CountsAsk old i fails new → Follows old loaded → Follows new loaded
+ask_follows old new loaded i fails counts = kept_follows old new loaded (counts.call.plans, one_call_le old new (AsksOf i) counts.call)
 
 -- a set-up of a pipeline
 pub set_up_follows : (old new : FaultPlan) (loaded : List Line) (link : ℕ) (kind : Option LinkKind) → SetsUp old link kind new → Follows old loaded → Follows new loaded
@@ -126,6 +135,7 @@ other_follows plan loaded line other was = record {
   planned = λ s nth is. plans_push loaded line s nth ∙ or_left (plans loaded s nth) (of_fault (is_fault_at s nth) line || false) (was.planned s nth is);
   kinds = λ nth kind is. kind_push loaded (line ∷ []) nth ∙ ap (λ (o : Option LinkKind). option_or o (kind_of (line ∷ []) nth)) (was.kinds nth kind is);
   packets = λ d nth kind is. packet_push loaded (line ∷ []) d nth ∙ ap (λ (o : Option ReadKind). option_or o (packet_kind_of (line ∷ []) d nth)) (was.packets d nth kind is);
+  asks = λ i nth kind is. ask_push loaded (line ∷ []) i nth ∙ ap (λ (o : Option AskKind). option_or o (ask_kind_of (line ∷ []) i nth)) (was.asks i nth kind is);
   acts = λ s nth there later is.
       was.acts s nth there later (or_no (plans loaded s nth) (of_fault (is_fault_at s nth) line) (nothing_of line s nth other) (sym (plans_push loaded line s nth) ∙ is));
 }
@@ -155,6 +165,11 @@ packet_later plan loaded follows d nth there later =
     as_said (packet_kind plan d nth) (packet_kind_of loaded d nth) (follows.packets d nth)
     (λ is. sym (read_fails plan d nth) ∙ follows.acts (reads_of d) nth there later (plans_packet loaded d nth ∙ is))
 
+-- an ask that is still to come is planned to fail as the lines say
+pub ask_later : (plan : FaultPlan) (loaded : List Line) → Follows plan loaded → (i nth : ℕ) → calls_of plan (AsksOf i) < nth → ask_kind plan i nth ≡ ask_kind_of loaded i nth
+ask_later plan loaded follows i nth later =
+    as_said (ask_kind plan i nth) (ask_kind_of loaded i nth) (follows.asks i nth) (λ is. follows.acts (AsksOf i) nth refl later (plans_ask loaded i nth ∙ is))
+
 -- what tests less is less
 less : (a b : ℕ) → nat_lt a b ≡ true → a < b
 less a b is = grind (arith, nat_tests)
@@ -174,6 +189,7 @@ cond_some false o x is = none_some x is
 
 -- a fault that says how a set-up fails, and may still come, is of one that is still to come
 set_up_later : (plan : FaultPlan) (fault : FaultLine) (nth : ℕ) (kind : LinkKind) → may_come plan fault ≡ true → kind_in nth fault ≡ Some kind → calls_of plan SetUps < nth
+set_up_later plan (faults.Ask i n k) nth kind comes is = none_some kind is
 set_up_later plan (faults.Link n k) nth kind comes is =
     let at : n ≡ nth = same_number n nth (cond_some (eqb n nth) (Some k) kind is).0 in
     subst (λ (m : ℕ). calls_of plan SetUps < m) at (less (calls_of plan SetUps) n comes)
@@ -190,6 +206,16 @@ read_later plan fault d nth kind comes is =
     let number : nth_of fault ≡ nth = same_number (nth_of fault) nth here.1 in
     let calls : calls_of plan (series_of fault) ≡ calls_of plan (reads_of d) = ap (calls_of plan) series in
     (ap (has_series plan) (sym series) ∙ may.0, omega (arith, calls, number, less (calls_of plan (series_of fault)) (nth_of fault) may.1))
+
+-- and one that says how an ask fails, of one that is still to come
+ask_comes_later : (plan : FaultPlan) (fault : FaultLine) (i nth : ℕ) (kind : AskKind) → may_come plan fault ≡ true → ask_kind_in i nth fault ≡ Some kind → calls_of plan (AsksOf i) < nth
+ask_comes_later plan fault i nth kind comes is =
+    let here = both (same_series (series_of fault) (AsksOf i)) (eqb (nth_of fault) nth) (cond_some (is_fault_at (AsksOf i) nth fault) (said_ask fault) kind is).0 in
+    let may = both (has_series plan (series_of fault)) (nat_lt (calls_of plan (series_of fault)) (nth_of fault)) comes in
+    let series : series_of fault ≡ AsksOf i = same_series-is (series_of fault) (AsksOf i) here.0 in
+    let number : nth_of fault ≡ nth = same_number (nth_of fault) nth here.1 in
+    let calls : calls_of plan (series_of fault) ≡ calls_of plan (AsksOf i) = ap (calls_of plan) series in
+    omega (arith, calls, number, less (calls_of plan (series_of fault)) (nth_of fault) may.1)
 
 -- the first that said how a call fails stays the first, where what may still come was planned as the lines said
 first_stays : {X : Type 0} (o was said : Option X) (comes : Bool) (x : X) → ((y : X) → o ≡ Some y → was ≡ Some y) → (comes ≡ true → said ≡ Some x → o ≡ was) → option_or o (cond comes said None) ≡ Some x → option_or was (option_or said None) ≡ Some x
@@ -241,12 +267,20 @@ module _ (old new : FaultPlan) (loaded : List Line) (fault : FaultLine) (plan : 
       ∙ first_stays (packet_kind old d nth) (packet_kind_of loaded d nth) (packet_kind_in d nth fault) (may_come old fault) kind (was.packets d nth)
       (λ comes says. (let later = read_later old fault d nth kind comes says in packet_later old loaded was d nth later.0 later.1)) (sym (plan.packets d nth) ∙ is)
 
+  -- and an ask
+  asks_after : (i nth : ℕ) (kind : AskKind) → ask_kind new i nth ≡ Some kind → ask_kind_of more i nth ≡ Some kind
+  asks_after i nth kind is =
+      ask_push loaded (lines.Fault fault ∷ []) i nth
+      ∙ first_stays (ask_kind old i nth) (ask_kind_of loaded i nth) (ask_kind_in i nth fault) (may_come old fault) kind (was.asks i nth)
+      (λ comes says. ask_later old loaded was i nth (ask_comes_later old fault i nth kind comes says)) (sym (plan.ask_kinds i nth) ∙ is)
+
   -- once a fault is planned, the plan follows the lines with it
   pub plan_follows : Follows new more
   plan_follows = record {
     planned = planned_after;
     kinds = kinds_after;
     packets = packets_after;
+    asks = asks_after;
     acts = λ s nth there later is.
         acts_after s nth (sym (series_there old new plan.there s) ∙ there) (omega (arith, plan.calls s, later)) is;
   }
@@ -276,3 +310,9 @@ pub next_packet_follows : (plan : FaultPlan) (loaded : List Line) (d : List ℕ)
 next_packet_follows plan loaded d follows there room =
     ap (λ (b : Bool). cond b (packet_kind plan d (calls_of plan (reads_of d) + 1)) None) (less_test (calls_of plan (reads_of d) + 1) (2 ^ 64) room)
     ∙ packet_later plan loaded follows d (calls_of plan (reads_of d) + 1) there (omega arith)
+
+-- the next ask of a namenode fails as the first line of its number says
+pub next_ask_follows : (plan : FaultPlan) (loaded : List Line) (i : ℕ) → Follows plan loaded → calls_of plan (AsksOf i) + 1 < 2 ^ 64 → next_kind (ask_kind plan i) (calls_of plan (AsksOf i)) ≡ ask_kind_of loaded i (calls_of plan (AsksOf i) + 1)
+next_ask_follows plan loaded i follows room =
+    ap (λ (b : Bool). cond b (ask_kind plan i (calls_of plan (AsksOf i) + 1)) None) (less_test (calls_of plan (AsksOf i) + 1) (2 ^ 64) room)
+    ∙ ask_later plan loaded follows i (calls_of plan (AsksOf i) + 1) (omega arith)

@@ -1,5 +1,5 @@
 -- What the lines of a script plan of a series of calls.
-use Rattle.std.proofs.Common.{◌≡◌, ◌≢◌, ◌⊎◌, inl, inr, ℕ, Bool, true, false, ◌&&◌, ◌||◌, eqb, cond, List, [], ◌∷◌, ◌++◌, Option, Some, None, is_some, refl, sym, ◌∙◌, ap}
+use Rattle.std.proofs.Common.{◌≡◌, ◌≢◌, ◌⊎◌, inl, inr, ℕ, Bool, true, false, ◌&&◌, ◌||◌, eqb, cond, List, [], ◌∷◌, ◌++◌, Option, Some, None, is_some, refl, sym, ◌∙◌, ap, eqb-true, eq-eqb}
 use Rattle.std.specs.Option.{option_or}
 use Rattle.std.specs.Str.{bytes_eq}
 use Rattle.std.proofs.lemmas.List.Folds.{list_any-append}
@@ -10,7 +10,7 @@ use Rattle.hdfs_model.specs.declared.store.FaultLine.TheVariants as faults
 use Rattle.hdfs_model.specs.declared.store.ReadKind.TheVariants as read_kinds
 use Rattle.hdfs_faults.specs.declared.node_plan.NodeCall.{NodeCall}
 use Rattle.hdfs_faults.specs.declared.node_plan.NodeCall.TheVariants as calls
-use Rattle.hdfs_faults.specs.Series.{Series, SetUps, CallsOf, is_fault_at, is_fault, kind_of, kind_of_line, of_fault, packet_kind_of, packet_kind_of_line, plans, reads_of, same_call, same_series}
+use Rattle.hdfs_faults.specs.Series.{Series, SetUps, AsksOf, CallsOf, ask_kind_of, ask_kind_of_line, is_fault_at, is_fault, kind_of, kind_of_line, of_fault, packet_kind_of, packet_kind_of_line, plans, reads_of, same_call, same_series}
 
 -- a test is not true and false
 pub none_is : {P : Type 0} → true ≡ false → P
@@ -58,8 +58,13 @@ together false b first second = absurd (cc)
 -- series that test the same are the same
 pub same_series-is : (s t : Series) → same_series s t ≡ true → s ≡ t
 same_series-is SetUps SetUps is = refl
+same_series-is SetUps (AsksOf j) is = absurd (cc)
 same_series-is SetUps (CallsOf call d) is = absurd (cc)
+same_series-is (AsksOf i) SetUps is = absurd (cc)
+same_series-is (AsksOf i) (AsksOf j) is = ap AsksOf (eqb-true i j is)
+same_series-is (AsksOf i) (CallsOf call d) is = absurd (cc)
 same_series-is (CallsOf call d) SetUps is = absurd (cc)
+same_series-is (CallsOf call d) (AsksOf j) is = absurd (cc)
 same_series-is (CallsOf call d) (CallsOf other e) is =
     let parts = both (same_call call other) (bytes_eq d e) is in
     ap (λ (c : NodeCall). CallsOf c d) (same_call-is call other parts.0) ∙ ap (CallsOf other) ((bytes_eq-Decides d e).0 parts.1)
@@ -67,6 +72,7 @@ same_series-is (CallsOf call d) (CallsOf other e) is =
 -- and each tests the same as itself
 pub same_series-refl : (s : Series) → same_series s s ≡ true
 same_series-refl SetUps = refl
+same_series-refl (AsksOf i) = eq-eqb i i refl
 same_series-refl (CallsOf call d) = together (same_call call call) (bytes_eq d d) (same_call-refl call) ((bytes_eq-Decides d d).1 refl)
 
 -- two series are the same or are not
@@ -110,6 +116,11 @@ pub packet_push : (loaded more : List Line) (d : List ℕ) (nth : ℕ) → packe
 packet_push [] more d nth = refl
 packet_push (line ∷ loaded) more d nth = ap (option_or (packet_kind_of_line d nth line)) (packet_push loaded more d nth) ∙ or_assoc (packet_kind_of_line d nth line) (packet_kind_of loaded d nth) (packet_kind_of more d nth)
 
+-- and that of an ask
+pub ask_push : (loaded more : List Line) (i nth : ℕ) → ask_kind_of (loaded ++ more) i nth ≡ option_or (ask_kind_of loaded i nth) (ask_kind_of more i nth)
+ask_push [] more i nth = refl
+ask_push (line ∷ loaded) more i nth = ap (option_or (ask_kind_of_line i nth line)) (ask_push loaded more i nth) ∙ or_assoc (ask_kind_of_line i nth line) (ask_kind_of loaded i nth) (ask_kind_of more i nth)
+
 -- a line that is no fault plans no call
 pub nothing_of : (line : Line) (s : Series) (nth : ℕ) → is_fault line ≡ false → of_fault (is_fault_at s nth) line ≡ false
 nothing_of (lines.Dir path) s nth is = refl
@@ -124,6 +135,7 @@ line_plans : (line : Line) (nth : ℕ) → of_fault (is_fault_at SetUps nth) lin
 line_plans (lines.Dir path) nth = refl
 line_plans (lines.File path attributes bytes) nth = refl
 line_plans (lines.Short path block node len) nth = refl
+line_plans (lines.Fault (faults.Ask i n kind)) nth = refl
 line_plans (lines.Fault (faults.Link n kind)) nth = some_cond (eqb n nth) kind
 line_plans (lines.Fault (faults.AckOf node n)) nth = refl
 line_plans (lines.Fault (faults.SendTo node n)) nth = refl
@@ -144,6 +156,7 @@ line_plans_packet : (line : Line) (d : List ℕ) (nth : ℕ) → of_fault (is_fa
 line_plans_packet (lines.Dir path) d nth = refl
 line_plans_packet (lines.File path attributes bytes) d nth = refl
 line_plans_packet (lines.Short path block node len) d nth = refl
+line_plans_packet (lines.Fault (faults.Ask i n kind)) d nth = refl
 line_plans_packet (lines.Fault (faults.Link n kind)) d nth = refl
 line_plans_packet (lines.Fault (faults.AckOf node n)) d nth = refl
 line_plans_packet (lines.Fault (faults.SendTo node n)) d nth = refl
@@ -155,3 +168,24 @@ plans_packet [] d nth = refl
 plans_packet (line ∷ loaded) d nth =
     ap (λ (b : Bool). b || plans loaded (reads_of d) nth) (line_plans_packet line d nth) ∙ ap (λ (b : Bool). is_some (packet_kind_of_line d nth line) || b) (plans_packet loaded d nth)
     ∙ either (packet_kind_of_line d nth line) (packet_kind_of loaded d nth)
+
+-- a line plans an ask exactly where it says how
+line_plans_ask : (line : Line) (i nth : ℕ) → of_fault (is_fault_at (AsksOf i) nth) line ≡ is_some (ask_kind_of_line i nth line)
+line_plans_ask (lines.Dir path) i nth = refl
+line_plans_ask (lines.File path attributes bytes) i nth = refl
+line_plans_ask (lines.Short path block node len) i nth = refl
+line_plans_ask (lines.Fault (faults.Ask j n kind)) i nth = some_cond (is_fault_at (AsksOf i) nth (faults.Ask j n kind)) kind
+line_plans_ask (lines.Fault (faults.Link n kind)) i nth = refl
+line_plans_ask (lines.Fault (faults.AckOf node n)) i nth = refl
+line_plans_ask (lines.Fault (faults.SendTo node n)) i nth = refl
+line_plans_ask (lines.Fault (faults.ReadOf node n read_kinds.Broken)) i nth = refl
+line_plans_ask (lines.Fault (faults.ReadOf node n read_kinds.Damaged)) i nth = refl
+line_plans_ask (lines.Fault (faults.ReadOf node n read_kinds.Gap)) i nth = refl
+line_plans_ask (lines.Fault (faults.ReadOf node n read_kinds.Refused)) i nth = refl
+
+-- an ask is planned to fail exactly where the lines say how
+pub plans_ask : (loaded : List Line) (i nth : ℕ) → plans loaded (AsksOf i) nth ≡ is_some (ask_kind_of loaded i nth)
+plans_ask [] i nth = refl
+plans_ask (line ∷ loaded) i nth =
+    ap (λ (b : Bool). b || plans loaded (AsksOf i) nth) (line_plans_ask line i nth) ∙ ap (λ (b : Bool). is_some (ask_kind_of_line i nth line) || b) (plans_ask loaded i nth)
+    ∙ either (ask_kind_of_line i nth line) (ask_kind_of loaded i nth)

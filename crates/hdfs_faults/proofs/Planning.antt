@@ -3,6 +3,7 @@ use Rattle.std.proofs.Common.{◌≡◌, ◌≢◌, ℕ, Bool, true, false, nat_
 use Rattle.std.specs.Option.{option_or}
 use Rattle.std.specs.Str.{bytes_eq}
 use Rattle.std.proofs.lemmas.Slice.Eq.{bytes_eq-Decides}
+use Rattle.hdfs_model.specs.declared.store.AskKind.{AskKind}
 use Rattle.hdfs_model.specs.declared.store.FaultLine.{FaultLine}
 use Rattle.hdfs_model.specs.declared.store.FaultLine.TheVariants as faults
 use Rattle.hdfs_model.specs.declared.store.ReadKind.{ReadKind}
@@ -15,13 +16,13 @@ use Rattle.hdfs_faults.specs.declared.node_plan.NodeFault.TheVariants as node_fa
 use Rattle.hdfs_faults.specs.declared.node_plan.NodePlan.{NodePlan}
 use Rattle.hdfs_faults.specs.declared.nodes.Nodes.{Nodes}
 use Rattle.hdfs_faults.specs.NodePlans.{PlansCall, call_of, calls_in, failed_in, may_come_in, node_at, packet_fault, packet_kind_at, planned_in, read_fault}
-use Rattle.hdfs_faults.specs.Plans.{PlansFault, calls_of, fails_at, has_series, kind_at, may_come, packet_kind}
-use Rattle.hdfs_faults.specs.Series.{Series, SetUps, CallsOf, kind_in, nth_of, packet_kind_in, reads_failing, reads_of, same_call, same_series, series_of, uuid_of}
+use Rattle.hdfs_faults.specs.Plans.{PlansFault, ask_kind, calls_of, fails_at, has_series, kind_at, may_come, packet_kind}
+use Rattle.hdfs_faults.specs.Series.{Series, SetUps, AsksOf, CallsOf, ask_kind_in, kind_in, nth_of, packet_kind_in, reads_failing, reads_of, same_call, same_series, series_of, uuid_of}
 
 -- ---- what was planned, and what a fault adds
 
 -- a fault of no such series plans nothing
-or_nothing : (b t v : Bool) → b ≡ (b || (t && (false && v)))
+pub or_nothing : (b t v : Bool) → b ≡ (b || (t && (false && v)))
 or_nothing true t v = refl
 or_nothing false true v = refl
 or_nothing false false v = refl
@@ -39,12 +40,12 @@ or_same b t true v = refl
 or_same b t false v = refl
 
 -- nothing behind it changes what is there
-none_after : {X : Type 0} (o : Option X) → o ≡ option_or o None
+pub none_after : {X : Type 0} (o : Option X) → o ≡ option_or o None
 none_after None = refl
 none_after (Some kind) = refl
 
 -- a fault of a datanode says of no set-up how it fails
-or_none : {X : Type 0} (o p : Option X) (b : Bool) → p ≡ None → o ≡ option_or o (cond b p None)
+pub or_none : {X : Type 0} (o p : Option X) (b : Bool) → p ≡ None → o ≡ option_or o (cond b p None)
 or_none o p true is = none_after o ∙ ap (option_or o) (sym is)
 or_none o p false is = none_after o
 
@@ -109,16 +110,18 @@ module _ (old : FaultPlan) (nodes : Nodes) (failing : NodeFault) (uuid : List �
 
   -- the plan after that
   abbrev new : FaultPlan
-  new = record { nodes = nodes; links = old.links }
+  new = record { nodes = nodes; links = old.links; asks = old.asks }
 
   -- exactly the call of the fault is planned, where it may still come
   fails_after : (s : Series) (k : ℕ) → fails_at new s k ≡ (fails_at old s k || (comes && (same_series (CallsOf call uuid) s && eqb nth k)))
   fails_after SetUps k = or_nothing (is_some (kind_at old k)) comes (eqb nth k)
+  fails_after (AsksOf i) k = or_nothing (is_some (ask_kind old i k)) comes (eqb nth k)
   fails_after (CallsOf c d) k = planned_at c k d
 
   -- no call was counted
   calls_after : (s : Series) → calls_of new s ≡ calls_of old s
   calls_after SetUps = refl
+  calls_after (AsksOf i) = refl
   calls_after (CallsOf c d) = each_node (λ o p. calls_in p c ≡ calls_in o c) (λ o. refl) (here.calls c) d
 
   module _ (fault : FaultLine) (series : series_of fault ≡ CallsOf call uuid) (number : nth_of fault ≡ nth) where
@@ -127,8 +130,8 @@ module _ (old : FaultPlan) (nodes : Nodes) (failing : NodeFault) (uuid : List �
     may_come-is = ap (λ (t : Series). has_series old t && nat_lt (calls_of old t) (nth_of fault)) series ∙ ap (λ (n : ℕ). has_series old (CallsOf call uuid) && nat_lt (calls_of old (CallsOf call uuid)) n) number
 
     -- a fault of a datanode was planned
-    pub plans_node : ((k : ℕ) → kind_in k fault ≡ None) → ((d : List ℕ) (k : ℕ) → packet_kind_in d k fault ≡ packet d k) → PlansFault old fault new
-    plans_node none says = record {
+    pub plans_node : ((k : ℕ) → kind_in k fault ≡ None) → ((i k : ℕ) → ask_kind_in i k fault ≡ None) → ((d : List ℕ) (k : ℕ) → packet_kind_in d k fault ≡ packet d k) → PlansFault old fault new
+    plans_node none unasked says = record {
       fails = λ s k.
           fails_after s k
           ∙ ap (λ (b : Bool). fails_at old s k || (b && (same_series (CallsOf call uuid) s && eqb nth k))) (sym may_come-is)
@@ -139,9 +142,11 @@ module _ (old : FaultPlan) (nodes : Nodes) (failing : NodeFault) (uuid : List �
           packets_at k d
           ∙ ap (λ (b : Bool). option_or (packet_kind old d k) (cond b (packet d k) None)) (sym may_come-is)
           ∙ ap (λ (o : Option ReadKind). option_or (packet_kind old d k) (cond (may_come old fault) o None)) (sym (says d k));
+      ask_kinds = λ i k. or_none (ask_kind old i k) (ask_kind_in i k fault) (may_come old fault) (unasked i k);
       there = each_node (λ o p. is_some p ≡ is_some o) (λ o. refl) here.there;
       calls = calls_after;
       nodes = each_node (λ o p. failed_in p ≡ failed_in o) (λ o. refl) here.failed;
+      asks = λ i. refl;
       links = record { faults = refl; bad = λ link. refl };
     }
 
@@ -160,3 +165,10 @@ reads_say read_kinds.Broken node n d k = refl
 reads_say read_kinds.Damaged node n d k = refl
 reads_say read_kinds.Gap node n d k = refl
 reads_say read_kinds.Refused node n d k = refl
+
+-- and no ask
+pub reads_unasked : (kind : ReadKind) (node n i k : ℕ) → ask_kind_in i k (faults.ReadOf node n kind) ≡ None
+reads_unasked read_kinds.Broken node n i k = refl
+reads_unasked read_kinds.Damaged node n i k = refl
+reads_unasked read_kinds.Gap node n i k = refl
+reads_unasked read_kinds.Refused node n i k = refl

@@ -6,6 +6,7 @@ use Rattle.std.specs.Str.{bytes_eq}
 use Rattle.std.specs.Fmt.{decimal}
 use Rattle.hdfs_model.specs.declared.store.Line.{Line}
 use Rattle.hdfs_model.specs.declared.store.Line.TheVariants as lines
+use Rattle.hdfs_model.specs.declared.store.AskKind.{AskKind}
 use Rattle.hdfs_model.specs.declared.store.FaultLine.{FaultLine}
 use Rattle.hdfs_model.specs.declared.store.FaultLine.TheVariants as faults
 use Rattle.hdfs_model.specs.declared.store.LinkKind.{LinkKind}
@@ -14,9 +15,11 @@ use Rattle.hdfs_model.specs.declared.store.ReadKind.TheVariants as read_kinds
 use Rattle.hdfs_faults.specs.declared.node_plan.NodeCall.{NodeCall}
 use Rattle.hdfs_faults.specs.declared.node_plan.NodeCall.TheVariants as calls
 
--- a series of calls that are counted together: the set-ups of pipelines with the transfers, or the calls of a kind of one datanode
+-- a series of calls that are counted together: the set-ups of pipelines with the transfers, the asks of one namenode, or the calls of
+-- a kind of one datanode
 pub data Series : Type 0 where
   SetUps : Series
+  AsksOf : ℕ → Series
   CallsOf : NodeCall → List ℕ → Series
 
 -- the acknowledgements that tell of a datanode
@@ -46,12 +49,14 @@ same_call call other = false
 -- the two series are the same
 abbrev pub same_series : Series → Series → Bool
 same_series SetUps SetUps = true
+same_series (AsksOf i) (AsksOf j) = i == j
 same_series (CallsOf call uuid) (CallsOf other d) = same_call call other && bytes_eq uuid d
 same_series series other = false
 
 -- the series is one of this datanode
 abbrev pub is_of : List ℕ → Series → Bool
 is_of uuid SetUps = false
+is_of uuid (AsksOf i) = false
 is_of uuid (CallsOf call d) = bytes_eq d uuid
 
 -- the uuid of a datanode by its number
@@ -67,6 +72,7 @@ reads_failing read_kinds.Refused uuid = opens_of uuid
 
 -- the series of the call that a fault is of
 abbrev pub series_of : FaultLine → Series
+series_of (faults.Ask namenode nth kind) = AsksOf namenode
 series_of (faults.Link nth kind) = SetUps
 series_of (faults.AckOf node nth) = acks_of (uuid_of node)
 series_of (faults.SendTo node nth) = sends_to (uuid_of node)
@@ -74,6 +80,7 @@ series_of (faults.ReadOf node nth kind) = reads_failing kind (uuid_of node)
 
 -- the number of that call
 abbrev pub nth_of : FaultLine → ℕ
+nth_of (faults.Ask namenode nth kind) = nth
 nth_of (faults.Link nth kind) = nth
 nth_of (faults.AckOf node nth) = nth
 nth_of (faults.SendTo node nth) = nth
@@ -85,6 +92,7 @@ is_fault_at series nth fault = same_series (series_of fault) series && (nth_of f
 
 -- how the fault makes this set-up of a pipeline fail, if it does
 abbrev pub kind_in : ℕ → FaultLine → Option LinkKind
+kind_in nth (faults.Ask namenode n kind) = None
 kind_in nth (faults.Link n kind) = if n == nth then Some kind else None
 kind_in nth (faults.AckOf node n) = None
 kind_in nth (faults.SendTo node n) = None
@@ -92,6 +100,7 @@ kind_in nth (faults.ReadOf node n kind) = None
 
 -- how a fault of a read says that it fails
 abbrev pub said_kind : FaultLine → Option ReadKind
+said_kind (faults.Ask namenode nth kind) = None
 said_kind (faults.Link nth kind) = None
 said_kind (faults.AckOf node nth) = None
 said_kind (faults.SendTo node nth) = None
@@ -100,6 +109,18 @@ said_kind (faults.ReadOf node nth kind) = Some kind
 -- how the fault makes this packet of a datanode fail, if it does
 abbrev pub packet_kind_in : List ℕ → ℕ → FaultLine → Option ReadKind
 packet_kind_in uuid nth fault = if is_fault_at (reads_of uuid) nth fault then said_kind fault else None
+
+-- how a fault of an ask says that it fails
+abbrev pub said_ask : FaultLine → Option AskKind
+said_ask (faults.Ask namenode nth kind) = Some kind
+said_ask (faults.Link nth kind) = None
+said_ask (faults.AckOf node nth) = None
+said_ask (faults.SendTo node nth) = None
+said_ask (faults.ReadOf node nth kind) = None
+
+-- how the fault makes this ask of a namenode fail, if it does
+abbrev pub ask_kind_in : ℕ → ℕ → FaultLine → Option AskKind
+ask_kind_in i nth fault = if is_fault_at (AsksOf i) nth fault then said_ask fault else None
 
 -- what holds of the fault of a line, and of no other line
 abbrev pub of_fault : (FaultLine → Bool) → Line → Bool
@@ -126,6 +147,13 @@ packet_kind_of_line uuid nth (lines.File path attributes bytes) = None
 packet_kind_of_line uuid nth (lines.Short path block node len) = None
 packet_kind_of_line uuid nth (lines.Fault fault) = packet_kind_in uuid nth fault
 
+-- how the fault of a line makes this ask of a namenode fail, if it does
+abbrev pub ask_kind_of_line : ℕ → ℕ → Line → Option AskKind
+ask_kind_of_line i nth (lines.Dir path) = None
+ask_kind_of_line i nth (lines.File path attributes bytes) = None
+ask_kind_of_line i nth (lines.Short path block node len) = None
+ask_kind_of_line i nth (lines.Fault fault) = ask_kind_in i nth fault
+
 -- one of the lines plans that this call fails
 abbrev pub plans : List Line → Series → ℕ → Bool
 plans loaded series nth = list_any (of_fault (is_fault_at series nth)) loaded
@@ -140,6 +168,11 @@ abbrev pub packet_kind_of : List Line → List ℕ → ℕ → Option ReadKind
 packet_kind_of [] uuid nth = None
 packet_kind_of (line ∷ loaded) uuid nth = option_or (packet_kind_of_line uuid nth line) (packet_kind_of loaded uuid nth)
 
+-- how the lines make this ask of a namenode fail: as the first line of it says
+abbrev pub ask_kind_of : List Line → ℕ → ℕ → Option AskKind
+ask_kind_of [] i nth = None
+ask_kind_of (line ∷ loaded) i nth = option_or (ask_kind_of_line i nth line) (ask_kind_of loaded i nth)
+
 -- how many of the lines are faults of calls of this series
 abbrev pub series_fault_count : List Line → Series → ℕ
 series_fault_count loaded series = count_by (of_fault (λ fault. same_series (series_of fault) series)) loaded
@@ -147,6 +180,10 @@ series_fault_count loaded series = count_by (of_fault (λ fault. same_series (se
 -- how many of the lines are faults of this datanode
 abbrev pub node_fault_count : List Line → List ℕ → ℕ
 node_fault_count loaded uuid = count_by (of_fault (λ fault. is_of uuid (series_of fault))) loaded
+
+-- how many of the lines are faults of the asks of this namenode
+abbrev pub ask_fault_count : List Line → ℕ → ℕ
+ask_fault_count loaded i = series_fault_count loaded (AsksOf i)
 
 -- how many of the lines are faults of the set-up of a pipeline
 abbrev pub link_fault_count : List Line → ℕ

@@ -1,12 +1,13 @@
 //! Which calls of a cluster fail.
-ghost use Rattle.std.specs.Prelude.{◌≡◌, ◌≢◌, ◌<◌, ℕ, List, true, false, IfOk, OnOk, OnErr};
+ghost use Rattle.std.specs.Prelude.{◌≡◌, ◌≢◌, ◌<◌, ℕ, List, true, false, option_copied, IfOk, OnOk, OnErr};
 ghost use Rattle.hdfs_faults.specs.Calls.{next_fails, next_kind};
-ghost use Rattle.hdfs_faults.specs.Series.{SetUps, acks_of, opens_of, reads_of, sends_to, uuid_of};
+ghost use Rattle.hdfs_faults.specs.Series.{SetUps, AsksOf, acks_of, opens_of, reads_of, sends_to, uuid_of};
 
+use crate::asks::Asks;
 use crate::links::Links;
 use crate::node_plan::{NodeCall, NodeFault};
 use crate::nodes::Nodes;
-use hdfs_model::{FaultLine, LinkKind, ReadKind};
+use hdfs_model::{AskKind, FaultLine, LinkKind, ReadKind};
 use hdfs_wire::NoMemory;
 use std::alloc::Global;
 
@@ -15,10 +16,11 @@ use std::alloc::Global;
 pub struct FaultPlan {
     pub(crate) nodes: Nodes,
     pub(crate) links: Links,
+    pub(crate) asks: Asks,
 }
 
 impl FaultPlan {
-    ghost use Rattle.hdfs_faults.specs.Plans.{calls_of, fails_at, has_node, kind_at, link_faults_of, node_faults_of, packet_kind, AddsNodes, Counts, CountsTransfer, Forgets, IsNew, PlansFault, SamePlan, SetsUp, TakesAck};
+    ghost use Rattle.hdfs_faults.specs.Plans.{ask_faults_of, ask_kind, calls_of, fails_at, has_namenode, has_node, kind_at, link_faults_of, node_faults_of, packet_kind, AddsNodes, Counts, CountsAsk, CountsTransfer, Forgets, IsNew, PlansFault, SamePlan, SetsUp, TakesAck};
 
     /// So many datanodes. Nothing was counted, and nothing is planned.
     pub fn new(alloc: Global, nodes: u32) -> Result<FaultPlan, NoMemory>
@@ -29,6 +31,7 @@ impl FaultPlan {
         let mut plan = FaultPlan {
             nodes: Nodes::new(alloc),
             links: Links::new(alloc),
+            asks: Asks::new(alloc),
         };
         plan.add_nodes(alloc, nodes)?;
         Ok(plan)
@@ -49,6 +52,11 @@ impl FaultPlan {
         ensures err { OnErr result (SamePlan self.old self.new) }
     {
         match fault {
+            FaultLine::Ask {
+                namenode,
+                nth,
+                kind,
+            } => self.asks.plan(alloc, *namenode, *nth, kind),
             FaultLine::Link { nth, kind } => self.links.plan(*nth, *kind),
             FaultLine::AckOf { node, nth } => self.nodes.plan(alloc, NodeFault::Ack, *node, *nth),
             FaultLine::SendTo { node, nth } => {
@@ -59,6 +67,36 @@ impl FaultPlan {
                 self.nodes.plan(alloc, fault, *node, *nth)
             }
         }
+    }
+
+    /// Sees to it that the asks of a namenode can be counted. No count and no plan changes.
+    pub fn add_namenode(&mut self, alloc: Global, namenode: u32) -> Result<(), NoMemory>
+        ensures there { OnOk result (has_namenode self.new namenode ≡ true) }
+        ensures same { SamePlan self.old self.new }
+    {
+        self.asks.add(alloc, namenode)
+    }
+
+    /// How the next ask of a namenode fails. Nothing is counted.
+    pub fn next_ask(&self, namenode: u32) -> Option<&AskKind>
+        ensures { option_copied result ≡ next_kind (ask_kind self.now namenode) (calls_of self.now (AsksOf namenode)) }
+    {
+        self.asks.next(namenode)
+    }
+
+    /// Counts an ask of a namenode, and says whether it fails.
+    pub fn ask(&mut self, namenode: u32) -> bool
+        requires { has_namenode self.old namenode ≡ true }
+        ensures { CountsAsk self.old namenode result self.new }
+    {
+        self.asks.count(namenode)
+    }
+
+    /// How often a namenode has failed as it was planned to.
+    pub fn ask_faults(&self, namenode: u32) -> u64
+        ensures { result ≡ ask_faults_of self.now namenode }
+    {
+        self.asks.failed(namenode)
     }
 
     /// Counts the set-up of a pipeline that gets this link if it succeeds, and says how it fails. The links' count rises at

@@ -1,6 +1,7 @@
 //! Which calls of a cluster in memory fail.
 #![tactic(auto)]
 
+mod asks;
 mod fault_plan;
 mod links;
 mod node_plan;
@@ -8,5 +9,5 @@ mod nodes;
 mod tally;
 
 pub use fault_plan::FaultPlan;
-pub use hdfs_model::{FaultLine, LinkKind, ReadKind};
+pub use hdfs_model::{AskKind, FaultLine, LinkKind, ReadKind};
 pub use tally::Tally;

@@ -92,14 +92,14 @@ impl NodePlan {
     pub(crate) fn refuses(&self) -> bool
         ensures { result ≡ refuses_next (Some self.now) }
     {
-        self.opens.next().is_some()
+        self.opens.next().copied().is_some()
     }
 
     /// How the next packet that it gives fails.
     pub(crate) fn next_packet(&self) -> Option<ReadKind>
         ensures { result ≡ next_packet_in (Some self.now) }
     {
-        self.reads.next()
+        self.reads.next().copied()
     }
 
     /// How often it has failed.

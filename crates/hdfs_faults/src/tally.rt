@@ -1,5 +1,5 @@
 //! A series of calls, some of which are planned to fail.
-ghost use Rattle.std.specs.Prelude.{◌≡◌, ℕ, ◌^◌, ◌≤◌, None, is_some, OnOk, OnErr};
+ghost use Rattle.std.specs.Prelude.{◌≡◌, ℕ, ◌^◌, ◌≤◌, None, is_some, option_copied, OnOk, OnErr};
 ghost use Rattle.std.specs.Ordering.{nat_cmp};
 ghost use Rattle.std.specs.BTreeMap.{get, btree_map_len};
 ghost use Rattle.hdfs_faults.specs.Calls.{fails_in, next_kind};
@@ -22,7 +22,7 @@ pub struct Tally<K> {
     ghost few: { btree_map_len planned ≤ 2 ^ 60 },
 }
 
-impl<K: Copy> Tally<K> {
+impl<K: Drop> Tally<K> {
     ghost use Rattle.hdfs_faults.specs.Tallies.{Counted, Planned, SameTally, kind_planned};
 
     /// A series of no calls, none of which is planned to fail.
@@ -53,11 +53,11 @@ impl<K: Copy> Tally<K> {
     }
 
     /// How the next call fails, if it does. Nothing is counted.
-    pub fn next(&self) -> Option<K>
-        ensures { result ≡ next_kind (kind_planned self.now) self.now.calls }
+    pub fn next(&self) -> Option<&K>
+        ensures { option_copied result ≡ next_kind (kind_planned self.now) self.now.calls }
     {
         let reached = self.calls.checked_add(1)?;
-        self.planned.get(&reached).copied()
+        self.planned.get(&reached)
     }
 
     /// Counts a call, and says whether it fails. From number 2^64 on nothing is counted, and no call fails.

@@ -5,6 +5,8 @@ use Rattle.std.specs.Str.{bytes_eq}
 use Rattle.std.proofs.lemmas.Bool.Decides.{nat_tests}
 use Rattle.hdfs_model.specs.declared.attributes.Attributes.{Attributes}
 use Rattle.hdfs_model.specs.declared.commands.WriteOptions.{WriteOptions}
+use Rattle.hdfs_model.specs.declared.store.AskKind.{AskKind}
+use Rattle.hdfs_model.specs.declared.store.AskKind.TheVariants as ask_kinds
 use Rattle.hdfs_model.specs.declared.store.FaultLine.{FaultLine}
 use Rattle.hdfs_model.specs.declared.store.FaultLine.TheVariants as faults
 use Rattle.hdfs_model.specs.declared.store.LinkKind.{LinkKind}
@@ -19,7 +21,7 @@ use Rattle.hdfs_script.specs.declared.entry.ScriptSettings.{ScriptSettings}
 use Rattle.hdfs_script.specs.declared.entry.Setting.{Setting}
 use Rattle.hdfs_script.specs.declared.entry.Setting.TheVariants as settings
 use Rattle.hdfs_script.specs.Commands.{create_entry, flag_of, options_of, read_entry, write_entry}
-use Rattle.hdfs_script.specs.Entries.{ascii_entry, attributes_of, best_effort_entry, cluster_entry, entry_of, fault_entry, file_entry, from_one, from_zero, link_entry, link_kind, node_entry, node_fault, policy_entry, policy_named, read_fault, read_kind, read_of, set_entry, short_entry, short_of, three_words, words_entry, writing_entry}
+use Rattle.hdfs_script.specs.Entries.{ascii_entry, ask_fault, ask_kind, ask_of, attributes_of, best_effort_entry, cluster_entry, entry_of, exception_fault, fault_entry, file_entry, from_one, from_zero, link_entry, link_kind, node_entry, node_fault, policy_entry, policy_named, read_fault, read_kind, read_of, set_entry, short_entry, short_of, three_words, words_entry, writing_entry}
 use Rattle.hdfs_script.specs.Numbers.{hex_bytes, is_number, number, value_from}
 use Rattle.hdfs_script.specs.Parsing.{good_front}
 use Rattle.hdfs_script.specs.Scripts.{ends_bad, entries_in, first_place, line_entries, may_set, may_stand, no_settings, place_behind, script_limit, session_settings, settings_from, with_setting}
@@ -148,6 +150,14 @@ allowed_read_fault : (kind : Option ReadKind) (node nth : List ℕ) → SetsAllo
 allowed_read_fault None node nth = tt
 allowed_read_fault (Some kind) node nth = allowed_call (read_of kind) node nth
 
+allowed_ask_fault : (kind : Option AskKind) (namenode nth : List ℕ) → SetsAllowed (ask_fault kind namenode nth)
+allowed_ask_fault None namenode nth = tt
+allowed_ask_fault (Some kind) namenode nth = allowed_call (ask_of kind) namenode nth
+
+allowed_exception : (namenode nth kind class : List ℕ) → SetsAllowed (exception_fault namenode nth kind class)
+allowed_exception namenode nth kind class =
+    allowed_if (bytes_eq kind (codes "exception") && is_word class) _ _ (allowed_call (ask_of (ask_kinds.Exception class)) namenode nth) tt
+
 -- a file,
 allowed_file : (path : List ℕ) (attributes : Option Attributes) (bytes : Option (List ℕ)) → SetsAllowed (file_entry path attributes bytes)
 allowed_file path None bytes = tt
@@ -201,9 +211,12 @@ allowed_words (a ∷ b ∷ c ∷ d ∷ []) =
     (allowed_if (bytes_eq a (codes "do") && bytes_eq b (codes "write")) _ _ (allowed_write c (hex_bytes d)) tt)
 allowed_words (a ∷ b ∷ c ∷ d ∷ e ∷ []) =
     allowed_if (bytes_eq a (codes "fault") && bytes_eq b (codes "read")) _ _ (allowed_read_fault (read_kind e) c d)
+    (allowed_if (bytes_eq a (codes "fault") && bytes_eq b (codes "ask")) _ _ (allowed_ask_fault (ask_kind e) c d)
     (allowed_if (bytes_eq a (codes "do") && bytes_eq b (codes "read")) _ _ (allowed_read c (number 10 (2 ^ 64) d) (number 10 (2 ^ 64) e))
-    (allowed_if (bytes_eq a (codes "short")) _ _ (allowed_short b c d e) tt))
-allowed_words (a ∷ b ∷ c ∷ d ∷ e ∷ f ∷ []) = allowed_if (bytes_eq a (codes "file")) _ _ (allowed_file b (attributes_of c d e) (hex_bytes f)) tt
+    (allowed_if (bytes_eq a (codes "short")) _ _ (allowed_short b c d e) tt)))
+allowed_words (a ∷ b ∷ c ∷ d ∷ e ∷ f ∷ []) =
+    allowed_if (bytes_eq a (codes "file")) _ _ (allowed_file b (attributes_of c d e) (hex_bytes f))
+    (allowed_if (bytes_eq a (codes "fault") && bytes_eq b (codes "ask")) _ _ (allowed_exception c d e f) tt)
 allowed_words (a ∷ b ∷ c ∷ d ∷ e ∷ f ∷ g ∷ []) = tt
 allowed_words (a ∷ b ∷ c ∷ d ∷ e ∷ f ∷ g ∷ h ∷ []) =
     allowed_if (bytes_eq a (codes "do") && bytes_eq b (codes "create")) _ _ (allowed_create c (options_of d e f g h)) tt

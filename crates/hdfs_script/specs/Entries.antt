@@ -4,6 +4,8 @@ use Rattle.std.specs.List.{list_all, slice_split}
 use Rattle.std.specs.Str.{bytes_eq}
 use Rattle.hdfs_model.specs.declared.attributes.Attributes.{Attributes}
 use Rattle.hdfs_model.specs.declared.store.Line.TheVariants as lines
+use Rattle.hdfs_model.specs.declared.store.AskKind.{AskKind}
+use Rattle.hdfs_model.specs.declared.store.AskKind.TheVariants as ask_kinds
 use Rattle.hdfs_model.specs.declared.store.FaultLine.{FaultLine}
 use Rattle.hdfs_model.specs.declared.store.FaultLine.TheVariants as faults
 use Rattle.hdfs_model.specs.declared.store.LinkKind.{LinkKind}
@@ -124,7 +126,7 @@ abbrev pub link_entry : Option ℕ → Option LinkKind → Entry
 link_entry (Some nth) (Some kind) = if nat_le 1 nth then Loads (lines.Fault (faults.Link nth kind)) else Bad
 link_entry _ _ = Bad
 
--- a fault of datanode D in its Nth call of some kind
+-- a fault of the object with a number in its Nth call of some kind
 abbrev pub node_entry : (ℕ → ℕ → FaultLine) → Option ℕ → Option ℕ → Entry
 node_entry fault (Some node) (Some nth) = if nat_le 1 nth then Loads (lines.Fault (fault node nth)) else Bad
 node_entry fault _ _ = Bad
@@ -150,6 +152,29 @@ read_of kind node nth = faults.ReadOf node nth kind
 abbrev pub read_fault : Option ReadKind → List ℕ → List ℕ → Entry
 read_fault None node nth = Bad
 read_fault (Some kind) node nth = node_fault (read_of kind) node nth
+
+-- how a namenode fails an ask, but for an exception
+abbrev pub ask_kind : List ℕ → Option AskKind
+ask_kind text =
+    if bytes_eq text (codes "lost") then Some ask_kinds.Lost
+    else if bytes_eq text (codes "late") then Some ask_kinds.Late
+    else if bytes_eq text (codes "false") then Some ask_kinds.FalseAnswer
+    else if bytes_eq text (codes "fatal") then Some ask_kinds.Fatal
+    else None
+
+-- a fault of an ask that is of this kind
+abbrev pub ask_of : AskKind → ℕ → ℕ → FaultLine
+ask_of kind namenode nth = faults.Ask namenode nth kind
+
+-- `fault ask I N KIND`
+abbrev pub ask_fault : Option AskKind → List ℕ → List ℕ → Entry
+ask_fault None namenode nth = Bad
+ask_fault (Some kind) namenode nth = node_fault (ask_of kind) namenode nth
+
+-- `fault ask I N exception CLASS`
+abbrev pub exception_fault : List ℕ → List ℕ → List ℕ → List ℕ → Entry
+exception_fault namenode nth kind class =
+    if bytes_eq kind (codes "exception") && is_word class then node_fault (ask_of (ask_kinds.Exception class)) namenode nth else Bad
 
 -- two words: `dir PATH`
 abbrev pub two_words : List ℕ → List ℕ → Entry
@@ -178,20 +203,27 @@ four_words a b c d =
     else if bytes_eq a (codes "do") && bytes_eq b (codes "write") then write_entry c (hex_bytes d)
     else Bad
 
--- five words: `fault read D N KIND`, `do read PATH OFFSET LEN` or `short PATH K D LEN`
+-- five words: `fault read D N KIND`, `fault ask I N KIND`, `do read PATH OFFSET LEN` or `short PATH K D LEN`
 abbrev pub five_words : List ℕ → List ℕ → List ℕ → List ℕ → List ℕ → Entry
 five_words a b c d e =
     if bytes_eq a (codes "fault") && bytes_eq b (codes "read") then read_fault (read_kind e) c d
+    else if bytes_eq a (codes "fault") && bytes_eq b (codes "ask") then ask_fault (ask_kind e) c d
     else if bytes_eq a (codes "do") && bytes_eq b (codes "read") then read_entry c (number 10 (2 ^ 64) d) (number 10 (2 ^ 64) e)
     else if bytes_eq a (codes "short") then short_entry b c d e
     else Bad
 
--- The entry that the words of a line are. Six words are a file, and eight a new file.
+-- six words: `file PATH PERM REPL BLOCK HEX` or `fault ask I N exception CLASS`
+abbrev pub six_words : List ℕ → List ℕ → List ℕ → List ℕ → List ℕ → List ℕ → Entry
+six_words a b c d e f =
+    if bytes_eq a (codes "file") then file_entry b (attributes_of c d e) (hex_bytes f)
+    else if bytes_eq a (codes "fault") && bytes_eq b (codes "ask") then exception_fault c d e f
+    else Bad
+
+-- The entry that the words of a line are. Eight words are a new file.
 abbrev pub words_entry : List (List ℕ) → Entry
 words_entry (a ∷ b ∷ c ∷ d ∷ e ∷ f ∷ g ∷ h ∷ []) =
     if bytes_eq a (codes "do") && bytes_eq b (codes "create") then create_entry c (options_of d e f g h) else Bad
-words_entry (a ∷ b ∷ c ∷ d ∷ e ∷ f ∷ []) =
-    if bytes_eq a (codes "file") then file_entry b (attributes_of c d e) (hex_bytes f) else Bad
+words_entry (a ∷ b ∷ c ∷ d ∷ e ∷ f ∷ []) = six_words a b c d e f
 words_entry (a ∷ b ∷ c ∷ d ∷ e ∷ []) = five_words a b c d e
 words_entry (a ∷ b ∷ c ∷ d ∷ []) = four_words a b c d
 words_entry (a ∷ b ∷ c ∷ []) = three_words a b c

@@ -45,6 +45,8 @@ variant_name (errors.AlreadyExists message) = codes "AlreadyExists"
 variant_name (errors.OperationFailed path) = codes "OperationFailed"
 variant_name (errors.FileNotFound path) = codes "FileNotFound"
 variant_name (errors.RPCError class message) = codes "RPCError"
+variant_name (errors.InvalidRPCResponse fault) = codes "InvalidRPCResponse"
+variant_name (errors.FatalRPCError class message) = codes "FatalRPCError"
 
 -- the line of a fault: the number of its command, and the error's name
 abbrev pub fault_line : Fault → List ℕ

@@ -1,7 +1,7 @@
 //! Why a script that is refused goes wrong at its first bad line. It is read once more for this.
 use crate::command::{flag, given_block_size, given_replication};
 use crate::entry::{Entry, Place, Setting};
-use crate::fault::{link_kind, read_kind};
+use crate::fault::{ask_kind, link_kind, read_kind};
 use crate::line::entry;
 use crate::numbers::number;
 use crate::parsing::{FIRST_PLACE, SCRIPT_LIMIT, may_stand, place_behind};
@@ -85,6 +85,34 @@ fn wrong_node(node: &[u8]) -> Wrong {
     Wrong::Nth
 }
 
+// Why these words name no ask of a namenode.
+fn wrong_ask_number(namenode: &[u8]) -> Wrong {
+    if number(10, U32_MOST, namenode).is_none() {
+        return Wrong::Namenode;
+    }
+    Wrong::Nth
+}
+
+// Why the words of a line plan no fault of an ask, which begins with `fault ask`.
+fn wrong_ask(words: &[&[u8]]) -> Wrong {
+    if words.len() == 5 {
+        if ask_kind(words[4]).is_none() {
+            return Wrong::AskKind;
+        }
+        return wrong_ask_number(words[2]);
+    }
+    if words.len() != 6 {
+        return Wrong::AskWords;
+    }
+    if !is_text(words[4], "exception") {
+        return Wrong::AskWords;
+    }
+    if !is_word(words[5]) {
+        return Wrong::Class;
+    }
+    wrong_ask_number(words[2])
+}
+
 // Why the words of a line plan no fault of a pipeline's set-up, which begins with `fault link`.
 fn wrong_link(words: &[&[u8]]) -> Wrong {
     if words.len() != 4 {
@@ -121,7 +149,9 @@ fn wrong_fault(words: &[&[u8]]) -> Wrong {
         return Wrong::FaultWords;
     }
     let call = words[1];
-    if is_text(call, "link") {
+    if is_text(call, "ask") {
+        wrong_ask(words)
+    } else if is_text(call, "link") {
         wrong_link(words)
     } else if is_text(call, "ack") {
         wrong_sent(words, Wrong::AckWords)

@@ -1,13 +1,15 @@
 //! The lines of a script that plan a fault.
-ghost use Rattle.std.specs.Prelude.{◌≡◌, ◌^◌, ℕ, MatchOption};
+ghost use Rattle.std.specs.Prelude.{◌≡◌, ◌^◌, ℕ, IfOk, MatchOption};
 ghost use Rattle.hdfs_model.specs.declared.store.FaultLine.{FaultLine as Fault};
 ghost use Rattle.hdfs_script.specs.Entries as spec;
 ghost use Rattle.hdfs_script.specs.Numbers.{number as number_of};
 
 use crate::entry::Entry;
 use crate::numbers::number;
-use crate::words::{U32_MOST, U64_MOST, is_text};
-use hdfs_model::{FaultLine, Line, LinkKind, ReadKind};
+use crate::words::{U32_MOST, U64_MOST, is_text, word};
+use hdfs_model::{AskKind, FaultLine, Line, LinkKind, ReadKind};
+use hdfs_wire::{NoMemory, Text};
+use std::alloc::Global;
 
 /// How the set-up of a pipeline fails.
 pub(crate) fn link_kind(text: &[u8]) -> Option<LinkKind>
@@ -38,13 +40,13 @@ fn link_entry(nth: &[u8], kind: &[u8]) -> Entry
     Entry::Loads(Line::Fault(FaultLine::Link { nth, kind }))
 }
 
-// A call of a datanode.
+// A call of the object with a number: a datanode, or a namenode.
 struct NodeCall {
     node: u32,
     nth: u64,
 }
 
-// The call of a datanode that two words write.
+// The call that two words write.
 fn node_call(node: &[u8], nth: &[u8]) -> Option<NodeCall>
     ensures { (fault : ℕ → ℕ → Fault) → MatchOption result (spec.node_fault fault node.now nth.now ≡ Entry.Bad)
         (λ call. spec.node_fault fault node.now nth.now ≡ Entry.Loads (Line.Fault (fault call.node call.nth))) }
@@ -111,6 +113,81 @@ pub(crate) fn read_fault(node: &[u8], nth: &[u8], kind: &[u8]) -> Entry
         return Entry::Bad;
     };
     Entry::Loads(Line::Fault(FaultLine::ReadOf { node, nth, kind }))
+}
+
+/// How a namenode fails an ask, but for an exception.
+pub(crate) fn ask_kind(text: &[u8]) -> Option<AskKind>
+    ensures { result ≡ spec.ask_kind text.now }
+{
+    if is_text(text, "lost") {
+        return Some(AskKind::Lost);
+    }
+    if is_text(text, "late") {
+        return Some(AskKind::Late);
+    }
+    if is_text(text, "false") {
+        return Some(AskKind::FalseAnswer);
+    }
+    if is_text(text, "fatal") {
+        return Some(AskKind::Fatal);
+    }
+    None
+}
+
+/// `fault ask I N KIND`
+pub(crate) fn ask_fault(namenode: &[u8], nth: &[u8], kind: &[u8]) -> Entry
+    ensures { result ≡ spec.ask_fault (spec.ask_kind kind.now) namenode.now nth.now }
+{
+    let Some(kind) = ask_kind(kind) else {
+        return Entry::Bad;
+    };
+    let Some(
+        NodeCall {
+            node: namenode,
+            nth,
+        },
+    ) = node_call(namenode, nth)
+    else {
+        return Entry::Bad;
+    };
+    Entry::Loads(Line::Fault(FaultLine::Ask {
+        namenode,
+        nth,
+        kind,
+    }))
+}
+
+/// `fault ask I N exception CLASS`
+pub(crate) fn exception_fault(
+    alloc: Global,
+    namenode: &[u8],
+    nth: &[u8],
+    kind: &[u8],
+    class: &[u8],
+) -> Result<Entry, NoMemory>
+    ensures { IfOk result (λ entry. entry ≡ spec.exception_fault namenode.now nth.now kind.now class.now) }
+{
+    if !is_text(kind, "exception") {
+        return Ok(Entry::Bad);
+    }
+    let Some(class) = word(class) else {
+        return Ok(Entry::Bad);
+    };
+    let Some(
+        NodeCall {
+            node: namenode,
+            nth,
+        },
+    ) = node_call(namenode, nth)
+    else {
+        return Ok(Entry::Bad);
+    };
+    let kind = AskKind::Exception(Text::from_str(alloc, class)?);
+    Ok(Entry::Loads(Line::Fault(FaultLine::Ask {
+        namenode,
+        nth,
+        kind,
+    })))
 }
 
 /// `fault link N KIND`, `fault ack D N` or `fault send D N`

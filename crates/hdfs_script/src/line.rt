@@ -6,7 +6,7 @@ ghost use Rattle.hdfs_script.specs.Entries as spec;
 
 use crate::command::{append_entry, close_entry, create_entry, options, read_entry, write_entry};
 use crate::entry::Entry;
-use crate::fault::{fault_entry, read_fault};
+use crate::fault::{ask_fault, exception_fault, fault_entry, read_fault};
 use crate::file::{attributes, dir_entry, file_entry, short_entry};
 use crate::setting::set_entry;
 use crate::words::{is_ascii, is_text, words};
@@ -35,20 +35,22 @@ fn eight_words(
 fn six_words(
     alloc: Global,
     kind: &[u8],
-    path: &[u8],
-    permission: &[u8],
-    replication: &[u8],
-    block_size: &[u8],
-    bytes: &[u8],
+    call: &[u8],
+    a: &[u8],
+    b: &[u8],
+    c: &[u8],
+    d: &[u8],
 ) -> Result<Entry, NoMemory>
-    ensures { IfOk result (λ entry. entry ≡ spec.words_entry
-        (kind.now ∷ path.now ∷ permission.now ∷ replication.now ∷ block_size.now ∷ bytes.now ∷ [])) }
+    ensures { IfOk result (λ entry. entry ≡ spec.words_entry (kind.now ∷ call.now ∷ a.now ∷ b.now ∷ c.now ∷ d.now ∷ [])) }
 {
-    if !is_text(kind, "file") {
-        return Ok(Entry::Bad);
+    if is_text(kind, "file") {
+        let attributes = attributes(a, b, c);
+        return Ok(file_entry(alloc, call, attributes, d)?);
     }
-    let attributes = attributes(permission, replication, block_size);
-    Ok(file_entry(alloc, path, attributes, bytes)?)
+    if is_text(kind, "fault") && is_text(call, "ask") {
+        return Ok(exception_fault(alloc, a, b, c, d)?);
+    }
+    Ok(Entry::Bad)
 }
 
 // A line of five words.
@@ -64,6 +66,9 @@ fn five_words(
 {
     if is_text(kind, "fault") && is_text(call, "read") {
         return Ok(read_fault(a, b, c));
+    }
+    if is_text(kind, "fault") && is_text(call, "ask") {
+        return Ok(ask_fault(a, b, c));
     }
     if is_text(kind, "do") && is_text(call, "read") {
         return Ok(read_entry(alloc, a, b, c)?);

@@ -19,5 +19,7 @@ pub fn variant_name(error: &HdfsError) -> &'static str
         HdfsError::OperationFailed(_) => "OperationFailed",
         HdfsError::FileNotFound(_) => "FileNotFound",
         HdfsError::RPCError(_, _) => "RPCError",
+        HdfsError::InvalidRPCResponse(_) => "InvalidRPCResponse",
+        HdfsError::FatalRPCError(_, _) => "FatalRPCError",
     }
 }

@@ -18,8 +18,10 @@ pub enum Wrong {
     FileWords,
     #[error("not `short PATH BLOCK NODE LENGTH`, with one space between words")]
     ShortWords,
-    #[error("begins with none of `fault link`, `fault ack`, `fault send` and `fault read`")]
+    #[error("begins with none of `fault ask`, `fault link`, `fault ack`, `fault send` and `fault read`")]
     FaultWords,
+    #[error("neither `fault ask NAMENODE NTH KIND` nor `fault ask NAMENODE NTH exception CLASS`, with one space between words")]
+    AskWords,
     #[error("not `fault link NTH KIND`, with one space between words")]
     LinkWords,
     #[error("not `fault ack NODE NTH`, with one space between words")]
@@ -86,8 +88,14 @@ pub enum Wrong {
     Block,
     #[error("NODE isn't a number from 0 to 4294967295")]
     Node,
+    #[error("NAMENODE isn't a number from 0 to 4294967295")]
+    Namenode,
     #[error("NTH isn't a number from 1 to 18446744073709551615")]
     Nth,
+    #[error("KIND isn't `lost`, `late`, `false`, `fatal` or `exception CLASS`")]
+    AskKind,
+    #[error("CLASS is empty, or has a byte that isn't printable")]
+    Class,
     #[error("KIND isn't `broken`, `refused` or `badack`")]
     LinkKind,
     #[error("KIND isn't `broken`, `damaged`, `gap` or `refused`")]

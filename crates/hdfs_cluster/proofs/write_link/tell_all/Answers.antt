@@ -17,7 +17,7 @@ loop-node-init c =
     record {
       tells = subst (λ (ss : List ℕ). TellsAll (fails_at plan) plan [] ss plan) (sym c.requires.empty) (tells_none (fails_at plan) plan);
       goes_on = λ loaded follows. follows;
-      plans = record { there = λ d. refl; fails = λ s nth. refl; kinds = λ nth. refl; packets = λ d nth. refl };
+      plans = record { there = λ d. refl; fails = λ s nth. refl; kinds = λ nth. refl; packets = λ d nth. refl; asks = λ i nth. refl };
       links = record { faults = refl; bad = λ link. refl };
       len = c.requires.none;
       room = refl;

@@ -4,8 +4,10 @@ use Rattle.std.proofs.lemmas.Result.{err_from_is_err_and}
 use Rattle.slab.specs.Slab as slab
 use Rattle.slab.specs.Slab.{with_value}
 use Rattle.hdfs_model.specs.declared.asks.LinkFault.TheVariants as link_faults
+use Rattle.hdfs_faults.specs.declared.fault_plan.FaultPlan.{FaultPlan}
 use Rattle.hdfs_cluster.specs.Lines.{line_of}
 use Rattle.hdfs_cluster.specs.Links.{write_told, UnackedOn}
+use Rattle.hdfs_cluster.specs.MemShown.{namenode_faults}
 use Rattle.hdfs_cluster.proofs.Acknowledging.{acknowledged_on, awaited, awaited_on}
 use Rattle.hdfs_cluster.proofs.Asking.{acks_earlier, acks_follow_on, asks_ack_on}
 use Rattle.hdfs_cluster.proofs.Counting.{counts_nothing, falls_same}
@@ -41,7 +43,9 @@ returns-in_err-ack-clause-err c =
     (links_unacked m.links s' c.args.link o o' was (updates_with m.links c.args.link o o' was) c.in_err-ack.ensures.err.0) link_faults.NoMemory refl c.args.link)
 
 pub returns-in_err-ack-clause-counted : goal.returns-in_err-ack-clause-counted
-returns-in_err-ack-clause-counted c = on_err c.from_residual.result (counts_nothing c.args.self.now _ (same_nodes_refl c.args.self.now.nodes) c.in_err-ack.ensures.err.1 (λ i. refl))
+returns-in_err-ack-clause-counted c =
+    let m = c.args.self.now in
+    on_err c.from_residual.result (counts_nothing m _ (same_nodes_refl m.nodes) c.in_err-ack.ensures.err.1 (λ i. ap (λ (p : FaultPlan). namenode_faults m.config.settings m.calls p i) c.in_err-ack.ensures.err.1))
 
 pub returns-clause-ok : goal.returns-clause-ok
 returns-clause-ok c =

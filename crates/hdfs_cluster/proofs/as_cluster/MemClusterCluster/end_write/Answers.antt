@@ -4,7 +4,7 @@ use Rattle.hdfs_cluster.specs.Lines.{line_of}
 use Rattle.hdfs_faults.proofs.Following.{end_follows}
 use Rattle.hdfs_cluster.proofs.Acknowledging.{ended_write}
 use Rattle.hdfs_cluster.proofs.Asking.{counts_end}
-use Rattle.hdfs_cluster.proofs.Counting.{falls_end}
+use Rattle.hdfs_cluster.proofs.Counting.{same_namenodes, falls_end}
 use Rattle.hdfs_cluster.proofs.Earlier.{changed_earlier, later_earlier}
 use Rattle.hdfs_cluster.proofs.as_cluster.MemClusterCluster.end_write.Goals as goal
 
@@ -31,4 +31,6 @@ returns-clause-ended c =
     ended_write m.space m.config.settings m.last m.calls (map line_of m.loaded.items) m.faults c.end.new.self (falls_end m.faults c.end.new.self c.args.link c.end.ensures) m.nodes m.links c.try_remove-gone.new.self c.args.link None c.requires c.try_remove-gone.ensures.updates refl refl refl refl
 
 pub returns-clause-counted : goal.returns-clause-counted
-returns-clause-counted c = counts_end c.args.self.now _ c.args.link c.end.ensures c.try_remove-gone.ensures.updates refl (λ i. refl)
+returns-clause-counted c =
+    let m = c.args.self.now in
+    counts_end m _ c.args.link c.end.ensures c.try_remove-gone.ensures.updates refl (same_namenodes m.config.settings m.calls m.faults c.end.new.self c.end.ensures.asks)

@@ -15,7 +15,7 @@ use Rattle.hdfs_namespace.specs.Memory.{is_nil}
 use Rattle.hdfs_cluster.specs.MemShown.{loaded_at, is_fresh_of}
 use Rattle.hdfs_replicas.specs.Nodes.{node_at, undisturbed_in, Joins}
 use Rattle.hdfs_replicas.specs.Replicas.{held_by, undisturbed_by}
-use Rattle.hdfs_cluster.proofs.Counting.{falls_adds}
+use Rattle.hdfs_cluster.proofs.Counting.{same_namenodes, falls_adds}
 use Rattle.hdfs_cluster.proofs.Earlier.{later_earlier}
 use Rattle.hdfs_cluster.proofs.Failing.{fresh_calls}
 use Rattle.hdfs_cluster.proofs.NothingLoaded.{on_err}
@@ -54,7 +54,7 @@ pub returns-in_err-add_nodes-clause-err : goal.returns-in_err-add_nodes-clause-e
 returns-in_err-add_nodes-clause-err c =
     let adds = c.add_nodes.ensures.rest in
     on_err c.from_residual.result (record {
-      rest = record { counts = record { calls = λ i. refl; links = adds.links.faults; nodes = adds.nodes }; last = refl; namenodes = refl; reads = λ link. refl; writes = λ link. refl };
+      rest = record { counts = record { calls = same_namenodes c.args.self.now.config.settings c.args.self.now.calls c.args.self.now.faults c.add_nodes.new.self adds.asks; links = adds.links.faults; nodes = adds.nodes }; last = refl; namenodes = refl; reads = λ link. refl; writes = λ link. refl };
       lines = refl;
       picture = record {
         rest = record {
@@ -72,7 +72,7 @@ returns-in_err-grow-clause-err c =
     let joins = c.grow.ensures.joins in
     let adds = c.add_nodes.ensures.rest in
     on_err c.from_residual-in_err-grow.result (record {
-      rest = record { counts = record { calls = λ i. refl; links = adds.links.faults; nodes = adds.nodes }; last = refl; namenodes = refl; reads = λ link. refl; writes = λ link. refl };
+      rest = record { counts = record { calls = same_namenodes c.args.self.now.config.settings c.args.self.now.calls c.args.self.now.faults c.add_nodes.new.self adds.asks; links = adds.links.faults; nodes = adds.nodes }; last = refl; namenodes = refl; reads = λ link. refl; writes = λ link. refl };
       lines = refl;
       picture = record {
         rest = record {
@@ -90,7 +90,7 @@ returns-clause-ok c =
     let joins = c.grow.ensures.joins in
     let adds = c.add_nodes.ensures.rest in
     record {
-      counts = record { calls = fresh_calls c.args.self.now c.requires.fresh c.new-self.result.settings; links = adds.links.faults; nodes = adds.nodes };
+      counts = record { calls = fresh_calls c.args.self.now c.requires.fresh c.new-self.result.settings c.add_nodes.new.self adds.asks; links = adds.links.faults; nodes = adds.nodes };
       last = refl;
       namenodes = ap (λ (s : MemSettings). s.namenodes) c.new-self.ensures;
       reads = λ link. refl;
@@ -117,7 +117,7 @@ pub returns-clause-counted : goal.returns-clause-counted
 returns-clause-counted c =
     let adds = c.add_nodes.ensures.rest in
     record {
-      counts = record { calls = fresh_calls c.args.self.now c.requires.fresh c.new-self.result.settings; links = adds.links.faults; nodes = adds.nodes };
+      counts = record { calls = fresh_calls c.args.self.now c.requires.fresh c.new-self.result.settings c.add_nodes.new.self adds.asks; links = adds.links.faults; nodes = adds.nodes };
       calls = adds.calls;
       bad = λ link shown. adds.links.bad link;
       there = λ d has. record { there = (c.grow.ensures.joins d).there has.there; counted = adds.there d has.counted };
@@ -127,7 +127,7 @@ pub returns-in_err-add_nodes-clause-counted : goal.returns-in_err-add_nodes-clau
 returns-in_err-add_nodes-clause-counted c =
     let adds = c.add_nodes.ensures.rest in
     record {
-      counts = record { calls = λ i. refl; links = adds.links.faults; nodes = adds.nodes };
+      counts = record { calls = same_namenodes c.args.self.now.config.settings c.args.self.now.calls c.args.self.now.faults c.add_nodes.new.self adds.asks; links = adds.links.faults; nodes = adds.nodes };
       calls = adds.calls;
       bad = λ link shown. adds.links.bad link;
       there = λ d has. record { there = has.there; counted = adds.there d has.counted };
@@ -137,7 +137,7 @@ pub returns-in_err-grow-clause-counted : goal.returns-in_err-grow-clause-counted
 returns-in_err-grow-clause-counted c =
     let adds = c.add_nodes.ensures.rest in
     record {
-      counts = record { calls = λ i. refl; links = adds.links.faults; nodes = adds.nodes };
+      counts = record { calls = same_namenodes c.args.self.now.config.settings c.args.self.now.calls c.args.self.now.faults c.add_nodes.new.self adds.asks; links = adds.links.faults; nodes = adds.nodes };
       calls = adds.calls;
       bad = λ link shown. adds.links.bad link;
       there = λ d has. record { there = (c.grow.ensures.joins d).there has.there; counted = adds.there d has.counted };

@@ -10,7 +10,7 @@ use Rattle.hdfs_cluster.specs.Links.{read_told, read_place, write_told, write_pl
 use Rattle.hdfs_cluster.specs.MemShown.{picture_at, loaded_at}
 use Rattle.hdfs_cluster.specs.Laws.{agrees_bare}
 use Rattle.hdfs_namespace.proofs.Naming.{empty_is_state}
-use Rattle.hdfs_cluster.proofs.Failing.{no_calls}
+use Rattle.hdfs_cluster.proofs.Failing.{no_namenode_faults}
 use Rattle.hdfs_cluster.proofs.mem_cluster.MemCluster.new.Goals as goal
 
 pub returns-clause-starts : goal.returns-clause-starts
@@ -28,7 +28,7 @@ returns-clause-starts c = record {
   no_read = λ link. ap (λ slots. read_told (slice_index_or slots link None)) c.new-4.ensures.empty;
   no_write = λ link. ap (λ slots. write_told (slice_index_or slots link None)) c.new-4.ensures.empty;
   no_line = ap (λ (s : MemSettings). loaded_at s (map line_of c.new-6.result.items)) c.new.ensures ∙ ap (λ (xs : List Kept). loaded_at c.args.settings (map line_of xs)) c.new-6.ensures.items;
-  calls = no_calls c.new.result.settings 0 refl;
+  calls = λ i. no_namenode_faults c.new.result.settings 0 c.in_ok-new-3.field-0 i (c.in_ok-new-3.ensures.new.asks i) refl;
   links = c.in_ok-new-3.ensures.new.links;
   nodes = c.in_ok-new-3.ensures.new.nodes;
 }

@@ -1,6 +1,6 @@
 -- Objects fail only where faults were loaded for them.
 use Rattle.hdfs_cluster.proofs.Counting.{links_planned, nodes_planned}
-use Rattle.hdfs_cluster.proofs.Failing.{calls_planned}
+use Rattle.hdfs_cluster.proofs.Failing.{asks_planned, calls_planned}
 use Rattle.hdfs_cluster.proofs.mem_cluster.MemCluster.seen.Goals as goal
 
 pub returns-in_err-all_calls-clause-planned : goal.returns-in_err-all_calls-clause-planned
@@ -29,3 +29,12 @@ returns-in_err-all_faults-clause-planned_calls c = calls_planned c.args.self.now
 
 pub returns-clause-planned_calls : goal.returns-clause-planned_calls
 returns-clause-planned_calls c = calls_planned c.args.self.now
+
+pub returns-in_err-all_calls-clause-planned_asks : goal.returns-in_err-all_calls-clause-planned_asks
+returns-in_err-all_calls-clause-planned_asks c = asks_planned c.args.self.now
+
+pub returns-in_err-all_faults-clause-planned_asks : goal.returns-in_err-all_faults-clause-planned_asks
+returns-in_err-all_faults-clause-planned_asks c = asks_planned c.args.self.now
+
+pub returns-clause-planned_asks : goal.returns-clause-planned_asks
+returns-clause-planned_asks c = asks_planned c.args.self.now

@@ -8,7 +8,7 @@ use Rattle.hdfs_cluster.specs.declared.loaded.Kept.TheVariants as keeps
 use Rattle.hdfs_cluster.specs.Lines.{line_of}
 use Rattle.hdfs_cluster.specs.MemShown.{loaded_at, picture_at}
 use Rattle.hdfs_cluster.proofs.Failing.{unfailed_push, unfailed_same}
-use Rattle.hdfs_cluster.proofs.Counting.{falls_fault}
+use Rattle.hdfs_cluster.proofs.Counting.{same_namenodes, falls_fault}
 use Rattle.hdfs_cluster.proofs.Earlier.{later_earlier}
 use Rattle.hdfs_cluster.proofs.Cutting.{keeps_refl}
 use Rattle.hdfs_cluster.proofs.Lying.{lie_fault}
@@ -41,7 +41,7 @@ returns-clause-loads c =
     let items : c.push_reserved.new.self.items ≡ m.loaded.items ++ kept ∷ [] = c.push_reserved.ensures.items ∙ ap (λ (xs : List Kept). xs ++ kept ∷ []) c.reserve.ensures.items in
     let plans = c.in_ok-plan.ensures.ok in
     record {
-      rest = record { counts = record { calls = λ i. refl; links = plans.links.faults; nodes = plans.nodes }; last = refl; namenodes = refl; reads = λ link. refl; writes = λ link. refl };
+      rest = record { counts = record { calls = same_namenodes m.config.settings m.calls m.faults c.plan.new.self plans.asks; links = plans.links.faults; nodes = plans.nodes }; last = refl; namenodes = refl; reads = λ link. refl; writes = λ link. refl };
       settings = refl;
       lines = ap (map line_of) items ∙ map-append line_of m.loaded.items (kept ∷ []);
       picture = record { rest = record { files = record { names = λ path. refl; table = λ id. refl; held = λ node id. refl; defaults = refl }; reads = λ link. refl; writes = λ link. refl }; active = refl };
@@ -59,7 +59,7 @@ returns-in_err-plan-clause-err c =
     let m = c.args.self.now in
     let same = c.in_err-plan.ensures.err in
     on_err c.from_residual-in_err-plan.result (record {
-      rest = record { counts = record { calls = λ i. refl; links = same.links.faults; nodes = same.nodes }; last = refl; namenodes = refl; reads = λ link. refl; writes = λ link. refl };
+      rest = record { counts = record { calls = same_namenodes m.config.settings m.calls m.faults c.plan.new.self same.asks; links = same.links.faults; nodes = same.nodes }; last = refl; namenodes = refl; reads = λ link. refl; writes = λ link. refl };
       lines = ap (λ (xs : List Kept). loaded_at m.config.settings (map line_of xs)) c.reserve.ensures.items;
       picture = record { active = refl; defaults = refl; reads = λ link. refl; writes = λ link. refl; table = λ id some. refl; held = λ node id some. refl };
       files = λ state was. was;
