@@ -61,7 +61,7 @@ fn faulty(alloc: Global, nodes: u32, faults: &[FaultLine]) -> Result<Box<MemClus
     }
     let mut cluster = Box::new(alloc, MemCluster::new(alloc, settings)?)?;
     for fault in faults {
-        cluster.load(Line::Fault(*fault))?;
+        cluster.load(Line::Fault(fault.copy(alloc)?))?;
     }
     Ok(cluster)
 }

@@ -1,7 +1,9 @@
 //! The program over memory, and the plain program's answer to the same script: what tests and the sweep over short sessions share.
 #![tactic(auto)]
 
+mod faults;
 mod noting;
+mod outages;
 mod pipelines;
 
 ghost use Rattle.std.specs.Prelude.{◌<◌};
@@ -16,6 +18,7 @@ use hdfs_streams::{MemSink, MemSource};
 use hdfs_top::{Note, top};
 use hdfs_wire::{Blob, List};
 pub use noting::{listed, noted};
+pub use outages::{Outages, check_outages};
 pub use pipelines::{Tally, check_pipelines};
 use std::alloc::Global;
 use std::test::Fail;

@@ -1,6 +1,7 @@
 //! Sessions that write a file of three replicas while one call fails, or two: each is answered as by the plain program, or stops behind a
 //! part of its replies for a cause that the counts show.
 
+use crate::faults::{none_failed, pair_of, stops_behind};
 use crate::{Ending, listed, noted, plain_answer};
 use hdfs_client_tests::cluster;
 use hdfs_cluster::{Counts, MemCluster};
@@ -49,6 +50,9 @@ const FAULTS: u64 = 66;
 /// How many pairs of faults there are, where a fault with itself is that one alone.
 const PAIRS: u64 = 2211;
 
+/// The errors at which a session may stop.
+const ERRORS: [&str; 2] = ["IOError", "DataTransferError"];
+
 /// A way to run a session, by its number: the lines of its settings, that of its file, and the command that opens it.
 fn way_of(alloc: Global, number: u64) -> Result<(String, &'static str), Fail> {
     let (file, opening) = OPENINGS[(number % 2) as usize];
@@ -75,25 +79,6 @@ fn fault_line(alloc: Global, number: u64) -> Result<String, Fail> {
     }
     let kind = ["broken", "refused", "badack"][(place - 8) as usize % 3];
     Ok(format!(in alloc; "fault link {nth} {kind}\n")?)
-}
-
-/// The faults of a pair, by its number: the second isn't behind the first.
-fn pair_of(number: u64) -> (u64, u64) {
-    let mut rest = number;
-    for first in 0..FAULTS {
-        if rest <= first {
-            return (first, rest);
-        }
-        rest -= first + 1;
-    }
-    (0, 0)
-}
-
-/// Whether nothing has failed.
-fn none_failed(counts: &Counts) -> bool {
-    counts.links == 0
-        && counts.nodes.as_slice().iter().all(|count| *count == 0)
-        && counts.calls.as_slice().iter().all(|count| *count == 0)
 }
 
 /// Whether each datanode has failed that is listed for the blocks of the file, and one is.
@@ -145,27 +130,6 @@ fn note_error(
     Ok(false)
 }
 
-/// Whether a text is the first lines of another one, and then that of a fault of the next command.
-fn stops_behind(alloc: Global, given: &str, plain: &str) -> Result<bool, Fail> {
-    let mut front = String::new(alloc);
-    let mut rest = plain;
-    for number in 1..6u64 {
-        for name in ["IOError", "DataTransferError"] {
-            let wanted = format!(in alloc; "{}fault {number} {name}\n", front.as_str())?;
-            if given == wanted.as_str() {
-                return Ok(true);
-            }
-        }
-        let Some((line, behind)) = rest.split_once('\n') else {
-            return Ok(false);
-        };
-        front.push_str(line)?;
-        front.push('\n')?;
-        rest = behind;
-    }
-    Ok(false)
-}
-
 /// Runs a session over a new cluster, and counts how it ended. Answers whether it ended as it should.
 fn check_session(
     alloc: Global,
@@ -184,7 +148,7 @@ fn check_session(
     Ok(
         !none_failed(&counts)
             && given.status == 2
-            && stops_behind(alloc, given.text.as_str(), plain.text.as_str())?
+            && stops_behind(alloc, given.text.as_str(), plain.text.as_str(), &ERRORS)?
             && note_error(alloc, tally, note.as_str(), script, &mut store, &counts)?,
     )
 }
@@ -194,7 +158,7 @@ fn check_pair(alloc: Global, tally: &mut Tally, way: u64, pair: u64) -> Result<(
     let (lines, opening) = way_of(alloc, way)?;
     let without = format!(in alloc; "{}{opening}{COMMANDS}", lines.as_str())?;
     let plain = plain_answer(alloc, without.as_bytes())?;
-    let (first, second) = pair_of(pair);
+    let (first, second) = pair_of(FAULTS, pair);
     let first = fault_line(alloc, first)?;
     let second = fault_line(alloc, second)?;
     let script = format!(in alloc;

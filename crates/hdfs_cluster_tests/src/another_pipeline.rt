@@ -104,11 +104,11 @@ fn none_left(client: &mut Client) -> Result<LocatedBlock, HdfsError> {
 fn a_namenode_that_finds_no_datanode_fails_once_a_fault_is_loaded(
     rt: HostRuntime,
 ) -> Result<(), Fail> {
-    for fault in FAULTS {
+    for fault in &FAULTS {
         let mut client = with_a_block(rt.alloc())?;
         assert!(rt; lacks_memory(none_left(&mut client)));
         assert_eq!(rt; client.cluster.seen()?.calls.as_slice(), [0].as_slice());
-        client.cluster.load(Line::Fault(fault))?;
+        client.cluster.load(Line::Fault(fault.copy(rt.alloc())?))?;
         for count in 1..3 {
             assert!(rt; fails_with(none_left(&mut client), IO_EXCEPTION));
             assert_eq!(rt; client.cluster.seen()?.calls.as_slice(), [count].as_slice());

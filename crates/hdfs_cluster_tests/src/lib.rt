@@ -10,6 +10,8 @@ mod asking;
 #[cfg(test)]
 mod block_writing;
 #[cfg(test)]
+mod failing_asks;
+#[cfg(test)]
 mod failing_links;
 #[cfg(test)]
 mod loading;

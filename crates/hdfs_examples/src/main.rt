@@ -10,7 +10,7 @@ use std::alloc::Global;
 use std::fs;
 
 /// The names of the examples.
-const NAMES: [&str; 19] = [
+const NAMES: [&str; 21] = [
     "first",
     "reads",
     "broken",
@@ -30,6 +30,8 @@ const NAMES: [&str; 19] = [
     "replaced",
     "unreplaced",
     "standby",
+    "late",
+    "unanswered",
 ];
 
 // The bytes of an example's file of this kind.

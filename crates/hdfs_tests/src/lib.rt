@@ -6,6 +6,8 @@ mod fault_rows;
 #[cfg(test)]
 mod namenode_rows;
 #[cfg(test)]
+mod outage_rows;
+#[cfg(test)]
 mod pipeline_rows;
 #[cfg(test)]
 mod replica_rows;

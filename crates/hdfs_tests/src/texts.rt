@@ -11,7 +11,7 @@ use hdfs_model::{
 use hdfs_plain::PlainRefusal;
 use hdfs_streams::{IoFailed, ReadFault};
 use hdfs_top::{Note, top};
-use hdfs_wire::{List, NoMemory, Text};
+use hdfs_wire::{List, NoMemory, Text, WireFault};
 use std::alloc::Global;
 use std::fmt::Display;
 use std::process::Abort;
@@ -89,6 +89,33 @@ fn client_errors_about_a_path_or_an_exception(rt: HostRuntime) -> Result<(), Fai
 }
 
 #[test]
+fn client_errors_about_namenodes(rt: HostRuntime) -> Result<(), Fail> {
+    let alloc = rt.alloc();
+    let class = Text::from_str(alloc, "java.io.IOException")?;
+    let message = Text::from_str(alloc, "none")?;
+    let rows = [
+        (
+            HdfsError::IOError(IoFault::Namenode { last: 1 }),
+            "IO error occurred while communicating with HDFS: Namenode",
+        ),
+        (
+            HdfsError::InvalidRPCResponse(WireFault::BadText),
+            "failed to decode RPC response: BadText",
+        ),
+        (
+            HdfsError::FatalRPCError(class, message),
+            "fatal RPC error: java.io.IOException none",
+        ),
+    ];
+    check_all(&rt, alloc, &rows)?;
+    let broken = IoFault::Namenode { last: 1 };
+    check(&rt, alloc, &broken, "the connection to namenode 1 broke")?;
+    check(&rt, alloc, &AskFault::Broken, "the connection broke")?;
+    let cut = AskFault::BadReply(WireFault::Cut);
+    check(&rt, alloc, &cut, "the bytes end too early")
+}
+
+#[test]
 fn faults_of_pipelines(rt: HostRuntime) -> Result<(), Fail> {
     let rows = [
         (TransferFault::Setup, "the pipeline was refused"),
@@ -136,7 +163,7 @@ fn errors_of_the_outside(rt: HostRuntime) -> Result<(), Fail> {
 }
 
 /// Scripts, and what is noted beside their status.
-const NOTES: [(&str, &str); 38] = [
+const NOTES: [(&str, &str); 44] = [
     ("", "the script has no command"),
     (
         "put\n",
@@ -188,7 +215,31 @@ const NOTES: [(&str, &str); 38] = [
     ),
     (
         "fault net 1\n",
-        "line 1: begins with none of `fault link`, `fault ack`, `fault send` and `fault read`",
+        "line 1: begins with none of `fault ask`, `fault link`, `fault ack`, `fault send` and `fault read`",
+    ),
+    (
+        "fault ask 0 1\n",
+        "line 1: neither `fault ask NAMENODE NTH KIND` nor `fault ask NAMENODE NTH exception CLASS`, with one space between words",
+    ),
+    (
+        "fault ask 0 1 lost now\n",
+        "line 1: neither `fault ask NAMENODE NTH KIND` nor `fault ask NAMENODE NTH exception CLASS`, with one space between words",
+    ),
+    (
+        "fault ask 0 1 slow\n",
+        "line 1: KIND isn't `lost`, `late`, `false`, `fatal` or `exception CLASS`",
+    ),
+    (
+        "fault ask x 1 lost\n",
+        "line 1: NAMENODE isn't a number from 0 to 4294967295",
+    ),
+    (
+        "fault ask 0 0 late\n",
+        "line 1: NTH isn't a number from 1 to 18446744073709551615",
+    ),
+    (
+        "fault ask 0 1 exception \n",
+        "line 1: CLASS is empty, or has a byte that isn't printable",
     ),
     (
         "fault link 1 slow\n",
