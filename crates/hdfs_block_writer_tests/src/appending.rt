@@ -113,11 +113,11 @@ fn an_appended_block_gets_another_pipeline(rt: HostRuntime) -> Result<(), Fail> 
     let alloc = rt.alloc();
     for nth in 4..7 {
         // each datanode has acknowledged three packets of the six bytes
-        let fault = FaultLine::AckOf { node: 1, nth };
-        let two = ends_on(alloc, &never(1), &[fault], 3, &["dn0", "dn2"], 1002)?;
+        let faults = [FaultLine::AckOf { node: 1, nth }];
+        let two = ends_on(alloc, &never(1), &faults, 3, &["dn0", "dn2"], 1002)?;
         assert!(rt; two, "{nth}");
         let nodes = ["dn0", "dn2", "dn3"];
-        let three = ends_on(alloc, &by_default(), &[fault], 3, &nodes, 1002)?;
+        let three = ends_on(alloc, &by_default(), &faults, 3, &nodes, 1002)?;
         assert!(rt; three, "{nth}");
     }
     Ok(())

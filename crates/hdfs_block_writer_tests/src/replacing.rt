@@ -126,20 +126,10 @@ fn a_datanode_is_not_given_the_block(rt: HostRuntime) -> Result<(), Fail> {
     let nodes = [0, 1, 0, 0];
     for kind in [LinkKind::Broken, LinkKind::Refused, LinkKind::BadAck] {
         // the second set-up
-        let transfer = FaultLine::Link { nth: 2, kind };
-        let found = end(alloc, 4, &[SECOND, transfer], 0, 1, &nodes)?;
+        let faults = [SECOND, FaultLine::Link { nth: 2, kind }];
+        let found = end(alloc, 4, &faults, 0, 1, &nodes)?;
         assert_eq!(rt; found.as_str(), "no datanode for one that failed");
-        assert!(rt;
-            is_rebuilt(
-                alloc,
-                &effort,
-                &[SECOND, transfer],
-                &["dn0", "dn2"],
-                0,
-                1,
-                &nodes
-            )?
-        );
+        assert!(rt; is_rebuilt(alloc, &effort, &faults, &["dn0", "dn2"], 0, 1, &nodes)?);
     }
     Ok(())
 }
