@@ -139,20 +139,37 @@ fn faults_of_pipelines(rt: HostRuntime) -> Result<(), Fail> {
     Ok(())
 }
 
-#[test]
-fn errors_of_the_outside(rt: HostRuntime) -> Result<(), Fail> {
-    let alloc = rt.alloc();
-    let asked = AskFault::Exception {
+/// An exception of a namenode.
+fn exception(alloc: Global) -> Result<AskFault, Fail> {
+    Ok(AskFault::Exception {
         class: Text::from_str(alloc, "C")?,
         message: Text::from_str(alloc, "m")?,
-    };
+    })
+}
+
+#[test]
+fn an_exception_of_a_namenode(rt: HostRuntime) -> Result<(), Fail> {
+    let asked = exception(rt.alloc())?;
+    let told = check(&rt, rt.alloc(), &asked, "C m");
+    drop(asked);
+    told
+}
+
+#[test]
+fn where_a_session_stopped(rt: HostRuntime) -> Result<(), Fail> {
     let fault = Fault {
         at: 2,
         error: HdfsError::Failed,
-        done: List::new(alloc),
+        done: List::new(rt.alloc()),
     };
-    check(&rt, alloc, &asked, "C m")?;
-    check(&rt, alloc, &fault, "command 2: failed before")?;
+    let told = check(&rt, rt.alloc(), &fault, "command 2: failed before");
+    drop(fault);
+    told
+}
+
+#[test]
+fn errors_of_the_outside(rt: HostRuntime) -> Result<(), Fail> {
+    let alloc = rt.alloc();
     check(&rt, alloc, &LinkFault::Broken, "the connection broke")?;
     check(&rt, alloc, &AddFault::NoMemory, "out of memory")?;
     check(&rt, alloc, &ReadFault::Failed, "the source failed")?;
