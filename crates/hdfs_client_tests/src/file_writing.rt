@@ -9,7 +9,7 @@ use crate::making::cluster;
 use hdfs_block_writer::RebuildSettings;
 use hdfs_cluster::MemCluster;
 use hdfs_files::{FileWriter, WriteSizes};
-use hdfs_model::{Appended, Cluster, HdfsError, Reply};
+use hdfs_model::{Appended, Cluster, Fault, HdfsError, Reply};
 use hdfs_namenode::{NameServiceProxy, NamenodeProtocol};
 use hdfs_names::{Policy, ReplaceDatanodeOnFailure};
 use hdfs_wire::Text;
@@ -141,8 +141,64 @@ fn gone_on(
     Ok(writer)
 }
 
-/// What is read of a file that was written by two calls, from its first byte on. Between them it is closed, and opened again,
-/// where `reopens` says so.
+/// Creates `/f`, and writes these bytes.
+fn begun(
+    alloc: Global,
+    cluster: &mut MemCluster,
+    namenode: &mut NamenodeProtocol,
+    block_size: u64,
+    bytes: &[u8],
+) -> Result<FileWriter, Fail>
+    requires { (0 < block_size) × (block_size < 2 ^ 63) }
+    ensures { IfOk result (λ writer. Stands (shown_of cluster.new) writer) }
+{
+    let mut writer = create(alloc, cluster, namenode, block_size)?;
+    write(&mut writer, cluster, namenode, bytes)?;
+    Ok(writer)
+}
+
+/// Writes these bytes too, and closes the file.
+fn ended(
+    mut writer: FileWriter,
+    cluster: &mut MemCluster,
+    namenode: &mut NamenodeProtocol,
+    bytes: &[u8],
+) -> Result<(), Fail>
+    requires { Stands (shown_of cluster.old) writer }
+{
+    write(&mut writer, cluster, namenode, bytes)?;
+    close(writer, cluster, namenode)
+}
+
+/// Writes a file by two calls. Between them it is closed, and opened again, where `reopens` says so.
+fn write_file(
+    alloc: Global,
+    cluster: &mut MemCluster,
+    block_size: u64,
+    reopens: bool,
+    first: &[u8],
+    second: &[u8],
+) -> Result<(), Fail>
+    requires { (0 < block_size) × (block_size < 2 ^ 63) }
+{
+    let mut namenode = client(alloc, cluster)?;
+    let writer = begun(alloc, cluster, &mut namenode, block_size, first)?;
+    let writer = gone_on(alloc, writer, cluster, &mut namenode, block_size, reopens)?;
+    ended(writer, cluster, &mut namenode, second)
+}
+
+/// The bytes that a session of one read was given.
+fn bytes_of(alloc: Global, answer: &Result<Vec<Reply>, Fault>) -> Result<Vec<u8>, Fail> {
+    match answer {
+        Ok(replies) => match replies.as_slice() {
+            [Reply::Bytes { bytes }] => Ok(Vec::from_slice(alloc, bytes.as_slice())?),
+            _ => Err("another reply".into()),
+        },
+        Err(_) => Err("not read".into()),
+    }
+}
+
+/// What is read of such a file, from its first byte on.
 fn written_and_read(
     alloc: Global,
     block_size: u64,
@@ -153,30 +209,15 @@ fn written_and_read(
     requires { (0 < block_size) × (block_size < 2 ^ 63) }
 {
     let mut cluster = cluster(alloc)?;
-    let mut namenode = client(alloc, &cluster)?;
-    let mut writer = create(alloc, &mut cluster, &mut namenode, block_size)?;
-    write(&mut writer, &mut cluster, &mut namenode, first)?;
-    let mut writer = gone_on(
-        alloc,
-        writer,
-        &mut cluster,
-        &mut namenode,
-        block_size,
-        reopens,
-    )?;
-    write(&mut writer, &mut cluster, &mut namenode, second)?;
-    close(writer, &mut cluster, &mut namenode)?;
+    write_file(alloc, &mut cluster, block_size, reopens, first, second)?;
     if cluster.namenodes() == 0 {
         return Err("no namenode".into());
     }
     let count = (first.len() + second.len()) as u64;
-    match run_one(alloc, &mut cluster, "/f", 0, count)? {
-        Ok(replies) => match replies.as_slice() {
-            [Reply::Bytes { bytes }] => Ok(Vec::from_slice(alloc, bytes.as_slice())?),
-            _ => Err("another reply".into()),
-        },
-        Err(_) => Err("not read".into()),
-    }
+    let answer = run_one(alloc, &mut cluster, "/f", 0, count)?;
+    let bytes = bytes_of(alloc, &answer);
+    drop(answer);
+    bytes
 }
 
 #[test]
