@@ -63,14 +63,9 @@ class_for_any kind refusal class h = by_why h.0 h.2
 
 class_for_refusal : (p : Picture) (ask : Ask) (class : List ℕ) → IsRefusal p ask class → bytes_eq class io_exception ≡ false
 class_for_refusal p (asks.GetBlockLocations src offset length) class h = same_class class (class_for h.0) h.2 (class_for_no_file h.0)
-class_for_refusal p asks.GetServerDefaults class h = absurd h
 class_for_refusal p (asks.Create src masked client flag parents replication block_size) class h = class_for_any _ _ class h
 class_for_refusal p (asks.Append src client flag) class h = class_for_any _ _ class h
-class_for_refusal p (asks.AddBlock src client previous excludes file_id) class h = absurd h
-class_for_refusal p (asks.Complete src client last file_id) class h = absurd h
-class_for_refusal p (asks.UpdateBlockForPipeline block client) class h = absurd h
-class_for_refusal p (asks.GetAdditionalDatanode src block existing excludes count client ids) class h = absurd h
-class_for_refusal p (asks.UpdatePipeline client block block' nodes ids) class h = absurd h
+class_for_refusal p ask class h = absurd h
 
 -- what is answered by the picture is no failure
 pub answers_fine : (p q : Picture) (i : ℕ) (ask : Ask) (result : Result Answer AskFault) → Answers p i ask result q → is_failure result ≡ false
@@ -79,7 +74,7 @@ answers_fine p q i ask (Err faults.NoMemory) h = refl
 answers_fine p q i ask (Err (faults.Exception class message)) h =
     ⊎_elim
     (λ other. same_class class _ other.1 refl)
-    (λ here. ⊎_elim (class_for_refusal p ask class) (λ stray. same_class class _ stray.1 refl) here.1)
+    (λ here. ⊎_elim (class_for_refusal p ask class) (λ stray. ⊎_elim (λ lost. same_class class _ lost.1 refl) (λ unknown. same_class class _ unknown.1 refl) stray) here.1)
     h.2
 answers_fine p q i ask (Err faults.Broken) h = refl
 answers_fine p q i ask (Err (faults.BadReply fault)) h = refl

@@ -13,6 +13,7 @@ pub mod NewLying
 pub mod NothingLoaded
 pub mod Numbered
 pub mod Opening
+pub mod Others
 pub mod Packets
 pub mod Places
 pub mod Placing

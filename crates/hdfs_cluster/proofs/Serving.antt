@@ -66,15 +66,8 @@ unanswered_err (Err fault) none = refl
 pub planned_shaped : (kind : AskKind) (ask : Ask) → IfOk (planned_answer kind ask) (IsShaped ask)
 planned_shaped ask_kinds.Lost ask = tt
 planned_shaped ask_kinds.Late ask = tt
-planned_shaped ask_kinds.FalseAnswer (asks.GetBlockLocations src offset length) = tt
-planned_shaped ask_kinds.FalseAnswer asks.GetServerDefaults = tt
-planned_shaped ask_kinds.FalseAnswer (asks.Create src masked client flag parents replication block_size) = tt
-planned_shaped ask_kinds.FalseAnswer (asks.Append src client flag) = tt
-planned_shaped ask_kinds.FalseAnswer (asks.AddBlock src client previous excludes file_id) = tt
 planned_shaped ask_kinds.FalseAnswer (asks.Complete src client last file_id) = tt
-planned_shaped ask_kinds.FalseAnswer (asks.UpdateBlockForPipeline block client) = tt
-planned_shaped ask_kinds.FalseAnswer (asks.GetAdditionalDatanode src block existing excludes count client ids) = tt
-planned_shaped ask_kinds.FalseAnswer (asks.UpdatePipeline client block block' nodes ids) = tt
+planned_shaped ask_kinds.FalseAnswer ask = tt
 planned_shaped ask_kinds.Fatal ask = tt
 planned_shaped (ask_kinds.Exception class) ask = tt
 
@@ -92,15 +85,8 @@ both_ok (Err e) P R f p q = tt
 
 -- no row answers that a file isn't closed
 no_false : (p : Picture) (ask : Ask) (q : Picture) → Row p ask (answers.Complete false) q → ⊥
-no_false p (asks.GetBlockLocations src offset length) q row = row
-no_false p asks.GetServerDefaults q row = row
-no_false p (asks.Create src masked client flag parents replication block_size) q row = row
-no_false p (asks.Append src client flag) q row = row
-no_false p (asks.AddBlock src client previous excludes file_id) q row = row
 no_false p (asks.Complete src client last file_id) q row = row
-no_false p (asks.UpdateBlockForPipeline block client) q row = row
-no_false p (asks.GetAdditionalDatanode src block existing excludes count client ids) q row = row
-no_false p (asks.UpdatePipeline client block block' nodes ids) q row = row
+no_false p ask q row = row
 
 module _ (loaded : List Line) (count : ℕ) (p q : Picture) (i : ℕ) (ask : Ask) where
   -- a namenode that isn't planned to fail gives an answer, and never that the file isn't closed
@@ -133,15 +119,8 @@ module _ (loaded : List Line) (count : ℕ) (p q : Picture) (i : ℕ) (ask : Ask
     serves_planned ask_kinds.FalseAnswer rose does = by_ask ask (inl does.rest)
       where
         by_ask : (a : Ask) → MayBeDone a p q → ServesTold risen p i a (false_answer a) q
-        by_ask (asks.GetBlockLocations src offset length) done = (rose, done)
-        by_ask asks.GetServerDefaults done = (rose, done)
-        by_ask (asks.Create src masked client flag parents replication block_size) done = (rose, done)
-        by_ask (asks.Append src client flag) done = (rose, done)
-        by_ask (asks.AddBlock src client previous excludes file_id) done = (rose, done)
         by_ask (asks.Complete src client last file_id) done = inr (refl, rose, done)
-        by_ask (asks.UpdateBlockForPipeline block client) done = (rose, done)
-        by_ask (asks.GetAdditionalDatanode src block existing excludes number client ids) done = (rose, done)
-        by_ask (asks.UpdatePipeline client block block' nodes ids) done = (rose, done)
+        by_ask ask done = (rose, done)
     serves_planned ask_kinds.Fatal rose does = (rose, inl does.rest)
     serves_planned (ask_kinds.Exception class) rose does = inr (inr (inr (rose, inl does.rest)))
 
@@ -166,15 +145,8 @@ module _ (loaded : List Line) (count : ℕ) (p q : Picture) (i : ℕ) (ask : Ask
         planned_answered : (kind : AskKind) (a : Ask) → has_failed (Some kind) (planned_answer kind a) ≡ true
         planned_answered ask_kinds.Lost a = refl
         planned_answered ask_kinds.Late a = refl
-        planned_answered ask_kinds.FalseAnswer (asks.GetBlockLocations src offset length) = refl
-        planned_answered ask_kinds.FalseAnswer asks.GetServerDefaults = refl
-        planned_answered ask_kinds.FalseAnswer (asks.Create src masked client flag parents replication block_size) = refl
-        planned_answered ask_kinds.FalseAnswer (asks.Append src client flag) = refl
-        planned_answered ask_kinds.FalseAnswer (asks.AddBlock src client previous excludes file_id) = refl
         planned_answered ask_kinds.FalseAnswer (asks.Complete src client last file_id) = refl
-        planned_answered ask_kinds.FalseAnswer (asks.UpdateBlockForPipeline block client) = refl
-        planned_answered ask_kinds.FalseAnswer (asks.GetAdditionalDatanode src block existing excludes number client ids) = refl
-        planned_answered ask_kinds.FalseAnswer (asks.UpdatePipeline client block block' nodes ids) = refl
+        planned_answered ask_kinds.FalseAnswer ask = refl
         planned_answered ask_kinds.Fatal a = refl
         planned_answered (ask_kinds.Exception class) a = refl
 

@@ -123,7 +123,7 @@ module _ (space space' : Namespace) (nodes : Datanodes) (settings : MemSettings)
     answers_not_completed client last file_id faults.NoMemory stray same = same_space same
     answers_not_completed client last file_id (faults.Exception class message) stray same =
         subst (λ (s : List ℕ). Answers p i (asks.Complete s client last file_id) (Err (faults.Exception class message)) q) is
-        (stray.2, same_space same, inr (here, inr (stray.0, stray.1)))
+        (stray.2, same_space same, inr (here, inr (inl (stray.0, stray.1))))
     answers_not_completed client last file_id faults.Broken stray same = absurd stray
     answers_not_completed client last file_id (faults.BadReply fault) stray same = absurd stray
     answers_not_completed client last file_id (faults.Fatal class message) stray same = absurd stray
@@ -143,7 +143,7 @@ module _ (space space' : Namespace) (nodes : Datanodes) (settings : MemSettings)
     answers_not_added client previous excludes file_id faults.NoMemory stray same = same_looks same
     answers_not_added client previous excludes file_id (faults.Exception class message) stray same =
         subst (λ (s : List ℕ). Answers p i (asks.AddBlock s client previous excludes file_id) (Err (faults.Exception class message)) q) is
-        (stray.2, same_looks same, inr (here, inr (stray.0, stray.1)))
+        (stray.2, same_looks same, inr (here, inr (inl (stray.0, stray.1))))
     answers_not_added client previous excludes file_id faults.Broken stray same = absurd stray
     answers_not_added client previous excludes file_id (faults.BadReply fault) stray same = absurd stray
     answers_not_added client previous excludes file_id (faults.Fatal class message) stray same = absurd stray

@@ -21,7 +21,7 @@ use Rattle.hdfs_faults.specs.Series.{is_fault}
 use Rattle.hdfs_namespace.specs.declared.namespace.Namespace.{Namespace}
 use Rattle.hdfs_replicas.specs.declared.datanodes.Datanodes.{Datanodes}
 use Rattle.hdfs_cluster.specs.declared.mem_link.MemLink.{MemLink}
-use Rattle.hdfs_namespace.specs.Answering.{Answers}
+use Rattle.hdfs_namespace.specs.Answering.{Answers, no_such_method}
 use Rattle.hdfs_namespace.specs.Pipelines.{AreBarred, is_barred}
 use Rattle.hdfs_cluster.specs.MemShown.{picture_at}
 
@@ -39,6 +39,31 @@ IsGetAdditionalDatanode ask = ⊥
 abbrev pub IsUpdatePipeline : Ask → Type 0
 IsUpdatePipeline (asks.UpdatePipeline client block block' nodes ids) = Unit {0}
 IsUpdatePipeline ask = ⊥
+
+-- a command of a session makes the ask
+abbrev pub is_of_session : Ask → Bool
+is_of_session (asks.GetBlockLocations src offset length) = true
+is_of_session asks.GetServerDefaults = true
+is_of_session (asks.Create src masked client flag parents replication block_size) = true
+is_of_session (asks.Append src client flag) = true
+is_of_session (asks.AddBlock src client previous excludes file_id) = true
+is_of_session (asks.Complete src client last file_id) = true
+is_of_session (asks.UpdateBlockForPipeline block client) = true
+is_of_session (asks.GetAdditionalDatanode src block existing excludes count client ids) = true
+is_of_session (asks.UpdatePipeline client block block' nodes ids) = true
+is_of_session ask = false
+
+-- What the active namenode answers to any other ask: it renews leases that it doesn't keep, what it did is known, it is the active one, and
+-- else it has no answer.
+abbrev pub other_answer : Ask → Result Answer AskFault
+other_answer (asks.RenewLease client namespaces) = Ok answers.RenewLease
+other_answer asks.Msync = Ok answers.Msync
+other_answer asks.GetHaServiceState = Ok (answers.GetHaServiceState 1)
+other_answer ask = Err (faults.Exception no_such_method [])
+
+-- that, or want of memory
+abbrev pub StandsForOther : Ask → Result Answer AskFault → Type 0
+StandsForOther ask result = (result ≡ other_answer ask) ⊎ (result ≡ Err faults.NoMemory)
 
 -- The active namenode answers so, with this effect on the names and the blocks, whatever the datanodes hold and whichever links
 -- are open.

@@ -49,6 +49,18 @@ fn has_answer(given: &Result<Answer, AskFault>) -> bool
     }
 }
 
+/// What is told of an answer, for which there has to be memory.
+fn telling(alloc: Global, given: &Result<Answer, AskFault>) -> Result<LastAnswer, NoMemory>
+    ensures last { IfOk result (λ last. last ≡ last_of given.now) }
+    ensures answered { OnOk result (is_answered given.now ≡ true) }
+    ensures err { OnErr result (IsErr given.now) }
+{
+    if !has_answer(given) {
+        return Err(NoMemory);
+    }
+    last_answer(alloc, given)
+}
+
 /// An answer with what is told of it, for which there has to be memory.
 fn told(alloc: Global, given: Result<Answer, AskFault>, planned: bool) -> Result<Answered, NoMemory>
     ensures same { IfOk result (λ answered. answered.result ≡ given) }
@@ -57,16 +69,18 @@ fn told(alloc: Global, given: Result<Answer, AskFault>, planned: bool) -> Result
     ensures answered { OnOk result (is_answered given ≡ true) }
     ensures err { OnErr result (IsErr given) }
 {
-    if !has_answer(&given) {
-        return Err(NoMemory);
-    }
-    let last = last_answer(alloc, &given)?;
     let failed = !planned && is_failure_of(&given);
-    Ok(Answered {
-        result: given,
-        last,
-        failed,
-    })
+    match telling(alloc, &given) {
+        Ok(last) => Ok(Answered {
+            result: given,
+            last,
+            failed,
+        }),
+        Err(NoMemory) => {
+            drop(given);
+            Err(NoMemory)
+        }
+    }
 }
 
 /// What is answered to `complete` by a namenode that says that the file isn't closed. Another ask is lost.
@@ -190,8 +204,9 @@ pub(crate) fn answer(
     kind: Option<&AskKind>,
 ) -> Result<Answered, NoMemory>
     ensures comes { IfOk result (λ answered. (links : Slab MemLink)
-        → AskComesTo (map line_of loaded.now) nodes.old.count (option_copied kind.entry) (picture_at space.old nodes.old config.now.settings links)
-        i ask.now answered.result (picture_at space.new nodes.new config.now.settings links)) }
+        → AskComesTo (map line_of loaded.now) nodes.old.count (option_copied kind.entry)
+        (picture_at space.old nodes.old config.now.settings links) i ask.now answered.result
+        (picture_at space.new nodes.new config.now.settings links)) }
     ensures last { IfOk result (λ answered. answered.last ≡ last_of answered.result) }
     ensures failed { IfOk result (λ answered. answered.failed ≡ own_failure (option_copied kind.entry) answered.result) }
     ensures answered { IfOk result (λ answered. is_answered answered.result ≡ true) }

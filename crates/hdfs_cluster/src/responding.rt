@@ -7,7 +7,8 @@ ghost use Rattle.hdfs_cluster.specs.declared.mem_link.MemLink.{MemLink};
 ghost use Rattle.hdfs_faults.specs.Series.{is_fault};
 ghost use Rattle.hdfs_cluster.specs.Lines.{line_of};
 ghost use Rattle.hdfs_cluster.specs.MemShown.{picture_at};
-ghost use Rattle.hdfs_cluster.specs.Responding.{AnswersHere, IsCreate, IsGetAdditionalDatanode, IsUpdatePipeline, Responds, RespondsHere, StandsForNone, is_failure};
+ghost use Rattle.hdfs_cluster.specs.Responding.{AnswersHere, IsCreate, IsGetAdditionalDatanode, IsUpdatePipeline, Responds, RespondsHere, StandsForNone, StandsForOther, is_failure};
+ghost use Rattle.hdfs_cluster.specs.Responding as spec;
 ghost use Rattle.hdfs_replicas.specs.Nodes.{SameNodes};
 
 use crate::config::Config;
@@ -23,6 +24,12 @@ const OVERWRITE: u32 = 3;
 
 /// The class of the exception of a namenode that finds no datanode.
 const IO_EXCEPTION: &str = "java.io.IOException";
+
+/// The class of the exception of a namenode that has no answer to an ask.
+const NO_SUCH_METHOD: &str = "org.apache.hadoop.ipc.RpcNoSuchMethodException";
+
+/// The state of the active namenode.
+const ACTIVE: u32 = 1;
 
 /// Whether a line is a fault.
 fn is_fault_line(line: &Kept) -> bool
@@ -109,17 +116,17 @@ fn additional_datanode(
 {
     let Ask::GetAdditionalDatanode {
         src,
-        block,
-        existing,
+        blk,
+        existings,
         excludes,
         ..
     } = ask
     else {
         unreachable!();
     };
-    let existing = existing.as_slice();
+    let existing = existings.as_slice();
     let excludes = excludes.as_slice();
-    match space.additional_datanode(alloc, nodes, src.as_str(), block, existing, excludes)? {
+    match space.additional_datanode(alloc, nodes, src.as_str(), blk, existing, excludes)? {
         Some(block) => Ok(Answer::GetAdditionalDatanode(block)),
         None => Err(no_datanode(alloc, loaded)?),
     }
@@ -144,6 +151,36 @@ fn update_pipeline(alloc: Global, space: &mut Namespace, ask: &Ask) -> Result<An
     Ok(Answer::UpdatePipeline)
 }
 
+/// Whether a command of a session makes the ask.
+fn is_of_session(ask: &Ask) -> bool
+    ensures { result ≡ spec.is_of_session ask.now }
+{
+    matches!(
+        ask,
+        Ask::GetBlockLocations { .. }
+            | Ask::GetServerDefaults
+            | Ask::Create { .. }
+            | Ask::Append { .. }
+            | Ask::AddBlock { .. }
+            | Ask::Complete { .. }
+            | Ask::UpdateBlockForPipeline { .. }
+            | Ask::GetAdditionalDatanode { .. }
+            | Ask::UpdatePipeline { .. }
+    )
+}
+
+/// What the active namenode answers to an ask that no command of a session makes.
+fn other_answer(alloc: Global, ask: &Ask) -> Result<Answer, AskFault>
+    ensures { StandsForOther ask.now result }
+{
+    match ask {
+        Ask::RenewLease { .. } => Ok(Answer::RenewLease),
+        Ask::Msync => Ok(Answer::Msync),
+        Ask::GetHaServiceState => Ok(Answer::GetHaServiceState(ACTIVE)),
+        _ => Err(exception(alloc, NO_SUCH_METHOD)?),
+    }
+}
+
 /// What namenode `i` responds, and what that does.
 pub(crate) fn respond(
     alloc: Global,
@@ -162,6 +199,9 @@ pub(crate) fn respond(
 {
     if i != config.settings.active {
         return Err(exception(alloc, STANDBY)?);
+    }
+    if !is_of_session(ask) {
+        return other_answer(alloc, ask);
     }
     match ask {
         Ask::GetBlockLocations { src, .. } => {
@@ -185,5 +225,6 @@ pub(crate) fn respond(
         }
         Ask::GetAdditionalDatanode { .. } => additional_datanode(alloc, loaded, space, nodes, ask),
         Ask::UpdatePipeline { .. } => update_pipeline(alloc, space, ask),
+        _ => unreachable!(),
     }
 }

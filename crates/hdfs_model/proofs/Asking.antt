@@ -11,13 +11,17 @@ use Rattle.hdfs_model.specs.declared.messages.LocatedBlock.{LocatedBlock}
 use Rattle.hdfs_model.specs.declared.picture.FileEntry.{FileEntry}
 use Rattle.hdfs_model.specs.Effects.{KeepsBytes, Opens, AddsBlock, ClosesIf}
 use Rattle.hdfs_model.specs.Picture.{Picture, SameButActive}
-use Rattle.hdfs_model.specs.Namenode.{Row, IsOwnOf, MayBeDone, ServesTold}
+use Rattle.hdfs_model.specs.Namenode.{Row, IsOwnOf, MayBeDone, OwnKeeps, ServesTold, src_of}
 
 keeps_same : (p q : Picture) → SameButActive p q → KeepsBytes p q
 keeps_same p q same = record { held = same.files.held; defaults = same.files.defaults; reads = same.reads; writes = same.writes }
 
+own_keeps : (src : Option (List ℕ)) (p q : Picture) → OwnKeeps src p q → KeepsBytes p q
+own_keeps (Some path) p q keeps = record { held = keeps.held; defaults = keeps.defaults; reads = keeps.reads; writes = keeps.writes }
+own_keeps None p q keeps = keeps
+
 keeps_own : (ask : Ask) (p q : Picture) → IsOwnOf ask p q → KeepsBytes p q
-keeps_own ask p q own = record { held = own.1.held; defaults = own.1.defaults; reads = own.1.reads; writes = own.1.writes }
+keeps_own ask p q own = own_keeps (src_of ask) p q own.1
 
 opens_keeps : (src : List ℕ) (file : FileEntry) (block : Option LocatedBlock) (p q : Picture) → Opens src file block p q → KeepsBytes p q
 opens_keeps src file None p q opens = opens.1.bytes
@@ -43,6 +47,9 @@ row_keeps p q (asks.Complete src client last file_id) (answers.Complete true) ro
 row_keeps p q (asks.UpdateBlockForPipeline block client) (answers.UpdateBlockForPipeline located) row = keeps_same p q row.1
 row_keeps p q (asks.GetAdditionalDatanode src block existing excludes count client ids) (answers.GetAdditionalDatanode located) row = keeps_same p q row.2
 row_keeps p q (asks.UpdatePipeline client block block' nodes ids) answers.UpdatePipeline row = row.changes.bytes
+row_keeps p q (asks.RenewLease client namespaces) answers.RenewLease row = keeps_same p q row
+row_keeps p q asks.Msync answers.Msync row = keeps_same p q row
+row_keeps p q asks.GetHaServiceState (answers.GetHaServiceState state) row = keeps_same p q row
 row_keeps p q ask answer row = absurd row
 
 -- a missing answer

@@ -14,7 +14,7 @@ use Rattle.hdfs_model.specs.declared.picture.LastAnswer.TheVariants as last_answ
 use Rattle.hdfs_model.specs.declared.picture.Entry.TheVariants as entries
 use Rattle.hdfs_model.specs.declared.picture.BlockEntry.{BlockEntry}
 use Rattle.hdfs_model.specs.declared.picture.FileEntry.{FileEntry}
-use Rattle.hdfs_model.specs.Effects.{HasStatus, HasBlock, IsLast, Creates, Opens, AddsBlock, Completes, HasGreaterStamp, IsBeingWritten, HasOneMore, AddsOneOf, NamesPipeline}
+use Rattle.hdfs_model.specs.Effects.{KeepsBytes, HasStatus, HasBlock, IsLast, Creates, Opens, AddsBlock, Completes, HasGreaterStamp, IsBeingWritten, HasOneMore, AddsOneOf, NamesPipeline}
 use Rattle.hdfs_model.specs.Files.{Kind, Directory, ClosedFile, NoFile, NotDirectory, Missing, NotFile, no_file, OpenFile}
 use Rattle.hdfs_model.specs.Picture.{Picture, SameButActive, SamePicture, kinds}
 use Rattle.hdfs_model.specs.Refusals.{Refusal, BadPath, WrongState, Exists, Lacks, BadRange, create_refusal, append_refusal}
@@ -142,6 +142,26 @@ IsShaped (asks.UpdateBlockForPipeline block client) (answers.UpdateBlockForPipel
 IsShaped (asks.GetAdditionalDatanode src block existing excludes count client ids) (answers.GetAdditionalDatanode located) =
     IsToWrite located × HasOneMore existing located.locs
 IsShaped (asks.UpdatePipeline client block block' nodes ids) answers.UpdatePipeline = Unit {0}
+IsShaped (asks.GetFileInfo src) (answers.GetFileInfo status) = Unit {0}
+IsShaped (asks.GetListing src behind located) (answers.GetListing page) = Unit {0}
+IsShaped asks.GetDataEncryptionKey (answers.GetDataEncryptionKey key) = Unit {0}
+IsShaped (asks.Mkdirs src masked parents) (answers.Mkdirs done) = Unit {0}
+IsShaped (asks.Rename src dst overwrite) answers.Rename = Unit {0}
+IsShaped (asks.Delete src recursive) (answers.Delete done) = Unit {0}
+IsShaped (asks.RenewLease client namespaces) answers.RenewLease = Unit {0}
+IsShaped (asks.SetTimes src mtime atime) answers.SetTimes = Unit {0}
+IsShaped (asks.SetOwner src owner group) answers.SetOwner = Unit {0}
+IsShaped (asks.SetPermission src permission) answers.SetPermission = Unit {0}
+IsShaped (asks.SetReplication src replication) (answers.SetReplication done) = Unit {0}
+IsShaped (asks.GetContentSummary path) (answers.GetContentSummary summary) = Unit {0}
+IsShaped (asks.ModifyAclEntries src entries) answers.ModifyAclEntries = Unit {0}
+IsShaped (asks.RemoveAclEntries src entries) answers.RemoveAclEntries = Unit {0}
+IsShaped (asks.RemoveDefaultAcl src) answers.RemoveDefaultAcl = Unit {0}
+IsShaped (asks.RemoveAcl src) answers.RemoveAcl = Unit {0}
+IsShaped (asks.SetAcl src entries) answers.SetAcl = Unit {0}
+IsShaped (asks.GetAclStatus src) (answers.GetAclStatus status) = Unit {0}
+IsShaped asks.Msync answers.Msync = Unit {0}
+IsShaped asks.GetHaServiceState (answers.GetHaServiceState state) = Unit {0}
 IsShaped ask answer = ⊥
 
 -- The row of an ask: what an active namenode answers, and what it does to all but which namenode is active. A look-up
@@ -167,6 +187,9 @@ Row old (asks.UpdateBlockForPipeline block client) (answers.UpdateBlockForPipeli
 Row old (asks.GetAdditionalDatanode src block existing excludes count client ids) (answers.GetAdditionalDatanode located) new =
     IsBeingWritten old src block × AddsOneOf existing excludes located.locs × SameButActive old new
 Row old (asks.UpdatePipeline client block block' nodes ids) answers.UpdatePipeline new = NamesPipeline block block' nodes old new
+Row old (asks.RenewLease client namespaces) answers.RenewLease new = SameButActive old new
+Row old asks.Msync answers.Msync new = SameButActive old new
+Row old asks.GetHaServiceState (answers.GetHaServiceState state) new = SameButActive old new
 Row old ask answer new = ⊥
 
 -- the class of the exception that stands for what is in the way at a path
@@ -191,19 +214,14 @@ StandsForAny kind refusal class = (why : Refusal) × (refusal ≡ Some why) × S
 -- the exception of this class stands for a refusal of the ask
 abbrev pub IsRefusal : Picture → Ask → List ℕ → Type 0
 IsRefusal p (asks.GetBlockLocations src offset length) class = StandsForNoFile (kinds p) src class
-IsRefusal p asks.GetServerDefaults class = ⊥
 IsRefusal p (asks.Create src masked client flag parents replication block_size) class =
     StandsForAny (kinds p src) (create_refusal (kinds p) src (overwrites flag) parents) class
 IsRefusal p (asks.Append src client flag) class = StandsForAny (kinds p src) (append_refusal (kinds p) src) class
-IsRefusal p (asks.AddBlock src client previous excludes file_id) class = ⊥
-IsRefusal p (asks.Complete src client last file_id) class = ⊥
-IsRefusal p (asks.UpdateBlockForPipeline block client) class = ⊥
-IsRefusal p (asks.GetAdditionalDatanode src block existing excludes count client ids) class = ⊥
-IsRefusal p (asks.UpdatePipeline client block block' nodes ids) class = ⊥
+IsRefusal p ask class = ⊥
 
 -- The answer is the implementation's own: the blocks of a file that is being written; a block more of what is no open file,
 -- or behind a block that it doesn't have; the closing of what is no file with this last block; a pipeline of a block that isn't
--- listed, or that no open file has.
+-- listed, or that no open file has; and all answers to asks that no command of a session makes.
 abbrev pub IsOwn : Picture → Ask → Type 0
 IsOwn p (asks.GetBlockLocations src offset length) = kinds p src ≡ Some OpenFile
 IsOwn p asks.GetServerDefaults = ⊥
@@ -215,24 +233,29 @@ IsOwn p (asks.Complete src client last file_id) = (file : FileEntry) → IsFileA
 IsOwn p (asks.UpdateBlockForPipeline block client) = p.table block.block_id ≡ None
 IsOwn p (asks.GetAdditionalDatanode src block existing excludes count client ids) = IsBeingWritten p src block → ⊥
 IsOwn p (asks.UpdatePipeline client block block' nodes ids) = (block.block_id ≡ block'.block_id) × IsSome (p.table block.block_id) → ⊥
+IsOwn p (asks.RenewLease client namespaces) = ⊥
+IsOwn p asks.Msync = ⊥
+IsOwn p asks.GetHaServiceState = ⊥
+IsOwn p ask = Unit {0}
 
--- the path that an ask names; one that names none has the empty text, at which nothing stands
-abbrev pub src_of : Ask → List ℕ
-src_of (asks.GetBlockLocations src offset length) = src
-src_of asks.GetServerDefaults = []
-src_of (asks.Create src masked client flag parents replication block_size) = src
-src_of (asks.Append src client flag) = src
-src_of (asks.AddBlock src client previous excludes file_id) = src
-src_of (asks.Complete src client last file_id) = src
-src_of (asks.UpdateBlockForPipeline block client) = []
-src_of (asks.GetAdditionalDatanode src block existing excludes count client ids) = src
-src_of (asks.UpdatePipeline client block block' nodes ids) = []
+-- the path that an ask of a session names; one that names none has the empty text, at which nothing stands
+abbrev pub src_of : Ask → Option (List ℕ)
+src_of (asks.GetBlockLocations src offset length) = Some src
+src_of asks.GetServerDefaults = Some []
+src_of (asks.Create src masked client flag parents replication block_size) = Some src
+src_of (asks.Append src client flag) = Some src
+src_of (asks.AddBlock src client previous excludes file_id) = Some src
+src_of (asks.Complete src client last file_id) = Some src
+src_of (asks.UpdateBlockForPipeline block client) = Some []
+src_of (asks.GetAdditionalDatanode src block existing excludes count client ids) = Some src
+src_of (asks.UpdatePipeline client block block' nodes ids) = Some []
+src_of ask = None
 
 -- the block is one of the file at this path
 abbrev pub IsBlockOf : Picture → List ℕ → ℕ → Type 0
 IsBlockOf p path id = (file : FileEntry) × (p.names path ≡ Some (entries.File file)) × Contains file.blocks id
 
--- what an answer of the implementation's own leaves: all but the file at this path, and its blocks
+-- all is left but the file at this path, and its blocks
 pub record KeepsOthers (path : List ℕ) (old new : Picture) : Type 0 where
   pub names : (other : List ℕ) → other ≢ path → new.names other ≡ old.names other
   pub table : (id : ℕ) → (IsBlockOf old path id → ⊥) → new.table id ≡ old.table id
@@ -241,9 +264,14 @@ pub record KeepsOthers (path : List ℕ) (old new : Picture) : Type 0 where
   pub reads : (link : ℕ) → new.reads link ≡ old.reads link
   pub writes : (link : ℕ) → new.writes link ≡ old.writes link
 
+-- what an answer of the implementation's own leaves: all but the file that a session's ask names; of other asks all but names and blocks
+abbrev pub OwnKeeps : Option (List ℕ) → Picture → Picture → Type 0
+OwnKeeps (Some path) old new = KeepsOthers path old new
+OwnKeeps None old new = KeepsBytes old new
+
 -- an answer of the implementation's own, and what it leaves
 abbrev pub IsOwnOf : Ask → Picture → Picture → Type 0
-IsOwnOf ask old new = IsOwn old ask × KeepsOthers (src_of ask) old new
+IsOwnOf ask old new = IsOwn old ask × OwnKeeps (src_of ask) old new
 
 -- An ask whose answer is missing: it had no effect, or the effect of its row, or one of the implementation's own.
 abbrev pub MayBeDone : Ask → Picture → Picture → Type 0

@@ -4,10 +4,10 @@ ghost use Rattle.hdfs_model.specs.declared.asks.AskFault.TheVariants as ask_faul
 ghost use Rattle.hdfs_model.specs.declared.asks.LinkFault.TheVariants as link_faults;
 
 use crate::messages::{
-    Appended, Block, DatanodeId, DatanodeInfo, FileStatusMsg, LocatedBlock, LocatedBlocks,
-    ServerDefaults,
+    AclEntryMsg, AclStatusMsg, Appended, Block, DatanodeId, DatanodeInfo, DirList, EncryptionKey,
+    FileStatusMsg, LocatedBlock, LocatedBlocks, ServerDefaults, Summary,
 };
-use hdfs_wire::{List, NoMemory, Text, WireFault};
+use hdfs_wire::{Blob, List, NoMemory, Text, WireFault};
 use std::alloc::{AllocError, AllocFailed};
 use thiserror::Error;
 
@@ -60,16 +60,16 @@ pub enum Ask {
         block: Block,
         client_name: Text,
     },
-    /// Datanodes more for `block` of the open file at `src`, behind the `existing` ones, which have these storages; none of
+    /// Datanodes more for `blk` of the open file at `src`, behind the `existings`, which have these storages; none of
     /// `excludes`. Their number is 1.
     GetAdditionalDatanode {
         src: Text,
-        block: Block,
-        existing: List<DatanodeInfo>,
+        blk: Block,
+        existings: List<DatanodeInfo>,
         excludes: List<DatanodeInfo>,
         num_additional_nodes: u32,
         client_name: Text,
-        existing_storage_ids: List<Text>,
+        existing_storage_uuids: List<Text>,
     },
     /// The block is written by these datanodes from now on, in these storages, and has the generation stamp with which it is named
     /// anew.
@@ -80,6 +80,97 @@ pub enum Ask {
         new_nodes: List<DatanodeId>,
         storage_ids: List<Text>,
     },
+    /// What stands at `src`.
+    GetFileInfo {
+        src: Text,
+    },
+    /// What stands in the directory `src` behind the name `start_after`, and of files the datanodes too where `need_location` says so.
+    GetListing {
+        src: Text,
+        start_after: Blob,
+        need_location: bool,
+    },
+    /// A key by which data is encrypted on its way.
+    GetDataEncryptionKey,
+    /// A directory at `src` with these permission bits. Directories above it that aren't there are made where `create_parent` says so.
+    Mkdirs {
+        src: Text,
+        masked: u32,
+        create_parent: bool,
+    },
+    /// What stands at `src` is to stand at `dst`, in the place of what stands there where `overwrite_dest` says so.
+    Rename {
+        src: Text,
+        dst: Text,
+        overwrite_dest: bool,
+    },
+    /// Nothing is to stand at `src`. A directory goes with all that is in it where `recursive` says so.
+    Delete {
+        src: Text,
+        recursive: bool,
+    },
+    /// The leases of a client in these namespaces are to last on.
+    RenewLease {
+        client_name: Text,
+        namespaces: List<Text>,
+    },
+    /// Times of the last change and of the last read, in milliseconds.
+    SetTimes {
+        src: Text,
+        mtime: u64,
+        atime: u64,
+    },
+    /// Who owns what stands at `src`, and its group.
+    SetOwner {
+        src: Text,
+        username: Option<Text>,
+        groupname: Option<Text>,
+    },
+    /// Permission bits.
+    SetPermission {
+        src: Text,
+        permission: u32,
+    },
+    /// How many replicas of its blocks a file is to have.
+    SetReplication {
+        src: Text,
+        replication: u32,
+    },
+    /// What stands below `path`, counted.
+    GetContentSummary {
+        path: Text,
+    },
+    /// Entries that are put into an access control list, in the place of those of the same name.
+    ModifyAclEntries {
+        src: Text,
+        acl_spec: List<AclEntryMsg>,
+    },
+    /// Entries that are taken out of it.
+    RemoveAclEntries {
+        src: Text,
+        acl_spec: List<AclEntryMsg>,
+    },
+    /// The default entries are taken out of it.
+    RemoveDefaultAcl {
+        src: Text,
+    },
+    /// All entries are.
+    RemoveAcl {
+        src: Text,
+    },
+    /// The whole access control list.
+    SetAcl {
+        src: Text,
+        acl_spec: List<AclEntryMsg>,
+    },
+    /// The access control list at `src`.
+    GetAclStatus {
+        src: Text,
+    },
+    /// What the active namenode has done is to be known to the observers that are asked behind it.
+    Msync,
+    /// In which state the namenode is.
+    GetHaServiceState,
 }
 
 /// What a namenode answers to the ask of the same name.
@@ -97,6 +188,27 @@ pub enum Answer {
     /// The block with the existing datanodes in their order, and the new one.
     GetAdditionalDatanode(LocatedBlock),
     UpdatePipeline,
+    GetFileInfo(Option<FileStatusMsg>),
+    GetListing(Option<DirList>),
+    GetDataEncryptionKey(Option<EncryptionKey>),
+    Mkdirs(bool),
+    Rename,
+    Delete(bool),
+    RenewLease,
+    SetTimes,
+    SetOwner,
+    SetPermission,
+    SetReplication(bool),
+    GetContentSummary(Summary),
+    ModifyAclEntries,
+    RemoveAclEntries,
+    RemoveDefaultAcl,
+    RemoveAcl,
+    SetAcl,
+    GetAclStatus(AclStatusMsg),
+    Msync,
+    /// 0 while it begins, 1 of the active one, 2 of a standby, 3 of an observer.
+    GetHaServiceState(u32),
 }
 
 /// Why an ask has no answer.

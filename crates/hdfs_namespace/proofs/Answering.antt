@@ -1,5 +1,5 @@
 -- What the answers and the exceptions of a cluster in memory stand for.
-use Rattle.std.proofs.Common.{◌≡◌, inl, inr, ⊎_elim, ℕ, zero, suc, ◌<◌, ◌^◌, ◌||◌, Bool, true, false, cond, List, [], ◌∷◌, length, get_or, Option, Some, None, IsSome, Result, Ok, Err, refl, sym, ◌∙◌, ap, subst, arith}
+use Rattle.std.proofs.Common.{◌≡◌, ◌⊎◌, inl, inr, ⊎_elim, ℕ, zero, suc, ◌<◌, ◌^◌, ◌||◌, Bool, true, false, cond, List, [], ◌∷◌, length, get_or, Option, Some, None, IsSome, Result, Ok, Err, refl, sym, ◌∙◌, ap, subst, arith}
 use Rattle.std.proofs.lemmas.Bool.{eqb-true, false≢true, or_left, or_right, or_parts}
 use Rattle.std.proofs.lemmas.List.{append-nil}
 use Rattle.std.proofs.lemmas.List.Elements.{All-contains_itself, All-filter, All-weaker, Contains-append_cases, filter_passes}
@@ -24,12 +24,12 @@ use Rattle.hdfs_model.specs.declared.picture.Entry.TheVariants as entries
 use Rattle.hdfs_model.specs.declared.picture.FileEntry.{FileEntry}
 use Rattle.hdfs_model.specs.Effects.{AddsOneOf, HasOneMore, IsBeingWritten, KeepsBytes}
 use Rattle.hdfs_model.specs.Files.{Directory, ClosedFile, OpenFile, NotFile, no_file, no_file_at, IsTree}
-use Rattle.hdfs_model.specs.Namenode.{Follow, IsOwn, IsShaped, IsToWrite, KeepsOthers, ServesTold, src_of}
+use Rattle.hdfs_model.specs.Namenode.{Follow, IsOwn, IsOwnOf, IsShaped, IsToWrite, KeepsOthers, OwnKeeps, ServesTold, src_of}
 use Rattle.hdfs_model.specs.Picture.{Picture, SamePicture, entry_kind, kinds, kinds_in}
 use Rattle.hdfs_model.specs.Sending.{uuids}
 use Rattle.hdfs_model.proofs.Trees.{no_file_there}
 use Rattle.hdfs_namespace.specs.Adding.{holds_whole, whole_nodes}
-use Rattle.hdfs_namespace.specs.Answering.{LocatesFile, StandsForRefusal, StandsForStray, IsStray, Answers}
+use Rattle.hdfs_namespace.specs.Answering.{LocatesFile, StandsForRefusal, StandsForStray, IsStray, IsUnknown, Answers}
 use Rattle.hdfs_namespace.specs.Pipelines.{AddsLowest, GivesStamp, IsOfOpen, Renews}
 use Rattle.hdfs_namespace.proofs.Locating.{all_within}
 use Rattle.hdfs_replicas.specs.Nodes.{is_named}
@@ -106,7 +106,7 @@ module _ (p q : Picture) (i : ℕ) (active : i ≡ p.active) where
   -- an exception where a writer strays
   pub answers_stray : (ask : Ask) (fault : AskFault) → StandsForStray (IsStray p ask) fault → SamePicture p q → Answers p i ask (Err fault) q
   answers_stray ask faults.NoMemory stray same = same
-  answers_stray ask (faults.Exception class message) stray same = (stray.2, same, inr (active, inr (stray.0, stray.1)))
+  answers_stray ask (faults.Exception class message) stray same = (stray.2, same, inr (active, inr (inl (stray.0, stray.1))))
   answers_stray ask faults.Broken stray same = absurd stray
   answers_stray ask (faults.BadReply fault) stray same = absurd stray
   answers_stray ask (faults.Fatal class message) stray same = absurd stray
@@ -161,15 +161,24 @@ shaped_one_more src block client existing excludes number ids count olds outs is
     (shape, (adds_one count existing outs located.locs (subst (λ (l : List DatanodeInfo). AddsLowest count l outs located.locs) is adds)).0)
 
 serves_own : (p : Picture) (ask : Ask) → IsStray p ask → IsOwn p ask
-serves_own p (asks.GetBlockLocations src offset length) h = absurd h
-serves_own p asks.GetServerDefaults h = absurd h
-serves_own p (asks.Create src masked client flag parents replication block_size) h = absurd h
-serves_own p (asks.Append src client flag) h = absurd h
 serves_own p (asks.AddBlock src client previous excludes file_id) h = h
 serves_own p (asks.Complete src client last file_id) h = h
 serves_own p (asks.UpdateBlockForPipeline block client) h = h
 serves_own p (asks.GetAdditionalDatanode src block existing excludes count client ids) h = h
 serves_own p (asks.UpdatePipeline client block block' nodes ids) h = h
+serves_own p ask h = absurd h
+
+unknown_own : (p : Picture) (ask : Ask) → IsUnknown ask → IsOwn p ask
+unknown_own p (asks.GetBlockLocations src offset length) h = absurd h
+unknown_own p asks.GetServerDefaults h = h
+unknown_own p (asks.Create src masked client flag parents replication block_size) h = h
+unknown_own p (asks.Append src client flag) h = absurd h
+unknown_own p (asks.AddBlock src client previous excludes file_id) h = absurd h
+unknown_own p (asks.Complete src client last file_id) h = absurd h
+unknown_own p (asks.UpdateBlockForPipeline block client) h = absurd h
+unknown_own p (asks.GetAdditionalDatanode src block existing excludes count client ids) h = absurd h
+unknown_own p (asks.UpdatePipeline client block block' nodes ids) h = absurd h
+unknown_own p ask h = h
 
 keeps_others : (p q : Picture) (path : List ℕ) → SamePicture p q → KeepsOthers path p q
 keeps_others p q path same = record {
@@ -181,6 +190,15 @@ keeps_others p q path same = record {
   writes = same.rest.writes;
 }
 
+own_keeps : (src : Option (List ℕ)) (p q : Picture) → SamePicture p q → OwnKeeps src p q
+own_keeps (Some path) p q same = keeps_others p q path same
+own_keeps None p q same = record { held = same.rest.files.held; defaults = same.rest.files.defaults; reads = same.rest.reads; writes = same.rest.writes }
+
+-- an exception of the implementation's own
+stray_own : (p q : Picture) (ask : Ask) (A B : Type 0) → SamePicture p q → (IsStray p ask × A) ⊎ (IsUnknown ask × B) → IsOwnOf ask p q
+stray_own p q ask A B same (inl stray) = (serves_own p ask stray.0, own_keeps (src_of ask) p q same)
+stray_own p q ask A B same (inr unknown) = (unknown_own p ask unknown.0, own_keeps (src_of ask) p q same)
+
 -- what is answered so is served by the rows
 pub serves_answer : (risen : Type 0) (p q : Picture) (i : ℕ) (ask : Ask) (result : Result Answer AskFault) → Answers p i ask result q → ServesTold risen p i ask result q
 serves_answer risen p q i ask (Ok answer) h = inl (inl h.0, inl h.1, inl h.3)
@@ -188,7 +206,7 @@ serves_answer risen p q i ask (Err faults.NoMemory) h = (h.active, inl h.rest)
 serves_answer risen p q i ask (Err (faults.Exception class message)) h =
     ⊎_elim
     (λ other. inl (other.0, other.1, h.1))
-    (λ here. ⊎_elim (λ refusal. inr (inl (here.0, refusal, h.1))) (λ stray. inr (inr (inl (here.0, h.1.active, (serves_own p ask stray.0, keeps_others p q (src_of ask) h.1))))) here.1)
+    (λ here. ⊎_elim (λ refusal. inr (inl (here.0, refusal, h.1))) (λ stray. inr (inr (inl (here.0, h.1.active, stray_own p q ask _ _ h.1 stray)))) here.1)
     h.2
 serves_answer risen p q i ask (Err faults.Broken) h = absurd h
 serves_answer risen p q i ask (Err (faults.BadReply fault)) h = absurd h

@@ -1,5 +1,5 @@
 -- What a namenode of a cluster in memory answers.
-use Rattle.std.specs.Prelude.{◌≡◌, ◌≢◌, ◌⊎◌, ℕ, List, [], Option, Some, None, Result, Ok, Err}
+use Rattle.std.specs.Prelude.{◌≡◌, ◌≢◌, ◌⊎◌, ℕ, List, [], Option, Some, None, Result, Ok, Err, codes}
 use Rattle.hdfs_model.specs.declared.asks.Ask.{Ask}
 use Rattle.hdfs_model.specs.declared.asks.Ask.TheVariants as asks
 use Rattle.hdfs_model.specs.declared.asks.Answer.{Answer}
@@ -55,9 +55,30 @@ IsStray p (asks.GetAdditionalDatanode src block existing excludes count client i
 IsStray p (asks.UpdatePipeline client block block' nodes ids) = IsOwn p (asks.UpdatePipeline client block block' nodes ids)
 IsStray p ask = ⊥
 
--- An active namenode's exception stands for a refusal, or is a file that isn't found where a writer strays.
+-- an ask that a cluster in memory has no answer to
+abbrev pub IsUnknown : Ask → Type 0
+IsUnknown (asks.GetBlockLocations src offset length) = ⊥
+IsUnknown asks.GetServerDefaults = ⊥
+IsUnknown (asks.Create src masked client flag parents replication block_size) = ⊥
+IsUnknown (asks.Append src client flag) = ⊥
+IsUnknown (asks.AddBlock src client previous excludes file_id) = ⊥
+IsUnknown (asks.Complete src client last file_id) = ⊥
+IsUnknown (asks.UpdateBlockForPipeline block client) = ⊥
+IsUnknown (asks.GetAdditionalDatanode src block existing excludes count client ids) = ⊥
+IsUnknown (asks.UpdatePipeline client block block' nodes ids) = ⊥
+IsUnknown (asks.RenewLease client namespaces) = ⊥
+IsUnknown asks.Msync = ⊥
+IsUnknown asks.GetHaServiceState = ⊥
+IsUnknown ask = Unit {0}
+
+-- the exception that says so
+abbrev pub no_such_method : List ℕ
+no_such_method = codes "org.apache.hadoop.ipc.RpcNoSuchMethodException"
+
+-- An active namenode's exception stands for a refusal, or is a file that isn't found where a writer strays, or says that it has no answer to
+-- the ask.
 abbrev pub IsExcused : Picture → Ask → List ℕ → Type 0
-IsExcused p ask class = IsRefusal p ask class ⊎ (IsStray p ask × (class ≡ not_found))
+IsExcused p ask class = IsRefusal p ask class ⊎ (IsStray p ask × (class ≡ not_found)) ⊎ (IsUnknown ask × (class ≡ no_such_method))
 
 -- The active namenode answers by the row of the ask, or with an exception. Another one answers with the exception of a
 -- standby. Beside that only want of memory comes. Where no answer comes, nothing changes.

@@ -23,7 +23,7 @@ returns-in_err-block-clause-responds c = λ nodes settings links i here.
     let fault = c.in_err-block.field-0.0 in
     let text = c.as_str.result.now in
     rw (r.1, r.2) (inl (subst (λ (ask : Ask). Answers at i ask (Err fault) at) (sym e.is)
-    (answers_not_one_more at at i here e.src text c.as_str.ensures e.block e.client_name e.existing e.excludes e.num_additional_nodes e.existing_storage_ids fault c.in_err-block.ensures.stray (same_picture at))))
+    (answers_not_one_more at at i here e.src text c.as_str.ensures e.blk e.client_name e.existings e.excludes e.num_additional_nodes e.existing_storage_uuids fault c.in_err-block.ensures.stray (same_picture at))))
 
 pub returns-in-Some-clause-responds : goal.returns-in-Some-clause-responds
 returns-in-Some-clause-responds c = λ nodes settings links i here.
@@ -35,9 +35,9 @@ returns-in-Some-clause-responds c = λ nodes settings links i here.
     let olds = c.as_slice-existing.result.now in
     let outs = c.as_slice-excludes.result.now in
     let count = c.args.nodes.now.count in
-    let added = subst (λ (found : Option LocatedBlock). MatchOption found (AreBarred (is_barred olds outs) count) (λ located. (located.b ≡ e.block) × AddsLowest count olds outs located.locs)) c.in-Some.is h.added in
+    let added = subst (λ (found : Option LocatedBlock). MatchOption found (AreBarred (is_barred olds outs) count) (λ located. (located.b ≡ e.blk) × AddsLowest count olds outs located.locs)) c.in-Some.is h.added in
     inl (subst (λ (ask : Ask). Answers at i ask (Ok (answers.GetAdditionalDatanode block)) at) (sym e.is)
-    (answers_one_more at at i here e.src text c.as_str.ensures e.block e.client_name e.existing e.excludes e.num_additional_nodes e.existing_storage_ids count olds outs c.as_slice-existing.ensures c.as_slice-excludes.ensures block h.written added.1 (same_picture at)))
+    (answers_one_more at at i here e.src text c.as_str.ensures e.blk e.client_name e.existings e.excludes e.num_additional_nodes e.existing_storage_uuids count olds outs c.as_slice-existing.ensures c.as_slice-excludes.ensures block h.written added.1 (same_picture at)))
 
 pub returns-in-Some-clause-shape : goal.returns-in-Some-clause-shape
 returns-in-Some-clause-shape c =
@@ -47,10 +47,10 @@ returns-in-Some-clause-shape c =
     let olds = c.as_slice-existing.result.now in
     let outs = c.as_slice-excludes.result.now in
     let count = c.args.nodes.now.count in
-    let added = subst (λ (found : Option LocatedBlock). MatchOption found (AreBarred (is_barred olds outs) count) (λ located. (located.b ≡ e.block) × AddsLowest count olds outs located.locs)) c.in-Some.is h.added in
+    let added = subst (λ (found : Option LocatedBlock). MatchOption found (AreBarred (is_barred olds outs) count) (λ located. (located.b ≡ e.blk) × AddsLowest count olds outs located.locs)) c.in-Some.is h.added in
     let shape = subst (λ (found : Option LocatedBlock). IfSome found IsToWrite) c.in-Some.is h.shape in
     subst (λ (ask : Ask). IsShaped ask (answers.GetAdditionalDatanode block)) (sym e.is)
-    (shaped_one_more e.src e.block e.client_name e.existing e.excludes e.num_additional_nodes e.existing_storage_ids count olds outs c.as_slice-existing.ensures block shape added.1)
+    (shaped_one_more e.src e.blk e.client_name e.existings e.excludes e.num_additional_nodes e.existing_storage_uuids count olds outs c.as_slice-existing.ensures block shape added.1)
 
 pub returns-in_err-no_datanode-in-None-clause-responds : goal.returns-in_err-no_datanode-in-None-clause-responds
 returns-in_err-no_datanode-in-None-clause-responds c = λ nodes settings links i here.
@@ -69,6 +69,6 @@ returns-in_ok-no_datanode-in-None-clause-responds c = λ nodes settings links i 
     let count = c.args.nodes.now.count in
     let loaded = map line_of c.args.loaded.now in
     let fault = c.in_ok-no_datanode-in-None.field-0 in
-    let barred = subst (λ (found : Option LocatedBlock). MatchOption found (AreBarred (is_barred olds outs) count) (λ located. (located.b ≡ e.block) × AddsLowest count olds outs located.locs)) c.in-None.is h.added in
-    let lacks = lacks_datanode at e.src text c.as_str.ensures e.block e.client_name e.existing e.excludes e.num_additional_nodes e.existing_storage_ids count olds outs c.as_slice-existing.ensures c.as_slice-excludes.ensures h.written barred in
+    let barred = subst (λ (found : Option LocatedBlock). MatchOption found (AreBarred (is_barred olds outs) count) (λ located. (located.b ≡ e.blk) × AddsLowest count olds outs located.locs)) c.in-None.is h.added in
+    let lacks = lacks_datanode at e.src text c.as_str.ensures e.blk e.client_name e.existings e.excludes e.num_additional_nodes e.existing_storage_uuids count olds outs c.as_slice-existing.ensures c.as_slice-excludes.ensures h.written barred in
     subst (λ (ask : Ask). Responds loaded count at i ask (Err fault) at) (sym e.is) (responds_none loaded count at i _ here lacks fault c.in_ok-no_datanode-in-None.ensures)
