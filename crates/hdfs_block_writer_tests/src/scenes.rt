@@ -104,7 +104,7 @@ impl Scene {
         if namenodes == 0 {
             return Err("there is no namenode".into());
         }
-        let service = NameServiceProxy::new(0, namenodes);
+        let service = NameServiceProxy::new(0, namenodes, false, false);
         let scene = Scene {
             alloc,
             cluster,

@@ -31,7 +31,7 @@ pub fn listed(alloc: Global, path: &str, store: &mut MemCluster) -> Result<Strin
     if namenodes == 0 {
         return Err("there is no namenode".into());
     }
-    let service = NameServiceProxy::new(0, namenodes);
+    let service = NameServiceProxy::new(0, namenodes, false, false);
     let mut namenode = NamenodeProtocol::new(alloc, service, [0; 16])?;
     let mut uuids = String::new(alloc);
     let Some(found) = namenode.get_block_locations(store, path, 0, u64::MAX)? else {

@@ -22,7 +22,6 @@ use Rattle.hdfs_model.proofs.Framing.{Leaves}
 use Rattle.hdfs_model.proofs.Repeating.{locations_repeats}
 use Rattle.hdfs_namenode.specs.Asked.{AskedOnce, ReachesAll, Through}
 use Rattle.hdfs_namenode.specs.Relaying.{DoneOrNot, RefusedBy, RelaysTold, TellsAsk}
-use Rattle.hdfs_namenode.proofs.Services.{reaches_service}
 use Rattle.hdfs_namenode.proofs.Relayed.{Relays, relayed_done, relayed_once, relayed_row, relayed_told_once}
 use Rattle.hdfs_client.specs.Meeting.{IsClosed}
 use Rattle.hdfs_client.specs.Looking.{OnlyLooks}
@@ -68,7 +67,7 @@ module _ {C : Type 0} (shown : C → Shown) (serves : C → ℕ → Ask → Resu
   looking = asks.GetBlockLocations src offset length
 
   relays : (outcome : Result Answer HdfsError) → AskedOnce serves false looking old outcome new → Relays (shown old.cluster) looking outcome (shown new.cluster)
-  relays outcome asked = relayed_once shown serves rows false looking old outcome new (reaches_service old.proxy (shown old.cluster) reaches) asked
+  relays outcome asked = relayed_once shown serves rows false looking old outcome new reaches asked
 
   pub only_looks : (outcome : Result Answer HdfsError) → AskedOnce serves false looking old outcome new → OnlyLooks (shown old.cluster) (shown new.cluster)
   only_looks outcome asked = looks_from-Leaves (shown old.cluster) (shown new.cluster) (relays outcome asked).leaves

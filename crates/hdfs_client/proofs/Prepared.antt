@@ -21,7 +21,7 @@ use Rattle.hdfs_namenode.specs.Asked.{Asked, ReachesAll, SameService, Through, a
 use Rattle.hdfs_namenode.specs.Clients.{defaults_of, name_of, proxy_of, through}
 use Rattle.hdfs_namenode.specs.Relaying.{DoneOrNot, RelaysTold, TellsAsk}
 use Rattle.hdfs_namenode.specs.declared.protocol.NamenodeProtocol.{NamenodeProtocol}
-use Rattle.hdfs_namenode.proofs.Services.{reaches_later, reaches_service}
+use Rattle.hdfs_namenode.proofs.Services.{reaches_later}
 use Rattle.hdfs_namenode.proofs.Relayed.{Relays, relayed, relayed_done, relayed_row, relayed_told}
 use Rattle.hdfs_client.specs.Looking.{OnlyLooks}
 use Rattle.hdfs_client.specs.Preparing.{AreTold, KnowsDefaults, LacksDefaults, Prepares}
@@ -68,7 +68,7 @@ module _ {C : Type 0} (shown : C → Shown) (serves : C → ℕ → Ask → Resu
     (rows : (old new : C) (i : ℕ) (ask : Ask) (result : Result Answer AskFault) → serves old i ask result new → Served (shown old) i ask result (shown new))
     (a b : Through C) (active : (p : Picture) → (shown a.cluster).picture ≡ Some p → p.active < (shown a.cluster).namenodes) (reaches : ReachesAll a.proxy (shown a.cluster)) where
   relays : (result : Result Answer HdfsError) → Asked serves false asks.GetServerDefaults a result b → Relays (shown a.cluster) asks.GetServerDefaults result (shown b.cluster)
-  relays result asked = relayed shown serves rows false asks.GetServerDefaults a result b (reaches_service a.proxy (shown a.cluster) reaches) asked
+  relays result asked = relayed shown serves rows false asks.GetServerDefaults a result b reaches asked
 
   abbrev risen : Type 0
   risen = CallsRose (shown a.cluster).counts (shown b.cluster)

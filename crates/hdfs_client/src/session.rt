@@ -56,7 +56,7 @@ impl Session {
         if !settings.are_limited() {
             return Err(HdfsError::InvalidArgument(ArgFault::Settings));
         }
-        let service = NameServiceProxy::new(0, cluster.namenodes());
+        let service = NameServiceProxy::new(0, cluster.namenodes(), false, false);
         Ok(Session {
             alloc,
             settings: copy_settings(alloc, settings)?,

@@ -40,7 +40,7 @@ fn client(alloc: Global, cluster: &MemCluster) -> Result<NamenodeProtocol, Fail>
     if namenodes == 0 {
         return Err("no namenode".into());
     }
-    let service = NameServiceProxy::new(0, namenodes);
+    let service = NameServiceProxy::new(0, namenodes, false, false);
     Ok(NamenodeProtocol::new(alloc, service, [0; 16])?)
 }
 

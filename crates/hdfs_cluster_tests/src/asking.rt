@@ -30,7 +30,7 @@ impl Client {
             drop(cluster);
             return Err(Fail::from("there is no namenode"));
         }
-        let service = NameServiceProxy::new(0, namenodes);
+        let service = NameServiceProxy::new(0, namenodes, false, false);
         Ok(Client {
             alloc,
             cluster: Box::new(alloc, cluster)?,

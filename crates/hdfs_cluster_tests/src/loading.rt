@@ -53,7 +53,7 @@ fn loaded(alloc: Global) -> Result<MemCluster, Fail>
 fn located(alloc: Global, cluster: &mut MemCluster) -> Result<LocatedBlocks, Fail>
     requires { (shown_of cluster.old).namenodes ≡ 1 }
 {
-    let service = NameServiceProxy::new(0, 1);
+    let service = NameServiceProxy::new(0, 1, false, false);
     let mut namenode = NamenodeProtocol::new(alloc, service, [0; 16])?;
     let found = namenode.get_block_locations(cluster, "/a", 0, 10)?;
     Ok(found.ok_or("the file is located")?)

@@ -21,7 +21,6 @@ use Rattle.hdfs_model.specs.Sound.{IsFileAt}
 use Rattle.hdfs_model.proofs.Relaying.{Repeats}
 use Rattle.hdfs_namenode.specs.Asked.{AskedOnce, ReachesAll, Through}
 use Rattle.hdfs_namenode.specs.Relaying.{DoneOrNot, RelaysTold}
-use Rattle.hdfs_namenode.proofs.Services.{reaches_service}
 use Rattle.hdfs_namenode.proofs.Relayed.{Relays, relayed_once, relayed_told_once, relayed_row, relayed_done, relayed_rose}
 
 -- What an ask has come to: over any cluster, and over a told picture, from which it may be done more than once.
@@ -37,7 +36,7 @@ module _ {C : Type 0} (shown : C → Shown) (serves : C → ℕ → Ask → Resu
   pub came : (write : Bool) (ask : Ask) (old : Through C) (result : Result Answer HdfsError) (new : Through C) → ReachesAll old.proxy (shown old.cluster)
       → AskedOnce serves write ask old result new → Came (shown old.cluster) ask result (shown new.cluster)
   came write ask old result new reaches asked = record {
-    relays = relayed_once shown serves rows write ask old result new (reaches_service old.proxy (shown old.cluster) reaches) asked;
+    relays = relayed_once shown serves rows write ask old result new reaches asked;
     told = λ p told repeats. relayed_told_once shown serves rows write ask old result new p (below old.cluster p told) reaches told repeats asked;
   }
 

@@ -13,7 +13,7 @@ const RENEWAL_INTERVAL_SECS: u64 = 30;
 
 /// What is to be done with the leases at a moment.
 #[derive(Clone, Copy, Debug, PartialEq, Eq)]
-pub enum LeaseTurn {
+pub enum LeaseNeed {
     /// No file is being written.
     Idle,
     /// Not yet.
@@ -42,7 +42,7 @@ impl FileLeases {
     ghost use Rattle.std.specs.Option.{option_copied};
     ghost use Rattle.std.specs.Ordering.{nat_cmp};
     ghost use Rattle.hdfs_leases.specs.Leases.{held, last_of, IsIdle, HoldsSame, HoldsSameBut};
-    ghost use Rattle.hdfs_leases.specs.declared.file_leases.LeaseTurn.TheVariants.{Idle, Waiting, Due};
+    ghost use Rattle.hdfs_leases.specs.declared.file_leases.LeaseNeed.TheVariants.{Idle, Waiting, Due};
 
     /// No lease is held, and nothing was renewed. It takes no memory.
     pub fn new(alloc: Global) -> FileLeases
@@ -112,7 +112,7 @@ impl FileLeases {
 
     /// What is to be done with the leases at a moment, in milliseconds. They are due once more than 30 whole seconds have passed
     /// since the last renewal, or since the first turn at which a lease was held.
-    pub fn turn(&mut self, moment: u64) -> LeaseTurn
+    pub fn turn(&mut self, moment: u64) -> LeaseNeed
         ensures idle { IsIdle self.old → (result ≡ Idle) × (last_of self.new ≡ None) }
         ensures first { ¬ IsIdle self.old → last_of self.old ≡ None → (result ≡ Waiting) × (last_of self.new ≡ Some moment) }
         ensures waits { (last : ℕ) → ¬ IsIdle self.old → last_of self.old ≡ Some last → (moment - last) / 1000 ≤ 30
@@ -123,16 +123,16 @@ impl FileLeases {
     {
         if self.is_idle() {
             self.last = None;
-            return LeaseTurn::Idle;
+            return LeaseNeed::Idle;
         }
         let Some(last) = self.last else {
             self.last = Some(moment);
-            return LeaseTurn::Waiting;
+            return LeaseNeed::Waiting;
         };
         if moment.saturating_sub(last) / 1_000 <= RENEWAL_INTERVAL_SECS {
-            return LeaseTurn::Waiting;
+            return LeaseNeed::Waiting;
         }
-        LeaseTurn::Due
+        LeaseNeed::Due
     }
 
     /// The leases were renewed at this moment, in milliseconds.

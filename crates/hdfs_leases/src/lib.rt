@@ -7,5 +7,5 @@ mod namespaces;
 #[cfg(test)]
 mod tests;
 
-pub use file_leases::{FileLeases, LeaseTurn};
+pub use file_leases::{FileLeases, LeaseNeed};
 pub use hdfs_wire::{List, NoMemory, Text};

@@ -1,6 +1,6 @@
 //! What no clause says of leases: that memory is enough, and the moments beside the interval.
 
-use crate::{FileLeases, LeaseTurn, NoMemory};
+use crate::{FileLeases, LeaseNeed, NoMemory};
 use std::alloc::Global;
 use std::test::*;
 
@@ -23,29 +23,29 @@ fn leases_of_five(alloc: Global) -> Result<FileLeases, NoMemory> {
 #[test]
 fn leases_are_due_after_more_than_thirty_seconds(rt: HostRuntime) -> Result<(), Fail> {
     let mut leases = FileLeases::new(rt.alloc());
-    assert_eq!(rt; leases.turn(5), LeaseTurn::Idle);
+    assert_eq!(rt; leases.turn(5), LeaseNeed::Idle);
     leases.add_file_lease(7, None)?;
     for (moment, wanted) in [
-        (0, LeaseTurn::Waiting),
-        (30_999, LeaseTurn::Waiting),
-        (31_000, LeaseTurn::Due),
-        (0, LeaseTurn::Waiting),
+        (0, LeaseNeed::Waiting),
+        (30_999, LeaseNeed::Waiting),
+        (31_000, LeaseNeed::Due),
+        (0, LeaseNeed::Waiting),
     ] {
         assert_eq!(rt; leases.turn(moment), wanted, "at {moment}");
     }
     leases.renewed(31_000);
     for (moment, wanted) in [
-        (31_000, LeaseTurn::Waiting),
-        (61_999, LeaseTurn::Waiting),
-        (62_000, LeaseTurn::Due),
-        (u64::MAX, LeaseTurn::Due),
+        (31_000, LeaseNeed::Waiting),
+        (61_999, LeaseNeed::Waiting),
+        (62_000, LeaseNeed::Due),
+        (u64::MAX, LeaseNeed::Due),
     ] {
         assert_eq!(rt; leases.turn(moment), wanted, "at {moment}");
     }
     leases.remove_file_lease(7, None);
-    assert_eq!(rt; leases.turn(62_001), LeaseTurn::Idle);
+    assert_eq!(rt; leases.turn(62_001), LeaseNeed::Idle);
     leases.add_file_lease(8, Some("ns"))?;
-    assert_eq!(rt; leases.turn(92_000), LeaseTurn::Waiting);
+    assert_eq!(rt; leases.turn(92_000), LeaseNeed::Waiting);
     Ok(())
 }
 

@@ -17,9 +17,9 @@ use Rattle.hdfs_model.proofs.Frames.{same_picture_refl}
 use Rattle.hdfs_model.specs.Failover.{AsksInOrder}
 use Rattle.hdfs_model.proofs.Framing.{Leaves, asked_leaves, broken_rose, failure_rose, leaves_refl}
 use Rattle.hdfs_model.proofs.Relaying.{Comes, Repeats, asked_told}
-use Rattle.hdfs_namenode.specs.Asked.{Asked, AskedNothing, AskedOnce, IsServiceOf, ReachesAll, Through, error_of, order_of, outcome_of}
+use Rattle.hdfs_namenode.specs.Asked.{Asked, AskedInOrder, AskedNothing, AskedOnce, IsServiceOf, ReachesAll, Through, error_of, order_of, outcome_of}
 use Rattle.hdfs_namenode.specs.Relaying.{DoneOrNot, RefusedBy, RelaysTold, TellsAsk}
-use Rattle.hdfs_namenode.proofs.Services.{last_below, reaches_has, reaches_service, service_below}
+use Rattle.hdfs_namenode.proofs.Services.{asked_plain, last_below, reaches_has, reaches_service, service_below}
 
 -- What an ask leaves over any cluster; its answer is of its ask, and false to `complete` says that a namenode has failed. Its error tells
 -- the last answer of a namenode.
@@ -104,24 +104,30 @@ module _ {C : Type 0} (shown : C → Shown) (serves : C → ℕ → Ask → Resu
       broken_rose shown serves rows ask (order_of old.proxy) last old.cluster new.cluster
       (subst (λ (g : Result Answer AskFault). AsksInOrder serves (order_of old.proxy) ask old.cluster last g new.cluster) broken asks)
 
-  -- over any cluster
-  pub relayed : IsServiceOf old.proxy (shown old.cluster) → Asked serves write ask old outcome new → Relays (shown old.cluster) ask outcome (shown new.cluster)
-  relayed of asked =
+  -- of a service whose namenodes are asked in order
+  relayed_in_order : IsServiceOf old.proxy (shown old.cluster) → AskedInOrder serves write ask old outcome new
+      → Relays (shown old.cluster) ask outcome (shown new.cluster)
+  relayed_in_order of asked =
       let left = asked_leaves shown serves rows ask (order_of old.proxy) asked.last asked.given old.cluster new.cluster asked.asks in
       let low = last_below old.proxy (shown old.cluster) asked.asks.front asked.last asked.asks.left of asked.asks.in_order in
       subst (λ (r : Result Answer HdfsError). Relays (shown old.cluster) ask r (shown new.cluster)) (sym asked.is)
       (relays_given (shown old.cluster) (shown new.cluster) ask asked.last asked.given left.0 asked.shaped left.1 (omega (arith, low, left.0.later.namenodes))
       (last_rose asked.last asked.given asked.asks) (last_twice asked.last asked.given asked.asks))
 
+  -- over any cluster
+  pub relayed : ReachesAll old.proxy (shown old.cluster) → Asked serves write ask old outcome new → Relays (shown old.cluster) ask outcome (shown new.cluster)
+  relayed reaches asked =
+      relayed_in_order (reaches_service old.proxy (shown old.cluster) reaches) (asked_plain serves write ask old outcome new reaches.plain asked)
+
   pub relayed_nothing : AskedNothing old outcome new → Relays (shown old.cluster) ask outcome (shown new.cluster)
   relayed_nothing nothing =
       subst (λ (r : Result Answer HdfsError). Relays (shown old.cluster) ask r (shown new.cluster)) (sym nothing.is)
       (subst (λ (t : Through C). Relays (shown old.cluster) ask (Err errors.NoMemory) (shown t.cluster)) (sym nothing.same) (relays_nothing (shown old.cluster) ask))
 
-  pub relayed_once : IsServiceOf old.proxy (shown old.cluster) → AskedOnce serves write ask old outcome new
+  pub relayed_once : ReachesAll old.proxy (shown old.cluster) → AskedOnce serves write ask old outcome new
       → Relays (shown old.cluster) ask outcome (shown new.cluster)
-  relayed_once of (inl asked) = relayed of asked
-  relayed_once of (inr nothing) = relayed_nothing nothing
+  relayed_once reaches (inl asked) = relayed reaches asked
+  relayed_once reaches (inr nothing) = relayed_nothing nothing
 
   -- what is told of it
   abbrev pub IsTold : Picture → Type 0
@@ -130,7 +136,8 @@ module _ {C : Type 0} (shown : C → Shown) (serves : C → ℕ → Ask → Resu
   -- over a told picture, where it reaches all namenodes, and the ask may be done again behind an answer that was lost
   pub relayed_told : (p : Picture) → p.active < (shown old.cluster).namenodes → ReachesAll old.proxy (shown old.cluster) → (shown old.cluster).picture ≡ Some p
       → Repeats ask p → Asked serves write ask old outcome new → IsTold p
-  relayed_told p active reaches told repeats asked =
+  relayed_told p active reaches told repeats made =
+      let asked = asked_plain serves write ask old outcome new reaches.plain made in
       let came = asked_told shown serves rows ask old.cluster p told repeats (order_of old.proxy) asked.last asked.given new.cluster
       (service_below old.proxy (shown old.cluster) (reaches_service old.proxy (shown old.cluster) reaches))
       (reaches_has old.proxy (shown old.cluster) p.active reaches active) asked.asks in

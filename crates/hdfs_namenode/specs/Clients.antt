@@ -1,5 +1,7 @@
 -- The name of a client, the service that it asks, and what it knows.
 use Rattle.std.specs.Prelude.{◌≡◌, ℕ, List, ◌++◌, codes, Option}
+use Rattle.hdfs_leases.specs.declared.file_leases.FileLeases.{FileLeases}
+use Rattle.hdfs_model.specs.declared.messages.EncryptionKey.{EncryptionKey}
 use Rattle.hdfs_model.specs.declared.messages.ServerDefaults.{ServerDefaults}
 use Rattle.hdfs_namenode.specs.Asked.{SameService, Through}
 use Rattle.hdfs_namenode.specs.declared.protocol.NamenodeProtocol.{NamenodeProtocol}
@@ -18,6 +20,14 @@ name_of namenode = namenode.client
 abbrev pub defaults_of : NamenodeProtocol → Option ServerDefaults
 defaults_of namenode = namenode.defaults
 
+-- the key that it has kept
+abbrev pub key_of : NamenodeProtocol → Option EncryptionKey
+key_of namenode = namenode.key
+
+-- the leases of the files that it is writing
+abbrev pub leases_of : NamenodeProtocol → FileLeases
+leases_of namenode = namenode.leases
+
 -- the service that it asks
 abbrev pub proxy_of : NamenodeProtocol → NameServiceProxy
 proxy_of namenode = namenode.proxy
@@ -26,8 +36,30 @@ proxy_of namenode = namenode.proxy
 abbrev pub through : {C : Type 0} → NamenodeProtocol → C → Through C
 through namenode cluster = record { cluster = cluster; proxy = namenode.proxy }
 
--- it asks the same service in the same name, and knows what it knew
+-- it asks the same service in the same name, knows what it knew, and holds the leases that it held
 pub record SameClient (namenode namenode' : NamenodeProtocol) : Type 0 where
   pub service : SameService (proxy_of namenode) (proxy_of namenode')
   pub name : name_of namenode' ≡ name_of namenode
   pub defaults : defaults_of namenode' ≡ defaults_of namenode
+  pub key : key_of namenode' ≡ key_of namenode
+  pub leases : leases_of namenode' ≡ leases_of namenode
+
+-- the same, but for the server defaults and the key that it has kept
+pub record SameButKept (namenode namenode' : NamenodeProtocol) : Type 0 where
+  pub service : SameService (proxy_of namenode) (proxy_of namenode')
+  pub name : name_of namenode' ≡ name_of namenode
+  pub leases : leases_of namenode' ≡ leases_of namenode
+
+-- the same, but for the leases that it holds
+pub record SameButLeases (namenode namenode' : NamenodeProtocol) : Type 0 where
+  pub service : SameService (proxy_of namenode) (proxy_of namenode')
+  pub name : name_of namenode' ≡ name_of namenode
+  pub defaults : defaults_of namenode' ≡ defaults_of namenode
+  pub key : key_of namenode' ≡ key_of namenode
+
+-- nothing changes but the leases that it holds
+pub record ChangesLeases (namenode namenode' : NamenodeProtocol) : Type 0 where
+  pub proxy : proxy_of namenode' ≡ proxy_of namenode
+  pub name : name_of namenode' ≡ name_of namenode
+  pub defaults : defaults_of namenode' ≡ defaults_of namenode
+  pub key : key_of namenode' ≡ key_of namenode

@@ -1,6 +1,7 @@
 -- What an ask that goes from namenode to namenode comes to, for the caller.
 use Rattle.std.specs.Prelude.{◌≡◌, ◌⊎◌, ◌<◌, true, false, List, All, Any, Contains, ℕ, Result, Ok, Err}
 use Rattle.hdfs_model.specs.declared.asks.Ask.{Ask}
+use Rattle.hdfs_model.specs.declared.asks.Ask.TheVariants as asks
 use Rattle.hdfs_model.specs.declared.asks.Answer.{Answer}
 use Rattle.hdfs_model.specs.declared.asks.AskFault.{AskFault}
 use Rattle.hdfs_model.specs.declared.asks.AskFault.TheVariants as faults
@@ -13,7 +14,7 @@ use Rattle.hdfs_model.specs.Counts.{Rose, RoseTwice}
 use Rattle.hdfs_model.specs.Namenode.{Row, IsShaped, IsRefusal, IsFalse, is_retriable, is_taken}
 use Rattle.hdfs_model.specs.Picture.{Picture, SameButActive}
 use Rattle.hdfs_model.specs.Shown.{Shown, Later}
-use Rattle.hdfs_namenode.specs.Asked.{exception_error}
+use Rattle.hdfs_namenode.specs.Asked.{SameService, Through, exception_error, order_of}
 
 -- What an error of an ask tells over any cluster: the last answer of a namenode was that for which it stands, and where that was none
 -- a namenode has failed, twice where its connection broke. Want of memory tells nothing.
@@ -58,6 +59,16 @@ HasNoAnswer shown serves order ask old new (errors.InvalidRPCResponse fault) =
 HasNoAnswer shown serves order ask old new (errors.FatalRPCError class message) =
     All (HasGivenUp shown serves ask old new) order × Any (HasFailed (shown old) (shown new)) order
 HasNoAnswer shown serves order ask old new error = Unit {0}
+
+-- Why an ask of a service has no answer: its namenodes were asked in order, it or an msync that went before it, and have given none.
+pub record LacksAnswer {C : Type 0} (shown : C → Shown) (serves : C → ℕ → Ask → Result Answer AskFault → C → Type 0) (ask : Ask) (old : Through C)
+    (new : C) (error : HdfsError) : Type 0 where
+  pub from : Through C
+  pub service : SameService old.proxy from.proxy
+  pub later : Later (shown old.cluster) (shown from.cluster)
+  pub asked : Ask
+  pub is : (asked ≡ ask) ⊎ (asked ≡ asks.Msync)
+  pub none : HasNoAnswer shown serves (order_of from.proxy) asked from.cluster new error
 
 -- the ask had its effect once, or none
 abbrev pub DoneOrNot : Ask → Picture → Picture → Type 0

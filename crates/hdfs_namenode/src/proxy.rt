@@ -1,9 +1,10 @@
 //! A name service: several namenodes, one of which is active.
-ghost use Rattle.std.specs.Prelude.{◌≡◌, ◌+◌, ◌≤◌, ◌<◌, ◌↔◌, IfErr, IfOk, IsTrue};
+ghost use Rattle.std.specs.Prelude.{◌≡◌, ◌+◌, ◌≤◌, ◌<◌, ◌↔◌, IfErr, IfOk, IfSome, IsTrue};
 ghost use Rattle.hdfs_model.specs.Failover.{AsksInOrder, AsksOne};
 ghost use Rattle.hdfs_model.specs.Namenode.{IsShaped};
-ghost use Rattle.hdfs_namenode.specs.Asked.{Asked, IsNew, IsServiceOf, ReachesAll, SameService, order_of, remembers};
-ghost use Rattle.hdfs_namenode.specs.Relaying.{HasNoAnswer};
+ghost use Rattle.hdfs_model.specs.Shown.{Later};
+ghost use Rattle.hdfs_namenode.specs.Asked.{Asked, AskedInOrder, IsNew, IsServiceOf, ReachesAll, SameService, order_of, remembers};
+ghost use Rattle.hdfs_namenode.specs.Relaying.{HasNoAnswer, LacksAnswer};
 
 use crate::faults::{is_broken, outcome_of, passes_on};
 use hdfs_model::{Answer, Ask, AskFault, Cluster, HdfsError};
@@ -14,18 +15,28 @@ pub struct NameServiceProxy {
     pub(crate) first: u32,
     pub(crate) count: u32,
     pub(crate) remembered: u32,
+    pub(crate) aligned: bool,
+    pub(crate) find_observer: bool,
+    pub(crate) synced: bool,
+    pub(crate) observer: Option<u32>,
 }
 
 impl NameServiceProxy {
-    /// The service of `count` namenodes of a cluster, which are numbered from `first` on.
-    pub fn new(first: u32, count: u32) -> NameServiceProxy
+    /// The service of `count` namenodes of a cluster, which are numbered from `first` on. Where it is `aligned`, the namenodes are brought
+    /// into step by an `msync` before the first write, and, with `find_observer`, before the first read. With `find_observer` reads go to an
+    /// observer first, if there is one.
+    pub fn new(first: u32, count: u32, aligned: bool, find_observer: bool) -> NameServiceProxy
         requires { 1 ≤ count }
-        ensures { IsNew first count result }
+        ensures { IsNew first count aligned find_observer result }
     {
         NameServiceProxy {
             first,
             count,
             remembered: first,
+            aligned,
+            find_observer,
+            synced: false,
+            observer: None,
         }
     }
 
@@ -38,23 +49,42 @@ impl NameServiceProxy {
             && self.count <= namenodes - self.first
             && self.first <= self.remembered
             && self.remembered - self.first < self.count
+            && self.knows_no_other()
     }
 
-    /// Whether they are all namenodes that the cluster has.
+    /// Whether the observer that it knows, if any, is one of its namenodes.
+    fn knows_no_other(&self) -> bool
+        requires { self.now.first + self.now.count < 4294967296 }
+        ensures { IsTrue result ↔ IfSome self.now.observer (λ i. i < self.now.first + self.now.count) }
+    {
+        match self.observer {
+            Some(i) => i < self.first + self.count,
+            None => true,
+        }
+    }
+
+    /// Whether they are all namenodes that the cluster has, and it is plain: it sends no `msync` and looks for no observer.
     pub fn reaches_all<C: Cluster>(&self, cluster: &C) -> bool
         ensures { IsTrue result ↔ ReachesAll self.now (C.shown cluster.now) }
     {
-        self.first == 0 && self.count == cluster.namenodes() && self.remembered < self.count
+        self.first == 0
+            && self.count == cluster.namenodes()
+            && self.remembered < self.count
+            && !self.aligned
+            && !self.find_observer
+            && self.observer.is_none()
     }
 
     /// Asks the namenode that answered the last write (at first the first one), and then the others by their numbers, as long as they pass
     /// the ask on: a standby does, an observer that answers no writes, and one that gives no answer. Each is asked once, or once more where
-    /// its connection broke. `write` says whether an answer is to be remembered.
+    /// its connection broke. `write` says whether an answer is to be remembered. An aligned service sends an `msync` before, until one was
+    /// answered; a service with observers has its reads answered by one, which is asked once, and behind whose fault the others are asked.
     ///
     /// Errors: that of the last namenode asked: `AlreadyExists` with the exception's message where something stands at the path already or
     /// is being written, `RPCError` with the class and the message of any other exception, `IOError` with its number where its connection
     /// broke twice, `InvalidRPCResponse` where what came is no answer, `FatalRPCError` with the class and the message of an exception
-    /// behind which it gave up the connection, and `NoMemory`. Behind an error the ask may have been done.
+    /// behind which it gave up the connection, and `NoMemory`. An `msync` that has no answer has its error, and the ask isn't made then.
+    /// Behind any other error the ask may have been done.
     pub fn call<C: Cluster>(
         &mut self,
         cluster: &mut C,
@@ -65,7 +95,29 @@ impl NameServiceProxy {
         ensures asked { Asked C.serves write ask.now (record { cluster = cluster.old; proxy = self.old }) result
             (record { cluster = cluster.new; proxy = self.new }) }
         ensures shape { IfOk result (IsShaped ask.now) }
+        ensures cause { IfErr result (LacksAnswer C.shown C.serves ask.now (record { cluster = cluster.old; proxy = self.old }) cluster.new) }
+        ensures keeps { SameService self.old self.new }
+    {
+        self.sync(cluster, write)?;
+        match self.ask_observer_first(cluster, ask, write)? {
+            Some(answer) => Ok(answer),
+            None => self.ask_all(cluster, ask, write),
+        }
+    }
+
+    /// Asks the namenodes in their order, and remembers the one that answers a write.
+    pub(crate) fn ask_all<C: Cluster>(
+        &mut self,
+        cluster: &mut C,
+        ask: &Ask,
+        write: bool,
+    ) -> Result<Answer, HdfsError>
+        requires { IsServiceOf self.old (C.shown cluster.old) }
+        ensures asked { AskedInOrder C.serves write ask.now (record { cluster = cluster.old; proxy = self.old }) result
+            (record { cluster = cluster.new; proxy = self.new }) }
+        ensures shape { IfOk result (IsShaped ask.now) }
         ensures cause { IfErr result (HasNoAnswer C.shown C.serves (order_of self.old) ask.now cluster.old cluster.new) }
+        ensures later { Later (C.shown cluster.old) (C.shown cluster.new) }
         ensures keeps { SameService self.old self.new }
     {
         let (last, given) = self.ask_in_order(cluster, ask);
@@ -103,7 +155,7 @@ impl NameServiceProxy {
     }
 
     /// The number behind that of the last namenode.
-    fn end<C: Cluster>(&self, cluster: &C) -> u32
+    pub(crate) fn end<C: Cluster>(&self, cluster: &C) -> u32
         requires { self.now.first + self.now.count ≤ (C.shown cluster.now).namenodes }
         ensures { result ≡ self.now.first + self.now.count }
     {

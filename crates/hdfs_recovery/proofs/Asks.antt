@@ -16,7 +16,6 @@ use Rattle.hdfs_model.proofs.Framing.{Leaves}
 use Rattle.hdfs_model.proofs.Relaying.{Repeats}
 use Rattle.hdfs_namenode.specs.Asked.{AskedOnce, ReachesAll, Through}
 use Rattle.hdfs_namenode.specs.Relaying.{DoneOrNot, TellsAsk}
-use Rattle.hdfs_namenode.proofs.Services.{reaches_service}
 use Rattle.hdfs_namenode.proofs.Relayed.{relayed_done, relayed_once, relayed_rose, relayed_row, relayed_told_once}
 use Rattle.hdfs_recovery.specs.Between.{KeepsLinks}
 
@@ -54,7 +53,7 @@ module _ {C : Type 0} (shown : C → Shown) (serves : C → ℕ → Ask → Resu
   b = shown new.cluster
 
   pub asked_links : (outcome : Result Answer HdfsError) → AskedOnce serves true ask old outcome new → KeepsLinks a b
-  asked_links outcome asked = leaves_links a b (relayed_once shown serves rows true ask old outcome new (reaches_service old.proxy a reaches) asked).leaves
+  asked_links outcome asked = leaves_links a b (relayed_once shown serves rows true ask old outcome new reaches asked).leaves
 
   -- Over a told picture in which the ask may be done again: what holds of the row's effect and of none holds.
   pub asked_told : (R : Picture → Picture → Type 0) (p : Picture) → a.picture ≡ Some p → Repeats ask p
@@ -62,7 +61,7 @@ module _ {C : Type 0} (shown : C → Shown) (serves : C → ℕ → Ask → Resu
       → (outcome : Result Answer HdfsError) → AskedOnce serves true ask old outcome new → (q : Picture) × (b.picture ≡ Some q) × R p q
   asked_told R p is repeats same row outcome asked =
       let x = relayed_told_once shown serves rows true ask old outcome new p (active old.cluster p is) reaches is repeats asked in
-      let relays = relayed_once shown serves rows true ask old outcome new (reaches_service old.proxy a reaches) asked in (
+      let relays = relayed_once shown serves rows true ask old outcome new reaches asked in (
         x.0,
         x.1,
         by_done (R p x.0) ask p x.0 (same x.0) (row x.0)
@@ -89,7 +88,7 @@ module _ {C : Type 0} (shown : C → Shown) (serves : C → ℕ → Ask → Resu
       by_memory (inl memory) = inl memory
       by_memory (inr other) = inr (
         other,
-        (relayed_once shown serves rows true ask old (Err error) new (reaches_service old.proxy a reaches) asked).tells,
+        (relayed_once shown serves rows true ask old (Err error) new reaches asked).tells,
         λ p is repeats none.
             (let x = relayed_told_once shown serves rows true ask old (Err error) new p (active old.cluster p is) reaches is repeats asked in
             relayed_rose (CallsRose a.counts b) p ask error x.0 other (λ refused. none refused.0 refused.2) x.2),
