@@ -1,11 +1,16 @@
 -- The goals of rebuild.
 use Rattle.std.proofs.Common.{List, ℕ, subst}
-use Rattle.hdfs_namenode.specs.Clients.{name_of}
-use Rattle.hdfs_namenode.proofs.Services.{same_client_trans}
+use Rattle.hdfs_namenode.specs.Clients.{name_of, proxy_of}
+use Rattle.hdfs_namenode.proofs.Services.{reaches_same, same_client_trans}
 use Rattle.hdfs_recovery.specs.declared.attempts.Attempt.{Attempt}
 use Rattle.hdfs_recovery.specs.Attempts.{Attempted, standing, task_of}
 use Rattle.hdfs_recovery.proofs.Repeating.{one_fell}
 use Rattle.hdfs_recovery.proofs.attempts.rebuild.Goals as goal
+
+pub try_once-requires-clause-reaches : goal.try_once-requires-clause-reaches
+try_once-requires-clause-reaches g c =
+    reaches_same (proxy_of c.args.namenode.now) (proxy_of c.loop-failed.namenode) (g.C.Cluster.shown c.args.cluster.now)
+    (g.C.Cluster.shown c.loop-failed.cluster) c.loop-failed.invariant.client.service c.loop-failed.invariant.fell.namenodes c.requires.reaches
 
 pub loop-failed-preserved : goal.loop-failed-preserved
 loop-failed-preserved g c =
