@@ -8,7 +8,7 @@ usage: bench/run.py PROGRAM [EARLIER]
 One large file: a script with one file of 8 MB (and one of 4 MB) in hexadecimal digits, and one read of all of it.
 Many files: a script with 10,000 files (and one with 1,000) of 16 bytes, and one read of each.
 The same files written: one write of 8 MB (and one of 4 MB), read back; a file of 10,000 blocks (and one of 1,000) of 512 bytes;
-10,000 files (and 1,000) that are created, written with 16 bytes and closed.
+10,000 files (and 1,000) that are created, written with 16 bytes and closed; and as many that are created and closed.
 Reads alone: a file of 8 MB that is read four times and once, on three replicas and, by an earlier build, on one, whose difference is
 that of three reads; 10,000 reads (and 1,000) of one file of 16 bytes.
 Each run is made five times, and the fastest counts; memory is the largest resident set of the five.
@@ -61,6 +61,11 @@ def many_blocks(count):
 def many_written(count):
     files = [written(f"/f{i}", "-", f"{i:032x}") for i in range(count)]
     return "".join(lines for lines, _ in files), "".join(replies for _, replies in files)
+
+
+def many_empty(count):
+    lines = [f"do create /f{i} 644 1 - false true\ndo close /f{i}\n" for i in range(count)]
+    return "".join(lines), "ok created\nok closed\n" * count
 
 
 def once(program, script, out):
@@ -129,6 +134,9 @@ def main():
     many, _ = run(program, *many_written(10_000))
     few, _ = run(program, *many_written(1_000))
     print(f"written, per file, 10,000 against 1,000: {many / 10 / few:.2f} times")
+    many, _ = run(program, *many_empty(10_000))
+    few, _ = run(program, *many_empty(1_000))
+    print(f"empty, per file, 10,000 against 1,000: {many / 10 / few:.2f} times")
 
 
 if __name__ == "__main__":
