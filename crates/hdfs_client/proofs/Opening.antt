@@ -79,18 +79,14 @@ module _ (path client : List ℕ) (options : WriteOptions) (replication block_si
     made_by : (q : Picture) (status : Option FileStatusMsg) → Row p creating (answers.Create status) q → Made q
     made_by q status row = (ap (λ (b : Bool). create_refusal (kinds p) path b options.create_parent) (sym (flag_is options.overwrite)) ∙ row.0, row.2)
 
+    made_of : (q : Picture) (answer : Answer) → Row p creating answer q → Made q
+    made_of q (answers.Create status) row = made_by q status row
+    made_of q answer row = absurd row
+
     -- it was made, or nothing changed
     pub may_be_made : (q : Picture) → MayBeDone creating p q → SameButActive p q ⊎ Made q
     may_be_made q (inl same) = inl same
-    may_be_made q (inr (inl (answers.Create status, shaped, row))) = inr (made_by q status row)
-    may_be_made q (inr (inl (answers.AddBlock found, shaped, row))) = absurd row
-    may_be_made q (inr (inl (answers.GetBlockLocations found, shaped, row))) = absurd row
-    may_be_made q (inr (inl (answers.GetServerDefaults defaults, shaped, row))) = absurd row
-    may_be_made q (inr (inl (answers.Append appended, shaped, row))) = absurd row
-    may_be_made q (inr (inl (answers.Complete done, shaped, row))) = absurd row
-    may_be_made q (inr (inl (answers.UpdateBlockForPipeline block, shaped, row))) = absurd row
-    may_be_made q (inr (inl (answers.GetAdditionalDatanode block, shaped, row))) = absurd row
-    may_be_made q (inr (inl (answers.UpdatePipeline, shaped, row))) = absurd row
+    may_be_made q (inr (inl done)) = inr (made_of q done.0 done.2)
     may_be_made q (inr (inr own)) = absurd own.0
 
     -- a file that was answered to be created is
@@ -157,18 +153,14 @@ module _ (path client : List ℕ) (flag : ℕ) where
     reopened_by : (q : Picture) (appended : Appended) → Row p appending (answers.Append appended) q → Reopened q appended
     reopened_by q appended row = record { none = row.0; file = row.1.0; at = row.1.1; status = row.1.2; opens = row.1.3 }
 
+    reopened_of : (q : Picture) (answer : Answer) → Row p appending answer q → (appended : Appended) × Reopened q appended
+    reopened_of q (answers.Append appended) row = (appended, reopened_by q appended row)
+    reopened_of q answer row = absurd row
+
     -- it was opened, or nothing changed
     pub may_be_reopened : (q : Picture) → MayBeDone appending p q → SameButActive p q ⊎ ((appended : Appended) × Reopened q appended)
     may_be_reopened q (inl same) = inl same
-    may_be_reopened q (inr (inl (answers.Append appended, shaped, row))) = inr (appended, reopened_by q appended row)
-    may_be_reopened q (inr (inl (answers.AddBlock found, shaped, row))) = absurd row
-    may_be_reopened q (inr (inl (answers.GetBlockLocations found, shaped, row))) = absurd row
-    may_be_reopened q (inr (inl (answers.GetServerDefaults defaults, shaped, row))) = absurd row
-    may_be_reopened q (inr (inl (answers.Create status, shaped, row))) = absurd row
-    may_be_reopened q (inr (inl (answers.Complete done, shaped, row))) = absurd row
-    may_be_reopened q (inr (inl (answers.UpdateBlockForPipeline block, shaped, row))) = absurd row
-    may_be_reopened q (inr (inl (answers.GetAdditionalDatanode block, shaped, row))) = absurd row
-    may_be_reopened q (inr (inl (answers.UpdatePipeline, shaped, row))) = absurd row
+    may_be_reopened q (inr (inl done)) = inr (reopened_of q done.0 done.2)
     may_be_reopened q (inr (inr own)) = absurd own.0
 
     -- a file that was answered to be opened is
