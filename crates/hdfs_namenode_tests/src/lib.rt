@@ -5,7 +5,6 @@
 mod asking_on;
 #[cfg(test)]
 mod calling;
-#[cfg(test)]
 mod fake_namenodes;
 #[cfg(test)]
 mod keeping;
