@@ -1,4 +1,6 @@
 pub mod Acting
+pub mod Encrypted
+pub mod Finding
 pub mod Looking
 pub mod Meeting
 pub mod Preparing

@@ -1,12 +1,11 @@
 -- The cluster's defaults, which a session asks for once.
-use Rattle.std.specs.Prelude.{◌≡◌, ◌⊎◌, ℕ, true, false, Option, Some, IfSome, Err}
+use Rattle.std.specs.Prelude.{◌≡◌, ◌⊎◌, ℕ, true, false, Option, Some}
 use Rattle.hdfs_model.specs.declared.errors.ArgFault.TheVariants as args
 use Rattle.hdfs_model.specs.declared.errors.HdfsError.{HdfsError}
 use Rattle.hdfs_model.specs.declared.errors.HdfsError.TheVariants as errors
 use Rattle.hdfs_model.specs.declared.messages.ServerDefaults.{ServerDefaults}
 use Rattle.hdfs_model.specs.Limits.{are_defaults}
 use Rattle.hdfs_model.specs.Picture.{Picture, SameButActive, Told}
-use Rattle.hdfs_model.specs.Sessions.{defaults_of}
 use Rattle.hdfs_model.specs.Causes.{CallsRose}
 use Rattle.hdfs_model.specs.Shown.{Shown}
 use Rattle.hdfs_namenode.specs.Asked.{SameService}
@@ -14,6 +13,7 @@ use Rattle.hdfs_namenode.specs.Clients.{name_of, proxy_of}
 use Rattle.hdfs_namenode.specs.Relaying.{TellsAsk}
 use Rattle.hdfs_files.specs.declared.sizes.WriteSizes.{WriteSizes}
 use Rattle.hdfs_client.specs.Looking.{OnlyLooks}
+use Rattle.hdfs_client.specs.Meeting.{KnowsDefaults}
 use Rattle.hdfs_client.specs.Session.{defaults_known, rebuilding_by, settings_of}
 use Rattle.hdfs_client.specs.declared.session.Session.{Session}
 
@@ -33,25 +33,22 @@ pub record Prepares (old : Shown) (session : Session) (new : Shown) (session' : 
   pub writers : session'.writers ≡ session.writers
   pub failed : session'.failed ≡ session.failed
 
--- what the session knows of them is the cluster's
-abbrev pub KnowsDefaults : Shown → Option ServerDefaults → Type 0
-KnowsDefaults shown known = IfSome known (λ defaults. defaults ≡ defaults_of shown.picture)
-
--- they are those of the picture, where the session knew no others before
-abbrev pub AreTold : Shown → Session → ServerDefaults → Type 0
-AreTold old session defaults = (p : Picture) → old.picture ≡ Some p → KnowsDefaults old (defaults_known session) → defaults ≡ p.defaults
+-- they are those of the picture, where no others were known before
+abbrev pub AreTold : Shown → Option ServerDefaults → ServerDefaults → Type 0
+AreTold old known defaults = (p : Picture) → old.picture ≡ Some p → KnowsDefaults old known → defaults ≡ p.defaults
 
 -- the defaults that were answered: the session knows them, and they are in their limits
 pub record HasDefaults (old : Shown) (session session' : Session) (defaults : ServerDefaults) : Type 0 where
   pub limited : are_defaults defaults ≡ true
   pub known : defaults_known session' ≡ Some defaults
-  pub told : AreTold old session defaults
+  pub told : AreTold old (defaults_known session) defaults
 
 -- why there are none: the ask has failed, over a told picture only where a namenode has, or they are out of their limits
 abbrev pub LacksDefaults : Shown → Session → HdfsError → Shown → Type 0
 LacksDefaults old session error new =
     (TellsAsk old new error × ((p : Picture) → old.picture ≡ Some p → (error ≡ errors.NoMemory) ⊎ CallsRose old.counts new))
-    ⊎ ((error ≡ errors.InvalidArgument args.Defaults) × (defaults : ServerDefaults) × (are_defaults defaults ≡ false) × AreTold old session defaults)
+    ⊎ ((error ≡ errors.InvalidArgument args.Defaults) × (defaults : ServerDefaults) × (are_defaults defaults ≡ false)
+    × AreTold old (defaults_known session) defaults)
 
 -- with what a file is written that has this replication and block size
 abbrev pub sizes_by : Session → ServerDefaults → ℕ → ℕ → WriteSizes
@@ -61,4 +58,5 @@ sizes_by session defaults replication block_size = record {
   chunk = defaults.bytes_per_checksum;
   packet_size = defaults.write_packet_size;
   rebuilding = rebuilding_by (settings_of session);
+  encrypted = defaults.encrypt_data_transfer;
 }

@@ -71,14 +71,15 @@ after session (Err error) = record session { failed = true }
 abbrev pub rebuilding_by : Settings → RebuildSettings
 rebuilding_by settings = record { window = settings.window; rebuild_limit = settings.rebuild_limit; replace = settings.replace }
 
--- A writer rebuilds pipelines as the session's settings say, and has the sizes of packets of the cluster's defaults, which the session
--- knows.
+-- A writer rebuilds pipelines as the session's settings say, has the sizes of packets of the cluster's defaults, which the session knows,
+-- and goes by them on whether data is to be encrypted.
 pub record IsSized (session : Session) (writer : FileWriter) : Type 0 where
   pub known : ServerDefaults
   pub is_known : defaults_known session ≡ Some known
   pub rebuilding : (files.sizes_of writer).rebuilding ≡ rebuilding_by session.settings
   pub chunk : (files.sizes_of writer).chunk ≡ known.bytes_per_checksum
   pub packet_size : (files.sizes_of writer).packet_size ≡ known.write_packet_size
+  pub encrypted : (files.sizes_of writer).encrypted ≡ known.encrypt_data_transfer
 
 -- What a session is between calls: its settings are in their limits, each writer stands and is that of the file at its path, and
 -- no two keep one link. As long as no command has failed, no writer has. It asks all namenodes of the cluster in the name of its client, and its writers rebuild

@@ -1,5 +1,5 @@
 -- A writer of one file, as its callers see it.
-use Rattle.std.specs.Prelude.{◌≡◌, ◌≢◌, ℕ, ◌^◌, ◌<◌, ◌≤◌, true, false, Bool, List, [], ◌++◌, Option, Some, None, IsSome, IfSome, Result, Err}
+use Rattle.std.specs.Prelude.{◌≡◌, ◌≢◌, ℕ, ◌^◌, ◌<◌, ◌≤◌, true, false, Bool, List, [], ◌++◌, Option, Some, None, IsSome, IfSome, Result, Ok, Err}
 use Rattle.hdfs_wire.specs.Outgoing.{ArePacketSizes}
 use Rattle.hdfs_model.specs.declared.messages.Block.{Block}
 use Rattle.hdfs_model.specs.declared.messages.LocatedBlock.{LocatedBlock}
@@ -10,14 +10,14 @@ use Rattle.hdfs_model.specs.Effects.{blocks_at}
 use Rattle.hdfs_model.specs.Files.{File}
 use Rattle.hdfs_model.specs.Namenode.{IsToWrite}
 use Rattle.hdfs_model.specs.Picture.{Picture}
-use Rattle.hdfs_model.specs.Shown.{Shown}
+use Rattle.hdfs_model.specs.Shown.{SameNodes, Shown}
 use Rattle.hdfs_model.specs.Stores.{AgreesAt}
 use Rattle.hdfs_model.specs.Writing.{SameRecords}
 use Rattle.hdfs_block_writer.specs.BlockWriters as blocks
 use Rattle.hdfs_block_writer.specs.OpenPipelines as pipelines
 use Rattle.hdfs_block_writer.specs.declared.block_writer.BlockWriter.{BlockWriter}
 use Rattle.hdfs_recovery.specs.declared.block_plan.BlockPlan.{BlockPlan}
-use Rattle.hdfs_files.specs.Failing.{TellsWrite, TellsClose, CauseOfWrite}
+use Rattle.hdfs_files.specs.Failing.{TellsWrite, TellsClose, CauseOfWrite, IsNoRefusal}
 use Rattle.hdfs_files.specs.OnlyFiles.{OnlyFile, SameFile}
 use Rattle.hdfs_files.specs.Tails.{Tail, Bare, Finished, Reopened, Going, FillsBlocks, FileCarries}
 use Rattle.hdfs_files.specs.WholeBlocks.{StaysWhole, ClosesWhole}
@@ -100,7 +100,7 @@ abbrev pub link_of : FileWriter → Option ℕ
 link_of writer = link_by writer.going
 
 -- The writer of a block stands as its last call left it. Its block has the size of the file's blocks, which is in its limits, its
--- packets have the file's sizes of packets, and its pipeline is rebuilt as the file's are.
+-- packets have the file's sizes of packets, its pipeline is rebuilt as the file's are, and its data isn't to be encrypted.
 pub record BlockStands (shown : Shown) (sizes : WriteSizes) (writer : BlockWriter) : Type 0 where
   pub limited : AreLimited sizes
   pub stands : blocks.Stands shown writer
@@ -108,6 +108,7 @@ pub record BlockStands (shown : Shown) (sizes : WriteSizes) (writer : BlockWrite
   pub chunk : writer.chunk ≡ sizes.chunk
   pub packet_size : writer.packet_size ≡ sizes.packet_size
   pub settings : writer.settings ≡ sizes.rebuilding
+  pub plain : sizes.encrypted ≡ false
 
 -- What a writer of a file is between calls. Once it has failed it keeps no link. Until then a block of it is done only where the one
 -- behind it is being written.
@@ -120,11 +121,12 @@ pub record Stands (shown : Shown) (writer : FileWriter) : Type 0 where
   pub apart : IsSome writer.reopened → writer.going ≡ None
   pub done : writer.failed ≡ false → writer.going ≡ None → writer.last ≡ None
 
--- A writer at work: it stands, hasn't failed, and its file's numbers are in their limits.
+-- A writer at work: it stands, hasn't failed, its file's numbers are in their limits, and its data isn't to be encrypted.
 pub record IsAtWork (shown : Shown) (writer : FileWriter) : Type 0 where
   pub limited : AreLimited writer.sizes
   pub stands : Stands shown writer
   pub fine : writer.failed ≡ false
+  pub plain : writer.sizes.encrypted ≡ false
 
 -- a block is being written that has room for a byte
 abbrev pub HasRoom : FileWriter → Type 0
@@ -135,11 +137,13 @@ pub record IsBetweenBlocks (writer : FileWriter) : Type 0 where
   pub none : writer.going ≡ None
   pub done : writer.reopened ≡ None
 
--- A writer that may begin a block: it hasn't failed, is between blocks, and all its sizes are in their limits.
+-- A writer that may begin a block: it hasn't failed, is between blocks, all its sizes are in their limits, and its data isn't to be
+-- encrypted.
 pub record MayBegin (writer : FileWriter) : Type 0 where
   pub sizes : AreSizes writer.sizes
   pub fine : writer.failed ≡ false
   pub between : IsBetweenBlocks writer
+  pub plain : writer.sizes.encrypted ≡ false
 
 -- what every call keeps of a writer
 pub record Keeps (writer writer' : FileWriter) : Type 0 where
@@ -147,11 +151,12 @@ pub record Keeps (writer writer' : FileWriter) : Type 0 where
   pub file_id : writer'.file_id ≡ writer.file_id
   pub sizes : writer'.sizes ≡ writer.sizes
 
--- When a write does nothing to the cluster: of no bytes; by a writer that has failed; and by one whose file's replication or block size
--- is out of its limits, which has failed then.
+-- When a write does nothing to the cluster: of no bytes, which are taken; by a writer that has failed; and by one whose file's
+-- replication or block size is out of its limits, which has failed then.
 pub record IsIdle {C : Type 0} (writer : FileWriter) (bytes : List ℕ) (old : C) (result : Result ℕ HdfsError) (writer' : FileWriter) (new : C)
     : Type 0 where
   pub none : bytes ≡ [] → new ≡ old
+  pub empty : writer.failed ≡ false → AreLimited writer.sizes → bytes ≡ [] → result ≡ Ok 0
   pub failed : writer.failed ≡ true → (result ≡ Err errors.Failed) × (writer' ≡ writer) × (new ≡ old)
   pub options : writer.failed ≡ false → (AreLimited writer.sizes → ⊥)
       → (result ≡ Err (errors.InvalidArgument args.Options)) × (link_of writer ≡ None) × (new ≡ old)
@@ -186,7 +191,7 @@ LeavesFile old writer new =
 abbrev pub HasCause : Shown → FileWriter → HdfsError → Shown → Type 0
 HasCause old writer error new =
     (p : Picture) (bytes : List ℕ) → old.picture ≡ Some p → FileCarries p writer.path (tail_of writer) bytes
-    → CauseOfWrite writer.sizes.rebuilding writer.path old new error
+    → CauseOfWrite writer.sizes writer.path old new error
 
 -- Over a told picture: a closed file stands at the path with the attributes and the bytes, and nothing changed but the file. Its blocks
 -- are whole, the last one too, where those that were done before are.
@@ -211,7 +216,20 @@ pub record Fails (old : Shown) (writer : FileWriter) (error : HdfsError) (new : 
   pub touches : TouchesFile old writer new
   pub cause : HasCause old writer error new
 
--- the same of a close
+-- the same, for another reason than encryption
+pub record FailsOtherwise (old : Shown) (writer : FileWriter) (error : HdfsError) (new : Shown) : Type 0 where
+  pub fails : Fails old writer error new
+  pub apart : IsNoRefusal error
+
+-- A namenode has answered this block, which stands behind those that are done: it has no bytes, and is to be written. No datanode
+-- has failed.
+pub record Adds (old : Shown) (writer : FileWriter) (located : LocatedBlock) (new : Shown) : Type 0 where
+  pub block : IsToWrite located
+  pub empty : located.b.num_bytes ≡ 0
+  pub nodes : SameNodes old new
+  pub wrote : Wrote old writer [] new (record writer { reopened = Some located })
+
+-- a close has failed, as a call does
 pub record FailsToClose (old : Shown) (writer : FileWriter) (error : HdfsError) (new : Shown) : Type 0 where
   pub own : OnlyOwnLink old (link_of writer) new None
   pub tells : TellsClose writer.path old new error

@@ -1,5 +1,5 @@
 -- Why a command fails: for each error what holds where it is answered.
-use Rattle.std.specs.Prelude.{◌≡◌, ◌⊎◌, ℕ, ◌+◌, ◌<◌, ◌≤◌, true, false, List, [], ◌∷◌, ◌++◌, length, All, Any, Option, Some, slice_index_or}
+use Rattle.std.specs.Prelude.{◌≡◌, ◌≢◌, ◌⊎◌, ℕ, ◌+◌, ◌<◌, ◌≤◌, true, false, List, [], ◌∷◌, ◌++◌, length, All, Any, Option, Some, slice_index_or}
 use Rattle.hdfs_model.specs.declared.picture.LastAnswer.TheVariants as last_answers
 use Rattle.hdfs_model.specs.declared.picture.BlockEntry.{BlockEntry}
 use Rattle.hdfs_model.specs.declared.picture.Entry.TheVariants as entries
@@ -12,8 +12,9 @@ use Rattle.hdfs_model.specs.declared.errors.HdfsError.TheVariants as errors
 use Rattle.hdfs_model.specs.declared.errors.IoFault.TheVariants as io_faults
 use Rattle.hdfs_model.specs.declared.errors.TransferFault.TheVariants as transfer
 use Rattle.hdfs_model.specs.declared.errors.ArgFault.TheVariants as args
+use Rattle.hdfs_model.specs.declared.errors.Feature.TheVariants as features
 use Rattle.hdfs_model.specs.Counts.{CallsRoseTimes, FaultCounts, Rose, RoseTwice}
-use Rattle.hdfs_model.specs.Files.{State, Content, NoFile, Writing}
+use Rattle.hdfs_model.specs.Files.{State, Content, NoFile, File, Writing}
 use Rattle.hdfs_model.specs.Limits.{are_options, are_defaults, are_attributes}
 use Rattle.hdfs_model.specs.Steps.{World, Outcome, Refused, Done, Refusal, BadPath, WrongState, Exists, Lacks, BadRange, content_of, step, path_of, target_of}
 use Rattle.hdfs_model.specs.Picture.{Picture}
@@ -128,6 +129,32 @@ TouchesNothing (commands.Write path bytes) = bytes ≡ []
 TouchesNothing (commands.Close path) = ⊥
 TouchesNothing (commands.Read path offset len) = len ≡ 0
 
+-- the command asks for bytes, or sends some
+abbrev pub MovesBytes : Command → Type 0
+MovesBytes (commands.Write path bytes) = bytes ≢ []
+MovesBytes (commands.Read path offset len) = 0 < len
+MovesBytes command = ⊥
+
+-- the command asks for bytes, or sends some, and the cluster wants data encrypted on its way
+abbrev pub MovesEncrypted : World → Command → Type 0
+MovesEncrypted world command = MovesBytes command × (world.defaults.encrypt_data_transfer ≡ true)
+
+-- a closed file at the path is encrypted
+abbrev pub IsEncryptedAt : State → List ℕ → Type 0
+IsEncryptedAt state path = (content : Content) × (state.files path ≡ Some (File content)) × (content.attributes.encrypted ≡ true)
+
+-- the command opens an encrypted file, to read it or to go on with it
+abbrev pub OpensEncrypted : State → List ℕ → Command → Type 0
+OpensEncrypted state path (commands.Append text) = IsEncryptedAt state path
+OpensEncrypted state path (commands.Read text offset len) = IsEncryptedAt state path
+OpensEncrypted state path command = ⊥
+
+-- the command can meet encryption: it is neither a close nor a write of no bytes
+abbrev pub CanMeetEncryption : Command → Type 0
+CanMeetEncryption (commands.Write path bytes) = bytes ≢ []
+CanMeetEncryption (commands.Close path) = ⊥
+CanMeetEncryption command = Unit {0}
+
 -- the command uses the cluster's defaults
 abbrev pub UsesDefaults : Command → Type 0
 UsesDefaults (commands.Create path options) = Unit {0}
@@ -172,6 +199,7 @@ Tells command old new (errors.InvalidArgument (args.Range offset len length)) = 
 Tells command old new (errors.AlreadyExists message) = IsTakenBy message new
 Tells command old new (errors.OperationFailed name) =
     IsClose command × (new.last ≡ last_answers.Fine) × CallsRoseTimes new.namenodes 5 old.counts new.counts
+Tells command old new (errors.UnsupportedFeature features.Encryption) = CanMeetEncryption command
 Tells command old new (errors.FileNotFound path) = (path ≡ path_of command) × (new.last ≡ last_answers.Fine)
 Tells command old new (errors.RPCError class message) = (is_taken class ≡ false) × (new.last ≡ last_answers.Exception class message)
 Tells command old new (errors.InvalidRPCResponse fault) = (new.last ≡ last_answers.BadReply fault) × CallsRose old.counts new
@@ -183,6 +211,7 @@ abbrev pub IsEarly : Command → HdfsError → Type 0
 IsEarly command (errors.InvalidPath text) = Unit {0}
 IsEarly command (errors.InvalidArgument fault) = Unit {0}
 IsEarly command (errors.FileNotFound path) = Unit {0}
+IsEarly command (errors.UnsupportedFeature feature) = Unit {0}
 IsEarly command (errors.AlreadyExists message) = Sends command → ⊥
 IsEarly command (errors.RPCError class message) = Sends command → ⊥
 IsEarly command (errors.IOError (io_faults.Namenode last)) = Sends command → ⊥
@@ -219,6 +248,8 @@ Cause world state command old new (errors.InvalidArgument (args.Range offset len
 Cause world state command old new (errors.AlreadyExists message) = (step world state command ≡ Refused Exists) ⊎ CallsRose old.counts new
 Cause world state command old new (errors.OperationFailed name) =
     IsDone (step world state command) × CallsRose old.counts new × (name ≡ target_of world command)
+Cause world state command old new (errors.UnsupportedFeature features.Encryption) =
+    (IsDone (step world state command) × MovesEncrypted world command) ⊎ OpensEncrypted state (target_of world command) command
 Cause world state command old new (errors.FileNotFound name) = IsLacking (step world state command)
 Cause world state command old new (errors.RPCError class message) =
     StandsForLacking (step world state command) class ⊎ CallsRose old.counts new

@@ -1,5 +1,5 @@
 -- What the asks of a writer do to the picture.
-use Rattle.std.specs.Prelude.{◌≡◌, ◌⊎◌, ℕ, ◌<◌, ◌≤◌, Bool, true, false, ◌==◌, List, [], ◌∷◌, ◌++◌, length, map, All, Contains, Option, Some, None, option_map, if◌then◌else◌}
+use Rattle.std.specs.Prelude.{◌≡◌, ◌⊎◌, ℕ, ◌<◌, ◌≤◌, Bool, true, false, ◌==◌, List, [], ◌∷◌, ◌++◌, length, map, All, Contains, Option, Some, None, is_some, option_map, if◌then◌else◌}
 use Rattle.std.specs.List.{list_any, IsDistinct}
 use Rattle.std.specs.Str.{bytes_eq}
 use Rattle.hdfs_model.specs.declared.messages.Block.{Block}
@@ -65,13 +65,14 @@ abbrev pub HasBlock : List ℕ → Option Block → Type 0
 HasBlock blocks None = Unit {0}
 HasBlock blocks (Some block) = Contains blocks block.block_id
 
--- the status tells the attributes of the file
+-- the status tells the attributes of the file, and encryption information where it is encrypted
 pub record HasStatus (file : FileEntry) (status : Option FileStatusMsg) : Type 0 where
   pub told : FileStatusMsg
   pub is : status ≡ Some told
   pub permission : told.permission ≡ file.attributes.permission
   pub replication : told.block_replication ≡ Some file.attributes.replication
   pub block_size : told.blocksize ≡ Some file.attributes.block_size
+  pub encryption : is_some told.encryption ≡ file.attributes.encrypted
 
 -- A file is created: it is open and has no blocks, directories stand above it, and the blocks of an older file go.
 pub record Creates (src : List ℕ) (file : FileEntry) (old new : Picture) : Type 0 where

@@ -1,5 +1,5 @@
 -- What a namenode may answer to an ask, and what its answer does to the picture.
-use Rattle.std.specs.Prelude.{◌≡◌, ◌≢◌, ◌⊎◌, ℕ, ◌+◌, ◌-◌, ◌<◌, ◌≤◌, ◌^◌, ◌==◌, ◌||◌, Bool, true, false, length, List, [], ◌∷◌, All, Contains, IfSome, IsSome, Option, Some, None, Result, Ok, Err, codes}
+use Rattle.std.specs.Prelude.{◌≡◌, ◌≢◌, ◌⊎◌, ℕ, ◌+◌, ◌-◌, ◌<◌, ◌≤◌, ◌^◌, ◌==◌, ◌||◌, Bool, true, false, length, List, [], ◌∷◌, All, Contains, IfSome, IsSome, is_some, Option, Some, None, Result, Ok, Err, codes}
 use Rattle.std.specs.Str.{bytes_eq}
 use Rattle.hdfs_model.specs.declared.messages.LocatedBlock.{LocatedBlock}
 use Rattle.hdfs_model.specs.declared.messages.LocatedBlocks.{LocatedBlocks}
@@ -92,21 +92,22 @@ LocatesBlocks table at end (id ∷ ids) (block ∷ blocks) =
 LocatesBlocks table at end [] (block ∷ blocks) = ⊥
 LocatesBlocks table at end (id ∷ ids) [] = ⊥
 
--- the path is that of a closed file, of which the answer has the length and the blocks
+-- the path is that of a closed file, of which the answer has the length and the blocks, and encryption information where it is encrypted
 pub record Locates (p : Picture) (src : List ℕ) (found : LocatedBlocks) : Type 0 where
   pub allowed : no_file (kinds p) src ≡ None
   pub file : FileEntry
   pub named : p.names src ≡ Some (entries.File file)
+  pub encryption : is_some found.encryption ≡ file.attributes.encrypted
   pub blocks : LocatesBlocks p.table 0 found.file_length file.blocks found.blocks
 
 -- a flag of create asks for overwriting
 abbrev pub overwrites : ℕ → Bool
 overwrites flag = flag == 3
 
--- a file as it is created
+-- a file as it is created, not encrypted
 abbrev pub new_file : ℕ → ℕ → ℕ → FileEntry
 new_file permission replication block_size = record {
-  attributes = record { permission = permission; replication = replication; block_size = block_size };
+  attributes = record { permission = permission; replication = replication; block_size = block_size; encrypted = false };
   blocks = [];
   is_open = true;
 }

@@ -18,7 +18,7 @@ use Rattle.hdfs_model.specs.Picture.{Picture}
 use Rattle.hdfs_model.specs.Steps.{World, Outcome, Refused, Done, path_of, target_of, is_opened, step}
 use Rattle.hdfs_model.specs.Folds.{Folded, Ends, Stops}
 use Rattle.hdfs_model.specs.Shown.{Shown}
-use Rattle.hdfs_model.specs.Causes.{IsKind}
+use Rattle.hdfs_model.specs.Causes.{IsKind, MovesEncrypted, OpensEncrypted}
 use Rattle.hdfs_model.specs.Stores.{Agrees}
 
 -- the defaults of a cluster that tells them
@@ -67,10 +67,16 @@ WritesInLimits state path (commands.Write text bytes) =
     (content : Content) → state.files path ≡ Some (Writing content) → are_attributes content.attributes ≡ true
 WritesInLimits state path command = Unit {0}
 
--- what a command brings or uses over a state is in its limits
+-- the command moves no bytes that are to be encrypted on their way, and opens no encrypted file
+pub record MeetsNoEncryption (world : World) (state : State) (command : Command) : Type 0 where
+  pub bytes : MovesEncrypted world command → ⊥
+  pub file : OpensEncrypted state (target_of world command) command → ⊥
+
+-- what a command brings or uses over a state is in its limits, and it meets no encryption
 pub record IsLimited (world : World) (state : State) (command : Command) : Type 0 where
   pub numbers : are_numbers world.defaults command ≡ true
   pub attributes : WritesInLimits state (target_of world command) command
+  pub plain : MeetsNoEncryption world state command
 
 -- the same of each command up to the first that is refused, over the state that those before it leave
 abbrev pub AreLimited : World → State → List Command → Type 0

@@ -1,5 +1,5 @@
 -- What one command does to the state of the files, and what it is answered.
-use Rattle.std.specs.Prelude.{ℕ, ◌+◌, nat_lt, Bool, not, List, [], ◌∷◌, ◌++◌, take, drop, length, filter, Option, Some, None, unwrap_or, if◌then◌else◌}
+use Rattle.std.specs.Prelude.{ℕ, ◌+◌, nat_lt, Bool, false, not, List, [], ◌∷◌, ◌++◌, take, drop, length, filter, Option, Some, None, unwrap_or, if◌then◌else◌}
 use Rattle.std.specs.List.{list_any}
 use Rattle.std.specs.Str.{bytes_eq}
 use Rattle.hdfs_model.specs.declared.messages.ServerDefaults.{ServerDefaults}
@@ -51,7 +51,7 @@ abbrev pub read_file : State → List ℕ → Option NoFile → ℕ → ℕ → 
 read_file state path (Some why) offset len = Refused (Lacks why)
 read_file state path None offset len = read_content state (content_of (state.files path)) offset len
 
--- a file as it is created: no bytes, and the attributes that the options say, or else the defaults
+-- a file as it is created: no bytes, and the attributes that the options say, or else the defaults; it isn't encrypted
 abbrev pub created : World → WriteOptions → Content
 created world options = record {
   bytes = [];
@@ -59,6 +59,7 @@ created world options = record {
     permission = options.permission;
     replication = unwrap_or options.replication world.defaults.replication;
     block_size = unwrap_or options.block_size world.defaults.block_size;
+    encrypted = false;
   };
 }
 

@@ -3,12 +3,14 @@ ghost use Rattle.std.specs.Prelude.{◌≡◌};
 
 use crate::limits::{MAX_BLOCK_SIZE, is_block_size, is_permission, is_replication};
 
-/// What a file is made with: its permission bits, its replication, and the size of its blocks in bytes.
+/// What a file is made with: its permission bits, its replication, the size of its blocks in bytes, and whether its bytes are encrypted
+/// (the namenode tells its encryption information then).
 #[derive(Clone, Copy, Debug, PartialEq, Eq)]
 pub struct Attributes {
     pub permission: u32,
     pub replication: u32,
     pub block_size: u64,
+    pub encrypted: bool,
 }
 
 impl Attributes {

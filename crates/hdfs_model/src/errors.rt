@@ -61,6 +61,14 @@ pub enum ArgFault {
     Range { offset: u64, len: u64, length: u64 },
 }
 
+/// What isn't there, of which a cluster makes use.
+#[derive(Debug, Drop, Error)]
+pub enum Feature {
+    /// The file's bytes are encrypted, or bytes are to be encrypted on their way to and from datanodes.
+    #[error("encryption")]
+    Encryption,
+}
+
 /// The errors of the client, by the names and the texts of the Rust crate's `HdfsError`.
 #[derive(Debug, Drop, Error)]
 pub enum HdfsError {
@@ -87,6 +95,8 @@ pub enum HdfsError {
     /// There is no file at this path.
     #[error("file not found: {}", .0.as_str())]
     FileNotFound(Text),
+    #[error("operation not supported: {}", .0.name())]
+    UnsupportedFeature(Feature),
     /// A namenode's exception: its class and its message.
     #[error("RPC error: {} {}", .0.as_str(), .1.as_str())]
     RPCError(Text, Text),
@@ -140,6 +150,15 @@ impl TransferFault {
             TransferFault::NoReplacement => "NoReplacement",
             TransferFault::RebuildLimit { .. } => "RebuildLimit",
             TransferFault::BadAck { .. } => "BadAck",
+        }
+    }
+}
+
+impl Feature {
+    // The name of the variant, which the text of an `HdfsError` shows.
+    fn name(&self) -> &'static str {
+        match self {
+            Feature::Encryption => "Encryption",
         }
     }
 }

@@ -18,7 +18,7 @@ pub use attributes::Attributes;
 pub use cluster::Cluster;
 pub use commands::{Command, Reply, Settings, WriteOptions};
 pub use copies::{copy_acl_entries, copy_ids, copy_nodes, copy_optional_text, copy_texts};
-pub use errors::{ArgFault, Fault, HdfsError, IoFault, TransferFault};
+pub use errors::{ArgFault, Fault, Feature, HdfsError, IoFault, TransferFault};
 pub use hdfs_names::{absolute_path, is_path, nearest_ancestor, parent_of};
 pub use limits::{MAX_CHUNK, MAX_PACKET, is_block_size, is_permission, is_replication};
 pub use mem_settings::{MAX_NODES, MemSettings};

@@ -43,6 +43,7 @@ by_observer (Ok answer) = Ok (Some answer)
 by_observer (Err faults.NoMemory) = Err errors.NoMemory
 by_observer (Err fault) = Ok None
 
+-- an observer has given no answer
 abbrev pub is_unanswered : Result (Option Answer) HdfsError → Bool
 is_unanswered (Ok None) = true
 is_unanswered (Ok (Some answer)) = false

@@ -1,5 +1,5 @@
 -- What a namenode of a cluster in memory answers.
-use Rattle.std.specs.Prelude.{◌≡◌, ◌≢◌, ◌⊎◌, ℕ, List, [], Option, Some, None, Result, Ok, Err, codes}
+use Rattle.std.specs.Prelude.{◌≡◌, ◌≢◌, ◌⊎◌, ℕ, List, [], Option, Some, None, is_some, Result, Ok, Err, codes}
 use Rattle.hdfs_model.specs.declared.asks.Ask.{Ask}
 use Rattle.hdfs_model.specs.declared.asks.Ask.TheVariants as asks
 use Rattle.hdfs_model.specs.declared.asks.Answer.{Answer}
@@ -16,10 +16,11 @@ use Rattle.hdfs_model.specs.Namenode.{LocatesBlocks, IsOwn, IsRefusal, Row, Stan
 use Rattle.hdfs_model.specs.Picture.{Picture, SamePicture}
 use Rattle.hdfs_model.specs.Refusals.{Refusal}
 
--- the answer has the length and the blocks of the file at the path
+-- the answer has the length and the blocks of the file at the path, and encryption information where it is encrypted
 pub record LocatesFile (names : List ℕ → Option Entry) (table : ℕ → Option BlockEntry) (src : List ℕ) (found : LocatedBlocks) : Type 0 where
   pub file : FileEntry
   pub named : names src ≡ Some (entries.File file)
+  pub encryption : is_some found.encryption ≡ file.attributes.encrypted
   pub blocks : LocatesBlocks table 0 found.file_length file.blocks found.blocks
 
 -- the exception stands for the refusal that holds, and has no message

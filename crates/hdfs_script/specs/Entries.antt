@@ -1,5 +1,5 @@
 -- What each line of a script says.
-use Rattle.std.specs.Prelude.{ℕ, ◌^◌, ◌+◌, nat_le, nat_lt, Bool, ◌&&◌, ◌||◌, ◌==◌, List, [], ◌∷◌, length, Option, Some, None, if◌then◌else◌, codes}
+use Rattle.std.specs.Prelude.{ℕ, ◌^◌, ◌+◌, nat_le, nat_lt, Bool, false, ◌&&◌, ◌||◌, ◌==◌, List, [], ◌∷◌, length, Option, Some, None, if◌then◌else◌, codes}
 use Rattle.std.specs.List.{list_all, slice_split}
 use Rattle.std.specs.Str.{bytes_eq}
 use Rattle.hdfs_model.specs.declared.attributes.Attributes.{Attributes}
@@ -22,10 +22,10 @@ use Rattle.hdfs_script.specs.Commands.{append_entry, close_entry, create_entry, 
 use Rattle.hdfs_script.specs.Numbers.{number, hex_bytes}
 use Rattle.hdfs_script.specs.Words.{is_word}
 
--- the attributes of a file, where each is a number
+-- the attributes of a file, where each is a number; it isn't encrypted
 abbrev pub attributes : Option ℕ → Option ℕ → Option ℕ → Option Attributes
 attributes (Some permission) (Some replication) (Some block_size) =
-    Some (record { permission = permission; replication = replication; block_size = block_size })
+    Some (record { permission = permission; replication = replication; block_size = block_size; encrypted = false })
 attributes _ _ _ = None
 
 -- `PERM REPL BLOCK`: permission bits in octal digits, the replication and the block size
@@ -87,6 +87,11 @@ abbrev pub best_effort_entry : Option Bool → Entry
 best_effort_entry None = Bad
 best_effort_entry (Some best_effort) = Sets (settings.BestEffort best_effort)
 
+-- `set encrypt ENCRYPT`: `true` or `false`
+abbrev pub encrypt_entry : Option Bool → Entry
+encrypt_entry None = Bad
+encrypt_entry (Some encrypt) = Sets (settings.Encrypt encrypt)
+
 -- `set KEY VALUE` of the session's writes: from 1 to 1,000 rebuilds of a pipeline, and a window of 1 packet to 1,000
 abbrev pub writing_entry : List ℕ → List ℕ → Entry
 writing_entry key value =
@@ -96,18 +101,25 @@ writing_entry key value =
     else if bytes_eq key (codes "besteffort") then best_effort_entry (flag_of value)
     else Bad
 
--- `set KEY VALUE` of the cluster: from 1 to 16 namenodes, the number of the active one, from 1 to 64 datanodes, blocks of 1 byte to
--- 2^63 - 1, chunks of 1 byte to 2^30, packets of fewer than 2^31, and from 1 to 65,535 replicas; or of the session's writes
+-- `set KEY VALUE` of the cluster's defaults: blocks of 1 byte to 2^63 - 1, chunks of 1 byte to 2^30, packets of fewer than 2^31, from 1
+-- to 65,535 replicas, and whether data is encrypted on its way; or of the session's writes
+abbrev pub default_entry : List ℕ → List ℕ → Entry
+default_entry key value =
+    if bytes_eq key (codes "block") then from_one settings.Block (number 10 (2 ^ 63) value)
+    else if bytes_eq key (codes "chunk") then from_one settings.Chunk (number 10 (2 ^ 30 + 1) value)
+    else if bytes_eq key (codes "packet") then from_zero settings.Packet (number 10 (2 ^ 31) value)
+    else if bytes_eq key (codes "replication") then from_one settings.Replication (number 10 65536 value)
+    else if bytes_eq key (codes "encrypt") then encrypt_entry (flag_of value)
+    else writing_entry key value
+
+-- `set KEY VALUE` of the cluster: from 1 to 16 namenodes, the number of the active one, from 1 to 64 datanodes, and the defaults; or of
+-- the session's writes
 abbrev pub cluster_entry : List ℕ → List ℕ → Entry
 cluster_entry key value =
     if bytes_eq key (codes "namenodes") then from_one settings.Namenodes (number 10 17 value)
     else if bytes_eq key (codes "active") then from_zero settings.Active (number 10 16 value)
     else if bytes_eq key (codes "nodes") then from_one settings.Nodes (number 10 65 value)
-    else if bytes_eq key (codes "block") then from_one settings.Block (number 10 (2 ^ 63) value)
-    else if bytes_eq key (codes "chunk") then from_one settings.Chunk (number 10 (2 ^ 30 + 1) value)
-    else if bytes_eq key (codes "packet") then from_zero settings.Packet (number 10 (2 ^ 31) value)
-    else if bytes_eq key (codes "replication") then from_one settings.Replication (number 10 65536 value)
-    else writing_entry key value
+    else default_entry key value
 
 -- `set KEY VALUE`
 abbrev pub set_entry : List ℕ → List ℕ → Entry

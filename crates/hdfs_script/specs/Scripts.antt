@@ -70,6 +70,7 @@ with_setting given (settings.Block n) = with_defaults given (record given.cluste
 with_setting given (settings.Chunk n) = with_defaults given (record given.cluster.defaults { bytes_per_checksum = n })
 with_setting given (settings.Packet n) = with_defaults given (record given.cluster.defaults { write_packet_size = n })
 with_setting given (settings.Replication n) = with_defaults given (record given.cluster.defaults { replication = n })
+with_setting given (settings.Encrypt encrypt) = with_defaults given (record given.cluster.defaults { encrypt_data_transfer = encrypt })
 with_setting given (settings.Rebuilds n) = record given { rebuild_limit = n }
 with_setting given (settings.Window n) = record given { window = n }
 with_setting given (settings.Policy policy) = record given { replace = record given.replace { policy = policy } }
