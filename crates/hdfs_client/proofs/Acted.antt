@@ -14,7 +14,7 @@ use Rattle.hdfs_model.specs.Causes.{Cause, CommandLost, Tells}
 use Rattle.hdfs_model.specs.Files.{State, Writing, Content}
 use Rattle.hdfs_model.specs.Picture.{Picture}
 use Rattle.hdfs_model.specs.Sessions.{Fits, SameOpened, IsLimited, defaults_of, does, spared, touched, is_before_asking, world_of, world_with}
-use Rattle.hdfs_model.specs.Shown.{Shown, SamePlaces, SameReadPlaces, SameReads}
+use Rattle.hdfs_model.specs.Shown.{Later, SameNodes, Shown, SamePlaces, SameReadPlaces, SameReads}
 use Rattle.hdfs_model.specs.Steps.{World, Outcome, Refusal, Refused, Done, is_opened, step, target_of, with_writing}
 use Rattle.hdfs_model.specs.Stores.{Agrees, AgreesAt, AgreesBut}
 use Rattle.hdfs_model.proofs.Completing.{cause_completes}
@@ -32,7 +32,7 @@ use Rattle.hdfs_client.proofs.Moved.{HasMore, links_moved, links_with, session_m
 use Rattle.hdfs_client.proofs.Sized.{remembers_failed, remembers_refl}
 use Rattle.hdfs_client.proofs.WithWriting.{other_there, writing_there}
 
-reads_same : (s t : Shown) → OnlyLooks s t → SameReads s t
+pub reads_same : (s t : Shown) → OnlyLooks s t → SameReads s t
 reads_same s t looks = record {
   links = looks.links.links;
   places = told_weaker (SamePlaces s) (SameReadPlaces s) s.picture t.picture (λ p q h. h.0) looks.links.places;
@@ -42,6 +42,30 @@ reads_same s t looks = record {
 abbrev pub Fails : World → State → Command → Shown → Shown → HdfsError → Type 0
 Fails world state command s t error = Cause world state command s t error × AgreesBut (spared world state command error) t.picture state.files
 
+-- A command that has failed, and has left all links, datanodes and writers.
+pub idle_acts : (command : Command) (s t : Shown) (session session' : Session) (error : HdfsError) → Stands s session → Later s t → SameReads s t → ((link : ℕ) → t.writes link ≡ s.writes link) → SameNodes s t
+    → ((r : List ℕ) → writer_of session' r ≡ writer_of session r) → Remembers session session' → Tells command s t error
+    → ((path : List ℕ) (byte : ℕ) → CommandLost s.counts t path command byte → ⊥)
+    → ((state : State) → IsReady s session state command → Fails (world_at session s) state command s t error)
+    → ((state : State) → IsReady s session state command → CarriesOpen t session' state)
+    → Acts command s session t (after {T = Reply} session' (Err error)) (Err error)
+idle_acts command s t session session' error stands later reads writes nodes writers remembers tells found told others = record {
+  anywhere = record { later = later; reads = reads; replies = tt; tells = tells; refused = λ early. nodes; idle = λ idle. nodes };
+  links = links_moved s t writes session (record session' { failed = true }) writers;
+  stands = session_moved s t writes session (record session' { failed = true }) writers later.namenodes (remembers_failed session session' remembers)
+      (λ failed. absurd (false≢true (sym failed))) stands;
+  writers = λ r apart. writers r;
+  applied = λ state ready. record {
+    ok = tt;
+    err = told state ready;
+    complete = λ limited none. cause_completes (world_at session s) state command s t later.namenodes limited none
+        (λ byte. found (target_of (world_at session s) command) byte) error (told state ready).0;
+  };
+  world = λ state ready. tt;
+  carried = λ state ready. tt;
+  spares = λ state ready. record { each = (others state ready).each };
+}
+
 -- A command that has failed behind asks alone.
 pub failed_acts : (command : Command) (s t : Shown) (session session' : Session) (error : HdfsError) → Stands s session → OnlyLooks s t
     → ((r : List ℕ) → writer_of session' r ≡ writer_of session r) → Remembers session session' → Tells command s t error
@@ -49,22 +73,8 @@ pub failed_acts : (command : Command) (s t : Shown) (session session' : Session)
     → ((state : State) → IsReady s session state command → Fails (world_at session s) state command s t error)
     → ((state : State) → IsReady s session state command → CarriesOpen t session' state)
     → Acts command s session t (after {T = Reply} session' (Err error)) (Err error)
-failed_acts command s t session session' error stands looks writers remembers tells found told others = record {
-  anywhere = record { later = looks.later; reads = reads_same s t looks; replies = tt; tells = tells; refused = λ early. looks.nodes; idle = λ idle. looks.nodes };
-  links = links_moved s t looks.links.writes session (record session' { failed = true }) writers;
-  stands = session_moved s t looks.links.writes session (record session' { failed = true }) writers looks.later.namenodes (remembers_failed session session' remembers)
-      (λ failed. absurd (false≢true (sym failed))) stands;
-  writers = λ r apart. writers r;
-  applied = λ state ready. record {
-    ok = tt;
-    err = told state ready;
-    complete = λ limited none. cause_completes (world_at session s) state command s t looks.later.namenodes limited none
-        (λ byte. found (target_of (world_at session s) command) byte) error (told state ready).0;
-  };
-  world = λ state ready. tt;
-  carried = λ state ready. tt;
-  spares = λ state ready. record { each = (others state ready).each };
-}
+failed_acts command s t session session' error stands looks writers remembers tells found told others =
+    idle_acts command s t session session' error stands looks.later (reads_same s t looks) looks.links.writes looks.nodes writers remembers tells found told others
 
 -- what isn't touched agrees, whatever came of a command that had asked, and where the step is refused all of it
 pub spares_but : (world : World) (state : State) (command : Command) (error : HdfsError) (path : List ℕ) (o : Option Picture) (q : Picture) → target_of world command ≡ path → is_before_asking error ≡ false → o ≡ Some q

@@ -1,5 +1,5 @@
 -- Why a read fails, and what it gives.
-use Rattle.std.proofs.Common.{◌≡◌, ◌⊎◌, inl, inr, ⊎_elim, ℕ, ◌+◌, ◌-◌, ◌<◌, ◌≤◌, Bool, true, false, cond, List, [], length, get_or, Some, Err, refl, sym, ◌∙◌, ap, subst, arith}
+use Rattle.std.proofs.Common.{◌≡◌, ◌⊎◌, inl, inr, ⊎_elim, ℕ, ◌+◌, ◌-◌, ◌<◌, ◌≤◌, Bool, true, false, cond, List, [], length, get_or, Option, Some, None, is_some, refl, sym, ◌∙◌, ap, subst, arith}
 use Rattle.std.proofs.lemmas.Bool.{false≢true}
 use Rattle.hdfs_model.specs.declared.messages.LocatedBlocks.{LocatedBlocks}
 use Rattle.hdfs_model.specs.declared.asks.Ask.TheVariants as asks
@@ -8,16 +8,17 @@ use Rattle.hdfs_model.specs.declared.commands.Command.TheVariants as commands
 use Rattle.hdfs_model.specs.declared.commands.Reply.TheVariants as replies
 use Rattle.hdfs_model.specs.declared.errors.HdfsError.{HdfsError}
 use Rattle.hdfs_model.specs.declared.errors.HdfsError.TheVariants as errors
+use Rattle.hdfs_model.specs.declared.errors.Feature.TheVariants as features
 use Rattle.hdfs_model.specs.declared.errors.IoFault.TheVariants as io_faults
 use Rattle.hdfs_model.specs.declared.errors.ArgFault.TheVariants as args
 use Rattle.hdfs_model.specs.declared.errors.TransferFault.TheVariants as transfer
-use Rattle.hdfs_model.specs.Files.{State, NoFile, NotDirectory, Missing, NotFile}
-use Rattle.hdfs_model.specs.Steps.{World, Done, content_of, range_of, step}
+use Rattle.hdfs_model.specs.Files.{State, Content, NoFile, NotDirectory, Missing, NotFile}
+use Rattle.hdfs_model.specs.Steps.{World, Done, content_of, range_of, step, target_of}
 use Rattle.hdfs_model.specs.Picture.{Picture, SameFiles, kinds}
 use Rattle.hdfs_model.specs.Namenode.{Locates, IsNoFile, StandsForNoFile, class_for, is_taken}
 use Rattle.hdfs_model.specs.Shown.{Shown, Later, OnlyReads}
 use Rattle.hdfs_model.specs.Stores.{Agrees}
-use Rattle.hdfs_model.specs.Causes.{AllFailed, ByteLost, CallsRose, FileLost, HasLength, Cause, Tells, IsEarly}
+use Rattle.hdfs_model.specs.Causes.{AllFailed, ByteLost, CallsRose, FileLost, HasLength, IsEncryptedAt, OpensEncrypted, Cause, Tells, IsEarly}
 use Rattle.hdfs_model.proofs.Frames.{told_after, rose_since}
 use Rattle.hdfs_namenode.specs.Asked.{exception_error}
 use Rattle.hdfs_namenode.specs.Relaying.{RefusedBy, TellsAsk}
@@ -106,6 +107,30 @@ module _ (w : World) (s s' : Shown) (state : State) (name path : List ℕ) (offs
           let told = is_told s.picture state.files meets.agrees in
           let there = locates told.0 told.1 (is_closed w s state name path meets told.0 told.1) in
           (told.0, told.1, there, found_file w s state name path meets told.0 told.1 found there)
+
+      -- it is refused for that where the file is encrypted
+      pub encrypted_cause : is_some found.encryption ≡ true → Cause w state command s s' (errors.UnsupportedFeature features.Encryption)
+      encrypted_cause is = inr (subst (λ (q : List ℕ). IsEncryptedAt state q) (sym meets.called) (here.3.content, here.3.filed, sym here.3.encryption ∙ is))
+
+      -- and else no encrypted file is opened
+      pub opens_plain : found.encryption ≡ None → OpensEncrypted state (target_of w command) command → ⊥
+      opens_plain none opens =
+          let there = subst (λ (q : List ℕ). IsEncryptedAt state q) meets.called opens in
+          let same : there.0 ≡ here.3.content = cc (there.1, here.3.filed) in
+          false≢true (sym (ap (λ (o : Option (List ℕ)). is_some o) none) ∙ here.3.encryption ∙ ap (λ (x : Content). x.attributes.encrypted) (sym same) ∙ there.2)
+
+      -- bytes of it are to be encrypted on their way
+      pub moves_cause : offset + len ≤ found.file_length → 0 < len → w.defaults.encrypt_data_transfer ≡ true → Cause w state command s s' (errors.UnsupportedFeature features.Encryption)
+      moves_cause within some encrypts =
+          let f = here.3 in
+          inl (
+            (
+              replies.Bytes (range_of f.content.bytes offset len),
+              state,
+              done_read w s state name path meets here.0 here.1 found here.2 f offset len (omega (arith, within, f.long)),
+            ),
+            (some, encrypts),
+          )
 
       pub range_cause : found.file_length < offset + len → Cause w state command s s' (errors.InvalidArgument (args.Range offset len found.file_length))
       range_cause past =

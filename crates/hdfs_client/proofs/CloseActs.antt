@@ -57,7 +57,7 @@ module _ (old new : Shown) (session session' : Session) (name path : List ℕ) (
       record {
         next = next;
         done = close_is_done (world_at session old) state name path content called is o.opened o.file.named;
-        limited = record { numbers = refl; attributes = tt };
+        limited = record { numbers = refl; attributes = tt; plain = record { bytes = λ moves. moves.0; file = λ opens. opens } };
         fits = record {
           is_state = state_with_node state path content (File content) ready.ready.fits.is_state o.file.named (without path state.opened);
           agrees = agrees_by_path new.picture q next.files on.1 (agrees_with path p q (sound p o.told) on.2 state.files o.agrees (File content) here);

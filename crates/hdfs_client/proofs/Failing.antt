@@ -1,5 +1,5 @@
 -- Errors of a command that opens a file to be written.
-use Rattle.std.proofs.Common.{◌≡◌, ◌⊎◌, inl, inr, ⊎_elim, ℕ, true, false, is_some, List, Option, Some, None, Err, refl, sym, ◌∙◌, ap, subst, arith}
+use Rattle.std.proofs.Common.{◌≡◌, ◌⊎◌, inl, inr, ⊎_elim, ℕ, true, false, is_some, List, Option, Some, Err, refl, sym, ◌∙◌, ap, subst, arith}
 use Rattle.std.specs.BTreeMap.{get_by_text}
 use Rattle.hdfs_model.specs.declared.asks.Ask.{Ask}
 use Rattle.hdfs_model.specs.declared.commands.Command.{Command}
@@ -7,11 +7,12 @@ use Rattle.hdfs_model.specs.declared.commands.Command.TheVariants as commands
 use Rattle.hdfs_model.specs.declared.commands.Reply.{Reply}
 use Rattle.hdfs_model.specs.declared.commands.WriteOptions.{WriteOptions}
 use Rattle.hdfs_model.specs.declared.errors.ArgFault.TheVariants as args
+use Rattle.hdfs_model.specs.declared.errors.Feature.TheVariants as features
 use Rattle.hdfs_model.specs.declared.errors.HdfsError.{HdfsError}
 use Rattle.hdfs_model.specs.declared.errors.HdfsError.TheVariants as errors
 use Rattle.hdfs_model.specs.declared.messages.ServerDefaults.{ServerDefaults}
 use Rattle.hdfs_model.specs.declared.picture.LastAnswer.TheVariants as last_answers
-use Rattle.hdfs_model.specs.Causes.{CallsRose, Cause, CommandLost, Tells, UsesDefaults}
+use Rattle.hdfs_model.specs.Causes.{CallsRose, CanMeetEncryption, Cause, CommandLost, Tells, UsesDefaults}
 use Rattle.hdfs_model.specs.Files.{State}
 use Rattle.hdfs_model.specs.Namenode.{MayBeDone}
 use Rattle.hdfs_model.specs.Picture.{Picture, SameButActive, SameFiles, kinds}
@@ -31,7 +32,7 @@ use Rattle.std.proofs.lemmas.Bool.{false≢true}
 use Rattle.hdfs_client.specs.Acting.{Acts, IsReady, world_at}
 use Rattle.hdfs_client.specs.Looking.{OnlyLooks}
 use Rattle.hdfs_client.specs.Preparing.{AreTold, LacksDefaults, Prepares, Remembers}
-use Rattle.hdfs_client.specs.Session.{CarriesFile, CarriesOpen, Stands, after, writer_of}
+use Rattle.hdfs_client.specs.Session.{CarriesFile, CarriesOpen, Stands, after, defaults_known, writer_of}
 use Rattle.hdfs_client.specs.declared.session.Session.{Session}
 use Rattle.hdfs_client.proofs.Still.{carries_stays}
 use Rattle.hdfs_client.proofs.Acted.{failed_acts, spares_but}
@@ -43,7 +44,7 @@ use Rattle.hdfs_client.proofs.Refusing.{ask_not_early, ask_tells, exception_caus
 use Rattle.hdfs_client.proofs.Sized.{remembers_refl, remembers_trans}
 
 -- namenodes that have failed since a time have failed since an earlier time
-rose_before : (a b c : Shown) → OnlyLooks a b → CallsRose b.counts c → CallsRose a.counts c
+pub rose_before : (a b c : Shown) → OnlyLooks a b → CallsRose b.counts c → CallsRose a.counts c
 rose_before a b c looks rose = (
   rose.0,
   rose.1,
@@ -105,7 +106,7 @@ module _ (command : Command) (opens : Opens command) (s m : Shown) (session sess
       let told = is_told s.picture state.files ready.ready.fits.agrees in
       ⊎_elim (λ memory. subst (Cause (world_at session s) state command s m) (sym memory) tt) (rose_cause (world_at session s) state command s s m error tells) (why told.0 told.1)
 
-  out_cause : (state : State) → IsReady s session state command → (defaults : ServerDefaults) → are_defaults defaults ≡ false → AreTold s session defaults → Cause (world_at session s) state command s m (errors.InvalidArgument args.Defaults)
+  out_cause : (state : State) → IsReady s session state command → (defaults : ServerDefaults) → are_defaults defaults ≡ false → AreTold s (defaults_known session) defaults → Cause (world_at session s) state command s m (errors.InvalidArgument args.Defaults)
   out_cause state ready defaults out same =
       let told = is_told s.picture state.files ready.ready.fits.agrees in
       (opens.uses, ap (λ (o : Option Picture). are_defaults (defaults_of o)) told.1 ∙ ap are_defaults (sym (same told.0 told.1 ready.carried.defaults)) ∙ out)
@@ -126,7 +127,7 @@ module _ (command : Command) (opens : Opens command) (s m : Shown) (session sess
       (called : (state : State) → target_of (world_at session s) command ≡ path)
       (over : (state : State) → IsReady s session state command → (p : Picture) → m.picture ≡ Some p → Over p (world_at session s) state command path ask) where
     -- what the writers of other files carry they carry behind an ask that may have been done
-    others_open : (state : State) → IsReady s session state command → (p : Picture) → m.picture ≡ Some p → (q : Picture) → t.picture ≡ Some q → MayBeDone ask p q → CarriesOpen t session'' state
+    pub others_open : (state : State) → IsReady s session state command → (p : Picture) → m.picture ≡ Some p → (q : Picture) → t.picture ≡ Some q → MayBeDone ask p q → CarriesOpen t session'' state
     others_open state ready p was q now may = record {
       each = λ x told r writer is.
           (let there : writer_of session r ≡ Some writer = sym (writers r ∙ kept r) ∙ is in
@@ -195,3 +196,12 @@ pub unstated_acts : (command : Command) → Opens command → (name : List ℕ) 
     → ((p : Picture) → m.picture ≡ Some p → ⊥) → Acts command s session t (after {T = Reply} session'' (Err (errors.FileNotFound name))) (Err (errors.FileNotFound name))
 unstated_acts command opens name is s m t session session' session'' stands prepares writers remembers ask path called over looks last none =
     late_acts command opens s m session session' stands prepares t session'' writers remembers ask path (λ state. called) over (errors.FileNotFound name) refl looks (is, last) (λ state ready p told. absurd (none p told))
+
+-- the status of a new file tells encryption information, which an answer over a told picture never does
+pub unsupported_acts : (command : Command) → Opens command → CanMeetEncryption command → (s m t : Shown) (session session' session'' : Session) → Stands s session → Prepares s session m session'
+    → ((r : List ℕ) → writer_of session'' r ≡ writer_of session' r) → Remembers session' session'' → (ask : Ask) (path : List ℕ) → target_of (world_at session s) command ≡ path
+    → ((state : State) → IsReady s session state command → (p : Picture) → m.picture ≡ Some p → Over p (world_at session s) state command path ask) → OnlyLooks m t
+    → ((p : Picture) → m.picture ≡ Some p → ⊥) → Acts command s session t (after {T = Reply} session'' (Err (errors.UnsupportedFeature features.Encryption))) (Err (errors.UnsupportedFeature features.Encryption))
+unsupported_acts command opens can s m t session session' session'' stands prepares writers remembers ask path called over looks none =
+    late_acts command opens s m session session' stands prepares t session'' writers remembers ask path (λ state. called) over (errors.UnsupportedFeature features.Encryption) refl looks can
+    (λ state ready p told. absurd (none p told))

@@ -9,6 +9,7 @@ mod Causing
 mod CloseActs
 mod Connected
 mod Early
+mod Encrypting
 mod Ending
 mod Failing
 mod Finishing
@@ -29,6 +30,7 @@ mod Pieces
 mod Planting
 mod Prepared
 mod ReadActs
+mod Ranging
 mod Readers
 mod Refusing
 mod SendActs

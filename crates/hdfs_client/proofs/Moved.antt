@@ -31,6 +31,7 @@ module _ (old new : Shown) (same : (link : ℕ) → new.writes link ≡ old.writ
           chunk = h.chunk;
           packet_size = h.packet_size;
           settings = h.settings;
+          plain = h.plain;
         });
     is_open = stands.is_open;
     idle = stands.idle;

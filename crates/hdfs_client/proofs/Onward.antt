@@ -5,6 +5,7 @@ use Rattle.hdfs_model.specs.declared.commands.Command.{Command}
 use Rattle.hdfs_model.specs.declared.commands.Command.TheVariants as commands
 use Rattle.hdfs_model.specs.declared.commands.Reply.{Reply}
 use Rattle.hdfs_model.specs.declared.errors.ArgFault.TheVariants as args
+use Rattle.hdfs_model.specs.declared.errors.Feature.TheVariants as features
 use Rattle.hdfs_model.specs.declared.errors.HdfsError.{HdfsError}
 use Rattle.hdfs_model.specs.declared.errors.HdfsError.TheVariants as errors
 use Rattle.hdfs_model.specs.declared.errors.IoFault.TheVariants as io_faults
@@ -71,6 +72,7 @@ module _ (old u v : Shown) (later : Later u v) where
   tells_on last command (errors.AlreadyExists message) h = (h.0, h.1, last ∙ h.2)
   tells_on last command (errors.OperationFailed name) h = (h.0, last ∙ h.1, times_on h.2)
   tells_on last command (errors.FileNotFound name) h = (h.0, last ∙ h.1)
+  tells_on last command (errors.UnsupportedFeature features.Encryption) h = h
   tells_on last command (errors.RPCError class message) h = (h.0, last ∙ h.1)
   tells_on last command (errors.InvalidRPCResponse fault) h = (last ∙ h.0, calls_on h.1)
   tells_on last command (errors.FatalRPCError class message) h = (last ∙ h.0, calls_on h.1)
@@ -164,6 +166,7 @@ module _ (old u v : Shown) (later : Later u v) where
     cause_on w command avoids (errors.AlreadyExists message) h = ⊎_elim (λ is. inl is) (λ rose. inr (calls_on rose)) h
     cause_on w command avoids (errors.OperationFailed name) h = (h.0, calls_on h.1, h.2)
     cause_on w command avoids (errors.FileNotFound name) h = h
+    cause_on w command avoids (errors.UnsupportedFeature features.Encryption) h = h
     cause_on w command avoids (errors.RPCError class message) h = ⊎_elim (λ is. inl is) (λ rose. inr (calls_on rose)) h
     cause_on w command avoids (errors.InvalidRPCResponse fault) h = calls_on h
     cause_on w command avoids (errors.FatalRPCError class message) h = calls_on h

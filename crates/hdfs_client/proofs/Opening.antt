@@ -32,6 +32,7 @@ use Rattle.hdfs_model.proofs.Repeating.{append_repeats, create_repeats}
 use Rattle.hdfs_namenode.specs.Asked.{AskedOnce, Through}
 use Rattle.hdfs_namenode.proofs.Relayed.{relayed_row}
 use Rattle.hdfs_files.proofs.Asked.{Came}
+use Rattle.hdfs_client.specs.Encrypted.{tells_encryption}
 use Rattle.hdfs_client.proofs.Agreeing.{agrees_files}
 use Rattle.hdfs_files.specs.Tails.{Tail, FileCarries}
 use Rattle.hdfs_files.proofs.Creating.{created_others}
@@ -96,6 +97,13 @@ module _ (path client : List ℕ) (options : WriteOptions) (replication block_si
         let one = came.told p told (create_repeats path client options.permission (cond options.overwrite 3 1) options.create_parent replication block_size p) in
         let row : Row p creating (answers.Create status) one.0 = relayed_row (CallsRose s.counts t) p creating (answers.Create status) one.0 (λ is. absurd (cc is)) one.2 in
         (one.0, one.1, made_by one.0 status row, inr (inl (answers.Create status, tt, row)))
+
+    -- and isn't encrypted
+    pub was_plain : (s t : Shown) (status : Option FileStatusMsg) → s.picture ≡ Some p → Came s creating (Ok (answers.Create status)) t → tells_encryption status ≡ false
+    was_plain s t status told came =
+        let one = came.told p told (create_repeats path client options.permission (cond options.overwrite 3 1) options.create_parent replication block_size p) in
+        let row : Row p creating (answers.Create status) one.0 = relayed_row (CallsRose s.counts t) p creating (answers.Create status) one.0 (λ is. absurd (cc is)) one.2 in
+        ap tells_encryption row.1.is ∙ row.1.encryption
 
     module _ (world : World) (state : State) (name : List ℕ) (sound : IsSound p) (agrees : (r : List ℕ) → AgreesAt p (p.names r) (state.files r)) (named : is_path path ≡ true) (closed : is_opened state path ≡ false)
         (called : target_of world (commands.Create name options) ≡ path) where

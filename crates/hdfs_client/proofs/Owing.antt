@@ -41,6 +41,7 @@ reader_not_owed P (errors.InvalidArgument (args.Range offset len length)) fails 
 reader_not_owed P (errors.AlreadyExists message) fails = absurd fails
 reader_not_owed P (errors.OperationFailed name) fails = absurd fails
 reader_not_owed P (errors.FileNotFound name) fails = absurd fails
+reader_not_owed P (errors.UnsupportedFeature feature) fails = absurd fails
 reader_not_owed P (errors.RPCError class message) fails = absurd fails
 reader_not_owed P (errors.InvalidRPCResponse fault) fails = absurd fails
 reader_not_owed P (errors.FatalRPCError class message) fails = absurd fails

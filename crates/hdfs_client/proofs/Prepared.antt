@@ -15,7 +15,7 @@ use Rattle.hdfs_model.specs.Namenode.{Row}
 use Rattle.hdfs_model.specs.Picture.{Picture, SameButActive, Told}
 use Rattle.hdfs_model.specs.Sessions.{defaults_of as cluster_defaults}
 use Rattle.hdfs_model.specs.Shown.{Shown, Served}
-use Rattle.hdfs_model.proofs.Frames.{later_refl, later_trans, same_files_refl, same_links_refl, same_links_trans, told_refl}
+use Rattle.hdfs_model.proofs.Frames.{told_after, later_refl, later_trans, same_files_refl, same_links_refl, same_links_trans, told_refl}
 use Rattle.hdfs_model.proofs.Repeating.{defaults_repeats}
 use Rattle.hdfs_namenode.specs.Asked.{Asked, ReachesAll, SameService, Through, as_answer}
 use Rattle.hdfs_namenode.specs.Clients.{defaults_of, name_of, proxy_of, through}
@@ -24,7 +24,9 @@ use Rattle.hdfs_namenode.specs.declared.protocol.NamenodeProtocol.{NamenodeProto
 use Rattle.hdfs_namenode.proofs.Services.{reaches_later}
 use Rattle.hdfs_namenode.proofs.Relayed.{Relays, relayed, relayed_done, relayed_row, relayed_told}
 use Rattle.hdfs_client.specs.Looking.{OnlyLooks}
-use Rattle.hdfs_client.specs.Preparing.{AreTold, KnowsDefaults, LacksDefaults, Prepares}
+use Rattle.hdfs_client.specs.Finding.{SameButKnown}
+use Rattle.hdfs_client.specs.Meeting.{KnowsDefaults}
+use Rattle.hdfs_client.specs.Preparing.{AreTold, LacksDefaults, Prepares}
 use Rattle.hdfs_client.specs.Session.{defaults_known}
 use Rattle.hdfs_client.specs.declared.session.Session.{Session}
 use Rattle.hdfs_client.proofs.Looking.{looks_from-Leaves}
@@ -128,6 +130,52 @@ wrong error = Err error
 abbrev right : ServerDefaults → Result ServerDefaults HdfsError
 right d = Ok d
 
+-- a client that has asked for them, or knew them
+module _ {C : Type 0} (shown : C → Shown) (serves : C → ℕ → Ask → Result Answer AskFault → C → Type 0)
+    (rows : (old new : C) (i : ℕ) (ask : Ask) (result : Result Answer AskFault) → serves old i ask result new → Served (shown old) i ask result (shown new))
+    (a b : C) (client client' : NamenodeProtocol) (active : (p : Picture) → (shown a).picture ≡ Some p → p.active < (shown a).namenodes)
+    (reaches : ReachesAll (proxy_of client) (shown a)) where
+  -- where an error was answered, they weren't known
+  none_known : (error : HdfsError) (o : Option ServerDefaults) → IfSome o (λ kept. (wrong error ≡ Ok kept) × (b ≡ a) × (client' ≡ client)) → o ≡ None
+  none_known error None kept = refl
+  none_known error (Some x) kept = absurd (cc kept.0)
+
+  -- why there are none
+  pub lacks_from : (error : HdfsError) → IfSome (defaults_of client) (λ kept. (wrong error ≡ Ok kept) × (b ≡ a) × (client' ≡ client))
+      → (defaults_of client ≡ None → Asked serves false asks.GetServerDefaults (through client a) (Err error) (through client' b))
+      → TellsAsk (shown a) (shown b) error × ((p : Picture) → (shown a).picture ≡ Some p → (error ≡ errors.NoMemory) ⊎ CallsRose (shown a).counts (shown b))
+  lacks_from error kept asked = lacks_asked shown serves rows (through client a) (through client' b) active reaches error (asked (none_known error (defaults_of client) kept))
+
+  -- those that were answered are the cluster's, where no others were known
+  pub are_told : (d : ServerDefaults) → IfSome (defaults_of client) (λ kept. (right d ≡ Ok kept) × (b ≡ a) × (client' ≡ client))
+      → (defaults_of client ≡ None → Asked serves false asks.GetServerDefaults (through client a) (Ok (answers.GetServerDefaults d)) (through client' b))
+      → AreTold (shown a) (defaults_of client) d
+  are_told d kept asked p told knows = by_known (defaults_of client) refl kept knows
+    where
+      by_known : (o : Option ServerDefaults) → defaults_of client ≡ o → IfSome o (λ x. (right d ≡ Ok x) × (b ≡ a) × (client' ≡ client))
+          → KnowsDefaults (shown a) o → d ≡ p.defaults
+      by_known None is h k = row_told shown serves rows (through client a) (through client' b) active reaches d (asked is) p told
+      by_known (Some x) is h k = (let same : d ≡ x = cc h.0 in same ∙ k ∙ ap cluster_defaults told)
+
+  -- what the ask leaves
+  pub asks_from : (result : Result ServerDefaults HdfsError) → IfSome (defaults_of client) (λ kept. (result ≡ Ok kept) × (b ≡ a) × (client' ≡ client))
+      → (defaults_of client ≡ None → Asked serves false asks.GetServerDefaults (through client a) (as_answer answers.GetServerDefaults result) (through client' b))
+      → OnlyAsks (shown a) (shown b)
+  asks_from result kept asked = leaves_by shown serves rows (through client a) (through client' b) active reaches (client' ≡ client) (defaults_of client) result kept asked
+
+  -- what the client knows then
+  pub same_but_known : (result : Result ServerDefaults HdfsError) → IfSome (defaults_of client) (λ kept. (result ≡ Ok kept) × (b ≡ a) × (client' ≡ client))
+      → IfOk result (λ d. defaults_of client' ≡ Some d) → name_of client' ≡ name_of client → SameService (proxy_of client) (proxy_of client') → SameButKnown client client'
+  same_but_known result kept keeps name service =
+      record { service = service; name = name; known = known_kept (client' ≡ client) a b (defaults_of client) (defaults_of client') result kept keeps }
+
+  -- what it knows of them is the cluster's still
+  pub knows_from : (d : ServerDefaults) → defaults_of client' ≡ Some d → AreTold (shown a) (defaults_of client) d → Told SameButActive (shown a).picture (shown b).picture
+      → (p : Picture) → (shown a).picture ≡ Some p → KnowsDefaults (shown a) (defaults_of client) → KnowsDefaults (shown b) (defaults_of client')
+  knows_from d is told picture p was knows =
+      let to = told_after SameButActive (shown a).picture (shown b).picture p picture was in
+      subst (KnowsDefaults (shown b)) (sym is) (told p was knows ∙ sym to.2.files.defaults ∙ sym (ap cluster_defaults to.1))
+
 -- a session that has asked for them, or knew them
 module _ {C : Type 0} (shown : C → Shown) (serves : C → ℕ → Ask → Result Answer AskFault → C → Type 0)
     (rows : (old new : C) (i : ℕ) (ask : Ask) (result : Result Answer AskFault) → serves old i ask result new → Served (shown old) i ask result (shown new))
@@ -152,24 +200,8 @@ module _ {C : Type 0} (shown : C → Shown) (serves : C → ℕ → Ask → Resu
         failed = refl;
       }
 
-  -- where an error was answered, they weren't known
-  none_known : (error : HdfsError) (o : Option ServerDefaults) → IfSome o (λ kept. (wrong error ≡ Ok kept) × (b ≡ a) × (protocol ≡ session.namenode)) → o ≡ None
-  none_known error None kept = refl
-  none_known error (Some x) kept = absurd (cc kept.0)
-
   -- why there are none
   pub lacks : (error : HdfsError) → IfSome (defaults_known session) (λ kept. (wrong error ≡ Ok kept) × (b ≡ a) × (protocol ≡ session.namenode))
       → (defaults_known session ≡ None → Asked serves false asks.GetServerDefaults (through session.namenode a) (Err error) (through protocol b))
       → LacksDefaults (shown a) session error (shown b)
-  lacks error kept asked = inl (lacks_asked shown serves rows (through session.namenode a) (through protocol b) active reaches error (asked (none_known error (defaults_known session) kept)))
-
-  -- those that were answered are the cluster's, where the session knew no others
-  pub are_told : (d : ServerDefaults) → IfSome (defaults_known session) (λ kept. (right d ≡ Ok kept) × (b ≡ a) × (protocol ≡ session.namenode))
-      → (defaults_known session ≡ None → Asked serves false asks.GetServerDefaults (through session.namenode a) (Ok (answers.GetServerDefaults d)) (through protocol b))
-      → AreTold (shown a) session d
-  are_told d kept asked p told knows = by_known (defaults_known session) refl kept knows
-    where
-      by_known : (o : Option ServerDefaults) → defaults_known session ≡ o → IfSome o (λ x. (right d ≡ Ok x) × (b ≡ a) × (protocol ≡ session.namenode))
-          → KnowsDefaults (shown a) o → d ≡ p.defaults
-      by_known None is h k = row_told shown serves rows (through session.namenode a) (through protocol b) active reaches d (asked is) p told
-      by_known (Some x) is h k = (let same : d ≡ x = cc h.0 in same ∙ k ∙ ap cluster_defaults told)
+  lacks error kept asked = inl (lacks_from shown serves rows a b session.namenode protocol active reaches error kept asked)

@@ -1,5 +1,5 @@
 -- A read as a session's command: it changes neither the files, nor what the session has open.
-use Rattle.std.proofs.Common.{inr, ◌≡◌, ℕ, ◌+◌, true, false, List, Some, Result, Ok, Err, refl, sym, ◌∙◌, ap, subst, arith}
+use Rattle.std.proofs.Common.{inr, ◌≡◌, ℕ, ◌+◌, true, false, List, Option, Some, Result, Ok, Err, refl, sym, ◌∙◌, ap, subst, arith}
 use Rattle.std.specs.Prelude.{IfOk, IfErr}
 use Rattle.hdfs_model.specs.declared.commands.Command.{Command}
 use Rattle.hdfs_model.specs.declared.commands.Command.TheVariants as commands
@@ -12,31 +12,35 @@ use Rattle.hdfs_model.specs.Files.{State, Writing, Content}
 use Rattle.hdfs_model.specs.Headline.{Applied}
 use Rattle.hdfs_model.specs.Paths.{is_path, absolute}
 use Rattle.hdfs_model.specs.Picture.{Picture, SameFiles}
-use Rattle.hdfs_model.specs.Sessions.{defaults_of, is_misplaced, spared, world_with}
+use Rattle.hdfs_model.specs.Sessions.{MeetsNoEncryption, defaults_of, is_misplaced, spared, world_with}
 use Rattle.hdfs_model.specs.Shown.{Shown, Later, SameLinks, SamePlaces, SameWrites}
 use Rattle.hdfs_model.specs.Steps.{World, Outcome, Done, is_opened, path_of, step, target_of}
 use Rattle.hdfs_model.specs.Stores.{Agrees}
 use Rattle.hdfs_model.proofs.Completing.{cause_completes}
 use Rattle.hdfs_model.proofs.Frames.{told_after}
 use Rattle.hdfs_client.specs.Acting.{Acts, IsReady, world_at}
-use Rattle.hdfs_client.specs.Meeting.{Meets, IsClosed}
-use Rattle.hdfs_client.specs.Session.{Stands, Carried, settings_of, opened_of, scene_of, after}
+use Rattle.hdfs_client.specs.Finding.{AsksOn}
+use Rattle.hdfs_client.specs.Meeting.{KnowsDefaults, KnowsWorld, Meets, IsClosed}
+use Rattle.hdfs_client.specs.Session.{Stands, Carried, defaults_known, settings_of, opened_of, scene_of, after}
 use Rattle.hdfs_client.specs.declared.session.Session.{Session}
+use Rattle.hdfs_namenode.specs.Clients as clients
+use Rattle.hdfs_namenode.specs.declared.protocol.NamenodeProtocol.{NamenodeProtocol}
 use Rattle.hdfs_client.proofs.Agreeing.{agrees_but, is_told}
 use Rattle.hdfs_client.proofs.Lost.{not_lost}
 use Rattle.hdfs_client.proofs.Stepping.{is_closed}
 use Rattle.hdfs_client.proofs.Still.{session_stands, after_stands, after_links_stay, session_carries}
 
 -- what a read gives over a state that it meets
-abbrev pub Gives : List ℕ → List ℕ → ℕ → ℕ → Shown → Shown → Reply → Type 0
-Gives name path offset len old new reply =
-    (world : World) (state : State) → Meets world old state name path
+abbrev pub Gives : List ℕ → List ℕ → ℕ → ℕ → Option ServerDefaults → Shown → Shown → Reply → Type 0
+Gives name path offset len known old new reply =
+    (world : World) (state : State) → Meets world old state name path → KnowsWorld world old known
     → (step world state (commands.Read name offset len) ≡ Done reply state) × Agrees new.picture state.files
+    × MeetsNoEncryption world state (commands.Read name offset len)
 
 -- why it fails over such a state
-abbrev pub Lacks : List ℕ → List ℕ → ℕ → ℕ → Shown → Shown → HdfsError → Type 0
-Lacks name path offset len old new e =
-    (world : World) (state : State) → Meets world old state name path
+abbrev pub Lacks : List ℕ → List ℕ → ℕ → ℕ → Option ServerDefaults → Shown → Shown → HdfsError → Type 0
+Lacks name path offset len known old new e =
+    (world : World) (state : State) → Meets world old state name path → KnowsWorld world old known
     → Cause world state (commands.Read name offset len) old new e × Agrees new.picture state.files
 
 -- the state that a step leaves is one
@@ -70,21 +74,24 @@ module _ (old new : Shown) (session : Session) (name path : List ℕ) (offset le
       closed = not_written;
     }
 
+    pub knows_world : KnowsWorld world old (defaults_known session)
+    knows_world = record { defaults = refl; knows = ready.carried.defaults }
+
     -- a reply is that of the step
-    applied_ok : (reply : Reply) → Gives name path offset len old new reply → Applied world state reading (scene_of session old) (scene_of session new) (Ok reply)
+    applied_ok : (reply : Reply) → Gives name path offset len (defaults_known session) old new reply → Applied world state reading (scene_of session old) (scene_of session new) (Ok reply)
     applied_ok reply gives =
-        let h = gives world state meets in
+        let h = gives world state meets knows_world in
         record {
-          ok = (state, h.0, record { numbers = refl; attributes = tt }, record { is_state = ready.ready.fits.is_state; agrees = h.1 }, ready.ready.opened);
+          ok = (state, h.0, record { numbers = refl; attributes = tt; plain = h.2 }, record { is_state = ready.ready.fits.is_state; agrees = h.1 }, ready.ready.opened);
           err = tt;
           complete = tt;
         }
 
     -- an error has its cause
-    applied_err : (session' : Session) (e : HdfsError) → Lacks name path offset len old new e → Later old new
+    applied_err : (session' : Session) (e : HdfsError) → Lacks name path offset len (defaults_known session) old new e → Later old new
         → Applied world state reading (scene_of session old) (scene_of session' new) (Err e)
     applied_err session' e lacks later =
-        let h = lacks world state meets in
+        let h = lacks world state meets knows_world in
         record {
           ok = tt;
           err = (h.0, agrees_but (spared world state reading e) new.picture state.files h.1);
@@ -93,6 +100,12 @@ module _ (old new : Shown) (session : Session) (name path : List ℕ) (offset le
               (λ byte lost. not_lost state old.namenodes old.counts new (target_of world reading) offset (offset + len) byte
               (λ content writing. not_written content (subst (λ (q : List ℕ). state.files q ≡ Some (Writing content)) (sym called) writing)) h.1 none lost) e h.0;
         }
+
+    -- what its client knows of the defaults then is the cluster's
+    pub knows_on : (protocol : NamenodeProtocol) → AsksOn path old session.namenode new protocol → KnowsDefaults new (clients.defaults_of protocol)
+    knows_on protocol asks =
+        let told = is_told old.picture state.files ready.ready.fits.agrees in
+        asks.told told.0 told.1 (is_closed world old state name path meets told.0 told.1) ready.carried.defaults
 
     -- the pictures before and behind it
     pictures : ((p : Picture) → old.picture ≡ Some p → IsClosed p path → (q : Picture) × (new.picture ≡ Some q) × SameFiles p q)
@@ -120,7 +133,7 @@ module _ (old new : Shown) (session : Session) (name path : List ℕ) (offset le
   -- What a read does to a session, from what it says of the cluster.
   pub read_acts : (result : Result Reply HdfsError) → Stands old session → Applies reading old new result → SameLinks old new
       → ((p : Picture) → old.picture ≡ Some p → IsClosed p path → (q : Picture) × (new.picture ≡ Some q) × SameFiles p q)
-      → IfOk result (Gives name path offset len old new) → IfErr result (Lacks name path offset len old new)
+      → IfOk result (Gives name path offset len (defaults_known session) old new) → IfErr result (Lacks name path offset len (defaults_known session) old new)
       → Acts reading old session new (after session result) result
   read_acts (Ok reply) stands anywhere links files ok err = record {
     anywhere = anywhere;
@@ -131,7 +144,7 @@ module _ (old new : Shown) (session : Session) (name path : List ℕ) (offset le
     world = λ state ready. same_world state ready files;
     carried = λ state ready next done.
         subst (Carried new session)
-        (next_is (step (world_at session old) state reading) reply reply state next (ok (world_at session old) state (meets state ready)).0 done)
+        (next_is (step (world_at session old) state reading) reply reply state next (ok (world_at session old) state (meets state ready) (knows_world state ready)).0 done)
         (carried_on state ready links files);
     spares = λ state ready. tt;
   }
@@ -151,7 +164,7 @@ pub read_command : (old new : Shown) (session : Session) (command : Command) (na
     → path ≡ absolute (settings_of session).home (path_of command) → is_misplaced command (opened_of session path) ≡ false → (result : Result Reply HdfsError) → Stands old session
     → Applies (commands.Read name offset len) old new result → SameLinks old new
     → ((p : Picture) → old.picture ≡ Some p → IsClosed p path → (q : Picture) × (new.picture ≡ Some q) × SameFiles p q)
-    → IfOk result (Gives name path offset len old new) → IfErr result (Lacks name path offset len old new)
+    → IfOk result (Gives name path offset len (defaults_known session) old new) → IfErr result (Lacks name path offset len (defaults_known session) old new)
     → Acts command old session new (after session result) result
 read_command old new session command name path offset len is named called placed result stands anywhere links files ok err =
     subst (λ (c : Command). Acts c old session new (after session result) result) is
@@ -159,3 +172,13 @@ read_command old new session command name path offset len is named called placed
     (subst (λ (c : Command). is_misplaced c (opened_of session path) ≡ false) (sym is) placed)
     (subst (λ (c : Command). path ≡ absolute (settings_of session).home (path_of c)) (sym is) called)
     result stands anywhere links files ok err)
+
+-- and what its client knows of the defaults then
+pub read_knows : (old new : Shown) (session : Session) (command : Command) (name path : List ℕ) (offset len : ℕ) → commands.Read name offset len ≡ command → is_path path ≡ true
+    → path ≡ absolute (settings_of session).home (path_of command) → is_misplaced command (opened_of session path) ≡ false → (protocol : NamenodeProtocol) → AsksOn path old session.namenode new protocol
+    → (state : State) → IsReady old session state command → KnowsDefaults new (clients.defaults_of protocol)
+read_knows old new session command name path offset len is named called placed protocol asks state ready =
+    knows_on old new session name path offset len named
+    (subst (λ (c : Command). is_misplaced c (opened_of session path) ≡ false) (sym is) placed)
+    (subst (λ (c : Command). path ≡ absolute (settings_of session).home (path_of c)) (sym is) called)
+    state (subst (λ (c : Command). IsReady old session state c) (sym is) ready) protocol asks

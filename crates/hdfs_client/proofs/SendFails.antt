@@ -1,12 +1,12 @@
 -- A write or a close that fails.
-use Rattle.std.proofs.Common.{◌≡◌, ◌≢◌, ℕ, Bool, false, not, ◌&&◌, List, Some, Err, refl, sym, ◌∙◌, ap, subst}
+use Rattle.std.proofs.Common.{◌≡◌, ◌≢◌, inl, ℕ, Bool, false, not, ◌&&◌, List, Some, Err, refl, sym, ◌∙◌, ap, subst}
 use Rattle.std.specs.Str.{bytes_eq}
 use Rattle.hdfs_model.specs.declared.commands.Command.{Command}
 use Rattle.hdfs_model.specs.declared.commands.Command.TheVariants as commands
 use Rattle.hdfs_model.specs.declared.errors.ArgFault.TheVariants as args
 use Rattle.hdfs_model.specs.declared.errors.HdfsError.{HdfsError}
 use Rattle.hdfs_model.specs.declared.errors.HdfsError.TheVariants as errors
-use Rattle.hdfs_model.specs.Causes.{IsClose, Sends, TouchesNothing, CommandLost, IsDone}
+use Rattle.hdfs_model.specs.Causes.{CanMeetEncryption, Cause, IsClose, IsEarly, MovesBytes, Sends, Tells, TouchesNothing, CommandLost, IsDone}
 use Rattle.hdfs_model.specs.Counts.{FaultCounts}
 use Rattle.hdfs_model.specs.Files.{State, Writing}
 use Rattle.hdfs_model.specs.Paths.{absolute}
@@ -22,13 +22,14 @@ use Rattle.hdfs_files.specs.Tails.{FileCarries}
 use Rattle.hdfs_files.specs.Writers.{AreLimited, TouchesFile, HasCause, tail_of, sizes_of}
 use Rattle.hdfs_files.specs.declared.file_writer.FileWriter.{FileWriter}
 use Rattle.hdfs_files.proofs.Moving.{only_file_refl}
-use Rattle.hdfs_client.specs.Acting.{world_at, Acts}
+use Rattle.hdfs_client.specs.Acting.{world_at, Acts, IsReady}
 use Rattle.hdfs_client.specs.Session.{settings_of, writer_of, Stands, OnlyOwnLinks, Carried, CarriesOpen}
 use Rattle.hdfs_client.specs.declared.session.Session.{Session}
 use Rattle.hdfs_client.proofs.SendActs.{OpenAt, open_at, acts_failed}
+use Rattle.hdfs_client.proofs.Sized.{encrypted_is}
 use Rattle.hdfs_client.proofs.Limited.{attributes_out}
 use Rattle.hdfs_client.proofs.OneFile.{agrees_but_by_path, agrees_elsewhere, apart_by_test}
-use Rattle.hdfs_client.proofs.WriteFaults.{is_after_asking, tells_sending, not_early, cause_sending}
+use Rattle.hdfs_client.proofs.WriteFaults.{is_after_asking, tells_sending, not_early, cause_sending, unsupported}
 
 -- a command that sends bytes touches its own path
 touched_sending : (command : Command) → Sends command → (state : State) (path q : List ℕ) → touched state path command q ≡ bytes_eq path q
@@ -70,36 +71,61 @@ module _ (command : Command) (sends : Sends command) (old new : Shown) (session 
 
   -- an exception has its cause
   causes_at : (error : HdfsError) → HasCause old writer error new → (p : Picture) (bytes : List ℕ) → old.picture ≡ Some p → FileCarries p path (tail_of writer) bytes
-      → CauseOfWrite (sizes_of writer).rebuilding path old new error
+      → CauseOfWrite (sizes_of writer) path old new error
   causes_at error causes =
       subst
-      (λ (x : List ℕ). (p : Picture) (bytes : List ℕ) → old.picture ≡ Some p → FileCarries p x (tail_of writer) bytes → CauseOfWrite (sizes_of writer).rebuilding x old new error)
+      (λ (x : List ℕ). (p : Picture) (bytes : List ℕ) → old.picture ≡ Some p → FileCarries p x (tail_of writer) bytes → CauseOfWrite (sizes_of writer) x old new error)
       (before.each path writer here).1
       causes
 
-  -- a write or a close that fails once something was asked
-  pub sending_fails : (TouchesNothing command → SameNodes old new) → ((p : Picture) → old.picture ≡ Some p → IsSound p) → (error : HdfsError)
-      → ((name : List ℕ) → error ≡ errors.OperationFailed name → IsClose command) → TellsClose path old new error → TouchesFile old writer new → HasCause old writer error new
+  -- a write or a close that fails once something was asked, for a cause
+  pub fails_by : (TouchesNothing command → SameNodes old new) → ((p : Picture) → old.picture ≡ Some p → IsSound p) → (error : HdfsError) → Tells command old new error → (IsEarly command error → SameNodes old new)
+      → is_before_asking error ≡ false → TouchesFile old writer new
+      → ((state : State) → IsReady old session state command → OpenAt old path writer state → Cause (world_at session old) state command old new error)
       → Acts command old session new session' (Err error)
-  sending_fails idle sound error closes tells touches causes =
-      acts_failed command old new session session' later reads idle links stands writers error
-      (tells_sending path old new command sends error closes tells)
-      (λ early. absurd (not_early path old new command sends error tells early))
+  fails_by idle sound error tells early asked touches cause =
+      acts_failed command old new session session' later reads idle links stands writers error tells early
       (λ at byte lost. loses_none command sends old.counts new at byte lost)
       (λ state ready.
       (let o = open_at old session state command path writer ready here in
       let on = touches_at touches o.picture o.file.content.bytes o.told o.file.carries in (
-        cause_sending path old new command sends (world_at session old) state called (done state o) (sizes_of writer).rebuilding
-            (ap (λ (r : RebuildSettings). r.rebuild_limit) (before.sized path writer here).rebuilding)
-            (ap (λ (r : RebuildSettings). r.replace.best_effort) (before.sized path writer here).rebuilding) error tells (causes_at error causes o.picture o.file.content.bytes o.told o.file.carries),
+        cause state ready o,
         agrees_but_by_path (spared (world_at session old) state command error) new.picture on.0 state.files on.1
             (λ other free. agrees_elsewhere path o.picture on.0 (sound o.picture o.told) on.2 state.files o.agrees other
-            (apart_by_test path other (sym (spared_at error (is_after_asking path old new error tells) state (done state o) other) ∙ free))),
+            (apart_by_test path other (sym (spared_at error asked state (done state o) other) ∙ free))),
       )))
       (λ state ready.
       (let o = open_at old session state command path writer ready here in
       let on = touches_at touches o.picture o.file.content.bytes o.told o.file.carries in
       others o.picture on.0 o.told on.1 (sound o.picture o.told) on.2 state ready.carried))
+
+  -- for the cause of its error
+  pub sending_fails : (TouchesNothing command → SameNodes old new) → ((p : Picture) → old.picture ≡ Some p → IsSound p) → (error : HdfsError)
+      → ((name : List ℕ) → error ≡ errors.OperationFailed name → IsClose command) → TellsClose path old new error → TouchesFile old writer new → HasCause old writer error new
+      → Acts command old session new session' (Err error)
+  sending_fails idle sound error closes tells touches causes =
+      fails_by idle sound error
+      (tells_sending path old new command sends error closes tells)
+      (λ early. absurd (not_early path old new command sends error tells early))
+      (is_after_asking path old new error tells)
+      touches
+      (λ state ready o.
+      cause_sending path old new command sends (world_at session old) state called (done state o) (sizes_of writer)
+      (ap (λ (r : RebuildSettings). r.rebuild_limit) (before.sized path writer here).rebuilding)
+      (ap (λ (r : RebuildSettings). r.replace.best_effort) (before.sized path writer here).rebuilding) error tells (causes_at error causes o.picture o.file.content.bytes o.told o.file.carries))
+
+  -- a write of bytes that are to be encrypted
+  pub unsupported_fails : (TouchesNothing command → SameNodes old new) → ((p : Picture) → old.picture ≡ Some p → IsSound p) → CanMeetEncryption command → MovesBytes command → SameNodes old new
+      → TouchesFile old writer new → HasCause old writer unsupported new → Acts command old session new session' (Err unsupported)
+  unsupported_fails idle sound can moves nodes touches causes =
+      fails_by idle sound unsupported can (λ early. nodes) refl touches
+      (λ state ready o. inl (
+        done state o,
+        (
+          moves,
+          sym (encrypted_is session old writer (before.sized path writer here) state ready.carried) ∙ causes_at unsupported causes o.picture o.file.content.bytes o.told o.file.carries,
+        ),
+      ))
 
 -- a write that is refused, as the file's attributes are out of their limits
 pub write_refused : (old new : Shown) (session session' : Session) (name path more : List ℕ) (writer : FileWriter) → writer_of session path ≡ Some writer → absolute (settings_of session).home name ≡ path

@@ -4,6 +4,7 @@ use Rattle.std.specs.Prelude.{All, Any}
 use Rattle.hdfs_model.specs.declared.commands.Command.{Command}
 use Rattle.hdfs_model.specs.declared.commands.Command.TheVariants as commands
 use Rattle.hdfs_model.specs.declared.errors.ArgFault.TheVariants as args
+use Rattle.hdfs_model.specs.declared.errors.Feature.TheVariants as features
 use Rattle.hdfs_model.specs.declared.errors.HdfsError.{HdfsError}
 use Rattle.hdfs_model.specs.declared.errors.HdfsError.TheVariants as errors
 use Rattle.hdfs_model.specs.declared.errors.IoFault.TheVariants as io_faults
@@ -89,6 +90,7 @@ module _ (old middle new : Shown) (before : NeverFall old.counts middle.counts) 
   cause_since w state command (errors.AlreadyExists message) h = ⊎_elim (λ is. inl is) (λ rose. inr (calls_since rose)) h
   cause_since w state command (errors.OperationFailed name) h = (h.0, calls_since h.1, h.2)
   cause_since w state command (errors.FileNotFound name) h = h
+  cause_since w state command (errors.UnsupportedFeature features.Encryption) h = h
   cause_since w state command (errors.RPCError class message) h = ⊎_elim (λ is. inl is) (λ rose. inr (calls_since rose)) h
   cause_since w state command (errors.InvalidRPCResponse fault) h = calls_since h
   cause_since w state command (errors.FatalRPCError class message) h = calls_since h
@@ -114,6 +116,7 @@ module _ (old middle new : Shown) (before : NeverFall old.counts middle.counts) 
   tells_since command (errors.AlreadyExists message) h = h
   tells_since command (errors.OperationFailed name) h = (h.0, h.1, times_since new.namenodes 5 old.counts middle.counts new.counts before h.2)
   tells_since command (errors.FileNotFound name) h = h
+  tells_since command (errors.UnsupportedFeature features.Encryption) h = h
   tells_since command (errors.RPCError class message) h = h
   tells_since command (errors.InvalidRPCResponse fault) h = (h.0, calls_since h.1)
   tells_since command (errors.FatalRPCError class message) h = (h.0, calls_since h.1)

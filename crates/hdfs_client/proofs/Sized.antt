@@ -1,10 +1,12 @@
 -- What the writers of a session are made with, and what a session remembers of it.
-use Rattle.std.proofs.Common.{◌≡◌, ℕ, true, Some, refl, sym, ◌∙◌, ap}
+use Rattle.std.proofs.Common.{◌≡◌, ℕ, true, Option, Some, refl, sym, ◌∙◌, ap, subst}
 use Rattle.std.specs.BTreeMap.{BTreeMap}
-use Rattle.std.specs.Prelude.{String}
+use Rattle.std.specs.Prelude.{IfSome, String}
 use Rattle.std.specs.declared.alloc.Global.{Global}
 use Rattle.hdfs_model.specs.declared.commands.Settings.{Settings}
 use Rattle.hdfs_model.specs.declared.messages.ServerDefaults.{ServerDefaults}
+use Rattle.hdfs_model.specs.Files.{State}
+use Rattle.hdfs_model.specs.Sessions.{defaults_of}
 use Rattle.hdfs_model.specs.Shown.{Shown}
 use Rattle.hdfs_namenode.specs.Asked.{ReachesAll}
 use Rattle.hdfs_namenode.specs.Clients.{SameClient, client_name, name_of, proxy_of}
@@ -14,7 +16,7 @@ use Rattle.hdfs_files.specs.Writers.{sizes_of}
 use Rattle.hdfs_files.specs.declared.file_writer.FileWriter.{FileWriter}
 use Rattle.hdfs_files.specs.declared.sizes.WriteSizes.{WriteSizes}
 use Rattle.hdfs_client.specs.Preparing.{Remembers, sizes_by}
-use Rattle.hdfs_client.specs.Session.{IsSized, defaults_known, rebuilding_by}
+use Rattle.hdfs_client.specs.Session.{Carried, IsSized, defaults_known, rebuilding_by}
 use Rattle.hdfs_client.specs.declared.session.Session.{Session}
 
 -- a session that is left as it is remembers what it is run with
@@ -66,6 +68,7 @@ module _ (session session' : Session) (remembers : Remembers session session') w
     rebuilding = ap (λ (s : WriteSizes). s.rebuilding) same ∙ sized.rebuilding ∙ ap rebuilding_by (sym remembers.settings);
     chunk = ap (λ (s : WriteSizes). s.chunk) same ∙ sized.chunk;
     packet_size = ap (λ (s : WriteSizes). s.packet_size) same ∙ sized.packet_size;
+    encrypted = ap (λ (s : WriteSizes). s.encrypted) same ∙ sized.encrypted;
   }
 
   -- so is a new one, which was given them
@@ -77,4 +80,12 @@ module _ (session session' : Session) (remembers : Remembers session session') w
     rebuilding = ap (λ (s : WriteSizes). s.rebuilding) sizes ∙ ap rebuilding_by (sym remembers.settings);
     chunk = ap (λ (s : WriteSizes). s.chunk) sizes;
     packet_size = ap (λ (s : WriteSizes). s.packet_size) sizes;
+    encrypted = ap (λ (s : WriteSizes). s.encrypted) sizes;
   }
+
+-- a writer goes by the cluster's defaults on whether data is to be encrypted
+pub encrypted_is : (session : Session) (shown : Shown) (writer : FileWriter) → IsSized session writer → (state : State) → Carried shown session state
+    → (sizes_of writer).encrypted ≡ (defaults_of shown.picture).encrypt_data_transfer
+encrypted_is session shown writer sized state carried =
+    sized.encrypted
+    ∙ ap (λ (d : ServerDefaults). d.encrypt_data_transfer) (subst (λ (o : Option ServerDefaults). IfSome o (λ known. known ≡ defaults_of shown.picture)) sized.is_known carried.defaults)

@@ -1,5 +1,5 @@
 -- A command that has opened a file to be written.
-use Rattle.std.proofs.Common.{◌≡◌, ℕ, Bool, true, false, ◌&&◌, List, Option, Some, None, unwrap_or, Ok, refl, sym, ◌∙◌, ap, subst}
+use Rattle.std.proofs.Common.{◌≡◌, ℕ, Bool, true, false, ◌&&◌, List, Option, Some, None, is_some, unwrap_or, Ok, refl, sym, ◌∙◌, ap, subst}
 use Rattle.hdfs_model.specs.declared.asks.Answer.TheVariants as answers
 use Rattle.hdfs_model.specs.declared.attributes.Attributes.{Attributes}
 use Rattle.hdfs_model.specs.declared.commands.Command.{Command}
@@ -10,8 +10,13 @@ use Rattle.hdfs_model.specs.declared.messages.Appended.{Appended}
 use Rattle.hdfs_model.specs.declared.messages.FileStatusMsg.{FileStatusMsg}
 use Rattle.hdfs_model.specs.declared.messages.ServerDefaults.{ServerDefaults}
 use Rattle.hdfs_model.specs.declared.picture.FileEntry.{FileEntry}
+use Rattle.hdfs_model.specs.Causes.{IsEncryptedAt}
 use Rattle.hdfs_model.specs.Effects.{HasStatus}
-use Rattle.hdfs_model.specs.Files.{State, Content, Kind, kinds_of}
+use Rattle.hdfs_model.specs.Namenode.{MayBeDone}
+use Rattle.hdfs_model.specs.declared.asks.Ask.{Ask}
+use Rattle.hdfs_model.specs.declared.commands.Reply.{Reply}
+use Rattle.std.proofs.lemmas.Bool.{false≢true}
+use Rattle.hdfs_model.specs.Files.{File, State, Content, Kind, kinds_of}
 use Rattle.hdfs_model.specs.Limits.{are_defaults, are_options}
 use Rattle.hdfs_model.specs.Paths.{absolute, is_path}
 use Rattle.hdfs_model.specs.Picture.{Picture, SameButActive, SameFiles}
@@ -19,7 +24,7 @@ use Rattle.hdfs_model.specs.Refusals.{append_refusal, create_refusal}
 use Rattle.hdfs_model.specs.Sessions.{defaults_of}
 use Rattle.hdfs_model.specs.Shown.{Shown}
 use Rattle.hdfs_model.specs.Sound.{IsSound}
-use Rattle.hdfs_model.specs.Steps.{append_file, create_file, created, is_opened, open_node}
+use Rattle.hdfs_model.specs.Steps.{Done, append_file, create_file, created, is_opened, open_node, step, with_writing}
 use Rattle.hdfs_model.specs.Stores.{Agrees, AgreesAt}
 use Rattle.hdfs_model.proofs.Frames.{told_after, told_weaker}
 use Rattle.hdfs_files.specs.Tails.{Tail, Bare, FileCarries}
@@ -63,6 +68,25 @@ begun_before p m q state path content tail same begun = record {
 
 both_true : (a b : Bool) → a ≡ true → b ≡ true → (a && b) ≡ true
 both_true a b one two = ap (λ (x : Bool). x && b) one ∙ two
+
+-- A file was opened over a state, from what was shown between, where this status was told.
+pub record OpensFile (s m t : Shown) (session : Session) (state : State) (command : Command) (path : List ℕ) (reply : Reply) (writer : FileWriter) (ask : Ask) (stat : FileStatusMsg) : Type 0 where
+  pub p : Picture
+  pub between : Picture
+  pub q : Picture
+  pub was : s.picture ≡ Some p
+  pub told : m.picture ≡ Some between
+  pub now : t.picture ≡ Some q
+  pub same : SameButActive p between
+  pub may : MayBeDone ask between q
+  pub content : Content
+  pub filed : state.files path ≡ Some (File content)
+  pub encryption : is_some stat.encryption ≡ content.attributes.encrypted
+  pub limited : are_defaults (world_at session s).defaults ≡ true
+  pub begun : Begun p q state path content (files.tail_of writer)
+  pub done : step (world_at session s) state command ≡ Done reply (with_writing state path content)
+  pub replication : (files.sizes_of writer).replication ≡ content.attributes.replication
+  pub block_size : (files.sizes_of writer).block_size ≡ content.attributes.block_size
 
 -- a session that has asked for the defaults, at a path that it hasn't open
 module _ (s m : Shown) (session session' : Session) (path : List ℕ) (d : ServerDefaults) (prepares : Prepares s session m session') (has : HasDefaults s session session' d) (named : is_path path ≡ true) (closed : opened_of session path ≡ false)
@@ -113,8 +137,8 @@ module _ (s m : Shown) (session session' : Session) (path : List ℕ) (d : Serve
       subst (λ (x : Picture). Over x (world_at session s) state (commands.Append name) path (appending path client flag)) same
       (append_over path client flag h.now (world_at session s) state name (sound h.now h.told) h.agrees named h.unopened called)
 
-  module _ (t : Shown) (session'' : Session) (writer : FileWriter) (more : HasMore session session'' path writer) (stands : Stands s session) (own : files.Stands t writer) (at : files.path_of writer ≡ path) (fine : files.has_failed writer ≡ false)
-      (linkless : files.link_of writer ≡ None) (on : Remembers session' session'') (knows : defaults_known session'' ≡ Some d) where
+  -- what was made, or opened, has a writer with the sizes that the namenode told
+  module _ (t : Shown) (writer : FileWriter) where
     module _ (name client : List ℕ) (options : WriteOptions) (status : Option FileStatusMsg) (called : absolute session.settings.home name ≡ path) where
       abbrev replication : ℕ
       replication = unwrap_or options.replication d.replication
@@ -127,7 +151,7 @@ module _ (s m : Shown) (session session' : Session) (path : List ℕ) (d : Serve
 
       module _ (limited : are_options options ≡ true) (tail : files.tail_of writer ≡ Bare) (sizes : files.sizes_of writer ≡ sizes_by session' d replication block_size) (came : Came m (creating path client options replication block_size) (Ok (answers.Create status)) t) where
         abbrev attributes_by : ServerDefaults → Attributes
-        attributes_by x = record { permission = options.permission; replication = unwrap_or options.replication x.replication; block_size = unwrap_or options.block_size x.block_size }
+        attributes_by x = record { permission = options.permission; replication = unwrap_or options.replication x.replication; block_size = unwrap_or options.block_size x.block_size; encrypted = false }
 
         created_begins : (state : State) → IsReady s session state create → BeginsFile s t session state create path replies.Created writer
         created_begins state ready =
@@ -147,24 +171,10 @@ module _ (s m : Shown) (session session' : Session) (path : List ℕ) (d : Serve
               content = created w options;
               begun = subst (Begun h.p one.0 state path (created w options)) (sym tail) (begun_before h.p h.now one.0 state path (created w options) Bare h.same begun);
               done = create_step w state path named h.unopened name options called ∙ ap (create_file state path (created w options)) none;
-              limited = record { numbers = both_true (are_options options) (are_defaults w.defaults) limited (ap are_defaults (sym h.world) ∙ has.limited); attributes = tt };
+              limited = record { numbers = both_true (are_options options) (are_defaults w.defaults) limited (ap are_defaults (sym h.world) ∙ has.limited); attributes = tt; plain = record { bytes = λ moves. moves.0; file = λ opens. opens } };
               replication = ap (λ (x : WriteSizes). x.replication) sizes ∙ ap (λ (x : ServerDefaults). unwrap_or options.replication x.replication) h.world;
               block_size = ap (λ (x : WriteSizes). x.block_size) sizes ∙ ap (λ (x : ServerDefaults). unwrap_or options.block_size x.block_size) h.world;
             }
-
-        created_knows : (state : State) → IsReady s session state create → (known : ServerDefaults) × (defaults_known session'' ≡ Some known) × (known ≡ defaults_of t.picture)
-        created_knows state ready =
-            let h = told_at create state ready in
-            let f = created_begins state ready in
-            let same : h.p ≡ f.p = cc (h.was, f.was) in
-            (d, knows, h.defaults ∙ ap (λ (x : Picture). x.defaults) same ∙ sym f.begun.defaults ∙ ap defaults_of (sym f.now))
-
-        -- a file was created
-        pub created_acts : Acts create s session t session'' (Ok replies.Created)
-        created_acts =
-            begun_acts create s t session session'' path writer replies.Created more created_begins called refl stands
-            (looks_trans s m t prepares.looks (looks_from-Leaves m t came.relays.leaves)) own at fine linkless
-            (sized_by session' session'' on d writer replication block_size sizes knows) created_knows
 
     module _ (name client : List ℕ) (flag : ℕ) (appended : Appended) (stat : FileStatusMsg) (called : absolute session.settings.home name ≡ path) where
       abbrev append : Command
@@ -180,8 +190,9 @@ module _ (s m : Shown) (session session' : Session) (path : List ℕ) (d : Serve
               ap (λ (x : FileStatusMsg). unwrap_or x.blocksize 0) same ∙ ap (λ (o : Option ℕ). unwrap_or o 0) status.block_size,
             )
 
-        appended_begins : (state : State) → IsReady s session state append → BeginsFile s t session state append path replies.Appended writer
-        appended_begins state ready =
+        -- the file was opened, and may be encrypted
+        pub appended_opens : (state : State) → IsReady s session state append → OpensFile s m t session state append path replies.Appended writer (appending path client flag) stat
+        appended_opens state ready =
             let h = told_at append state ready in
             let w = world_at session s in
             let one = was_reopened path client flag h.now m t appended h.told came in
@@ -193,28 +204,91 @@ module _ (s m : Shown) (session session' : Session) (path : List ℕ) (d : Serve
             let attributes = stat_is row.file row.status in
             record {
               p = h.p;
+              between = h.now;
               q = one.0;
               was = h.was;
+              told = h.told;
               now = one.1;
               content = there.content;
+              same = h.same;
+              may = one.3;
+              filed = there.filed;
+              encryption = (let same : stat ≡ row.status.told = cc (is, row.status.is) in
+                  ap (λ (x : FileStatusMsg). is_some x.encryption) same ∙ row.status.encryption ∙ ap (λ (x : Attributes). x.encrypted) there.attributes);
+              limited = ap are_defaults (sym h.world) ∙ has.limited;
               begun = subst (Begun h.p one.0 state path there.content) (sym tail) (begun_before h.p h.now one.0 state path there.content (files.tail_opened appended.block None) h.same begun);
               done = append_step w state path named h.unopened name called ∙ ap (append_file state path) none ∙ ap (open_node state path) there.filed;
-              limited = record { numbers = ap are_defaults (sym h.world) ∙ has.limited; attributes = tt };
               replication = ap (λ (x : WriteSizes). x.replication) sizes ∙ attributes.0 ∙ ap (λ (x : Attributes). x.replication) there.attributes;
               block_size = ap (λ (x : WriteSizes). x.block_size) sizes ∙ attributes.1 ∙ ap (λ (x : Attributes). x.block_size) there.attributes;
             }
 
-        appended_knows : (state : State) → IsReady s session state append → (known : ServerDefaults) × (defaults_known session'' ≡ Some known) × (known ≡ defaults_of t.picture)
-        appended_knows state ready =
-            let h = told_at append state ready in
-            let f = appended_begins state ready in
-            let same : h.p ≡ f.p = cc (h.was, f.was) in
-            (d, knows, h.defaults ∙ ap (λ (x : Picture). x.defaults) same ∙ sym f.begun.defaults ∙ ap defaults_of (sym f.now))
+        -- the same of one that isn't
+        pub appended_begins : is_some stat.encryption ≡ false → (state : State) → IsReady s session state append → BeginsFile s t session state append path replies.Appended writer
+        appended_begins plain state ready =
+            let o = appended_opens state ready in
+            record {
+              p = o.p;
+              q = o.q;
+              was = o.was;
+              now = o.now;
+              content = o.content;
+              begun = o.begun;
+              done = o.done;
+              limited = record {
+                numbers = o.limited;
+                attributes = tt;
+                plain = record {
+                  bytes = λ moves. moves.0;
+                  file = λ opens.
+                      (let there = subst (λ (x : List ℕ). IsEncryptedAt state x) called opens in
+                      let same : there.0 ≡ o.content = cc (there.1, o.filed) in
+                      false≢true (sym plain ∙ o.encryption ∙ ap (λ (x : Content). x.attributes.encrypted) (sym same) ∙ there.2));
+                };
+              };
+              replication = o.replication;
+              block_size = o.block_size;
+            }
 
-        -- a file was opened to be gone on with
-        pub appended_acts : Acts append s session t session'' (Ok replies.Appended)
-        appended_acts =
-            begun_acts append s t session session'' path writer replies.Appended more appended_begins called refl stands
-            (looks_trans s m t prepares.looks (looks_from-Leaves m t came.relays.leaves)) own at fine linkless
-            (sized_by session' session'' on d writer (unwrap_or stat.block_replication 0) (unwrap_or stat.blocksize 0) sizes knows)
-            appended_knows
+  module _ (t : Shown) (session'' : Session) (writer : FileWriter) (more : HasMore session session'' path writer) (stands : Stands s session) (own : files.Stands t writer) (at : files.path_of writer ≡ path) (fine : files.has_failed writer ≡ false)
+      (linkless : files.link_of writer ≡ None) (on : Remembers session' session'') (knows : defaults_known session'' ≡ Some d) where
+    module _ (name client : List ℕ) (options : WriteOptions) (status : Option FileStatusMsg) (called : absolute session.settings.home name ≡ path)
+        (limited : are_options options ≡ true) (tail : files.tail_of writer ≡ Bare) (sizes : files.sizes_of writer ≡ sizes_by session' d (unwrap_or options.replication d.replication) (unwrap_or options.block_size d.block_size))
+        (came : Came m (creating path client options (unwrap_or options.replication d.replication) (unwrap_or options.block_size d.block_size)) (Ok (answers.Create status)) t) where
+      making : (state : State) → IsReady s session state (commands.Create name options) → BeginsFile s t session state (commands.Create name options) path replies.Created writer
+      making = created_begins t writer name client options status called limited tail sizes came
+
+      created_knows : (state : State) → IsReady s session state (commands.Create name options) → (known : ServerDefaults) × (defaults_known session'' ≡ Some known) × (known ≡ defaults_of t.picture)
+      created_knows state ready =
+          let h = told_at (commands.Create name options) state ready in
+          let f = making state ready in
+          let same : h.p ≡ f.p = cc (h.was, f.was) in
+          (d, knows, h.defaults ∙ ap (λ (x : Picture). x.defaults) same ∙ sym f.begun.defaults ∙ ap defaults_of (sym f.now))
+
+      -- a file was created
+      pub created_acts : Acts (commands.Create name options) s session t session'' (Ok replies.Created)
+      created_acts =
+          begun_acts (commands.Create name options) s t session session'' path writer replies.Created more making called refl stands
+          (looks_trans s m t prepares.looks (looks_from-Leaves m t came.relays.leaves)) own at fine linkless
+          (sized_by session' session'' on d writer (unwrap_or options.replication d.replication) (unwrap_or options.block_size d.block_size) sizes knows) created_knows
+
+    module _ (name client : List ℕ) (flag : ℕ) (appended : Appended) (stat : FileStatusMsg) (called : absolute session.settings.home name ≡ path)
+        (is : appended.stat ≡ Some stat) (tail : files.tail_of writer ≡ files.tail_opened appended.block None)
+        (sizes : files.sizes_of writer ≡ sizes_by session' d (unwrap_or stat.block_replication 0) (unwrap_or stat.blocksize 0))
+        (came : Came m (appending path client flag) (Ok (answers.Append appended)) t) (plain : is_some stat.encryption ≡ false) where
+      reopening : (state : State) → IsReady s session state (commands.Append name) → BeginsFile s t session state (commands.Append name) path replies.Appended writer
+      reopening = appended_begins t writer name client flag appended stat called is tail sizes came plain
+
+      appended_knows : (state : State) → IsReady s session state (commands.Append name) → (known : ServerDefaults) × (defaults_known session'' ≡ Some known) × (known ≡ defaults_of t.picture)
+      appended_knows state ready =
+          let h = told_at (commands.Append name) state ready in
+          let f = reopening state ready in
+          let same : h.p ≡ f.p = cc (h.was, f.was) in
+          (d, knows, h.defaults ∙ ap (λ (x : Picture). x.defaults) same ∙ sym f.begun.defaults ∙ ap defaults_of (sym f.now))
+
+      -- a file was opened to be gone on with
+      pub appended_acts : Acts (commands.Append name) s session t session'' (Ok replies.Appended)
+      appended_acts =
+          begun_acts (commands.Append name) s t session session'' path writer replies.Appended more reopening called refl stands
+          (looks_trans s m t prepares.looks (looks_from-Leaves m t came.relays.leaves)) own at fine linkless
+          (sized_by session' session'' on d writer (unwrap_or stat.block_replication 0) (unwrap_or stat.blocksize 0) sizes knows)
+          appended_knows

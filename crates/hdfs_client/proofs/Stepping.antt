@@ -1,8 +1,9 @@
 -- What a step says of a path, over a picture that agrees with the files.
-use Rattle.std.proofs.Common.{◌≡◌, ℕ, ◌+◌, ◌<◌, ◌≤◌, nat_lt, Bool, true, false, cond, ◌||◌, List, [], ◌∷◌, length, drop, Option, Some, None, option_map, refl, sym, ◌∙◌, ap, subst, arith}
+use Rattle.std.proofs.Common.{◌≡◌, ℕ, ◌+◌, ◌<◌, ◌≤◌, nat_lt, Bool, true, false, cond, ◌||◌, List, [], ◌∷◌, length, drop, Option, Some, None, is_some, option_map, refl, sym, ◌∙◌, ap, subst, arith}
 use Rattle.std.specs.List.{list_any}
 use Rattle.std.proofs.lemmas.Bool.Decides.{nat_tests}
 use Rattle.std.proofs.lemmas.List.{length-drop}
+use Rattle.hdfs_model.specs.declared.attributes.Attributes.{Attributes}
 use Rattle.hdfs_model.specs.declared.picture.Entry.{Entry}
 use Rattle.hdfs_model.specs.declared.picture.Entry.TheVariants as entries
 use Rattle.hdfs_model.specs.declared.picture.BlockEntry.{BlockEntry}
@@ -58,12 +59,14 @@ pub record Found (p : Picture) (state : State) (path : List ℕ) (found : Locate
   pub located : LocatesBlocks p.table 0 found.file_length file.blocks found.blocks
   pub stored : StoresBlocks p file.blocks content.bytes
   pub long : found.file_length ≡ length content.bytes
+  pub encryption : is_some found.encryption ≡ content.attributes.encrypted
 
-node_is_file : (p : Picture) (file : FileEntry) (node : Option Node) → ((content : Content) → node ≡ Some (Writing content) → ⊥) → AgreesAt p (Some (entries.File file)) node → (content : Content) × (node ≡ Some (File content)) × StoresBlocks p file.blocks content.bytes
+node_is_file : (p : Picture) (file : FileEntry) (node : Option Node) → ((content : Content) → node ≡ Some (Writing content) → ⊥) → AgreesAt p (Some (entries.File file)) node
+    → (content : Content) × (node ≡ Some (File content)) × StoresBlocks p file.blocks content.bytes × (file.attributes ≡ content.attributes)
 node_is_file p file None closed h = absurd h
 node_is_file p file (Some Dir) closed h = absurd h
 node_is_file p file (Some (Writing content)) closed h = absurd (closed content refl)
-node_is_file p file (Some (File content)) closed h = (content, refl, h.2)
+node_is_file p file (Some (File content)) closed h = (content, refl, h.2, h.1)
 
 total_is : (p : Picture) (at total : ℕ) (ids : List ℕ) (blocks : List LocatedBlock) (bytes : List ℕ) → LocatesBlocks p.table at total ids blocks → StoresBlocks p ids bytes → total ≡ at + length bytes
 total_is p at total [] [] bytes located stored = omega (arith, located, ap length stored)
@@ -118,6 +121,7 @@ module _ (w : World) (s : Shown) (state : State) (name path : List ℕ) (meets :
         located = locates.blocks;
         stored = node.2;
         long = omega (arith, total_is p 0 found.file_length locates.file.blocks found.blocks node.0.bytes locates.blocks node.2);
+        encryption = locates.encryption ∙ ap (λ (a : Attributes). a.encrypted) node.3;
       }
 
   module _ (found : LocatedBlocks) (locates : Locates p path found) (f : Found p state path found) (offset len : ℕ) where

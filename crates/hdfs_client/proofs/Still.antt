@@ -30,6 +30,7 @@ writer_stands a b w stays s = record {
         chunk = g.chunk;
         packet_size = g.packet_size;
         settings = g.settings;
+        plain = g.plain;
       };
   is_open = s.is_open;
   idle = s.idle;

@@ -1,5 +1,5 @@
 -- What a write does to a session and its cluster.
-use Rattle.std.proofs.Common.{◌≡◌, ◌≢◌, ℕ, Bool, true, false, cond, List, ◌++◌, length, Option, Some, is_some, refl, sym, ◌∙◌, ap, subst}
+use Rattle.std.proofs.Common.{◌≡◌, ◌≢◌, ℕ, Bool, true, false, cond, List, [], ◌++◌, length, Option, Some, is_some, refl, sym, ◌∙◌, ap, subst}
 use Rattle.std.proofs.lemmas.Slice.Eq.{bytes_eq-Decides}
 use Rattle.std.specs.Str.{bytes_eq}
 use Rattle.hdfs_model.specs.declared.commands.Command.TheVariants as commands
@@ -22,6 +22,8 @@ use Rattle.hdfs_client.specs.declared.session.Session.{Session}
 use Rattle.hdfs_client.proofs.SendActs.{Comes, open_at}
 use Rattle.hdfs_client.proofs.Beside.{OneCall, opened_after, same_world, carried_after}
 use Rattle.hdfs_client.proofs.Limited.{attributes_in}
+use Rattle.hdfs_client.proofs.Sized.{encrypted_is}
+use Rattle.std.proofs.lemmas.Bool.{false≢true}
 use Rattle.hdfs_client.proofs.OneFile.{agrees_by_path, agrees_with, open_agrees, not_same, same_test}
 use Rattle.hdfs_client.proofs.OpenFiles.{written_state, write_is_done, state_with_node}
 
@@ -37,7 +39,7 @@ module _ (old new : Shown) (session session' : Session) (name path more : List �
     (call : OneCall old session path (Some writer) (Some writer') new session') (stands : Stands old session)
     (sound : (p : Picture) → old.picture ≡ Some p → IsSound p) (called : absolute (settings_of session).home name ≡ path) (is : is_path path ≡ true)
     (keeps : Keeps writer writer') (same : settings_of session' ≡ settings_of session) (known : defaults_known session' ≡ defaults_known session)
-    (carries : CarriesMore old writer more new writer') (limited : AreLimited (sizes_of writer)) where
+    (carries : CarriesMore old writer more new writer') (limited : AreLimited (sizes_of writer)) (plain : more ≢ [] → (sizes_of writer).encrypted ≡ false) where
   -- the writer carries these bytes more
   carries_at : (p : Picture) (bytes : List ℕ) → old.picture ≡ Some p → FileCarries p path (tail_of writer) bytes
       → (q : Picture) × (new.picture ≡ Some q) × FileCarries q path (tail_of writer') (bytes ++ more) × OnlyFile path p q × SameFile path p q
@@ -73,6 +75,10 @@ module _ (old new : Shown) (session session' : Session) (name path more : List �
           attributes = λ other filed.
               (let one : content ≡ other = cc (o.file.named, subst (λ (x : List ℕ). state.files x ≡ Some (Writing other)) called filed) in
               subst (λ (c : Content). are_attributes c.attributes ≡ true) one attributes);
+          plain = record {
+            bytes = λ moves. false≢true (sym (plain moves.0) ∙ encrypted_is session old writer (stands.sized path writer call.here) state ready.carried ∙ moves.1);
+            file = λ opens. opens;
+          };
         };
         fits = record {
           is_state = state_with_node state path content (Writing written) ready.ready.fits.is_state o.file.named state.opened;

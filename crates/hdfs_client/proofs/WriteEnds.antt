@@ -23,15 +23,18 @@ use Rattle.hdfs_client.specs.Preparing.{Remembers}
 use Rattle.hdfs_client.specs.Session.{settings_of, writer_of, defaults_known, IsSized, Stands}
 use Rattle.hdfs_client.specs.declared.session.Session.{Session}
 use Rattle.hdfs_client.proofs.OneFile.{not_same}
-use Rattle.hdfs_client.proofs.SendActs.{acts_done}
+use Rattle.hdfs_client.proofs.SendActs.{OpenAt, acts_done}
+use Rattle.hdfs_model.specs.Causes.{IsDone}
+use Rattle.hdfs_model.specs.Files.{State}
+use Rattle.hdfs_model.specs.Steps.{step}
 use Rattle.hdfs_client.proofs.Beside.{link_in, OneCall, links_of_one, stands_after, others_open}
 use Rattle.hdfs_client.proofs.CloseActs.{close_comes}
 use Rattle.hdfs_client.proofs.Limited.{limited_cases}
 use Rattle.hdfs_client.proofs.OpenFiles.{written_state, closed_state, write_is_done, close_is_done}
-use Rattle.hdfs_client.proofs.SendFails.{sending_fails, write_refused}
+use Rattle.hdfs_client.proofs.SendFails.{sending_fails, unsupported_fails, write_refused}
 use Rattle.hdfs_client.proofs.Sized.{sized_still}
 use Rattle.hdfs_client.proofs.WriteActs.{write_comes}
-use Rattle.hdfs_client.proofs.WriteFaults.{fails_as_close, not_owed}
+use Rattle.hdfs_client.proofs.WriteFaults.{fails_as_close, not_owed, unsupported}
 
 -- What is known of a call of the writer at a path, of which this is left behind it.
 pub record Called (old : Shown) (session : Session) (name path : List ℕ) (writer : FileWriter) (now : Option FileWriter) (session' : Session) : Type 0 where
@@ -85,33 +88,49 @@ module _ (old new : Shown) (session session' : Session) (name path : List ℕ) (
     module _ (more : List ℕ) (empty : more ≡ [] → SameNodes old new) where
       -- a write that is done
       pub write_acts : (session'.failed ≡ false → session.failed ≡ false) → files.has_failed writer' ≡ false → files.Wrote old writer more new writer' → files.AreLimited (files.sizes_of writer)
-          → (n : ℕ) → n ≡ length more → Acts (commands.Write name more) old session new session' (Ok (replies.Written n))
-      write_acts failed fine wrote limited n count =
+          → (more ≢ [] → (files.sizes_of writer).encrypted ≡ false) → (n : ℕ) → n ≡ length more → Acts (commands.Write name more) old session new session' (Ok (replies.Written n))
+      write_acts failed fine wrote limited plain n count =
           let call = call_of (Some writer') c wrote.own in
           subst (λ (k : ℕ). Acts (commands.Write name more) old session new session' (Ok (replies.Written k))) (sym count)
           (acts_done (commands.Write name more) old new session session' wrote.own.later wrote.own.reads empty
           (links_of_one old new session session' path (Some writer) (Some writer') call) (write_stands wrote.own (λ is. (failed is, fine))) (elsewhere (Some writer') c) (replies.Written (length more)) refl
           (write_comes old new session session' name path more writer writer' call c.before c.sound c.called c.named stands.1 c.settings
-          (known_of (Some writer') c) wrote.carries limited))
+          (known_of (Some writer') c) wrote.carries limited plain))
 
       module _ (failed : session'.failed ≡ true) (has : files.has_failed writer' ≡ true) where
         -- the session stands behind a write that fails
         fails_stands : files.OnlyOwnLink old (files.link_of writer) new (files.link_of writer') → Stands new session'
         fails_stands own = write_stands own (λ is. absurd (false≢true (sym is ∙ failed)))
 
-        -- a write that fails
-        failing_acts : (error : HdfsError) → files.Fails old writer error new → Acts (commands.Write name more) old session new session' (Err error)
-        failing_acts error fails =
+        done_at : (state : State) → OpenAt old path writer state → IsDone (step (world_at session old) state (commands.Write name more))
+        done_at state o = (
+          replies.Written (length more),
+          written_state state path o.file.content more,
+          write_is_done (world_at session old) state name path o.file.content c.called c.named o.opened o.file.named more,
+        )
+
+        -- a write that fails as a close may
+        closing_acts : (error : HdfsError) → files.Fails old writer error new → TellsClose path old new error → Acts (commands.Write name more) old session new session' (Err error)
+        closing_acts error fails tells =
             let own = failed_own has (files.link_of writer) fails.own in
-            sending_fails (commands.Write name more) tt old new session session' path writer c.here c.before c.called
-            (λ state o. (
-              replies.Written (length more),
-              written_state state path o.file.content more,
-              write_is_done (world_at session old) state name path o.file.content c.called c.named o.opened o.file.named more,
-            ))
+            sending_fails (commands.Write name more) tt old new session session' path writer c.here c.before c.called done_at
             own.later own.reads (links_of_one old new session session' path (Some writer) (Some writer') (call_of (Some writer') c own)) (fails_stands own) (elsewhere (Some writer') c)
             (others_open old new session session' path (Some writer) (Some writer') (call_of (Some writer') c own) (λ w is. (let one : writer' ≡ w = cc in subst (λ (x : FileWriter). files.has_failed x ≡ true) one has)))
-            empty c.sound error (λ name is. absurd (subst (TellsWrite old new) is fails.tells)) (fails_as_close path old new error fails.tells) fails.touches fails.cause
+            empty c.sound error (λ name is. absurd (subst (TellsWrite old new) is fails.tells)) tells fails.touches fails.cause
+
+        -- a write of bytes that are to be encrypted
+        encrypting_acts : (error : HdfsError) → files.Fails old writer error new → error ≡ unsupported → more ≢ [] → SameNodes old new → Acts (commands.Write name more) old session new session' (Err error)
+        encrypting_acts error fails is some nodes =
+            let own = failed_own has (files.link_of writer) fails.own in
+            subst (λ (e : HdfsError). Acts (commands.Write name more) old session new session' (Err e)) (sym is)
+            (unsupported_fails (commands.Write name more) tt old new session session' path writer c.here c.before c.called done_at
+            own.later own.reads (links_of_one old new session session' path (Some writer) (Some writer') (call_of (Some writer') c own)) (fails_stands own) (elsewhere (Some writer') c)
+            (others_open old new session session' path (Some writer) (Some writer') (call_of (Some writer') c own) (λ w is. (let one : writer' ≡ w = cc in subst (λ (x : FileWriter). files.has_failed x ≡ true) one has)))
+            empty c.sound some some nodes fails.touches (subst (λ (e : HdfsError). files.HasCause old writer e new) is fails.cause))
+
+        -- a write that fails
+        failing_acts : (error : HdfsError) → (error ≡ unsupported → more ≢ []) → files.Fails old writer error new → Acts (commands.Write name more) old session new session' (Err error)
+        failing_acts error some fails = ⊎_elim (closing_acts error fails) (λ un. encrypting_acts error fails un.0 (some un.0) un.1) (fails_as_close path old new error fails.tells)
 
         -- a write that is refused
         refused_acts : (files.AreLimited (files.sizes_of writer) → ⊥) → files.link_of writer ≡ None → new ≡ old → Acts (commands.Write name more) old session new session' (Err (errors.InvalidArgument args.Options))
@@ -123,12 +142,12 @@ module _ (old new : Shown) (session session' : Session) (name path : List ℕ) (
             (others_open old new session session' path (Some writer) (Some writer') (call_of (Some writer') c own) (λ w is. (let one : writer' ≡ w = cc in subst (λ (x : FileWriter). files.has_failed x ≡ true) one has))) c.sound
 
         -- a write that isn't done
-        pub write_fails : (error : HdfsError) → (files.AreLimited (files.sizes_of writer) → files.Fails old writer error new)
+        pub write_fails : (error : HdfsError) → (files.AreLimited (files.sizes_of writer) → error ≡ unsupported → more ≢ []) → (files.AreLimited (files.sizes_of writer) → files.Fails old writer error new)
             → ((files.AreLimited (files.sizes_of writer) → ⊥) → (error ≡ errors.InvalidArgument args.Options) × (files.link_of writer ≡ None) × (new ≡ old))
             → Acts (commands.Write name more) old session new session' (Err error)
-        write_fails error fails refused =
+        write_fails error some fails refused =
             ⊎_elim
-            (λ limited. failing_acts error (fails limited))
+            (λ limited. failing_acts error (some limited) (fails limited))
             (λ out. (let r = refused out in
             subst (λ (e : HdfsError). Acts (commands.Write name more) old session new session' (Err e)) (sym r.0) (refused_acts out r.1 r.2)))
             (limited_cases (files.sizes_of writer))
@@ -166,7 +185,8 @@ pub write_not_owed : (old new : Shown) (writer : FileWriter) (error : HdfsError)
     → ((files.AreLimited (files.sizes_of writer) → ⊥) → error ≡ errors.InvalidArgument args.Options) → IsNotOwed error
 write_not_owed old new writer error fails refused =
     ⊎_elim
-    (λ limited. not_owed (files.path_of writer) old new error (fails_as_close (files.path_of writer) old new error (fails limited).tells))
+    (λ limited. ⊎_elim (λ tells. not_owed (files.path_of writer) old new error tells) (λ un. subst IsNotOwed (sym un.0) tt)
+    (fails_as_close (files.path_of writer) old new error (fails limited).tells))
     (λ out. subst IsNotOwed (sym (refused out)) tt)
     (limited_cases (files.sizes_of writer))
 

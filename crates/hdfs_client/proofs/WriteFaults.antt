@@ -1,32 +1,38 @@
 -- What the error of a writer of a file is for the command that has it.
-use Rattle.std.proofs.Common.{◌≡◌, inr, ℕ, false, List, refl, sym, ◌∙◌, subst, arith}
+use Rattle.std.proofs.Common.{◌≡◌, ◌⊎◌, inl, inr, ℕ, false, List, refl, sym, ◌∙◌, subst, arith}
 use Rattle.hdfs_model.specs.declared.commands.Command.{Command}
 use Rattle.hdfs_model.specs.declared.errors.HdfsError.{HdfsError}
 use Rattle.hdfs_model.specs.declared.errors.HdfsError.TheVariants as errors
+use Rattle.hdfs_model.specs.declared.errors.Feature.TheVariants as features
 use Rattle.hdfs_model.specs.declared.errors.IoFault.TheVariants as io_faults
 use Rattle.hdfs_model.specs.declared.errors.TransferFault.TheVariants as transfer
 use Rattle.hdfs_model.specs.Causes.{PipelineFailed, SomeListedFailed, IsClose, IsDone, Sends, Tells, IsEarly, Cause}
 use Rattle.hdfs_model.specs.Files.{State}
 use Rattle.hdfs_model.specs.Sessions.{IsNotOwed, is_before_asking}
-use Rattle.hdfs_model.specs.Shown.{Shown}
+use Rattle.hdfs_model.specs.Shown.{SameNodes, Shown}
 use Rattle.hdfs_model.specs.Steps.{World, step, target_of}
-use Rattle.hdfs_recovery.specs.declared.block_plan.RebuildSettings.{RebuildSettings}
+use Rattle.hdfs_files.specs.declared.sizes.WriteSizes.{WriteSizes}
 use Rattle.hdfs_files.specs.Failing.{TellsWrite, TellsClose, CauseOfWrite}
 
--- a write fails only as a close may
-pub fails_as_close : (path : List ℕ) (old new : Shown) (error : HdfsError) → TellsWrite old new error → TellsClose path old new error
+-- the error of bytes that are to be encrypted
+abbrev pub unsupported : HdfsError
+unsupported = errors.UnsupportedFeature features.Encryption
+
+-- a write fails only as a close may, or for encryption
+pub fails_as_close : (path : List ℕ) (old new : Shown) (error : HdfsError) → TellsWrite old new error → TellsClose path old new error ⊎ ((error ≡ unsupported) × SameNodes old new)
 fails_as_close path old new (errors.OperationFailed name) h = absurd h
-fails_as_close path old new errors.NoMemory h = h
-fails_as_close path old new errors.Failed h = h
-fails_as_close path old new (errors.IOError fault) h = h
-fails_as_close path old new (errors.DataTransferError fault) h = h
-fails_as_close path old new (errors.InvalidPath text) h = h
-fails_as_close path old new (errors.InvalidArgument fault) h = h
-fails_as_close path old new (errors.AlreadyExists message) h = h
-fails_as_close path old new (errors.FileNotFound name) h = h
-fails_as_close path old new (errors.RPCError class message) h = h
-fails_as_close path old new (errors.InvalidRPCResponse fault) h = h
-fails_as_close path old new (errors.FatalRPCError class message) h = h
+fails_as_close path old new (errors.UnsupportedFeature features.Encryption) h = inr (refl, h)
+fails_as_close path old new errors.NoMemory h = inl h
+fails_as_close path old new errors.Failed h = inl h
+fails_as_close path old new (errors.IOError fault) h = inl h
+fails_as_close path old new (errors.DataTransferError fault) h = inl h
+fails_as_close path old new (errors.InvalidPath text) h = inl h
+fails_as_close path old new (errors.InvalidArgument fault) h = inl h
+fails_as_close path old new (errors.AlreadyExists message) h = inl h
+fails_as_close path old new (errors.FileNotFound name) h = inl h
+fails_as_close path old new (errors.RPCError class message) h = inl h
+fails_as_close path old new (errors.InvalidRPCResponse fault) h = inl h
+fails_as_close path old new (errors.FatalRPCError class message) h = inl h
 
 module _ (path : List ℕ) (old new : Shown) where
   -- such an error comes once something was asked
@@ -42,6 +48,7 @@ module _ (path : List ℕ) (old new : Shown) where
   is_after_asking errors.Failed h = absurd h
   is_after_asking (errors.InvalidPath text) h = absurd h
   is_after_asking (errors.InvalidArgument fault) h = absurd h
+  is_after_asking (errors.UnsupportedFeature feature) h = absurd h
   is_after_asking (errors.FileNotFound name) h = absurd h
 
   -- and says neither of the path rule nor of what is open
@@ -55,6 +62,7 @@ module _ (path : List ℕ) (old new : Shown) where
   not_owed (errors.InvalidRPCResponse fault) h = tt
   not_owed (errors.FatalRPCError class message) h = tt
   not_owed (errors.OperationFailed name) h = tt
+  not_owed (errors.UnsupportedFeature feature) h = absurd h
   not_owed (errors.FileNotFound name) h = tt
   not_owed (errors.InvalidPath text) h = absurd h
   not_owed (errors.InvalidArgument fault) h = absurd h
@@ -80,6 +88,7 @@ module _ (path : List ℕ) (old new : Shown) where
     tells_sending (errors.InvalidPath text) closes h = absurd h
     tells_sending (errors.InvalidArgument fault) closes h = absurd h
     tells_sending (errors.FileNotFound name) closes h = absurd h
+    tells_sending (errors.UnsupportedFeature feature) closes h = absurd h
 
     -- of such a command it is no refusal
     pub not_early : (error : HdfsError) → TellsClose path old new error → IsEarly command error → ⊥
@@ -96,11 +105,12 @@ module _ (path : List ℕ) (old new : Shown) where
     not_early (errors.InvalidPath text) h early = h
     not_early (errors.InvalidArgument fault) h early = h
     not_early (errors.FileNotFound name) h early = h
+    not_early (errors.UnsupportedFeature feature) h early = h
 
     -- and it has its cause, where the step is done, and pipelines are rebuilt as the world has it
-    module _ (world : World) (state : State) (called : target_of world command ≡ path) (done : IsDone (step world state command)) (settings : RebuildSettings)
-        (limit : settings.rebuild_limit ≡ world.rebuild_limit) (effort : settings.replace.best_effort ≡ world.best_effort) where
-      pub cause_sending : (error : HdfsError) → TellsClose path old new error → CauseOfWrite settings path old new error → Cause world state command old new error
+    module _ (world : World) (state : State) (called : target_of world command ≡ path) (done : IsDone (step world state command)) (sizes : WriteSizes)
+        (limit : sizes.rebuilding.rebuild_limit ≡ world.rebuild_limit) (effort : sizes.rebuilding.replace.best_effort ≡ world.best_effort) where
+      pub cause_sending : (error : HdfsError) → TellsClose path old new error → CauseOfWrite sizes path old new error → Cause world state command old new error
       cause_sending errors.NoMemory h cause = tt
       cause_sending (errors.IOError (io_faults.Namenode last)) h cause = (last, h.1, omega (arith, h.2))
       cause_sending (errors.IOError io_faults.Link) h cause = (done, h)
@@ -121,3 +131,4 @@ module _ (path : List ℕ) (old new : Shown) where
       cause_sending (errors.InvalidPath text) h cause = absurd h
       cause_sending (errors.InvalidArgument fault) h cause = absurd h
       cause_sending (errors.FileNotFound name) h cause = absurd h
+      cause_sending (errors.UnsupportedFeature feature) h cause = absurd h

@@ -1,6 +1,8 @@
 //! Sessions: commands over the files of one service.
 #![tactic(auto)]
 
+mod encrypted;
+mod finding;
 mod locate;
 mod reading;
 mod run;

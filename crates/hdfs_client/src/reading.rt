@@ -5,19 +5,20 @@ ghost use Rattle.hdfs_model.specs.Anywhere.{Applies};
 ghost use Rattle.hdfs_model.specs.Causes.{Cause, AllFailed, ByteLost};
 ghost use Rattle.hdfs_model.specs.Files.{State};
 ghost use Rattle.hdfs_model.specs.Picture.{Picture, SameFiles};
-ghost use Rattle.hdfs_model.specs.Sessions.{IsNotOwed};
+ghost use Rattle.hdfs_model.specs.Sessions.{IsNotOwed, MeetsNoEncryption};
 ghost use Rattle.hdfs_model.specs.Shown.{OnlyReads, SameLinks};
 ghost use Rattle.hdfs_model.specs.Steps.{World, Done, step, range_of};
 ghost use Rattle.hdfs_model.specs.Stores.{Agrees};
 ghost use Rattle.hdfs_namenode.specs.Asked.{ReachesAll};
-ghost use Rattle.hdfs_namenode.specs.Clients.{SameClient, proxy_of};
-ghost use Rattle.hdfs_client.specs.Meeting.{IsClosed, Meets};
+ghost use Rattle.hdfs_namenode.specs.Clients.{defaults_of, proxy_of};
+ghost use Rattle.hdfs_client.specs.Finding.{AsksOn};
+ghost use Rattle.hdfs_client.specs.Meeting.{IsClosed, KnowsWorld, Meets};
 ghost use Rattle.hdfs_client.specs.Ranges.{Stored, HoldsBlock, GoesOn, FailsAt, FailsToRead, LiesIn, IsOutside, part_of};
 
-use crate::locate::locate;
+use crate::finding::find_range;
 use hdfs_blocks::BlockRead;
 use hdfs_connections::ConnectionCache;
-use hdfs_model::{ArgFault, Cluster, Command, HdfsError, LocatedBlock, Reply};
+use hdfs_model::{Cluster, Command, HdfsError, LocatedBlock, Reply};
 use hdfs_namenode::NamenodeProtocol;
 use hdfs_wire::{Blob, Text};
 use std::alloc::Global;
@@ -176,15 +177,8 @@ fn read_blocks<C: Cluster>(
     Ok(())
 }
 
-/// Whether a range of `len` bytes from `offset` ends within `length` bytes.
-fn is_within(offset: u64, len: u64, length: u64) -> bool
-    ensures { MatchBool result (offset + len ≤ length) (length < offset + len) }
-{
-    offset <= length && len <= length - offset
-}
-
-/// Reads `len` bytes from `offset` of the file at a path, which a command calls `name`. Where the range isn't within the file, no
-/// block is opened.
+/// Reads `len` bytes from `offset` of the file at a path, which a command calls `name`. Where the file is encrypted, the range isn't within
+/// it, or data is to be encrypted on its way, no block is opened.
 pub(crate) fn read_file<C: Cluster>(
     alloc: Global,
     cluster: &mut C,
@@ -202,20 +196,16 @@ pub(crate) fn read_file<C: Cluster>(
     ensures files { (p : Picture) → (C.shown cluster.old).picture ≡ Some p → IsClosed p path.now
         → (q : Picture) × ((C.shown cluster.new).picture ≡ Some q) × SameFiles p q }
     ensures ok { IfOk result (λ reply. (world : World) (state : State) → Meets world (C.shown cluster.old) state name.now path.now
-        → (step world state (Command.Read name.now offset len) ≡ Done reply state) × Agrees (C.shown cluster.new).picture state.files) }
+        → KnowsWorld world (C.shown cluster.old) (defaults_of namenode.old)
+        → (step world state (Command.Read name.now offset len) ≡ Done reply state) × Agrees (C.shown cluster.new).picture state.files
+        × MeetsNoEncryption world state (Command.Read name.now offset len)) }
     ensures err { IfErr result (λ e. (world : World) (state : State) → Meets world (C.shown cluster.old) state name.now path.now
+        → KnowsWorld world (C.shown cluster.old) (defaults_of namenode.old)
         → Cause world state (Command.Read name.now offset len) (C.shown cluster.old) (C.shown cluster.new) e
         × Agrees (C.shown cluster.new).picture state.files) }
-    ensures client { SameClient namenode.old namenode.new }
+    ensures client { AsksOn path.now (C.shown cluster.old) namenode.old (C.shown cluster.new) namenode.new }
 {
-    let found = locate(alloc, cluster, namenode, name, path)?;
-    if !is_within(offset, len, found.file_length) {
-        return Err(HdfsError::InvalidArgument(ArgFault::Range {
-            offset,
-            len,
-            length: found.file_length,
-        }));
-    }
+    let found = find_range(alloc, cluster, namenode, name, path, offset, len)?;
     let mut out = Vec::with_capacity(alloc, len as usize)?;
     read_blocks(
         alloc,

@@ -4,6 +4,7 @@ ghost use Rattle.hdfs_model.specs.declared.commands.Command.TheVariants as Comma
 ghost use Rattle.hdfs_model.specs.Paths.{is_path, absolute};
 ghost use Rattle.hdfs_model.specs.Sessions.{IsNotOwed};
 
+use crate::encrypted::tells_encryption;
 use crate::session::Session;
 use hdfs_files::{FileWriter, WriteSizes};
 use hdfs_model::{Appended, ArgFault, Cluster, HdfsError, Reply, ServerDefaults, WriteOptions};
@@ -53,6 +54,7 @@ impl Session {
                 rebuild_limit: self.settings.rebuild_limit,
                 replace: self.settings.replace,
             },
+            encrypted: defaults.encrypt_data_transfer,
         }
     }
 
@@ -90,6 +92,9 @@ impl Session {
             replication,
             block_size,
         )?;
+        if tells_encryption(&status) {
+            return Err(self.refuse_created(cluster, path.as_str()));
+        }
         let file_id = match status {
             Some(status) => status.file_id,
             None => None,
@@ -129,7 +134,11 @@ impl Session {
             stat.block_replication.unwrap_or(0),
             stat.blocksize.unwrap_or(0),
         );
+        let encrypted = stat.encryption.is_some();
         let writer = FileWriter::appended(self.alloc, path, stat.file_id, sizes, block);
+        if encrypted {
+            return Err(self.refuse_opened(cluster, writer));
+        }
         self.writers.insert(key, writer)?;
         Ok(Reply::Appended)
     }

@@ -9,7 +9,7 @@ use std::alloc::Global;
 use std::test::Fail;
 
 /// A read.
-fn read(alloc: Global, path: &str, offset: u64, len: u64) -> Result<Command, Fail> {
+pub(crate) fn read(alloc: Global, path: &str, offset: u64, len: u64) -> Result<Command, Fail> {
     Ok(Command::Read {
         path: Text::from_str(alloc, path)?,
         offset,

@@ -6,7 +6,8 @@ ghost use Rattle.hdfs_client_tests.specs.Blocks.{IsPair};
 use bytes::Bytes;
 use hdfs_model::{
     Answer, Ask, AskFault, Block, Cluster, DatanodeId, DatanodeInfo, LastAnswer, LinkFault,
-    LocatedBlock, LocatedBlocks, OpenRead, OpenWrite, ReadAsk, Setup, Token, Transfer,
+    LocatedBlock, LocatedBlocks, OpenRead, OpenWrite, ReadAsk, ServerDefaults, Setup, Token,
+    Transfer,
 };
 use hdfs_wire::{
     Ack, Blob, ChecksumInfo, List, NoMemory, PacketHeader, ReadPacket, Text, WritePacket,
@@ -93,6 +94,15 @@ const SUMS: ChecksumInfo = ChecksumInfo {
     bytes_per_checksum: 512,
 };
 
+/// Data isn't encrypted on its way.
+const DEFAULTS: ServerDefaults = ServerDefaults {
+    block_size: 8,
+    bytes_per_checksum: 512,
+    write_packet_size: 65536,
+    replication: 1,
+    encrypt_data_transfer: false,
+};
+
 /// What is told of a read that is opened.
 fn opened(alloc: Global, ask: &ReadAsk, before: u64) -> Result<OpenRead, NoMemory>
     ensures { IfOk result (λ told. told ≡ record { ask = ask.now; checksums = Some SUMS; before = before }) }
@@ -162,6 +172,7 @@ fn two_blocks(alloc: Global) -> Result<LocatedBlocks, NoMemory>
         file_length: 8,
         blocks,
         under_construction: false,
+        encryption: None,
     })
 }
 
@@ -220,8 +231,12 @@ impl Cluster for FakeCluster {
         1
     }
 
-    /// It answers where a file lies, and has no memory for any other answer.
+    /// It answers where a file lies, and the defaults, and has no memory for any other answer.
     fn ask(&mut self, _i: u32, ask: &Ask) -> Result<Answer, AskFault> {
+        if matches!(ask, Ask::GetServerDefaults) {
+            self.last = LastAnswer::Fine;
+            return Ok(Answer::GetServerDefaults(DEFAULTS));
+        }
         let Ask::GetBlockLocations { .. } = ask else {
             self.last = LastAnswer::NoMemory;
             return Err(AskFault::NoMemory);

@@ -31,6 +31,7 @@ fn sizes(block_size: u64) -> WriteSizes
             rebuild_limit: 8,
             replace: ReplaceDatanodeOnFailure::new(Policy::Default, false),
         },
+        encrypted: false,
     }
 }
 

@@ -3,6 +3,8 @@
 
 #[cfg(test)]
 mod asking;
+#[cfg(test)]
+mod encrypted;
 mod fake_cluster;
 #[cfg(test)]
 mod falling_over;

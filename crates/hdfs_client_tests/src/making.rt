@@ -26,6 +26,13 @@ pub fn settings(alloc: Global) -> Result<Settings, Fail> {
 pub fn held(alloc: Global) -> Result<MemCluster, Fail>
     ensures { IfOk result (λ m. 0 < (shown_of m).namenodes) }
 {
+    holding(alloc, false)
+}
+
+/// A cluster that holds one file of four bytes, whose data may have to be encrypted.
+pub(crate) fn holding(alloc: Global, encrypted: bool) -> Result<MemCluster, Fail>
+    ensures { IfOk result (λ m. 0 < (shown_of m).namenodes) }
+{
     let mut store = cluster(alloc)?;
     store.load(Line::File {
         path: Text::from_str(alloc, "/a")?,
@@ -33,6 +40,7 @@ pub fn held(alloc: Global) -> Result<MemCluster, Fail>
             permission: 0o644,
             replication: 1,
             block_size: 8,
+            encrypted,
         },
         bytes: Blob::from_vec(vec![in alloc; 0, 1, 2, 3]?),
     })?;

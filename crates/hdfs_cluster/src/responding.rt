@@ -96,6 +96,7 @@ fn create(alloc: Global, space: &mut Namespace, ask: &Ask) -> Result<Answer, Ask
         permission: *masked,
         replication: *replication,
         block_size: *block_size,
+        encrypted: false,
     };
     let overwrite = *create_flag == OVERWRITE;
     let status = space.create(alloc, src.as_str(), attributes, overwrite, *create_parent)?;

@@ -34,6 +34,7 @@ fn a_prepared_store_takes_a_directory_and_cuts_a_file(rt: HostRuntime) -> Result
             permission: 0o644,
             replication: 1,
             block_size: 4,
+            encrypted: false,
         },
         bytes: Blob::from_vec(vec![in alloc; 0, 1, 2, 3, 4, 5, 6, 7, 8, 9]?),
     })?;

@@ -37,6 +37,7 @@ fn loaded(alloc: Global) -> Result<MemCluster, Fail>
             permission: 0o644,
             replication: 1,
             block_size: 16,
+            encrypted: false,
         },
         bytes: Blob::from_vec(bytes),
     })?;

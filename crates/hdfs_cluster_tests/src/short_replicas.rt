@@ -27,6 +27,7 @@ fn loaded(alloc: Global) -> Result<MemCluster, Fail> {
             permission: 0o644,
             replication: 2,
             block_size: 8,
+            encrypted: false,
         },
         bytes: Blob::from_vec(bytes),
     })?;

@@ -1,5 +1,5 @@
 -- A writer asks until its file is closed.
-use Rattle.std.proofs.Common.{◌≡◌, ◌≢◌, ◌⊎◌, ⊎_elim, inl, inr, ℕ, suc, ◌+◌, ◌<◌, ◌≤◌, List, Option, Some, None, refl, sym, ap, subst, arith}
+use Rattle.std.proofs.Common.{◌≡◌, ◌≢◌, ◌⊎◌, ⊎_elim, inl, inr, ℕ, suc, ◌+◌, ◌<◌, ◌≤◌, List, Option, Some, None, refl, sym, ◌∙◌, ap, subst, arith}
 use Rattle.std.specs.Prelude.{Result, Ok, Err, Bool, true, false}
 use Rattle.hdfs_model.specs.declared.asks.Answer.{Answer}
 use Rattle.hdfs_model.specs.declared.asks.Ask.{Ask}
@@ -16,7 +16,7 @@ use Rattle.hdfs_model.specs.Causes.{CallsRose}
 use Rattle.hdfs_model.specs.Counts.{CallsRoseTimes}
 use Rattle.hdfs_model.specs.Effects.{blocks_at}
 use Rattle.hdfs_model.specs.Picture.{Picture}
-use Rattle.hdfs_model.specs.Shown.{Shown}
+use Rattle.hdfs_model.specs.Shown.{SameNodes, Shown}
 use Rattle.hdfs_model.specs.Files.{File}
 use Rattle.hdfs_model.specs.Sound.{IsSound}
 use Rattle.hdfs_model.specs.Stores.{AgreesAt}
@@ -36,14 +36,16 @@ use Rattle.hdfs_files.proofs.Growing.{closed_agrees}
 use Rattle.hdfs_files.proofs.Joining.{calls_since, tells_since, tells_close}
 use Rattle.hdfs_files.proofs.Moving.{own_link_refl, own_link_trans, own_link_left, only_file_refl}
 use Rattle.hdfs_files.proofs.Steps.{Shows, as_done}
-use Rattle.hdfs_files.proofs.Telling.{tells_asked, asked_cause}
+use Rattle.hdfs_files.proofs.Telling.{tells_asked, apart_asked, asked_cause}
 use Rattle.hdfs_files.proofs.Times.{times_enough, times_more}
 
--- So many answers were false, each of which says that a namenode has failed, over any cluster; and the file is closed, or not yet.
+-- So many answers were false, each of which says that a namenode has failed, over any cluster, and no datanode has; and the file is closed, or
+-- not yet.
 pub record Asking (tries : ℕ) (a : Shown) (w : FileWriter) (b : Shown) : Type 0 where
   pub own : OnlyOwnLink a None b None
   pub last : (tries ≡ 0) ⊎ (b.last ≡ last_answers.Fine)
   pub times : CallsRoseTimes a.namenodes tries a.counts b.counts
+  pub nodes : SameNodes a b
   pub told : (p : Picture) (bytes : List ℕ) → a.picture ≡ Some p → (c : FileCarries p w.path (tail_done w.last) bytes)
       → (q : Picture) × (b.picture ≡ Some q) × IsAsked p w.path bytes w.last c.file q × ((tries ≡ 0) ⊎ CallsRose a.counts b)
 
@@ -105,6 +107,10 @@ module _ (a b : Shown) (w : FileWriter) (between : IsBetweenBlocks w) (sound : S
     rises_once : Leaves b c → CallsRose b.counts c → CallsRoseTimes a.namenodes (suc tries) a.counts c.counts
     rises_once left rose = times_more a.namenodes tries a.counts b.counts c.counts asking.times left.later.counts rose.0 (rises_below rose.0 rose.1 left) rose.2
 
+    -- no ask makes a datanode fail
+    pub asked_nodes : (result : Result Answer HdfsError) → Came b completing result c → SameNodes a c
+    asked_nodes result came d = came.relays.leaves.nodes d ∙ asking.nodes d
+
     -- one more was false
     pub asked_false : Came b completing (Ok (answers.Complete false)) c → Asking (tries + 1) a w c
     asked_false came = record {
@@ -113,6 +119,7 @@ module _ (a b : Shown) (w : FileWriter) (between : IsBetweenBlocks w) (sound : S
       times =
           let one : suc tries ≡ tries + 1 = omega arith in
           subst (λ (n : ℕ). CallsRoseTimes a.namenodes n a.counts c.counts) one (rises_once came.relays.leaves (came.relays.denied refl));
+      nodes = asked_nodes (Ok (answers.Complete false)) came;
       told = λ p bytes told carried.
           (let m = asked_more (Ok (answers.Complete false)) came p bytes told carried in
           let says = says_not (CallsRose b.counts c) p w.path bytes w.last carried.file client w.file_id m.0 m.3 m.1 m.4 m.5 in
@@ -147,12 +154,14 @@ module _ (a b : Shown) (w : FileWriter) (between : IsBetweenBlocks w) (sound : S
     pub asked_error : (error : HdfsError) → Came b completing (Err error) c → FailsToClose a w error c
     asked_error error came = record {
       own = own_link c (own_asked came.relays.leaves);
-      tells = tells_close w.path a c error (tells_since a b c error asking.own.later came.relays.leaves.later (tells_asked b c error came.relays.tells));
+      tells =
+          let apart = apart_asked b c error came.relays.tells in
+          tells_close w.path a c error apart (tells_since a b c error asking.own.later came.relays.leaves.later apart (tells_asked b c error came.relays.tells));
       touches = λ p bytes told carried.
           (let c' = known p bytes told carried in
           let m = asked_more (Err error) came p bytes told c' in
           (m.1, m.2, says_nothing (CallsRose b.counts c) p w.path bytes w.last c'.file client w.file_id m.0 m.3 m.1 error m.4 m.5));
-      cause = λ p bytes told carried. asked_cause w.sizes.rebuilding w.path a b c error came.relays.tells (λ some.
+      cause = λ p bytes told carried. asked_cause w.sizes w.path a b c error came.relays.tells (λ some.
           (let c' = known p bytes told carried in
           let m = asked_more (Err error) came p bytes told c' in
           calls_since a b c asking.own.later
@@ -165,6 +174,7 @@ asks_first a w = record {
   own = own_link_refl a None;
   last = inl refl;
   times = never_fall_refl a.counts;
+  nodes = λ d. refl;
   told = λ p bytes told c. (p, told, inl (record { kept = λ id. (refl, λ node. refl); only = only_file_refl w.path p; carried = c; same = refl }), inl refl);
 }
 

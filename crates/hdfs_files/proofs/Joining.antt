@@ -1,10 +1,11 @@
 -- How the calls of a writer of a file join.
-use Rattle.std.proofs.Common.{◌≡◌, ◌⊎◌, inl, inr, ℕ, ◌<◌, List, [], ◌++◌, length, Some, None, refl, sym, ◌∙◌, ap, subst, arith, append_assoc}
+use Rattle.std.proofs.Common.{◌≡◌, ◌⊎◌, inl, inr, ℕ, ◌<◌, true, List, [], ◌++◌, length, Some, None, refl, sym, ◌∙◌, ap, subst, arith, append_assoc}
 use Rattle.std.proofs.lemmas.List.{append-nil}
 use Rattle.std.specs.Prelude.{All, Any, slice_index_or}
 use Rattle.hdfs_model.specs.declared.attributes.Attributes.{Attributes}
 use Rattle.hdfs_model.specs.declared.errors.HdfsError.{HdfsError}
 use Rattle.hdfs_model.specs.declared.errors.HdfsError.TheVariants as errors
+use Rattle.hdfs_model.specs.declared.errors.Feature.TheVariants as features
 use Rattle.hdfs_model.specs.declared.errors.IoFault.TheVariants as io_faults
 use Rattle.hdfs_model.specs.declared.errors.TransferFault.TheVariants as transfer
 use Rattle.hdfs_model.specs.declared.picture.BlockEntry.{BlockEntry}
@@ -14,18 +15,17 @@ use Rattle.hdfs_model.specs.Counts.{Rose}
 use Rattle.hdfs_model.specs.Effects.{blocks_at}
 use Rattle.hdfs_model.specs.Files.{File}
 use Rattle.hdfs_model.specs.Picture.{Picture}
-use Rattle.hdfs_model.specs.Shown.{Shown, Later}
+use Rattle.hdfs_model.specs.Shown.{SameNodes, Shown, Later}
 use Rattle.hdfs_model.specs.Sound.{IsFileAt}
 use Rattle.hdfs_model.specs.Stores.{AgreesAt}
 use Rattle.hdfs_model.proofs.Frames.{rose_since}
-use Rattle.hdfs_recovery.specs.declared.block_plan.RebuildSettings.{RebuildSettings}
 use Rattle.hdfs_files.specs.declared.file_writer.FileWriter.{FileWriter}
 use Rattle.hdfs_files.specs.declared.sizes.WriteSizes.{WriteSizes}
-use Rattle.hdfs_files.specs.Failing.{TellsWrite, TellsClose, CauseOfWrite}
+use Rattle.hdfs_files.specs.Failing.{TellsWrite, TellsClose, CauseOfWrite, IsNoRefusal}
 use Rattle.hdfs_files.specs.OnlyFiles.{OnlyFile}
 use Rattle.hdfs_files.specs.Tails.{FileCarries}
 use Rattle.hdfs_files.specs.WholeBlocks.{ClosesWhole}
-use Rattle.hdfs_files.specs.Writers.{blocks_in, link_of, tail_of, Keeps, Wrote, Fails, FailsToClose, Closed, HasCause}
+use Rattle.hdfs_files.specs.Writers.{blocks_in, link_of, tail_of, Keeps, OnlyOwnLink, Wrote, Fails, FailsOtherwise, FailsToClose, Closed, HasCause}
 use Rattle.hdfs_files.proofs.Moving.{own_link_refl, own_link_trans, only_file_trans}
 use Rattle.hdfs_files.proofs.Steps.{carries_nothing, carries_trans, touches_behind}
 use Rattle.hdfs_files.proofs.Times.{times_since}
@@ -58,54 +58,37 @@ node_since a b c later node rose =
 pub calls_since : (a b c : Shown) → Later a b → CallsRose b.counts c → CallsRose a.counts c
 calls_since a b c later h = (h.0, h.1, rose_since (a.counts.calls h.0) (b.counts.calls h.0) (c.counts.calls h.0) (c.counts.calls h.0) (later.counts.calls h.0) h.2 (omega arith))
 
-pub tells_since : (a b c : Shown) (e : HdfsError) → Later a b → Later b c → TellsWrite b c e → TellsWrite a c e
-tells_since a b c errors.NoMemory later after h = tt
-tells_since a b c errors.Failed later after h = absurd h
-tells_since a b c (errors.IOError (io_faults.Namenode last)) later after h = (h.0, h.1, omega (arith, later.counts.calls last, h.2))
-tells_since a b c (errors.IOError io_faults.Link) later after h = rose_since a.counts.links b.counts.links c.counts.links c.counts.links later.counts.links h (omega arith)
-tells_since a b c (errors.DataTransferError (transfer.Read byte)) later after h = absurd h
-tells_since a b c (errors.DataTransferError transfer.Setup) later after h = rose_since a.counts.links b.counts.links c.counts.links c.counts.links later.counts.links h (omega arith)
-tells_since a b c (errors.DataTransferError transfer.AllNodes) later after h = (h.0, node_since a b c later h.0 h.1)
-tells_since a b c (errors.DataTransferError transfer.NoReplacement) later after h = (h.0, node_since a b c later h.0 h.1)
-tells_since a b c (errors.DataTransferError (transfer.RebuildLimit rebuilds)) later after h = (h.0, node_since a b c later h.0 h.1)
-tells_since a b c (errors.DataTransferError (transfer.BadAck seqno)) later after h = rose_since a.counts.links b.counts.links c.counts.links c.counts.links later.counts.links h (omega arith)
-tells_since a b c (errors.InvalidPath text) later after h = absurd h
-tells_since a b c (errors.InvalidArgument fault) later after h = absurd h
-tells_since a b c (errors.AlreadyExists message) later after h = h
-tells_since a b c (errors.OperationFailed name) later after h = absurd h
-tells_since a b c (errors.FileNotFound name) later after h = absurd h
-tells_since a b c (errors.RPCError class message) later after h = h
-tells_since a b c (errors.InvalidRPCResponse fault) later after h = (h.0, calls_since a b c later h.1)
-tells_since a b c (errors.FatalRPCError class message) later after h = (h.0, calls_since a b c later h.1)
+pub tells_since : (a b c : Shown) (e : HdfsError) → Later a b → Later b c → IsNoRefusal e → TellsWrite b c e → TellsWrite a c e
+tells_since a b c errors.NoMemory later after apart h = tt
+tells_since a b c errors.Failed later after apart h = absurd h
+tells_since a b c (errors.IOError (io_faults.Namenode last)) later after apart h = (h.0, h.1, omega (arith, later.counts.calls last, h.2))
+tells_since a b c (errors.IOError io_faults.Link) later after apart h = rose_since a.counts.links b.counts.links c.counts.links c.counts.links later.counts.links h (omega arith)
+tells_since a b c (errors.DataTransferError (transfer.Read byte)) later after apart h = absurd h
+tells_since a b c (errors.DataTransferError transfer.Setup) later after apart h = rose_since a.counts.links b.counts.links c.counts.links c.counts.links later.counts.links h (omega arith)
+tells_since a b c (errors.DataTransferError transfer.AllNodes) later after apart h = (h.0, node_since a b c later h.0 h.1)
+tells_since a b c (errors.DataTransferError transfer.NoReplacement) later after apart h = (h.0, node_since a b c later h.0 h.1)
+tells_since a b c (errors.DataTransferError (transfer.RebuildLimit rebuilds)) later after apart h = (h.0, node_since a b c later h.0 h.1)
+tells_since a b c (errors.DataTransferError (transfer.BadAck seqno)) later after apart h = rose_since a.counts.links b.counts.links c.counts.links c.counts.links later.counts.links h (omega arith)
+tells_since a b c (errors.InvalidPath text) later after apart h = absurd h
+tells_since a b c (errors.InvalidArgument fault) later after apart h = absurd h
+tells_since a b c (errors.AlreadyExists message) later after apart h = h
+tells_since a b c (errors.OperationFailed name) later after apart h = absurd h
+tells_since a b c (errors.FileNotFound name) later after apart h = absurd h
+tells_since a b c (errors.UnsupportedFeature feature) later after apart h = absurd apart
+tells_since a b c (errors.RPCError class message) later after apart h = h
+tells_since a b c (errors.InvalidRPCResponse fault) later after apart h = (h.0, calls_since a b c later h.1)
+tells_since a b c (errors.FatalRPCError class message) later after apart h = (h.0, calls_since a b c later h.1)
 
--- what a write tells a close tells
-pub tells_close : (path : List ℕ) (a b : Shown) (e : HdfsError) → TellsWrite a b e → TellsClose path a b e
-tells_close path a b errors.NoMemory h = h
-tells_close path a b errors.Failed h = h
-tells_close path a b (errors.IOError fault) h = h
-tells_close path a b (errors.DataTransferError fault) h = h
-tells_close path a b (errors.InvalidPath text) h = h
-tells_close path a b (errors.InvalidArgument fault) h = h
-tells_close path a b (errors.AlreadyExists message) h = h
-tells_close path a b (errors.OperationFailed name) h = absurd h
-tells_close path a b (errors.FileNotFound name) h = h
-tells_close path a b (errors.RPCError class message) h = h
-tells_close path a b (errors.InvalidRPCResponse fault) h = h
-tells_close path a b (errors.FatalRPCError class message) h = h
+-- what a write tells a close tells, but for a refusal
+pub tells_close : (path : List ℕ) (a b : Shown) (e : HdfsError) → IsNoRefusal e → TellsWrite a b e → TellsClose path a b e
+tells_close path a b (errors.OperationFailed name) apart h = absurd h
+tells_close path a b (errors.UnsupportedFeature feature) apart h = apart
+tells_close path a b e apart h = h
 
 close_since : (path : List ℕ) (a b c : Shown) (e : HdfsError) → Later a b → Later b c → TellsClose path b c e → TellsClose path a c e
-close_since path a b c errors.NoMemory later after h = tells_since a b c errors.NoMemory later after h
-close_since path a b c errors.Failed later after h = tells_since a b c errors.Failed later after h
-close_since path a b c (errors.IOError fault) later after h = tells_since a b c (errors.IOError fault) later after h
-close_since path a b c (errors.DataTransferError fault) later after h = tells_since a b c (errors.DataTransferError fault) later after h
-close_since path a b c (errors.InvalidPath text) later after h = tells_since a b c (errors.InvalidPath text) later after h
-close_since path a b c (errors.InvalidArgument fault) later after h = tells_since a b c (errors.InvalidArgument fault) later after h
-close_since path a b c (errors.AlreadyExists message) later after h = tells_since a b c (errors.AlreadyExists message) later after h
 close_since path a b c (errors.OperationFailed name) later after h = (h.0, h.1, times_since c.namenodes 5 a.counts b.counts c.counts later.counts h.2)
-close_since path a b c (errors.FileNotFound name) later after h = tells_since a b c (errors.FileNotFound name) later after h
-close_since path a b c (errors.RPCError class message) later after h = tells_since a b c (errors.RPCError class message) later after h
-close_since path a b c (errors.InvalidRPCResponse fault) later after h = tells_since a b c (errors.InvalidRPCResponse fault) later after h
-close_since path a b c (errors.FatalRPCError class message) later after h = tells_since a b c (errors.FatalRPCError class message) later after h
+close_since path a b c (errors.UnsupportedFeature feature) later after h = h
+close_since path a b c e later after h = tells_since a b c e later after tt h
 
 -- what is so of the last block of a file follows from what else is
 pub of_last_since : (c : Shown) (path : List ℕ) (P Q : BlockEntry → Type 0) → ((entry : BlockEntry) → P entry → Q entry) → OfLastBlock c path P
@@ -139,46 +122,66 @@ help_since : (a b c : Shown) → Later a b → Rose b.counts.links c.counts.link
 help_since a b c later (inl links) = inl (rose_since a.counts.links b.counts.links c.counts.links c.counts.links later.counts.links links (omega arith))
 help_since a b c later (inr calls) = inr (calls_since a b c later calls)
 
-pub cause_since : (settings : RebuildSettings) (path : List ℕ) (a b c : Shown) (e : HdfsError) → Later a b → CauseOfWrite settings path b c e
-    → CauseOfWrite settings path a c e
-cause_since settings path a b c errors.NoMemory later h = tt
-cause_since settings path a b c errors.Failed later h = tt
-cause_since settings path a b c (errors.IOError fault) later h = tt
-cause_since settings path a b c (errors.DataTransferError (transfer.Read byte)) later h = tt
-cause_since settings path a b c (errors.DataTransferError transfer.Setup) later h = tt
-cause_since settings path a b c (errors.DataTransferError transfer.AllNodes) later h = all_since path a b c later h
-cause_since settings path a b c (errors.DataTransferError transfer.NoReplacement) later h = (h.0, help_since a b c later h.1, some_since path a b c later h.2)
-cause_since settings path a b c (errors.DataTransferError (transfer.RebuildLimit rebuilds)) later h = (h.0, some_since path a b c later h.1)
-cause_since settings path a b c (errors.DataTransferError (transfer.BadAck seqno)) later h = tt
-cause_since settings path a b c (errors.InvalidPath text) later h = tt
-cause_since settings path a b c (errors.InvalidArgument fault) later h = tt
-cause_since settings path a b c (errors.AlreadyExists message) later h = calls_since a b c later h
-cause_since settings path a b c (errors.OperationFailed name) later h = calls_since a b c later h
-cause_since settings path a b c (errors.FileNotFound name) later h = tt
-cause_since settings path a b c (errors.RPCError class message) later h = calls_since a b c later h
-cause_since settings path a b c (errors.InvalidRPCResponse fault) later h = tt
-cause_since settings path a b c (errors.FatalRPCError class message) later h = tt
+pub cause_since : (sizes : WriteSizes) (path : List ℕ) (a b c : Shown) (e : HdfsError) → Later a b → CauseOfWrite sizes path b c e
+    → CauseOfWrite sizes path a c e
+cause_since sizes path a b c errors.NoMemory later h = tt
+cause_since sizes path a b c errors.Failed later h = tt
+cause_since sizes path a b c (errors.IOError fault) later h = tt
+cause_since sizes path a b c (errors.DataTransferError (transfer.Read byte)) later h = tt
+cause_since sizes path a b c (errors.DataTransferError transfer.Setup) later h = tt
+cause_since sizes path a b c (errors.DataTransferError transfer.AllNodes) later h = all_since path a b c later h
+cause_since sizes path a b c (errors.DataTransferError transfer.NoReplacement) later h = (h.0, help_since a b c later h.1, some_since path a b c later h.2)
+cause_since sizes path a b c (errors.DataTransferError (transfer.RebuildLimit rebuilds)) later h = (h.0, some_since path a b c later h.1)
+cause_since sizes path a b c (errors.DataTransferError (transfer.BadAck seqno)) later h = tt
+cause_since sizes path a b c (errors.InvalidPath text) later h = tt
+cause_since sizes path a b c (errors.InvalidArgument fault) later h = tt
+cause_since sizes path a b c (errors.AlreadyExists message) later h = calls_since a b c later h
+cause_since sizes path a b c (errors.OperationFailed name) later h = calls_since a b c later h
+cause_since sizes path a b c (errors.FileNotFound name) later h = tt
+cause_since sizes path a b c (errors.UnsupportedFeature feature) later h = h
+cause_since sizes path a b c (errors.RPCError class message) later h = calls_since a b c later h
+cause_since sizes path a b c (errors.InvalidRPCResponse fault) later h = tt
+cause_since sizes path a b c (errors.FatalRPCError class message) later h = tt
 
 has_cause_behind : (a b c : Shown) (w x : FileWriter) (one : List ℕ) (e : HdfsError) → Wrote a w one b x → HasCause b x e c → HasCause a w e c
 has_cause_behind a b c w x one e first then p bytes told carried =
     let f = first.carries p bytes told carried in
     let carried' = subst (λ (path : List ℕ). FileCarries f.0 path (tail_of x) (bytes ++ one)) (sym first.keeps.path) f.2 in
-    cause_since w.sizes.rebuilding w.path a b c e first.own.later
-    (subst (λ (s : WriteSizes). CauseOfWrite s.rebuilding w.path b c e) first.keeps.sizes
-    (subst (λ (path : List ℕ). CauseOfWrite x.sizes.rebuilding path b c e) first.keeps.path
+    cause_since w.sizes w.path a b c e first.own.later
+    (subst (λ (s : WriteSizes). CauseOfWrite s w.path b c e) first.keeps.sizes
+    (subst (λ (path : List ℕ). CauseOfWrite x.sizes path b c e) first.keeps.path
     (then f.0 (bytes ++ one) f.1 carried')))
 
 -- a call that fails behind others
-pub fails_after : (a b c : Shown) (w x : FileWriter) (one : List ℕ) (e : HdfsError) → Wrote a w one b x → Fails b x e c → Fails a w e c
+pub fails_after : (a b c : Shown) (w x : FileWriter) (one : List ℕ) (e : HdfsError) → Wrote a w one b x → FailsOtherwise b x e c → FailsOtherwise a w e c
 fails_after a b c w x one e first then = record {
-  own = own_link_trans a b c (link_of w) (link_of x) None first.own then.own;
-  tells = tells_since a b c e first.own.later then.own.later then.tells;
-  touches = touches_behind a b c w x one first.keeps.path first.carries then.touches;
-  cause = has_cause_behind a b c w x one e first then.cause;
+  fails = record {
+    own = own_link_trans a b c (link_of w) (link_of x) None first.own then.fails.own;
+    tells = tells_since a b c e first.own.later then.fails.own.later then.apart then.fails.tells;
+    touches = touches_behind a b c w x one first.keeps.path first.carries then.fails.touches;
+    cause = has_cause_behind a b c w x one e first then.fails.cause;
+  };
+  apart = then.apart;
 }
 
-pub fails_to_close : (a b : Shown) (w : FileWriter) (e : HdfsError) → Fails a w e b → FailsToClose a w e b
-fails_to_close a b w e fails = record { own = fails.own; tells = tells_close w.path a b e fails.tells; touches = fails.touches; cause = fails.cause }
+-- bytes are refused for encryption behind what touched no datanode
+pub refused : (a b : Shown) (w x : FileWriter) → Wrote a w [] b x → link_of x ≡ None → SameNodes a b → w.sizes.encrypted ≡ true
+    → Fails a w (errors.UnsupportedFeature features.Encryption) b
+refused a b w x wrote idle nodes encrypted = record {
+  own = subst (OnlyOwnLink a (link_of w) b) idle wrote.own;
+  tells = nodes;
+  touches = λ p bytes told carried. (let f = wrote.carries p bytes told carried in (f.0, f.1, f.3));
+  cause = λ p bytes told carried. encrypted;
+}
+
+-- a close fails where the end of the last block does
+pub fails_to_close : (a b : Shown) (w : FileWriter) (e : HdfsError) → FailsOtherwise a w e b → FailsToClose a w e b
+fails_to_close a b w e failed = record {
+  own = failed.fails.own;
+  tells = tells_close w.path a b e failed.apart failed.fails.tells;
+  touches = failed.fails.touches;
+  cause = failed.fails.cause;
+}
 
 pub fails_to_close_after : (a b c : Shown) (w x : FileWriter) (one : List ℕ) (e : HdfsError) → Wrote a w one b x → FailsToClose b x e c → FailsToClose a w e c
 fails_to_close_after a b c w x one e first then = record {

@@ -143,6 +143,7 @@ stands_beside a b w stays stands = record {
         chunk = going.chunk;
         packet_size = going.packet_size;
         settings = going.settings;
+        plain = going.plain;
       });
   is_open = stands.is_open;
   idle = stands.idle;

@@ -12,7 +12,7 @@ use Rattle.hdfs_model.specs.declared.messages.LocatedBlock.{LocatedBlock}
 use Rattle.hdfs_model.specs.declared.messages.Setup.{Setup}
 use Rattle.hdfs_model.specs.Namenode.{IsToWrite}
 use Rattle.hdfs_model.specs.Pipes.{WriteNotOpened}
-use Rattle.hdfs_model.specs.Shown.{Shown}
+use Rattle.hdfs_model.specs.Shown.{SameNodes, Shown}
 use Rattle.hdfs_model.specs.Sound.{IsSound}
 use Rattle.hdfs_recovery.specs.declared.block_plan.BlockPipeline.{BlockPipeline}
 use Rattle.hdfs_recovery.specs.declared.block_plan.RebuildSettings.{RebuildSettings}
@@ -24,20 +24,23 @@ use Rattle.hdfs_files.specs.declared.file_writer.FileWriter.{FileWriter}
 use Rattle.hdfs_files.specs.declared.sizes.WriteSizes.{WriteSizes}
 use Rattle.hdfs_files.specs.Faults.{error_of}
 use Rattle.hdfs_files.specs.Tails.{IsFull}
-use Rattle.hdfs_files.specs.Writers.{AreLimited, ArePackets, AreSizes, plan_of, link_of, link_by, tail_by, tail_of, Keeps, Stands, IsBetweenBlocks, HasRoom, BlockStands, OnlyOwnLink, Wrote, Fails}
+use Rattle.hdfs_files.specs.Writers.{AreLimited, ArePackets, AreSizes, plan_of, link_of, link_by, tail_by, tail_of, Keeps, Stands, IsBetweenBlocks, HasRoom, BlockStands, OnlyOwnLink, Wrote, Adds, FailsOtherwise}
 use Rattle.hdfs_files.proofs.Asked.{Came}
 use Rattle.hdfs_files.proofs.Moving.{own_link_refl, own_link_left, own_link_opened, own_link_unopened, only_file_refl}
 use Rattle.hdfs_files.proofs.Placing.{some_none}
-use Rattle.hdfs_files.proofs.Steps.{Shows, ended_carries, gave_up_touches, gave_up_cause, unopened_cause, wrote_carries, added_carries, opened_carries, settled_carries, unopened_touches, unopened_tells, unanswered_touches, unanswered_rose}
-use Rattle.hdfs_files.proofs.Telling.{tells_asked, tells_fault, asked_cause}
+use Rattle.hdfs_files.proofs.Steps.{Shows, ended_carries, gave_up_touches, gave_up_cause, unopened_cause, wrote_carries, added_carries, opened_carries, settled_carries, unopened_touches, unopened_tells, unopened_apart, unanswered_touches, unanswered_rose}
+use Rattle.hdfs_files.proofs.Telling.{tells_asked, apart_asked, tells_fault, apart_fault, asked_cause}
 
 -- there was no memory before anything was done
-pub starved_fails : (a : Shown) (w : FileWriter) → link_of w ≡ None → Fails a w errors.NoMemory a
+pub starved_fails : (a : Shown) (w : FileWriter) → link_of w ≡ None → FailsOtherwise a w errors.NoMemory a
 starved_fails a w idle = record {
-  own = subst (λ (x : Option ℕ). OnlyOwnLink a x a None) (sym idle) (own_link_refl a None);
-  tells = tt;
-  touches = λ p bytes told c. (p, told, only_file_refl w.path p);
-  cause = λ p bytes told c. tt;
+  fails = record {
+    own = subst (λ (x : Option ℕ). OnlyOwnLink a x a None) (sym idle) (own_link_refl a None);
+    tells = tt;
+    touches = λ p bytes told c. (p, told, only_file_refl w.path p);
+    cause = λ p bytes told c. tt;
+  };
+  apart = tt;
 }
 
 -- the writer of a block that hasn't failed has a pipeline
@@ -72,15 +75,18 @@ module _ (a b : Shown) (sound : Shows IsSound a) (sound' : Shows IsSound b) (w :
 
   -- its block was given up
   pub gave_up_fails : IsSome (block_link block) → block.settings ≡ w.sizes.rebuilding
-      → (fault : WriteFault) → GaveUp a block fault b → Fails a w (error_of fault) b
+      → (fault : WriteFault) → GaveUp a block fault b → FailsOtherwise a w (error_of fault) b
   gave_up_fails some same fault gave =
       let pipe = has_pipe block some in
       let gives = gave pipe.0 pipe.1 in
       record {
-        own = own_from None (subst (λ (x : Option ℕ). OnlyOwnLink a x b None) (sym (ap link_in pipe.1)) gives.own);
-        tells = tells_fault a b block.settings pipe.0.plan (IsCarrying block) fault gives.cause;
-        touches = gave_up_touches a b sound sound' w block going fault gave;
-        cause = λ p bytes told c. gave_up_cause a b sound sound' w block going same fault gave p bytes told c;
+        fails = record {
+          own = own_from None (subst (λ (x : Option ℕ). OnlyOwnLink a x b None) (sym (ap link_in pipe.1)) gives.own);
+          tells = tells_fault a b block.settings pipe.0.plan (IsCarrying block) fault gives.cause;
+          touches = gave_up_touches a b sound sound' w block going fault gave;
+          cause = λ p bytes told c. gave_up_cause a b sound sound' w block going same fault gave p bytes told c;
+        };
+        apart = apart_fault a b block.settings pipe.0.plan (IsCarrying block) fault gives.cause;
       }
 
   -- its block is no longer than a block of the file
@@ -111,6 +117,7 @@ module _ (a b : Shown) (sound : Shows IsSound a) (sound' : Shows IsSound b) (w :
           chunk = wrote.keeps.chunk ∙ (stands.going block going).chunk ∙ ap (λ (s : WriteSizes). s.chunk) (sym keeps.sizes);
           packet_size = wrote.keeps.packet_size ∙ (stands.going block going).packet_size ∙ ap (λ (s : WriteSizes). s.packet_size) (sym keeps.sizes);
           settings = wrote.keeps.settings ∙ (stands.going block going).settings ∙ ap (λ (s : WriteSizes). s.rebuilding) (sym keeps.sizes);
+          plain = ap (λ (s : WriteSizes). s.encrypted) keeps.sizes ∙ (stands.going block going).plain;
         }));
     is_open = λ fine'' other is.
         (let same : block' ≡ other = cc (going', is) in
@@ -130,20 +137,34 @@ idle_own a x w y none own = subst (λ (g : Option BlockWriter). OnlyOwnLink a (l
 
 -- a writer of a file that asks for a block
 module _ (a m : Shown) (sound : Shows IsSound a) (w : FileWriter) (between : IsBetweenBlocks w) (client : List ℕ) where
-  pub added_wrote : (found : LocatedBlock) → found.b.num_bytes ≡ 0 → IsFull w.sizes.block_size (tail_of w) → Came a (asks.AddBlock w.path client w.last [] w.file_id) (Ok (answers.AddBlock found)) m → Wrote a w [] m (record w { going = None; reopened = Some found })
+  added_wrote : (found : LocatedBlock) → found.b.num_bytes ≡ 0 → IsFull w.sizes.block_size (tail_of w) → Came a (asks.AddBlock w.path client w.last [] w.file_id) (Ok (answers.AddBlock found)) m → Wrote a w [] m (record w { going = None; reopened = Some found })
   added_wrote found empty full came = record {
     keeps = record { path = refl; file_id = refl; sizes = refl };
     own = idle_own a m w None between.none (own_link_left a m None came.relays.leaves);
     carries = added_carries a m sound w between client found empty full came;
   }
 
-  pub unanswered_fails : (error : HdfsError) → Came a (asks.AddBlock w.path client w.last [] w.file_id) (Err error) m → Fails a w error m
+  -- it has one more
+  pub answered_adds : (found : LocatedBlock) → IsFull w.sizes.block_size (tail_of w) → Came a (asks.AddBlock w.path client w.last [] w.file_id) (Ok (answers.AddBlock found)) m → Adds a w found m
+  answered_adds found full came = record {
+    block = came.relays.shaped.0;
+    empty = came.relays.shaped.1;
+    nodes = came.relays.leaves.nodes;
+    wrote = subst (λ (g : Option BlockWriter). Wrote a w [] m (record w { going = g; reopened = Some found })) (sym between.none)
+        (added_wrote found came.relays.shaped.1 full came);
+  }
+
+  -- or there was no answer
+  pub unanswered_fails : (error : HdfsError) → Came a (asks.AddBlock w.path client w.last [] w.file_id) (Err error) m → FailsOtherwise a w error m
   unanswered_fails error came = record {
-    own = idle_own a m w None between.none (own_link_left a m None came.relays.leaves);
-    tells = tells_asked a m error came.relays.tells;
-    touches = unanswered_touches a m sound w between client error came;
-    cause = λ p bytes told c.
-        asked_cause w.sizes.rebuilding w.path a a m error came.relays.tells (λ some. unanswered_rose a m sound w between client error some came p bytes told c);
+    fails = record {
+      own = idle_own a m w None between.none (own_link_left a m None came.relays.leaves);
+      tells = tells_asked a m error came.relays.tells;
+      touches = unanswered_touches a m sound w between client error came;
+      cause = λ p bytes told c.
+          asked_cause w.sizes w.path a a m error came.relays.tells (λ some. unanswered_rose a m sound w between client error some came p bytes told c);
+    };
+    apart = apart_asked a m error came.relays.tells;
   }
 
 -- a writer of a file that opens the pipeline of a block
@@ -158,20 +179,23 @@ module _ (m b : Shown) (w : FileWriter) (found : LocatedBlock) (none : w.going �
     carries = opened_carries m b w found none reopened w' block created settings size packet setup going' new opens begins;
   }
 
-  not_opened_fails : (setup : Setup) (fault : LinkFault) → WriteNotOpened m setup fault b → Fails m w (error_of (fault_of fault)) b
+  not_opened_fails : (setup : Setup) (fault : LinkFault) → WriteNotOpened m setup fault b → FailsOtherwise m w (error_of (fault_of fault)) b
   not_opened_fails setup fault not_opened = record {
-    own = idle_own m b w None none (own_link_unopened m b setup fault None not_opened);
-    tells = unopened_tells m b w found none reopened setup fault not_opened;
-    touches = unopened_touches m b w found none reopened setup fault not_opened;
-    cause = λ p bytes told c. unopened_cause w.sizes.rebuilding w.path m b fault;
+    fails = record {
+      own = idle_own m b w None none (own_link_unopened m b setup fault None not_opened);
+      tells = unopened_tells m b w found none reopened setup fault not_opened;
+      touches = unopened_touches m b w found none reopened setup fault not_opened;
+      cause = λ p bytes told c. unopened_cause w.sizes w.path m b fault;
+    };
+    apart = unopened_apart fault;
   }
 
-  pub unopened_fails : (setup : Setup) (fault : WriteFault) → OpensNone m setup fault b → Fails m w (error_of fault) b
+  pub unopened_fails : (setup : Setup) (fault : WriteFault) → OpensNone m setup fault b → FailsOtherwise m w (error_of fault) b
   unopened_fails setup fault opens = ⊎_elim
       (λ starved.
-      subst (λ (f : WriteFault). Fails m w (error_of f) b) (sym starved.0)
-      (subst (λ (x : Shown). Fails m w errors.NoMemory x) (sym starved.1) (starved_fails m w (ap link_by none))))
-      (λ n. subst (λ (f : WriteFault). Fails m w (error_of f) b) (sym n.1) (not_opened_fails setup n.0 n.2))
+      subst (λ (f : WriteFault). FailsOtherwise m w (error_of f) b) (sym starved.0)
+      (subst (λ (x : Shown). FailsOtherwise m w errors.NoMemory x) (sym starved.1) (starved_fails m w (ap link_by none))))
+      (λ n. subst (λ (f : WriteFault). FailsOtherwise m w (error_of f) b) (sym n.1) (not_opened_fails setup n.0 n.2))
       opens
 
 -- a block that isn't gone on with is done
@@ -183,9 +207,9 @@ settled_wrote a w w' found keeps none reopened between last = record {
 }
 
 -- a writer of a file whose block was begun
-pub begun_stands : (b m : Shown) (w w' : FileWriter) (block : BlockWriter) (found : LocatedBlock) (created : Bool) (setup : Setup) → AreSizes w.sizes → w'.failed ≡ false → w'.sizes ≡ w.sizes → w'.going ≡ Some block → w'.reopened ≡ None
+pub begun_stands : (b m : Shown) (w w' : FileWriter) (block : BlockWriter) (found : LocatedBlock) (created : Bool) (setup : Setup) → AreSizes w.sizes → w.sizes.encrypted ≡ false → w'.failed ≡ false → w'.sizes ≡ w.sizes → w'.going ≡ Some block → w'.reopened ≡ None
     → StandsItself b block → IsNew (plan_of w found created) w.sizes.rebuilding w.sizes.block_size w.sizes.packet_size block → OpensLink m setup block b → Stands b w'
-begun_stands b m w w' block found created setup sizes fine same going done itself new opens = record {
+begun_stands b m w w' block found created setup sizes plain fine same going done itself new opens = record {
   packets = subst (λ (s : WriteSizes). ArePackets s) (sym same) sizes.packets;
   going = λ other is.
       (let one : block ≡ other = cc (going, is) in
@@ -196,6 +220,7 @@ begun_stands b m w w' block found created setup sizes fine same going done itsel
         chunk = new.chunk ∙ ap (λ (s : WriteSizes). s.chunk) (sym same);
         packet_size = new.packet_size ∙ ap (λ (s : WriteSizes). s.packet_size) (sym same);
         settings = new.with ∙ ap (λ (s : WriteSizes). s.rebuilding) (sym same);
+        plain = ap (λ (s : WriteSizes). s.encrypted) same ∙ plain;
       }));
   is_open = λ fine' other is.
       (let one : block ≡ other = cc (going, is) in
@@ -222,6 +247,26 @@ full_without_room shown w stands fine never long = by_parts w.going w.reopened w
         subst (λ (x : Option LocatedBlock). IfSome x (λ found. w.sizes.block_size ≤ found.b.num_bytes)) reopened long
     by_parts None None (Some block) going reopened last = absurd (let none : w.last ≡ None = stands.done fine going in cc (none, last))
     by_parts None None None going reopened last = tt
+
+-- no datanode has failed where nothing was done
+pub same_nodes : (a b : Shown) → b ≡ a → SameNodes a b
+same_nodes a b same d = ap (λ (x : Shown). x.counts.nodes d) same
+
+-- no block is being written where data is to be encrypted
+pub encrypted_none : (shown : Shown) (w : FileWriter) → Stands shown w → w.sizes.encrypted ≡ true → w.going ≡ None
+encrypted_none shown w stands encrypted = by_going w.going refl
+  where
+    by_going : (g : Option BlockWriter) → w.going ≡ g → g ≡ None
+    by_going None is = refl
+    by_going (Some block) is = absurd (false≢true (sym (stands.going block is).plain ∙ encrypted))
+
+-- and none by a writer that hasn't failed and keeps no link
+pub idle_none : (shown : Shown) (w : FileWriter) → Stands shown w → w.failed ≡ false → link_of w ≡ None → w.going ≡ None
+idle_none shown w stands fine idle = by_going w.going refl idle
+  where
+    by_going : (g : Option BlockWriter) → w.going ≡ g → link_by g ≡ None → g ≡ None
+    by_going None is none = refl
+    by_going (Some block) is none = absurd (some_none (block_link block) (stands.is_open fine block is) none)
 
 -- the least of two that are some is some
 pub min_some : (n a b : ℕ) → n ≡ min a b → 0 < a → 0 < b → (0 < n) × (n ≤ a)

@@ -29,12 +29,12 @@ use Rattle.hdfs_recovery.specs.declared.block_plan.WriteFault.{WriteFault}
 use Rattle.hdfs_recovery.proofs.Stepping.{only_block_of-only}
 use Rattle.hdfs_block_writer.specs.declared.block_writer.BlockWriter.{BlockWriter}
 use Rattle.hdfs_block_writer.specs.BlockWriters.{HasFailed, length_of}
-use Rattle.hdfs_block_writer.specs.OpenPipelines.{KeepsBlock, id_of, nodes_of}
+use Rattle.hdfs_block_writer.specs.OpenPipelines.{HasCause, KeepsBlock, id_of, nodes_of}
 use Rattle.hdfs_block_writer.specs.Written.{Closes, GaveUp, IsCarrying, LetsGo, Wrote, IsNew, OpensLink, BeginsWhole, fault_of}
 use Rattle.hdfs_block_writer.proofs.Wrote.{pipe_is}
 use Rattle.hdfs_files.specs.declared.file_writer.FileWriter.{FileWriter}
 use Rattle.hdfs_files.specs.declared.sizes.WriteSizes.{WriteSizes}
-use Rattle.hdfs_files.specs.Failing.{TellsWrite, CauseOfWrite}
+use Rattle.hdfs_files.specs.Failing.{TellsWrite, CauseOfWrite, IsNoRefusal}
 use Rattle.hdfs_files.specs.Faults.{error_of}
 use Rattle.hdfs_files.specs.OnlyFiles.{OnlyFile, SameFile}
 use Rattle.hdfs_files.specs.Tails.{Tail, Finished, Reopened, Going, tail_length, IsFull, FillsBlocks, StoresFront, TailCarries, FileCarries}
@@ -68,10 +68,16 @@ carries_nothing a writer p bytes told c = (
 )
 
 -- no fault of a set-up is that of a pipeline
-pub unopened_cause : (settings : RebuildSettings) (path : List ℕ) (a b : Shown) (fault : LinkFault) → CauseOfWrite settings path a b (error_of (fault_of fault))
-unopened_cause settings path a b link_faults.NoMemory = tt
-unopened_cause settings path a b link_faults.Broken = tt
-unopened_cause settings path a b link_faults.Refused = tt
+pub unopened_cause : (sizes : WriteSizes) (path : List ℕ) (a b : Shown) (fault : LinkFault) → CauseOfWrite sizes path a b (error_of (fault_of fault))
+unopened_cause sizes path a b link_faults.NoMemory = tt
+unopened_cause sizes path a b link_faults.Broken = tt
+unopened_cause sizes path a b link_faults.Refused = tt
+
+-- and none is for encryption
+pub unopened_apart : (fault : LinkFault) → IsNoRefusal (error_of (fault_of fault))
+unopened_apart link_faults.NoMemory = tt
+unopened_apart link_faults.Broken = tt
+unopened_apart link_faults.Refused = tt
 
 -- what is carried between blocks
 pub as_done : (writer : FileWriter) → IsBetweenBlocks writer → (p : Picture) (path bytes : List ℕ) → FileCarries p path (tail_of writer) bytes → FileCarries p path (tail_done writer.last) bytes
@@ -125,16 +131,16 @@ module _ (a b : Shown) (sound : Shows IsSound a) (sound' : Shows IsSound b) (wri
 
   -- and for its cause
   pub gave_up_cause : block.settings ≡ writer.sizes.rebuilding → (fault : WriteFault) → GaveUp a block fault b → (p : Picture) (bytes : List ℕ)
-      → a.picture ≡ Some p → FileCarries p writer.path (tail_of writer) bytes → CauseOfWrite writer.sizes.rebuilding writer.path a b (error_of fault)
+      → a.picture ≡ Some p → FileCarries p writer.path (tail_of writer) bytes → CauseOfWrite writer.sizes writer.path a b (error_of fault)
   gave_up_cause same fault gave p bytes told c =
       let c' = as_going p bytes c in
       let own = c'.carries.1 in
       let gives = gave own.pipe own.is in
       let carrying : IsCarrying block p = (c'.carries.0, own) in
       let only = gives.touches p told carrying in
-      subst (λ (r : RebuildSettings). CauseOfWrite r writer.path a b (error_of fault)) same
-      (fault_cause a b writer.path c'.file c'.carries.3.front own.pipe.plan c'.carries.3.ends only.0 only.1
-      (only.2.names writer.path ∙ c'.named) (IsCarrying block) p told carrying block.settings fault gives.cause)
+      fault_cause a b writer.path c'.file c'.carries.3.front own.pipe.plan c'.carries.3.ends only.0 only.1
+      (only.2.names writer.path ∙ c'.named) (IsCarrying block) p told carrying writer.sizes fault
+      (subst (λ (r : RebuildSettings). HasCause r own.pipe.plan (IsCarrying block) a fault b) same gives.cause)
 
   -- more bytes went into it
   pub wrote_carries : (writer' : FileWriter) (block' : BlockWriter) (more : List ℕ) → writer'.going ≡ Some block' → length_of block' ≤ writer.sizes.block_size → Wrote a block more b block' → CarriesMore a writer more b writer'

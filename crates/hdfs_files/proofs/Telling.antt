@@ -19,7 +19,8 @@ use Rattle.hdfs_recovery.specs.declared.block_plan.WriteFault.TheVariants as fau
 use Rattle.hdfs_recovery.specs.Between.{HasLastError}
 use Rattle.hdfs_block_writer.specs.OpenPipelines.{AllListedFail, HasCause, ListedFails, NamenodeFails}
 use Rattle.hdfs_block_writer.proofs.Failures.{some_fails}
-use Rattle.hdfs_files.specs.Failing.{TellsWrite, CauseOfWrite}
+use Rattle.hdfs_files.specs.declared.sizes.WriteSizes.{WriteSizes}
+use Rattle.hdfs_files.specs.Failing.{TellsWrite, CauseOfWrite, IsNoRefusal}
 use Rattle.hdfs_files.specs.Faults.{error_of}
 
 -- an error of an ask, as it is told
@@ -32,16 +33,21 @@ tells_asked a b (errors.InvalidRPCResponse fault) tells = tells
 tells_asked a b (errors.FatalRPCError class message) tells = tells
 tells_asked a b error tells = absurd tells
 
+-- it is none for encryption
+pub apart_asked : (a b : Shown) (error : HdfsError) → TellsAsk a b error → IsNoRefusal error
+apart_asked a b (errors.UnsupportedFeature feature) tells = tells
+apart_asked a b error tells = tt
+
 -- and where it has its cause, from an earlier call on
-pub asked_cause : (settings : RebuildSettings) (path : List ℕ) (a b c : Shown) (error : HdfsError) → TellsAsk b c error
-    → ((error ≡ errors.NoMemory → ⊥) → CallsRose a.counts c) → CauseOfWrite settings path a c error
-asked_cause settings path a b c errors.NoMemory tells rose = tt
-asked_cause settings path a b c (errors.AlreadyExists message) tells rose = rose (λ same. absurd (cc same))
-asked_cause settings path a b c (errors.RPCError class message) tells rose = rose (λ same. absurd (cc same))
-asked_cause settings path a b c (errors.IOError fault) tells rose = tt
-asked_cause settings path a b c (errors.InvalidRPCResponse fault) tells rose = tt
-asked_cause settings path a b c (errors.FatalRPCError class message) tells rose = tt
-asked_cause settings path a b c error tells rose = absurd tells
+pub asked_cause : (sizes : WriteSizes) (path : List ℕ) (a b c : Shown) (error : HdfsError) → TellsAsk b c error
+    → ((error ≡ errors.NoMemory → ⊥) → CallsRose a.counts c) → CauseOfWrite sizes path a c error
+asked_cause sizes path a b c errors.NoMemory tells rose = tt
+asked_cause sizes path a b c (errors.AlreadyExists message) tells rose = rose (λ same. absurd (cc same))
+asked_cause sizes path a b c (errors.RPCError class message) tells rose = rose (λ same. absurd (cc same))
+asked_cause sizes path a b c (errors.IOError fault) tells rose = tt
+asked_cause sizes path a b c (errors.InvalidRPCResponse fault) tells rose = tt
+asked_cause sizes path a b c (errors.FatalRPCError class message) tells rose = tt
+asked_cause sizes path a b c error tells rose = absurd tells
 
 -- what a fault tells by its cause
 pub tells_fault : (a b : Shown) (settings : RebuildSettings) (plan : BlockPlan) (W : Picture → Type 0) (fault : WriteFault)
@@ -55,6 +61,12 @@ tells_fault a b settings plan W faults.AllNodes cause = cause.0
 tells_fault a b settings plan W faults.NoReplacement cause = cause.1
 tells_fault a b settings plan W (faults.RebuildLimit rebuilds) cause = some_fails (settings.rebuild_limit - plan.rebuilds) a b cause.1
 tells_fault a b settings plan W (faults.Namenode error) cause = tells_asked a b error cause.1
+
+-- and none is for encryption
+pub apart_fault : (a b : Shown) (settings : RebuildSettings) (plan : BlockPlan) (W : Picture → Type 0) (fault : WriteFault)
+    → HasCause settings plan W a fault b → IsNoRefusal (error_of fault)
+apart_fault a b settings plan W (faults.Namenode error) cause = apart_asked a b error cause.1
+apart_fault a b settings plan W fault cause = tt
 
 -- A block was given up over a picture, and is the last one of the file at a path still.
 module _ (a b : Shown) (path : List ℕ) (file : FileEntry) (front : List ℕ) (plan : BlockPlan) (ends : file.blocks ≡ front ++ plan.block.b.block_id ∷ []) (q : Picture)
@@ -96,14 +108,14 @@ module _ (a b : Shown) (path : List ℕ) (file : FileEntry) (front : List ℕ) (
   help_failed (inr namenode) = inr (namenode.0 p told w)
 
   -- it was for this cause
-  pub fault_cause : (settings : RebuildSettings) (fault : WriteFault) → HasCause settings plan W a fault b → CauseOfWrite settings path a b (error_of fault)
-  fault_cause settings faults.NoMemory cause = tt
-  fault_cause settings faults.Failed cause = tt
-  fault_cause settings faults.Link cause = tt
-  fault_cause settings faults.Setup cause = tt
-  fault_cause settings (faults.BadAck seqno) cause = tt
-  fault_cause settings faults.AllNodes cause = all_failed cause.1
-  fault_cause settings faults.NoReplacement cause = (cause.0, help_failed cause.2, listed_failed cause.3)
-  fault_cause settings (faults.RebuildLimit rebuilds) cause = (cause.0, listed_failed cause.2)
-  fault_cause settings (faults.Namenode error) cause =
-      asked_cause settings path a a b error cause.1 (λ some. cause.3 p told w)
+  pub fault_cause : (sizes : WriteSizes) (fault : WriteFault) → HasCause sizes.rebuilding plan W a fault b → CauseOfWrite sizes path a b (error_of fault)
+  fault_cause sizes faults.NoMemory cause = tt
+  fault_cause sizes faults.Failed cause = tt
+  fault_cause sizes faults.Link cause = tt
+  fault_cause sizes faults.Setup cause = tt
+  fault_cause sizes (faults.BadAck seqno) cause = tt
+  fault_cause sizes faults.AllNodes cause = all_failed cause.1
+  fault_cause sizes faults.NoReplacement cause = (cause.0, help_failed cause.2, listed_failed cause.3)
+  fault_cause sizes (faults.RebuildLimit rebuilds) cause = (cause.0, listed_failed cause.2)
+  fault_cause sizes (faults.Namenode error) cause =
+      asked_cause sizes path a a b error cause.1 (λ some. cause.3 p told w)

@@ -1,12 +1,12 @@
 //! Writes a file, block by block.
-ghost use Rattle.std.specs.Prelude.{◌≡◌, ◌<◌, ◌≤◌, [], true, false, length, take, None, Some, Err, IsTrue, ◌↔◌, IfOk, IfErr, IfSome, OnOk, OnErr};
-ghost use Rattle.hdfs_model.specs.Shown.{Shown};
+ghost use Rattle.std.specs.Prelude.{◌≡◌, ◌≢◌, ◌<◌, ◌≤◌, [], true, false, length, take, None, Some, Err, IsTrue, ◌↔◌, IfOk, IfErr, IfSome, OnOk, OnErr};
+ghost use Rattle.hdfs_model.specs.Shown.{SameNodes, Shown};
 ghost use Rattle.hdfs_model.specs.declared.errors.HdfsError.TheVariants as errors;
 
 use crate::faults::error_of;
 use crate::sizes::WriteSizes;
 use hdfs_block_writer::{BlockPlan, BlockWriter};
-use hdfs_model::{ArgFault, Block, Cluster, HdfsError, LocatedBlock};
+use hdfs_model::{ArgFault, Block, Cluster, Feature, HdfsError, LocatedBlock};
 use hdfs_namenode::NamenodeProtocol;
 use hdfs_wire::{NoMemory, Text};
 use std::alloc::Global;
@@ -36,7 +36,7 @@ impl FileWriter {
     ghost use Rattle.hdfs_namenode.specs.Clients.{SameClient, proxy_of};
     ghost use Rattle.hdfs_files.specs.Tails.{Bare, IsFull};
     ghost use Rattle.hdfs_model.specs.Namenode.{IsToWrite};
-    ghost use Rattle.hdfs_files.specs.Writers.{plan_of, AreLimited, ArePackets, AreSizes, path_of, file_id_of, sizes_of, has_failed, link_of, tail_of, tail_opened, IsAtWork, MayBegin, IsIdle, Stands, Keeps, IsBetweenBlocks, HasRoom, OnlyOwnLink, LeavesFile, Wrote, Closed, Fails, FailsToClose};
+    ghost use Rattle.hdfs_files.specs.Writers.{plan_of, AreLimited, ArePackets, AreSizes, path_of, file_id_of, sizes_of, has_failed, link_of, tail_of, tail_opened, IsAtWork, MayBegin, IsIdle, Stands, Keeps, IsBetweenBlocks, HasRoom, OnlyOwnLink, LeavesFile, Wrote, Adds, Closed, Fails, FailsOtherwise, FailsToClose};
 
     /// A writer of a file that was just created at `path`, which has the size of blocks that `sizes` says. `file_id` is the id that
     /// the namenode told.
@@ -98,11 +98,11 @@ impl FileWriter {
         requires stands { Stands (C.shown cluster.old) self.old }
         requires fine { self.old.failed ≡ false }
         ensures keeps { Keeps self.old self.new × (self.new.failed ≡ false) × SameClient namenode.old namenode.new }
-        ensures between { OnOk result (IsBetweenBlocks self.new) }
-        ensures full { OnOk result (IsFull self.old.sizes.block_size (tail_of self.old)
-            → IsFull self.old.sizes.block_size (tail_of self.new)) }
+        ensures between { OnOk result (IsBetweenBlocks self.new × (IsFull self.old.sizes.block_size (tail_of self.old)
+            → IsFull self.old.sizes.block_size (tail_of self.new))) }
+        ensures idle { self.old.going ≡ None → cluster.new ≡ cluster.old }
         ensures wrote { OnOk result (Wrote (C.shown cluster.old) self.old [] (C.shown cluster.new) self.new) }
-        ensures err { IfErr result (λ error. Fails (C.shown cluster.old) self.old error (C.shown cluster.new)) }
+        ensures err { IfErr result (λ error. FailsOtherwise (C.shown cluster.old) self.old error (C.shown cluster.new)) }
     {
         match self.reopened.take() {
             Some(located) => {
@@ -153,7 +153,7 @@ impl FileWriter {
         ensures stands { OnOk result (Stands (C.shown cluster.new) self.new × HasRoom self.new) }
         ensures wrote { OnOk result (Wrote (C.shown cluster.old) (record self.old { reopened = Some located }) []
             (C.shown cluster.new) self.new) }
-        ensures err { IfErr result (λ error. Fails (C.shown cluster.old) (record self.old { reopened = Some located }) error
+        ensures err { IfErr result (λ error. FailsOtherwise (C.shown cluster.old) (record self.old { reopened = Some located }) error
             (C.shown cluster.new)) }
     {
         let plan = match self.plan(located, created) {
@@ -177,6 +177,31 @@ impl FileWriter {
         }
     }
 
+    /// Asks for a block behind those that are done, the last of which is full.
+    fn next_block<C: Cluster>(
+        &self,
+        cluster: &mut C,
+        namenode: &mut NamenodeProtocol,
+    ) -> Result<LocatedBlock, HdfsError>
+        requires reaches { ReachesAll (proxy_of namenode.old) (C.shown cluster.old) }
+        requires between { IsBetweenBlocks self.now }
+        requires full { IsFull self.now.sizes.block_size (tail_of self.now) }
+        ensures adds { IfOk result (λ located. Adds (C.shown cluster.old) self.now located (C.shown cluster.new)) }
+        ensures err { IfErr result (λ error. FailsOtherwise (C.shown cluster.old) self.now error (C.shown cluster.new)) }
+        ensures client { SameClient namenode.old namenode.new }
+    {
+        match namenode.add_block(
+            cluster,
+            self.path.as_str(),
+            self.last.as_ref(),
+            &[],
+            self.file_id,
+        ) {
+            Ok(located) => Ok(located),
+            Err(error) => Err(error),
+        }
+    }
+
     /// Begins a block behind those that are done, the last of which is full.
     fn begin_block<C: Cluster>(
         &mut self,
@@ -190,15 +215,9 @@ impl FileWriter {
         ensures keeps { Keeps self.old self.new × SameClient namenode.old namenode.new }
         ensures stands { OnOk result (Stands (C.shown cluster.new) self.new × HasRoom self.new) }
         ensures wrote { OnOk result (Wrote (C.shown cluster.old) self.old [] (C.shown cluster.new) self.new) }
-        ensures err { IfErr result (λ error. Fails (C.shown cluster.old) self.old error (C.shown cluster.new)) }
+        ensures err { IfErr result (λ error. FailsOtherwise (C.shown cluster.old) self.old error (C.shown cluster.new)) }
     {
-        let located = match namenode.add_block(
-            cluster,
-            self.path.as_str(),
-            self.last.as_ref(),
-            &[],
-            self.file_id,
-        ) {
+        let located = match self.next_block(cluster, namenode) {
             Ok(located) => located,
             Err(error) => return Err(error),
         };
@@ -236,7 +255,7 @@ impl FileWriter {
         ensures keeps { Keeps self.old self.new }
         ensures stands { OnOk result (Stands (C.shown cluster.new) self.new × HasRoom self.new) }
         ensures wrote { OnOk result (Wrote (C.shown cluster.old) self.old [] (C.shown cluster.new) self.new) }
-        ensures err { IfErr result (λ error. Fails (C.shown cluster.old) self.old error (C.shown cluster.new)) }
+        ensures err { IfErr result (λ error. FailsOtherwise (C.shown cluster.old) self.old error (C.shown cluster.new)) }
         ensures client { SameClient namenode.old namenode.new }
     {
         if self.has_room() {
@@ -284,7 +303,7 @@ impl FileWriter {
         ensures stands { OnOk result (Stands (C.shown cluster.new) self.new) }
         ensures count { IfOk result (λ n. (0 < n) × (n ≤ length bytes.now)) }
         ensures wrote { IfOk result (λ n. Wrote (C.shown cluster.old) self.old (take n bytes.now) (C.shown cluster.new) self.new) }
-        ensures err { IfErr result (λ error. Fails (C.shown cluster.old) self.old error (C.shown cluster.new)) }
+        ensures err { IfErr result (λ error. FailsOtherwise (C.shown cluster.old) self.old error (C.shown cluster.new)) }
         ensures keeps { Keeps self.old self.new × (self.new.failed ≡ false) × SameClient namenode.old namenode.new }
     {
         match self.make_room(cluster, namenode) {
@@ -309,7 +328,8 @@ impl FileWriter {
     /// was to be added in the place of one that failed, none could be, and the settings don't let a write go on without it;
     /// `DataTransferError(RebuildLimit)` where a pipeline has failed that was rebuilt as often as the settings say;
     /// `DataTransferError(BadAck)` where an acknowledgement wasn't due; `RPCError` and `AlreadyExists` with a namenode's exception;
-    /// `IOError(Namenode)`, `InvalidRPCResponse` and `FatalRPCError` where no namenode gave an answer.
+    /// `IOError(Namenode)`, `InvalidRPCResponse` and `FatalRPCError` where no namenode gave an answer; `UnsupportedFeature(Encryption)` for
+    /// any byte where the cluster wants data encrypted on its way, behind the ask for its block.
     /// After an error the writer has failed, and its link is ended.
     pub fn write<C: Cluster>(
         &mut self,
@@ -321,7 +341,8 @@ impl FileWriter {
         requires stands { Stands (C.shown cluster.old) self.old }
 
         ensures stands { Stands (C.shown cluster.new) self.new × Keeps self.old self.new × SameClient namenode.old namenode.new }
-        ensures count { IfOk result (λ n. (n ≡ length bytes.now) × AreLimited (sizes_of self.old)) }
+        ensures count { IfOk result (λ n. (n ≡ length bytes.now) × AreLimited (sizes_of self.old)
+            × (bytes.now ≢ [] → (sizes_of self.old).encrypted ≡ false)) }
         ensures idle { IsIdle self.old bytes.now cluster.old result self.new cluster.new }
         ensures fails { (OnOk result (has_failed self.new ≡ false)) × (OnErr result (has_failed self.new ≡ true)) }
 
@@ -337,6 +358,14 @@ impl FileWriter {
         if !self.sizes.are_limited() {
             self.let_go();
             return Err(HdfsError::InvalidArgument(ArgFault::Options));
+        }
+        if bytes.is_empty() {
+            return Ok(0);
+        }
+        if self.sizes.encrypted {
+            let error = self.refuse(cluster, namenode);
+            self.let_go();
+            return Err(error);
         }
         match self.write_all(cluster, namenode, bytes) {
             Ok(()) => Ok(bytes.len()),
@@ -356,6 +385,30 @@ impl FileWriter {
         self.going = None;
     }
 
+    /// Why no byte is taken where data is to be encrypted. A block that has room for a byte is asked for first, where none is to be gone
+    /// on with that has.
+    fn refuse<C: Cluster>(&mut self, cluster: &mut C, namenode: &mut NamenodeProtocol) -> HdfsError
+        requires reaches { ReachesAll (proxy_of namenode.old) (C.shown cluster.old) }
+        requires stands { Stands (C.shown cluster.old) self.old }
+        requires fine { self.old.failed ≡ false }
+        requires encrypted { self.old.sizes.encrypted ≡ true }
+        ensures keeps { Keeps self.old self.new × SameClient namenode.old namenode.new }
+        ensures fails { Fails (C.shown cluster.old) self.old result (C.shown cluster.new) }
+    {
+        match self.take_reopened() {
+            Some(_) => return HdfsError::UnsupportedFeature(Feature::Encryption),
+            None => {}
+        }
+        match self.finish_block(cluster, namenode) {
+            Ok(()) => {}
+            Err(error) => return error,
+        }
+        match self.next_block(cluster, namenode) {
+            Ok(_) => HdfsError::UnsupportedFeature(Feature::Encryption),
+            Err(error) => error,
+        }
+    }
+
     /// Takes the bytes.
     fn write_all<C: Cluster>(
         &mut self,
@@ -368,9 +421,8 @@ impl FileWriter {
         ensures fine { self.new.failed ≡ false }
         ensures stands { OnOk result (Stands (C.shown cluster.new) self.new) }
         ensures wrote { OnOk result (Wrote (C.shown cluster.old) self.old bytes.now (C.shown cluster.new) self.new) }
-        ensures err { IfErr result (λ error. Fails (C.shown cluster.old) self.old error (C.shown cluster.new)) }
+        ensures err { IfErr result (λ error. FailsOtherwise (C.shown cluster.old) self.old error (C.shown cluster.new)) }
         ensures keeps { Keeps self.old self.new × SameClient namenode.old namenode.new }
-        ensures none { bytes.now ≡ [] → cluster.new ≡ cluster.old }
     {
         let mut rest = bytes;
         'blocks: while !rest.is_empty() {
@@ -392,6 +444,7 @@ impl FileWriter {
         requires between { IsBetweenBlocks self.now }
         ensures closed { OnOk result (Closed (C.shown cluster.old) self.now (C.shown cluster.new)) }
         ensures err { IfErr result (λ error. FailsToClose (C.shown cluster.old) self.now error (C.shown cluster.new)) }
+        ensures nodes { SameNodes (C.shown cluster.old) (C.shown cluster.new) }
         ensures client { SameClient namenode.old namenode.new }
     {
         for _ in 0..COMPLETE_RETRIES {
@@ -431,6 +484,7 @@ impl FileWriter {
         ensures closed { OnOk result (Closed (C.shown cluster.old) self (C.shown cluster.new)) }
         ensures err { IfErr result (λ error. has_failed self ≡ false
             → FailsToClose (C.shown cluster.old) self error (C.shown cluster.new)) }
+        ensures idle { link_of self ≡ None → SameNodes (C.shown cluster.old) (C.shown cluster.new) }
         ensures client { SameClient namenode.old namenode.new }
     {
         self.end(cluster, namenode)
@@ -448,6 +502,7 @@ impl FileWriter {
         ensures closed { OnOk result (Closed (C.shown cluster.old) self.old (C.shown cluster.new)) }
         ensures err { IfErr result (λ error. self.old.failed ≡ false
             → FailsToClose (C.shown cluster.old) self.old error (C.shown cluster.new)) }
+        ensures idle { link_of self.old ≡ None → SameNodes (C.shown cluster.old) (C.shown cluster.new) }
         ensures client { SameClient namenode.old namenode.new }
     {
         if self.failed {

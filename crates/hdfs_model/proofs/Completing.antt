@@ -5,6 +5,7 @@ use Rattle.std.specs.Prelude.{[], slice_index_or}
 use Rattle.hdfs_model.specs.declared.commands.Command.{Command}
 use Rattle.hdfs_model.specs.declared.commands.Command.TheVariants as commands
 use Rattle.hdfs_model.specs.declared.errors.ArgFault.TheVariants as args
+use Rattle.hdfs_model.specs.declared.errors.Feature.TheVariants as features
 use Rattle.hdfs_model.specs.declared.errors.HdfsError.{HdfsError}
 use Rattle.hdfs_model.specs.declared.errors.HdfsError.TheVariants as errors
 use Rattle.hdfs_model.specs.declared.errors.IoFault.TheVariants as io_faults
@@ -66,6 +67,7 @@ module _ (world : World) (state : State) (command : Command) (old new : Shown) (
   cause_completes (errors.InvalidArgument (args.Range offset len n)) h = at_refusal BadRange (errors.InvalidArgument (args.Range offset len n)) h.0 (inr tt)
   cause_completes (errors.AlreadyExists message) h = ⊎_elim (λ is. at_refusal Exists (errors.AlreadyExists message) is (inr tt)) (λ rose. absurd (none_called rose.0 rose.1 rose.2)) h
   cause_completes (errors.OperationFailed name) h = absurd (none_called h.1.0 h.1.1 h.1.2)
+  cause_completes (errors.UnsupportedFeature features.Encryption) h = ⊎_elim (λ moves. absurd (limited.plain.bytes moves.1)) (λ opens. absurd (limited.plain.file opens)) h
   cause_completes (errors.FileNotFound name) h = at_refusal (Lacks h.0) (errors.FileNotFound name) h.1 (inr tt)
   cause_completes (errors.RPCError class message) h = ⊎_elim (λ is. at_refusal (Lacks is.0) (errors.RPCError class message) is.1 (inr tt)) (λ rose. absurd (none_called rose.0 rose.1 rose.2)) h
   cause_completes (errors.InvalidRPCResponse fault) h = absurd (none_called h.0 h.1 h.2)

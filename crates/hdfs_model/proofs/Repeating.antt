@@ -555,6 +555,7 @@ locations_repeats src offset length p closed = quiet_repeats (asks.GetBlockLocat
         allowed = ap (λ (k : List ℕ → Option Kind). no_file k src) (kinds_same p q same) ∙ row.0.allowed;
         file = row.0.file;
         named = sym (same.files.names src) ∙ row.0.named;
+        encryption = row.0.encryption;
         blocks = subst (λ (t : ℕ → Option BlockEntry). LocatesBlocks t 0 found.file_length row.0.file.blocks found.blocks) (table_same p q same) row.0.blocks;
       },
       same_trans p q r same row.1,

@@ -95,7 +95,8 @@ impl NameServiceProxy {
         ensures asked { Asked C.serves write ask.now (record { cluster = cluster.old; proxy = self.old }) result
             (record { cluster = cluster.new; proxy = self.new }) }
         ensures shape { IfOk result (IsShaped ask.now) }
-        ensures cause { IfErr result (LacksAnswer C.shown C.serves ask.now (record { cluster = cluster.old; proxy = self.old }) cluster.new) }
+        ensures cause { IfErr result
+            (LacksAnswer C.shown C.serves ask.now (record { cluster = cluster.old; proxy = self.old }) cluster.new) }
         ensures keeps { SameService self.old self.new }
     {
         self.sync(cluster, write)?;

@@ -1,5 +1,5 @@
 //! The calls by which a file is written.
-ghost use Rattle.std.specs.Prelude.{◌≡◌, true, false, IfOk, IfSome, option_copied};
+ghost use Rattle.std.specs.Prelude.{◌≡◌, true, IfOk, IfSome, option_copied};
 ghost use Rattle.hdfs_model.specs.Effects.{HasOneMore};
 ghost use Rattle.hdfs_model.specs.Namenode.{IsToWrite};
 ghost use Rattle.hdfs_model.specs.declared.asks.Ask.TheVariants as asks;

@@ -49,7 +49,7 @@ module _ (names : List ℕ → Option Entry) (tree : IsTree (kinds_in names)) (s
 module _ (p q : Picture) (i : ℕ) (active : i ≡ p.active) (same : SamePicture p q) where
   pub answers_found : (src : List ℕ) (offset length : ℕ) (found : LocatedBlocks) → LocatesFile p.names p.table src found → no_file (kinds p) src ≡ None
       → Answers p i (asks.GetBlockLocations src offset length) (Ok (answers.GetBlockLocations (Some found))) q
-  answers_found src offset length found h allowed = (active, same.active, tt, (record { allowed = allowed; file = h.file; named = h.named; blocks = h.blocks }, same.rest))
+  answers_found src offset length found h allowed = (active, same.active, tt, (record { allowed = allowed; file = h.file; named = h.named; encryption = h.encryption; blocks = h.blocks }, same.rest))
 
   pub answers_excused : (src : List ℕ) (offset length : ℕ) (fault : AskFault) → StandsForRefusal (kinds p) src fault → Answers p i (asks.GetBlockLocations src offset length) (Err fault) q
   answers_excused src offset length faults.NoMemory h = same

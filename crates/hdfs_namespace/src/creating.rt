@@ -14,7 +14,7 @@ ghost use Rattle.hdfs_namespace.specs.Adding.{with_directories};
 ghost use Rattle.hdfs_namespace.specs.Answering.{StandsForWritten};
 ghost use Rattle.hdfs_namespace.specs.Memory.{is_dir, table_of};
 
-use crate::namenode::{NOT_FOUND, PARENT_NOT_DIRECTORY, exception};
+use crate::namenode::{NOT_FOUND, PARENT_NOT_DIRECTORY, encryption, exception};
 use crate::namespace::Namespace;
 use crate::totals::{make_room, set_total};
 use hdfs_model::{
@@ -53,6 +53,7 @@ pub(crate) fn status(
         block_replication: Some(file.attributes.replication),
         blocksize: Some(file.attributes.block_size),
         file_id,
+        encryption: encryption(alloc, &file.attributes),
         namespace: None,
     })
 }
@@ -198,7 +199,7 @@ impl Namespace {
         Ok(())
     }
 
-    /// Creates a file. There is no memory for one at what is no path.
+    /// Creates a file, which isn't encrypted, whatever its attributes say of that. There is no memory for one at what is no path.
     pub fn create(
         &mut self,
         alloc: Global,
@@ -230,7 +231,10 @@ impl Namespace {
             return Err(AskFault::NoMemory);
         };
         let file = FileEntry {
-            attributes,
+            attributes: Attributes {
+                encrypted: false,
+                ..attributes
+            },
             blocks: List::new(alloc),
             is_open: true,
         };

@@ -1,5 +1,5 @@
 //! What the namenodes of a cluster in memory answer.
-ghost use Rattle.std.specs.Prelude.{◌≡◌, ◌⊎◌, ◌<◌, ◌^◌, ℕ, [], true, List, length, None, IfOk, IfErr, IsErr, OnOk, OnErr, MatchOption};
+ghost use Rattle.std.specs.Prelude.{◌≡◌, ◌⊎◌, ◌<◌, ◌^◌, ℕ, [], true, List, length, None, is_some, IfOk, IfErr, IsErr, OnOk, OnErr, MatchOption};
 ghost use Rattle.std.specs.List.{list_any};
 ghost use Rattle.std.specs.BTreeMap.{get_by_text};
 ghost use Rattle.hdfs_model.specs.Effects.{IsEntry};
@@ -15,8 +15,8 @@ ghost use Rattle.hdfs_namespace.specs.Memory.{table_of, total, is_length};
 use crate::blocks::kth_id;
 use crate::namespace::Namespace;
 use hdfs_model::{
-    Answer, AskFault, Block, BlockEntry, DatanodeId, DatanodeInfo, Entry, FileEntry, LastAnswer,
-    LocatedBlock, LocatedBlocks, Token, nearest_ancestor,
+    Answer, AskFault, Attributes, Block, BlockEntry, DatanodeId, DatanodeInfo, Entry, FileEntry,
+    LastAnswer, LocatedBlock, LocatedBlocks, Token, nearest_ancestor,
 };
 use hdfs_wire::{Blob, List, NoMemory, Text};
 use std::alloc::Global;
@@ -182,6 +182,17 @@ pub(crate) fn block_to_write(
     located_block(alloc, id, entry, 0)
 }
 
+/// The information that is told of a file where it is encrypted. It has no bytes.
+pub(crate) fn encryption(alloc: Global, attributes: &Attributes) -> Option<Blob>
+    ensures { is_some result ≡ attributes.now.encrypted }
+{
+    if attributes.encrypted {
+        Some(Blob::new(alloc))
+    } else {
+        None
+    }
+}
+
 fn locate(
     alloc: Global,
     table: &BTreeMap<u64, BlockEntry>,
@@ -191,6 +202,7 @@ fn locate(
     ensures rows { IfOk result (λ found. LocatesBlocks (table_of table.now.entries) 0 found.file_length file.now.blocks found.blocks) }
     ensures length { IfOk result (λ found. found.file_length < 2 ^ 63) }
     ensures follow { IfOk result (λ found. Follow 0 found.file_length found.blocks) }
+    ensures encryption { IfOk result (λ found. is_some found.encryption ≡ file.now.attributes.encrypted) }
 {
     let mut blocks = Vec::new(alloc);
     let mut at: u64 = 0;
@@ -206,6 +218,7 @@ fn locate(
         file_length: at,
         blocks: List::from_vec(blocks),
         under_construction: false,
+        encryption: encryption(alloc, &file.attributes),
     })
 }
 

@@ -92,6 +92,7 @@ impl PlainFiles {
             permission: options.permission,
             replication: options.replication.unwrap_or(world.defaults.replication),
             block_size: options.block_size.unwrap_or(world.defaults.block_size),
+            encrypted: false,
         };
         let bytes = Blob::new(self.alloc);
         self.open(path, PlainFile { bytes, attributes })?;

@@ -19,6 +19,7 @@ A script has lines for settings, then for directories and files to load, then fo
   set chunk CHUNK                                   how many bytes have one checksum
   set packet PACKET                                 how many bytes a packet has at most
   set replication REPLICATION                       the cluster's replication
+  set encrypt ENCRYPT                               true: bytes are to be encrypted on their way, so none is moved; else false
   set rebuilds REBUILDS                             how often the pipeline of a block is rebuilt at most
   set window WINDOW                                 how many packets of a block wait for their acknowledgement at most
   set policy POLICY                                 when a datanode is added in the place of one that failed: POLICY is

@@ -21,7 +21,7 @@ use Rattle.hdfs_script.specs.declared.entry.ScriptSettings.{ScriptSettings}
 use Rattle.hdfs_script.specs.declared.entry.Setting.{Setting}
 use Rattle.hdfs_script.specs.declared.entry.Setting.TheVariants as settings
 use Rattle.hdfs_script.specs.Commands.{create_entry, flag_of, options_of, read_entry, write_entry}
-use Rattle.hdfs_script.specs.Entries.{ascii_entry, ask_fault, ask_kind, ask_of, attributes_of, best_effort_entry, cluster_entry, entry_of, exception_fault, fault_entry, file_entry, from_one, from_zero, link_entry, link_kind, node_entry, node_fault, policy_entry, policy_named, read_fault, read_kind, read_of, set_entry, short_entry, short_of, three_words, words_entry, writing_entry}
+use Rattle.hdfs_script.specs.Entries.{ascii_entry, ask_fault, ask_kind, ask_of, attributes_of, best_effort_entry, cluster_entry, default_entry, encrypt_entry, entry_of, exception_fault, fault_entry, file_entry, from_one, from_zero, link_entry, link_kind, node_entry, node_fault, policy_entry, policy_named, read_fault, read_kind, read_of, set_entry, short_entry, short_of, three_words, words_entry, writing_entry}
 use Rattle.hdfs_script.specs.Numbers.{hex_bytes, is_number, number, value_from}
 use Rattle.hdfs_script.specs.Parsing.{good_front}
 use Rattle.hdfs_script.specs.Scripts.{ends_bad, entries_in, first_place, line_entries, may_set, may_stand, no_settings, place_behind, script_limit, session_settings, settings_from, with_setting}
@@ -37,6 +37,7 @@ IsAllowed (settings.Block n) = is_block_size n ≡ true
 IsAllowed (settings.Chunk n) = (0 < n) × (n ≤ 2 ^ 30)
 IsAllowed (settings.Packet n) = n < 2 ^ 31
 IsAllowed (settings.Replication n) = is_replication n ≡ true
+IsAllowed (settings.Encrypt encrypt) = Unit {0}
 IsAllowed (settings.Rebuilds n) = is_small n ≡ true
 IsAllowed (settings.Window n) = is_small n ≡ true
 IsAllowed (settings.Policy policy) = Unit {0}
@@ -89,7 +90,11 @@ replication_allowed n some below = grind (arith, nat_tests)
 small_allowed : (n : ℕ) → 0 < n → n < 1001 → is_small n ≡ true
 small_allowed n some below = grind (arith, nat_tests)
 
--- a policy, and best effort
+-- encryption, a policy, and best effort
+allowed_encrypt : (found : Option Bool) → SetsAllowed (encrypt_entry found)
+allowed_encrypt None = tt
+allowed_encrypt (Some encrypt) = tt
+
 allowed_policy : (found : Option Policy) → SetsAllowed (policy_entry found)
 allowed_policy None = tt
 allowed_policy (Some policy) = tt
@@ -108,7 +113,20 @@ allowed_writing key value =
     (allowed_if (bytes_eq key (codes "policy")) _ _ (allowed_policy (policy_named value))
     (allowed_if (bytes_eq key (codes "besteffort")) _ _ (allowed_best_effort (flag_of value)) tt)))
 
--- or of the cluster,
+-- or a default of the cluster,
+allowed_default : (key value : List ℕ) → SetsAllowed (default_entry key value)
+allowed_default key value =
+    allowed_if (bytes_eq key (codes "block")) _ _
+    (allowed_from_one settings.Block (2 ^ 63) block_size_allowed (number 10 (2 ^ 63) value) (number_below 10 (2 ^ 63) value))
+    (allowed_if (bytes_eq key (codes "chunk")) _ _
+    (allowed_from_one settings.Chunk (2 ^ 30 + 1) (λ n some below. (some, omega (arith, below))) (number 10 (2 ^ 30 + 1) value) (number_below 10 (2 ^ 30 + 1) value))
+    (allowed_if (bytes_eq key (codes "packet")) _ _
+    (allowed_from_zero settings.Packet (2 ^ 31) (λ n below. below) (number 10 (2 ^ 31) value) (number_below 10 (2 ^ 31) value))
+    (allowed_if (bytes_eq key (codes "replication")) _ _
+    (allowed_from_one settings.Replication 65536 replication_allowed (number 10 65536 value) (number_below 10 65536 value))
+    (allowed_if (bytes_eq key (codes "encrypt")) _ _ (allowed_encrypt (flag_of value)) (allowed_writing key value)))))
+
+-- or another setting of the cluster,
 allowed_cluster : (key value : List ℕ) → SetsAllowed (cluster_entry key value)
 allowed_cluster key value =
     allowed_if (bytes_eq key (codes "namenodes")) _ _
@@ -117,15 +135,7 @@ allowed_cluster key value =
     (allowed_from_zero settings.Active 16 (λ i below. tt) (number 10 16 value) (number_below 10 16 value))
     (allowed_if (bytes_eq key (codes "nodes")) _ _
     (allowed_from_one settings.Nodes 65 (λ n some below. (some, omega (arith, below))) (number 10 65 value) (number_below 10 65 value))
-    (allowed_if (bytes_eq key (codes "block")) _ _
-    (allowed_from_one settings.Block (2 ^ 63) block_size_allowed (number 10 (2 ^ 63) value) (number_below 10 (2 ^ 63) value))
-    (allowed_if (bytes_eq key (codes "chunk")) _ _
-    (allowed_from_one settings.Chunk (2 ^ 30 + 1) (λ n some below. (some, omega (arith, below))) (number 10 (2 ^ 30 + 1) value) (number_below 10 (2 ^ 30 + 1) value))
-    (allowed_if (bytes_eq key (codes "packet")) _ _
-    (allowed_from_zero settings.Packet (2 ^ 31) (λ n below. below) (number 10 (2 ^ 31) value) (number_below 10 (2 ^ 31) value))
-    (allowed_if (bytes_eq key (codes "replication")) _ _
-    (allowed_from_one settings.Replication 65536 replication_allowed (number 10 65536 value) (number_below 10 65536 value))
-    (allowed_writing key value)))))))
+    (allowed_default key value)))
 
 -- or the user
 allowed_set : (key value : List ℕ) → SetsAllowed (set_entry key value)
@@ -269,6 +279,7 @@ same_with given place (settings.Block n) same = same
 same_with given place (settings.Chunk n) same = same
 same_with given place (settings.Packet n) same = same
 same_with given place (settings.Replication n) same = same
+same_with given place (settings.Encrypt encrypt) same = same
 same_with given place (settings.Rebuilds n) same = same
 same_with given place (settings.Window n) same = same
 same_with given place (settings.Policy policy) same = same
@@ -355,6 +366,17 @@ valid_with given place (settings.Replication n) allowed stands same valid = reco
   bound = valid.bound;
   packet = valid.packet;
 }
+valid_with given place (settings.Encrypt encrypt) allowed stands same valid = record {
+  active = valid.active;
+  namenodes = valid.namenodes;
+  some = valid.some;
+  nodes = valid.nodes;
+  replication = valid.replication;
+  block_size = valid.block_size;
+  chunk = valid.chunk;
+  bound = valid.bound;
+  packet = valid.packet;
+}
 valid_with given place (settings.Rebuilds n) allowed stands same valid = valid
 valid_with given place (settings.Window n) allowed stands same valid = valid
 valid_with given place (settings.Policy policy) allowed stands same valid = valid
@@ -406,6 +428,7 @@ small_with given (settings.Block n) allowed small = small
 small_with given (settings.Chunk n) allowed small = small
 small_with given (settings.Packet n) allowed small = small
 small_with given (settings.Replication n) allowed small = small
+small_with given (settings.Encrypt encrypt) allowed small = small
 small_with given (settings.Rebuilds n) allowed small = (allowed, small.1)
 small_with given (settings.Window n) allowed small = (small.0, allowed)
 small_with given (settings.Policy policy) allowed small = small

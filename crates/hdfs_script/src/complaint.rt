@@ -12,7 +12,7 @@ use hdfs_wire::Text;
 use std::alloc::Global;
 
 // What can be set, and what is wrong where its value isn't one of these.
-const SETTINGS: [(&str, Wrong); 12] = [
+const SETTINGS: [(&str, Wrong); 13] = [
     ("user", Wrong::User),
     ("namenodes", Wrong::Namenodes),
     ("active", Wrong::Active),
@@ -21,6 +21,7 @@ const SETTINGS: [(&str, Wrong); 12] = [
     ("chunk", Wrong::Chunk),
     ("packet", Wrong::Packet),
     ("replication", Wrong::Replication),
+    ("encrypt", Wrong::Encrypt),
     ("rebuilds", Wrong::Rebuilds),
     ("window", Wrong::Window),
     ("policy", Wrong::Policy),

@@ -22,6 +22,8 @@ pub enum Setting {
     Packet(u32),
     /// The replication of files that are created with the cluster's.
     Replication(u32),
+    /// Whether the cluster wants data encrypted on its way to and from datanodes.
+    Encrypt(bool),
     /// How often the pipeline of a block is rebuilt at most.
     Rebuilds(u32),
     /// How many packets of a block wait for their acknowledgement at most.

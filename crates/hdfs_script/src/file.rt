@@ -36,6 +36,7 @@ pub(crate) fn attributes(
         permission: permission as u32,
         replication: replication as u32,
         block_size,
+        encrypted: false,
     })
 }
 

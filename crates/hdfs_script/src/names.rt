@@ -18,6 +18,7 @@ pub fn variant_name(error: &HdfsError) -> &'static str
         HdfsError::AlreadyExists(_) => "AlreadyExists",
         HdfsError::OperationFailed(_) => "OperationFailed",
         HdfsError::FileNotFound(_) => "FileNotFound",
+        HdfsError::UnsupportedFeature(_) => "UnsupportedFeature",
         HdfsError::RPCError(_, _) => "RPCError",
         HdfsError::InvalidRPCResponse(_) => "InvalidRPCResponse",
         HdfsError::FatalRPCError(_, _) => "FatalRPCError",

@@ -135,6 +135,16 @@ fn replication_entry(replication: &[u8]) -> Entry
     }
 }
 
+// `set encrypt ENCRYPT`
+fn encrypt_entry(encrypt: &[u8]) -> Entry
+    ensures { result ≡ spec.encrypt_entry (flag_of encrypt.now) }
+{
+    match flag(encrypt) {
+        Some(encrypt) => Entry::Sets(Setting::Encrypt(encrypt)),
+        None => Entry::Bad,
+    }
+}
+
 // `set rebuilds REBUILDS`
 fn rebuilds_entry(rebuilds: &[u8]) -> Entry
     ensures { result ≡ spec.from_one (λ n. Setting.Rebuilds n) (number_of 10 1001 rebuilds.now) }
@@ -213,6 +223,28 @@ fn writing_entry(key: &[u8], value: &[u8]) -> Entry
     Entry::Bad
 }
 
+// A default of the cluster, or a setting of the session's writes.
+fn default_entry(key: &[u8], value: &[u8]) -> Entry
+    ensures { result ≡ spec.default_entry key.now value.now }
+{
+    if is_text(key, "block") {
+        return block_entry(value);
+    }
+    if is_text(key, "chunk") {
+        return chunk_entry(value);
+    }
+    if is_text(key, "packet") {
+        return packet_entry(value);
+    }
+    if is_text(key, "replication") {
+        return replication_entry(value);
+    }
+    if is_text(key, "encrypt") {
+        return encrypt_entry(value);
+    }
+    writing_entry(key, value)
+}
+
 // A setting of the cluster or of the session's writes.
 fn cluster_entry(key: &[u8], value: &[u8]) -> Entry
     ensures { result ≡ spec.cluster_entry key.now value.now }
@@ -226,19 +258,7 @@ fn cluster_entry(key: &[u8], value: &[u8]) -> Entry
     if is_text(key, "nodes") {
         return nodes_entry(value);
     }
-    if is_text(key, "block") {
-        return block_entry(value);
-    }
-    if is_text(key, "chunk") {
-        return chunk_entry(value);
-    }
-    if is_text(key, "packet") {
-        return packet_entry(value);
-    }
-    if is_text(key, "replication") {
-        return replication_entry(value);
-    }
-    writing_entry(key, value)
+    default_entry(key, value)
 }
 
 /// `set KEY VALUE`

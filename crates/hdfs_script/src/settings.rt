@@ -46,6 +46,9 @@ pub(crate) fn set(settings: &mut ScriptSettings, setting: Setting)
         Setting::Chunk(size) => settings.cluster.defaults.bytes_per_checksum = size,
         Setting::Packet(size) => settings.cluster.defaults.write_packet_size = size,
         Setting::Replication(replication) => settings.cluster.defaults.replication = replication,
+        Setting::Encrypt(encrypt) => {
+            settings.cluster.defaults.encrypt_data_transfer = encrypt;
+        }
         Setting::Rebuilds(rebuilds) => settings.rebuild_limit = rebuilds,
         Setting::Window(window) => settings.window = window,
         Setting::Policy(policy) => settings.replace.policy = policy,

@@ -10,7 +10,7 @@ pub enum Wrong {
     CarriageReturn,
     #[error("begins with none of `set`, `dir`, `file`, `short`, `fault`, `do` and `#`")]
     Kind,
-    #[error("not `set SETTING VALUE`, with one space between words, where SETTING is `user`, `namenodes`, `active`, `nodes`, `block`, `chunk`, `packet`, `replication`, `rebuilds`, `window`, `policy` or `besteffort`")]
+    #[error("not `set SETTING VALUE`, with one space between words, where SETTING is `user`, `namenodes`, `active`, `nodes`, `block`, `chunk`, `packet`, `replication`, `encrypt`, `rebuilds`, `window`, `policy` or `besteffort`")]
     SetWords,
     #[error("not `dir PATH`, with one space between words")]
     DirWords,
@@ -54,6 +54,8 @@ pub enum Wrong {
     Chunk,
     #[error("PACKET isn't a number of bytes from 0 to 2147483647")]
     Packet,
+    #[error("ENCRYPT isn't `true` or `false`")]
+    Encrypt,
     #[error("REBUILDS isn't a number from 1 to 1000")]
     Rebuilds,
     #[error("WINDOW isn't a number of packets from 1 to 1000")]

@@ -2,6 +2,8 @@
 #![tactic(auto)]
 
 #[cfg(test)]
+mod encryption_rows;
+#[cfg(test)]
 mod fault_rows;
 #[cfg(test)]
 mod namenode_rows;

@@ -167,7 +167,7 @@ fn a_broken_packet_fails_the_read_that_met_it(rt: HostRuntime) -> Result<(), Fai
 }
 
 /// Scripts that are refused, and their first bad line.
-const BAD: [(&str, u64); 116] = [
+const BAD: [(&str, u64); 117] = [
     ("file  /a 644 1 8 00", 1),
     (" file /a 644 1 8 00", 1),
     ("file /a 644 1 8 00 ", 1),
@@ -256,6 +256,7 @@ const BAD: [(&str, u64); 116] = [
     ("set user a.b", 1),
     ("set user a b", 1),
     ("set replication 65536", 1),
+    ("set encrypt yes", 1),
     ("set rebuilds 0", 1),
     ("set window 1001", 1),
     ("set policy Always", 1),

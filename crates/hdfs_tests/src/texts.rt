@@ -6,7 +6,7 @@ use hdfs_checking::{sink, source, words};
 use hdfs_client_tests::{cluster, held};
 use hdfs_cluster::MemCluster;
 use hdfs_model::{
-    AddFault, ArgFault, AskFault, Fault, HdfsError, IoFault, LinkFault, TransferFault,
+    AddFault, ArgFault, AskFault, Fault, Feature, HdfsError, IoFault, LinkFault, TransferFault,
 };
 use hdfs_plain::PlainRefusal;
 use hdfs_streams::{IoFailed, ReadFault};
@@ -81,11 +81,16 @@ fn client_errors_about_a_path_or_an_exception(rt: HostRuntime) -> Result<(), Fai
         (HdfsError::OperationFailed(open), "operation failed: /b"),
         (HdfsError::FileNotFound(path), "file not found: /a/\u{fc}"),
         (
+            HdfsError::UnsupportedFeature(Feature::Encryption),
+            "operation not supported: Encryption",
+        ),
+        (
             HdfsError::RPCError(class, message),
             "RPC error: java.io.IOException none",
         ),
     ];
-    check_all(&rt, alloc, &rows)
+    check_all(&rt, alloc, &rows)?;
+    check(&rt, alloc, &Feature::Encryption, "encryption")
 }
 
 #[test]
@@ -180,7 +185,7 @@ fn errors_of_the_outside(rt: HostRuntime) -> Result<(), Fail> {
 }
 
 /// Scripts, and what is noted beside their status.
-const NOTES: [(&str, &str); 44] = [
+const NOTES: [(&str, &str); 45] = [
     ("", "the script has no command"),
     (
         "put\n",
@@ -188,7 +193,7 @@ const NOTES: [(&str, &str); 44] = [
     ),
     (
         "set\n",
-        "line 1: not `set SETTING VALUE`, with one space between words, where SETTING is `user`, `namenodes`, `active`, `nodes`, `block`, `chunk`, `packet`, `replication`, `rebuilds`, `window`, `policy` or `besteffort`",
+        "line 1: not `set SETTING VALUE`, with one space between words, where SETTING is `user`, `namenodes`, `active`, `nodes`, `block`, `chunk`, `packet`, `replication`, `encrypt`, `rebuilds`, `window`, `policy` or `besteffort`",
     ),
     (
         "set user a-b\n",
@@ -210,6 +215,7 @@ const NOTES: [(&str, &str); 44] = [
         "set nodes 65\n",
         "line 1: NODES isn't a number from 1 to 64",
     ),
+    ("set encrypt 1\n", "line 1: ENCRYPT isn't `true` or `false`"),
     (
         "set rebuilds 0\n",
         "line 1: REBUILDS isn't a number from 1 to 1000",

@@ -115,6 +115,7 @@ fn file(alloc: Global) -> Result<Line, NoMemory> {
             permission: 0o644,
             replication: 2,
             block_size: 4,
+            encrypted: false,
         },
         bytes: Blob::from_vec(Vec::from_slice(alloc, &[7; 10])?),
     })

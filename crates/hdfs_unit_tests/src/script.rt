@@ -102,6 +102,25 @@ fn settings_of_writes_are_read(rt: HostRuntime) -> Result<(), Fail> {
     Ok(())
 }
 
+// Scripts that set whether data is encrypted on its way, or don't, and what they come to.
+const ENCRYPTED: [(&str, bool); 4] = [
+    ("set replication 1", false),
+    ("set encrypt true", true),
+    ("set encrypt false", false),
+    ("set encrypt true\nset encrypt false", false),
+];
+
+#[test]
+fn encryption_is_read(rt: HostRuntime) -> Result<(), Fail> {
+    for (script, wanted) in ENCRYPTED {
+        let read = parse(rt.alloc(), script.as_bytes())?;
+        assert_eq!(rt; read.bad, None, "{script}");
+        let defaults = read.settings.cluster.defaults;
+        assert_eq!(rt; defaults.encrypt_data_transfer, wanted, "{script}");
+    }
+    Ok(())
+}
+
 // Scripts that set something of the namenodes, and what they come to: how many there are, which is active, and the first bad line.
 const NAMENODES: [(&str, (u32, u32, Option<u64>)); 12] = [
     ("", (1, 0, None)),
@@ -165,7 +184,7 @@ fn new_files_have_any_replication(rt: HostRuntime) -> Result<(), Fail> {
 }
 
 // Lines, and what is said of each as the first of a script over a fresh store.
-const WRONG: [(&str, Wrong); 69] = [
+const WRONG: [(&str, Wrong); 73] = [
     ("set", Wrong::SetWords),
     ("set racks 1", Wrong::SetWords),
     ("set user", Wrong::SetWords),
@@ -187,6 +206,10 @@ const WRONG: [(&str, Wrong); 69] = [
     ("set replication 0", Wrong::Replication),
     ("set replication 65536", Wrong::Replication),
     ("set replication -", Wrong::Replication),
+    ("set encrypt TRUE", Wrong::Encrypt),
+    ("set encrypt 1", Wrong::Encrypt),
+    ("set encrypt -", Wrong::Encrypt),
+    ("set encrypt", Wrong::SetWords),
     ("set rebuilds 0", Wrong::Rebuilds),
     ("set rebuilds 1001", Wrong::Rebuilds),
     ("set rebuilds 08", Wrong::Rebuilds),

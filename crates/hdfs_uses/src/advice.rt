@@ -32,6 +32,7 @@ pub(crate) fn advice_on(error: &HdfsError) -> Advice {
         HdfsError::AlreadyExists(_) => Advice::ChangeTheRequest,
         HdfsError::OperationFailed(_) => Advice::AskAgain,
         HdfsError::FileNotFound(_) => Advice::ChangeTheRequest,
+        HdfsError::UnsupportedFeature(_) => Advice::ChangeTheRequest,
         HdfsError::RPCError(class, _) if MISSING.contains(&class.as_str()) => {
             Advice::ChangeTheRequest
         }

@@ -54,6 +54,7 @@ pub(crate) fn cluster(alloc: Global, broken: u64) -> Result<MemCluster, Failed>
             permission: 0o644,
             replication: 1,
             block_size: 8,
+            encrypted: false,
         },
         bytes: Blob::from_vec(Vec::from_slice(alloc, &BYTES)?),
     })?;

@@ -15,7 +15,7 @@ use Rattle.hdfs_client.specs.Acting.{Acts}
 use Rattle.hdfs_client.proofs.Ending.{replies_next, runs_failed}
 use Rattle.hdfs_client.proofs.Finishing.{complete_done}
 use Rattle.hdfs_client.proofs.Going.{GoneOn, gone_none, goes_on, stops_there, complete_there, ends_there}
-use Rattle.hdfs_client.proofs.WholeGoing.{leaves_end, leaves_start, leaves_stopped, whole_goes_on, whole_none}
+use Rattle.hdfs_client.proofs.WholeGoing.{leaves_end, leaves_stopped, whole_goes_on, whole_none}
 use Rattle.hdfs_client.specs.Whole.{KeepsBlocksWhole}
 use Rattle.hdfs_client.proofs.Owning.{own_end, own_next, own_start}
 use Rattle.hdfs_client.proofs.run.run_session.Goals as goal

@@ -2,19 +2,23 @@
 use Rattle.std.proofs.Common.{◌≡◌, ℕ, List, true, Some, Ok, Err, refl, sym, ◌∙◌, ap, subst, unwrap_or}
 use Rattle.std.proofs.lemmas.Map.Text.{btree_map_updates_text}
 use Rattle.std.proofs.lemmas.Result.{err_from_is_err_and}
+use Rattle.std.specs.BTreeMap.{get_by_text}
 use Rattle.std.specs.String.{string_bytes}
 use Rattle.hdfs_model.specs.declared.asks.Answer.TheVariants as answers
 use Rattle.hdfs_model.specs.declared.commands.Command.TheVariants as commands
 use Rattle.hdfs_model.specs.declared.commands.Reply.{Reply}
+use Rattle.hdfs_model.specs.declared.errors.HdfsError.{HdfsError}
 use Rattle.hdfs_model.specs.declared.errors.HdfsError.TheVariants as errors
 use Rattle.hdfs_model.specs.declared.messages.Appended.{Appended}
 use Rattle.hdfs_model.specs.Paths.{absolute}
 use Rattle.hdfs_model.proofs.Repeating.{append_repeats}
-use Rattle.hdfs_namenode.specs.Clients.{through}
+use Rattle.hdfs_namenode.specs.Clients.{proxy_of, through}
+use Rattle.hdfs_namenode.proofs.Services.{reaches_later}
 use Rattle.hdfs_files.proofs.Asked.{came}
 use Rattle.hdfs_client.specs.Acting.{Acts}
 use Rattle.hdfs_client.specs.Preparing.{sizes_by}
 use Rattle.hdfs_client.specs.Session.{after}
+use Rattle.hdfs_client.proofs.Encrypting.{encrypted_acts, encrypted_whole}
 use Rattle.hdfs_client.proofs.Failing.{append_opens, lacks_acts, refused_acts, starved_acts, unkept_acts, unstated_acts}
 use Rattle.hdfs_client.proofs.Moved.{kept_by, put_by}
 use Rattle.hdfs_client.proofs.Opening.{appending, appending_as, was_reopened}
@@ -153,7 +157,7 @@ returns-clause-acts g c = λ called.
           (btree_map_updates_text (string_bytes c.in_ok-key.key) session.writers c.insert.new.self (Some writer) c.in_ok-insert.ensures.updates);
     })
     c.requires.stands (c.appended-writer.ensures.stands t) c.appended-writer.ensures.path.0 c.appended-writer.ensures.idle.1 c.appended-writer.ensures.idle.0 (remembers_on session c.append.new.self c.insert.new.self c.append.ensures.keeps) (c.append.ensures.keeps.defaults ∙ c.in_ok-defaults.ensures.ok.known)
-    name client 4 appended stat called c.in-Some.is c.appended-writer.ensures.tail (c.appended-writer.ensures.path.1 ∙ sizes) had
+    name client 4 appended stat called c.in-Some.is c.appended-writer.ensures.tail (c.appended-writer.ensures.path.1 ∙ sizes) had (sym c.is_some-encrypted.ensures ∙ c.if-encrypted.false)
 
 pub returns-in_err-defaults-clause-whole : goal.returns-in_err-defaults-clause-whole
 returns-in_err-defaults-clause-whole g c =
@@ -270,3 +274,76 @@ returns-clause-whole g c = λ called.
           (btree_map_updates_text (string_bytes c.in_ok-key.key) session.writers c.insert.new.self (Some writer) c.in_ok-insert.ensures.updates);
     })
     d name client 4 appended stat called c.in-Some.is c.appended-writer.ensures.tail (c.appended-writer.ensures.path.1 ∙ sizes) had
+
+pub refuse_opened-requires-clause-reaches : goal.refuse_opened-requires-clause-reaches
+refuse_opened-requires-clause-reaches g c =
+    let s = g.C.Cluster.shown c.args.cluster.now in
+    let m = g.C.Cluster.shown c.defaults.new.cluster in
+    let t = g.C.Cluster.shown c.append.new.cluster in
+    let name = c.args.name.now in
+    let d = c.in_ok-defaults.defaults in
+    let session = c.defaults.new.self in
+    let prepares = c.in_ok-defaults.ensures.prepares in
+    let client = session.namenode.client in
+    let appended : Appended = c.in_ok-block.field-0 in
+    let asked = appending_as g.C.Cluster.serves c.as_str-2.result.now c.args.path client 4 (Ok (answers.Append appended)) (through c.defaults.new.self.namenode c.defaults.new.cluster) (through c.append.new.self c.append.new.cluster) c.as_str-2.ensures c.in_ok-block.ensures.asked in
+    let had = came g.C.Cluster.shown g.C.Cluster.serves g.met.C.Cluster.serves_rows g.met.C.Cluster.active_below true (appending c.args.path client 4) (through c.defaults.new.self.namenode c.defaults.new.cluster) (Ok (answers.Append appended)) (through c.append.new.self c.append.new.cluster)
+    (reaches_prepared (g.C.Cluster.shown c.args.cluster.now) (g.C.Cluster.shown c.defaults.new.cluster) c.args.self.now c.defaults.new.self c.in_ok-defaults.ensures.prepares c.requires.stands.reaches) asked in
+    reaches_later (proxy_of session.namenode) (proxy_of c.append.new.self) m t c.append.ensures.keeps.service had.relays.leaves.later
+    (reaches_prepared s m c.args.self.now session prepares c.requires.stands.reaches)
+
+pub refuse_opened-requires-clause-stands : goal.refuse_opened-requires-clause-stands
+refuse_opened-requires-clause-stands g c = c.appended-writer.ensures.stands (g.C.Cluster.shown c.append.new.cluster)
+
+pub returns-then-encrypted-clause-acts : goal.returns-then-encrypted-clause-acts
+returns-then-encrypted-clause-acts g c = λ called.
+    let s = g.C.Cluster.shown c.args.cluster.now in
+    let m = g.C.Cluster.shown c.defaults.new.cluster in
+    let t = g.C.Cluster.shown c.append.new.cluster in
+    let name = c.args.name.now in
+    let d = c.in_ok-defaults.defaults in
+    let session = c.defaults.new.self in
+    let prepares = c.in_ok-defaults.ensures.prepares in
+    let client = session.namenode.client in
+    let appended : Appended = c.in_ok-block.field-0 in
+    let asked = appending_as g.C.Cluster.serves c.as_str-2.result.now c.args.path client 4 (Ok (answers.Append appended)) (through c.defaults.new.self.namenode c.defaults.new.cluster) (through c.append.new.self c.append.new.cluster) c.as_str-2.ensures c.in_ok-block.ensures.asked in
+    let had = came g.C.Cluster.shown g.C.Cluster.serves g.met.C.Cluster.serves_rows g.met.C.Cluster.active_below true (appending c.args.path client 4) (through c.defaults.new.self.namenode c.defaults.new.cluster) (Ok (answers.Append appended)) (through c.append.new.self c.append.new.cluster)
+    (reaches_prepared (g.C.Cluster.shown c.args.cluster.now) (g.C.Cluster.shown c.defaults.new.cluster) c.args.self.now c.defaults.new.self c.in_ok-defaults.ensures.prepares c.requires.stands.reaches) asked in
+    let stat = c.in-Some.stat in
+    let writer = c.appended-writer.result in
+    let sizes : c.sizes-sizes.result ≡ sizes_by session d (unwrap_or stat.block_replication 0) (unwrap_or stat.blocksize 0) =
+    c.sizes-sizes.ensures ∙ ap (λ (x : ℕ). sizes_by session d x c.unwrap_or-2.result) c.unwrap_or.ensures ∙ ap (λ (x : ℕ). sizes_by session d (unwrap_or stat.block_replication 0) x) c.unwrap_or-2.ensures in
+    let u = g.C.Cluster.shown c.refuse_opened.new.cluster in
+    let session'' = c.refuse_opened.new.self in
+    let h = c.refuse_opened.ensures in
+    let on = remembers_trans session (record session { namenode = c.append.new.self }) session'' (remembers_asked session c.append.new.self c.append.ensures.keeps) h.asked.remembers in
+    subst (λ (e : HdfsError). Acts (commands.Append name) s c.args.self.now u (after {T = Reply} session'' (Err e)) (Err e)) (sym h.is)
+    (encrypted_acts s m t u c.args.self.now session session'' c.args.path d prepares c.in_ok-defaults.ensures.ok c.requires.path c.requires.placed (g.met.C.Cluster.sound c.defaults.new.cluster) writer name client 4 appended stat called
+    c.in-Some.is c.appended-writer.ensures.tail (c.appended-writer.ensures.path.1 ∙ sizes) had (sym c.is_some-encrypted.ensures ∙ c.if-encrypted.true) (g.met.C.Cluster.sound c.append.new.cluster) c.appended-writer.ensures.path.0 h.touches on
+    (λ q. ap (λ w. get_by_text w q) h.asked.writers) c.requires.stands)
+
+pub returns-then-encrypted-clause-whole : goal.returns-then-encrypted-clause-whole
+returns-then-encrypted-clause-whole g c = λ called.
+    let s = g.C.Cluster.shown c.args.cluster.now in
+    let m = g.C.Cluster.shown c.defaults.new.cluster in
+    let t = g.C.Cluster.shown c.append.new.cluster in
+    let name = c.args.name.now in
+    let d = c.in_ok-defaults.defaults in
+    let session = c.defaults.new.self in
+    let prepares = c.in_ok-defaults.ensures.prepares in
+    let client = session.namenode.client in
+    let appended : Appended = c.in_ok-block.field-0 in
+    let asked = appending_as g.C.Cluster.serves c.as_str-2.result.now c.args.path client 4 (Ok (answers.Append appended)) (through c.defaults.new.self.namenode c.defaults.new.cluster) (through c.append.new.self c.append.new.cluster) c.as_str-2.ensures c.in_ok-block.ensures.asked in
+    let had = came g.C.Cluster.shown g.C.Cluster.serves g.met.C.Cluster.serves_rows g.met.C.Cluster.active_below true (appending c.args.path client 4) (through c.defaults.new.self.namenode c.defaults.new.cluster) (Ok (answers.Append appended)) (through c.append.new.self c.append.new.cluster)
+    (reaches_prepared (g.C.Cluster.shown c.args.cluster.now) (g.C.Cluster.shown c.defaults.new.cluster) c.args.self.now c.defaults.new.self c.in_ok-defaults.ensures.prepares c.requires.stands.reaches) asked in
+    let stat = c.in-Some.stat in
+    let writer = c.appended-writer.result in
+    let sizes : c.sizes-sizes.result ≡ sizes_by session d (unwrap_or stat.block_replication 0) (unwrap_or stat.blocksize 0) =
+    c.sizes-sizes.ensures ∙ ap (λ (x : ℕ). sizes_by session d x c.unwrap_or-2.result) c.unwrap_or.ensures ∙ ap (λ (x : ℕ). sizes_by session d (unwrap_or stat.block_replication 0) x) c.unwrap_or-2.ensures in
+    let u = g.C.Cluster.shown c.refuse_opened.new.cluster in
+    let session'' = c.refuse_opened.new.self in
+    let h = c.refuse_opened.ensures in
+    let on = remembers_trans session (record session { namenode = c.append.new.self }) session'' (remembers_asked session c.append.new.self c.append.ensures.keeps) h.asked.remembers in
+    encrypted_whole s m t u c.args.self.now session session'' c.args.path d prepares c.in_ok-defaults.ensures.ok c.requires.path c.requires.placed (g.met.C.Cluster.sound c.defaults.new.cluster) writer name client 4 appended stat called
+    c.in-Some.is c.appended-writer.ensures.tail (c.appended-writer.ensures.path.1 ∙ sizes) had (sym c.is_some-encrypted.ensures ∙ c.if-encrypted.true) (g.met.C.Cluster.sound c.append.new.cluster) c.appended-writer.ensures.path.0 h.touches on
+    (λ q. ap (λ w. get_by_text w q) h.asked.writers) c.requires.stands c.refuse_opened.result

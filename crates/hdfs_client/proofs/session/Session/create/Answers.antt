@@ -2,27 +2,34 @@
 use Rattle.std.proofs.Common.{◌≡◌, ℕ, Bool, cond, true, Some, Ok, Err, refl, sym, ◌∙◌, ap, subst, unwrap_or}
 use Rattle.std.proofs.lemmas.Map.Text.{btree_map_updates_text}
 use Rattle.std.proofs.lemmas.Result.{err_from_is_err_and}
+use Rattle.std.proofs.lemmas.Bool.{false≢true}
+use Rattle.std.specs.BTreeMap.{get_by_text}
 use Rattle.std.specs.String.{string_bytes}
 use Rattle.hdfs_model.specs.declared.asks.Answer.TheVariants as answers
 use Rattle.hdfs_model.specs.declared.commands.Command.TheVariants as commands
 use Rattle.hdfs_model.specs.declared.errors.ArgFault.TheVariants as args
+use Rattle.hdfs_model.specs.declared.commands.Reply.{Reply}
+use Rattle.hdfs_model.specs.declared.errors.HdfsError.{HdfsError}
 use Rattle.hdfs_model.specs.declared.errors.HdfsError.TheVariants as errors
 use Rattle.hdfs_model.specs.Limits.{are_settings}
 use Rattle.hdfs_files.specs.Writers.{AreSizes}
 use Rattle.hdfs_model.proofs.Repeating.{create_repeats}
-use Rattle.hdfs_namenode.specs.Clients.{through}
+use Rattle.hdfs_namenode.specs.Clients.{proxy_of, through}
+use Rattle.hdfs_namenode.proofs.Services.{reaches_later}
 use Rattle.hdfs_files.proofs.Asked.{came}
+use Rattle.hdfs_client.specs.Acting.{Acts}
 use Rattle.hdfs_client.specs.Preparing.{sizes_by}
-use Rattle.hdfs_client.proofs.Failing.{create_opens, lacks_acts, options_acts, refused_acts, starved_acts, unkept_acts}
+use Rattle.hdfs_client.specs.Session.{after}
+use Rattle.hdfs_client.proofs.Failing.{create_opens, lacks_acts, options_acts, refused_acts, starved_acts, unkept_acts, unsupported_acts}
 use Rattle.hdfs_client.proofs.Moved.{kept_by, put_by}
-use Rattle.hdfs_client.proofs.Opening.{creating, creating_as, was_made}
+use Rattle.hdfs_client.proofs.Opening.{creating, creating_as, was_made, was_plain}
 use Rattle.hdfs_client.proofs.Looking.{looks_from-Leaves}
-use Rattle.hdfs_client.proofs.Prepared.{reaches_prepared}
+use Rattle.hdfs_client.proofs.Prepared.{looks_trans, reaches_prepared}
 use Rattle.hdfs_client.proofs.Sized.{remembers_asked, remembers_on, remembers_trans}
 use Rattle.hdfs_client.proofs.Sizing.{are_sizes_by}
 use Rattle.hdfs_client.proofs.Starting.{created_acts, created_over}
 use Rattle.hdfs_client.proofs.WholeOpening.{creating_spares}
-use Rattle.hdfs_client.proofs.WholeStarting.{created_whole, early_whole, late_whole, prepared_whole, refused_whole}
+use Rattle.hdfs_client.proofs.WholeStarting.{behind_whole, created_whole, early_whole, late_whole, prepared_whole, refused_whole}
 use Rattle.hdfs_client.proofs.session.Session.create.Goals.{then-options, else-options}
 use Rattle.hdfs_client.proofs.session.Session.create.Goals as goal
 
@@ -245,3 +252,88 @@ returns-clause-whole g c = λ name called.
           (btree_map_updates_text (string_bytes c.in_ok-key.key) session.writers c.insert.new.self (Some writer) c.in_ok-insert.ensures.updates);
     })
     d name client options r k status called c.new-writer.ensures.tail had
+
+pub refuse_created-requires : goal.refuse_created-requires
+refuse_created-requires g c =
+    let s = g.C.Cluster.shown c.args.cluster.now in
+    let m = g.C.Cluster.shown c.defaults.new.cluster in
+    let t = g.C.Cluster.shown c.create.new.cluster in
+    let options = c.args.options.now in
+    let d = c.in_ok-defaults.defaults in
+    let session = c.defaults.new.self in
+    let r = unwrap_or options.replication d.replication in
+    let k = unwrap_or options.block_size d.block_size in
+    let client = session.namenode.client in
+    let status = c.in_ok-status.status in
+    let prepares = c.in_ok-defaults.ensures.prepares in
+    let flag : c.if-options.create ≡ cond options.overwrite 3 1 = elim c.if-options.branch [
+      | then-options w ↦ w.create-is ∙ sym (ap (λ (b : Bool). cond b 3 1) w.if-options.true)
+      | else-options w ↦ w.create-is ∙ sym (ap (λ (b : Bool). cond b 3 1) w.if-options.false)
+    ] in
+    let asked = creating_as g.C.Cluster.serves c.as_str-2.result.now c.args.path client options c.if-options.create c.unwrap_or-replication.result r c.unwrap_or-block_size.result k (Ok (answers.Create status)) (through c.defaults.new.self.namenode c.defaults.new.cluster) (through c.create.new.self c.create.new.cluster)
+    c.as_str-2.ensures flag c.unwrap_or-replication.ensures c.unwrap_or-block_size.ensures c.in_ok-status.ensures.asked in
+    let had = came g.C.Cluster.shown g.C.Cluster.serves g.met.C.Cluster.serves_rows g.met.C.Cluster.active_below true (creating c.args.path client options r k) (through c.defaults.new.self.namenode c.defaults.new.cluster) (Ok (answers.Create status)) (through c.create.new.self c.create.new.cluster)
+    (reaches_prepared (g.C.Cluster.shown c.args.cluster.now) (g.C.Cluster.shown c.defaults.new.cluster) c.args.self.now c.defaults.new.self c.in_ok-defaults.ensures.prepares c.requires.stands.reaches) asked in
+    reaches_later (proxy_of session.namenode) (proxy_of c.create.new.self) m t c.create.ensures.keeps.service had.relays.leaves.later
+    (reaches_prepared s m c.args.self.now session prepares c.requires.stands.reaches)
+
+pub returns-then-tells_encryption-clause-acts : goal.returns-then-tells_encryption-clause-acts
+returns-then-tells_encryption-clause-acts g c = λ name called.
+    let s = g.C.Cluster.shown c.args.cluster.now in
+    let m = g.C.Cluster.shown c.defaults.new.cluster in
+    let t = g.C.Cluster.shown c.create.new.cluster in
+    let options = c.args.options.now in
+    let d = c.in_ok-defaults.defaults in
+    let session = c.defaults.new.self in
+    let r = unwrap_or options.replication d.replication in
+    let k = unwrap_or options.block_size d.block_size in
+    let client = session.namenode.client in
+    let status = c.in_ok-status.status in
+    let prepares = c.in_ok-defaults.ensures.prepares in
+    let flag : c.if-options.create ≡ cond options.overwrite 3 1 = elim c.if-options.branch [
+      | then-options w ↦ w.create-is ∙ sym (ap (λ (b : Bool). cond b 3 1) w.if-options.true)
+      | else-options w ↦ w.create-is ∙ sym (ap (λ (b : Bool). cond b 3 1) w.if-options.false)
+    ] in
+    let asked = creating_as g.C.Cluster.serves c.as_str-2.result.now c.args.path client options c.if-options.create c.unwrap_or-replication.result r c.unwrap_or-block_size.result k (Ok (answers.Create status)) (through c.defaults.new.self.namenode c.defaults.new.cluster) (through c.create.new.self c.create.new.cluster)
+    c.as_str-2.ensures flag c.unwrap_or-replication.ensures c.unwrap_or-block_size.ensures c.in_ok-status.ensures.asked in
+    let had = came g.C.Cluster.shown g.C.Cluster.serves g.met.C.Cluster.serves_rows g.met.C.Cluster.active_below true (creating c.args.path client options r k) (through c.defaults.new.self.namenode c.defaults.new.cluster) (Ok (answers.Create status)) (through c.create.new.self c.create.new.cluster)
+    (reaches_prepared (g.C.Cluster.shown c.args.cluster.now) (g.C.Cluster.shown c.defaults.new.cluster) c.args.self.now c.defaults.new.self c.in_ok-defaults.ensures.prepares c.requires.stands.reaches) asked in
+    let u = g.C.Cluster.shown c.refuse_created.new.cluster in
+    let session'' = c.refuse_created.new.self in
+    let h = c.refuse_created.ensures in
+    subst (λ (e : HdfsError). Acts (commands.Create name options) s c.args.self.now u (after {T = Reply} session'' (Err e)) (Err e)) (sym h.is)
+    (unsupported_acts (commands.Create name options) (create_opens name options) tt s m u c.args.self.now session session'' c.requires.stands prepares
+    (λ q. ap (λ w. get_by_text w q) h.asked.writers)
+    (remembers_trans session (record session { namenode = c.create.new.self }) session'' (remembers_asked session c.create.new.self c.create.ensures.keeps) h.asked.remembers)
+    (creating c.args.path client options r k) c.args.path called
+    (created_over s m c.args.self.now session c.args.path d prepares c.in_ok-defaults.ensures.ok c.requires.path c.requires.placed (g.met.C.Cluster.sound c.defaults.new.cluster) name client options r k called)
+    (looks_trans m t u (looks_from-Leaves m t had.relays.leaves) h.looks)
+    (λ q told. false≢true (sym (was_plain c.args.path client options r k q m t status told had) ∙ sym c.tells_encryption.ensures ∙ c.if-tells_encryption.true)))
+
+pub returns-then-tells_encryption-clause-whole : goal.returns-then-tells_encryption-clause-whole
+returns-then-tells_encryption-clause-whole g c = λ name called.
+    let s = g.C.Cluster.shown c.args.cluster.now in
+    let m = g.C.Cluster.shown c.defaults.new.cluster in
+    let t = g.C.Cluster.shown c.create.new.cluster in
+    let options = c.args.options.now in
+    let d = c.in_ok-defaults.defaults in
+    let session = c.defaults.new.self in
+    let r = unwrap_or options.replication d.replication in
+    let k = unwrap_or options.block_size d.block_size in
+    let client = session.namenode.client in
+    let status = c.in_ok-status.status in
+    let prepares = c.in_ok-defaults.ensures.prepares in
+    let flag : c.if-options.create ≡ cond options.overwrite 3 1 = elim c.if-options.branch [
+      | then-options w ↦ w.create-is ∙ sym (ap (λ (b : Bool). cond b 3 1) w.if-options.true)
+      | else-options w ↦ w.create-is ∙ sym (ap (λ (b : Bool). cond b 3 1) w.if-options.false)
+    ] in
+    let asked = creating_as g.C.Cluster.serves c.as_str-2.result.now c.args.path client options c.if-options.create c.unwrap_or-replication.result r c.unwrap_or-block_size.result k (Ok (answers.Create status)) (through c.defaults.new.self.namenode c.defaults.new.cluster) (through c.create.new.self c.create.new.cluster)
+    c.as_str-2.ensures flag c.unwrap_or-replication.ensures c.unwrap_or-block_size.ensures c.in_ok-status.ensures.asked in
+    let had = came g.C.Cluster.shown g.C.Cluster.serves g.met.C.Cluster.serves_rows g.met.C.Cluster.active_below true (creating c.args.path client options r k) (through c.defaults.new.self.namenode c.defaults.new.cluster) (Ok (answers.Create status)) (through c.create.new.self c.create.new.cluster)
+    (reaches_prepared (g.C.Cluster.shown c.args.cluster.now) (g.C.Cluster.shown c.defaults.new.cluster) c.args.self.now c.defaults.new.self c.in_ok-defaults.ensures.prepares c.requires.stands.reaches) asked in
+    let u = g.C.Cluster.shown c.refuse_created.new.cluster in
+    let session'' = c.refuse_created.new.self in
+    let h = c.refuse_created.ensures in
+    behind_whole (commands.Create name options) s m u c.args.self.now session session'' prepares (λ q. ap (λ w. get_by_text w q) h.asked.writers) c.args.path called
+    (λ q told. absurd (false≢true (sym (was_plain c.args.path client options r k q m t status told had) ∙ sym c.tells_encryption.ensures ∙ c.if-tells_encryption.true)))
+    c.refuse_created.result

@@ -38,7 +38,7 @@ returns-then-not-are_limited-clause-err g c =
       refl,
       c.in_ok-defaults.defaults,
       sym c.are_limited.ensures ∙ c.if-not-are_limited.true,
-      are_told g.C.Cluster.shown g.C.Cluster.serves g.met.C.Cluster.serves_rows c.args.cluster.now call.new.cluster c.args.self.now call.new.self
+      are_told g.C.Cluster.shown g.C.Cluster.serves g.met.C.Cluster.serves_rows c.args.cluster.now call.new.cluster c.args.self.now.namenode call.new.self
           (g.met.C.Cluster.active_below c.args.cluster.now) c.requires.stands.reaches c.in_ok-defaults.defaults h.known h.asked,
     )
 
@@ -49,6 +49,6 @@ returns-clause-ok g c =
     record {
       limited = sym c.are_limited.ensures ∙ c.if-not-are_limited.false;
       known = h.kept;
-      told = are_told g.C.Cluster.shown g.C.Cluster.serves g.met.C.Cluster.serves_rows c.args.cluster.now call.new.cluster c.args.self.now call.new.self
+      told = are_told g.C.Cluster.shown g.C.Cluster.serves g.met.C.Cluster.serves_rows c.args.cluster.now call.new.cluster c.args.self.now.namenode call.new.self
           (g.met.C.Cluster.active_below c.args.cluster.now) c.requires.stands.reaches c.in_ok-defaults.defaults h.known h.asked;
     }

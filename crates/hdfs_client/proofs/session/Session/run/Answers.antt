@@ -10,7 +10,7 @@ use Rattle.hdfs_client.specs.Acting.{world_at}
 use Rattle.hdfs_client.specs.Session.{opened_of}
 use Rattle.hdfs_client.proofs.Early.{fact_true, owed_result, state_acts, target_acts}
 use Rattle.hdfs_client.proofs.Connected.{connected_acts}
-use Rattle.hdfs_client.proofs.ReadActs.{read_command}
+use Rattle.hdfs_client.proofs.ReadActs.{read_command, read_knows}
 use Rattle.hdfs_client.proofs.WholeStarting.{as_called, early_whole, read_whole}
 use Rattle.hdfs_client.proofs.session.Session.run.Goals as goal
 
@@ -35,7 +35,10 @@ returns-in-Read-clause-acts g c =
     let command = c.args.command.now in
     let placed = c.is_placed.ensures.0 c.if-not-is_placed.false in
     let called = c.as_str-in-Read.ensures ∙ ok.0 in
-    connected_acts command (g.C.Cluster.shown c.args.cluster.now) session (g.C.Cluster.shown c.read_file.new.cluster) session c.read_file.new.connections c.read_file.new.namenode c.read_file.ensures.client c.read_file.result
+    connected_acts command (g.C.Cluster.shown c.args.cluster.now) session (g.C.Cluster.shown c.read_file.new.cluster) session c.read_file.new.connections c.read_file.new.namenode c.read_file.ensures.client.same
+    (read_knows (g.C.Cluster.shown c.args.cluster.now) (g.C.Cluster.shown c.read_file.new.cluster) session command c.in-Read.name c.as_str-in-Read.result.now c.in-Read.offset c.in-Read.len (sym c.in-Read.is) (ap is_path c.as_str-in-Read.ensures ∙ ok.1) called
+    (subst (λ (p : List ℕ). is_misplaced command (opened_of session p) ≡ false) (c.as_str.ensures ∙ sym c.as_str-in-Read.ensures) placed) c.read_file.new.namenode c.read_file.ensures.client)
+    c.read_file.result
     (read_command (g.C.Cluster.shown c.args.cluster.now) (g.C.Cluster.shown c.read_file.new.cluster) session command _ c.as_str-in-Read.result.now _ _ (search rules) (ap is_path c.as_str-in-Read.ensures ∙ ok.1) called
     (subst (λ (p : List ℕ). is_misplaced command (opened_of session p) ≡ false) (c.as_str.ensures ∙ sym c.as_str-in-Read.ensures) placed)
     c.read_file.result c.requires.stands c.read_file.ensures.anywhere c.read_file.ensures.links c.read_file.ensures.files c.read_file.ensures.ok c.read_file.ensures.err)

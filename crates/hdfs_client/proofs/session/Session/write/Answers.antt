@@ -27,7 +27,7 @@ returns-in-Ok-clause-acts g c = λ name is.
     })
     (c.write.ensures.stands.0, c.write.ensures.stands.1) c.args.bytes.now
     (λ none d. ap (λ x. (g.C.Cluster.shown x).counts.nodes d) (c.write.ensures.idle.none none))
-    (λ fine. fine) c.in-Ok.ensures.fails.0 c.in-Ok.ensures.wrote c.in-Ok.ensures.count.1 c.in-Ok.count c.in-Ok.ensures.count.0
+    (λ fine. fine) c.in-Ok.ensures.fails.0 c.in-Ok.ensures.wrote c.in-Ok.ensures.count.1 c.in-Ok.ensures.count.2 c.in-Ok.count c.in-Ok.ensures.count.0
 
 pub returns-in-Err-clause-acts : goal.returns-in-Err-clause-acts
 returns-in-Err-clause-acts g c = λ name is.
@@ -49,7 +49,7 @@ returns-in-Err-clause-acts g c = λ name is.
     })
     (c.write.ensures.stands.0, c.write.ensures.stands.1) c.args.bytes.now
     (λ none d. ap (λ x. (g.C.Cluster.shown x).counts.nodes d) (c.write.ensures.idle.none none))
-    refl c.in-Err.ensures.fails.1 c.in-Err.error (c.in-Err.ensures.err fine)
+    refl c.in-Err.ensures.fails.1 c.in-Err.error (λ limited un none. absurd (cc (c.in-Err.ensures.idle.empty fine limited none))) (c.in-Err.ensures.err fine)
     (λ out. (let o = c.in-Err.ensures.idle.options fine out in (cc o.0, o.1, ap (λ x. g.C.Cluster.shown x) o.2)))
 
 pub returns-in-Err-clause-owed : goal.returns-in-Err-clause-owed

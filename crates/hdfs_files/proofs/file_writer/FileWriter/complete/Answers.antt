@@ -9,7 +9,7 @@ use Rattle.hdfs_namenode.specs.Clients.{name_of, proxy_of, through}
 use Rattle.hdfs_namenode.proofs.Services.{reaches_later, reaches_service, same_client_refl, same_client_trans}
 use Rattle.hdfs_files.specs.Writers.{FailsToClose}
 use Rattle.hdfs_files.proofs.Asked.{came}
-use Rattle.hdfs_files.proofs.Closing.{asks_first, asked_true, asked_false, asked_error, no_memory, not_closed, completing_as}
+use Rattle.hdfs_files.proofs.Closing.{asks_first, asked_true, asked_false, asked_error, asked_nodes, no_memory, not_closed, completing_as}
 use Rattle.hdfs_files.proofs.file_writer.FileWriter.complete.Goals as goal
 
 pub loop-init : goal.loop-init
@@ -39,6 +39,22 @@ returns-in-Ok-true-clause-closed g c =
     let asked = completing_as g.C.Cluster.serves true c.as_str.result.now w.path client (option_copied c.as_ref.result) w.last w.file_id c.complete.result (Ok true) old new
     c.as_str.ensures c.as_ref.ensures.value (c.in-Ok-true.is ∙ ap Ok c.in-Ok-true.field-0-test) c.complete.ensures.asked in
     asked_true s m w c.requires.between (g.met.C.Cluster.sound c.loop.cluster) c.loop.counter asking (g.C.Cluster.shown c.complete.new.cluster) client
+    (came g.C.Cluster.shown g.C.Cluster.serves g.met.C.Cluster.serves_rows g.met.C.Cluster.active_below true (asks.Complete w.path client w.last w.file_id) old (Ok (answers.Complete true)) new reaches asked)
+
+pub returns-in-Ok-true-clause-nodes : goal.returns-in-Ok-true-clause-nodes
+returns-in-Ok-true-clause-nodes g c =
+    let s = g.C.Cluster.shown c.args.cluster.now in
+    let m = g.C.Cluster.shown c.loop.cluster in
+    let w = c.args.self.now in
+    let client = name_of c.loop.namenode in
+    let old = through c.loop.namenode c.loop.cluster in
+    let new = through c.complete.new.self c.complete.new.cluster in
+    let asking = c.loop.invariant.asking in
+    let reaches : ReachesAll (proxy_of c.loop.namenode) m =
+    reaches_later (proxy_of c.args.namenode.now) (proxy_of c.loop.namenode) s m c.loop.invariant.client.service asking.own.later c.requires.reaches in
+    let asked = completing_as g.C.Cluster.serves true c.as_str.result.now w.path client (option_copied c.as_ref.result) w.last w.file_id c.complete.result (Ok true) old new
+    c.as_str.ensures c.as_ref.ensures.value (c.in-Ok-true.is ∙ ap Ok c.in-Ok-true.field-0-test) c.complete.ensures.asked in
+    asked_nodes s m w c.requires.between (g.met.C.Cluster.sound c.loop.cluster) c.loop.counter asking (g.C.Cluster.shown c.complete.new.cluster) client (Ok (answers.Complete true))
     (came g.C.Cluster.shown g.C.Cluster.serves g.met.C.Cluster.serves_rows g.met.C.Cluster.active_below true (asks.Complete w.path client w.last w.file_id) old (Ok (answers.Complete true)) new reaches asked)
 
 pub loop-preserved : goal.loop-preserved
@@ -75,6 +91,28 @@ returns-in-Err-clause-err g c =
     c.as_str.ensures c.as_ref.ensures.value c.in-Err.is c.complete.ensures.asked in
     asked_error s m w c.requires.between (g.met.C.Cluster.sound c.loop.cluster) c.loop.counter asking (g.C.Cluster.shown c.complete.new.cluster) client c.in-Err.error
     (came g.C.Cluster.shown g.C.Cluster.serves g.met.C.Cluster.serves_rows g.met.C.Cluster.active_below true (asks.Complete w.path client w.last w.file_id) old (Err c.in-Err.error) new reaches asked)
+
+pub returns-in-Err-clause-nodes : goal.returns-in-Err-clause-nodes
+returns-in-Err-clause-nodes g c =
+    let s = g.C.Cluster.shown c.args.cluster.now in
+    let m = g.C.Cluster.shown c.loop.cluster in
+    let w = c.args.self.now in
+    let client = name_of c.loop.namenode in
+    let old = through c.loop.namenode c.loop.cluster in
+    let new = through c.complete.new.self c.complete.new.cluster in
+    let asking = c.loop.invariant.asking in
+    let reaches : ReachesAll (proxy_of c.loop.namenode) m =
+    reaches_later (proxy_of c.args.namenode.now) (proxy_of c.loop.namenode) s m c.loop.invariant.client.service asking.own.later c.requires.reaches in
+    let asked = completing_as g.C.Cluster.serves true c.as_str.result.now w.path client (option_copied c.as_ref.result) w.last w.file_id c.complete.result (Err c.in-Err.error) old new
+    c.as_str.ensures c.as_ref.ensures.value c.in-Err.is c.complete.ensures.asked in
+    asked_nodes s m w c.requires.between (g.met.C.Cluster.sound c.loop.cluster) c.loop.counter asking (g.C.Cluster.shown c.complete.new.cluster) client (Err c.in-Err.error)
+    (came g.C.Cluster.shown g.C.Cluster.serves g.met.C.Cluster.serves_rows g.met.C.Cluster.active_below true (asks.Complete w.path client w.last w.file_id) old (Err c.in-Err.error) new reaches asked)
+
+pub returns-in-Err-copy-clause-nodes : goal.returns-in-Err-copy-clause-nodes
+returns-in-Err-copy-clause-nodes g c = c.loop.invariant.asking.nodes
+
+pub returns-in-Ok-clause-nodes : goal.returns-in-Ok-clause-nodes
+returns-in-Ok-clause-nodes g c = c.loop.invariant.asking.nodes
 
 pub returns-in-Err-clause-client : goal.returns-in-Err-clause-client
 returns-in-Err-clause-client g c =

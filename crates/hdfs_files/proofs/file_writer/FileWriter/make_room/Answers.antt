@@ -22,7 +22,7 @@ begin_block-requires-clause-full g c =
     let none : HasRoom w → ⊥ = λ room. false≢true (sym c.if-has_room.false ∙ c.has_room.ensures.1 room) in
     let full = full_without_room s w c.requires.works.stands c.requires.works.fine none (c.take_reopened.ensures.full c.in-None.is) in
     subst (λ (z : WriteSizes). IsFull z.block_size (tail_of c.finish_block.new.self)) (sym c.finish_block.ensures.keeps.0.sizes)
-    (c.in-Ok-finish_block.ensures.full (subst (λ (x : FileWriter). IsFull x.sizes.block_size (tail_of x)) (sym same) full))
+    (c.in-Ok-finish_block.ensures.between.1 (subst (λ (x : FileWriter). IsFull x.sizes.block_size (tail_of x)) (sym same) full))
 
 pub begin_block-requires-clause-reaches : goal.begin_block-requires-clause-reaches
 begin_block-requires-clause-reaches g c =

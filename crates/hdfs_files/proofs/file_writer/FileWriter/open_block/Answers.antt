@@ -5,7 +5,7 @@ use Rattle.hdfs_namenode.specs.Clients.{name_of}
 use Rattle.hdfs_block_writer.specs.Packing.{setup_of}
 use Rattle.hdfs_recovery.specs.declared.block_plan.BlockPlan.{BlockPlan}
 use Rattle.hdfs_block_writer.specs.Written.{BeginsWhole, IsNew}
-use Rattle.hdfs_files.specs.Writers.{Fails, plan_of}
+use Rattle.hdfs_files.specs.Writers.{FailsOtherwise, plan_of}
 use Rattle.hdfs_files.proofs.Standing.{begun_stands, opened_wrote, unopened_fails}
 use Rattle.hdfs_files.proofs.file_writer.FileWriter.open_block.Goals as goal
 
@@ -19,7 +19,7 @@ returns-in-Ok-replicated-clause-stands g c =
     subst (λ (x : BlockPlan). IsNew x w.sizes.rebuilding w.sizes.block_size w.sizes.packet_size block) c.in-Ok.ensures c.in-Ok-replicated.ensures.new in
     let room = c.requires.room in (
       begun_stands (g.C.Cluster.shown c.replicated.new.cluster) (g.C.Cluster.shown c.args.cluster.now) w (record w { going = Some block }) block c.args.located created
-          (setup_of plan.block plan.chunk (name_of c.args.namenode.now)) c.requires.begins.sizes c.requires.begins.fine refl refl
+          (setup_of plan.block plan.chunk (name_of c.args.namenode.now)) c.requires.begins.sizes c.requires.begins.plain c.requires.begins.fine refl refl
           c.requires.begins.between.done c.in-Ok-replicated.ensures.stands new c.in-Ok-replicated.ensures.opened,
       (block, refl, λ full. absurd (omega (arith, full, new.length, new.block_size, room))),
     )
@@ -45,6 +45,6 @@ returns-in-Err-replicated-clause-err g c =
     let t = g.C.Cluster.shown c.replicated.new.cluster in
     let w = c.args.self.now in
     let plan = c.in-Ok.plan in
-    subst (λ (e : HdfsError). Fails s (record w { reopened = Some c.args.located }) e t) (sym c.error_of.ensures)
+    subst (λ (e : HdfsError). FailsOtherwise s (record w { reopened = Some c.args.located }) e t) (sym c.error_of.ensures)
     (unopened_fails s t (record w { reopened = Some c.args.located }) c.args.located c.requires.begins.between.none refl
     (setup_of plan.block plan.chunk (name_of c.args.namenode.now)) c.in-Err-replicated.fault c.in-Err-replicated.ensures.err)

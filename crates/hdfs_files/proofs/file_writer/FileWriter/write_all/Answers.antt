@@ -1,18 +1,14 @@
 -- The goals of FileWriter::write_all.
-use Rattle.std.proofs.Common.{◌≡◌, ◌<◌, ℕ, [], List, ◌++◌, length, take, sym, ◌∙◌, ap, refl, arith}
-use Rattle.std.proofs.lemmas.List.{take_rest, length-append}
+use Rattle.std.proofs.Common.{[], List, ℕ, ◌++◌, take, sym, ◌∙◌, ap, refl}
+use Rattle.std.proofs.lemmas.List.{take_rest}
 use Rattle.hdfs_namenode.specs.Clients.{proxy_of}
 use Rattle.hdfs_namenode.proofs.Services.{reaches_later, same_client_refl, same_client_trans}
 use Rattle.hdfs_block_writer.proofs.Wrote.{pieces_join}
 use Rattle.hdfs_files.proofs.Joining.{wrote_nothing, wrote_trans, fails_after}
 use Rattle.hdfs_files.proofs.file_writer.FileWriter.write_all.Goals as goal
 
--- no bytes are left of none
-none_left : (bytes done rest : List ℕ) → bytes ≡ [] → bytes ≡ done ++ rest → 0 < length rest → ⊥
-none_left bytes done rest empty cut some = omega (arith, ap length (sym cut ∙ empty), length-append done rest, some)
-
 pub blocks-2-init : goal.blocks-2-init
-blocks-2-init g c = record { stands = c.requires.works.stands; fine = c.requires.works.fine; told = ([], refl, wrote_nothing (g.C.Cluster.shown c.args.cluster.now) c.args.self.now); client = same_client_refl c.args.namenode.now; none = λ empty. refl }
+blocks-2-init g c = record { stands = c.requires.works.stands; fine = c.requires.works.fine; told = ([], refl, wrote_nothing (g.C.Cluster.shown c.args.cluster.now) c.args.self.now); client = same_client_refl c.args.namenode.now }
 
 pub blocks-2-preserved : goal.blocks-2-preserved
 blocks-2-preserved g c =
@@ -21,7 +17,6 @@ blocks-2-preserved g c =
     let n = c.in-Ok.taken in
     let rest = c.blocks-2.rest.now in
     let told = before.told in
-    let some : 0 < length rest = omega (arith, now.count) in
     record {
       stands = now.stands;
       fine = now.keeps.1;
@@ -31,7 +26,6 @@ blocks-2-preserved g c =
         wrote_trans (g.C.Cluster.shown c.args.cluster.now) (g.C.Cluster.shown c.blocks-2.cluster) (g.C.Cluster.shown c.write_piece.new.cluster) c.args.self.now c.blocks-2.self c.write_piece.new.self told.0 (take n rest) told.2 now.wrote,
       );
       client = same_client_trans c.args.namenode.now c.blocks-2.namenode c.write_piece.new.namenode before.client now.keeps.2;
-      none = λ empty. absurd (none_left c.args.bytes.now told.0 rest empty told.1 some);
     }
 
 pub write_piece-requires-clause-reaches : goal.write_piece-requires-clause-reaches

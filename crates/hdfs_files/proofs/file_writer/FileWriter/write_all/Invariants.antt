@@ -1,5 +1,5 @@
 -- How far the bytes were taken.
-use Rattle.std.proofs.Common.{◌≡◌, ℕ, List, [], ◌++◌, length, false}
+use Rattle.std.proofs.Common.{◌≡◌, ℕ, List, ◌++◌, length, false}
 use Rattle.hdfs_namenode.specs.Clients.{SameClient}
 use Rattle.hdfs_files.specs.Writers.{Stands, Wrote}
 use Rattle.hdfs_files.proofs.file_writer.FileWriter.write_all.Given as goal
@@ -10,7 +10,6 @@ invariant-blocks-2 g l = record {
   fine : l.self.failed ≡ false;
   told : (done : List ℕ) × (l.fn.bytes ≡ done ++ l.rest) × Wrote (g.C.Cluster.shown l.fn.cluster) l.fn.self done (g.C.Cluster.shown l.cluster) l.self;
   client : SameClient l.fn.namenode l.namenode;
-  none : l.fn.bytes ≡ [] → l.cluster ≡ l.fn.cluster;
 }
 
 abbrev pub decreases-blocks-2 : goal.decreases-blocks-2

@@ -6,7 +6,7 @@ use Rattle.hdfs_namenode.proofs.Services.{reaches_later}
 use Rattle.hdfs_block_writer.specs.BlockWriters.{length_of, size_of}
 use Rattle.hdfs_block_writer.specs.declared.block_writer.BlockWriter.{BlockWriter}
 use Rattle.hdfs_files.specs.Faults.{error_of}
-use Rattle.hdfs_files.specs.Writers.{Fails}
+use Rattle.hdfs_files.specs.Writers.{FailsOtherwise}
 use Rattle.hdfs_files.proofs.Joining.{wrote_trans, fails_after}
 use Rattle.hdfs_files.proofs.Standing.{more_stands, more_wrote, gave_up_fails, within_size, min_some}
 use Rattle.hdfs_files.proofs.file_writer.FileWriter.write_piece.Goals as goal
@@ -53,7 +53,7 @@ returns-in-Err-write-clause-err g c =
     let w1 = c.make_room.new.self in
     let block = c.in-Some.block in
     let stands = c.in-Ok.ensures.stands.0 in
-    subst (λ (e : HdfsError). Fails s c.args.self.now e t) (sym c.error_of.ensures)
+    subst (λ (e : HdfsError). FailsOtherwise s c.args.self.now e t) (sym c.error_of.ensures)
     (fails_after s m t c.args.self.now w1 [] (error_of c.in-Err-write.fault) c.in-Ok.ensures.wrote
     (gave_up_fails m t (g.met.C.Cluster.sound c.make_room.new.cluster) (g.met.C.Cluster.sound c.write.new.cluster) w1 block c.in-Some.is (stands.is_open c.in-Ok.ensures.fine block c.in-Some.is)
     (stands.going block c.in-Some.is).settings c.in-Err-write.fault c.in-Err-write.ensures.err.gave_up))
