@@ -3,6 +3,7 @@
 
 mod faults;
 mod file_writer;
+mod next_block;
 mod sizes;
 
 pub use file_writer::FileWriter;
