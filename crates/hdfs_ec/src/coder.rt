@@ -17,7 +17,7 @@ use crate::fault::{EcFault, ShardFault};
 use crate::places::{empty_numbers, have_one_length, held_numbers, list_empty, put, shards_of};
 use bytes::Bytes;
 use hdfs_field::{GF256, Matrix, Ring, are_even};
-use hdfs_wire::{Blob, NoMemory};
+use hdfs_wire::NoMemory;
 use std::alloc::Global;
 use std::marker::Model;
 
@@ -90,17 +90,6 @@ fn numbers_from(alloc: Global, start: usize, count: usize) -> Result<Vec<usize>,
         numbers.push(n)?;
     }
     Ok(numbers)
-}
-
-/// The same bytes, without a copy of them.
-fn shared(alloc: Global, blobs: Vec<Blob>) -> Result<Vec<Bytes>, NoMemory>
-    ensures { IfOk result (λ v. v.items ≡ blobs.items) }
-{
-    let mut shards = Vec::with_capacity(alloc, blobs.len())?;
-    for blob in blobs {
-        shards.push(Bytes::from_vec(blob.into_vec())?)?;
-    }
-    Ok(shards)
 }
 
 impl Coder {
@@ -188,14 +177,15 @@ impl Coder {
         Ok(rows)
     }
 
-    /// The parity shards of these data shards. Condition: `are_data_shards` of them.
+    /// The parity shards of these data shards. Condition: `are_data_shards` of them. From 256 KiB on two shards of the answer share one
+    /// piece of memory, which is kept as long as one of them is.
     pub fn encode(&self, alloc: Global, shards: &[Bytes]) -> Result<Vec<Bytes>, NoMemory>
         requires even { AreEven self.now.units shards.now }
         requires some { 0 < length (slice_index_or shards.now 0 []) }
         ensures { IfOk result (λ v. AreParityShards self.now.parity shards.now v.items) }
     {
         let rows = self.parity_rows(alloc)?;
-        Ok(shared(alloc, rows.mul_slices(alloc, shards)?)?)
+        Ok(rows.mul_shared(alloc, shards)?)
     }
 
     /// The missing data shards, which have these numbers, computed from the first shards that are there.
@@ -216,8 +206,7 @@ impl Coder {
         let units = self.data_units;
         let rows = self.restoring_rows(alloc, held, missing)?;
         let copies = shards_of(alloc, shards)?;
-        let products = rows.mul_slices(alloc, &copies[..units])?;
-        Ok(shared(alloc, products)?)
+        Ok(rows.mul_shared(alloc, &copies[..units])?)
     }
 
     /// Fills the missing data shards; missing parity shards stay missing. Condition: `are_places` of the places.

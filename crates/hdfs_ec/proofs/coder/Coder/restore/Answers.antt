@@ -1,7 +1,6 @@
 use Rattle.std.proofs.Common.{ℕ, ◌-◌, List, length, take, sym, ap, subst, ◌∙◌}
 use Rattle.hdfs_field.specs.Slices.{AreEven, AreCombined}
 use Rattle.hdfs_ec.specs.Coding.{Code, IsCode}
-use Rattle.hdfs_ec.specs.Places.{IsRestored}
 use Rattle.hdfs_ec.specs.Restoring.{AreSplit, Restores}
 use Rattle.hdfs_ec.proofs.Decoding.{shards_size, shards_even, restored_from}
 use Rattle.hdfs_ec.proofs.Splitting.{places_split}
@@ -16,8 +15,8 @@ restoring_rows-requires c =
     subst (λ (xs : List ℕ). AreSplit code.units code.parity xs (code.units - length missing) missing) (sym c.requires.held)
     (places_split code.units code.parity is_code places c.requires.places c.requires.enough missing c.requires.some c.requires.missing)
 
-pub slice_bounds-mul_slices-end : goal.slice_bounds-mul_slices-end
-slice_bounds-mul_slices-end c =
+pub slice_bounds-mul_shared-end : goal.slice_bounds-mul_shared-end
+slice_bounds-mul_shared-end c =
     let code = c.args.self.now in
     let places = c.args.shards.now in
     let is_code = subst (λ (v : Code). IsCode v.units v.parity) c.self.view_is c.self.invariant.0 in
@@ -25,8 +24,8 @@ slice_bounds-mul_slices-end c =
     let first = ap (λ (n : ℕ). take n c.deref.result.now) same ∙ ap (take code.units) (c.deref.ensures.value ∙ c.in_ok-copies.ensures) in
     same ∙ sym (shards_size code.units code.parity is_code places c.requires.places c.requires.enough) ∙ ap length (sym first)
 
-pub mul_slices-requires : goal.mul_slices-requires
-mul_slices-requires c =
+pub mul_shared-requires : goal.mul_shared-requires
+mul_shared-requires c =
     let code = c.args.self.now in
     let places = c.args.shards.now in
     let is_code = subst (λ (v : Code). IsCode v.units v.parity) c.self.view_is c.self.invariant.0 in
@@ -46,7 +45,6 @@ returns c =
     let restores = subst (λ (xs : List ℕ). Restores code.units xs missing rows) c.requires.held c.in_ok-rows.ensures in
     let same = ap (λ (v : Code). v.units) c.self.view_is in
     let first = ap (λ (n : ℕ). take n c.deref.result.now) same ∙ ap (take code.units) (c.deref.ensures.value ∙ c.in_ok-copies.ensures) in
-    let products = c.in_ok-products.products.items in
-    let combined = subst (λ (xs : List (List ℕ)). AreCombined rows xs products) first c.in_ok-products.ensures in
-    subst (IsRestored code.units places missing) (sym c.in_ok-shared.ensures)
-    (restored_from code.units code.parity is_code places c.requires.places c.requires.enough missing split.lost rows restores products combined)
+    let products = c.in_ok-mul_shared.field-0.items in
+    let combined = subst (λ (xs : List (List ℕ)). AreCombined rows xs products) first c.in_ok-mul_shared.ensures in
+    restored_from code.units code.parity is_code places c.requires.places c.requires.enough missing split.lost rows restores products combined

@@ -1,10 +1,9 @@
-use Rattle.std.proofs.Common.{ℕ, ◌+◌, length, map, sym, ap, subst, ◌∙◌, arith}
+use Rattle.std.proofs.Common.{ℕ, ◌+◌, length, map, sym, subst, ◌∙◌, arith}
 use Rattle.hdfs_field.specs.Lanes.{HasLanes, AreRowTables}
 use Rattle.hdfs_field.specs.Matrices.{width}
-use Rattle.hdfs_field.specs.Slices.{AreFirst, combined_below}
-use Rattle.hdfs_field.proofs.Combining.{whole_written}
+use Rattle.hdfs_field.specs.Slices.{combined_below}
 use Rattle.hdfs_field.proofs.LaneLemmas.{slice_count}
-use Rattle.hdfs_field.proofs.slices.Matrix+GF256.mul_row.Goals as goal
+use Rattle.hdfs_field.proofs.slices.Matrix+GF256.write_row.Goals as goal
 
 pub vectors-preserved : goal.vectors-preserved
 vectors-preserved c =
@@ -16,11 +15,8 @@ vectors-preserved c =
     = subst (λ k. AreRowTables m c.args.r k c.deref.result.now) (sym count) (subst (AreRowTables m c.args.r n) (sym c.deref.ensures.value) c.in_ok-tables.ensures) in
     let lanes = subst (λ (k : ℕ). HasLanes c.combined_vector.result (λ j. (combined_below m shards c.args.r k (c.vectors.i + j)).value)) count
     (c.combined_vector.ensures m c.args.r so) in
-    let value = c.deref_mut.ensures.value in
-    let whole = whole_written c.vectors.out.len c.store.new.out c.vectors.out.items (c.store.ensures.long ∙ ap length value) (sym c.deref_mut.ensures.len ∙ ap length value) in
     record {
       within = omega arith;
-      long = ap length whole ∙ c.store.ensures.long ∙ ap length value ∙ c.vectors.invariant.long;
-      first = subst (AreFirst m shards c.args.r n (c.vectors.i + 32)) (sym whole)
-          (c.store.ensures.first m shards c.args.r n (subst (AreFirst m shards c.args.r n c.vectors.i) (sym value) c.vectors.invariant.first) lanes);
+      long = c.store.ensures.long ∙ c.vectors.invariant.long;
+      first = c.store.ensures.first m shards c.args.r n c.vectors.invariant.first lanes;
     }
