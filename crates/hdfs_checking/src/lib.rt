@@ -5,21 +5,20 @@ mod faults;
 mod noting;
 mod outages;
 mod pipelines;
+mod reads;
 
-ghost use Rattle.std.specs.Prelude.{◌<◌};
-ghost use Rattle.hdfs_cluster.specs.MemShown.{shown_of};
-
-use hdfs_client_tests::cluster;
-use hdfs_cluster::MemCluster;
+use hdfs_cluster::{Cluster, MemCluster};
+use hdfs_fakes::{cluster, held};
 use hdfs_model::{Line, MemSettings, Reply};
 use hdfs_plain::{PlainFiles, PlainFold, PlainRefusal, PlainWorld};
 use hdfs_script::{ScriptSettings, parse, session_settings};
 use hdfs_streams::{MemSink, MemSource};
 use hdfs_top::{Note, top};
 use hdfs_wire::{Blob, List};
-pub use noting::{listed, noted};
+pub use noting::{listed, noted, noted_of_new};
 pub use outages::{Outages, check_outages};
 pub use pipelines::{Tally, check_pipelines};
+pub use reads::check_reads;
 use std::alloc::Global;
 use std::test::Fail;
 
@@ -56,31 +55,88 @@ pub fn words(alloc: Global, texts: &[&str]) -> Result<Vec<String>, Fail> {
     Ok(words)
 }
 
-/// Runs the program, and tells its status and what was written.
+/// A new cluster in memory, or one that holds a file. It is in a box, so that whoever owns it lets go of it in one step.
+pub fn store_of(alloc: Global, is_held: bool) -> Result<Box<MemCluster>, Fail> {
+    let store = if is_held {
+        held(alloc)?
+    } else {
+        cluster(alloc)?
+    };
+    Ok(Box::new(alloc, store)?)
+}
+
+/// Runs the program, and answers its status. A store without a namenode isn't run over.
+fn status_of(
+    alloc: Global,
+    words: &[String],
+    source: &mut MemSource,
+    sink: &mut MemSink,
+    store: &mut MemCluster,
+    note: &mut Note,
+) -> u8 {
+    if store.namenodes() == 0 {
+        return u8::MAX;
+    }
+    top(alloc, words, source, sink, store, note)
+}
+
+/// A sink that takes a byte a call, and fails at the call with this number.
+pub fn failing_sink(alloc: Global, call: u64) -> Result<MemSink, Fail> {
+    Ok(MemSink::new(alloc, 1, List::from_vec(vec![in alloc; call]?)))
+}
+
+/// What the program answers to words over a source and a sink.
+pub fn answer_words(
+    alloc: Global,
+    texts: &[&str],
+    source: &mut MemSource,
+    sink: &mut MemSink,
+    store: &mut MemCluster,
+) -> Result<Ending, Fail> {
+    let mut note = Box::new(alloc, Note::Nothing)?;
+    run(alloc, texts, source, sink, store, &mut note)
+}
+
+/// Runs the program, and tells its status, what was written, and what it notes.
 pub fn run(
     alloc: Global,
     texts: &[&str],
-    mut source: MemSource,
-    mut sink: MemSink,
+    source: &mut MemSource,
+    sink: &mut MemSink,
     store: &mut MemCluster,
-) -> Result<Ending, Fail>
-    requires { 0 < (shown_of store.old).namenodes }
-{
+    note: &mut Note,
+) -> Result<Ending, Fail> {
     let words = words(alloc, texts)?;
-    let mut note = Note::Nothing;
-    let status = top(alloc, &words, &mut source, &mut sink, store, &mut note);
+    let status = status_of(alloc, &words, source, sink, store, note);
+    ending_of(alloc, status, sink)
+}
+
+/// A status, and what a sink was given.
+fn ending_of(alloc: Global, status: u8, sink: &MemSink) -> Result<Ending, Fail> {
     let text = str::from_utf8(sink.bytes())?;
-    Ok(Ending {
-        status,
-        text: String::from_str(alloc, text)?,
-    })
+    expected(alloc, status, text)
+}
+
+/// What the program answers over a store.
+pub fn answer_on(
+    alloc: Global,
+    script: &[u8],
+    store: &mut MemCluster,
+    note: &mut Note,
+) -> Result<Ending, Fail> {
+    let mut source = source(alloc, script)?;
+    let mut sink = sink(alloc);
+    let given = run(alloc, &["session"], &mut source, &mut sink, store, note);
+    drop(sink);
+    drop(source);
+    given
 }
 
 /// What the program answers over a new cluster in memory.
 pub fn answer(alloc: Global, script: &[u8]) -> Result<Ending, Fail> {
-    let mut store = cluster(alloc)?;
-    let source = source(alloc, script)?;
-    Ok(run(alloc, &["session"], source, sink(alloc), &mut store)?)
+    let mut store = store_of(alloc, false)?;
+    let mut note = Box::new(alloc, Note::Nothing)?;
+    answer_on(alloc, script, &mut store, &mut note)
 }
 
 /// A status and a text.

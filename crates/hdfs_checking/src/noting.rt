@@ -1,28 +1,40 @@
 //! Scripts over a cluster that can be looked at afterwards.
 
-use crate::{Ending, sink, source, words};
+use crate::{Ending, answer_on, store_of};
 use hdfs_cluster::{Cluster, MemCluster};
+use hdfs_model::LocatedBlocks;
 use hdfs_namenode::{NameServiceProxy, NamenodeProtocol};
-use hdfs_top::{Note, top};
-use std::alloc::Global;
+use hdfs_top::Note;
+use std::alloc::{AllocError, Global};
 use std::test::Fail;
 
 /// What the program answers over a store, and what it notes of that.
 pub fn noted(
     alloc: Global,
-    script: &str,
+    script: &[u8],
     store: &mut MemCluster,
 ) -> Result<(Ending, String), Fail> {
-    if store.namenodes() == 0 {
-        return Err("there is no namenode".into());
+    let mut note = Box::new(alloc, Note::Nothing)?;
+    let given = answer_on(alloc, script, store, &mut note)?;
+    Ok((given, format!(in alloc; "{note}")?))
+}
+
+/// What the program answers over a new cluster, and what it notes of that.
+pub fn noted_of_new(alloc: Global, script: &[u8]) -> Result<(Ending, String), Fail> {
+    let mut store = store_of(alloc, false)?;
+    noted(alloc, script, &mut store)
+}
+
+/// The uuids of the datanodes of blocks, block by block, each behind a blank.
+fn uuids_of(alloc: Global, found: &LocatedBlocks) -> Result<String, AllocError> {
+    let mut uuids = String::new(alloc);
+    for block in found.blocks.as_slice() {
+        for node in block.locs.as_slice() {
+            uuids.push(' ')?;
+            uuids.push_str(node.id.datanode_uuid.as_str())?;
+        }
     }
-    let words = words(alloc, &["session"])?;
-    let mut source = source(alloc, script.as_bytes())?;
-    let mut sink = sink(alloc);
-    let mut note = Note::Nothing;
-    let status = top(alloc, &words, &mut source, &mut sink, store, &mut note);
-    let text = String::from_str(alloc, str::from_utf8(sink.bytes())?)?;
-    Ok((Ending { status, text }, format!(in alloc; "{note}")?))
+    Ok(uuids)
 }
 
 /// The uuids of the datanodes that a namenode lists for the blocks of a file, block by block, each behind a blank.
@@ -33,15 +45,11 @@ pub fn listed(alloc: Global, path: &str, store: &mut MemCluster) -> Result<Strin
     }
     let service = NameServiceProxy::new(0, namenodes, false, false);
     let mut namenode = NamenodeProtocol::new(alloc, service, [0; 16])?;
-    let mut uuids = String::new(alloc);
-    let Some(found) = namenode.get_block_locations(store, path, 0, u64::MAX)? else {
-        return Ok(uuids);
+    let found = namenode.get_block_locations(store, path, 0, u64::MAX)?;
+    let uuids = match &found {
+        Some(found) => uuids_of(alloc, found),
+        None => Ok(String::new(alloc)),
     };
-    for block in found.blocks.as_slice() {
-        for node in block.locs.as_slice() {
-            uuids.push(' ')?;
-            uuids.push_str(node.id.datanode_uuid.as_str())?;
-        }
-    }
-    Ok(uuids)
+    drop(found);
+    Ok(uuids?)
 }

@@ -2,8 +2,7 @@
 //! part of its replies for a cause that the counts show.
 
 use crate::faults::{none_failed, pair_of, stops_behind};
-use crate::{Ending, listed, noted, plain_answer};
-use hdfs_client_tests::cluster;
+use crate::{Ending, listed, noted, plain_answer, store_of};
 use hdfs_cluster::{Counts, MemCluster};
 use std::alloc::Global;
 use std::test::Fail;
@@ -137,8 +136,8 @@ fn check_session(
     script: &str,
     plain: &Ending,
 ) -> Result<bool, Fail> {
-    let mut store = cluster(alloc)?;
-    let (given, note) = noted(alloc, script, &mut store)?;
+    let mut store = store_of(alloc, false)?;
+    let (given, note) = noted(alloc, script.as_bytes(), &mut store)?;
     tally.sessions = tally.sessions.saturating_add(1);
     if given == *plain {
         tally.done = tally.done.saturating_add(1);

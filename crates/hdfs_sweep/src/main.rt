@@ -2,7 +2,8 @@
 //! end behind the plain program's replies, with every path that the failed command doesn't name as those left it.
 //!
 //! Then it runs sessions that write a file of three replicas while a call fails, or two, and sessions over namenodes that fail once, or
-//! twice: each is answered as by the plain program, or stops for a cause that the counts show.
+//! twice: each is answered as by the plain program, or stops for a cause that the counts show. Last it reads a file of one replica to three
+//! with each single fault of a datanode.
 //!
 //! Words: a number to begin with, a step for sessions, one for pairs of a session and a fault, one for sessions over pipelines, and one for
 //! those over namenodes: of the 168,420 sessions, the 2,526,300 pairs, the 159,192 sessions over pipelines and the 340,704 over namenodes
@@ -14,7 +15,7 @@ mod scripts;
 mod single_faults;
 
 use comparing::compare_all;
-use hdfs_checking::{check_outages, check_pipelines};
+use hdfs_checking::{check_outages, check_pipelines, check_reads};
 use single_faults::check_all;
 use std::env;
 use std::test::Fail;
@@ -39,5 +40,7 @@ fn main(rt: HostRuntime) -> Result<(), Fail> {
         "{} sessions over namenodes are done, or stop for a cause that the counts show",
         outages.sessions
     )?;
+    let reads = check_reads(rt.alloc())?;
+    println!(rt; "{reads} reads with a fault end as the replicas allow")?;
     Ok(())
 }

@@ -2,9 +2,9 @@
 
 use crate::comparing::{COUNTS, calls_of};
 use crate::scripts::{PATHS, script_of};
-use hdfs_checking::{Ending, plain_answer, run, sink, source};
-use hdfs_client_tests::cluster;
-use hdfs_cluster::{Cluster, MemCluster};
+use hdfs_checking::{Ending, answer_on, plain_answer, store_of};
+use hdfs_cluster::MemCluster;
+use hdfs_top::Note;
 use std::alloc::Global;
 use std::test::Fail;
 
@@ -95,11 +95,8 @@ fn failures(store: &MemCluster) -> Result<u64, Fail> {
 
 /// Runs a script over a store.
 fn run_over(alloc: Global, script: &str, store: &mut MemCluster) -> Result<Ending, Fail> {
-    let source = source(alloc, script.as_bytes())?;
-    if store.namenodes() == 0 {
-        return Err(Fail::from("there is no namenode"));
-    }
-    run(alloc, &["session"], source, sink(alloc), store)
+    let mut note = Box::new(alloc, Note::Nothing)?;
+    answer_on(alloc, script.as_bytes(), store, &mut note)
 }
 
 /// What a new session reads of a path is what the plain program reads behind the calls that were done.
@@ -129,7 +126,7 @@ fn check_path(
 fn check_session(alloc: Global, fault: &str, calls: &[usize]) -> Result<bool, Fail> {
     let plain = plain_answer(alloc, script_of(alloc, None, calls)?.as_bytes())?;
     let script = script_of(alloc, Some(fault), calls)?;
-    let mut store = cluster(alloc)?;
+    let mut store = store_of(alloc, false)?;
     let given = run_over(alloc, script.as_str(), &mut store)?;
     if failures(&store)? == 0 {
         if given != plain {

@@ -1,25 +1,10 @@
-//! Tests of the program over sources, sinks and clusters in memory, and beside the plain program.
+//! Tests of the program that are no cases of scripts: the texts of errors, words that are refused, sources and sinks that fail, and scripts
+//! that are too long.
 #![tactic(auto)]
 
 #[cfg(test)]
-mod encryption_rows;
-#[cfg(test)]
-mod fault_rows;
-#[cfg(test)]
-mod namenode_rows;
-#[cfg(test)]
-mod outage_rows;
-#[cfg(test)]
-mod pipeline_rows;
-#[cfg(test)]
-mod replica_rows;
-#[cfg(test)]
-mod rows;
+mod long_scripts;
 #[cfg(test)]
 mod runs;
 #[cfg(test)]
-mod short_rows;
-#[cfg(test)]
 mod texts;
-#[cfg(test)]
-mod writing_rows;

@@ -1,136 +1,121 @@
-//! Words, sources and sinks that fail, and clusters that hold files before the program runs.
+//! Words that are refused, and sources and sinks that fail.
 
-use hdfs_checking::{expected, failing_source, run, sink, source};
-use hdfs_client_tests::{cluster, held};
+use hdfs_checking::{answer_words, failing_sink, failing_source, sink, source, store_of};
+use hdfs_cluster::MemCluster;
 use hdfs_model::Store;
-use hdfs_streams::MemSink;
-use hdfs_wire::List;
-use std::test::Fail;
+use hdfs_streams::{MemSink, MemSource};
+use std::alloc::Global;
 
 /// Words that aren't those of a session.
 const WORDS: [&[&str]; 4] = [&[], &["make"], &["session", "session"], &["Session"]];
 
-#[test]
-fn other_words_are_refused(rt: HostRuntime) -> Result<(), Fail> {
-    let alloc = rt.alloc();
-    let bad = expected(alloc, 1, "bad 0\n")?;
-    for texts in &WORDS {
-        let source = source(alloc, b"file /a 644 1 8 00\n")?;
-        let given = run(alloc, texts, source, sink(alloc), &mut cluster(alloc)?)?;
-        assert_eq!(rt; given, bad, "{texts:?}");
-    }
-    Ok(())
-}
-
-#[test]
-fn other_words_and_a_sink_that_fails_give_a_prefix_of_the_refusal(
-    rt: HostRuntime,
-) -> Result<(), Fail> {
-    let alloc = rt.alloc();
-    for call in 1..=6u64 {
-        let source = source(alloc, b"")?;
-        let sink = MemSink::new(alloc, 1, List::from_vec(vec![in alloc; call]?));
-        let given = run(alloc, &["make"], source, sink, &mut cluster(alloc)?)?;
-        let prefix = "bad 0\n".get(..call as usize - 1).unwrap_or("");
-        assert_eq!(rt; given, expected(alloc, 5, prefix)?, "call {call}");
-    }
-    Ok(())
-}
-
+/// A script that reads the byte of its file.
 const ONE_BYTE: &[u8] = b"file /a 644 1 8 00\ndo read /a 0 1\n";
 
-#[test]
-fn a_source_that_fails_ends_with_status_4(rt: HostRuntime) -> Result<(), Fail> {
-    let alloc = rt.alloc();
-    for call in 1..=2u64 {
-        let source = failing_source(alloc, ONE_BYTE, call)?;
-        let mut store = cluster(alloc)?;
-        let given = run(alloc, &["session"], source, sink(alloc), &mut store)?;
-        assert_eq!(rt; given, expected(alloc, 4, "")?, "call {call}");
-        assert!(rt; store.fresh(), "call {call}");
+/// A script that reads no byte.
+const NO_BYTE: &[u8] = b"file /b 644 1 8 -\ndo read /b 0 0\n";
+
+/// Whether the program ends so over a store.
+fn ends_over(
+    alloc: Global,
+    texts: &[&str],
+    source: &mut MemSource,
+    sink: &mut MemSink,
+    store: &mut MemCluster,
+    wanted: (u8, &str),
+) -> bool {
+    match answer_words(alloc, texts, source, sink, store) {
+        Ok(given) => (given.status, given.text.as_str()) == wanted,
+        Err(_fail) => false,
     }
-    Ok(())
+}
+
+/// Whether the program ends so over a new store.
+fn ends(
+    alloc: Global,
+    texts: &[&str],
+    source: &mut MemSource,
+    sink: &mut MemSink,
+    wanted: (u8, &str),
+) -> bool {
+    match store_of(alloc, false) {
+        Ok(mut store) => ends_over(alloc, texts, source, sink, &mut store, wanted),
+        Err(_fail) => false,
+    }
+}
+
+/// Whether words are refused.
+fn is_refused(alloc: Global, texts: &[&str]) -> bool {
+    match source(alloc, b"file /a 644 1 8 00\n") {
+        Ok(mut source) => ends(alloc, texts, &mut source, &mut sink(alloc), (1, "bad 0\n")),
+        Err(_fail) => false,
+    }
 }
 
 #[test]
-fn a_sink_that_fails_has_a_prefix_of_the_text(rt: HostRuntime) -> Result<(), Fail> {
-    let alloc = rt.alloc();
+fn other_words_are_refused(rt: HostRuntime) {
+    for texts in &WORDS {
+        assert!(rt; is_refused(rt.alloc(), texts), "{texts:?}");
+    }
+}
+
+/// Whether the program over a sink that fails at a call, and takes a byte a call, writes the bytes before that one.
+fn writes_prefix(alloc: Global, texts: &[&str], script: &[u8], text: &str, call: u64) -> bool {
+    let prefix = text.get(..call.saturating_sub(1) as usize).unwrap_or("");
+    let Ok(mut sink) = failing_sink(alloc, call) else {
+        return false;
+    };
+    match source(alloc, script) {
+        Ok(mut source) => ends(alloc, texts, &mut source, &mut sink, (5, prefix)),
+        Err(_fail) => false,
+    }
+}
+
+#[test]
+fn other_words_and_a_sink_that_fails_give_a_prefix_of_the_refusal(rt: HostRuntime) {
+    for call in 1..=6u64 {
+        assert!(rt;
+            writes_prefix(rt.alloc(), &["make"], b"", "bad 0\n", call),
+            "call {call}"
+        );
+    }
+}
+
+#[test]
+fn a_sink_that_fails_has_a_prefix_of_the_text(rt: HostRuntime) {
     for call in 1..=11u64 {
-        let source = source(alloc, b"file /b 644 1 8 -\ndo read /b 0 0\n")?;
-        let sink = MemSink::new(alloc, 1, List::from_vec(vec![in alloc; call]?));
-        let given = run(alloc, &["session"], source, sink, &mut cluster(alloc)?)?;
-        let prefix = "ok bytes -\n".get(..call as usize - 1).unwrap_or("");
-        assert_eq!(rt; given, expected(alloc, 5, prefix)?, "call {call}");
+        let holds = writes_prefix(rt.alloc(), &["session"], NO_BYTE, "ok bytes -\n", call);
+        assert!(rt; holds, "call {call}");
     }
-    Ok(())
 }
 
-/// Scripts over a cluster that holds `/a`, the status, and what is written.
-const HELD: [(&str, u8, &str); 11] = [
-    ("do read /a 1 2\n", 0, "ok bytes 0102\n"),
-    ("file /b 644 1 8 00\n", 1, "bad 1\n"),
-    ("set nodes 3\n", 1, "bad 1\n"),
-    ("dir /d\n", 1, "bad 1\n"),
-    ("\nset user alice\nset nodes 0\n", 1, "bad 2\n"),
-    ("# more\nfile /b 644 1 8 00\nset\n", 1, "bad 2\n"),
-    ("fault read 0 1 broken\nfile /b 644 1 8 00\n", 1, "bad 2\n"),
-    ("fault read 0 1 broken\n\nset\n", 1, "bad 3\n"),
-    ("set\nfile /b 644 1 8 00\n", 1, "bad 1\n"),
-    (
-        "fault read 0 1 broken\ndo read /a 1 2\n",
-        2,
-        "fault 1 DataTransferError\n",
-    ),
-    ("do read /b 0 0\n", 2, "fault 1 RPCError\n"),
-];
-
-#[test]
-fn a_held_store_keeps_its_files(rt: HostRuntime) -> Result<(), Fail> {
-    let alloc = rt.alloc();
-    for (script, status, text) in &HELD {
-        let source = source(alloc, script.as_bytes())?;
-        let given = run(alloc, &["session"], source, sink(alloc), &mut held(alloc)?)?;
-        assert_eq!(rt; given, expected(alloc, *status, text)?, "{script}");
+/// Whether a source that fails at a call ends the program, and leaves the store as it was.
+fn fails_untouched(alloc: Global, call: u64, store: &mut MemCluster) -> bool {
+    match failing_source(alloc, ONE_BYTE, call) {
+        Ok(mut source) => {
+            ends_over(
+                alloc,
+                &["session"],
+                &mut source,
+                &mut sink(alloc),
+                store,
+                (4, ""),
+            ) && store.fresh()
+        }
+        Err(_fail) => false,
     }
-    Ok(())
 }
 
-/// Scripts over one and the same cluster, which holds `/a`.
-const IN_TURN: [(&str, u8, &str); 4] = [
-    ("file /b 644 1 8 00\n", 1, "bad 1\n"),
-    ("do read /b 0 0\n", 2, "fault 1 RPCError\n"),
-    ("fault read 0 1 broken\nset\n", 1, "bad 2\n"),
-    ("do read /a 0 4\n", 0, "ok bytes 00010203\n"),
-];
-
-#[test]
-fn a_refused_script_leaves_a_held_store(rt: HostRuntime) -> Result<(), Fail> {
-    let alloc = rt.alloc();
-    let mut store = held(alloc)?;
-    for (script, status, text) in &IN_TURN {
-        let source = source(alloc, script.as_bytes())?;
-        let given = run(alloc, &["session"], source, sink(alloc), &mut store)?;
-        assert_eq!(rt; given, expected(alloc, *status, text)?, "{script}");
+fn fails_at(alloc: Global, call: u64) -> bool {
+    match store_of(alloc, false) {
+        Ok(mut store) => fails_untouched(alloc, call, &mut store),
+        Err(_fail) => false,
     }
-    Ok(())
 }
 
 #[test]
-fn a_broken_packet_counts_for_its_datanode_alone(rt: HostRuntime) -> Result<(), Fail> {
-    let alloc = rt.alloc();
-    let mut store = cluster(alloc)?;
-    let script = b"file /a 644 1 8 00\nfault read 0 1 broken\ndo read /a 0 1\n";
-    let given = run(
-        alloc,
-        &["session"],
-        source(alloc, script)?,
-        sink(alloc),
-        &mut store,
-    )?;
-    assert_eq!(rt; given.status, 2);
-    let counts = store.seen()?;
-    assert_eq!(rt; counts.calls.as_slice(), [0].as_slice());
-    assert_eq!(rt; counts.links, 0);
-    assert_eq!(rt; counts.nodes.as_slice(), [1, 0, 0].as_slice());
-    Ok(())
+fn a_source_that_fails_ends_with_status_4(rt: HostRuntime) {
+    for call in 1..=2u64 {
+        assert!(rt; fails_at(rt.alloc(), call), "call {call}");
+    }
 }

@@ -1,0 +1,43 @@
+//! Bytes that are written in one line: `\n`, `\t`, `\r` and `\\`, and `\x` with two hexadecimal digits.
+
+use std::alloc::{AllocError, Global};
+
+/// The byte that a letter behind a backslash stands for.
+fn escaped(letter: char) -> u8 {
+    match letter {
+        'n' => b'\n',
+        't' => b'\t',
+        'r' => b'\r',
+        _ => b'\\',
+    }
+}
+
+/// The bytes that a line stands for.
+pub(crate) fn bytes_of(alloc: Global, line: &str) -> Result<Vec<u8>, AllocError> {
+    let mut bytes = Vec::new(alloc);
+    let mut pieces = line.split('\\');
+    if let Some(first) = pieces.next() {
+        bytes.extend_from_slice(first.as_bytes())?;
+    }
+    for piece in pieces {
+        push_piece(&mut bytes, piece)?;
+    }
+    Ok(bytes)
+}
+
+/// Adds the bytes of a piece behind a backslash.
+fn push_piece(bytes: &mut Vec<u8>, piece: &str) -> Result<(), AllocError> {
+    let letter = piece.chars().next().unwrap_or('\\');
+    let digits = piece.get(1..3).unwrap_or("");
+    match u8::from_str_radix(digits, 16) {
+        Ok(byte) if letter == 'x' => {
+            bytes.push(byte)?;
+            bytes.extend_from_slice(piece.get(3..).unwrap_or("").as_bytes())?;
+        }
+        _ => {
+            bytes.push(escaped(letter))?;
+            bytes.extend_from_slice(piece.get(1..).unwrap_or("").as_bytes())?;
+        }
+    }
+    Ok(())
+}

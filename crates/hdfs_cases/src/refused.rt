@@ -1,0 +1,39 @@
+//! Scripts that are refused: a line has the number of the first bad line, the script, and what is noted, if that is told.
+
+use crate::escapes::bytes_of;
+use hdfs_checking::{noted_of_new, plain_answer, refused};
+use std::alloc::Global;
+use std::test::Fail;
+
+/// Whether a script is refused for this line by the program, which notes what is told, and by the plain program.
+fn is_refused(alloc: Global, number: &str, script: &[u8], note: &str) -> Result<bool, Fail> {
+    let wanted = refused(alloc, number.parse()?)?;
+    let (given, noted) = noted_of_new(alloc, script)?;
+    if given != wanted || (!note.is_empty() && noted.as_str() != note) {
+        return Ok(false);
+    }
+    Ok(plain_answer(alloc, script)? == wanted)
+}
+
+/// Whether the script of a line is refused as it says.
+fn holds(alloc: Global, line: &str) -> Result<bool, Fail> {
+    let Some((number, rest)) = line.split_once('\t') else {
+        return Ok(false);
+    };
+    let (script, note) = rest.split_once('\t').unwrap_or((rest, ""));
+    let script = bytes_of(alloc, script)?;
+    is_refused(alloc, number, script.as_slice(), note)
+}
+
+/// How many lines hold. Each other one is printed.
+pub(crate) fn check_refused(rt: &HostRuntime, text: &str) -> Result<u64, Fail> {
+    let mut holding = 0u64;
+    for line in text.lines() {
+        if holds(rt.alloc(), line)? {
+            holding = holding.saturating_add(1);
+        } else {
+            println!(rt; "isn't refused so: {line}")?;
+        }
+    }
+    Ok(holding)
+}
