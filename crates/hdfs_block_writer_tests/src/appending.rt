@@ -1,193 +1,125 @@
 //! A block that has bytes is gone on with, or given up.
-ghost use Rattle.std.specs.Prelude.{◌<◌, ◌≤◌, IfOk, IfSome};
+ghost use Rattle.std.specs.Prelude.{◌≤◌, IfSome};
 ghost use Rattle.hdfs_model.specs.Namenode.{IsToWrite};
 ghost use Rattle.hdfs_block_writer_tests.specs.Going.{GoesOn, IsPlanned};
 
-use crate::looking::{completes, has_no_link, hold, is_on};
-use crate::messages::plan;
-use crate::scenes::{BYTES, Ran, Scene, Way, never, open, put};
+use crate::looking::{completes, next_link, on};
+use crate::messages::{plan, plan_of};
+use crate::scenes::{BYTES, Ran, Scene};
+use crate::steps::{open, three_hold};
+use crate::ways::{Failure, Way, failures, never, way_of};
 use hdfs_block_writer::{BlockPlan, BlockWriter};
-use hdfs_cluster::{Appended, Cluster, FaultLine, LocatedBlock, MemCluster};
-use hdfs_namenode::NamenodeProtocol;
-use hdfs_names::Policy;
-use hdfs_wire::Text;
+use hdfs_cluster::{Appended, Cluster, LocatedBlock, MemCluster};
 use std::alloc::Global;
-use std::test::Fail;
 
-/// The datanodes of the first pipeline.
-const THREE: [&str; 3] = ["dn0", "dn1", "dn2"];
-
-/// Writes the first six bytes, and answers whether the file is closed then.
-fn write_six(scene: &mut Scene) -> Result<bool, Fail> {
+/// Whether the first six bytes are written, and the file is closed then.
+fn write_six(scene: &mut Scene) -> Option<bool> {
     let plan = plan(scene.alloc, 256)?;
-    let outcome = scene.write_all(plan, &never(2), &BYTES[..6], 6)?;
-    completes(scene, &outcome?)
+    let outcome = scene.write_all(plan, &never(2), &BYTES[..6])?;
+    match &*outcome {
+        Ok(block) => Some(completes(scene, block)),
+        Err(_) => None,
+    }
 }
 
 /// A cluster with the closed file `/f`, whose block has the first six bytes.
-fn with_six(alloc: Global, nodes: u32, faults: &[FaultLine]) -> Result<Box<Scene>, Fail> {
-    let mut scene = Scene::new(alloc, nodes, faults)?;
-    if !write_six(&mut *scene)? {
-        return Err("the file is open".into());
+fn with_six(alloc: Global, nodes: u32, failures: &[Failure]) -> Option<Box<Scene>> {
+    let mut scene = Scene::new(alloc, nodes, failures)?;
+    match write_six(&mut *scene) {
+        Some(true) => Some(scene),
+        _ => None,
     }
-    Ok(scene)
+}
+
+/// The block of a file that was opened.
+fn block_of(alloc: Global, appended: Appended) -> Option<Box<LocatedBlock>>
+    requires { IfSome appended.block IsToWrite }
+    ensures { IfSome result (λ block. IsToWrite block.value) }
+{
+    let Appended { block, stat: _stat } = appended;
+    match block {
+        Some(block) => Box::new(alloc, block).ok(),
+        None => None,
+    }
 }
 
 /// Opens the file, and answers its last block.
-fn append(scene: &mut Scene) -> Result<Option<LocatedBlock>, Fail>
-    ensures { IfOk result (λ last. IfSome last IsToWrite) }
+fn append_block(scene: &mut Scene) -> Option<Box<LocatedBlock>>
+    ensures { IfSome result (λ block. IsToWrite block.value) }
 {
     let cluster = &mut *scene.cluster;
     if !scene.namenode.is_service_of(cluster) {
-        return Err("the namenodes are there".into());
+        return None;
     }
-    let Appended { block, stat: _stat } = scene.namenode.append(cluster, "/f", 4)?;
-    Ok(block)
+    match scene.namenode.append(cluster, "/f", 4) {
+        Ok(appended) => block_of(scene.alloc, appended),
+        Err(_) => None,
+    }
 }
 
-/// Opens the file, and answers its block, which has the six bytes.
-fn append_six(scene: &mut Scene) -> Result<LocatedBlock, Fail>
-    ensures { IfOk result (λ block. IsToWrite block × (block.b.num_bytes ≤ 6)) }
+/// Opens the file, and says how its block is gone on with, which has the six bytes.
+fn append_plan(scene: &mut Scene) -> Option<Box<BlockPlan>>
+    ensures { IfSome result (λ plan. IsPlanned plan.value) }
 {
-    let block = append(scene)?.ok_or("the file has no block")?;
+    let block = append_block(scene)?;
     if block.b.num_bytes != 6 {
-        return Err("the block has six bytes".into());
+        return None;
     }
-    Ok(block)
+    plan_of(scene.alloc, Box::into_inner(block), false)
 }
 
-/// Opens the file, and says how its block is gone on with.
-fn append_plan(scene: &mut Scene) -> Result<Box<BlockPlan>, Fail>
-    ensures { IfOk result (λ plan. IsPlanned plan.value) }
-{
-    let plan = BlockPlan {
-        src: Text::from_str(scene.alloc, "/f")?,
-        block: append_six(scene)?,
-        replication: 3,
-        created: false,
-        rebuilds: 0,
-        chunk: 4,
-    };
-    Ok(Box::new(scene.alloc, plan)?)
-}
-
-/// Goes on with the six bytes, so many in a call, over a cluster with these faults.
-fn go_on(alloc: Global, way: &Way, faults: &[FaultLine], step: usize) -> Result<Box<Ran>, Fail>
-    requires { 0 < step }
-{
-    let mut scene = with_six(alloc, way.nodes, faults)?;
+/// Goes on with the six bytes, over a cluster some of whose calls fail.
+fn go_on(alloc: Global, way: &Way, failures: &[Failure]) -> Option<Box<Ran>> {
+    let mut scene = with_six(alloc, way.nodes, failures)?;
     let plan = append_plan(&mut *scene)?;
-    let outcome = scene.write_all(plan, way, &BYTES[6..], step)?;
-    Ok(Box::new(alloc, Ran { scene, outcome })?)
+    let outcome = scene.write_all(plan, way, &BYTES[6..])?;
+    Box::new(alloc, Ran { scene, outcome }).ok()
 }
 
-/// Whether the block is on these datanodes with this stamp then.
-fn ends_on(
-    alloc: Global,
-    way: &Way,
-    faults: &[FaultLine],
-    step: usize,
-    uuids: &[&str],
-    stamp: u64,
-) -> Result<bool, Fail>
-    requires { 0 < step }
-{
-    let mut ran = go_on(alloc, way, faults, step)?;
-    is_on(&mut *ran, uuids, stamp)
-}
-
-#[test]
-fn a_block_is_gone_on_with_within_a_chunk(rt: HostRuntime) -> Result<(), Fail> {
-    let alloc = rt.alloc();
-    for window in [1, 2, 100] {
-        for step in 1..4usize {
-            let whole = ends_on(alloc, &never(window), &[], step, &THREE, 1001)?;
-            assert!(rt; whole, "{window} {step}");
-        }
-    }
-    Ok(())
-}
-
-#[test]
-fn an_appended_block_gets_another_pipeline(rt: HostRuntime) -> Result<(), Fail> {
-    let alloc = rt.alloc();
-    for nth in 4..7 {
-        // each datanode has acknowledged three packets of the six bytes
-        let faults = [FaultLine::AckOf { node: 1, nth }];
-        let two = ends_on(alloc, &never(1), &faults, 3, &["dn0", "dn2"], 1002)?;
-        assert!(rt; two, "{nth}");
-        let nodes = ["dn0", "dn2", "dn3"];
-        let three = ends_on(alloc, &by_default(), &faults, 3, &nodes, 1002)?;
-        assert!(rt; three, "{nth}");
-    }
-    Ok(())
-}
-
-/// By default one is added for one of an appended block.
-fn by_default() -> Way {
-    Way {
-        nodes: 4,
-        policy: Policy::Default,
-        best_effort: false,
-        ..never(1)
-    }
+/// A block of six bytes is gone on with in the way that a line says: where it is whole then, and with which stamp.
+pub(crate) fn append(alloc: Global, line: &str) -> Option<String> {
+    let (way, rest) = way_of(line)?;
+    let failures = failures(alloc, rest)?;
+    let mut ran = go_on(alloc, &way, failures.as_slice())?;
+    on(&mut *ran)
 }
 
 /// Lets go of a writer.
-fn abandon_writer(cluster: &mut MemCluster, writer: BlockWriter)
-    requires { GoesOn cluster.old writer }
-{
-    writer.abandon(cluster);
-}
-
 fn abandon(cluster: &mut MemCluster, writer: Box<BlockWriter>)
     requires { GoesOn cluster.old writer.value }
 {
-    abandon_writer(cluster, Box::into_inner(writer));
-}
-
-/// Writes these bytes to the block of the plan, and lets go of the writer.
-fn write_and_abandon(
-    alloc: Global,
-    cluster: &mut MemCluster,
-    namenode: &mut NamenodeProtocol,
-    plan: Box<BlockPlan>,
-    bytes: &[u8],
-) -> Result<(), Fail>
-    requires { IsPlanned plan.value }
-{
-    let mut writer = open(alloc, cluster, namenode, plan, &never(100), 64)?;
-    let _count = put(cluster, namenode, &mut *writer, bytes)?;
-    abandon(cluster, writer);
-    Ok(())
+    Box::into_inner(writer).abandon(cluster);
 }
 
 /// Writes these bytes behind the six, and lets go of the writer.
-fn write_behind(scene: &mut Scene, bytes: &[u8]) -> Result<(), Fail> {
+fn write_behind(scene: &mut Scene, bytes: &[u8]) -> Option<()> {
+    let alloc = scene.alloc;
     let plan = append_plan(scene)?;
-    write_and_abandon(
-        scene.alloc,
-        &mut *scene.cluster,
-        &mut scene.namenode,
-        plan,
-        bytes,
-    )
-}
-
-/// Whether the datanodes hold so many bytes once so many more are written behind six. The writer is let go then, and no link is left.
-fn hold_after(alloc: Global, more: usize, count: usize) -> Result<bool, Fail> {
-    let bytes = [7, 8, 9, 10, 11, 12, 13];
-    let held = [1, 2, 3, 4, 5, 6, 7, 8, 9, 10, 11, 12];
-    let mut scene = with_six(alloc, 3, &[])?;
-    write_behind(&mut *scene, &bytes[..more.min(7)])?;
-    Ok(hold(&mut *scene, &THREE, &held[..count.min(12)])? && has_no_link(&mut *scene)?)
-}
-
-#[test]
-fn a_first_packet_ends_with_its_chunk(rt: HostRuntime) -> Result<(), Fail> {
-    let rows = [(0, 6), (1, 6), (2, 8), (3, 8), (5, 8), (6, 12), (7, 12)];
-    for (more, count) in &rows {
-        assert!(rt; hold_after(rt.alloc(), *more, *count)?, "{more}");
+    let cluster = &mut *scene.cluster;
+    let namenode = &mut *scene.namenode;
+    let mut writer = open(alloc, cluster, namenode, plan, &never(100), 64)?;
+    if !namenode.reaches_all(cluster) {
+        return None;
     }
-    Ok(())
+    let wrote = writer.write(cluster, namenode, bytes).is_ok();
+    abandon(cluster, writer);
+    if wrote { Some(()) } else { None }
+}
+
+/// The bytes that are written behind the six.
+const BEHIND: [u8; 7] = [7, 8, 9, 10, 11, 12, 13];
+
+/// What the datanodes hold once these bytes are written behind the six and the writer is let go, and the number of the next link.
+fn hold_after(alloc: Global, bytes: &[u8]) -> Option<String> {
+    let mut scene = with_six(alloc, 3, &[])?;
+    write_behind(&mut *scene, bytes)?;
+    let held = three_hold(&mut *scene)?;
+    let next = next_link(&mut *scene)?;
+    format!(in alloc; "held:{}; next link {next}", held.as_str()).ok()
+}
+
+/// Of so many bytes that are written behind the six, those are held that were sent.
+pub(crate) fn behind(alloc: Global, line: &str) -> Option<String> {
+    let all: &[u8] = &BEHIND;
+    hold_after(alloc, all.get(..line.parse().ok()?)?)
 }

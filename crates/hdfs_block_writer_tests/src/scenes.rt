@@ -1,124 +1,126 @@
-//! Block 256 of `/f` is written over a cluster whose calls fail as its lines say.
-ghost use Rattle.std.specs.Prelude.{◌<◌, ◌≤◌, IfOk};
+//! Block 256 of `/f` is written over a cluster whose calls fail.
+ghost use Rattle.std.specs.Prelude.{◌<◌, ◌≤◌, IfOk, IfSome, OnOk};
 ghost use Rattle.hdfs_block_writer_tests.specs.Going.{GoesOn, IsPlanned};
 ghost use Rattle.hdfs_cluster.specs.MemShown.{shown_of};
 ghost use Rattle.hdfs_namenode.specs.Asked.{ReachesAll};
 ghost use Rattle.hdfs_namenode.specs.Clients.{proxy_of};
 
 use crate::messages::plan;
+use crate::ways::{Failure, Way};
 use hdfs_block_writer::{BlockPlan, BlockWriter, RebuildSettings, WriteFault};
-use hdfs_cluster::{Block, Cluster, FaultLine, Line, MemCluster, MemSettings, Store};
+use hdfs_cluster::{Block, Cluster, HdfsError, LocatedBlock, MemCluster, MemSettings, Store};
 use hdfs_namenode::{NameServiceProxy, NamenodeProtocol};
-use hdfs_names::{Policy, ReplaceDatanodeOnFailure};
+use hdfs_names::ReplaceDatanodeOnFailure;
 use std::alloc::Global;
-use std::test::Fail;
 
 /// The bytes that are written: two chunks, and one byte more.
 pub(crate) const BYTES: [u8; 9] = [1, 2, 3, 4, 5, 6, 7, 8, 9];
 
-/// How a block is written: over so many datanodes, of which three are in its first pipeline; at most so many packets wait, the pipeline is
-/// rebuilt at most so many times, and a datanode is added by this policy, with best effort or without.
-#[derive(Clone, Copy, Debug)]
-pub(crate) struct Way {
-    pub(crate) nodes: u32,
-    pub(crate) window: u32,
-    pub(crate) limit: u32,
-    pub(crate) policy: Policy,
-    pub(crate) best_effort: bool,
-}
-
-/// Over three datanodes, none of which is added.
-pub(crate) fn never(window: u32) -> Way {
-    Way {
-        nodes: 3,
-        window,
-        limit: 3,
-        policy: Policy::Never,
-        best_effort: true,
-    }
-}
+/// What comes of writing a block: its name, or why it isn't written.
+pub(crate) type Outcome = Result<Block, WriteFault>;
 
 /// How a pipeline is rebuilt.
-fn settings(way: &Way) -> Result<RebuildSettings, Fail>
-    ensures { IfOk result (λ settings. (1 ≤ settings.window) × (settings.window ≤ 1000)) }
+pub(crate) fn settings(way: &Way) -> Option<RebuildSettings>
+    ensures { IfSome result (λ settings. (1 ≤ settings.window) × (settings.window ≤ 1000)) }
 {
     if way.window == 0 || way.window > 1000 {
-        return Err("so many packets can't wait".into());
+        return None;
     }
-    Ok(RebuildSettings {
+    Some(RebuildSettings {
         window: way.window,
         rebuild_limit: way.limit,
         replace: ReplaceDatanodeOnFailure::new(way.policy, way.best_effort),
     })
 }
 
-/// A cluster of so many datanodes with these faults.
-fn faulty(alloc: Global, nodes: u32, faults: &[FaultLine]) -> Result<Box<MemCluster>, Fail> {
+/// Has a cluster fail in these calls.
+fn load(cluster: &mut MemCluster, failures: &[Failure]) -> Option<()> {
+    for failure in failures {
+        cluster.load(failure.line()).ok()?;
+    }
+    Some(())
+}
+
+/// A cluster of so many datanodes.
+fn cluster(alloc: Global, nodes: u32) -> Option<Box<MemCluster>> {
     let mut settings = MemSettings::of_scripts();
     settings.nodes = nodes;
     if !settings.are_valid() {
-        return Err("there is no datanode".into());
+        return None;
     }
-    let mut cluster = Box::new(alloc, MemCluster::new(alloc, settings)?)?;
-    for fault in faults {
-        cluster.load(Line::Fault(fault.copy(alloc)?))?;
+    match MemCluster::new(alloc, settings) {
+        Ok(cluster) => Box::new(alloc, cluster).ok(),
+        Err(_) => None,
     }
-    Ok(cluster)
+}
+
+/// A client that asks so many namenodes.
+fn client(alloc: Global, namenodes: u32) -> Option<Box<NamenodeProtocol>> {
+    if namenodes == 0 {
+        return None;
+    }
+    let service = NameServiceProxy::new(0, namenodes, false, false);
+    match NamenodeProtocol::new(alloc, service, [0; 16]) {
+        Ok(namenode) => Box::new(alloc, namenode).ok(),
+        Err(_) => None,
+    }
 }
 
 /// Creates `/f`.
-fn create(cluster: &mut MemCluster, namenode: &mut NamenodeProtocol) -> Result<(), Fail> {
+fn create(cluster: &mut MemCluster, namenode: &mut NamenodeProtocol) -> Option<()> {
     if !namenode.is_service_of(cluster) {
-        return Err("the namenodes are there".into());
+        return None;
     }
-    let _status = namenode.create(cluster, "/f", 0o644, 1, false, 3, 64)?;
-    Ok(())
+    let answer = namenode.create(cluster, "/f", 0o644, 1, false, 3, 64);
+    let created = if answer.is_ok() { Some(()) } else { None };
+    drop(answer);
+    created
 }
 
-/// Adds the block of `/f`.
-fn add_block(cluster: &mut MemCluster, namenode: &mut NamenodeProtocol) -> Result<(), Fail> {
-    if !namenode.is_service_of(cluster) {
-        return Err("the namenodes are there".into());
+/// Whether a block was added that has this name.
+fn is_first(answer: &Result<LocatedBlock, HdfsError>) -> bool {
+    match answer {
+        Ok(block) => block.b.block_id == 256 && block.b.generation_stamp == 1000,
+        Err(_) => false,
     }
-    let block = namenode.add_block(cluster, "/f", None, &[], None)?;
-    if block.b.block_id != 256 || block.b.generation_stamp != 1000 {
-        return Err("it is another block".into());
-    }
-    Ok(())
 }
 
-/// A cluster in memory, and a client that asks its namenodes. It stands in a box, as each value here that owns much: a test lets go of
+/// Adds the block of `/f`, and answers whether it is block 256.
+fn add_block(cluster: &mut MemCluster, namenode: &mut NamenodeProtocol) -> bool {
+    if !namenode.is_service_of(cluster) {
+        return false;
+    }
+    let answer = namenode.add_block(cluster, "/f", None, &[], None);
+    let is_first = is_first(&answer);
+    drop(answer);
+    is_first
+}
+
+/// A cluster in memory, and a client that asks its namenodes. They stand in boxes, as each value here that owns much: a function lets go of
 /// a box in one step, which keeps its proof short.
 #[derive(Drop)]
 pub(crate) struct Scene {
     pub(crate) alloc: Global,
     pub(crate) cluster: Box<MemCluster>,
-    pub(crate) namenode: NamenodeProtocol,
+    pub(crate) namenode: Box<NamenodeProtocol>,
 }
 
 impl Scene {
-    /// Over so many datanodes with these faults, with the open file `/f`, whose block is on three of them and has no bytes.
-    pub(crate) fn new(alloc: Global, nodes: u32, faults: &[FaultLine]) -> Result<Box<Scene>, Fail> {
-        let cluster = faulty(alloc, nodes, faults)?;
-        let namenodes = cluster.namenodes();
-        if namenodes == 0 {
-            return Err("there is no namenode".into());
+    /// Over so many datanodes, some of whose calls fail, with the open file `/f`, whose block is on three of them and has no bytes.
+    pub(crate) fn new(alloc: Global, nodes: u32, failures: &[Failure]) -> Option<Box<Scene>> {
+        let mut cluster = cluster(alloc, nodes)?;
+        load(&mut *cluster, failures)?;
+        let mut namenode = client(alloc, cluster.namenodes())?;
+        create(&mut *cluster, &mut *namenode)?;
+        if !add_block(&mut *cluster, &mut *namenode) {
+            return None;
         }
-        let service = NameServiceProxy::new(0, namenodes, false, false);
         let scene = Scene {
             alloc,
             cluster,
-            namenode: NamenodeProtocol::new(alloc, service, [0; 16])?,
+            namenode,
         };
-        let mut scene = Box::new(alloc, scene)?;
-        scene.set_up()?;
-        Ok(scene)
-    }
-
-    /// Creates `/f` with its block, on the first three datanodes.
-    fn set_up(&mut self) -> Result<(), Fail> {
-        create(&mut *self.cluster, &mut self.namenode)?;
-        add_block(&mut *self.cluster, &mut self.namenode)
+        Box::new(alloc, scene).ok()
     }
 
     /// What comes of writing bytes to the block of the plan, so many in a call, and of closing it.
@@ -127,157 +129,93 @@ impl Scene {
         plan: Box<BlockPlan>,
         way: &Way,
         bytes: &[u8],
-        step: usize,
-    ) -> Result<Result<Block, WriteFault>, Fail>
-        requires plan { IsPlanned plan.value }
-        requires step { 0 < step }
+    ) -> Option<Box<Outcome>>
+        requires { IsPlanned plan.value }
     {
         let settings = settings(way)?;
-        let plan = Box::into_inner(plan);
         let cluster = &mut *self.cluster;
-        if !self.namenode.reaches_all(cluster) {
-            return Err("the namenodes are there".into());
+        let namenode = &mut *self.namenode;
+        if way.step == 0 || !namenode.reaches_all(cluster) {
+            return None;
         }
-        Ok(write_all(
-            self.alloc,
-            cluster,
-            &mut self.namenode,
-            plan,
-            &settings,
-            bytes,
-            step,
-        ))
+        let outcome: Outcome = match open_writer(
+            self.alloc, cluster, namenode, plan, &settings, 64,
+        ) {
+            Ok(writer) => write_pieces(cluster, namenode, writer, bytes, way.step),
+            Err(fault) => Err(fault),
+        };
+        let kept: Result<Box<Outcome>, _> = Box::new(self.alloc, outcome);
+        kept.ok()
     }
 }
 
 /// Opens a writer of the plan's block, which has at most so many bytes.
-fn open_writer(
-    alloc: Global,
-    cluster: &mut MemCluster,
-    namenode: &NamenodeProtocol,
-    plan: BlockPlan,
-    settings: &RebuildSettings,
-    size: u64,
-) -> Result<BlockWriter, WriteFault>
-    requires plan { IsPlanned plan }
-    requires window { (1 ≤ settings.now.window) × (settings.now.window ≤ 1000) }
-    requires size { (6 ≤ size) × (size ≤ 64) }
-    ensures { IfOk result (λ writer. GoesOn cluster.new writer) }
-{
-    BlockWriter::replicated(alloc, cluster, namenode, plan, settings, size, 0)
-}
-
-pub(crate) fn open(
+pub(crate) fn open_writer(
     alloc: Global,
     cluster: &mut MemCluster,
     namenode: &NamenodeProtocol,
     plan: Box<BlockPlan>,
-    way: &Way,
+    settings: &RebuildSettings,
     size: u64,
-) -> Result<Box<BlockWriter>, Fail>
+) -> Result<Box<BlockWriter>, WriteFault>
     requires plan { IsPlanned plan.value }
+    requires window { (1 ≤ settings.now.window) × (settings.now.window ≤ 1000) }
     requires size { (6 ≤ size) × (size ≤ 64) }
     ensures { IfOk result (λ writer. GoesOn cluster.new writer.value) }
 {
-    let settings = settings(way)?;
     let plan = Box::into_inner(plan);
-    let writer = open_writer(alloc, cluster, namenode, plan, &settings, size)?;
-    Ok(Box::new(alloc, writer)?)
+    match BlockWriter::replicated(alloc, cluster, namenode, plan, settings, size, 0) {
+        Ok(writer) => Ok(Box::new(alloc, writer)?),
+        Err(fault) => Err(fault),
+    }
 }
 
-/// What comes of writing these bytes.
-pub(crate) fn write(
+/// Writes bytes, so many in a call.
+fn put_pieces(
     cluster: &mut MemCluster,
     namenode: &mut NamenodeProtocol,
     writer: &mut BlockWriter,
-    bytes: &[u8],
-) -> Result<Result<usize, WriteFault>, Fail>
-    requires { GoesOn cluster.old writer.old }
-    ensures { GoesOn cluster.new writer.new }
-{
-    if !namenode.reaches_all(cluster) {
-        return Err("the namenodes are there".into());
-    }
-    Ok(writer.write(cluster, namenode, bytes))
-}
-
-/// Writes these bytes, and says how many were taken.
-pub(crate) fn put(
-    cluster: &mut MemCluster,
-    namenode: &mut NamenodeProtocol,
-    writer: &mut BlockWriter,
-    bytes: &[u8],
-) -> Result<usize, Fail>
-    requires { GoesOn cluster.old writer.old }
-    ensures { GoesOn cluster.new writer.new }
-{
-    let outcome = write(cluster, namenode, writer, bytes)?;
-    Ok(outcome?)
-}
-
-/// What comes of closing the block.
-fn close_writer(
-    cluster: &mut MemCluster,
-    namenode: &mut NamenodeProtocol,
-    writer: BlockWriter,
-) -> Result<Result<Block, WriteFault>, Fail>
-    requires { GoesOn cluster.old writer }
-{
-    if !namenode.reaches_all(cluster) {
-        return Err("the namenodes are there".into());
-    }
-    Ok(writer.close(cluster, namenode))
-}
-
-pub(crate) fn close(
-    cluster: &mut MemCluster,
-    namenode: &mut NamenodeProtocol,
-    writer: Box<BlockWriter>,
-) -> Result<Result<Block, WriteFault>, Fail>
-    requires { GoesOn cluster.old writer.value }
-{
-    close_writer(cluster, namenode, Box::into_inner(writer))
-}
-
-/// Writes bytes to the block of the plan, so many in a call, and closes it.
-fn write_all(
-    alloc: Global,
-    cluster: &mut MemCluster,
-    namenode: &mut NamenodeProtocol,
-    plan: BlockPlan,
-    settings: &RebuildSettings,
     bytes: &[u8],
     step: usize,
-) -> Result<Block, WriteFault>
+) -> Result<(), WriteFault>
     requires reaches { ReachesAll (proxy_of namenode.old) (shown_of cluster.old) }
-    requires plan { IsPlanned plan }
-    requires window { (1 ≤ settings.now.window) × (settings.now.window ≤ 1000) }
+    requires goes { GoesOn cluster.old writer.old }
     requires step { 0 < step }
+    ensures reaches { OnOk result (ReachesAll (proxy_of namenode.new) (shown_of cluster.new)) }
+    ensures goes { OnOk result (GoesOn cluster.new writer.new) }
 {
-    let mut writer = BlockWriter::replicated(alloc, cluster, namenode, plan, settings, 64, 0)?;
     for piece in bytes.chunks(step) {
         writer.write(cluster, namenode, piece)?;
     }
-    writer.close(cluster, namenode)
+    Ok(())
+}
+
+/// Writes bytes, so many in a call, and closes the block.
+fn write_pieces(
+    cluster: &mut MemCluster,
+    namenode: &mut NamenodeProtocol,
+    mut writer: Box<BlockWriter>,
+    bytes: &[u8],
+    step: usize,
+) -> Outcome
+    requires reaches { ReachesAll (proxy_of namenode.old) (shown_of cluster.old) }
+    requires goes { GoesOn cluster.old writer.value }
+    requires step { 0 < step }
+{
+    put_pieces(cluster, namenode, &mut *writer, bytes, step)?;
+    Box::into_inner(writer).close(cluster, namenode)
 }
 
 /// A cluster over which block 256 was written, and what came of it.
 #[derive(Drop)]
 pub(crate) struct Ran {
     pub(crate) scene: Box<Scene>,
-    pub(crate) outcome: Result<Block, WriteFault>,
+    pub(crate) outcome: Box<Outcome>,
 }
 
-/// Writes the nine bytes to block 256, so many in a call, over a cluster with these faults.
-pub(crate) fn run(
-    alloc: Global,
-    way: &Way,
-    faults: &[FaultLine],
-    step: usize,
-) -> Result<Box<Ran>, Fail>
-    requires { 0 < step }
-{
-    let mut scene = Scene::new(alloc, way.nodes, faults)?;
-    let outcome = scene.write_all(plan(alloc, 256)?, way, &BYTES, step)?;
-    Ok(Box::new(alloc, Ran { scene, outcome })?)
+/// Writes the nine bytes to the block with this number, over a cluster some of whose calls fail.
+pub(crate) fn run(alloc: Global, id: u64, way: &Way, failures: &[Failure]) -> Option<Box<Ran>> {
+    let mut scene = Scene::new(alloc, way.nodes, failures)?;
+    let outcome = scene.write_all(plan(alloc, id)?, way, &BYTES)?;
+    Box::new(alloc, Ran { scene, outcome }).ok()
 }

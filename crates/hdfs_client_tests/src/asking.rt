@@ -1,108 +1,125 @@
-// Sessions over a cluster in memory, by their values.
-ghost use Rattle.std.specs.Prelude.{◌<◌};
+//! Sessions over a cluster in memory that holds a file of four bytes, by their values.
+ghost use Rattle.std.specs.Prelude.{◌<◌, IfSome};
+ghost use Rattle.hdfs_client.specs.Session.{Stands};
+ghost use Rattle.hdfs_cluster.specs.MemShown.{shown_of};
 
-use crate::making::{held, settings};
-use hdfs_client::{Session, run_session};
-use hdfs_model::{ArgFault, Cluster, Command, Fault, HdfsError, Reply};
+use crate::replies;
+use crate::words::{number, push};
+use hdfs_client::Session;
+use hdfs_cluster::MemCluster;
+use hdfs_fakes::{holding, settings};
+use hdfs_model::{Cluster, Command};
+use hdfs_session::run_session;
 use hdfs_wire::Text;
 use std::alloc::Global;
-use std::test::Fail;
 
 /// A read.
-pub(crate) fn read(alloc: Global, path: &str, offset: u64, len: u64) -> Result<Command, Fail> {
-    Ok(Command::Read {
-        path: Text::from_str(alloc, path)?,
-        offset,
-        len,
-    })
+pub(crate) fn read(alloc: Global, path: &str, offset: u64, len: u64) -> Option<Box<Command>> {
+    let path = Text::from_str(alloc, path).ok()?;
+    Box::new(alloc, Command::Read { path, offset, len }).ok()
 }
 
+/// An append.
+fn append(alloc: Global, path: &str) -> Option<Box<Command>> {
+    let path = Text::from_str(alloc, path).ok()?;
+    Box::new(alloc, Command::Append { path }).ok()
+}
+
+/// The command that a line says: `append PATH`, or `read PATH OFFSET LEN`.
+fn command(alloc: Global, line: &str) -> Option<Box<Command>> {
+    let (word, rest) = line.split_once(' ')?;
+    if word == "append" {
+        return append(alloc, rest);
+    }
+    let (path, range) = rest.split_once(' ')?;
+    let (offset, len) = range.split_once(' ')?;
+    read(alloc, path, number(offset)?, number(len)?)
+}
+
+/// The cluster, whose file is encrypted or plain.
+fn store(alloc: Global, word: &str) -> Option<Box<MemCluster>>
+    ensures { IfSome result (λ store. 0 < (shown_of store.value).namenodes) }
+{
+    match holding(alloc, word == "encrypted") {
+        Ok(store) => Box::new(alloc, store).ok(),
+        Err(_) => None,
+    }
+}
+
+/// What a command is answered that a session runs.
+fn apply(alloc: Global, store: &mut MemCluster, session: &mut Session, line: &str) -> Option<String>
+    requires { Stands (shown_of store.old) session.old }
+    ensures { Stands (shown_of store.new) session.new }
+{
+    let command = command(alloc, line)?;
+    let answer = session.apply(store, &*command);
+    drop(command);
+    let told = replies::answer(alloc, &answer);
+    drop(answer);
+    told
+}
+
+/// What the commands of one session are answered.
+fn apply_all(
+    alloc: Global,
+    store: &mut MemCluster,
+    session: &mut Session,
+    lines: &str,
+) -> Option<String>
+    requires { Stands (shown_of store.old) session.old }
+{
+    let mut answers = String::new(alloc);
+    for line in lines.split("; ") {
+        let answer = apply(alloc, store, session, line)?;
+        push(&mut answers, answer.as_str())?;
+    }
+    Some(answers)
+}
+
+/// What commands are answered that one session runs, over a cluster whose file is plain or encrypted.
+pub(crate) fn session(alloc: Global, rest: &str) -> Option<String> {
+    let (word, lines) = rest.split_once(' ')?;
+    let mut store = store(alloc, word)?;
+    let settings = settings(alloc).ok()?;
+    match Session::new(alloc, &*store, &settings) {
+        Ok(mut session) => apply_all(alloc, &mut *store, &mut session, lines),
+        Err(_) => None,
+    }
+}
+
+/// What a session of one command is answered.
 pub(crate) fn run_one<C: Cluster>(
     alloc: Global,
     cluster: &mut C,
-    path: &str,
-    offset: u64,
-    len: u64,
-) -> Result<Result<Vec<Reply>, Fault>, Fail>
+    command: &Command,
+) -> Option<String>
     requires { 0 < (C.shown cluster.old).namenodes }
 {
-    let commands = [read(alloc, path, offset, len)?];
-    Ok(run_session(alloc, cluster, &settings(alloc)?, &commands))
+    let settings = settings(alloc).ok()?;
+    let answer = run_session(alloc, cluster, &settings, std::slice::from_ref(command));
+    drop(settings);
+    let told = replies::session(alloc, &answer);
+    drop(answer);
+    told
 }
 
-#[test]
-fn a_path_without_a_file_is_answered_by_its_exception(rt: HostRuntime) -> Result<(), Fail> {
-    let alloc = rt.alloc();
-    let rows = [
-        ("/x", "java.io.FileNotFoundException"),
-        ("/", "java.io.FileNotFoundException"),
-        ("/a/b", "org.apache.hadoop.fs.ParentNotDirectoryException"),
-        ("/a/b/c", "org.apache.hadoop.fs.ParentNotDirectoryException"),
-        ("/x/b", "java.io.FileNotFoundException"),
-    ];
-    for (path, class) in &rows {
-        let mut store = held(alloc)?;
-        let Err(fault) = run_one(alloc, &mut store, path, 0, 0)? else {
-            return Err("no fault".into());
-        };
-        assert_eq!(rt; fault.at, 1);
-        match &fault.error {
-            HdfsError::RPCError(found, message) => {
-                assert_eq!(rt; found.as_str(), *class);
-                assert_eq!(rt; message.as_str(), "");
-            }
-            _ => assert!(rt; false, "{path}"),
-        }
+/// What a session of the command that a line says is answered.
+fn run_line(alloc: Global, store: &mut MemCluster, line: &str) -> Option<String> {
+    let command = command(alloc, line)?;
+    if store.namenodes() == 0 {
+        return None;
     }
-    Ok(())
+    run_one(alloc, store, &*command)
 }
 
-#[test]
-fn a_range_past_the_end_is_answered_by_its_numbers(rt: HostRuntime) -> Result<(), Fail> {
-    let alloc = rt.alloc();
-    for (offset, len) in &[(3u64, 2u64), (5, 0), (0, 5), (4, u64::MAX)] {
-        let mut store = held(alloc)?;
-        let Err(fault) = run_one(alloc, &mut store, "/a", *offset, *len)? else {
-            return Err("no fault".into());
-        };
-        assert_eq!(rt; fault.at, 1);
-        match &fault.error {
-            HdfsError::InvalidArgument(
-                ArgFault::Range {
-                    offset: from,
-                    len: count,
-                    length,
-                },
-            ) => {
-                assert_eq!(rt; *from, *offset);
-                assert_eq!(rt; *count, *len);
-                assert_eq!(rt; *length, 4);
-            }
-            _ => assert!(rt; false, "{offset} {len}"),
-        }
+/// What commands are answered that each run in a session of their own, over one cluster whose file is plain or encrypted.
+pub(crate) fn sessions(alloc: Global, rest: &str) -> Option<String> {
+    let (word, lines) = rest.split_once(' ')?;
+    let mut store = store(alloc, word)?;
+    let mut answers = String::new(alloc);
+    for line in lines.split("; ") {
+        let answer = run_line(alloc, &mut *store, line)?;
+        push(&mut answers, answer.as_str())?;
     }
-    Ok(())
-}
-
-#[test]
-fn a_session_that_failed_answers_failed(rt: HostRuntime) -> Result<(), Fail> {
-    let alloc = rt.alloc();
-    let mut store = held(alloc)?;
-    let Ok(mut session) = Session::new(alloc, &store, &settings(alloc)?) else {
-        return Err("no session".into());
-    };
-    let Ok(Reply::Bytes { bytes }) = session.apply(&mut store, &read(alloc, "/a", 1, 2)?) else {
-        return Err("no reply".into());
-    };
-    assert_eq!(rt; bytes.as_slice(), [1, 2].as_slice());
-    assert!(rt;
-        session
-            .apply(&mut store, &read(alloc, "/a", 0, 5)?)
-            .is_err()
-    );
-    match session.apply(&mut store, &read(alloc, "/a", 1, 2)?) {
-        Err(HdfsError::Failed) => {}
-        _ => assert!(rt; false),
-    }
-    Ok(())
+    Some(answers)
 }

@@ -1,375 +1,172 @@
 //! What a session makes of datanodes that fail, call by call.
+ghost use Rattle.std.specs.Prelude.{◌<◌};
+ghost use Rattle.hdfs_fakes.specs.Fakes.{shown_of};
 
-use crate::fake_cluster::Step::{Breaks, Gives, LacksMemory, Opens, OpensKept, Refuses, Spoils};
-use crate::fake_cluster::{FakeCluster, Look, Step, block};
-use crate::making::settings;
+use crate::asking::{read, run_one};
+use crate::words::{listed, number};
+use bytes::Bytes;
 use hdfs_blocks::BlockRead;
-use hdfs_client::run_session;
 use hdfs_connections::ConnectionCache;
-use hdfs_model::{Command, Fault, HdfsError, Reply, TransferFault};
-use hdfs_wire::Text;
+use hdfs_fakes::{FakeCluster, Look, Step, block};
+use hdfs_model::HdfsError;
 use std::alloc::Global;
-use std::test::Fail;
 
-/// The first block's bytes and the second's.
-const FIRST: &[u8] = &[0, 1, 2, 3];
-
-const SECOND: &[u8] = &[4, 5, 6, 7];
-
-/// What a session of one read ends with.
-#[derive(Debug, PartialEq, Eq, Clone, Copy)]
-enum Ends {
-    Bytes(&'static [u8]),
-    ReadFails(u64),
-    FileNotFound,
-    NoMemory,
-    Other,
-}
-
-/// The packet behind a block, which ends a read.
-const ENDS: Step = Gives(4, &[]);
-
-/// A read of five bytes from the third on, of a file of two blocks on two datanodes: what the datanodes do, and how it
-/// ends.
-const ROWS: [(&str, &[Step], Ends); 20] = [
-    (
-        "two blocks",
-        &[
-            Opens,
-            Gives(0, FIRST),
-            ENDS,
-            OpensKept,
-            Gives(0, SECOND),
-            ENDS,
-        ],
-        Ends::Bytes(&[2, 3, 4, 5, 6]),
-    ),
-    (
-        "the first replica refuses",
-        &[
-            Refuses,
-            Opens,
-            Gives(0, FIRST),
-            ENDS,
-            Opens,
-            Gives(0, SECOND),
-            ENDS,
-        ],
-        Ends::Bytes(&[2, 3, 4, 5, 6]),
-    ),
-    (
-        "the first replica breaks",
-        &[
-            Opens,
-            Breaks,
-            Opens,
-            Gives(0, FIRST),
-            ENDS,
-            Opens,
-            Gives(0, SECOND),
-            ENDS,
-        ],
-        Ends::Bytes(&[2, 3, 4, 5, 6]),
-    ),
-    (
-        "a packet before the wanted offset",
-        &[
-            Opens,
-            Gives(0, &[0, 1]),
-            Gives(2, &[2, 3]),
-            ENDS,
-            OpensKept,
-            Gives(0, SECOND),
-            ENDS,
-        ],
-        Ends::Bytes(&[2, 3, 4, 5, 6]),
-    ),
-    (
-        "a packet past the wanted offset",
-        &[
-            Opens,
-            Gives(3, &[3]),
-            Opens,
-            Gives(0, FIRST),
-            ENDS,
-            Opens,
-            Gives(0, SECOND),
-            ENDS,
-        ],
-        Ends::Bytes(&[2, 3, 4, 5, 6]),
-    ),
-    (
-        "a packet that doesn't follow",
-        &[
-            Opens,
-            Gives(0, &[0, 1]),
-            Gives(1, &[1, 9]),
-            Opens,
-            Gives(2, &[2, 3]),
-            ENDS,
-            Opens,
-            Gives(0, SECOND),
-            ENDS,
-        ],
-        Ends::Bytes(&[2, 3, 4, 5, 6]),
-    ),
-    (
-        "a negative offset",
-        &[
-            Opens,
-            Gives(-1, &[9, 9, 9, 9, 9]),
-            Opens,
-            Gives(0, FIRST),
-            ENDS,
-            Opens,
-            Gives(0, SECOND),
-            ENDS,
-        ],
-        Ends::Bytes(&[2, 3, 4, 5, 6]),
-    ),
-    (
-        "an empty packet inside the range",
-        &[
-            Opens,
-            Gives(0, &[0, 1, 2]),
-            Gives(3, &[]),
-            Opens,
-            Gives(3, &[3]),
-            ENDS,
-            Opens,
-            Gives(0, SECOND),
-            ENDS,
-        ],
-        Ends::Bytes(&[2, 3, 4, 5, 6]),
-    ),
-    (
-        "the same replica goes on where its connection broke",
-        &[
-            Opens,
-            Gives(0, &[0, 1, 2]),
-            Breaks,
-            Opens,
-            Gives(3, &[3]),
-            ENDS,
-            OpensKept,
-            Gives(0, SECOND),
-            ENDS,
-        ],
-        Ends::Bytes(&[2, 3, 4, 5, 6]),
-    ),
-    (
-        "the second replica goes on where the first one broke twice",
-        &[
-            Opens,
-            Gives(0, &[0, 1, 2]),
-            Breaks,
-            Opens,
-            Breaks,
-            Opens,
-            Gives(3, &[3]),
-            ENDS,
-            Opens,
-            Gives(0, SECOND),
-            ENDS,
-        ],
-        Ends::Bytes(&[2, 3, 4, 5, 6]),
-    ),
-    (
-        "the second replica goes on where the first one broke and refused",
-        &[
-            Opens,
-            Gives(0, &[0, 1, 2]),
-            Breaks,
-            Refuses,
-            Opens,
-            Gives(3, &[3]),
-            ENDS,
-            Opens,
-            Gives(0, SECOND),
-            ENDS,
-        ],
-        Ends::Bytes(&[2, 3, 4, 5, 6]),
-    ),
-    (
-        "a packet before the wanted offset is no reason to try once more",
-        &[
-            Opens,
-            Gives(0, &[0, 1]),
-            Breaks,
-            Opens,
-            Gives(0, FIRST),
-            ENDS,
-            Opens,
-            Gives(0, SECOND),
-            ENDS,
-        ],
-        Ends::Bytes(&[2, 3, 4, 5, 6]),
-    ),
-    (
-        "a packet whose checksums don't hold",
-        &[
-            Opens,
-            Spoils(0, FIRST),
-            Opens,
-            Gives(0, FIRST),
-            ENDS,
-            Opens,
-            Gives(0, &[4, 5]),
-            Spoils(2, &[6, 7]),
-            OpensKept,
-            Gives(2, &[6, 7]),
-            ENDS,
-        ],
-        Ends::Bytes(&[2, 3, 4, 5, 6]),
-    ),
-    (
-        "a kept connection that breaks is followed by a fresh one",
-        &[
-            Opens,
-            Gives(0, FIRST),
-            ENDS,
-            Breaks,
-            Opens,
-            Gives(0, SECOND),
-            ENDS,
-        ],
-        Ends::Bytes(&[2, 3, 4, 5, 6]),
-    ),
-    (
-        "a connection that breaks behind the range isn't kept",
-        &[
-            Opens,
-            Gives(0, FIRST),
-            Breaks,
-            Opens,
-            Gives(0, SECOND),
-            Breaks,
-        ],
-        Ends::Bytes(&[2, 3, 4, 5, 6]),
-    ),
-    (
-        "a connection that gives bytes behind the range isn't kept",
-        &[
-            Opens,
-            Gives(0, FIRST),
-            Gives(4, &[9]),
-            Opens,
-            Gives(0, SECOND),
-            LacksMemory,
-        ],
-        Ends::Bytes(&[2, 3, 4, 5, 6]),
-    ),
-    (
-        "both replicas of the first block",
-        &[Opens, Breaks, Refuses],
-        Ends::ReadFails(2),
-    ),
-    (
-        "both replicas in the middle of the first block",
-        &[Opens, Gives(0, &[0, 1, 2]), Breaks, Refuses, Refuses],
-        Ends::ReadFails(3),
-    ),
-    (
-        "both replicas of the second block, the first on a kept connection",
-        &[Opens, Gives(0, FIRST), ENDS, Refuses, Opens, Breaks],
-        Ends::ReadFails(0),
-    ),
-    (
-        "no memory in the middle of a block",
-        &[Opens, Gives(0, &[0, 1, 2]), LacksMemory],
-        Ends::NoMemory,
-    ),
+/// The bytes of packets, by what they are in hex.
+const PIECES: [(&str, &[u8]); 12] = [
+    ("", &[]),
+    ("00010203", &[0, 1, 2, 3]),
+    ("000102", &[0, 1, 2]),
+    ("0001", &[0, 1]),
+    ("0203", &[2, 3]),
+    ("03", &[3]),
+    ("04050607", &[4, 5, 6, 7]),
+    ("0405", &[4, 5]),
+    ("0607", &[6, 7]),
+    ("0109", &[1, 9]),
+    ("09", &[9]),
+    ("0909090909", &[9, 9, 9, 9, 9]),
 ];
 
-/// How a session ends that has one read.
-fn ending_of(answer: &Result<Vec<Reply>, Fault>) -> Ends {
-    match answer {
-        Ok(replies) => match replies.as_slice() {
-            [Reply::Bytes { bytes }] if bytes.as_slice() == [2, 3, 4, 5, 6].as_slice() => {
-                Ends::Bytes(&[2, 3, 4, 5, 6])
-            }
-            _ => Ends::Other,
-        },
-        Err(fault) => match &fault.error {
-            HdfsError::DataTransferError(TransferFault::Read { offset }) => {
-                Ends::ReadFails(*offset)
-            }
-            HdfsError::FileNotFound(_) => Ends::FileNotFound,
-            HdfsError::NoMemory => Ends::NoMemory,
-            _ => Ends::Other,
-        },
+/// The bytes of a packet.
+fn piece(word: &str) -> Option<&'static [u8]> {
+    PIECES
+        .iter()
+        .find(|piece| piece.0 == word)
+        .map(|piece| piece.1)
+}
+
+/// A packet at an offset in its block, `gives:0:00010203`, or one whose checksums don't hold, `spoils:0:00010203`.
+fn packet(word: &str) -> Option<Step> {
+    let (kind, rest) = word.split_once(':')?;
+    let (offset, bytes) = rest.split_once(':')?;
+    let offset = offset.parse().ok()?;
+    let bytes = piece(bytes)?;
+    match kind {
+        "gives" => Some(Step::Gives(offset, bytes)),
+        "spoils" => Some(Step::Spoils(offset, bytes)),
+        _ => None,
     }
 }
 
-/// A read of five bytes from the third on.
-fn command(alloc: Global) -> Result<Command, Fail> {
-    Ok(Command::Read {
-        path: Text::from_str(alloc, "/a")?,
-        offset: 2,
-        len: 5,
-    })
-}
-
-/// How the read ends, how many steps were not asked for, and how many links are left open.
-fn run(alloc: Global, look: Look, steps: &[Step]) -> Result<(Ends, usize, usize), Fail> {
-    let mut cluster = FakeCluster::new(alloc, look, steps)?;
-    let commands = [command(alloc)?];
-    let result = run_session(alloc, &mut cluster, &settings(alloc)?, &commands);
-    let ends = ending_of(&result);
-    drop(result);
-    Ok((ends, cluster.left(), cluster.reads.len()))
-}
-
-#[test]
-fn reads_fall_over_to_the_next_replica(rt: HostRuntime) -> Result<(), Fail> {
-    for (name, steps, expected) in &ROWS {
-        let (ends, left, open) = run(rt.alloc(), Look::TwoBlocks, steps)?;
-        assert_eq!(rt; ends, *expected, "{name}");
-        assert_eq!(rt; left, 0, "{name}");
-        assert_eq!(rt; open, 0, "{name}");
+/// A step. At the end of a read comes the empty packet behind its block.
+fn step(word: &str) -> Option<Step> {
+    match word {
+        "opens" => Some(Step::Opens),
+        "opens-kept" => Some(Step::OpensKept),
+        "ends" => Some(Step::Gives(4, &[])),
+        "breaks" => Some(Step::Breaks),
+        "refuses" => Some(Step::Refuses),
+        "lacks-memory" => Some(Step::LacksMemory),
+        _ => packet(word),
     }
-    let (ends, _, _) = run(rt.alloc(), Look::NoFile, &[])?;
-    assert_eq!(rt; ends, Ends::FileNotFound);
-    Ok(())
 }
 
-/// A connection is gone on with up to 2,999 milliseconds behind its release, and not later.
-#[test]
-fn a_connection_is_kept_for_less_than_three_seconds(rt: HostRuntime) -> Result<(), Fail> {
-    let alloc = rt.alloc();
-    for (pace, opens) in [(2_999, OpensKept), (3_000, Opens)] {
-        let steps = [Opens, Gives(0, FIRST), ENDS, opens, Gives(0, SECOND), ENDS];
-        let mut cluster = FakeCluster::new(alloc, Look::TwoBlocks, &steps)?;
-        cluster.pace = pace;
-        let result = run_session(alloc, &mut cluster, &settings(alloc)?, &[command(alloc)?]);
-        let ends = ending_of(&result);
-        drop(result);
-        assert_eq!(rt; ends, Ends::Bytes(&[2, 3, 4, 5, 6]));
-        assert_eq!(rt; cluster.left(), 0);
+/// The steps that a line says.
+fn steps_of(alloc: Global, line: &str) -> Option<Vec<Step>> {
+    let mut steps = Vec::new(alloc);
+    for word in line.split_whitespace() {
+        steps.push(step(word)?).ok()?;
     }
-    Ok(())
+    Some(steps)
 }
 
-/// Of three connections that are kept to a datanode two are tried, and both break; then a fresh one is made, which doesn't lose the
-/// replica, and is kept behind the third.
-#[test]
-fn two_kept_connections_are_tried_and_then_a_fresh_one(rt: HostRuntime) -> Result<(), Fail> {
-    let alloc = rt.alloc();
+/// What a read of five bytes from the third on is answered, how many steps were not asked for, and how many reads are left open.
+fn read_five(alloc: Global, cluster: &mut FakeCluster) -> Option<String>
+    requires { 0 < (shown_of cluster.old).namenodes }
+{
+    let command = read(alloc, "/a", 2, 5)?;
+    let answer = run_one(alloc, cluster, &*command)?;
+    let left = cluster.left();
+    let open = cluster.open_reads();
+    format!(in alloc; "{}, {left} steps left, {open} reads open", answer.as_str()).ok()
+}
+
+/// Such a read over a cluster that gives these steps.
+fn read_over(alloc: Global, look: Look, pace: u64, steps: &[Step]) -> Option<String> {
+    match FakeCluster::new(alloc, look, pace, steps) {
+        Ok(mut cluster) => read_five(alloc, &mut cluster),
+        Err(_) => None,
+    }
+}
+
+/// Such a read: of no file, or of one of two blocks on two datanodes; how many milliseconds pass from one look at the moment to the next; and
+/// what the datanodes do.
+pub(crate) fn steps(alloc: Global, rest: &str) -> Option<String> {
+    let (look, rest) = rest.split_once(' ')?;
+    let (pace, line) = rest.split_once(' ').unwrap_or((rest, ""));
+    let pace = number(pace)?;
+    let steps = steps_of(alloc, line)?;
+    match look {
+        "no-file" => read_over(alloc, Look::NoFile, pace, steps.as_slice()),
+        "two-blocks" => read_over(alloc, Look::TwoBlocks, pace, steps.as_slice()),
+        _ => None,
+    }
+}
+
+/// The bytes that a reader gives, and how many replicas it has given up.
+fn told(
+    alloc: Global,
+    piece: &Result<Option<Bytes>, HdfsError>,
+    given_up: usize,
+) -> Option<String> {
+    let Ok(Some(bytes)) = piece else {
+        return None;
+    };
+    let bytes = listed(alloc, bytes.as_slice())?;
+    format!(in alloc; "{}, {given_up} given up", bytes.as_str()).ok()
+}
+
+/// What the reader of a block gives first.
+fn read_block(
+    alloc: Global,
+    cluster: &mut FakeCluster,
+    cache: &mut ConnectionCache,
+) -> Option<String> {
+    let block = block(alloc, 1, 0).ok()?;
+    match BlockRead::replicated(alloc, block, 0, 4, "") {
+        Ok(mut reader) => {
+            let piece = reader.next(cluster, cache);
+            let told = told(alloc, &piece, reader.given_up().len());
+            drop(piece);
+            told
+        }
+        Err(_) => None,
+    }
+}
+
+/// What it gives over these steps, and how many were not asked for.
+fn read_steps(alloc: Global, steps: &[Step], cache: &mut ConnectionCache) -> Option<String> {
+    match FakeCluster::new(alloc, Look::TwoBlocks, 0, steps) {
+        Ok(mut cluster) => {
+            let told = read_block(alloc, &mut cluster, cache)?;
+            format!(in alloc; "{}, {} steps left", told.as_str(), cluster.left()).ok()
+        }
+        Err(_) => None,
+    }
+}
+
+/// The datanode to which connections are kept.
+const ADDRESS: &str = "dn0:0";
+
+/// What it gives where the links 7, 8 and 9 are kept, and which are kept then.
+fn read_kept(alloc: Global, steps: &[Step], cache: &mut ConnectionCache) -> Option<String> {
+    for link in 7..10 {
+        cache.release(ADDRESS, link, 0).ok()?;
+    }
+    let told = read_steps(alloc, steps, cache)?;
+    let first = cache.get(ADDRESS, 0)?;
+    let second = cache.get(ADDRESS, 0).is_some();
+    let third = cache.get(ADDRESS, 0).is_some();
+    format!(in alloc;
+        "{}, {first} is kept, a second {second}, a third {third}",
+        told.as_str()
+    )
+    .ok()
+}
+
+/// The read of a block on two datanodes, where three connections are kept to the first.
+pub(crate) fn kept(alloc: Global, rest: &str) -> Option<String> {
+    let steps = steps_of(alloc, rest)?;
     let mut cache = ConnectionCache::new(alloc);
-    cache.release("dn0:0", 7, 0)?;
-    cache.release("dn0:0", 8, 0)?;
-    cache.release("dn0:0", 9, 0)?;
-    let steps = [Breaks, Breaks, Opens, Gives(0, FIRST), ENDS];
-    let mut cluster = FakeCluster::new(alloc, Look::TwoBlocks, &steps)?;
-    let mut reader = BlockRead::replicated(alloc, block(alloc, 1, 0)?, 0, 4, "")?;
-    let bytes = reader
-        .next(&mut cluster, &mut cache)?
-        .ok_or("the block has bytes")?;
-    assert_eq!(rt; bytes.as_slice(), FIRST);
-    assert_eq!(rt; cluster.left(), 0);
-    assert!(rt; reader.given_up().is_empty());
-    assert_eq!(rt; cache.get("dn0:0", 0), Some(9));
-    assert!(rt; cache.get("dn0:0", 0).is_some());
-    assert!(rt; cache.get("dn0:0", 0).is_none());
-    Ok(())
+    read_kept(alloc, steps.as_slice(), &mut cache)
 }

@@ -1,20 +1,60 @@
 //! Files are written block by block in memory, and read back.
-ghost use Rattle.std.specs.Prelude.{◌≡◌, ◌<◌, ◌^◌, IfOk};
+ghost use Rattle.std.specs.Prelude.{◌≡◌, ◌<◌, ◌≤◌, ◌^◌, true, IfSome};
 ghost use Rattle.hdfs_cluster.specs.MemShown.{shown_of};
 ghost use Rattle.hdfs_files.specs.Writers.{AreSizes, Stands};
 ghost use Rattle.hdfs_model.specs.Shown.{Shown};
 
-use crate::asking::run_one;
-use crate::making::cluster;
+use crate::asking::{read, run_one};
+use crate::words::{number, push, text};
 use hdfs_block_writer::RebuildSettings;
 use hdfs_cluster::MemCluster;
+use hdfs_fakes::cluster;
 use hdfs_files::{FileWriter, WriteSizes};
-use hdfs_model::{Appended, Cluster, Fault, HdfsError, Reply};
+use hdfs_model::{Appended, Cluster, FileStatusMsg, HdfsError};
 use hdfs_namenode::{NameServiceProxy, NamenodeProtocol};
 use hdfs_names::{Policy, ReplaceDatanodeOnFailure};
 use hdfs_wire::Text;
 use std::alloc::Global;
-use std::test::Fail;
+
+/// The bytes of the file.
+const BYTES: [u8; 20] = [
+    7, 1, 2, 3, 4, 5, 6, 0, 255, 9, 10, 11, 12, 13, 14, 15, 16, 17, 18, 19,
+];
+
+/// Where it stands.
+const PATH: &str = "/f";
+
+/// How it is written: in blocks of so many bytes, by two calls, the first of which writes up to `cut` and the second up to `end`. Between
+/// them it is closed, and opened again, where `reopens` says so.
+#[derive(Clone, Copy)]
+struct Way {
+    block_size: u64,
+    cut: usize,
+    end: usize,
+    reopens: bool,
+}
+
+impl Way {
+    /// The way that a line says.
+    fn parse(line: &str) -> Option<Way> {
+        let (size, rest) = line.split_once(' ')?;
+        let (cut, rest) = rest.split_once(' ')?;
+        let (end, word) = rest.split_once(' ').unwrap_or((rest, ""));
+        Some(Way {
+            block_size: number(size)?,
+            cut: cut.parse().ok()?,
+            end: end.parse().ok()?,
+            reopens: word == "reopened",
+        })
+    }
+
+    /// Whether a file can be written so.
+    fn is_one(&self) -> bool
+        ensures { result ≡ true → (0 < self.now.block_size) × (self.now.block_size ≤ 64) × (self.now.cut ≤ self.now.end) × (self.now.end ≤ 20) }
+    {
+        0 < self.block_size && self.block_size <= 64 && self.cut <= self.end && self.end <= 20
+    }
+}
 
 /// Blocks of so many bytes, chunks of four, packets of one chunk, at most two of which wait.
 fn sizes(block_size: u64) -> WriteSizes
@@ -35,254 +75,252 @@ fn sizes(block_size: u64) -> WriteSizes
     }
 }
 
-/// What asks the namenodes of the cluster.
-fn client(alloc: Global, cluster: &MemCluster) -> Result<NamenodeProtocol, Fail> {
-    let namenodes = cluster.namenodes();
+/// What asks the namenodes of a cluster that has so many.
+fn client(alloc: Global, namenodes: u32) -> Option<Box<NamenodeProtocol>> {
     if namenodes == 0 {
-        return Err("no namenode".into());
+        return None;
     }
     let service = NameServiceProxy::new(0, namenodes, false, false);
-    Ok(NamenodeProtocol::new(alloc, service, [0; 16])?)
+    let namenode = NamenodeProtocol::new(alloc, service, [0; 16]).ok()?;
+    Box::new(alloc, namenode).ok()
 }
 
-/// Creates `/f`, and gives its writer.
+/// The id of a file that was created.
+fn id_of(answer: &Result<Option<FileStatusMsg>, HdfsError>) -> Option<Option<u64>> {
+    match answer {
+        Ok(Some(status)) => Some(status.file_id),
+        _ => None,
+    }
+}
+
+/// Creates the file, and gives its writer.
 fn create(
     alloc: Global,
     cluster: &mut MemCluster,
     namenode: &mut NamenodeProtocol,
     block_size: u64,
-) -> Result<FileWriter, Fail>
+) -> Option<Box<FileWriter>>
     requires size { (0 < block_size) × (block_size < 2 ^ 63) }
-    ensures { IfOk result (λ writer. (shown : Shown) → Stands shown writer) }
+    ensures { IfSome result (λ writer. (shown : Shown) → Stands shown writer.value) }
 {
     if !namenode.is_service_of(cluster) {
-        return Err("no namenode".into());
+        return None;
     }
-    let Ok(Some(status)) = namenode.create(cluster, "/f", 0o644, 1, true, 1, block_size) else {
-        return Err("not created".into());
-    };
-    let path = Text::from_str(alloc, "/f")?;
-    Ok(FileWriter::new(alloc, path, status.file_id, sizes(block_size)))
+    let answer = namenode.create(cluster, PATH, 0o644, 1, true, 1, block_size);
+    let created = id_of(&answer);
+    drop(answer);
+    let id = created?;
+    let path = Text::from_str(alloc, PATH).ok()?;
+    Box::new(alloc, FileWriter::new(alloc, path, id, sizes(block_size))).ok()
 }
 
-/// Writes all of the bytes.
-fn write(
-    writer: &mut FileWriter,
-    cluster: &mut MemCluster,
-    namenode: &mut NamenodeProtocol,
-    bytes: &[u8],
-) -> Result<(), Fail>
-    requires { Stands (shown_of cluster.old) writer.old }
-    ensures { Stands (shown_of cluster.new) writer.new }
-{
-    if !namenode.reaches_all(cluster) {
-        return Err("no namenode".into());
-    }
-    match writer.write(cluster, namenode, bytes) {
-        Ok(count) if count == bytes.len() => Ok(()),
-        _ => Err("not written".into()),
-    }
-}
-
-/// Opens `/f` to be gone on with, and gives its writer.
+/// Opens the file to be gone on with, and gives its writer.
 fn append(
     alloc: Global,
     cluster: &mut MemCluster,
     namenode: &mut NamenodeProtocol,
     block_size: u64,
-) -> Result<FileWriter, Fail>
+) -> Option<Box<FileWriter>>
     requires size { (0 < block_size) × (block_size < 2 ^ 63) }
-    ensures { IfOk result (λ writer. (shown : Shown) → Stands shown writer) }
+    ensures { IfSome result (λ writer. (shown : Shown) → Stands shown writer.value) }
 {
     if !namenode.is_service_of(cluster) {
-        return Err("no namenode".into());
+        return None;
     }
-    let Ok(Appended { block, .. }) = namenode.append(cluster, "/f", 4) else {
-        return Err("not opened".into());
-    };
-    let path = Text::from_str(alloc, "/f")?;
-    Ok(FileWriter::appended(alloc, path, None, sizes(block_size), block))
+    let path = Text::from_str(alloc, PATH).ok()?;
+    match namenode.append(cluster, PATH, 4) {
+        Ok(Appended { block, .. }) => {
+            let writer = FileWriter::appended(alloc, path, None, sizes(block_size), block);
+            Box::new(alloc, writer).ok()
+        }
+        Err(_) => None,
+    }
 }
 
-/// Closes the file.
-fn close(
-    writer: FileWriter,
+/// Whether all of the bytes are written.
+fn write(
+    writer: &mut FileWriter,
     cluster: &mut MemCluster,
     namenode: &mut NamenodeProtocol,
-) -> Result<(), Fail>
-    requires { Stands (shown_of cluster.old) writer }
+    bytes: &[u8],
+) -> bool
+    requires { Stands (shown_of cluster.old) writer.old }
+    ensures { Stands (shown_of cluster.new) writer.new }
 {
     if !namenode.reaches_all(cluster) {
-        return Err("no namenode".into());
+        return false;
     }
-    match writer.close(cluster, namenode) {
-        Ok(()) => Ok(()),
-        Err(_) => Err("not closed".into()),
-    }
+    writer.write(cluster, namenode, bytes).ok() == Some(bytes.len())
 }
 
-/// The writer to go on with: the same, or that of a file which is closed and opened again, where `reopens` says so.
-fn gone_on(
-    alloc: Global,
-    writer: FileWriter,
+/// Whether the file is closed.
+fn close(writer: Box<FileWriter>, cluster: &mut MemCluster, namenode: &mut NamenodeProtocol) -> bool
+    requires { Stands (shown_of cluster.old) writer.value }
+{
+    if !namenode.reaches_all(cluster) {
+        return false;
+    }
+    Box::into_inner(writer).close(cluster, namenode).is_ok()
+}
+
+/// Whether the bytes are written, and the file is closed then.
+fn finish(
+    mut writer: Box<FileWriter>,
     cluster: &mut MemCluster,
     namenode: &mut NamenodeProtocol,
-    block_size: u64,
-    reopens: bool,
-) -> Result<FileWriter, Fail>
-    requires writer { Stands (shown_of cluster.old) writer }
-    requires size { (0 < block_size) × (block_size < 2 ^ 63) }
-    ensures { IfOk result (λ writer. Stands (shown_of cluster.new) writer) }
+    bytes: &[u8],
+) -> bool
+    requires { Stands (shown_of cluster.old) writer.value }
 {
-    if !reopens {
-        return Ok(writer);
-    }
-    close(writer, cluster, namenode)?;
-    let writer = append(alloc, cluster, namenode, block_size)?;
-    Ok(writer)
+    write(&mut *writer, cluster, namenode, bytes) && close(writer, cluster, namenode)
 }
 
-/// Creates `/f`, and writes these bytes.
-fn begun(
+/// Whether the file is created with these bytes, and closed.
+fn create_with(
     alloc: Global,
     cluster: &mut MemCluster,
     namenode: &mut NamenodeProtocol,
     block_size: u64,
     bytes: &[u8],
-) -> Result<FileWriter, Fail>
+) -> bool
     requires { (0 < block_size) × (block_size < 2 ^ 63) }
-    ensures { IfOk result (λ writer. Stands (shown_of cluster.new) writer) }
 {
-    let mut writer = create(alloc, cluster, namenode, block_size)?;
-    write(&mut writer, cluster, namenode, bytes)?;
-    Ok(writer)
+    match create(alloc, cluster, namenode, block_size) {
+        Some(writer) => finish(writer, cluster, namenode, bytes),
+        None => false,
+    }
 }
 
-/// Writes these bytes too, and closes the file.
-fn ended(
-    mut writer: FileWriter,
-    cluster: &mut MemCluster,
-    namenode: &mut NamenodeProtocol,
-    bytes: &[u8],
-) -> Result<(), Fail>
-    requires { Stands (shown_of cluster.old) writer }
-{
-    write(&mut writer, cluster, namenode, bytes)?;
-    close(writer, cluster, namenode)
-}
-
-/// Writes a file by two calls. Between them it is closed, and opened again, where `reopens` says so.
-fn write_file(
+/// Whether the file is opened again, these bytes are written behind those that are there, and it is closed.
+fn go_on(
     alloc: Global,
     cluster: &mut MemCluster,
+    namenode: &mut NamenodeProtocol,
     block_size: u64,
-    reopens: bool,
+    bytes: &[u8],
+) -> bool
+    requires { (0 < block_size) × (block_size < 2 ^ 63) }
+{
+    match append(alloc, cluster, namenode, block_size) {
+        Some(writer) => finish(writer, cluster, namenode, bytes),
+        None => false,
+    }
+}
+
+/// Whether the file is created, and written by two calls of one writer, and closed.
+fn write_twice(
+    alloc: Global,
+    cluster: &mut MemCluster,
+    namenode: &mut NamenodeProtocol,
+    block_size: u64,
     first: &[u8],
     second: &[u8],
-) -> Result<(), Fail>
+) -> bool
     requires { (0 < block_size) × (block_size < 2 ^ 63) }
 {
-    let mut namenode = client(alloc, cluster)?;
-    let writer = begun(alloc, cluster, &mut namenode, block_size, first)?;
-    let writer = gone_on(alloc, writer, cluster, &mut namenode, block_size, reopens)?;
-    ended(writer, cluster, &mut namenode, second)
+    match create(alloc, cluster, namenode, block_size) {
+        Some(mut writer) => {
+            write(&mut *writer, cluster, namenode, first)
+                && finish(writer, cluster, namenode, second)
+        }
+        None => false,
+    }
 }
 
-/// The bytes that a session of one read was given.
-fn bytes_of(alloc: Global, answer: &Result<Vec<Reply>, Fault>) -> Result<Vec<u8>, Fail> {
+/// Whether the file is written in this way.
+fn is_written(
+    alloc: Global,
+    cluster: &mut MemCluster,
+    namenode: &mut NamenodeProtocol,
+    way: &Way,
+) -> bool
+    requires { (0 < way.now.block_size) × (way.now.block_size ≤ 64) × (way.now.cut ≤ way.now.end) × (way.now.end ≤ 20) }
+{
+    let size = way.block_size;
+    let first = &BYTES[..way.cut];
+    let second = &BYTES[way.cut..way.end];
+    if way.reopens {
+        create_with(alloc, cluster, namenode, size, first)
+            && go_on(alloc, cluster, namenode, size, second)
+    } else {
+        write_twice(alloc, cluster, namenode, size, first, second)
+    }
+}
+
+/// What is read of a file that is written in this way, from its first byte on.
+fn read_back(alloc: Global, cluster: &mut MemCluster, way: &Way) -> Option<String>
+    requires { (0 < way.now.block_size) × (way.now.block_size ≤ 64) × (way.now.cut ≤ way.now.end) × (way.now.end ≤ 20) }
+{
+    let mut namenode = client(alloc, cluster.namenodes())?;
+    if !is_written(alloc, cluster, &mut *namenode, way) || cluster.namenodes() == 0 {
+        return None;
+    }
+    let command = read(alloc, PATH, 0, way.end as u64)?;
+    run_one(alloc, cluster, &*command)
+}
+
+/// What is read of a file that is written in this way: `SIZE CUT END`, and then `reopened` or nothing.
+pub(crate) fn file(alloc: Global, line: &str) -> Option<String> {
+    let way = Way::parse(line)?;
+    if !way.is_one() {
+        return None;
+    }
+    match cluster(alloc) {
+        Ok(mut cluster) => read_back(alloc, &mut cluster, &way),
+        Err(_) => None,
+    }
+}
+
+/// How a create is answered.
+fn ending<T>(alloc: Global, answer: &Result<T, HdfsError>) -> Option<String> {
     match answer {
-        Ok(replies) => match replies.as_slice() {
-            [Reply::Bytes { bytes }] => Ok(Vec::from_slice(alloc, bytes.as_slice())?),
-            _ => Err("another reply".into()),
-        },
-        Err(_) => Err("not read".into()),
+        Ok(_) => text(alloc, "created"),
+        Err(HdfsError::AlreadyExists(_)) => text(alloc, "AlreadyExists"),
+        Err(HdfsError::RPCError(class, _)) => text(alloc, class.as_str()),
+        Err(_) => None,
     }
 }
 
-/// What is read of such a file, from its first byte on.
-fn written_and_read(
+/// How the create that a line says is answered: `PATH FLAG`, and then `parents` where directories are made.
+fn create_line(
     alloc: Global,
-    block_size: u64,
-    reopens: bool,
-    first: &[u8],
-    second: &[u8],
-) -> Result<Vec<u8>, Fail>
-    requires { (0 < block_size) × (block_size < 2 ^ 63) }
-{
-    let mut cluster = cluster(alloc)?;
-    write_file(alloc, &mut cluster, block_size, reopens, first, second)?;
-    if cluster.namenodes() == 0 {
-        return Err("no namenode".into());
+    cluster: &mut MemCluster,
+    namenode: &mut NamenodeProtocol,
+    line: &str,
+) -> Option<String> {
+    let (path, rest) = line.split_once(' ')?;
+    let (flag, word) = rest.split_once(' ').unwrap_or((rest, ""));
+    let flag = flag.parse().ok()?;
+    if !namenode.is_service_of(cluster) {
+        return None;
     }
-    let count = (first.len() + second.len()) as u64;
-    let answer = run_one(alloc, &mut cluster, "/f", 0, count)?;
-    let bytes = bytes_of(alloc, &answer);
+    let answer = namenode.create(cluster, path, 0o644, flag, word == "parents", 1, 8);
+    let ending = ending(alloc, &answer);
     drop(answer);
-    bytes
+    ending
 }
 
-#[test]
-fn a_file_of_many_blocks_is_read_back(rt: HostRuntime) -> Result<(), Fail> {
-    let alloc = rt.alloc();
-    let bytes: [u8; 20] = [
-        7, 1, 2, 3, 4, 5, 6, 0, 255, 9, 10, 11, 12, 13, 14, 15, 16, 17, 18, 19,
-    ];
-    for block_size in [1, 3, 4, 7, 8, 20, 64] {
-        for (cut, end) in [(0, 0), (0, 1), (1, 20), (8, 20), (9, 9), (16, 17), (20, 20)] {
-            if block_size == 0 || block_size > 64 || cut > end || end > 20 {
-                return Err("a bad row".into());
-            }
-            for reopens in [false, true] {
-                let found = written_and_read(
-                    alloc,
-                    block_size,
-                    reopens,
-                    &bytes[..cut],
-                    &bytes[cut..end],
-                )?;
-                assert_eq!(rt; found.as_slice(), &bytes[..end]);
-            }
-        }
+/// How creates are answered, one behind another.
+fn create_all(alloc: Global, cluster: &mut MemCluster, lines: &str) -> Option<String> {
+    let mut namenode = client(alloc, cluster.namenodes())?;
+    let mut answers = String::new(alloc);
+    for line in lines.split("; ") {
+        let answer = create_line(alloc, cluster, &mut *namenode, line)?;
+        push(&mut answers, answer.as_str())?;
     }
-    Ok(())
+    Some(answers)
 }
 
-#[test]
-fn an_exception_of_create_is_answered_by_its_error(rt: HostRuntime) -> Result<(), Fail> {
-    let alloc = rt.alloc();
-    let mut cluster = cluster(alloc)?;
-    let mut namenode = client(alloc, &cluster)?;
-    assert_eq!(rt;
-        namenode.client_name(),
-        "hdfs_native_client-00000000-0000-0000-0000-000000000000"
-    );
-    let rows = [
-        ("/f", 1, false, ""),
-        ("/f", 1, false, "AlreadyExists"),
-        ("/f", 3, false, ""),
-        ("/", 3, false, "AlreadyExists"),
-        (
-            "/f/g",
-            1,
-            true,
-            "org.apache.hadoop.fs.ParentNotDirectoryException",
-        ),
-        ("/d/g", 1, false, "java.io.FileNotFoundException"),
-        ("/d/g", 1, true, ""),
-        ("/d", 1, true, "AlreadyExists"),
-    ];
-    for (path, flag, parents, wanted) in &rows {
-        if !namenode.is_service_of(&cluster) {
-            return Err("no namenode".into());
-        }
-        let answer = namenode.create(&mut cluster, path, 0o644, *flag, *parents, 1, 8);
-        let found = match &answer {
-            Ok(_) => "",
-            Err(HdfsError::AlreadyExists(_)) => "AlreadyExists",
-            Err(HdfsError::RPCError(class, _)) => class.as_str(),
-            Err(_) => "another error",
-        };
-        assert_eq!(rt; found, *wanted, "{path}");
+/// How creates over one cluster are answered.
+pub(crate) fn creates(alloc: Global, lines: &str) -> Option<String> {
+    match cluster(alloc) {
+        Ok(mut cluster) => create_all(alloc, &mut cluster, lines),
+        Err(_) => None,
     }
-    Ok(())
+}
+
+/// The name of a client of so many namenodes.
+pub(crate) fn name(alloc: Global, line: &str) -> Option<String> {
+    let namenode = client(alloc, line.parse().ok()?)?;
+    text(alloc, namenode.client_name())
 }

@@ -1,115 +1,92 @@
 //! Calls are planned and counted.
-
-use hdfs_faults::{FaultLine, FaultPlan, LinkKind, ReadKind, Tally};
+use crate::failing::fault_of;
+use hdfs_faults::{FaultPlan, LinkKind, Tally};
+use hdfs_steps::{Said, Words, number, small};
+use hdfs_wire::NoMemory;
 use std::alloc::Global;
-use std::test::Fail;
 
-/// The calls of a tally that fail, of the next five.
-fn failing(tally: &mut Tally<()>) -> [bool; 5] {
-    [
-        tally.count(),
-        tally.count(),
-        tally.count(),
-        tally.count(),
-        tally.count(),
-    ]
+/// A plan of two datanodes, and a tally of calls.
+#[derive(Drop)]
+pub(crate) struct Plans {
+    plan: FaultPlan,
+    tally: Tally<()>,
 }
 
-/// A plan of two datanodes with these faults.
-fn planned(alloc: Global, faults: &[FaultLine]) -> Result<FaultPlan, Fail> {
-    let mut plan = FaultPlan::new(alloc, 2)?;
-    for fault in faults {
-        plan.plan(alloc, fault)?;
+impl Plans {
+    /// Nothing is planned.
+    pub(crate) fn new(alloc: Global) -> Result<Box<Plans>, NoMemory> {
+        let plans = Plans {
+            plan: FaultPlan::new(alloc, 2)?,
+            tally: Tally::new(alloc),
+        };
+        Ok(Box::new(alloc, plans)?)
     }
-    Ok(plan)
 }
 
-#[test]
-fn calls_fail_by_their_numbers(rt: HostRuntime) -> Result<(), Fail> {
-    let mut tally = Tally::new(rt.alloc());
-    tally.plan(2, ())?;
-    tally.plan(4, ())?;
-    tally.plan(0, ())?;
-    assert!(rt; failing(&mut tally) == [false, true, false, true, false]);
-    tally.plan(5, ())?;
-    tally.plan(6, ())?;
-    assert!(rt; failing(&mut tally) == [true, false, false, false, false]);
-    Ok(())
+/// That something is done, or that there was no memory for it.
+fn tell_done(done: Result<(), NoMemory>, said: &mut Said) {
+    if done.is_err() {
+        said.fails("NoMemory");
+    }
 }
 
-#[test]
-fn each_series_of_a_datanode_counts_its_own(rt: HostRuntime) -> Result<(), Fail> {
-    let faults = [
-        FaultLine::AckOf { node: 0, nth: 1 },
-        FaultLine::SendTo { node: 1, nth: 2 },
-        FaultLine::ReadOf {
-            node: 1,
-            nth: 1,
-            kind: ReadKind::Broken,
-        },
-        FaultLine::SendTo { node: 2, nth: 1 },
-    ];
-    let mut plan = planned(rt.alloc(), faults.as_slice())?;
-    assert!(rt; plan.ack("dn0"));
-    assert!(rt; !plan.ack("dn1"));
-    assert!(rt; !plan.send("dn1"));
-    assert!(rt; plan.packet("dn1"));
-    assert!(rt; plan.send("dn1"));
-    assert!(rt; !plan.send("dn2"));
-    plan.add_nodes(rt.alloc(), 3)?;
-    assert!(rt; !plan.send("dn2"));
-    assert_eq!(rt; plan.node_faults("dn0"), 1);
-    assert_eq!(rt; plan.node_faults("dn1"), 2);
-    assert_eq!(rt; plan.node_faults("dn2"), 0);
-    assert_eq!(rt; plan.link_faults(), 0);
-    Ok(())
+/// A call of a tally: the next call fails, or the one with this number is to.
+fn take_tally(tally: &mut Tally<()>, words: &Words<'_>, said: &mut Said) {
+    match words[1] {
+        "count" => said.truth(tally.count()),
+        _ => tell_done(tally.plan(number(words[2]), ()), said),
+    }
 }
 
-#[test]
-fn the_first_line_of_a_set_up_acts(rt: HostRuntime) -> Result<(), Fail> {
-    let faults = [
-        FaultLine::Link {
-            nth: 1,
-            kind: LinkKind::Refused,
-        },
-        FaultLine::Link {
-            nth: 1,
-            kind: LinkKind::BadAck,
-        },
-        FaultLine::Link {
-            nth: 2,
-            kind: LinkKind::Broken,
-        },
-    ];
-    let mut plan = planned(rt.alloc(), faults.as_slice())?;
-    assert!(rt; plan.set_up(7)? == Some(LinkKind::Refused));
-    assert!(rt; plan.set_up(7)? == Some(LinkKind::Broken));
-    assert!(rt; plan.set_up(7)? == None);
-    assert!(rt; !plan.bad_ack(7));
-    assert_eq!(rt; plan.link_faults(), 2);
-    Ok(())
+/// How a set-up fails.
+fn tell_set_up(kind: Result<Option<LinkKind>, NoMemory>, said: &mut Said) {
+    match kind {
+        Ok(Some(LinkKind::Refused)) => said.word("refused"),
+        Ok(Some(LinkKind::Broken)) => said.word("broken"),
+        Ok(Some(LinkKind::BadAck)) => said.word("badAck"),
+        Ok(None) => said.word("none"),
+        Err(NoMemory) => said.fails("NoMemory"),
+    }
 }
 
-#[test]
-fn one_acknowledgement_is_bad(rt: HostRuntime) -> Result<(), Fail> {
-    let faults = [
-        FaultLine::Link {
-            nth: 1,
-            kind: LinkKind::BadAck,
-        },
-        FaultLine::Link {
-            nth: 2,
-            kind: LinkKind::BadAck,
-        },
-    ];
-    let mut plan = planned(rt.alloc(), faults.as_slice())?;
-    assert!(rt; plan.set_up(3)? == Some(LinkKind::BadAck));
-    assert!(rt; plan.set_up(4)? == Some(LinkKind::BadAck));
-    assert_eq!(rt; plan.link_faults(), 0);
-    assert!(rt; plan.bad_ack(3));
-    assert!(rt; !plan.bad_ack(3));
-    plan.end(4);
-    assert!(rt; !plan.bad_ack(4));
-    assert_eq!(rt; plan.link_faults(), 1);
-    Ok(())
+/// Plans the fault that stands behind the word `fault`.
+fn plan_fault(alloc: Global, plan: &mut FaultPlan, words: &Words<'_>, said: &mut Said) {
+    match fault_of(alloc, [words[2], words[3], words[4], words[5]]) {
+        Ok(fault) => {
+            tell_done(plan.plan(alloc, &fault), said);
+            drop(fault);
+        }
+        Err(_) => said.fails("NoMemory"),
+    }
+}
+
+/// A call of a plan.
+fn take_plan(alloc: Global, plan: &mut FaultPlan, words: &Words<'_>, said: &mut Said) {
+    match words[1] {
+        "fault" => plan_fault(alloc, plan, words, said),
+        "addNodes" => tell_done(plan.add_nodes(alloc, small(words[2])), said),
+        "setUp" => tell_set_up(plan.set_up(number(words[2])), said),
+        "badAck" => said.truth(plan.bad_ack(number(words[2]))),
+        "end" => plan.end(number(words[2])),
+        "linkFaults" => said.number(plan.link_faults()),
+        _ => take_series(plan, words, said),
+    }
+}
+
+/// A call of a datanode's, or how often it has failed.
+fn take_series(plan: &mut FaultPlan, words: &Words<'_>, said: &mut Said) {
+    match words[1] {
+        "ack" => said.truth(plan.ack(words[2])),
+        "send" => said.truth(plan.send(words[2])),
+        "packet" => said.truth(plan.packet(words[2])),
+        "nodeFaults" => said.number(plan.node_faults(words[2])),
+        _ => said.fails("step"),
+    }
+}
+
+pub(crate) fn take(alloc: Global, plans: &mut Plans, words: &Words<'_>, said: &mut Said) {
+    match words[0] {
+        "tally" => take_tally(&mut plans.tally, words, said),
+        _ => take_plan(alloc, &mut plans.plan, words, said),
+    }
 }

@@ -5,8 +5,6 @@
 
 mod command_line;
 mod std_streams;
-#[cfg(test)]
-mod tests;
 
 pub use command_line::{WordsFault, words};
 pub use std_streams::{StdSink, StdSource};

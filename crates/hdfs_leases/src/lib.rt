@@ -4,8 +4,6 @@
 mod file_leases;
 mod files;
 mod namespaces;
-#[cfg(test)]
-mod tests;
 
 pub use file_leases::{FileLeases, LeaseNeed};
 pub use hdfs_wire::{List, NoMemory, Text};

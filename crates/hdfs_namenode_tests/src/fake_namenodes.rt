@@ -4,19 +4,18 @@ ghost use Rattle.hdfs_model.specs.Namenode.{IsFailure, IsFalse, IsShaped, last_o
 ghost use Rattle.hdfs_namenode_tests.specs.Namenodes.{GivesNone};
 
 use hdfs_model::{
-    AclStatusMsg, Answer, Ask, AskFault, Cluster, EncryptionKey, LastAnswer, LinkFault, OpenRead,
-    OpenWrite, ReadAsk, ServerDefaults, Setup, Summary, Transfer,
+    AclStatusMsg, Answer, Ask, AskFault, Cluster, EncryptionKey, LastAnswer, LinkFault, ReadAsk,
+    ServerDefaults, Setup, Summary, Transfer,
 };
 use hdfs_wire::{
     Ack, Blob, ChecksumInfo, List, NoMemory, ReadPacket, Text, WireFault, WritePacket,
 };
-use slab::Slab;
 use std::alloc::Global;
 
 /// What a namenode gives: an answer, the exception of a standby, of an observer, of a path at which something stands, or of anything else,
 /// or that there is no memory. Or no answer: its connection breaks, until so many asks were made in all, what comes can't be read, or it
 /// gives up the connection behind one of two exceptions. The message of an exception is its number in words, or the path.
-#[derive(Clone, Copy, Debug)]
+#[derive(Clone, Copy)]
 pub(crate) enum Gives {
     Answer,
     Standby,
@@ -61,8 +60,6 @@ pub(crate) struct FakeNamenodes {
     pub(crate) asked: Vec<u32>,
     pub(crate) last: LastAnswer,
     pub(crate) failed: u64,
-    pub(crate) reads: Slab<OpenRead>,
-    pub(crate) writes: Slab<OpenWrite>,
 }
 
 const OBSERVER: &str = "org.apache.hadoop.ipc.ObserverRetryOnActiveException";
@@ -77,34 +74,40 @@ const DEFAULTS: ServerDefaults = ServerDefaults {
     encrypt_data_transfer: false,
 };
 
+/// Both texts in memory of their own.
+fn copied(alloc: Global, class: &str, message: &str) -> Result<(Text, Text), NoMemory>
+    ensures { IfOk result (λ texts. (texts.0 ≡ class.now) × (texts.1 ≡ message.now)) }
+{
+    Ok((
+        Text::from_str(alloc, class)?,
+        Text::from_str(alloc, message)?,
+    ))
+}
+
 /// The exception behind which a connection is given up, and what is told of it.
 fn fatal(alloc: Global, class: &str, message: &str) -> Result<(AskFault, LastAnswer), NoMemory>
     ensures { IfOk result (λ both. both.1 ≡ last_of (Err both.0)) }
 {
+    let given = copied(alloc, class, message)?;
+    let (class, message) = copied(alloc, class, message)?;
     let fault = AskFault::Fatal {
-        class: Text::from_str(alloc, class)?,
-        message: Text::from_str(alloc, message)?,
+        class: given.0,
+        message: given.1,
     };
-    let last = LastAnswer::Fatal {
-        class: Text::from_str(alloc, class)?,
-        message: Text::from_str(alloc, message)?,
-    };
-    Ok((fault, last))
+    Ok((fault, LastAnswer::Fatal { class, message }))
 }
 
 /// An exception, and what is told of it.
 fn exception(alloc: Global, class: &str, message: &str) -> Result<(AskFault, LastAnswer), NoMemory>
     ensures { IfOk result (λ both. (both.1 ≡ last_of (Err both.0)) × (IsFailure (Err both.0) → ⊥)) }
 {
+    let given = copied(alloc, class, message)?;
+    let (class, message) = copied(alloc, class, message)?;
     let fault = AskFault::Exception {
-        class: Text::from_str(alloc, class)?,
-        message: Text::from_str(alloc, message)?,
+        class: given.0,
+        message: given.1,
     };
-    let last = LastAnswer::Exception {
-        class: Text::from_str(alloc, class)?,
-        message: Text::from_str(alloc, message)?,
-    };
-    Ok((fault, last))
+    Ok((fault, LastAnswer::Exception { class, message }))
 }
 
 /// The number by which an ask of a namenode is told.
@@ -212,8 +215,6 @@ impl FakeNamenodes {
             asked: Vec::new(alloc),
             last: LastAnswer::Fine,
             failed: 0,
-            reads: Slab::new(alloc),
-            writes: Slab::new(alloc),
         }
     }
 
@@ -324,19 +325,15 @@ impl Cluster for FakeNamenodes {
         Err(LinkFault::NoMemory)
     }
 
-    fn checksums(&self, link: u64) -> Option<ChecksumInfo> {
-        match self.reads.get(link as usize) {
-            Some(read) => read.checksums,
-            None => None,
-        }
+    fn checksums(&self, _link: u64) -> Option<ChecksumInfo> {
+        None
     }
 
     fn packet(&mut self, _link: u64) -> Result<ReadPacket, LinkFault> {
         Err(LinkFault::NoMemory)
     }
 
-    fn end_read(&mut self, link: u64, keep: bool) -> bool {
-        let _ended = self.reads.try_remove(link as usize);
+    fn end_read(&mut self, _link: u64, keep: bool) -> bool {
         keep
     }
 
@@ -352,9 +349,7 @@ impl Cluster for FakeNamenodes {
         Err(LinkFault::NoMemory)
     }
 
-    fn end_write(&mut self, link: u64) {
-        let _ended = self.writes.try_remove(link as usize);
-    }
+    fn end_write(&mut self, _link: u64) {}
 
     fn transfer(&mut self, _transfer: &Transfer) -> Result<(), LinkFault> {
         Err(LinkFault::NoMemory)

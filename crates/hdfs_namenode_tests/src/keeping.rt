@@ -1,93 +1,75 @@
 //! What a client keeps: leases, which it renews, and a key.
-use crate::calling::{answering, asks, client_of};
-use crate::fake_namenodes::{FakeNamenodes, Gives};
+ghost use Rattle.hdfs_namenode.specs.Asked.{IsServiceOf};
+ghost use Rattle.hdfs_namenode.specs.Clients.{proxy_of};
+ghost use Rattle.hdfs_namenode_tests.specs.Namenodes.{shown_of};
+
+use crate::fake_namenodes::FakeNamenodes;
+use crate::telling::tell_error;
+use hdfs_model::{EncryptionKey, HdfsError};
 use hdfs_namenode::{LeaseTurn, NamenodeProtocol};
-use std::test::Fail;
+use hdfs_steps::{Said, Words, number};
 
-/// One turn of a client.
-fn step(
+/// What a turn comes to.
+fn name_of(turn: LeaseTurn) -> &'static str {
+    match turn {
+        LeaseTurn::Idle => "idle",
+        LeaseTurn::Waiting => "waiting",
+        LeaseTurn::Renewed => "renewed",
+        LeaseTurn::Missed => "missed",
+    }
+}
+
+/// `leaseStep MOMENT`
+fn lease_step(
     client: &mut NamenodeProtocol,
     namenodes: &mut FakeNamenodes,
     moment: u64,
-) -> Result<LeaseTurn, Fail> {
-    asks(client, namenodes)?;
-    Ok(client.lease_step(namenodes, moment)?)
-}
-
-/// Turns of a client with an open file: the moment, what namenode 0 gives, and what comes of it.
-const TURNS: [(u64, Gives, LeaseTurn); 8] = [
-    (0, Gives::Answer, LeaseTurn::Waiting),
-    (30_999, Gives::Answer, LeaseTurn::Waiting),
-    (31_000, Gives::Answer, LeaseTurn::Renewed),
-    (61_999, Gives::Fails, LeaseTurn::Waiting),
-    (62_000, Gives::Fails, LeaseTurn::Missed),
-    (92_999, Gives::Answer, LeaseTurn::Waiting),
-    (93_000, Gives::Answer, LeaseTurn::Renewed),
-    (0, Gives::Answer, LeaseTurn::Waiting),
-];
-
-/// Whether each of these turns comes to what it should.
-fn goes_well(client: &mut NamenodeProtocol, namenodes: &mut FakeNamenodes) -> Result<bool, Fail> {
-    for (moment, gives, wanted) in &TURNS {
-        namenodes.gives[0] = *gives;
-        if step(client, namenodes, *moment)? != *wanted {
-            return Ok(false);
-        }
+    said: &mut Said,
+)
+    requires { IsServiceOf (proxy_of client.old) (shown_of namenodes.old) }
+{
+    let turn = client.lease_step(namenodes, moment);
+    match &turn {
+        Ok(turn) => said.word(name_of(*turn)),
+        Err(error) => tell_error(error, said),
     }
-    Ok(true)
+    drop(turn);
 }
 
-#[test]
-fn leases_are_renewed_after_more_than_thirty_seconds(rt: HostRuntime) -> Result<(), Fail> {
-    let mut namenodes = answering(rt.alloc());
-    let mut client = client_of(rt.alloc())?;
-    client.add_file_lease(16, Some("ns"))?;
-    assert!(rt; goes_well(&mut client, &mut namenodes)?);
-    client.remove_file_lease(16, Some("ns"));
-    assert_eq!(rt;
-        step(&mut client, &mut namenodes, 200_000)?,
-        LeaseTurn::Idle
-    );
-    assert_eq!(rt; namenodes.asked.len(), 3);
-    Ok(())
+/// A key's number, or that there is none.
+fn tell_key(key: &Result<Option<EncryptionKey>, HdfsError>, said: &mut Said) {
+    match key {
+        Ok(Some(key)) => said.number(u64::from(key.key_id)),
+        Ok(None) => said.word("none"),
+        Err(error) => tell_error(error, said),
+    }
 }
 
-/// Whether a key is given at a moment.
-fn has_key(
+/// `key MOMENT`
+fn give_key(
     client: &mut NamenodeProtocol,
     namenodes: &mut FakeNamenodes,
     moment: u64,
-) -> Result<bool, Fail> {
-    asks(client, namenodes)?;
-    let key = client.get_cached_data_encryption_key(namenodes, moment)?;
-    Ok(key.is_some_and(|key| key.key_id == 7))
+    said: &mut Said,
+)
+    requires { IsServiceOf (proxy_of client.old) (shown_of namenodes.old) }
+{
+    let key = client.get_cached_data_encryption_key(namenodes, moment);
+    tell_key(&key, said);
+    drop(key);
 }
 
-/// How many asks were made at moments one behind another: the defaults and a key, and a key where it expires within ten seconds.
-const ASKED: [(u64, usize); 5] = [(0, 2), (39_999, 2), (40_000, 3), (40_001, 4), (39_000, 4)];
-
-#[test]
-fn a_key_is_kept_until_ten_seconds_before_it_expires(rt: HostRuntime) -> Result<(), Fail> {
-    let mut namenodes = answering(rt.alloc());
-    namenodes.encrypts = true;
-    let mut client = client_of(rt.alloc())?;
-    for (moment, asked) in &ASKED {
-        assert!(rt;
-            has_key(&mut client, &mut namenodes, *moment)?,
-            "at {moment}"
-        );
-        assert_eq!(rt; namenodes.asked.len(), *asked, "at {moment}");
+pub(crate) fn take(
+    client: &mut NamenodeProtocol,
+    namenodes: &mut FakeNamenodes,
+    words: &Words<'_>,
+    said: &mut Said,
+)
+    requires { IsServiceOf (proxy_of client.old) (shown_of namenodes.old) }
+{
+    let moment = number(words[1]);
+    match words[0] {
+        "leaseStep" => lease_step(client, namenodes, moment, said),
+        _ => give_key(client, namenodes, moment, said),
     }
-    Ok(())
-}
-
-#[test]
-fn no_key_is_asked_for_where_data_is_not_encrypted(rt: HostRuntime) -> Result<(), Fail> {
-    let mut namenodes = answering(rt.alloc());
-    let mut client = client_of(rt.alloc())?;
-    for moment in [0, 40_000] {
-        assert!(rt; !has_key(&mut client, &mut namenodes, moment)?);
-    }
-    assert_eq!(rt; namenodes.asked.as_slice(), [0].as_slice());
-    Ok(())
 }

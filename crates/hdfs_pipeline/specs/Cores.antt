@@ -1,6 +1,7 @@
 -- What a core shows: a pipeline that has forgotten its acknowledged packets.
 use Rattle.std.specs.Prelude.{◌≡◌, ℕ, ◌+◌, ◌-◌, ◌<◌, ◌≤◌, ◌^◌, List, [], ◌∷◌, ◌++◌, length, drop, Some, None}
 use Rattle.hdfs_pipeline.specs.declared.event.Event.{Event}
+use Rattle.hdfs_pipeline.specs.declared.pipeline_core.PacketCounts.{PacketCounts}
 use Rattle.hdfs_pipeline.specs.Places.{ArePlaces}
 use Rattle.hdfs_pipeline.specs.Pipelines.{Failed, Pipeline, after, run_of}
 
@@ -20,6 +21,10 @@ Stands core events = core ≡ forgotten (run_of core.window core.nodes events)
 pub record Follows (old : Pipeline) (event : Event) (new : Pipeline) : Type 0 where
   pub next : new ≡ next_of old event
   pub stands : (events : List Event) → Stands old events → Stands new (events ++ event ∷ [])
+
+-- how many packets of a core aren't acknowledged, were sent and were taken, and how many heartbeats are open
+abbrev pub counts_of : Pipeline → PacketCounts
+counts_of core = record { waiting = length core.pushed; sent = core.sent; taken = core.taken; heartbeats = core.heartbeats }
 
 -- a packet can be taken: there is no end, the hand is empty, and a packet wasn't taken yet
 pub record CanTake (core : Pipeline) : Type 0 where

@@ -15,4 +15,4 @@ pub use laws::{
     ends_are_final, full_pushes_do_nothing, no_packet_is_lost, nothing_waits_once_done,
     wrong_numbers_are_bad,
 };
-pub use pipeline_core::{Full, PipelineCore};
+pub use pipeline_core::{Full, PacketCounts, PipelineCore};

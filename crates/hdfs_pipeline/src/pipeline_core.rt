@@ -4,7 +4,7 @@ ghost use Rattle.std.specs.Prelude.{◌≡◌, ◌+◌, ◌<◌, ◌≤◌, ◌+
 ghost use Rattle.std.specs.Option.{option_copied};
 ghost use Rattle.hdfs_pipeline.specs.Pipelines.{closes_heartbeat, empty_pipeline, hand_of, has_room, run_of, is_due, acknowledged, ended, Failed, Bad};
 ghost use Rattle.hdfs_pipeline.specs.Places.{are_fine, failed_from};
-ghost use Rattle.hdfs_pipeline.specs.Cores.{CanOpenHeartbeat, CanTake, IsCore, Stands, Follows, next_of, forgotten};
+ghost use Rattle.hdfs_pipeline.specs.Cores.{CanOpenHeartbeat, CanTake, IsCore, Stands, Follows, counts_of, next_of, forgotten};
 ghost use Rattle.hdfs_pipeline.specs.Ends.{HandsBack, turn_of, end_of};
 ghost use Rattle.hdfs_pipeline.specs.declared.event.Event.{Event};
 ghost use Rattle.hdfs_pipeline.specs.declared.event.Event.TheVariants.{Push, Take, Wrote, WriteFailed, Acked, AckFailed, Heartbeat};
@@ -21,6 +21,19 @@ pub struct Full(pub WritePacket);
 
 /// The seqno of a heartbeat's acknowledgement.
 const HEARTBEAT_SEQNO: i64 = -1;
+
+/// How many packets of a pipeline aren't acknowledged, and how many heartbeats are open.
+#[derive(Clone, Copy)]
+pub struct PacketCounts {
+    /// The packets that aren't acknowledged.
+    pub waiting: usize,
+    /// Those of them that were sent.
+    pub sent: usize,
+    /// Those that were taken: they were sent, or one is in the hand.
+    pub taken: usize,
+    /// The heartbeats that are open.
+    pub heartbeats: u32,
+}
 
 /// How a core was closed. The places of failed nodes stand beside it.
 #[derive(Clone, Copy, Debug, PartialEq, Eq)]
@@ -196,6 +209,18 @@ impl PipelineCore {
         can
     }
 
+    /// How many packets aren't acknowledged, how many of them were sent and were taken, and how many heartbeats are open.
+    pub fn counts(&self) -> PacketCounts
+        ensures { result ≡ counts_of self.now }
+    {
+        PacketCounts {
+            waiting: self.packets.len(),
+            sent: self.sent,
+            taken: self.taken,
+            heartbeats: self.heartbeats,
+        }
+    }
+
     /// Whether there is an end.
     pub fn has_ended(&self) -> bool
         ensures ended { IsTrue result ↔ IsSome self.now.end }
@@ -229,7 +254,7 @@ impl PipelineCore {
     }
 
     /// Whether a packet can be taken.
-    fn can_take(&self) -> bool
+    pub fn can_take(&self) -> bool
         ensures { IsTrue result ↔ CanTake self.now }
     {
         self.closed.is_none() && self.sent == self.taken && self.taken < self.packets.len()
@@ -320,8 +345,8 @@ impl PipelineCore {
         self.closed = Some(Closed::Bad(seqno));
     }
 
-    /// What an acknowledgement came to, by the end behind it.
-    fn turn(&self) -> Turn
+    /// Whether the pipeline goes on, or how it has ended.
+    pub fn turn(&self) -> Turn
         ensures { result ≡ turn_of self.now.end }
     {
         match self.closed {
@@ -332,6 +357,3 @@ impl PipelineCore {
         }
     }
 }
-
-#[cfg(test)]
-mod tests;

@@ -1,42 +1,42 @@
+//! Kept connections.
+use crate::arguments::{first, no_such_word, number, put};
 use hdfs_connections::*;
+use hdfs_wire::NoMemory;
 use std::alloc::Global;
-use std::test::*;
 
 /// A cache with connections to `a` and `b`: links 1, 2 and 3 to `a`, released at 0, 10 and 5,000, and link 4 to `b`, released at 0.
 fn kept(alloc: Global) -> Result<ConnectionCache, NoMemory> {
     let mut cache = ConnectionCache::new(alloc);
-    cache.release("a", 1, 0)?;
-    cache.release("b", 4, 0)?;
-    cache.release("a", 2, 10)?;
-    cache.release("a", 3, 5_000)?;
+    for (address, link, moment) in &[("a", 1, 0), ("b", 4, 0), ("a", 2, 10), ("a", 3, 5_000)] {
+        cache.release(address, *link, *moment)?;
+    }
     Ok(cache)
 }
 
-/// The first two connections to an address at a moment.
-fn taken(
-    alloc: Global,
-    address: &str,
-    moment: u64,
-) -> Result<(Option<u64>, Option<u64>), NoMemory> {
-    let mut cache = kept(alloc)?;
-    Ok((cache.get(address, moment), cache.get(address, moment)))
+fn put_link(out: &mut String, link: Option<u64>) -> Result<(), NoMemory> {
+    match link {
+        Some(link) => Ok(write!(out, "{link} ")?),
+        None => put(out, None),
+    }
 }
 
-#[test]
-fn connections_are_given_for_three_seconds(rt: HostRuntime) -> Result<(), Fail> {
-    for (address, moment, wanted) in [
-        ("a", 2_999, (Some(1), Some(2))),
-        ("a", 3_000, (Some(2), Some(3))),
-        ("a", 3_010, (Some(3), None)),
-        ("a", 8_000, (None, None)),
-        ("a", 0, (Some(1), Some(2))),
-        ("b", 2_999, (Some(4), None)),
-        ("b", 3_000, (None, None)),
-        ("c", 0, (None, None)),
-        ("", 0, (None, None)),
-    ] {
-        let given = taken(rt.alloc(), address, moment)?;
-        assert_eq!(rt; given, wanted, "{address} at {moment}");
+/// The first two connections to an address at a moment.
+fn taken(alloc: Global, out: &mut String, address: &str, moment: u64) -> Result<(), NoMemory> {
+    let mut cache = kept(alloc)?;
+    let (one, two) = (cache.get(address, moment), cache.get(address, moment));
+    drop(cache);
+    put_link(out, one)?;
+    put_link(out, two)
+}
+
+pub(crate) fn tell(
+    alloc: Global,
+    out: &mut String,
+    word: &str,
+    argument: &str,
+) -> Result<(), NoMemory> {
+    match word {
+        "twice" => taken(alloc, out, first(argument).0, number(argument, 1)),
+        _ => no_such_word(out),
     }
-    Ok(())
 }

@@ -1,8 +1,9 @@
+//! The plain program: commands over the root alone, and replicas that are cut.
+use crate::arguments::{first, no_such_word, number, put_bytes, put_flag, put_number, small};
 use hdfs_model::{Attributes, Command, Line, MemSettings, Reply, ServerDefaults, WriteOptions};
 use hdfs_plain::*;
 use hdfs_wire::{Blob, NoMemory, Text};
 use std::alloc::Global;
-use std::test::Fail;
 
 fn world(alloc: Global) -> Result<PlainWorld, NoMemory> {
     Ok(PlainWorld {
@@ -17,19 +18,22 @@ fn world(alloc: Global) -> Result<PlainWorld, NoMemory> {
     })
 }
 
+/// A write of the bytes 1 and 2.
+fn write(alloc: Global, path: Text) -> Result<Command, NoMemory> {
+    let bytes = Blob::from_vec(Vec::from_slice(alloc, &[1, 2])?);
+    Ok(Command::Write { path, bytes })
+}
+
 /// A command of this kind. A write brings the bytes 1 and 2, and a read asks for two bytes from the second on.
 fn command(alloc: Global, kind: &str, path: &str) -> Result<Command, NoMemory> {
     let path = Text::from_str(alloc, path)?;
     match kind {
-        "create" => Ok(Command::Create {
-            path,
-            options: WriteOptions::default(),
-        }),
+        "create" => {
+            let options = WriteOptions::default();
+            Ok(Command::Create { path, options })
+        }
         "append" => Ok(Command::Append { path }),
-        "write" => Ok(Command::Write {
-            path,
-            bytes: Blob::from_vec(Vec::from_slice(alloc, &[1, 2])?),
-        }),
+        "write" => write(alloc, path),
         "close" => Ok(Command::Close { path }),
         _ => Ok(Command::Read {
             path,
@@ -39,72 +43,40 @@ fn command(alloc: Global, kind: &str, path: &str) -> Result<Command, NoMemory> {
     }
 }
 
-/// What commands answer over the root alone.
-fn answer(alloc: Global, rows: &[(&str, &str)]) -> Result<PlainFold, NoMemory> {
+/// The commands of a text, a comma between two.
+fn commands(alloc: Global, text: &str) -> Result<Vec<Command>, NoMemory> {
     let mut commands = Vec::new(alloc);
-    for (kind, path) in rows {
+    for row in text.split(',') {
+        let (kind, path) = first(row);
         commands.push(command(alloc, kind, path)?)?;
     }
+    Ok(commands)
+}
+
+/// What commands answer over the root alone.
+fn fold(alloc: Global, commands: &[Command]) -> Result<PlainFold, NoMemory> {
+    let world = world(alloc)?;
     let mut files = PlainFiles::new(alloc)?;
-    run(&world(alloc)?, &mut files, commands.as_slice())
+    run(&world, &mut files, commands)
 }
 
-#[test]
-fn a_file_is_written_and_read(rt: HostRuntime) -> Result<(), Fail> {
-    let rows = [
-        ("create", "a/b"),
-        ("write", "a/b"),
-        ("close", "a/b"),
-        ("append", "/user/user/a/b"),
-        ("write", "a/b"),
-        ("close", "a/b"),
-        ("read", "a/b"),
-    ];
-    let fold = answer(rt.alloc(), &rows)?;
-    assert_eq!(rt; fold.refused, None);
-    assert_eq!(rt; fold.replies.as_slice().len(), 7);
+/// Puts how many replies there are, and the bytes of the last one, or why a command is refused, behind the text.
+fn put_fold(out: &mut String, fold: &PlainFold) -> Result<(), NoMemory> {
+    if let Some(why) = fold.refused {
+        return Ok(write!(out, "refused {why:?}")?);
+    }
+    put_number(out, fold.replies.as_slice().len() as u64)?;
     match fold.replies.as_slice().last() {
-        Some(Reply::Bytes { bytes }) => {
-            assert_eq!(rt; bytes.as_slice(), [2, 1].as_slice());
-            Ok(())
-        }
-        _ => Err("no bytes were read".into()),
+        Some(Reply::Bytes { bytes }) => put_bytes(out, bytes.as_slice()),
+        _ => no_such_word(out),
     }
 }
 
-#[test]
-fn commands_out_of_place_are_refused(rt: HostRuntime) -> Result<(), Fail> {
-    let rows: [(&[(&str, &str)], PlainRefusal); 9] = [
-        (&[("create", "../a")], PlainRefusal::BadPath),
-        (&[("write", "/a")], PlainRefusal::WrongState),
-        (
-            &[("create", "/a"), ("read", "/a")],
-            PlainRefusal::WrongState,
-        ),
-        (
-            &[("create", "/a"), ("close", "/a"), ("create", "/a")],
-            PlainRefusal::Exists,
-        ),
-        (
-            &[("create", "/a"), ("create", "/a/b")],
-            PlainRefusal::NotDirectory,
-        ),
-        (&[("append", "/a")], PlainRefusal::Missing),
-        (&[("create", "a"), ("read", "/user")], PlainRefusal::NotFile),
-        (
-            &[("create", "a"), ("create", "/user")],
-            PlainRefusal::Exists,
-        ),
-        (
-            &[("create", "/a"), ("close", "/a"), ("read", "/a")],
-            PlainRefusal::BadRange,
-        ),
-    ];
-    for (commands, why) in rows {
-        let fold = answer(rt.alloc(), commands)?;
-        assert_eq!(rt; fold.refused, Some(why));
-    }
-    Ok(())
+fn answer(alloc: Global, out: &mut String, text: &str) -> Result<(), NoMemory> {
+    let commands = commands(alloc, text)?;
+    let fold = fold(alloc, &commands);
+    drop(commands);
+    put_fold(out, &fold?)
 }
 
 /// A file of ten bytes in blocks of four, each on two datanodes.
@@ -121,44 +93,52 @@ fn file(alloc: Global) -> Result<Line, NoMemory> {
     })
 }
 
-#[test]
-fn replicas_are_cut_but_for_a_whole_one(rt: HostRuntime) -> Result<(), Fail> {
-    let alloc = rt.alloc();
-    let settings = MemSettings::of_scripts();
+/// The replica of a block on a datanode, cut to a length.
+fn short(alloc: Global, row: &str) -> Result<Line, NoMemory> {
+    Ok(Line::Short {
+        path: Text::from_str(alloc, "/a")?,
+        block: small(row, 0),
+        node: small(row, 1),
+        len: number(row, 2),
+    })
+}
+
+/// Loads a line where it is taken, and puts whether it is behind the text.
+fn load(
+    out: &mut String,
+    files: &mut PlainFiles,
+    before: &mut Vec<Line>,
+    line: Line,
+) -> Result<(), NoMemory> {
+    let taken = files.takes(&MemSettings::of_scripts(), before.as_slice(), &line);
+    if taken {
+        let loaded = files.load(&line);
+        before.push(line)?;
+        loaded?;
+    }
+    put_flag(out, taken)
+}
+
+/// Loads the file and cuts its replicas, a comma between two.
+fn cut(alloc: Global, out: &mut String, text: &str) -> Result<(), NoMemory> {
     let mut files = PlainFiles::new(alloc)?;
-    let mut before = vec![in alloc; file(alloc)?]?;
-    files.load(&before[0])?;
-    let rows = [
-        // there is no such datanode, no such block, or no such length
-        ((0, 2, 1), false),
-        ((3, 0, 0), false),
-        ((2, 0, 3), false),
-        // the other replica is whole
-        ((2, 0, 1), true),
-        // it is shorter already, or none would be whole
-        ((2, 0, 2), false),
-        ((2, 1, 1), false),
-        ((2, 1, 2), true),
-        ((2, 0, 0), true),
-        ((0, 1, 0), true),
-    ];
-    for ((block, node, len), taken) in rows {
-        let path = Text::from_str(alloc, "/a")?;
-        let line = Line::Short {
-            path,
-            block,
-            node,
-            len,
-        };
-        assert_eq!(rt;
-            files.takes(&settings, before.as_slice(), &line),
-            taken,
-            "{block} {node} {len}"
-        );
-        if taken {
-            files.load(&line)?;
-            before.push(line)?;
-        }
+    let mut before = Vec::new(alloc);
+    load(out, &mut files, &mut before, file(alloc)?)?;
+    for row in text.split(',') {
+        load(out, &mut files, &mut before, short(alloc, row)?)?;
     }
     Ok(())
+}
+
+pub(crate) fn tell(
+    alloc: Global,
+    out: &mut String,
+    word: &str,
+    argument: &str,
+) -> Result<(), NoMemory> {
+    match word {
+        "run" => answer(alloc, out, argument),
+        "cut" => cut(alloc, out, argument),
+        _ => no_such_word(out),
+    }
 }

@@ -1,251 +1,179 @@
-use bytes::Bytes;
+//! Numbers, messages, frames, sums and packets, as hexadecimal digits.
+mod packets;
+
+use crate::arguments::{
+    bytes_of, no_such_word, nth, number, put, put_bytes, put_flag, put_number, small,
+};
 use hdfs_wire::*;
 use std::alloc::Global;
-use std::test::*;
 
-const HEADER: [u8; 26] =
-    *b"\x08\x02\x10\x00\x18\x00\x22\x10\x00\x01\x02\x03\x04\x05\x06\x07\x08\x09\x0a\x0b\x0c\x0d\x0e\x0f\x28\x00";
-
-const METHOD: [u8; 63] =
-    *b"\x0a\x0bgetFileInfo\x12\x2eorg.apache.hadoop.hdfs.protocol.ClientProtocol\x18\x01";
-
-const FRAME: [u8; 100] =
-    *b"\x00\x00\x00\x60\x1a\x08\x02\x10\x00\x18\x00\x22\x10\x00\x01\x02\x03\x04\x05\x06\x07\x08\x09\x0a\x0b\x0c\x0d\x0e\x0f\x28\x00\x3f\x0a\x0bgetFileInfo\x12\x2eorg.apache.hadoop.hdfs.protocol.ClientProtocol\x18\x01\x04\x0a\x02/a";
-
-const LAST: [u8; 33] =
-    *b"\x00\x00\x00\x04\x00\x1b\x09\x08\x00\x00\x00\x00\x00\x00\x00\x11\x02\x00\x00\x00\x00\x00\x00\x00\x18\x01\x25\x00\x00\x00\x00\x28\x01";
-
-const PACKET: [u8; 44] =
-    *b"\x00\x00\x00\x11\x00\x19\x09\x00\x00\x00\x00\x00\x00\x00\x00\x11\x00\x00\x00\x00\x00\x00\x00\x00\x18\x00\x25\x09\x00\x00\x00\xe3\x06\x92\x83123456789";
-
-fn parsed(alloc: Global, bytes: &[u8]) -> Result<ReadPacket, WireFault> {
-    ReadPacket::parse(alloc, Bytes::copy_from_slice(alloc, bytes)?)
+pub(crate) fn put_fault(out: &mut String, fault: WireFault) -> Result<(), NoMemory> {
+    Ok(write!(out, "{fault:?} ")?)
 }
 
-/// The packet with another byte at a place.
-fn changed(alloc: Global, i: usize, byte: u8) -> Result<ReadPacket, WireFault> {
-    let mut packet = PACKET;
-    if i < packet.len() {
-        packet[i] = byte;
+/// The bytes of a number.
+fn varint_of(alloc: Global, out: &mut String, n: u64) -> Result<(), NoMemory> {
+    let mut bytes = Vec::new(alloc);
+    put_varint(&mut bytes, n)?;
+    put_bytes(out, &bytes)
+}
+
+/// The number at the front, and how many bytes it takes.
+fn varint(out: &mut String, bytes: &[u8]) -> Result<(), NoMemory> {
+    match take_varint(bytes) {
+        Ok((n, len)) => Ok(write!(out, "{n} {len}")?),
+        Err(fault) => put_fault(out, fault),
     }
-    parsed(alloc, &packet)
 }
 
-fn can_be_sent<T: Send>(_value: &T) {}
-
-#[test]
-fn varints_are_written_and_read(rt: HostRuntime) -> Result<(), Fail> {
-    let mut out = Vec::new(rt.alloc());
-    put_varint(&mut out, 300)?;
-    assert_eq!(rt; out.as_slice(), b"\xac\x02".as_slice());
-    for (bytes, wanted) in [
-        (b"\xac\x02".as_slice(), Ok((300, 2))),
-        (
-            b"\xff\xff\xff\xff\xff\xff\xff\xff\xff\x01\x00",
-            Ok((u64::MAX, 10)),
-        ),
-        (
-            b"\xff\xff\xff\xff\xff\xff\xff\xff\xff\x02",
-            Err(WireFault::LongVarint),
-        ),
-        (b"\xff\xff\xff\xff\xff\xff\xff\xff\xff", Err(WireFault::Cut)),
-    ] {
-        assert_eq!(rt; take_varint(bytes), wanted);
+/// The bytes of a field with a number.
+fn field_of(alloc: Global, out: &mut String, number: u32, n: u64) -> Result<(), NoMemory> {
+    if !is_field_number(number) {
+        return no_such_word(out);
     }
-    Ok(())
+    let value = Value::Varint(n);
+    let mut bytes = Vec::new(alloc);
+    put_field(&mut bytes, &Field { number, value })?;
+    put_bytes(out, &bytes)
 }
 
-#[test]
-fn messages_are_read_or_refused(rt: HostRuntime) -> Result<(), Fail> {
-    let alloc = rt.alloc();
-    let mut out = Vec::new(alloc);
-    put_field(
-        &mut out,
-        &Field {
-            number: 3,
-            value: Value::Varint(5),
-        },
-    )?;
-    assert_eq!(rt; out.as_slice(), b"\x18\x05".as_slice());
-    assert_eq!(rt;
-        fields(alloc, b"\xf8\xff\xff\xff\x0f\x00\x1a\x01a")?.len(),
-        2
-    );
-    for (bytes, wanted) in [
-        (b"\x00\x00".as_slice(), WireFault::BadType),
-        (b"\x80\x80\x80\x80\x10\x00", WireFault::BadType),
-        (b"\x0b", WireFault::BadType),
-        (b"\x0d\x00\x00\x00", WireFault::Cut),
-        (b"\x0a\x02a", WireFault::BadLength),
-    ] {
-        assert_eq!(rt; fields(alloc, bytes).err(), Some(wanted));
+/// How many fields a message has, or why it is none.
+fn message(alloc: Global, out: &mut String, bytes: &[u8]) -> Result<(), NoMemory> {
+    match fields(alloc, bytes) {
+        Ok(fields) => put_number(out, fields.len() as u64),
+        Err(fault) => put_fault(out, fault),
     }
-    Ok(())
 }
 
-#[test]
-fn frames_are_read_however_they_are_cut(rt: HostRuntime) -> Result<(), Fail> {
-    let alloc = rt.alloc();
-    let frame = rpc_frame(alloc, &HEADER, &METHOD, b"\x0a\x02/a")?;
-    assert_eq!(rt; frame.as_slice(), FRAME.as_slice());
-    let context = context_frame(alloc, b"a", b"bc")?;
-    assert_eq!(rt;
-        context.as_slice(),
-        b"\x00\x00\x00\x05\x01a\x02bc".as_slice()
-    );
-    for cut in 0..FRAME.len() {
-        let mut reader = FrameReader::new(alloc);
-        reader.feed(&FRAME[..cut])?;
-        assert!(rt; matches!(reader.next(), Ok(None)));
-        reader.feed(&FRAME[cut..])?;
-        let inner = reader.next()?.ok_or("the frame is whole")?;
-        assert_eq!(rt; inner.as_slice(), &FRAME[4..]);
+fn put_frame(out: &mut String, frame: Result<Vec<u8>, WireFault>) -> Result<(), NoMemory> {
+    match frame {
+        Ok(frame) => put_bytes(out, &frame),
+        Err(fault) => put_fault(out, fault),
     }
-    Ok(())
 }
 
-#[test]
-fn frames_have_a_limit(rt: HostRuntime) -> Result<(), Fail> {
-    let mut reader = FrameReader::new(rt.alloc());
-    reader.feed(b"\x08\x00\x00\x00")?;
-    assert!(rt; matches!(reader.next(), Ok(None)));
-    let mut reader = FrameReader::new(rt.alloc());
-    reader.feed(b"\x08\x00\x00\x01")?;
-    assert!(rt; matches!(reader.next(), Err(WireFault::BadLength)));
-    Ok(())
+/// The frame of a call: its header, its method and its message.
+fn call_of(
+    header: &[u8],
+    method: &[u8],
+    alloc: Global,
+    out: &mut String,
+    argument: &str,
+) -> Result<(), NoMemory> {
+    let message = bytes_of(alloc, nth(argument, 2))?;
+    put_frame(out, rpc_frame(alloc, header, method, &message))
 }
 
-#[test]
-fn sums_are_those_of_the_standards(rt: HostRuntime) {
-    assert_eq!(rt; crc32c(b"123456789"), 0xe3069283);
-    assert_eq!(rt; crc32(b"123456789"), 0xcbf43926);
-    assert_eq!(rt; crc32c(b"\x62\x61\x72\x0a"), 0xfb1d06c8);
-    assert_eq!(rt; crc32c(b"123456789123456789"), 0xa86c53f4);
+fn call(alloc: Global, out: &mut String, argument: &str) -> Result<(), NoMemory> {
+    let header = bytes_of(alloc, nth(argument, 0))?;
+    let method = bytes_of(alloc, nth(argument, 1))?;
+    call_of(&header, &method, alloc, out, argument)
 }
 
-#[test]
-fn packets_are_written(rt: HostRuntime) -> Result<(), Fail> {
-    let alloc = rt.alloc();
-    let mut packet = WritePacket::empty(alloc, 0, 0, 512, 65536)?;
-    assert!(rt; packet.is_empty());
-    assert_eq!(rt; packet.write(b"123456789"), 9);
-    assert_eq!(rt; packet.payload(), b"123456789".as_slice());
-    assert_eq!(rt; packet.header().data_len, 9);
-    assert_eq!(rt;
-        packet.copy(alloc)?.encode(alloc)?.as_slice(),
-        PACKET.as_slice()
-    );
-    can_be_sent(&packet);
-    can_be_sent(&Ack {
-        seqno: 0,
-        replies: List::new(alloc),
-    });
-    Ok(())
+/// The frame of a context: its header and the context.
+fn context(alloc: Global, out: &mut String, argument: &str) -> Result<(), NoMemory> {
+    let header = bytes_of(alloc, nth(argument, 0))?;
+    let context = bytes_of(alloc, nth(argument, 1))?;
+    put_frame(out, context_frame(alloc, &header, &context))
 }
 
-#[test]
-fn last_packets_ask_to_be_synced(rt: HostRuntime) -> Result<(), Fail> {
-    let mut last = WritePacket::empty(rt.alloc(), 8, 2, 512, 0)?;
-    last.set_last_packet();
-    assert_eq!(rt; last.encode(rt.alloc())?.as_slice(), LAST.as_slice());
-    assert_eq!(rt; last.write(&[7; 600]), 512);
-    assert!(rt; last.is_full());
-    Ok(())
+/// Whether a reader has no frame yet.
+fn waits(reader: &mut FrameReader) -> bool {
+    matches!(reader.next(), Ok(None))
 }
 
-#[test]
-fn payloads_are_given_where_the_sums_hold(rt: HostRuntime) -> Result<(), Fail> {
-    let alloc = rt.alloc();
-    for (what, place, byte, kind, size, wanted) in [
-        ("nothing is changed", 0, 0, 2, 512, true),
-        ("no sums are asked for", 0, 0, 0, 0, true),
-        ("another polynomial", 0, 0, 1, 512, false),
-        ("an unknown kind", 0, 0, 3, 512, false),
-        ("chunks of no bytes", 0, 0, 2, 0, false),
-        ("the second chunk has no sum", 0, 0, 2, 8, false),
-        ("the sum is changed", 34, 0x84, 2, 512, false),
-        ("a sum of three bytes", 27, 10, 2, 512, false),
-    ] {
-        let info = ChecksumInfo {
-            kind,
-            bytes_per_checksum: size,
-        };
-        let read = changed(alloc, place, byte)?;
-        assert_eq!(rt; read.get_data(Some(&info)).is_ok(), wanted, "{what}");
+/// Whether the next frame has these bytes.
+fn has(reader: &mut FrameReader, inner: &[u8]) -> bool {
+    match reader.next() {
+        Ok(Some(frame)) => frame.as_slice() == inner,
+        _ => false,
     }
-    let none = ChecksumInfo {
-        kind: 2,
-        bytes_per_checksum: 0,
-    };
-    assert!(rt; parsed(alloc, &LAST)?.get_data(Some(&none)).is_ok());
-    assert!(rt; parsed(alloc, &LAST)?.get_data(None).is_ok());
-    Ok(())
 }
 
-#[test]
-fn packets_are_refused(rt: HostRuntime) {
-    for (what, place, byte, wanted) in [
-        ("no sums, and more data in their place", 27, 13, None),
-        (
-            "more data than the body has",
-            27,
-            14,
-            Some(WireFault::BadLength),
-        ),
-        ("less than no data", 30, 0x80, Some(WireFault::BadLength)),
-        (
-            "a byte behind the packet",
-            3,
-            0x10,
-            Some(WireFault::BadLength),
-        ),
-        (
-            "a body of 2^31 bytes and more",
-            0,
-            0x80,
-            Some(WireFault::BadLength),
-        ),
-        ("a byte too few", 3, 0x12, Some(WireFault::Cut)),
-        (
-            "an offset that is a varint",
-            6,
-            0x08,
-            Some(WireFault::BadType),
-        ),
-    ] {
-        assert_eq!(rt; changed(rt.alloc(), place, byte).err(), wanted, "{what}");
-    }
-    assert_eq!(rt;
-        parsed(rt.alloc(), b"\x00\x00\x00\x03\x00").err(),
-        Some(WireFault::Cut)
-    );
-    assert_eq!(rt;
-        parsed(rt.alloc(), b"\x00\x00\x00\x03\x00\x00").err(),
-        Some(WireFault::BadLength)
-    );
+/// Whether a frame is read that comes in two pieces, and isn't before the second.
+fn is_read(alloc: Global, frame: &[u8], cut: usize) -> bool {
+    let mut reader = FrameReader::new(alloc);
+    let (front, rest) = frame.split_at(cut.min(frame.len()));
+    reader.feed(front).is_ok()
+        && waits(&mut reader)
+        && reader.feed(rest).is_ok()
+        && has(&mut reader, frame.get(4..).unwrap_or(&[]))
 }
 
-#[test]
-fn faults_have_texts(rt: HostRuntime) -> Result<(), Fail> {
-    let alloc = rt.alloc();
-    let rows = [
-        (WireFault::NoMemory, "out of memory"),
-        (WireFault::Cut, "the bytes end too early"),
-        (
-            WireFault::LongVarint,
-            "a number takes more than ten bytes or 64 bits",
-        ),
-        (
-            WireFault::BadType,
-            "unused wire type, or field number out of range",
-        ),
-        (WireFault::BadLength, "a length doesn't fit its place"),
-        (WireFault::BadText, "text that isn't UTF-8"),
-    ];
-    for (fault, wanted) in rows {
-        assert_eq!(rt; fault.to_string(alloc)?.as_str(), wanted);
+/// In how many ways a frame is read that is cut in two.
+fn cuts(alloc: Global, out: &mut String, frame: &[u8]) -> Result<(), NoMemory> {
+    let mut count = 0u64;
+    for cut in 0..frame.len() {
+        if is_read(alloc, frame, cut) {
+            count = count.saturating_add(1);
+        }
     }
-    let fault = ChecksumFault.to_string(alloc)?;
-    assert_eq!(rt; fault.as_str(), "checksums didn't match");
-    Ok(())
+    put_number(out, count)
+}
+
+/// What a reader says of bytes: that it waits for more, that they begin with a frame, or why they don't.
+fn begin(alloc: Global, out: &mut String, bytes: &[u8]) -> Result<(), NoMemory> {
+    let mut reader = FrameReader::new(alloc);
+    reader.feed(bytes)?;
+    match reader.next() {
+        Ok(None) => put(out, Some("waits")),
+        Ok(Some(frame)) => put_bytes(out, frame.as_slice()),
+        Err(fault) => put_fault(out, fault),
+    }
+}
+
+fn fault(word: &str) -> Option<WireFault> {
+    match word {
+        "NoMemory" => Some(WireFault::NoMemory),
+        "Cut" => Some(WireFault::Cut),
+        "LongVarint" => Some(WireFault::LongVarint),
+        "BadType" => Some(WireFault::BadType),
+        "BadLength" => Some(WireFault::BadLength),
+        "BadText" => Some(WireFault::BadText),
+        _ => None,
+    }
+}
+
+/// The text of a refusal.
+fn told(out: &mut String, word: &str) -> Result<(), NoMemory> {
+    match fault(word) {
+        Some(fault) => Ok(write!(out, "{fault}")?),
+        None if word == "ChecksumFault" => Ok(write!(out, "{ChecksumFault}")?),
+        None => no_such_word(out),
+    }
+}
+
+/// What is answered of bytes.
+fn tell_of(alloc: Global, out: &mut String, word: &str, bytes: &[u8]) -> Result<(), NoMemory> {
+    match word {
+        "varint" => varint(out, bytes),
+        "message" => message(alloc, out, bytes),
+        "cuts" => cuts(alloc, out, bytes),
+        "begin" => begin(alloc, out, bytes),
+        "crc32c" => Ok(write!(out, "{:08x}", crc32c(bytes))?),
+        "crc32" => Ok(write!(out, "{:08x}", crc32(bytes))?),
+        _ => packets::tell_of(alloc, out, word, bytes),
+    }
+}
+
+fn tell_bytes(alloc: Global, out: &mut String, word: &str, digits: &str) -> Result<(), NoMemory> {
+    let bytes = bytes_of(alloc, digits)?;
+    tell_of(alloc, out, word, &bytes)
+}
+
+pub(crate) fn tell(
+    alloc: Global,
+    out: &mut String,
+    word: &str,
+    argument: &str,
+) -> Result<(), NoMemory> {
+    match word {
+        "varint_of" => varint_of(alloc, out, number(argument, 0)),
+        "field_of" => field_of(alloc, out, small(argument, 0), number(argument, 1)),
+        "call" => call(alloc, out, argument),
+        "context" => context(alloc, out, argument),
+        "fault" => told(out, argument),
+        "data" | "parse" => packets::changed(alloc, out, word, argument),
+        _ => tell_bytes(alloc, out, word, argument),
+    }
 }

@@ -1,28 +1,69 @@
-//! A program that uses the client: it reads a part of a file from a cluster in memory whose datanode breaks its first
-//! packet, and prints the bytes, or what to do about the error.
+//! A program that uses the client: it reads parts of files from a cluster in memory whose datanode breaks its first packets, and prints the
+//! bytes, or what to do about the error.
 #![tactic(auto)]
 
 mod advice;
 mod failed;
 mod making;
 mod patient;
-#[cfg(test)]
-mod tests;
 
 use advice::advice_on;
 use failed::Failed;
-use hdfs_model::Reply;
-use making::{cluster, read, settings};
+use hdfs_model::{HdfsError, Reply};
+use making::{cluster, read, settings, standby};
 use patient::apply_patiently;
+use std::alloc::Global;
+
+/// Reads: the path of a file, an offset and a length, how many packets the datanode breaks, and how often it is asked at most.
+const READS: [(&str, u64, u64, u64, u32); 11] = [
+    ("/report", 2, 4, 0, 3),
+    ("/report", 2, 4, 1, 3),
+    ("/report", 2, 4, 1, 2),
+    ("/report", 2, 4, 2, 3),
+    ("/report", 2, 4, 3, 3),
+    ("/none", 0, 1, 0, 3),
+    ("/", 0, 1, 0, 3),
+    ("/report/below", 0, 1, 0, 3),
+    ("/report/", 0, 1, 0, 3),
+    ("/report", 7, 2, 0, 3),
+    ("/report", 0, u64::MAX, 0, 3),
+];
+
+/// The bytes of a reply, or what to do about an error.
+fn answer(alloc: Global, given: &Result<Reply, HdfsError>) -> Result<String, Failed> {
+    match given {
+        Ok(Reply::Bytes { bytes }) => Ok(format!(in alloc; "{:?}", bytes.as_slice())?),
+        Ok(_) => Ok(String::from_str(alloc, "another reply")?),
+        Err(error) => Ok(format!(in alloc; "{:?}", advice_on(error))?),
+    }
+}
+
+/// What comes of a read.
+fn ask(alloc: Global, asked: &(&str, u64, u64, u64, u32)) -> Result<String, Failed> {
+    let (path, offset, len, broken, tries) = *asked;
+    let settings = settings(alloc)?;
+    let command = read(alloc, path, offset, len)?;
+    let mut cluster = cluster(alloc, broken)?;
+    let given = apply_patiently(alloc, &mut cluster, &settings, &command, tries);
+    answer(alloc, &given)
+}
+
+/// Prints an error, and what to do about it.
+fn advise(rt: &HostRuntime, error: &HdfsError) -> Result<(), Failed> {
+    println!(rt; "{error}: {:?}", advice_on(error))?;
+    Ok(())
+}
 
 fn main(rt: HostRuntime) -> Result<(), Failed> {
-    let alloc = rt.alloc();
-    let mut cluster = cluster(alloc, 1)?;
-    let command = read(alloc, "/report", 2, 4)?;
-    match apply_patiently(alloc, &mut cluster, &settings(alloc)?, &command, 2) {
-        Ok(Reply::Bytes { bytes }) => println!(rt; "{:?}", bytes.as_slice())?,
-        Ok(_) => println!(rt; "another reply")?,
-        Err(error) => println!(rt; "{:?}", advice_on(&error))?,
+    for asked in &READS {
+        let answer = ask(rt.alloc(), asked)?;
+        let (path, offset, len, broken, tries) = asked;
+        println!(rt;
+            "{path} {offset} {len}, {broken} broken, {tries} tries: {}",
+            answer.as_str()
+        )?;
     }
-    Ok(())
+    advise(&rt, &HdfsError::NoMemory)?;
+    advise(&rt, &HdfsError::Failed)?;
+    advise(&rt, &standby(rt.alloc())?)
 }

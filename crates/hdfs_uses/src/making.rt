@@ -5,13 +5,13 @@ ghost use Rattle.hdfs_uses.specs.Trying.{IsRead};
 
 use crate::failed::Failed;
 use hdfs_cluster::{MemCluster, MemSettings};
-use hdfs_model::{Attributes, Command, FaultLine, Line, ReadKind, Settings, Store};
+use hdfs_model::{Attributes, Command, FaultLine, HdfsError, Line, ReadKind, Settings, Store};
 use hdfs_names::{Policy, ReplaceDatanodeOnFailure};
 use hdfs_wire::{Blob, Text};
 use std::alloc::Global;
 
 /// What the file of these examples holds.
-pub(crate) const BYTES: [u8; 8] = [10, 11, 12, 13, 14, 15, 16, 17];
+const BYTES: [u8; 8] = [10, 11, 12, 13, 14, 15, 16, 17];
 
 /// What a session is run with: a home, a client's name, when a failed datanode is replaced, how often a block's pipeline is rebuilt,
 /// and how many packets may wait for their acknowledgement.
@@ -36,11 +36,30 @@ pub(crate) fn read(alloc: Global, path: &str, offset: u64, len: u64) -> Result<C
     })
 }
 
-/// A cluster in memory with a file `/report` of eight bytes on one datanode, which breaks its first `broken` packets.
-pub(crate) fn cluster(alloc: Global, broken: u64) -> Result<MemCluster, Failed>
-    ensures { IfOk result (λ m. 0 < (shown_of m).namenodes) }
-{
-    let mut cluster = MemCluster::new(alloc, MemSettings::of_scripts())?;
+/// The error of a namenode that isn't the active one.
+pub(crate) fn standby(alloc: Global) -> Result<HdfsError, Failed> {
+    let class = Text::from_str(alloc, "org.apache.hadoop.ipc.StandbyException")?;
+    Ok(HdfsError::RPCError(class, Text::new(alloc)))
+}
+
+/// The file `/report` of eight bytes, in one block on one datanode.
+fn report(alloc: Global) -> Result<Line, Failed> {
+    let bytes = Vec::from_slice(alloc, &BYTES)?;
+    let path = Text::from_str(alloc, "/report")?;
+    Ok(Line::File {
+        path,
+        attributes: Attributes {
+            permission: 0o644,
+            replication: 1,
+            block_size: 8,
+            encrypted: false,
+        },
+        bytes: Blob::from_vec(bytes),
+    })
+}
+
+/// Has the first datanode break its first `broken` packets.
+fn break_packets(cluster: &mut MemCluster, broken: u64) -> Result<(), Failed> {
     for nth in 1..=broken {
         cluster.load(Line::Fault(FaultLine::ReadOf {
             node: 0,
@@ -48,15 +67,16 @@ pub(crate) fn cluster(alloc: Global, broken: u64) -> Result<MemCluster, Failed>
             kind: ReadKind::Broken,
         }))?;
     }
-    cluster.load(Line::File {
-        path: Text::from_str(alloc, "/report")?,
-        attributes: Attributes {
-            permission: 0o644,
-            replication: 1,
-            block_size: 8,
-            encrypted: false,
-        },
-        bytes: Blob::from_vec(Vec::from_slice(alloc, &BYTES)?),
-    })?;
+    Ok(())
+}
+
+/// A cluster in memory with the file, whose datanode breaks its first `broken` packets.
+pub(crate) fn cluster(alloc: Global, broken: u64) -> Result<MemCluster, Failed>
+    ensures { IfOk result (λ m. 0 < (shown_of m).namenodes) }
+{
+    let file = report(alloc)?;
+    let mut cluster = MemCluster::new(alloc, MemSettings::of_scripts())?;
+    cluster.load(file)?;
+    break_packets(&mut cluster, broken)?;
     Ok(cluster)
 }

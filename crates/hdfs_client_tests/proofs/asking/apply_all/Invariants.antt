@@ -1,0 +1,7 @@
+-- The session stands between its commands.
+use Rattle.hdfs_client.specs.Session.{Stands}
+use Rattle.hdfs_cluster.specs.MemShown.{shown_of}
+use Rattle.hdfs_client_tests.proofs.asking.apply_all.Given as goal
+
+abbrev pub invariant-loop-line : goal.invariant-loop-line
+invariant-loop-line l = Stands (shown_of l.store) l.session

@@ -1,0 +1,52 @@
+//! What a session answers, as it is printed.
+use crate::words::{listed, text};
+use hdfs_model::{Fault, HdfsError, Reply};
+use std::alloc::Global;
+
+/// A reply: the bytes that were read, or that it is the one to an append.
+fn reply(alloc: Global, reply: &Reply) -> Option<String> {
+    match reply {
+        Reply::Bytes { bytes } => listed(alloc, bytes.as_slice()),
+        Reply::Appended => text(alloc, "appended"),
+        _ => None,
+    }
+}
+
+/// An error, with its numbers, or with its class and its message.
+pub(crate) fn error(alloc: Global, error: &HdfsError) -> Option<String> {
+    match error {
+        HdfsError::InvalidArgument(fault) => format!(in alloc; "{fault}").ok(),
+        HdfsError::DataTransferError(fault) => format!(in alloc; "{fault}").ok(),
+        HdfsError::RPCError(class, message) => {
+            format!(in alloc; "{} [{}]", class.as_str(), message.as_str()).ok()
+        }
+        _ => format!(in alloc; "{error}").ok(),
+    }
+}
+
+/// What one command is answered.
+pub(crate) fn answer(alloc: Global, answer: &Result<Reply, HdfsError>) -> Option<String> {
+    match answer {
+        Ok(given) => reply(alloc, given),
+        Err(fault) => error(alloc, fault),
+    }
+}
+
+/// Why a session stopped, behind the number of its command.
+fn stop(alloc: Global, fault: &Fault) -> Option<String> {
+    match error(alloc, &fault.error) {
+        Some(error) => format!(in alloc; "at {}: {}", fault.at, error.as_str()).ok(),
+        None => None,
+    }
+}
+
+/// What a session of one command is answered.
+pub(crate) fn session(alloc: Global, answer: &Result<Vec<Reply>, Fault>) -> Option<String> {
+    match answer {
+        Ok(replies) => match replies.as_slice() {
+            [given] => reply(alloc, given),
+            _ => None,
+        },
+        Err(fault) => stop(alloc, fault),
+    }
+}
