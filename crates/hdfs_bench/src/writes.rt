@@ -2,10 +2,10 @@
 ghost use Rattle.std.specs.Prelude.{◌<◌};
 
 use crate::fault::Fault;
-use hdfs_client::run_session;
 use hdfs_cluster::{Cluster, MemCluster, MemSettings};
 use hdfs_model::{Command, Reply, Settings, WriteOptions};
 use hdfs_names::{Policy, ReplaceDatanodeOnFailure};
+use hdfs_session::run_session;
 use hdfs_wire::{Blob, Text};
 use std::alloc::Global;
 

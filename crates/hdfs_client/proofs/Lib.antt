@@ -2,7 +2,7 @@ mod AbandonFiles
 mod Abandoning
 mod Acted
 pub mod Agreeing
-mod Avoiding
+pub mod Avoiding
 mod Begun
 mod Beside
 mod Causing
@@ -10,21 +10,17 @@ mod CloseActs
 mod Connected
 mod Early
 mod Encrypting
-mod Ending
 mod Failing
-mod Finishing
-mod Going
 mod Limited
 mod Links
 mod Looking
 mod Lost
 mod Moved
-mod OneFile
-mod Onward
+pub mod OneFile
+pub mod Onward
 mod OpenFiles
 mod Opening
 mod Owing
-mod Owning
 mod Parts
 mod Pieces
 mod Planting
@@ -41,8 +37,7 @@ mod Sizing
 mod Starting
 mod Stepping
 mod Still
-mod WholeBeside
-mod WholeGoing
+pub mod WholeBeside
 mod WholeOpening
 mod WholeStarting
 mod WholeWriting

@@ -5,9 +5,7 @@ mod encrypted;
 mod finding;
 mod locate;
 mod reading;
-mod run;
 mod session;
 mod writing;
 
-pub use run::run_session;
 pub use session::Session;

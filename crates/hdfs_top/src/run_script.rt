@@ -14,9 +14,9 @@ ghost use Rattle.hdfs_top.specs.Inside.{PrintsWhole, Concludes, RanCommands, Ran
 use crate::load_lines::{LoadFault, load_script};
 use crate::note::{Note, note_of_commands, note_of_fault, note_of_script};
 use crate::status::{refuse, tell_fault, tell_replies};
-use hdfs_client::run_session;
 use hdfs_model::{Command, Fault, HdfsError, Settings, Store};
 use hdfs_script::{Parsed, complaint_at, parse, session_settings};
+use hdfs_session::run_session;
 use hdfs_streams::Sink;
 use hdfs_wire::NoMemory;
 use std::alloc::Global;

@@ -30,7 +30,7 @@ use Rattle.hdfs_client.specs.Session.{Carried, CarriesOpen, LeavesFiles, writer_
 use Rattle.hdfs_client.specs.Whole.{Creates, HasAdded, IsWellDone, AreWellDone, AreWhole, AreFilled, LeavesWhole, KeepsWhole, KeepsBlocksWhole}
 use Rattle.hdfs_client.specs.declared.session.Session.{Session}
 use Rattle.hdfs_client.proofs.Agreeing.{is_told}
-use Rattle.hdfs_client.proofs.Going.{GoneOn, is_ready, open_carried}
+use Rattle.hdfs_session.proofs.Going.{GoneOn, is_ready, open_carried}
 use Rattle.hdfs_client.proofs.OneFile.{apart_by_test}
 use Rattle.hdfs_client.proofs.WholeBeside.{StaysAt, stays_named, whole_behind_at, full_at}
 

@@ -22,7 +22,7 @@ use Rattle.hdfs_client.specs.declared.session.Session.{Session}
 use Rattle.hdfs_client.proofs.Agreeing.{agrees_but, agrees_from-AgreesBut}
 use Rattle.hdfs_client.proofs.Onward.{cause_on, none_rose_earlier, tells_on}
 use Rattle.hdfs_client.proofs.Avoiding.{avoids_next}
-use Rattle.hdfs_client.proofs.Finishing.{are_limited_push, is_limited_at, complete_stopped}
+use Rattle.hdfs_session.proofs.Finishing.{are_limited_push, is_limited_at, complete_stopped}
 use Rattle.hdfs_client.proofs.Since.{cause_since, none_rose_later, tells_since}
 
 -- So many commands were done as the fold does them, and the session carries the state that they leave.

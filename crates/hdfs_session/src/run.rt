@@ -7,7 +7,7 @@ ghost use Rattle.hdfs_model.specs.Limits.{are_settings};
 ghost use Rattle.hdfs_client.specs.Session.{StopsAtOnce};
 ghost use Rattle.hdfs_client.specs.Whole.{LeavesWhole};
 
-use crate::session::Session;
+use hdfs_client::Session;
 use hdfs_model::{Cluster, Command, Fault, HdfsError, Reply, Settings};
 use hdfs_wire::List;
 use std::alloc::Global;

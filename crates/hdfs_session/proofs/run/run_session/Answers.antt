@@ -12,13 +12,13 @@ use Rattle.hdfs_model.proofs.Frames.{later_refl, later_trans, same_reads_refl, s
 use Rattle.hdfs_model.specs.declared.errors.HdfsError.{HdfsError}
 use Rattle.hdfs_model.specs.Folds.{fold}
 use Rattle.hdfs_client.specs.Acting.{Acts}
-use Rattle.hdfs_client.proofs.Ending.{replies_next, runs_failed}
-use Rattle.hdfs_client.proofs.Finishing.{complete_done}
-use Rattle.hdfs_client.proofs.Going.{GoneOn, gone_none, goes_on, stops_there, complete_there, ends_there}
-use Rattle.hdfs_client.proofs.WholeGoing.{leaves_end, leaves_stopped, whole_goes_on, whole_none}
+use Rattle.hdfs_session.proofs.Ending.{replies_next, runs_failed}
+use Rattle.hdfs_session.proofs.Finishing.{complete_done}
+use Rattle.hdfs_session.proofs.Going.{GoneOn, gone_none, goes_on, stops_there, complete_there, ends_there}
+use Rattle.hdfs_session.proofs.WholeGoing.{leaves_end, leaves_stopped, whole_goes_on, whole_none}
 use Rattle.hdfs_client.specs.Whole.{KeepsBlocksWhole}
-use Rattle.hdfs_client.proofs.Owning.{own_end, own_next, own_start}
-use Rattle.hdfs_client.proofs.run.run_session.Goals as goal
+use Rattle.hdfs_session.proofs.Owning.{own_end, own_next, own_start}
+use Rattle.hdfs_session.proofs.run.run_session.Goals as goal
 
 -- a result that is an error
 abbrev failed_with : HdfsError → Result Reply HdfsError

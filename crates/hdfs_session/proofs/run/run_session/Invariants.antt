@@ -5,10 +5,10 @@ use Rattle.hdfs_model.specs.Headline.{Ready}
 use Rattle.hdfs_model.specs.Sessions.{none_open, world_of}
 use Rattle.hdfs_model.specs.Shown.{Later, SameReads}
 use Rattle.hdfs_client.specs.Session.{Stands, settings_of, has_failed}
-use Rattle.hdfs_client.proofs.Going.{GoneOn}
-use Rattle.hdfs_client.proofs.WholeGoing.{WholeSoFar}
-use Rattle.hdfs_client.proofs.Owning.{OwnLinks}
-use Rattle.hdfs_client.proofs.run.run_session.Given as goal
+use Rattle.hdfs_session.proofs.Going.{GoneOn}
+use Rattle.hdfs_session.proofs.WholeGoing.{WholeSoFar}
+use Rattle.hdfs_session.proofs.Owning.{OwnLinks}
+use Rattle.hdfs_session.proofs.run.run_session.Given as goal
 
 abbrev pub invariant-loop-command : goal.invariant-loop-command
 invariant-loop-command g l =

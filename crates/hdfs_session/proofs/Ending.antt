@@ -14,7 +14,7 @@ use Rattle.hdfs_client.specs.Acting.{Acts}
 use Rattle.hdfs_client.specs.Session.{HasLink}
 use Rattle.hdfs_client.specs.declared.session.Session.{Session}
 use Rattle.hdfs_client.proofs.Onward.{tells_on}
-use Rattle.hdfs_client.proofs.Owning.{OwnLinks, own_end, own_next}
+use Rattle.hdfs_session.proofs.Owning.{OwnLinks, own_end, own_next}
 use Rattle.hdfs_client.proofs.Since.{tells_since}
 
 -- one more command has its reply

@@ -1,0 +1,5 @@
+mod Ending
+mod Finishing
+mod Going
+mod Owning
+mod WholeGoing
