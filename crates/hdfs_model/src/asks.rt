@@ -12,7 +12,7 @@ use std::alloc::{AllocError, AllocFailed};
 use thiserror::Error;
 
 /// What is asked of a namenode, by the name of ClientProtocol's call.
-#[derive(Debug, Drop)]
+#[derive(Drop)]
 pub enum Ask {
     /// The blocks of the file `src` that lie in `length` bytes from `offset` on.
     GetBlockLocations {
@@ -174,7 +174,7 @@ pub enum Ask {
 }
 
 /// What a namenode answers to the ask of the same name.
-#[derive(Debug, Drop)]
+#[derive(Drop)]
 pub enum Answer {
     GetBlockLocations(Option<LocatedBlocks>),
     GetServerDefaults(ServerDefaults),

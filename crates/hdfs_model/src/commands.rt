@@ -9,7 +9,7 @@ use hdfs_wire::{Blob, Text};
 /// What a session is run with. `home` is the directory under which relative paths stand, and `client` are the sixteen bytes of the
 /// client's name. `replace` says when a datanode is added to a pipeline in the place of one that failed. The pipeline of a block is
 /// rebuilt at most `rebuild_limit` times, and at most `window` packets of it wait for their acknowledgement, each from 1 to 1,000.
-#[derive(Debug, Drop)]
+#[derive(Drop)]
 pub struct Settings {
     pub home: Text,
     pub client: [u8; 16],
@@ -41,7 +41,7 @@ impl Settings {
 /// How a file is created: its permission bits, up to 7777 in octal; its block size in bytes, from 1 to 2^63 - 1, and its
 /// replication, from 1 to 65,535, where they aren't the cluster's defaults; whether an older file is overwritten, and whether
 /// directories that aren't there are made (upstream's `WriteOptions`).
-#[derive(Clone, Copy, Debug, PartialEq, Eq)]
+#[derive(Clone, Copy, PartialEq, Eq)]
 pub struct WriteOptions {
     pub block_size: Option<u64>,
     pub replication: Option<u32>,
@@ -123,7 +123,7 @@ impl WriteOptions {
 }
 
 /// One command of a session. Its path is absolute, or stands under the session's home.
-#[derive(Debug, Drop)]
+#[derive(Drop)]
 pub enum Command {
     /// Creates a file, and opens it.
     Create { path: Text, options: WriteOptions },

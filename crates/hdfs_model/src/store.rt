@@ -13,7 +13,7 @@ use std::alloc::Global;
 use thiserror::Error;
 
 /// How the set-up of a pipeline fails.
-#[derive(Clone, Copy, Debug, PartialEq, Eq)]
+#[derive(Clone, Copy, PartialEq, Eq)]
 pub enum LinkKind {
     /// The connection breaks.
     Broken,
@@ -24,7 +24,7 @@ pub enum LinkKind {
 }
 
 /// How a datanode fails a read.
-#[derive(Clone, Copy, Debug, PartialEq, Eq)]
+#[derive(Clone, Copy, PartialEq, Eq)]
 pub enum ReadKind {
     /// The connection breaks in place of the packet.
     Broken,
@@ -37,7 +37,7 @@ pub enum ReadKind {
 }
 
 /// How a namenode fails an ask.
-#[derive(Debug, Drop)]
+#[derive(Drop)]
 pub enum AskKind {
     /// The connection breaks before the ask is done.
     Lost,
@@ -53,7 +53,7 @@ pub enum AskKind {
 
 /// A fault that a store is to have: an object fails its `nth` call, from 1 on, counted from the making of the cluster. Namenodes and
 /// datanodes are numbered from 0. Of two faults of one call the first one that was loaded acts.
-#[derive(Debug, Drop)]
+#[derive(Drop)]
 pub enum FaultLine {
     /// Namenode `namenode` fails in the `nth` ask that it is asked.
     Ask {
@@ -136,7 +136,7 @@ impl FaultLine {
 }
 
 /// A line that a store takes.
-#[derive(Debug, Drop)]
+#[derive(Drop)]
 pub enum Line {
     /// A directory.
     Dir {
