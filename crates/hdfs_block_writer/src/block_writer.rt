@@ -76,7 +76,13 @@ impl BlockWriter {
             (setup_of plan.block plan.chunk (name_of namenode.now)) fault (C.shown cluster.new)) }
     {
         let client = namenode.client_name();
-        let (core, link) = open(alloc, cluster, &plan, settings.window, client)?;
+        let (core, link) = match open(alloc, cluster, &plan, settings.window, client) {
+            Ok(opened) => opened,
+            Err(fault) => {
+                drop(plan);
+                return Err(fault);
+            }
+        };
         let length = plan.block.b.num_bytes;
         let chunk = plan.chunk;
         Ok(BlockWriter {
@@ -100,11 +106,11 @@ impl BlockWriter {
             → WriteEnded (C.shown cluster.old) pipe.link (C.shown cluster.new) }
         ensures still { HasFailed self.old → cluster.new ≡ cluster.old }
     {
-        self.packet = None;
-        let Some(pipe) = self.pipe.take() else {
-            return;
-        };
-        cluster.end_write(pipe.link);
+        drop(self.packet.take());
+        if let Some(pipe) = &self.pipe {
+            cluster.end_write(pipe.link);
+        }
+        drop(self.pipe.take());
     }
 
     /// Sends the packet, where there is one.
@@ -126,6 +132,7 @@ impl BlockWriter {
             return Ok(());
         };
         let Some(pipe) = self.pipe.take() else {
+            drop(packet);
             return Err(WriteFault::Failed);
         };
         match push(
@@ -138,7 +145,7 @@ impl BlockWriter {
             packet,
         ) {
             Ok(pipe) => {
-                self.pipe = Some(pipe);
+                drop(self.pipe.replace(pipe));
                 self.seqno += 1;
                 Ok(())
             }
@@ -284,6 +291,7 @@ impl BlockWriter {
             }
         };
         let Some(pipe) = self.pipe.take() else {
+            drop(packet);
             return Err(WriteFault::Failed);
         };
         let length = self.length;
@@ -325,6 +333,25 @@ impl BlockWriter {
         ensures failed { HasFailed self → (result ≡ Err faults.Failed) × (cluster.new ≡ cluster.old) }
         ensures client { SameClient namenode.old namenode.new }
     {
+        let closed = self.flush_and_end(cluster, namenode);
+        drop(self);
+        closed
+    }
+
+    /// Sends what is left, and ends the link once all packets are acknowledged, unless the writer has failed.
+    fn flush_and_end<C: Cluster>(
+        &mut self,
+        cluster: &mut C,
+        namenode: &mut NamenodeProtocol,
+    ) -> Result<Block, WriteFault>
+        requires reaches { ReachesAll (proxy_of namenode.old) (C.shown cluster.old) }
+        requires stands { Stands (C.shown cluster.old) self.old }
+        ensures closed { IfOk result (λ block. Closes (C.shown cluster.old) self.old block (C.shown cluster.new)) }
+        ensures last { OnOk result (WaitsForLast C.shown C.ends cluster.old self.old cluster.new) }
+        ensures err { IfErr result (λ fault. GaveUp (C.shown cluster.old) self.old fault (C.shown cluster.new)) }
+        ensures failed { HasFailed self.old → (result ≡ Err faults.Failed) × (cluster.new ≡ cluster.old) }
+        ensures client { SameClient namenode.old namenode.new }
+    {
         if self.pipe.is_none() {
             return Err(WriteFault::Failed);
         }
@@ -341,6 +368,7 @@ impl BlockWriter {
         ensures failed { HasFailed self → cluster.new ≡ cluster.old }
     {
         self.fail(cluster);
+        drop(self);
     }
 
     /// Whether the writer has failed.

@@ -61,16 +61,26 @@ fn rebuild_ended<C: Cluster>(
     ensures client { SameClient namenode.old namenode.new }
 {
     let BlockPipeline { plan, core, link } = pipe;
-    match drive_end(core, cluster, link)? {
-        PipelineEnd::Recover { failed, replay } => {
+    match drive_end(core, cluster, link) {
+        Ok(PipelineEnd::Recover { failed, replay }) => {
             let plan = with_length(plan, length);
             let rebuilt = rebuild(
                 alloc, cluster, namenode, plan, settings, failed, replay, unsent,
-            )?;
-            Ok(rebuilt)
+            );
+            match rebuilt {
+                Ok(rebuilt) => Ok(rebuilt),
+                Err(fault) => Err(fault),
+            }
         }
-        PipelineEnd::Bad { seqno } => Err(WriteFault::BadAck { seqno }),
-        PipelineEnd::Success => unreachable!(),
+        Ok(PipelineEnd::Bad { seqno }) => {
+            drop(plan);
+            Err(WriteFault::BadAck { seqno })
+        }
+        Ok(PipelineEnd::Success) => unreachable!(),
+        Err(NoMemory) => {
+            drop(plan);
+            Err(WriteFault::NoMemory)
+        }
     }
 }
 
@@ -80,7 +90,7 @@ fn push_once<C: Cluster>(
     cluster: &mut C,
     namenode: &mut NamenodeProtocol,
     settings: &RebuildSettings,
-    pipe: BlockPipeline,
+    mut pipe: BlockPipeline,
     length: u64,
     packet: WritePacket,
 ) -> Result<PushedOnce, WriteFault>
@@ -90,23 +100,23 @@ fn push_once<C: Cluster>(
     ensures err { IfErr result (λ fault. PushesNot settings.now (C.shown cluster.old) pipe packet fault (C.shown cluster.new)) }
     ensures client { SameClient namenode.old namenode.new }
 {
-    let BlockPipeline {
-        plan,
-        mut core,
-        link,
-    } = pipe;
-    match drive_push(&mut core, cluster, link, packet) {
+    match drive_push(&mut pipe.core, cluster, pipe.link, packet) {
         Ok(back) => {
-            let pipe = BlockPipeline { plan, core, link };
             if !pipe.core.has_ended() {
                 return Ok(PushedOnce { pipe, back });
             }
             let unsent = bytes_of(&back);
-            let pipe = rebuild_ended(alloc, cluster, namenode, settings, pipe, length, unsent)?;
-            Ok(PushedOnce { pipe, back })
+            match rebuild_ended(alloc, cluster, namenode, settings, pipe, length, unsent) {
+                Ok(pipe) => Ok(PushedOnce { pipe, back }),
+                Err(fault) => {
+                    drop(back);
+                    Err(fault)
+                }
+            }
         }
         Err(NoMemory) => {
-            cluster.end_write(link);
+            cluster.end_write(pipe.link);
+            drop(pipe);
             Err(WriteFault::NoMemory)
         }
     }
@@ -171,17 +181,28 @@ fn finish_once<C: Cluster>(
     ensures client { SameClient namenode.old namenode.new }
 {
     let BlockPipeline { plan, core, link } = pipe;
-    match drive_end(core, cluster, link)? {
-        PipelineEnd::Success => Ok(Settled::Done(plan)),
-        PipelineEnd::Bad { seqno } => Err(WriteFault::BadAck { seqno }),
-        PipelineEnd::Recover { failed, replay } => {
+    match drive_end(core, cluster, link) {
+        Ok(PipelineEnd::Success) => Ok(Settled::Done(plan)),
+        Ok(PipelineEnd::Bad { seqno }) => {
+            drop(plan);
+            Err(WriteFault::BadAck { seqno })
+        }
+        Ok(PipelineEnd::Recover { failed, replay }) => {
             // Once all packets are acknowledged none is to be sent again.
             if replay.as_slice().is_empty() {
+                drop(failed);
+                drop(replay);
                 return Ok(Settled::Done(plan));
             }
             let plan = with_length(plan, length);
-            let rebuilt = rebuild(alloc, cluster, namenode, plan, settings, failed, replay, 0)?;
-            Ok(Settled::Rebuilt(rebuilt))
+            match rebuild(alloc, cluster, namenode, plan, settings, failed, replay, 0) {
+                Ok(rebuilt) => Ok(Settled::Rebuilt(rebuilt)),
+                Err(fault) => Err(fault),
+            }
+        }
+        Err(NoMemory) => {
+            drop(plan);
+            Err(WriteFault::NoMemory)
         }
     }
 }

@@ -5,7 +5,7 @@ ghost use Rattle.hdfs_model.specs.Namenode.{IsToWrite};
 ghost use Rattle.hdfs_model.specs.Pipes.{WriteOpened};
 ghost use Rattle.hdfs_pipeline.specs.Pipelines.{empty_pipeline};
 ghost use Rattle.hdfs_block_writer.specs.Packing.{setup_of};
-ghost use Rattle.hdfs_block_writer.specs.Written.{OpensNone};
+ghost use Rattle.hdfs_block_writer.specs.Written.{OpensNone, fault_of};
 
 use hdfs_model::{Cluster, LinkFault, Setup, Stage, copy_nodes, copy_texts};
 use hdfs_pipeline::PipelineCore;
@@ -13,13 +13,22 @@ use hdfs_recovery::{BlockPlan, WriteFault};
 use hdfs_wire::{List, NoMemory, Text};
 use std::alloc::Global;
 
+/// The storages of a plan's datanodes, with their types, in memory of their own.
+fn storages(alloc: Global, plan: &BlockPlan) -> Result<(List<u32>, List<Text>), NoMemory>
+    ensures { IfOk result (λ copied. (copied.0 ≡ plan.now.block.storage_types) × (copied.1 ≡ plan.now.block.storage_ids)) }
+{
+    let mut storage_types = Vec::new(alloc);
+    storage_types.extend_from_slice(plan.block.storage_types.as_slice())?;
+    let storage_ids = copy_texts(alloc, plan.block.storage_ids.as_slice())?;
+    Ok((List::from_vec(storage_types), storage_ids))
+}
+
 /// What the pipeline of a block is asked for: the block is new where it has no bytes, else it is gone on with behind those.
 fn set_up(alloc: Global, plan: &BlockPlan, client: &str) -> Result<Setup, NoMemory>
     ensures { IfOk result (λ setup. setup ≡ setup_of plan.now.block plan.now.chunk client.now) }
 {
     let bytes = plan.block.b.num_bytes;
-    let mut storage_types = Vec::new(alloc);
-    storage_types.extend_from_slice(plan.block.storage_types.as_slice())?;
+    let (storage_types, storage_ids) = storages(alloc, plan)?;
     Ok(Setup {
         stage: if bytes == 0 {
             Stage::Create
@@ -29,8 +38,8 @@ fn set_up(alloc: Global, plan: &BlockPlan, client: &str) -> Result<Setup, NoMemo
         stamp: plan.block.b.generation_stamp,
         block: plan.block.b.copy(alloc)?,
         locs: copy_nodes(alloc, plan.block.locs.as_slice())?,
-        storage_types: List::from_vec(storage_types),
-        storage_ids: copy_texts(alloc, plan.block.storage_ids.as_slice())?,
+        storage_types,
+        storage_ids,
         min_bytes: bytes,
         max_bytes: bytes,
         chunk: plan.chunk,
@@ -60,8 +69,20 @@ pub(crate) fn open<C: Cluster>(
     let setup = set_up(alloc, plan, client)?;
     match cluster.open_write(setup) {
         Ok(link) => Ok((core, link)),
-        Err(LinkFault::NoMemory) => Err(WriteFault::NoMemory),
-        Err(LinkFault::Broken) => Err(WriteFault::Link),
-        Err(LinkFault::Refused) => Err(WriteFault::Setup),
+        Err(fault) => {
+            drop(core);
+            Err(fault_of(fault))
+        }
+    }
+}
+
+/// What it is for a writer that no pipeline was set up.
+fn fault_of(fault: LinkFault) -> WriteFault
+    ensures { result ≡ fault_of fault }
+{
+    match fault {
+        LinkFault::NoMemory => WriteFault::NoMemory,
+        LinkFault::Broken => WriteFault::Link,
+        LinkFault::Refused => WriteFault::Setup,
     }
 }

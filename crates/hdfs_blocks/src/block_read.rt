@@ -1,5 +1,5 @@
 //! A range of one block, read from the nodes that are listed for it, in order.
-ghost use Rattle.std.specs.Prelude.{◌≡◌, ◌<◌, ◌≤◌, ◌+◌, ◌-◌, ◌^◌, ◌⊎◌, ℕ, List, [], Option, Some, None, Ok, IfOk, OnOk, OnErr, IfErr, MatchOption, length, true, false};
+ghost use Rattle.std.specs.Prelude.{◌≡◌, ◌<◌, ◌≤◌, ◌+◌, ◌-◌, ◌^◌, ◌⊎◌, ℕ, List, [], Option, Some, None, Ok, IfOk, OnOk, OnErr, IfErr, IsSomeAnd, MatchOption, length, slice_get, true, false};
 ghost use Rattle.hdfs_blocks.specs.Blocks.{node_count};
 ghost use Rattle.hdfs_model.specs.declared.errors.HdfsError.TheVariants as errors;
 
@@ -8,7 +8,7 @@ use crate::given_up::GivenUp;
 use crate::packets::{Step, read_ask, span_of};
 use bytes::Bytes;
 use hdfs_connections::ConnectionCache;
-use hdfs_model::{Cluster, HdfsError, LinkFault, LocatedBlock, TransferFault};
+use hdfs_model::{Cluster, HdfsError, LinkFault, LocatedBlock, ReadAsk, TransferFault};
 use hdfs_wire::{List, NoMemory, Text};
 use std::alloc::Global;
 
@@ -33,7 +33,7 @@ pub struct BlockRead {
 impl BlockRead {
     ghost use Rattle.hdfs_model.specs.Counts.{FaultCounts};
     ghost use Rattle.hdfs_model.specs.Shown.{Shown};
-    ghost use Rattle.hdfs_blocks.specs.Reader.{block_of, client_of, wanted_of, end_of, given_up_of, tried_of, link_of, moved_of, has_failed, EndsStill, Holds, Stands, Keeps, KeepsConnections, ShowsBlock, TriesAgain, Over, Reads, AllBlamed, IsRead, Gives, IsPieceOf};
+    ghost use Rattle.hdfs_blocks.specs.Reader.{block_of, client_of, wanted_of, end_of, given_up_of, tried_of, link_of, moved_of, has_failed, EndsStill, IsAskFor, Holds, Stands, Keeps, KeepsConnections, ShowsBlock, TriesAgain, Over, Reads, AllBlamed, IsRead, Gives, IsPieceOf};
     ghost use Rattle.hdfs_blocks.specs.Going.{Frame, Goes, Accepts, gives_up, tries_left, Loses, LosesOne, Steps, IsPartOf, ReadsLocation};
 
     /// A read of `len` bytes from `offset` on of a block that is held in whole by each of its locations. `client` is the
@@ -255,8 +255,34 @@ impl BlockRead {
             self.end - self.wanted,
             &self.client,
         )?;
+        let opened = self.open_by(cluster, cache, &ask);
+        drop(ask);
+        opened
+    }
+
+    /// Opens a read by this ask on the location that is tried, or loses the location.
+    fn open_by<C: Cluster>(
+        &mut self,
+        cluster: &mut C,
+        cache: &mut ConnectionCache,
+        ask: &ReadAsk,
+    ) -> Result<Option<u64>, NoMemory>
+        requires holds { Holds (C.shown cluster.old) self.old }
+        requires left { (tried_of self.old < node_count self.old.block) × (self.old.wanted < self.old.end) }
+        requires idle { self.old.link ≡ None }
+        requires asked { IsAskFor self.old.block (tried_of self.old) self.old.client self.old.end ask.now }
+        requires offset { ask.now.offset ≡ self.old.wanted }
+        requires listed { IsSomeAnd (slice_get self.old.block.locs (tried_of self.old)) (λ listed. ask.now.node ≡ listed.id) }
+        ensures goes { Goes (C.shown cluster.old) (C.shown cluster.new) self.old self.new }
+        ensures same { (self.new.wanted ≡ self.old.wanted) × (self.new.failed ≡ self.old.failed) }
+        ensures opened { IfOk result (λ link. self.new.link ≡ link) }
+        ensures cached { KeepsConnections self.old self.new cache.old cache.new }
+        ensures tried { IfOk result (λ link. MatchOption link
+            (LosesOne self.old self.new)
+            (λ opened. tries_left self.new ≤ tries_left self.old)) }
+    {
         let address = address(self.alloc, &ask.node)?;
-        match connect(cluster, cache, address.as_str(), &ask) {
+        match connect(cluster, cache, address.as_str(), ask) {
             Ok(link) => {
                 self.link = Some(link);
                 self.position = None;
@@ -311,6 +337,7 @@ impl BlockRead {
             }
         };
         let Some((start, end)) = span_of(&packet, self.position, self.wanted) else {
+            drop(packet);
             self.give_up(cluster, GivenUp::Misplaced)?;
             return Ok(Step::Failed);
         };

@@ -1,5 +1,8 @@
 //! The commands of a session that write.
-ghost use Rattle.std.specs.Prelude.{◌≡◌, ◌<◌, ℕ, List, IfOk, IfErr, true, false};
+ghost use Rattle.std.specs.Prelude.{◌≡◌, ◌<◌, ℕ, List, Some, IfOk, IfErr, OnOk, OnErr, string_bytes, true, false};
+ghost use Rattle.std.specs.BTreeMap.{get_by_text, IsUnchanged};
+ghost use Rattle.std.specs.Map.{update};
+ghost use Rattle.std.specs.Str.{bytes_eq};
 ghost use Rattle.hdfs_model.specs.declared.commands.Command.TheVariants as Command;
 ghost use Rattle.hdfs_model.specs.Paths.{is_path, absolute};
 ghost use Rattle.hdfs_model.specs.Sessions.{IsNotOwed};
@@ -7,9 +10,12 @@ ghost use Rattle.hdfs_model.specs.Sessions.{IsNotOwed};
 use crate::encrypted::tells_encryption;
 use crate::session::Session;
 use hdfs_files::{FileWriter, WriteSizes};
-use hdfs_model::{Appended, ArgFault, Cluster, HdfsError, Reply, ServerDefaults, WriteOptions};
+use hdfs_model::{
+    Appended, ArgFault, Cluster, FileStatusMsg, HdfsError, Reply, ServerDefaults, WriteOptions,
+};
 use hdfs_recovery::RebuildSettings;
-use hdfs_wire::Text;
+use hdfs_wire::{NoMemory, Text};
+use std::collections::BTreeMap;
 
 /// The flag of a new file (upstream's `CREATE`).
 const CREATE: u32 = 1;
@@ -19,6 +25,36 @@ const OVERWRITE: u32 = 3;
 
 /// The flag of a file that is gone on with (upstream's `APPEND`).
 const APPEND: u32 = 4;
+
+/// The id of a file that is told with its status.
+fn file_id_of(status: &Option<FileStatusMsg>) -> Option<u64> {
+    match status {
+        Some(status) => status.file_id,
+        None => None,
+    }
+}
+
+/// Keeps the writer of a file by its path.
+fn keep(
+    writers: &mut BTreeMap<String, FileWriter>,
+    path: String,
+    writer: FileWriter,
+) -> Result<(), NoMemory>
+    ensures put { OnOk result ((other : List ℕ)
+        → get_by_text writers.new other ≡ update bytes_eq (get_by_text writers.old) (string_bytes path) (Some writer) other) }
+    ensures err { OnErr result (IsUnchanged writers.old writers.new) }
+{
+    match writers.insert(path, writer) {
+        Ok(older) => {
+            drop(older);
+            Ok(())
+        }
+        Err(failed) => {
+            drop(failed);
+            Err(NoMemory)
+        }
+    }
+}
 
 impl Session {
     ghost use Rattle.hdfs_client.specs.Acting.{Acts};
@@ -92,16 +128,15 @@ impl Session {
             replication,
             block_size,
         )?;
-        if tells_encryption(&status) {
+        let encrypted = tells_encryption(&status);
+        let file_id = file_id_of(&status);
+        drop(status);
+        if encrypted {
             return Err(self.refuse_created(cluster, path.as_str()));
         }
-        let file_id = match status {
-            Some(status) => status.file_id,
-            None => None,
-        };
         let sizes = self.sizes(&defaults, replication, block_size);
         let writer = FileWriter::new(self.alloc, path, file_id, sizes);
-        self.writers.insert(key, writer)?;
+        keep(&mut self.writers, key, writer)?;
         Ok(Reply::Created)
     }
 
@@ -127,6 +162,7 @@ impl Session {
         let key = String::from_str(self.alloc, path.as_str())?;
         let Appended { block, stat } = self.namenode.append(cluster, path.as_str(), APPEND)?;
         let Some(stat) = stat else {
+            drop(block);
             return Err(HdfsError::FileNotFound(name.copy(self.alloc)?));
         };
         let sizes = self.sizes(
@@ -135,11 +171,13 @@ impl Session {
             stat.blocksize.unwrap_or(0),
         );
         let encrypted = stat.encryption.is_some();
-        let writer = FileWriter::appended(self.alloc, path, stat.file_id, sizes, block);
+        let file_id = stat.file_id;
+        drop(stat);
+        let writer = FileWriter::appended(self.alloc, path, file_id, sizes, block);
         if encrypted {
             return Err(self.refuse_opened(cluster, writer));
         }
-        self.writers.insert(key, writer)?;
+        keep(&mut self.writers, key, writer)?;
         Ok(Reply::Appended)
     }
 

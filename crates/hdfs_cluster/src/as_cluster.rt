@@ -140,7 +140,8 @@ impl Cluster for MemCluster {
         ensures kept { result ≡ false }
         ensures counted { CountsNothing self.old self.new }
     {
-        let _ended = self.links.try_remove(link as usize);
+        let ended = self.links.try_remove(link as usize);
+        drop(ended);
         false
     }
 
@@ -208,7 +209,8 @@ impl Cluster for MemCluster {
         ensures counted { CountsNothing self.old self.new }
     {
         self.faults.end(link);
-        let _gone = self.links.try_remove(link as usize);
+        let gone = self.links.try_remove(link as usize);
+        drop(gone);
     }
 
     /// There is no memory for a block on a datanode that isn't there.

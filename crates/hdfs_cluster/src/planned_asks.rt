@@ -131,7 +131,8 @@ fn do_planned(
     match kind {
         AskKind::Lost => {}
         AskKind::Late => {
-            let _unheard = respond(alloc, config, loaded, space, nodes, i, ask);
+            let unheard = respond(alloc, config, loaded, space, nodes, i, ask);
+            drop(unheard);
         }
         AskKind::FalseAnswer => {}
         AskKind::Fatal => {}

@@ -179,8 +179,8 @@ impl FileWriter {
         ensures { self.new ≡ record self.old { failed = true; reopened = None; going = None } }
     {
         self.failed = true;
-        self.reopened = None;
-        self.going = None;
+        drop(self.reopened.take());
+        drop(self.going.take());
     }
 
     /// Why no byte is taken where data is to be encrypted. A block that has room for a byte is asked for first, where none is to be gone
@@ -194,7 +194,10 @@ impl FileWriter {
         ensures fails { Fails (C.shown cluster.old) self.old result (C.shown cluster.new) }
     {
         match self.take_reopened() {
-            Some(_) => return HdfsError::UnsupportedFeature(Feature::Encryption),
+            Some(located) => {
+                drop(located);
+                return HdfsError::UnsupportedFeature(Feature::Encryption);
+            }
             None => {}
         }
         match self.finish_block(cluster, namenode) {
@@ -202,7 +205,10 @@ impl FileWriter {
             Err(error) => return error,
         }
         match self.next_block(cluster, namenode) {
-            Ok(_) => HdfsError::UnsupportedFeature(Feature::Encryption),
+            Ok(located) => {
+                drop(located);
+                HdfsError::UnsupportedFeature(Feature::Encryption)
+            }
             Err(error) => error,
         }
     }
@@ -285,7 +291,9 @@ impl FileWriter {
         ensures idle { link_of self ≡ None → SameNodes (C.shown cluster.old) (C.shown cluster.new) }
         ensures client { SameClient namenode.old namenode.new }
     {
-        self.end(cluster, namenode)
+        let ended = self.end(cluster, namenode);
+        drop(self);
+        ended
     }
 
     /// Ends the block that is being written, and closes the file.
@@ -323,6 +331,18 @@ impl FileWriter {
         ensures idle { link_of self ≡ None → cluster.new ≡ cluster.old }
         ensures last { (C.shown cluster.new).last ≡ (C.shown cluster.old).last }
         ensures touches { LeavesFile (C.shown cluster.old) self (C.shown cluster.new) }
+    {
+        self.leave(cluster);
+        drop(self);
+    }
+
+    /// Ends the link of the block that is being written, if one is.
+    fn leave<C: Cluster>(&mut self, cluster: &mut C)
+        requires stands { Stands (C.shown cluster.old) self.old }
+        ensures own { OnlyOwnLink (C.shown cluster.old) (link_of self.old) (C.shown cluster.new) None }
+        ensures idle { link_of self.old ≡ None → cluster.new ≡ cluster.old }
+        ensures last { (C.shown cluster.new).last ≡ (C.shown cluster.old).last }
+        ensures touches { LeavesFile (C.shown cluster.old) self.old (C.shown cluster.new) }
     {
         if let Some(block) = self.going.take() {
             block.abandon(cluster);

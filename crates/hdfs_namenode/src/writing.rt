@@ -12,7 +12,7 @@ use hdfs_model::{
     Answer, Appended, Ask, Block, Cluster, DatanodeId, DatanodeInfo, FileStatusMsg, HdfsError,
     LocatedBlock, copy_ids, copy_nodes, copy_texts,
 };
-use hdfs_wire::Text;
+use hdfs_wire::{NoMemory, Text};
 
 impl NamenodeProtocol {
     ghost use Rattle.hdfs_namenode.specs.Clients.{SameClient, name_of, proxy_of, through};
@@ -95,13 +95,7 @@ impl NamenodeProtocol {
             (through self.old cluster.old) (as_answer answers.AddBlock result) (through self.new cluster.new) }
         ensures keeps { SameClient self.old self.new }
     {
-        let ask = Ask::AddBlock {
-            src: Text::from_str(self.alloc, src)?,
-            client_name: self.client.copy(self.alloc)?,
-            previous: copy_block(self.alloc, previous)?,
-            excludes: copy_nodes(self.alloc, excludes)?,
-            file_id,
-        };
+        let ask = self.add_block_ask(src, previous, excludes, file_id)?;
         let answer = self.ask(cluster, ask, true);
         match answer {
             Ok(Answer::AddBlock(block)) => Ok(block),
@@ -123,12 +117,7 @@ impl NamenodeProtocol {
             (through self.old cluster.old) (as_answer answers.Complete result) (through self.new cluster.new) }
         ensures keeps { SameClient self.old self.new }
     {
-        let ask = Ask::Complete {
-            src: Text::from_str(self.alloc, src)?,
-            client_name: self.client.copy(self.alloc)?,
-            last: copy_block(self.alloc, last)?,
-            file_id,
-        };
+        let ask = self.complete_ask(src, last, file_id)?;
         let answer = self.ask(cluster, ask, true);
         let answer = answer?;
         let done = match answer {
@@ -182,15 +171,14 @@ impl NamenodeProtocol {
         ensures shape { IfOk result (λ located. IsToWrite located × HasOneMore existings.now located.locs) }
         ensures keeps { SameClient self.old self.new }
     {
-        let ask = Ask::GetAdditionalDatanode {
-            src: Text::from_str(self.alloc, src)?,
-            blk: blk.copy(self.alloc)?,
-            existings: copy_nodes(self.alloc, existings)?,
-            excludes: copy_nodes(self.alloc, excludes)?,
+        let ask = self.get_additional_datanode_ask(
+            src,
+            blk,
+            existings,
+            excludes,
             num_additional_nodes,
-            client_name: self.client.copy(self.alloc)?,
-            existing_storage_uuids: copy_texts(self.alloc, existing_storage_uuids)?,
-        };
+            existing_storage_uuids,
+        )?;
         let answer = self.ask(cluster, ask, true);
         match answer {
             Ok(Answer::GetAdditionalDatanode(block)) => Ok(block),
@@ -214,15 +202,90 @@ impl NamenodeProtocol {
             storage_ids.now) (through self.old cluster.old) (as_answer (λ _. answers.UpdatePipeline) result) (through self.new cluster.new) }
         ensures keeps { SameClient self.old self.new }
     {
-        let ask = Ask::UpdatePipeline {
+        let ask = self.update_pipeline_ask(old_block, new_block, new_nodes, storage_ids)?;
+        let answer = self.ask(cluster, ask, true);
+        drop(answer?);
+        Ok(())
+    }
+
+    /// The ask of `add_block`.
+    fn add_block_ask(
+        &self,
+        src: &str,
+        previous: Option<&Block>,
+        excludes: &[DatanodeInfo],
+        file_id: Option<u64>,
+    ) -> Result<Ask, NoMemory>
+        ensures { IfOk result (λ ask.
+            ask ≡ asks.AddBlock src.now (name_of self.now) (option_copied previous.entry) excludes.now file_id) }
+    {
+        Ok(Ask::AddBlock {
+            src: Text::from_str(self.alloc, src)?,
+            client_name: self.client.copy(self.alloc)?,
+            previous: copy_block(self.alloc, previous)?,
+            excludes: copy_nodes(self.alloc, excludes)?,
+            file_id,
+        })
+    }
+
+    /// The ask of `complete`.
+    fn complete_ask(
+        &self,
+        src: &str,
+        last: Option<&Block>,
+        file_id: Option<u64>,
+    ) -> Result<Ask, NoMemory>
+        ensures { IfOk result (λ ask. ask ≡ asks.Complete src.now (name_of self.now) (option_copied last.entry) file_id) }
+    {
+        Ok(Ask::Complete {
+            src: Text::from_str(self.alloc, src)?,
+            client_name: self.client.copy(self.alloc)?,
+            last: copy_block(self.alloc, last)?,
+            file_id,
+        })
+    }
+
+    /// The ask of `update_pipeline`.
+    fn update_pipeline_ask(
+        &self,
+        old_block: &Block,
+        new_block: &Block,
+        new_nodes: &[DatanodeId],
+        storage_ids: &[Text],
+    ) -> Result<Ask, NoMemory>
+        ensures { IfOk result (λ ask.
+            ask ≡ asks.UpdatePipeline (name_of self.now) old_block.now new_block.now new_nodes.now storage_ids.now) }
+    {
+        Ok(Ask::UpdatePipeline {
             client_name: self.client.copy(self.alloc)?,
             old_block: old_block.copy(self.alloc)?,
             new_block: new_block.copy(self.alloc)?,
             new_nodes: copy_ids(self.alloc, new_nodes)?,
             storage_ids: copy_texts(self.alloc, storage_ids)?,
-        };
-        let answer = self.ask(cluster, ask, true);
-        drop(answer?);
-        Ok(())
+        })
+    }
+
+    /// The ask of `get_additional_datanode`.
+    fn get_additional_datanode_ask(
+        &self,
+        src: &str,
+        blk: &Block,
+        existings: &[DatanodeInfo],
+        excludes: &[DatanodeInfo],
+        num_additional_nodes: u32,
+        existing_storage_uuids: &[Text],
+    ) -> Result<Ask, NoMemory>
+        ensures { IfOk result (λ ask. ask ≡ asks.GetAdditionalDatanode src.now blk.now existings.now excludes.now num_additional_nodes
+            (name_of self.now) existing_storage_uuids.now) }
+    {
+        Ok(Ask::GetAdditionalDatanode {
+            src: Text::from_str(self.alloc, src)?,
+            blk: blk.copy(self.alloc)?,
+            existings: copy_nodes(self.alloc, existings)?,
+            excludes: copy_nodes(self.alloc, excludes)?,
+            num_additional_nodes,
+            client_name: self.client.copy(self.alloc)?,
+            existing_storage_uuids: copy_texts(self.alloc, existing_storage_uuids)?,
+        })
     }
 }

@@ -356,21 +356,35 @@ fn wrong_at(alloc: Global, fresh: bool, place: Place, line: &[u8], entry: &Entry
     }
 }
 
+/// Where a script stands behind a line. None for want of memory.
+fn place_after(alloc: Global, line: &[u8], place: Place) -> Option<Place> {
+    let entry = entry(alloc, line).ok()?;
+    let behind = place_behind(place, &entry);
+    drop(entry);
+    Some(behind)
+}
+
+/// Why a line is refused in this place. None for want of memory.
+fn complaint_on(alloc: Global, fresh: bool, place: Place, line: &[u8]) -> Option<Wrong> {
+    let entry = entry(alloc, line).ok()?;
+    let wrong = wrong_at(alloc, fresh, place, line, &entry);
+    drop(entry);
+    Some(wrong)
+}
+
 /// Why a script is refused at this line over a store that was fresh or wasn't. None for want of memory.
 pub fn complaint_at(alloc: Global, bytes: &[u8], fresh: bool, number: u64) -> Option<Complaint> {
     let front = bytes.get(..SCRIPT_LIMIT).unwrap_or(bytes);
     let mut lines = front.split(|b| *b == b'\n');
     let mut place = FIRST_PLACE;
     for _ in 1..number {
-        let entry = entry(alloc, lines.next()?).ok()?;
-        place = place_behind(place, &entry);
+        place = place_after(alloc, lines.next()?, place)?;
     }
     let line = lines.next()?;
     if bytes.len() > SCRIPT_LIMIT && lines.next().is_none() {
         let wrong = Wrong::TooLong;
         return Some(Complaint { number, wrong });
     }
-    let entry = entry(alloc, line).ok()?;
-    let wrong = wrong_at(alloc, fresh, place, line, &entry);
+    let wrong = complaint_on(alloc, fresh, place, line)?;
     Some(Complaint { number, wrong })
 }

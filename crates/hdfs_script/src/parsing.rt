@@ -147,6 +147,7 @@ fn read_lines(
     for line in bytes.split(|b| *b == b'\n') {
         let entry = entry_within(alloc, line, number == limit)?;
         if !may_stand(place, &entry) {
+            drop(entry);
             return Ok(Some(number));
         }
         place = place_behind(place, &entry);

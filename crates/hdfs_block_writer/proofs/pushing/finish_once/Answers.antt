@@ -2,7 +2,6 @@
 use Rattle.std.proofs.Common.{◌≡◌, ◌≢◌, [], length, sym, ◌∙◌, ap, subst, arith}
 use Rattle.std.proofs.lemmas.Bool.{eqb-true, eqb-false}
 use Rattle.std.proofs.lemmas.List.{nil_from_length}
-use Rattle.std.proofs.lemmas.Result.{err_from_is_err_and}
 use Rattle.hdfs_namenode.specs.Clients.{name_of, proxy_of}
 use Rattle.hdfs_namenode.proofs.Services.{reaches_same, same_service_refl}
 use Rattle.hdfs_recovery.specs.declared.block_plan.BlockPlan.{BlockPlan}
@@ -13,45 +12,43 @@ use Rattle.hdfs_block_writer.proofs.Received.{receives}
 use Rattle.hdfs_block_writer.proofs.Standing.{can_rebuild_standing, standing_drove}
 use Rattle.hdfs_block_writer.proofs.pushing.finish_once.Goals as goal
 
-pub returns-in_err-drive_end-clause-err : goal.returns-in_err-drive_end-clause-err
-returns-in_err-drive_end-clause-err g c =
-    let p = err_from_is_err_and c.from_residual.result c.from_residual.ensures.1 in
-    let s = c.in_err-drive_end.ensures.err in
-    rw (p.1, p.2)
-    (once_stopped c.args.settings.now c.args.pipe (g.C.Cluster.shown c.args.cluster.now) (g.C.Cluster.shown s.before)
+pub returns-in-Err-clause-err : goal.returns-in-Err-clause-err
+returns-in-Err-clause-err g c =
+    let s = c.in-Err.ensures.err in
+    once_stopped c.args.settings.now c.args.pipe (g.C.Cluster.shown c.args.cluster.now) (g.C.Cluster.shown s.before)
     (g.C.Cluster.shown c.drive_end.new.cluster) c.requires.standing s.stopped
-    (g.met.C.Cluster.ends_row s.before c.drive_end.new.cluster c.args.pipe.link s.ended))
+    (g.met.C.Cluster.ends_row s.before c.drive_end.new.cluster c.args.pipe.link s.ended)
 
 pub returns-then-is_empty-clause-ok : goal.returns-then-is_empty-clause-ok
 returns-then-is_empty-clause-ok g c =
-    let d = c.in_ok-drive_end.ensures.drove in
+    let d = c.in-Ok-Recover.ensures.drove in
     let a = g.C.Cluster.shown c.args.cluster.now in
     let z = g.C.Cluster.shown d.before in
     let m = g.C.Cluster.shown c.drive_end.new.cluster in
     let e = g.met.C.Cluster.ends_row d.before c.drive_end.new.cluster c.args.pipe.link d.ended in
-    let r = recovers_is d.last c.in_ok-drive_end.field-0 c.in-Recover.failed c.in-Recover.replay d.is_core d.has_ended d.is c.in-Recover.is in
+    let r = recovers_is d.last c.in-Ok-Recover.field-0 c.in-Ok-Recover.failed c.in-Ok-Recover.replay d.is_core d.has_ended d.is c.in-Ok-Recover.field-0-is in
     let none : length c.as_slice.result.now ≡ 0 = eqb-true (length c.as_slice.result.now) 0 (sym c.is_empty.ensures ∙ c.if-is_empty.true) in
     finishes c.args.settings.now c.args.pipe a z m d.last c.requires.standing c.requires.ending.0 d.drove e d.is_core
-    (sym r.1 ∙ nil_from_length c.in-Recover.replay (ap length (sym c.as_slice.ensures) ∙ none))
+    (sym r.1 ∙ nil_from_length c.in-Ok-Recover.replay (ap length (sym c.as_slice.ensures) ∙ none))
 
 pub returns-then-is_empty-clause-last : goal.returns-then-is_empty-clause-last
 returns-then-is_empty-clause-last g c =
-    let d = c.in_ok-drive_end.ensures.drove in
+    let d = c.in-Ok-Recover.ensures.drove in
     let a = g.C.Cluster.shown c.args.cluster.now in
     let z = g.C.Cluster.shown d.before in
-    let r = recovers_is d.last c.in_ok-drive_end.field-0 c.in-Recover.failed c.in-Recover.replay d.is_core d.has_ended d.is c.in-Recover.is in
+    let r = recovers_is d.last c.in-Ok-Recover.field-0 c.in-Ok-Recover.failed c.in-Ok-Recover.replay d.is_core d.has_ended d.is c.in-Ok-Recover.field-0-is in
     let none : length c.as_slice.result.now ≡ 0 = eqb-true (length c.as_slice.result.now) 0 (sym c.is_empty.ensures ∙ c.if-is_empty.true) in
     λ front packet is. (
       d.before,
       c.args.pipe.link,
       d.ended,
       receives c.args.pipe a z d.last d.drove c.requires.ending.0
-          (sym r.1 ∙ nil_from_length c.in-Recover.replay (ap length (sym c.as_slice.ensures) ∙ none)) front packet is,
+          (sym r.1 ∙ nil_from_length c.in-Ok-Recover.replay (ap length (sym c.as_slice.ensures) ∙ none)) front packet is,
     )
 
-pub returns-in-Success-clause-last : goal.returns-in-Success-clause-last
-returns-in-Success-clause-last g c =
-    let d = c.in_ok-drive_end.ensures.drove in
+pub returns-in-Ok-Success-clause-last : goal.returns-in-Ok-Success-clause-last
+returns-in-Ok-Success-clause-last g c =
+    let d = c.in-Ok-Success.ensures.drove in
     let a = g.C.Cluster.shown c.args.cluster.now in
     let z = g.C.Cluster.shown d.before in
     λ front packet is. (
@@ -59,12 +56,12 @@ returns-in-Success-clause-last g c =
       c.args.pipe.link,
       d.ended,
       receives c.args.pipe a z d.last d.drove c.requires.ending.0
-          (d.none_left c.requires.ending.0 (done_is d.last c.in_ok-drive_end.field-0 d.has_ended d.is c.in-Success.is)) front packet is,
+          (d.none_left c.requires.ending.0 (done_is d.last c.in-Ok-Success.field-0 d.has_ended d.is c.in-Ok-Success.field-0-is)) front packet is,
     )
 
 pub rebuild-requires-clause-reaches : goal.rebuild-requires-clause-reaches
 rebuild-requires-clause-reaches g c =
-    let d = c.in_ok-drive_end.ensures.drove in
+    let d = c.in-Ok-Recover.ensures.drove in
     let e = g.met.C.Cluster.ends_row d.before c.drive_end.new.cluster c.args.pipe.link d.ended in
     reaches_same (proxy_of c.args.namenode.now) (proxy_of c.args.namenode.now) (g.C.Cluster.shown c.args.cluster.now)
     (g.C.Cluster.shown c.drive_end.new.cluster) (same_service_refl (proxy_of c.args.namenode.now))
@@ -72,66 +69,64 @@ rebuild-requires-clause-reaches g c =
 
 pub rebuild-requires-clause-can : goal.rebuild-requires-clause-can
 rebuild-requires-clause-can g c =
-    let d = c.in_ok-drive_end.ensures.drove in
+    let d = c.in-Ok-Recover.ensures.drove in
     let a = g.C.Cluster.shown c.args.cluster.now in
     let z = g.C.Cluster.shown d.before in
     let m = g.C.Cluster.shown c.drive_end.new.cluster in
     let e = g.met.C.Cluster.ends_row d.before c.drive_end.new.cluster c.args.pipe.link d.ended in
-    let r = recovers_is d.last c.in_ok-drive_end.field-0 c.in-Recover.failed c.in-Recover.replay d.is_core d.has_ended d.is c.in-Recover.is in
-    subst (λ (plan : BlockPlan). CanRebuild plan c.args.settings.now c.in-Recover.failed c.in-Recover.replay 0)
+    let r = recovers_is d.last c.in-Ok-Recover.field-0 c.in-Ok-Recover.failed c.in-Ok-Recover.replay d.is_core d.has_ended d.is c.in-Ok-Recover.field-0-is in
+    subst (λ (plan : BlockPlan). CanRebuild plan c.args.settings.now c.in-Ok-Recover.failed c.in-Ok-Recover.replay 0)
     (sym c.with_length-plan.ensures)
     (can_rebuild_standing c.args.settings.now (record { plan = c.args.pipe.plan; core = d.last; link = c.args.pipe.link }) z
     (standing_drove c.args.settings.now c.args.pipe [] [] d.last a z d.drove d.is_core c.requires.standing)
-    c.in-Recover.failed r.0 c.args.length 0 c.in-Recover.replay r.1 (
+    c.in-Ok-Recover.failed r.0 c.args.length 0 c.in-Ok-Recover.replay r.1 (
       fewer_bytes c.args.settings.now c.args.pipe a z m d.last c.requires.standing c.requires.ending.0 d.drove e d.is_core c.args.length c.requires.few.0,
       c.requires.few.1,
     ))
 
-pub returns-in_err-rebuilt-in-Recover-clause-err : goal.returns-in_err-rebuilt-in-Recover-clause-err
-returns-in_err-rebuilt-in-Recover-clause-err g c =
-    let p = err_from_is_err_and c.from_residual-in_err-rebuilt-in-Recover.result c.from_residual-in_err-rebuilt-in-Recover.ensures.1 in
-    let d = c.in_ok-drive_end.ensures.drove in
+pub returns-in-Err-rebuild-clause-err : goal.returns-in-Err-rebuild-clause-err
+returns-in-Err-rebuild-clause-err g c =
+    let d = c.in-Ok-Recover.ensures.drove in
     let a = g.C.Cluster.shown c.args.cluster.now in
     let z = g.C.Cluster.shown d.before in
     let m = g.C.Cluster.shown c.drive_end.new.cluster in
     let e = g.met.C.Cluster.ends_row d.before c.drive_end.new.cluster c.args.pipe.link d.ended in
-    let r = recovers_is d.last c.in_ok-drive_end.field-0 c.in-Recover.failed c.in-Recover.replay d.is_core d.has_ended d.is c.in-Recover.is in
-    rw (p.1, p.2)
-    (once_given_up c.args.settings.now c.args.pipe a z m d.last c.requires.standing c.requires.ending.0 d.drove e d.is_core
-    c.in-Recover.failed r.0 (name_of c.args.namenode.now) c.in-Recover.replay c.args.length 0 c.requires.few.1 c.with_length-plan.result r.1
-    c.with_length-plan.ensures c.in_err-rebuilt-in-Recover.field-0.0 (g.C.Cluster.shown c.rebuild.new.cluster)
-    c.in_err-rebuilt-in-Recover.ensures.err)
+    let r = recovers_is d.last c.in-Ok-Recover.field-0 c.in-Ok-Recover.failed c.in-Ok-Recover.replay d.is_core d.has_ended d.is c.in-Ok-Recover.field-0-is in
+    once_given_up c.args.settings.now c.args.pipe a z m d.last c.requires.standing c.requires.ending.0 d.drove e d.is_core
+    c.in-Ok-Recover.failed r.0 (name_of c.args.namenode.now) c.in-Ok-Recover.replay c.args.length 0 c.requires.few.1 c.with_length-plan.result r.1
+    c.with_length-plan.ensures c.in-Err-rebuild.fault (g.C.Cluster.shown c.rebuild.new.cluster)
+    c.in-Err-rebuild.ensures.err
 
-pub returns-in-Success-clause-ok : goal.returns-in-Success-clause-ok
-returns-in-Success-clause-ok g c =
-    let d = c.in_ok-drive_end.ensures.drove in
+pub returns-in-Ok-Success-clause-ok : goal.returns-in-Ok-Success-clause-ok
+returns-in-Ok-Success-clause-ok g c =
+    let d = c.in-Ok-Success.ensures.drove in
     let a = g.C.Cluster.shown c.args.cluster.now in
     let z = g.C.Cluster.shown d.before in
     let m = g.C.Cluster.shown c.drive_end.new.cluster in
     let e = g.met.C.Cluster.ends_row d.before c.drive_end.new.cluster c.args.pipe.link d.ended in
     finishes c.args.settings.now c.args.pipe a z m d.last c.requires.standing c.requires.ending.0 d.drove e d.is_core
-    (d.none_left c.requires.ending.0 (done_is d.last c.in_ok-drive_end.field-0 d.has_ended d.is c.in-Success.is))
+    (d.none_left c.requires.ending.0 (done_is d.last c.in-Ok-Success.field-0 d.has_ended d.is c.in-Ok-Success.field-0-is))
 
-pub returns-in-Bad-clause-err : goal.returns-in-Bad-clause-err
-returns-in-Bad-clause-err g c =
-    let d = c.in_ok-drive_end.ensures.drove in
+pub returns-in-Ok-Bad-clause-err : goal.returns-in-Ok-Bad-clause-err
+returns-in-Ok-Bad-clause-err g c =
+    let d = c.in-Ok-Bad.ensures.drove in
     let a = g.C.Cluster.shown c.args.cluster.now in
     let z = g.C.Cluster.shown d.before in
     let m = g.C.Cluster.shown c.drive_end.new.cluster in
     let e = g.met.C.Cluster.ends_row d.before c.drive_end.new.cluster c.args.pipe.link d.ended in
-    once_bad c.args.settings.now c.args.pipe a z m d.last c.requires.standing c.requires.ending.0 d.drove e d.is_core c.in-Bad.seqno _
-    (bad_is d.last c.in_ok-drive_end.field-0 c.in-Bad.seqno d.has_ended d.is c.in-Bad.is)
+    once_bad c.args.settings.now c.args.pipe a z m d.last c.requires.standing c.requires.ending.0 d.drove e d.is_core c.in-Ok-Bad.seqno _
+    (bad_is d.last c.in-Ok-Bad.field-0 c.in-Ok-Bad.seqno d.has_ended d.is c.in-Ok-Bad.field-0-is)
 
-pub returns-in_ok-rebuilt-in-Recover-clause-ok : goal.returns-in_ok-rebuilt-in-Recover-clause-ok
-returns-in_ok-rebuilt-in-Recover-clause-ok g c =
-    let d = c.in_ok-drive_end.ensures.drove in
+pub returns-in-Ok-clause-ok : goal.returns-in-Ok-clause-ok
+returns-in-Ok-clause-ok g c =
+    let d = c.in-Ok-Recover.ensures.drove in
     let a = g.C.Cluster.shown c.args.cluster.now in
     let z = g.C.Cluster.shown d.before in
     let m = g.C.Cluster.shown c.drive_end.new.cluster in
     let e = g.met.C.Cluster.ends_row d.before c.drive_end.new.cluster c.args.pipe.link d.ended in
-    let r = recovers_is d.last c.in_ok-drive_end.field-0 c.in-Recover.failed c.in-Recover.replay d.is_core d.has_ended d.is c.in-Recover.is in
+    let r = recovers_is d.last c.in-Ok-Recover.field-0 c.in-Ok-Recover.failed c.in-Ok-Recover.replay d.is_core d.has_ended d.is c.in-Ok-Recover.field-0-is in
     let some : length c.as_slice.result.now ≢ 0 = eqb-false (length c.as_slice.result.now) 0 (sym c.is_empty.ensures ∙ c.if-is_empty.false) in
     once_rebuilt c.args.settings.now c.args.pipe a z m d.last c.requires.standing c.requires.ending.0 d.drove e d.is_core
-    c.in-Recover.failed r.0 (name_of c.args.namenode.now) c.in-Recover.replay c.args.length 0 c.requires.few.1 c.with_length-plan.result r.1
-    c.with_length-plan.ensures c.in_ok-rebuilt-in-Recover.rebuilt (g.C.Cluster.shown c.rebuild.new.cluster)
-    c.in_ok-rebuilt-in-Recover.ensures.ok (omega (arith, ap length c.as_slice.ensures, some))
+    c.in-Ok-Recover.failed r.0 (name_of c.args.namenode.now) c.in-Ok-Recover.replay c.args.length 0 c.requires.few.1 c.with_length-plan.result r.1
+    c.with_length-plan.ensures c.in-Ok.rebuilt (g.C.Cluster.shown c.rebuild.new.cluster)
+    c.in-Ok.ensures.ok (omega (arith, ap length c.as_slice.ensures, some))

@@ -1,6 +1,5 @@
 -- The goals of push_once.
 use Rattle.std.proofs.Common.{rules, ◌≡◌, None, IsSome}
-use Rattle.std.proofs.lemmas.Result.{err_from_is_err_and}
 use Rattle.hdfs_block_writer.proofs.Pushed.{push_stopped, pushed_or_not}
 use Rattle.hdfs_block_writer.proofs.PushedEnded.{back_few, back_given_up, back_not_done, back_rebuilt, back_standing}
 use Rattle.hdfs_block_writer.proofs.pushing.push_once.Goals as goal
@@ -30,19 +29,17 @@ rebuild_ended-requires-clause-few g c = rw c.bytes_of-unsent.ensures
     (back_few c.args.settings.now (g.C.Cluster.shown c.args.cluster.now) (g.C.Cluster.shown c.drive_push.new.cluster) c.args.pipe
     c.args.length c.args.packet c.drive_push.new.core c.requires.can c.in-Ok.back c.in-Ok.ensures.drove c.in-Ok.ensures.back)
 
-pub returns-in_err-pipe-in-Ok-clause-err : goal.returns-in_err-pipe-in-Ok-clause-err
-returns-in_err-pipe-in-Ok-clause-err g c =
-    let p = err_from_is_err_and c.from_residual.result c.from_residual.ensures.1 in
-    rw (p.1, p.2)
-    (back_given_up c.args.settings.now (g.C.Cluster.shown c.args.cluster.now) (g.C.Cluster.shown c.drive_push.new.cluster) c.args.pipe
+pub returns-in-Err-rebuild_ended-clause-err : goal.returns-in-Err-rebuild_ended-clause-err
+returns-in-Err-rebuild_ended-clause-err g c =
+    back_given_up c.args.settings.now (g.C.Cluster.shown c.args.cluster.now) (g.C.Cluster.shown c.drive_push.new.cluster) c.args.pipe
     c.args.length c.args.packet c.drive_push.new.core c.requires.can (g.C.Cluster.shown c.rebuild_ended.new.cluster) c.in-Ok.back
-    c.in-Ok.ensures.drove c.in_err-pipe-in-Ok.field-0.0 c.in_err-pipe-in-Ok.ensures.err)
+    c.in-Ok.ensures.drove c.in-Err-rebuild_ended.fault c.in-Err-rebuild_ended.ensures.err
 
-pub returns-in_ok-pipe-in-Ok-clause-ok : goal.returns-in_ok-pipe-in-Ok-clause-ok
-returns-in_ok-pipe-in-Ok-clause-ok g c =
+pub returns-in-Ok-rebuild_ended-clause-ok : goal.returns-in-Ok-rebuild_ended-clause-ok
+returns-in-Ok-rebuild_ended-clause-ok g c =
     back_rebuilt c.args.settings.now (g.C.Cluster.shown c.args.cluster.now) (g.C.Cluster.shown c.drive_push.new.cluster) c.args.pipe
     c.args.length c.args.packet c.drive_push.new.core c.requires.can (g.C.Cluster.shown c.rebuild_ended.new.cluster) c.in-Ok.back
-    c.in-Ok.ensures.drove c.in-Ok.ensures.back c.in_ok-pipe-in-Ok.pipe c.in_ok-pipe-in-Ok.ensures.ok
+    c.in-Ok.ensures.drove c.in-Ok.ensures.back c.in-Ok-rebuild_ended.pipe c.in-Ok-rebuild_ended.ensures.ok
 
 pub returns-in-Err-clause-err : goal.returns-in-Err-clause-err
 returns-in-Err-clause-err g c =

@@ -1,6 +1,5 @@
 -- The goals of rebuild_ended.
 use Rattle.std.proofs.Common.{◌≡◌, [], sym, ◌∙◌, ap, subst, arith}
-use Rattle.std.proofs.lemmas.Result.{err_from_is_err_and}
 use Rattle.hdfs_namenode.specs.Clients.{name_of, proxy_of}
 use Rattle.hdfs_namenode.proofs.Services.{reaches_same, same_service_refl}
 use Rattle.hdfs_blocks.specs.Carrying.{total}
@@ -10,69 +9,65 @@ use Rattle.hdfs_block_writer.proofs.EndedRebuilt.{bad_is, ended_bad, ended_given
 use Rattle.hdfs_block_writer.proofs.Standing.{can_rebuild_standing, standing_drove}
 use Rattle.hdfs_block_writer.proofs.pushing.rebuild_ended.Goals as goal
 
-pub returns-in_err-failed-clause-err : goal.returns-in_err-failed-clause-err
-returns-in_err-failed-clause-err g c =
-    let p = err_from_is_err_and c.from_residual.result c.from_residual.ensures.1 in
-    let s = c.in_err-failed.ensures.err in
-    rw (p.1, p.2)
-    (ended_stopped c.args.settings.now c.args.pipe (g.C.Cluster.shown c.args.cluster.now) (g.C.Cluster.shown s.before)
-    (g.C.Cluster.shown c.drive_end.new.cluster) s.stopped (g.met.C.Cluster.ends_row s.before c.drive_end.new.cluster c.args.pipe.link s.ended))
+pub returns-in-Err-clause-err : goal.returns-in-Err-clause-err
+returns-in-Err-clause-err g c =
+    let s = c.in-Err.ensures.err in
+    ended_stopped c.args.settings.now c.args.pipe (g.C.Cluster.shown c.args.cluster.now) (g.C.Cluster.shown s.before)
+    (g.C.Cluster.shown c.drive_end.new.cluster) s.stopped (g.met.C.Cluster.ends_row s.before c.drive_end.new.cluster c.args.pipe.link s.ended)
 
-pub rebuild-requires-clause-reaches : goal.rebuild-requires-clause-reaches
-rebuild-requires-clause-reaches g c =
-    let d = c.in_ok-failed.ensures.drove in
+pub rebuild-rebuilt-requires-clause-reaches : goal.rebuild-rebuilt-requires-clause-reaches
+rebuild-rebuilt-requires-clause-reaches g c =
+    let d = c.in-Ok-Recover.ensures.drove in
     let e = g.met.C.Cluster.ends_row d.before c.drive_end.new.cluster c.args.pipe.link d.ended in
     reaches_same (proxy_of c.args.namenode.now) (proxy_of c.args.namenode.now) (g.C.Cluster.shown c.args.cluster.now)
     (g.C.Cluster.shown c.drive_end.new.cluster) (same_service_refl (proxy_of c.args.namenode.now))
     (e.writes.only.later.namenodes ∙ d.drove.on.only.later.namenodes) c.requires.reaches
 
-pub rebuild-requires-clause-can : goal.rebuild-requires-clause-can
-rebuild-requires-clause-can g c =
-    let d = c.in_ok-failed.ensures.drove in
+pub rebuild-rebuilt-requires-clause-can : goal.rebuild-rebuilt-requires-clause-can
+rebuild-rebuilt-requires-clause-can g c =
+    let d = c.in-Ok-Recover.ensures.drove in
     let a = g.C.Cluster.shown c.args.cluster.now in
     let z = g.C.Cluster.shown d.before in
-    let r = recovers_is d.last c.in_ok-failed.field-0 c.in-Recover.failed c.in-Recover.replay d.is_core d.has_ended d.is c.in-Recover.is in
+    let r = recovers_is d.last c.in-Ok-Recover.field-0 c.in-Ok-Recover.failed c.in-Ok-Recover.replay d.is_core d.has_ended d.is c.in-Ok-Recover.field-0-is in
     let same : d.last.pushed ≡ c.args.pipe.core.pushed = ended_same c.args.pipe a z d.last c.requires.ended.0 d.drove in
-    subst (λ (plan : BlockPlan). CanRebuild plan c.args.settings.now c.in-Recover.failed c.in-Recover.replay c.args.unsent)
+    subst (λ (plan : BlockPlan). CanRebuild plan c.args.settings.now c.in-Ok-Recover.failed c.in-Ok-Recover.replay c.args.unsent)
     (sym c.with_length-plan.ensures)
     (can_rebuild_standing c.args.settings.now (record { plan = c.args.pipe.plan; core = d.last; link = c.args.pipe.link }) z
     (standing_drove c.args.settings.now c.args.pipe [] [] d.last a z d.drove d.is_core c.requires.standing)
-    c.in-Recover.failed r.0 c.args.length c.args.unsent c.in-Recover.replay r.1
+    c.in-Ok-Recover.failed r.0 c.args.length c.args.unsent c.in-Ok-Recover.replay r.1
     (omega (arith, c.requires.few.0, ap total same), c.requires.few.1))
 
-pub returns-in_err-rebuilt-in-Recover-clause-err : goal.returns-in_err-rebuilt-in-Recover-clause-err
-returns-in_err-rebuilt-in-Recover-clause-err g c =
-    let p = err_from_is_err_and c.from_residual-in_err-rebuilt-in-Recover.result c.from_residual-in_err-rebuilt-in-Recover.ensures.1 in
-    let d = c.in_ok-failed.ensures.drove in
+pub returns-in-Err-rebuilt-clause-err : goal.returns-in-Err-rebuilt-clause-err
+returns-in-Err-rebuilt-clause-err g c =
+    let d = c.in-Ok-Recover.ensures.drove in
     let a = g.C.Cluster.shown c.args.cluster.now in
     let z = g.C.Cluster.shown d.before in
     let m = g.C.Cluster.shown c.drive_end.new.cluster in
     let e = g.met.C.Cluster.ends_row d.before c.drive_end.new.cluster c.args.pipe.link d.ended in
-    let r = recovers_is d.last c.in_ok-failed.field-0 c.in-Recover.failed c.in-Recover.replay d.is_core d.has_ended d.is c.in-Recover.is in
-    rw (p.1, p.2)
-    (ended_given_up c.args.settings.now c.args.pipe a z m d.last c.requires.standing c.requires.ended.0 d.drove e d.is_core
-    (name_of c.args.namenode.now) c.in-Recover.failed c.in-Recover.replay c.args.length c.args.unsent c.requires.few.1
-    c.with_length-plan.result r.0 r.1 c.with_length-plan.ensures c.in_err-rebuilt-in-Recover.field-0.0
-    (g.C.Cluster.shown c.rebuild.new.cluster) c.in_err-rebuilt-in-Recover.ensures.err)
+    let r = recovers_is d.last c.in-Ok-Recover.field-0 c.in-Ok-Recover.failed c.in-Ok-Recover.replay d.is_core d.has_ended d.is c.in-Ok-Recover.field-0-is in
+    ended_given_up c.args.settings.now c.args.pipe a z m d.last c.requires.standing c.requires.ended.0 d.drove e d.is_core
+    (name_of c.args.namenode.now) c.in-Ok-Recover.failed c.in-Ok-Recover.replay c.args.length c.args.unsent c.requires.few.1
+    c.with_length-plan.result r.0 r.1 c.with_length-plan.ensures c.in-Err-rebuilt.fault
+    (g.C.Cluster.shown c.rebuild-rebuilt.new.cluster) c.in-Err-rebuilt.ensures.err
 
-pub returns-in_ok-rebuilt-in-Recover-clause-ok : goal.returns-in_ok-rebuilt-in-Recover-clause-ok
-returns-in_ok-rebuilt-in-Recover-clause-ok g c =
-    let d = c.in_ok-failed.ensures.drove in
+pub returns-in-Ok-clause-ok : goal.returns-in-Ok-clause-ok
+returns-in-Ok-clause-ok g c =
+    let d = c.in-Ok-Recover.ensures.drove in
     let a = g.C.Cluster.shown c.args.cluster.now in
     let z = g.C.Cluster.shown d.before in
     let m = g.C.Cluster.shown c.drive_end.new.cluster in
     let e = g.met.C.Cluster.ends_row d.before c.drive_end.new.cluster c.args.pipe.link d.ended in
-    let r = recovers_is d.last c.in_ok-failed.field-0 c.in-Recover.failed c.in-Recover.replay d.is_core d.has_ended d.is c.in-Recover.is in
+    let r = recovers_is d.last c.in-Ok-Recover.field-0 c.in-Ok-Recover.failed c.in-Ok-Recover.replay d.is_core d.has_ended d.is c.in-Ok-Recover.field-0-is in
     ended_rebuilt c.args.settings.now c.args.pipe a z m d.last c.requires.standing c.requires.ended.0 d.drove e d.is_core
-    (name_of c.args.namenode.now) c.in-Recover.failed c.in-Recover.replay c.args.length c.args.unsent c.requires.few.1
-    c.with_length-plan.result r.0 r.1 c.with_length-plan.ensures c.in_ok-rebuilt-in-Recover.rebuilt
-    (g.C.Cluster.shown c.rebuild.new.cluster) c.in_ok-rebuilt-in-Recover.ensures.ok
+    (name_of c.args.namenode.now) c.in-Ok-Recover.failed c.in-Ok-Recover.replay c.args.length c.args.unsent c.requires.few.1
+    c.with_length-plan.result r.0 r.1 c.with_length-plan.ensures c.in-Ok.rebuilt
+    (g.C.Cluster.shown c.rebuild-rebuilt.new.cluster) c.in-Ok.ensures.ok
 
-pub returns-in-Bad-clause-err : goal.returns-in-Bad-clause-err
-returns-in-Bad-clause-err g c =
-    let d = c.in_ok-failed.ensures.drove in
+pub returns-in-Ok-Bad-clause-err : goal.returns-in-Ok-Bad-clause-err
+returns-in-Ok-Bad-clause-err g c =
+    let d = c.in-Ok-Bad.ensures.drove in
     let z = g.C.Cluster.shown d.before in
     let m = g.C.Cluster.shown c.drive_end.new.cluster in
     ended_bad c.args.settings.now c.args.pipe (g.C.Cluster.shown c.args.cluster.now) z m d.last c.requires.standing c.requires.ended.0
-    d.drove (g.met.C.Cluster.ends_row d.before c.drive_end.new.cluster c.args.pipe.link d.ended) d.is_core c.in-Bad.seqno _
-    (bad_is d.last c.in_ok-failed.field-0 c.in-Bad.seqno d.has_ended d.is c.in-Bad.is)
+    d.drove (g.met.C.Cluster.ends_row d.before c.drive_end.new.cluster c.args.pipe.link d.ended) d.is_core c.in-Ok-Bad.seqno _
+    (bad_is d.last c.in-Ok-Bad.field-0 c.in-Ok-Bad.seqno d.has_ended d.is c.in-Ok-Bad.field-0-is)

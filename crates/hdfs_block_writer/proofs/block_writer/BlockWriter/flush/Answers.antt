@@ -38,9 +38,9 @@ returns-in-Ok-clause-holds g c =
     let piped : w.pipe ≡ Some c.in-Some-take.pipe = search rules in
     let is : w.packet ≡ Some c.in-Some.packet = search rules in
     let held = c.requires.holds c.in-Some-take.pipe piped in (
-      holds_sent w (record w { pipe = Some c.in-Ok.pipe; packet = c.take.new.self; seqno = w.seqno + 1 }) c.in-Some-take.pipe c.in-Ok.pipe
+      holds_sent w (record w { pipe = c.replace.new.self; packet = c.take.new.self; seqno = w.seqno + 1 }) c.in-Some-take.pipe c.in-Ok.pipe
           c.in-Some.packet (g.C.Cluster.shown c.args.cluster.now) (g.C.Cluster.shown c.push.new.cluster) held.0 held.1 is c.in-Ok.ensures.ok
-          (record { settings = refl; block_size = refl; chunk = refl; packet_size = refl }) refl refl c.take.ensures.after refl,
+          (record { settings = refl; block_size = refl; chunk = refl; packet_size = refl }) refl refl c.take.ensures.after c.replace.ensures.after,
       c.take.ensures.after,
     )
 
@@ -50,9 +50,9 @@ returns-in-Ok-clause-full g c =
     let piped : w.pipe ≡ Some c.in-Some-take.pipe = search rules in
     let is : w.packet ≡ Some c.in-Some.packet = search rules in
     let held = c.requires.holds c.in-Some-take.pipe piped in
-    stays_full w (record w { pipe = Some c.in-Ok.pipe; packet = c.take.new.self; seqno = w.seqno + 1 }) c.in-Some-take.pipe c.in-Ok.pipe
+    stays_full w (record w { pipe = c.replace.new.self; packet = c.take.new.self; seqno = w.seqno + 1 }) c.in-Some-take.pipe c.in-Ok.pipe
     c.in-Some.packet (g.C.Cluster.shown c.args.cluster.now) (g.C.Cluster.shown c.push.new.cluster) held.0 held.1 is c.in-Ok.ensures.ok
-    (record { settings = refl; block_size = refl; chunk = refl; packet_size = refl }) refl refl c.take.ensures.after refl piped
+    (record { settings = refl; block_size = refl; chunk = refl; packet_size = refl }) refl refl c.take.ensures.after c.replace.ensures.after piped
 
 pub returns-in-Ok-clause-wrote : goal.returns-in-Ok-clause-wrote
 returns-in-Ok-clause-wrote g c =
@@ -60,9 +60,9 @@ returns-in-Ok-clause-wrote g c =
     let piped : w.pipe ≡ Some c.in-Some-take.pipe = search rules in
     let is : w.packet ≡ Some c.in-Some.packet = search rules in
     let held = c.requires.holds c.in-Some-take.pipe piped in
-    wrote_sent w (record w { pipe = Some c.in-Ok.pipe; packet = c.take.new.self; seqno = w.seqno + 1 }) c.in-Some-take.pipe c.in-Ok.pipe
+    wrote_sent w (record w { pipe = c.replace.new.self; packet = c.take.new.self; seqno = w.seqno + 1 }) c.in-Some-take.pipe c.in-Ok.pipe
     c.in-Some.packet (g.C.Cluster.shown c.args.cluster.now) (g.C.Cluster.shown c.push.new.cluster) held.0 held.1 is c.in-Ok.ensures.ok
-    (record { settings = refl; block_size = refl; chunk = refl; packet_size = refl }) refl refl c.take.ensures.after refl piped
+    (record { settings = refl; block_size = refl; chunk = refl; packet_size = refl }) refl refl c.take.ensures.after c.replace.ensures.after piped
 
 pub returns-in-Err-clause-err : goal.returns-in-Err-clause-err
 returns-in-Err-clause-err g c =

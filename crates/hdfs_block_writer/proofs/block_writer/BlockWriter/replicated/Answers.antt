@@ -12,14 +12,14 @@ returns-clause-stands g c =
       block_size = c.args.block_size;
       chunk = c.args.plan.chunk;
       packet_size = c.args.packet_size;
-      pipe = Some (record { plan = c.args.plan; core = c.in_ok-core.core; link = c.in_ok-core.link });
+      pipe = Some (record { plan = c.args.plan; core = c.in-Ok.opened.0; link = c.in-Ok.opened.1 });
       packet = None;
       length = c.args.plan.block.b.num_bytes;
       seqno = 0;
     } in
-    new_stands c.args.plan c.args.settings.now c.in_ok-core.link c.client_name-client.result.now w c.in_ok-core.core
+    new_stands c.args.plan c.args.settings.now c.in-Ok.opened.1 c.client_name-client.result.now w c.in-Ok.opened.0
     (g.C.Cluster.shown c.args.cluster.now) (g.C.Cluster.shown c.open.new.cluster) c.requires.plan.0 c.requires.plan.1
-    (c.requires.sizes.1, c.requires.sizes.2) c.in_ok-core.ensures.core c.in_ok-core.ensures.opened refl refl refl refl c.requires.sizes.0 refl
+    (c.requires.sizes.1, c.requires.sizes.2) c.in-Ok.ensures.core c.in-Ok.ensures.opened refl refl refl refl c.requires.sizes.0 refl
     c.requires.size
 
 pub returns-clause-begins : goal.returns-clause-begins
@@ -30,11 +30,11 @@ returns-clause-begins g c =
       block_size = c.args.block_size;
       chunk = c.args.plan.chunk;
       packet_size = c.args.packet_size;
-      pipe = Some (record { plan = c.args.plan; core = c.in_ok-core.core; link = c.in_ok-core.link });
+      pipe = Some (record { plan = c.args.plan; core = c.in-Ok.opened.0; link = c.in-Ok.opened.1 });
       packet = None;
       length = c.args.plan.block.b.num_bytes;
       seqno = 0;
     } in
-    new_begins c.args.plan c.args.settings.now c.in_ok-core.link c.client_name-client.result.now w c.in_ok-core.core
+    new_begins c.args.plan c.args.settings.now c.in-Ok.opened.1 c.client_name-client.result.now w c.in-Ok.opened.0
     (g.C.Cluster.shown c.args.cluster.now) (g.C.Cluster.shown c.open.new.cluster) c.requires.plan.0 c.requires.plan.1
-    (c.requires.sizes.1, c.requires.sizes.2) c.in_ok-core.ensures.core c.in_ok-core.ensures.opened refl refl refl refl
+    (c.requires.sizes.1, c.requires.sizes.2) c.in-Ok.ensures.core c.in-Ok.ensures.opened refl refl refl refl

@@ -1,6 +1,5 @@
 -- The goals of Session::append.
 use Rattle.std.proofs.Common.{◌≡◌, ℕ, List, true, Some, Ok, Err, refl, sym, ◌∙◌, ap, subst, unwrap_or}
-use Rattle.std.proofs.lemmas.Map.Text.{btree_map_updates_text}
 use Rattle.std.proofs.lemmas.Result.{err_from_is_err_and}
 use Rattle.std.specs.BTreeMap.{get_by_text}
 use Rattle.std.specs.String.{string_bytes}
@@ -105,9 +104,9 @@ returns-in_err-copy-clause-acts g c =
     prepares (λ r. refl) (remembers_asked session c.append.new.self c.append.ensures.keeps) (appending c.args.path client 4) c.args.path called (over called) looks
     (λ q told. (let one = was_reopened c.args.path client 4 q m t appended told had in (one.0, one.1, one.3))))
 
-pub returns-in_err-insert-clause-acts : goal.returns-in_err-insert-clause-acts
-returns-in_err-insert-clause-acts g c =
-    let p = err_from_is_err_and c.from_residual-in_err-insert.result c.from_residual-in_err-insert.ensures.1 in
+pub returns-in_err-keep-clause-acts : goal.returns-in_err-keep-clause-acts
+returns-in_err-keep-clause-acts g c =
+    let p = err_from_is_err_and c.from_residual-in_err-keep.result c.from_residual-in_err-keep.ensures.1 in
     let s = g.C.Cluster.shown c.args.cluster.now in
     let m = g.C.Cluster.shown c.defaults.new.cluster in
     let t = g.C.Cluster.shown c.append.new.cluster in
@@ -122,8 +121,8 @@ returns-in_err-insert-clause-acts g c =
     (reaches_prepared (g.C.Cluster.shown c.args.cluster.now) (g.C.Cluster.shown c.defaults.new.cluster) c.args.self.now c.defaults.new.self c.in_ok-defaults.ensures.prepares c.requires.stands.reaches) asked in
     let looks = looks_from-Leaves m t had.relays.leaves in
     let over = λ (called : absolute c.args.self.now.settings.home name ≡ c.args.path). appended_over s m c.args.self.now session c.args.path d prepares c.in_ok-defaults.ensures.ok c.requires.path c.requires.placed (g.met.C.Cluster.sound c.defaults.new.cluster) name client 4 called in
-    rw (p.1, p.2) (λ called. unkept_acts (commands.Append name) (append_opens name) s m t c.args.self.now session (record session { namenode = c.append.new.self; writers = c.insert.new.self }) c.requires.stands
-    prepares (kept_by session.writers c.insert.new.self c.in_err-insert.ensures.err) (remembers_on session c.append.new.self c.insert.new.self c.append.ensures.keeps) (appending c.args.path client 4) c.args.path called (over called) looks
+    rw (p.1, p.2) (λ called. unkept_acts (commands.Append name) (append_opens name) s m t c.args.self.now session (record session { namenode = c.append.new.self; writers = c.keep.new.writers }) c.requires.stands
+    prepares (kept_by session.writers c.keep.new.writers c.in_err-keep.ensures.err) (remembers_on session c.append.new.self c.keep.new.writers c.append.ensures.keeps) (appending c.args.path client 4) c.args.path called (over called) looks
     (λ q told. (let one = was_reopened c.args.path client 4 q m t appended told had in (one.0, one.1, one.3))))
 
 pub returns-clause-acts : goal.returns-clause-acts
@@ -147,16 +146,16 @@ returns-clause-acts g c = λ called.
     let sizes : c.sizes-sizes.result ≡ sizes_by session d (unwrap_or stat.block_replication 0) (unwrap_or stat.blocksize 0) =
     c.sizes-sizes.ensures ∙ ap (λ (x : ℕ). sizes_by session d x c.unwrap_or-2.result) c.unwrap_or.ensures ∙ ap (λ (x : ℕ). sizes_by session d (unwrap_or stat.block_replication 0) x) c.unwrap_or-2.ensures in
     appended_acts s m c.args.self.now session c.args.path d prepares c.in_ok-defaults.ensures.ok c.requires.path c.requires.placed (g.met.C.Cluster.sound c.defaults.new.cluster)
-    t (record session { namenode = c.append.new.self; writers = c.insert.new.self }) writer
+    t (record session { namenode = c.append.new.self; writers = c.keep.new.writers }) writer
     (record {
-      remembers = remembers_trans c.args.self.now session (record session { namenode = c.append.new.self; writers = c.insert.new.self }) prepares.remembers
-          (remembers_on session c.append.new.self c.insert.new.self c.append.ensures.keeps);
+      remembers = remembers_trans c.args.self.now session (record session { namenode = c.append.new.self; writers = c.keep.new.writers }) prepares.remembers
+          (remembers_on session c.append.new.self c.keep.new.writers c.append.ensures.keeps);
       fine = c.requires.fine;
       free = c.requires.placed;
-      put = put_by session.writers c.insert.new.self c.args.self.now.writers (string_bytes c.in_ok-key.key) c.args.path writer prepares.writers (c.in_ok-key.ensures.ok ∙ c.as_str.ensures)
-          (btree_map_updates_text (string_bytes c.in_ok-key.key) session.writers c.insert.new.self (Some writer) c.in_ok-insert.ensures.updates);
+      put = put_by session.writers c.keep.new.writers c.args.self.now.writers (string_bytes c.in_ok-key.key) c.args.path writer prepares.writers (c.in_ok-key.ensures.ok ∙ c.as_str.ensures)
+          c.in_ok-keep.ensures.put;
     })
-    c.requires.stands (c.appended-writer.ensures.stands t) c.appended-writer.ensures.path.0 c.appended-writer.ensures.idle.1 c.appended-writer.ensures.idle.0 (remembers_on session c.append.new.self c.insert.new.self c.append.ensures.keeps) (c.append.ensures.keeps.defaults ∙ c.in_ok-defaults.ensures.ok.known)
+    c.requires.stands (c.appended-writer.ensures.stands t) c.appended-writer.ensures.path.0 c.appended-writer.ensures.idle.1 c.appended-writer.ensures.idle.0 (remembers_on session c.append.new.self c.keep.new.writers c.append.ensures.keeps) (c.append.ensures.keeps.defaults ∙ c.in_ok-defaults.ensures.ok.known)
     name client 4 appended stat called c.in-Some.is c.appended-writer.ensures.tail (c.appended-writer.ensures.path.1 ∙ sizes) had (sym c.is_some-encrypted.ensures ∙ c.if-encrypted.false)
 
 pub returns-in_err-defaults-clause-whole : goal.returns-in_err-defaults-clause-whole
@@ -226,9 +225,9 @@ returns-in_err-copy-clause-whole g c =
     (λ p q told may. appending_spares c.args.path client 4 p q (g.met.C.Cluster.sound c.defaults.new.cluster p told) may)
     (λ q told. (let one = was_reopened c.args.path client 4 q m t appended told had in (one.0, one.1, one.3))) p.0)
 
-pub returns-in_err-insert-clause-whole : goal.returns-in_err-insert-clause-whole
-returns-in_err-insert-clause-whole g c =
-    let p = err_from_is_err_and c.from_residual-in_err-insert.result c.from_residual-in_err-insert.ensures.1 in
+pub returns-in_err-keep-clause-whole : goal.returns-in_err-keep-clause-whole
+returns-in_err-keep-clause-whole g c =
+    let p = err_from_is_err_and c.from_residual-in_err-keep.result c.from_residual-in_err-keep.ensures.1 in
     let s = g.C.Cluster.shown c.args.cluster.now in
     let m = g.C.Cluster.shown c.defaults.new.cluster in
     let t = g.C.Cluster.shown c.append.new.cluster in
@@ -240,8 +239,8 @@ returns-in_err-insert-clause-whole g c =
     let asked = appending_as g.C.Cluster.serves c.as_str-2.result.now c.args.path client 4 (Ok (answers.Append appended)) (through c.defaults.new.self.namenode c.defaults.new.cluster) (through c.append.new.self c.append.new.cluster) c.as_str-2.ensures c.in_ok-block.ensures.asked in
     let had = came g.C.Cluster.shown g.C.Cluster.serves g.met.C.Cluster.serves_rows g.met.C.Cluster.active_below true (appending c.args.path client 4) (through c.defaults.new.self.namenode c.defaults.new.cluster) (Ok (answers.Append appended)) (through c.append.new.self c.append.new.cluster)
     (reaches_prepared (g.C.Cluster.shown c.args.cluster.now) (g.C.Cluster.shown c.defaults.new.cluster) c.args.self.now c.defaults.new.self c.in_ok-defaults.ensures.prepares c.requires.stands.reaches) asked in
-    rw p.1 (λ called. late_whole (commands.Append name) s m t c.args.self.now session (record session { namenode = c.append.new.self; writers = c.insert.new.self }) prepares
-    (kept_by session.writers c.insert.new.self c.in_err-insert.ensures.err) c.args.path called
+    rw p.1 (λ called. late_whole (commands.Append name) s m t c.args.self.now session (record session { namenode = c.append.new.self; writers = c.keep.new.writers }) prepares
+    (kept_by session.writers c.keep.new.writers c.in_err-keep.ensures.err) c.args.path called
     (appending c.args.path client 4)
     (λ p q told may. appending_spares c.args.path client 4 p q (g.met.C.Cluster.sound c.defaults.new.cluster p told) may)
     (λ q told. (let one = was_reopened c.args.path client 4 q m t appended told had in (one.0, one.1, one.3))) p.0)
@@ -264,14 +263,14 @@ returns-clause-whole g c = λ called.
     let writer = c.appended-writer.result in
     let sizes : c.sizes-sizes.result ≡ sizes_by session d (unwrap_or stat.block_replication 0) (unwrap_or stat.blocksize 0) =
     c.sizes-sizes.ensures ∙ ap (λ (x : ℕ). sizes_by session d x c.unwrap_or-2.result) c.unwrap_or.ensures ∙ ap (λ (x : ℕ). sizes_by session d (unwrap_or stat.block_replication 0) x) c.unwrap_or-2.ensures in
-    appended_whole s m t c.args.self.now session (record session { namenode = c.append.new.self; writers = c.insert.new.self }) prepares (g.met.C.Cluster.sound c.defaults.new.cluster) c.args.path writer
+    appended_whole s m t c.args.self.now session (record session { namenode = c.append.new.self; writers = c.keep.new.writers }) prepares (g.met.C.Cluster.sound c.defaults.new.cluster) c.args.path writer
     (record {
-      remembers = remembers_trans c.args.self.now session (record session { namenode = c.append.new.self; writers = c.insert.new.self }) prepares.remembers
-          (remembers_on session c.append.new.self c.insert.new.self c.append.ensures.keeps);
+      remembers = remembers_trans c.args.self.now session (record session { namenode = c.append.new.self; writers = c.keep.new.writers }) prepares.remembers
+          (remembers_on session c.append.new.self c.keep.new.writers c.append.ensures.keeps);
       fine = c.requires.fine;
       free = c.requires.placed;
-      put = put_by session.writers c.insert.new.self c.args.self.now.writers (string_bytes c.in_ok-key.key) c.args.path writer prepares.writers (c.in_ok-key.ensures.ok ∙ c.as_str.ensures)
-          (btree_map_updates_text (string_bytes c.in_ok-key.key) session.writers c.insert.new.self (Some writer) c.in_ok-insert.ensures.updates);
+      put = put_by session.writers c.keep.new.writers c.args.self.now.writers (string_bytes c.in_ok-key.key) c.args.path writer prepares.writers (c.in_ok-key.ensures.ok ∙ c.as_str.ensures)
+          c.in_ok-keep.ensures.put;
     })
     d name client 4 appended stat called c.in-Some.is c.appended-writer.ensures.tail (c.appended-writer.ensures.path.1 ∙ sizes) had
 

@@ -1,6 +1,5 @@
 -- The goals of Session::create.
 use Rattle.std.proofs.Common.{◌≡◌, ℕ, Bool, cond, true, Some, Ok, Err, refl, sym, ◌∙◌, ap, subst, unwrap_or}
-use Rattle.std.proofs.lemmas.Map.Text.{btree_map_updates_text}
 use Rattle.std.proofs.lemmas.Result.{err_from_is_err_and}
 use Rattle.std.proofs.lemmas.Bool.{false≢true}
 use Rattle.std.specs.BTreeMap.{get_by_text}
@@ -75,9 +74,9 @@ returns-in_err-status-clause-acts g c =
     (reaches_prepared (g.C.Cluster.shown c.args.cluster.now) (g.C.Cluster.shown c.defaults.new.cluster) c.args.self.now c.defaults.new.self c.in_ok-defaults.ensures.prepares c.requires.stands.reaches) asked)
     (λ q. create_repeats c.args.path client options.permission (cond options.overwrite 3 1) options.create_parent r k q))
 
-pub returns-in_err-insert-clause-acts : goal.returns-in_err-insert-clause-acts
-returns-in_err-insert-clause-acts g c =
-    let p = err_from_is_err_and c.from_residual-in_err-insert.result c.from_residual-in_err-insert.ensures.1 in
+pub returns-in_err-keep-clause-acts : goal.returns-in_err-keep-clause-acts
+returns-in_err-keep-clause-acts g c =
+    let p = err_from_is_err_and c.from_residual-in_err-keep.result c.from_residual-in_err-keep.ensures.1 in
     let s = g.C.Cluster.shown c.args.cluster.now in
     let m = g.C.Cluster.shown c.defaults.new.cluster in
     let t = g.C.Cluster.shown c.create.new.cluster in
@@ -95,9 +94,9 @@ returns-in_err-insert-clause-acts g c =
     c.as_str-2.ensures flag c.unwrap_or-replication.ensures c.unwrap_or-block_size.ensures c.in_ok-status.ensures.asked in
     let had = came g.C.Cluster.shown g.C.Cluster.serves g.met.C.Cluster.serves_rows g.met.C.Cluster.active_below true (creating c.args.path client options r k) (through c.defaults.new.self.namenode c.defaults.new.cluster) (Ok (answers.Create status)) (through c.create.new.self c.create.new.cluster)
     (reaches_prepared (g.C.Cluster.shown c.args.cluster.now) (g.C.Cluster.shown c.defaults.new.cluster) c.args.self.now c.defaults.new.self c.in_ok-defaults.ensures.prepares c.requires.stands.reaches) asked in
-    rw (p.1, p.2) (λ name called. unkept_acts (commands.Create name options) (create_opens name options) s m t c.args.self.now c.defaults.new.self (record c.defaults.new.self { namenode = c.create.new.self; writers = c.insert.new.self }) c.requires.stands
-    c.in_ok-defaults.ensures.prepares (kept_by c.defaults.new.self.writers c.insert.new.self c.in_err-insert.ensures.err)
-    (remembers_on c.defaults.new.self c.create.new.self c.insert.new.self c.create.ensures.keeps)
+    rw (p.1, p.2) (λ name called. unkept_acts (commands.Create name options) (create_opens name options) s m t c.args.self.now c.defaults.new.self (record c.defaults.new.self { namenode = c.create.new.self; writers = c.keep.new.writers }) c.requires.stands
+    c.in_ok-defaults.ensures.prepares (kept_by c.defaults.new.self.writers c.keep.new.writers c.in_err-keep.ensures.err)
+    (remembers_on c.defaults.new.self c.create.new.self c.keep.new.writers c.create.ensures.keeps)
     (creating c.args.path client options r k) c.args.path called
     (created_over s m c.args.self.now c.defaults.new.self c.args.path d c.in_ok-defaults.ensures.prepares c.in_ok-defaults.ensures.ok c.requires.path c.requires.placed (g.met.C.Cluster.sound c.defaults.new.cluster) name client options r k called)
     (looks_from-Leaves m t had.relays.leaves)
@@ -140,16 +139,16 @@ returns-clause-acts g c = λ name called.
     let sizes : c.sizes-sizes.result ≡ sizes_by session d r k =
     c.sizes-sizes.ensures ∙ ap (λ (x : ℕ). sizes_by session d x c.unwrap_or-block_size.result) c.unwrap_or-replication.ensures ∙ ap (λ (x : ℕ). sizes_by session d r x) c.unwrap_or-block_size.ensures in
     created_acts s m c.args.self.now session c.args.path d prepares c.in_ok-defaults.ensures.ok c.requires.path c.requires.placed (g.met.C.Cluster.sound c.defaults.new.cluster)
-    t (record session { namenode = c.create.new.self; writers = c.insert.new.self }) writer
+    t (record session { namenode = c.create.new.self; writers = c.keep.new.writers }) writer
     (record {
-      remembers = remembers_trans c.args.self.now session (record session { namenode = c.create.new.self; writers = c.insert.new.self }) prepares.remembers
-          (remembers_on session c.create.new.self c.insert.new.self c.create.ensures.keeps);
+      remembers = remembers_trans c.args.self.now session (record session { namenode = c.create.new.self; writers = c.keep.new.writers }) prepares.remembers
+          (remembers_on session c.create.new.self c.keep.new.writers c.create.ensures.keeps);
       fine = c.requires.fine;
       free = c.requires.placed;
-      put = put_by session.writers c.insert.new.self c.args.self.now.writers (string_bytes c.in_ok-key.key) c.args.path writer prepares.writers (c.in_ok-key.ensures.ok ∙ c.as_str.ensures)
-          (btree_map_updates_text (string_bytes c.in_ok-key.key) session.writers c.insert.new.self (Some writer) c.in_ok-insert.ensures.updates);
+      put = put_by session.writers c.keep.new.writers c.args.self.now.writers (string_bytes c.in_ok-key.key) c.args.path writer prepares.writers (c.in_ok-key.ensures.ok ∙ c.as_str.ensures)
+          c.in_ok-keep.ensures.put;
     })
-    c.requires.stands (c.new-writer.ensures.stands t) c.new-writer.ensures.path.0 c.new-writer.ensures.idle.1 c.new-writer.ensures.idle.0 (remembers_on session c.create.new.self c.insert.new.self c.create.ensures.keeps) (c.create.ensures.keeps.defaults ∙ c.in_ok-defaults.ensures.ok.known) name client options status called
+    c.requires.stands (c.new-writer.ensures.stands t) c.new-writer.ensures.path.0 c.new-writer.ensures.idle.1 c.new-writer.ensures.idle.0 (remembers_on session c.create.new.self c.keep.new.writers c.create.ensures.keeps) (c.create.ensures.keeps.defaults ∙ c.in_ok-defaults.ensures.ok.known) name client options status called
     (sym c.are_limited.ensures ∙ c.if-not-are_limited.false) c.new-writer.ensures.tail (c.new-writer.ensures.path.1 ∙ sizes) had
 
 pub returns-then-not-are_limited-clause-whole : goal.returns-then-not-are_limited-clause-whole
@@ -193,9 +192,9 @@ returns-in_err-status-clause-whole g c =
     e (came g.C.Cluster.shown g.C.Cluster.serves g.met.C.Cluster.serves_rows g.met.C.Cluster.active_below true (creating c.args.path client options r k) (through c.defaults.new.self.namenode c.defaults.new.cluster) (Err e) (through c.create.new.self c.create.new.cluster)
     (reaches_prepared (g.C.Cluster.shown c.args.cluster.now) (g.C.Cluster.shown c.defaults.new.cluster) c.args.self.now c.defaults.new.self c.in_ok-defaults.ensures.prepares c.requires.stands.reaches) asked))
 
-pub returns-in_err-insert-clause-whole : goal.returns-in_err-insert-clause-whole
-returns-in_err-insert-clause-whole g c =
-    let p = err_from_is_err_and c.from_residual-in_err-insert.result c.from_residual-in_err-insert.ensures.1 in
+pub returns-in_err-keep-clause-whole : goal.returns-in_err-keep-clause-whole
+returns-in_err-keep-clause-whole g c =
+    let p = err_from_is_err_and c.from_residual-in_err-keep.result c.from_residual-in_err-keep.ensures.1 in
     let s = g.C.Cluster.shown c.args.cluster.now in
     let m = g.C.Cluster.shown c.defaults.new.cluster in
     let t = g.C.Cluster.shown c.create.new.cluster in
@@ -214,8 +213,8 @@ returns-in_err-insert-clause-whole g c =
     c.as_str-2.ensures flag c.unwrap_or-replication.ensures c.unwrap_or-block_size.ensures c.in_ok-status.ensures.asked in
     let had = came g.C.Cluster.shown g.C.Cluster.serves g.met.C.Cluster.serves_rows g.met.C.Cluster.active_below true (creating c.args.path client options r k) (through c.defaults.new.self.namenode c.defaults.new.cluster) (Ok (answers.Create status)) (through c.create.new.self c.create.new.cluster)
     (reaches_prepared (g.C.Cluster.shown c.args.cluster.now) (g.C.Cluster.shown c.defaults.new.cluster) c.args.self.now c.defaults.new.self c.in_ok-defaults.ensures.prepares c.requires.stands.reaches) asked in
-    rw p.1 (λ name called. late_whole (commands.Create name options) s m t c.args.self.now session (record session { namenode = c.create.new.self; writers = c.insert.new.self }) c.in_ok-defaults.ensures.prepares
-    (kept_by session.writers c.insert.new.self c.in_err-insert.ensures.err) c.args.path called
+    rw p.1 (λ name called. late_whole (commands.Create name options) s m t c.args.self.now session (record session { namenode = c.create.new.self; writers = c.keep.new.writers }) c.in_ok-defaults.ensures.prepares
+    (kept_by session.writers c.keep.new.writers c.in_err-keep.ensures.err) c.args.path called
     (creating c.args.path client options r k)
     (λ p q told may. creating_spares c.args.path client options r k p q (g.met.C.Cluster.sound c.defaults.new.cluster p told) may)
     (λ q told. (let one = was_made c.args.path client options r k q m t status told had in (one.0, one.1, one.3))) p.0)
@@ -242,14 +241,14 @@ returns-clause-whole g c = λ name called.
     c.as_str-2.ensures flag c.unwrap_or-replication.ensures c.unwrap_or-block_size.ensures c.in_ok-status.ensures.asked in
     let had = came g.C.Cluster.shown g.C.Cluster.serves g.met.C.Cluster.serves_rows g.met.C.Cluster.active_below true (creating c.args.path client options r k) (through c.defaults.new.self.namenode c.defaults.new.cluster) (Ok (answers.Create status)) (through c.create.new.self c.create.new.cluster)
     (reaches_prepared (g.C.Cluster.shown c.args.cluster.now) (g.C.Cluster.shown c.defaults.new.cluster) c.args.self.now c.defaults.new.self c.in_ok-defaults.ensures.prepares c.requires.stands.reaches) asked in
-    created_whole s m t c.args.self.now session (record session { namenode = c.create.new.self; writers = c.insert.new.self }) prepares (g.met.C.Cluster.sound c.defaults.new.cluster) c.args.path writer
+    created_whole s m t c.args.self.now session (record session { namenode = c.create.new.self; writers = c.keep.new.writers }) prepares (g.met.C.Cluster.sound c.defaults.new.cluster) c.args.path writer
     (record {
-      remembers = remembers_trans c.args.self.now session (record session { namenode = c.create.new.self; writers = c.insert.new.self }) prepares.remembers
-          (remembers_on session c.create.new.self c.insert.new.self c.create.ensures.keeps);
+      remembers = remembers_trans c.args.self.now session (record session { namenode = c.create.new.self; writers = c.keep.new.writers }) prepares.remembers
+          (remembers_on session c.create.new.self c.keep.new.writers c.create.ensures.keeps);
       fine = c.requires.fine;
       free = c.requires.placed;
-      put = put_by session.writers c.insert.new.self c.args.self.now.writers (string_bytes c.in_ok-key.key) c.args.path writer prepares.writers (c.in_ok-key.ensures.ok ∙ c.as_str.ensures)
-          (btree_map_updates_text (string_bytes c.in_ok-key.key) session.writers c.insert.new.self (Some writer) c.in_ok-insert.ensures.updates);
+      put = put_by session.writers c.keep.new.writers c.args.self.now.writers (string_bytes c.in_ok-key.key) c.args.path writer prepares.writers (c.in_ok-key.ensures.ok ∙ c.as_str.ensures)
+          c.in_ok-keep.ensures.put;
     })
     d name client options r k status called c.new-writer.ensures.tail had
 
@@ -277,8 +276,8 @@ refuse_created-requires g c =
     reaches_later (proxy_of session.namenode) (proxy_of c.create.new.self) m t c.create.ensures.keeps.service had.relays.leaves.later
     (reaches_prepared s m c.args.self.now session prepares c.requires.stands.reaches)
 
-pub returns-then-tells_encryption-clause-acts : goal.returns-then-tells_encryption-clause-acts
-returns-then-tells_encryption-clause-acts g c = λ name called.
+pub returns-then-encrypted-clause-acts : goal.returns-then-encrypted-clause-acts
+returns-then-encrypted-clause-acts g c = λ name called.
     let s = g.C.Cluster.shown c.args.cluster.now in
     let m = g.C.Cluster.shown c.defaults.new.cluster in
     let t = g.C.Cluster.shown c.create.new.cluster in
@@ -308,10 +307,10 @@ returns-then-tells_encryption-clause-acts g c = λ name called.
     (creating c.args.path client options r k) c.args.path called
     (created_over s m c.args.self.now session c.args.path d prepares c.in_ok-defaults.ensures.ok c.requires.path c.requires.placed (g.met.C.Cluster.sound c.defaults.new.cluster) name client options r k called)
     (looks_trans m t u (looks_from-Leaves m t had.relays.leaves) h.looks)
-    (λ q told. false≢true (sym (was_plain c.args.path client options r k q m t status told had) ∙ sym c.tells_encryption.ensures ∙ c.if-tells_encryption.true)))
+    (λ q told. false≢true (sym (was_plain c.args.path client options r k q m t status told had) ∙ sym c.tells_encryption-encrypted.ensures ∙ c.if-encrypted.true)))
 
-pub returns-then-tells_encryption-clause-whole : goal.returns-then-tells_encryption-clause-whole
-returns-then-tells_encryption-clause-whole g c = λ name called.
+pub returns-then-encrypted-clause-whole : goal.returns-then-encrypted-clause-whole
+returns-then-encrypted-clause-whole g c = λ name called.
     let s = g.C.Cluster.shown c.args.cluster.now in
     let m = g.C.Cluster.shown c.defaults.new.cluster in
     let t = g.C.Cluster.shown c.create.new.cluster in
@@ -335,5 +334,5 @@ returns-then-tells_encryption-clause-whole g c = λ name called.
     let session'' = c.refuse_created.new.self in
     let h = c.refuse_created.ensures in
     behind_whole (commands.Create name options) s m u c.args.self.now session session'' prepares (λ q. ap (λ w. get_by_text w q) h.asked.writers) c.args.path called
-    (λ q told. absurd (false≢true (sym (was_plain c.args.path client options r k q m t status told had) ∙ sym c.tells_encryption.ensures ∙ c.if-tells_encryption.true)))
+    (λ q told. absurd (false≢true (sym (was_plain c.args.path client options r k q m t status told had) ∙ sym c.tells_encryption-encrypted.ensures ∙ c.if-encrypted.true)))
     c.refuse_created.result

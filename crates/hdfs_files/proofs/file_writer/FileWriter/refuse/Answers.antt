@@ -46,7 +46,7 @@ returns-in-Ok-next_block-clause-fails g c =
     let t = g.C.Cluster.shown c.next_block.new.cluster in
     let w = c.args.self.now in
     let x = c.finish_block.new.self in
-    let y = record x { reopened = Some c.in-Ok-next_block.field-0 } in
+    let y = record x { reopened = Some c.in-Ok-next_block.located } in
     let same = c.take_reopened.ensures.none c.in-None.is in
     let idle = encrypted_none s w c.requires.stands c.requires.encrypted in
     let unchanged = c.finish_block.ensures.idle (ap (λ (v : FileWriter). v.going) same ∙ idle) in
@@ -62,8 +62,8 @@ returns-in-Ok-next_block-clause-keeps g c = (
   same_client_trans c.args.namenode.now c.finish_block.new.namenode c.next_block.new.namenode c.finish_block.ensures.keeps.2 c.next_block.ensures.client,
 )
 
-pub returns-clause-fails : goal.returns-clause-fails
-returns-clause-fails g c =
+pub returns-in-Err-next_block-clause-fails : goal.returns-in-Err-next_block-clause-fails
+returns-in-Err-next_block-clause-fails g c =
     let s = g.C.Cluster.shown c.args.cluster.now in
     let m = g.C.Cluster.shown c.finish_block.new.cluster in
     let x = c.finish_block.new.self in

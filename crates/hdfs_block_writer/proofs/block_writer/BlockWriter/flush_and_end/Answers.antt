@@ -1,4 +1,4 @@
--- The goals of BlockWriter::close.
+-- The goals of BlockWriter::flush_and_end.
 use Rattle.std.proofs.Common.{[]}
 use Rattle.hdfs_namenode.proofs.Services.{same_client_trans}
 use Rattle.hdfs_block_writer.specs.Written.{Closes, GaveUp, WaitsForLast}
@@ -6,7 +6,7 @@ use Rattle.hdfs_block_writer.proofs.Closed.{closes_after}
 use Rattle.hdfs_block_writer.proofs.Received.{last_after, on_ok_by}
 use Rattle.hdfs_recovery.proofs.Tried.{err_by, ok_by}
 use Rattle.hdfs_block_writer.proofs.Wrote.{gave_up_after}
-use Rattle.hdfs_block_writer.proofs.block_writer.BlockWriter.close.Goals as goal
+use Rattle.hdfs_block_writer.proofs.block_writer.BlockWriter.flush_and_end.Goals as goal
 
 pub flush-requires-clause-holds : goal.flush-requires-clause-holds
 flush-requires-clause-holds g c = λ pipe is. let h = c.requires.stands pipe is in (h.0, h.1)
@@ -16,15 +16,15 @@ returns-in-Ok-clause-closed g c =
     let a = g.C.Cluster.shown c.args.cluster.now in
     let b = g.C.Cluster.shown c.flush.new.cluster in
     let z = g.C.Cluster.shown c.end.new.cluster in
-    ok_by (λ block. Closes b c.flush.new.self block z) (λ block. Closes a c.args.self block z) c.end.result
-    (λ block closed. closes_after a b z c.args.self c.flush.new.self block c.in-Ok.ensures.wrote closed) c.end.ensures.closed
+    ok_by (λ block. Closes b c.flush.new.self block z) (λ block. Closes a c.args.self.now block z) c.end.result
+    (λ block closed. closes_after a b z c.args.self.now c.flush.new.self block c.in-Ok.ensures.wrote closed) c.end.ensures.closed
 
 pub returns-in-Ok-clause-last : goal.returns-in-Ok-clause-last
 returns-in-Ok-clause-last g c =
     on_ok_by (WaitsForLast g.C.Cluster.shown g.C.Cluster.ends c.flush.new.cluster c.flush.new.self c.end.new.cluster)
-    (WaitsForLast g.C.Cluster.shown g.C.Cluster.ends c.args.cluster.now c.args.self c.end.new.cluster) c.end.result
+    (WaitsForLast g.C.Cluster.shown g.C.Cluster.ends c.args.cluster.now c.args.self.now c.end.new.cluster) c.end.result
     (λ last.
-    last_after g.C.Cluster.shown g.C.Cluster.ends c.args.cluster.now c.flush.new.cluster c.end.new.cluster c.args.self c.flush.new.self
+    last_after g.C.Cluster.shown g.C.Cluster.ends c.args.cluster.now c.flush.new.cluster c.end.new.cluster c.args.self.now c.flush.new.self
     c.in-Ok.ensures.wrote last)
     c.end.ensures.last
 
@@ -33,8 +33,8 @@ returns-in-Ok-clause-err g c =
     let a = g.C.Cluster.shown c.args.cluster.now in
     let b = g.C.Cluster.shown c.flush.new.cluster in
     let z = g.C.Cluster.shown c.end.new.cluster in
-    err_by (λ fault. GaveUp b c.flush.new.self fault z) (λ fault. GaveUp a c.args.self fault z) c.end.result
-    (λ fault gave. gave_up_after a b c.args.self c.flush.new.self [] c.in-Ok.ensures.wrote z fault gave) c.end.ensures.err
+    err_by (λ fault. GaveUp b c.flush.new.self fault z) (λ fault. GaveUp a c.args.self.now fault z) c.end.result
+    (λ fault gave. gave_up_after a b c.args.self.now c.flush.new.self [] c.in-Ok.ensures.wrote z fault gave) c.end.ensures.err
 
 pub returns-in-Ok-clause-client : goal.returns-in-Ok-clause-client
 returns-in-Ok-clause-client g c =
