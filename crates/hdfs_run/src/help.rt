@@ -9,7 +9,7 @@ line on standard error: which line of the script and why, or which command and t
 
 Usage: hdfs_run session | --help | --version
 
-A script has lines for settings, then for directories and files to load, then for faults, and then one for each command to run:
+A script has lines for settings, then for directories, files and short replicas to load, then for faults, and then one for each command to run:
 
   set user NAME                                     the user in whose home relative paths stand
   set namenodes NAMENODES                           how many namenodes there are
@@ -27,6 +27,10 @@ A script has lines for settings, then for directories and files to load, then fo
   set besteffort BEST_EFFORT                        true: a write goes on where none could be added; else false
   dir PATH                                          a directory
   file PATH PERMISSION REPLICATION BLOCK_SIZE HEX   a file, its permission in octal digits and its bytes
+  short PATH BLOCK NODE LENGTH                      datanode NODE holds the first LENGTH bytes alone of a file's block BLOCK,
+                                                    both counted from 0
+  fault ask NAMENODE NTH KIND                       namenode NAMENODE fails in the NTH ask that it is asked: KIND is lost, late,
+                                                    false or fatal, or `exception` and a Java class
   fault link NTH KIND                               the NTH pipeline fails: KIND is broken, refused or badack
   fault ack NODE NTH                                datanode NODE has failed in the NTH acknowledgement that tells of it
   fault send NODE NTH                               the NTH packet to a pipeline that begins at NODE breaks its connection
