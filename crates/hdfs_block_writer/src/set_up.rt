@@ -7,7 +7,7 @@ ghost use Rattle.hdfs_pipeline.specs.Pipelines.{empty_pipeline};
 ghost use Rattle.hdfs_block_writer.specs.Packing.{setup_of};
 ghost use Rattle.hdfs_block_writer.specs.Written.{OpensNone, fault_of};
 
-use hdfs_model::{Cluster, LinkFault, Setup, Stage, copy_nodes, copy_texts};
+use hdfs_model::{Block, Cluster, LinkFault, Setup, Stage, Token, copy_nodes, copy_texts};
 use hdfs_pipeline::PipelineCore;
 use hdfs_recovery::{BlockPlan, WriteFault};
 use hdfs_wire::{List, NoMemory, Text};
@@ -23,12 +23,23 @@ fn storages(alloc: Global, plan: &BlockPlan) -> Result<(List<u32>, List<Text>), 
     Ok((List::from_vec(storage_types), storage_ids))
 }
 
+/// A plan's block by its name, its token, and the name of the client, in memory of their own.
+fn names(alloc: Global, plan: &BlockPlan, client: &str) -> Result<(Block, Token, Text), NoMemory>
+    ensures { IfOk result (λ copied. (copied.0 ≡ plan.now.block.b) × (copied.1 ≡ plan.now.block.block_token) × (copied.2 ≡ client.now)) }
+{
+    let client = Text::from_str(alloc, client)?;
+    let block = plan.block.b.copy(alloc)?;
+    let token = plan.block.block_token.copy(alloc)?;
+    Ok((block, token, client))
+}
+
 /// What the pipeline of a block is asked for: the block is new where it has no bytes, else it is gone on with behind those.
 fn set_up(alloc: Global, plan: &BlockPlan, client: &str) -> Result<Setup, NoMemory>
     ensures { IfOk result (λ setup. setup ≡ setup_of plan.now.block plan.now.chunk client.now) }
 {
     let bytes = plan.block.b.num_bytes;
     let (storage_types, storage_ids) = storages(alloc, plan)?;
+    let (block, token, client) = names(alloc, plan, client)?;
     Ok(Setup {
         stage: if bytes == 0 {
             Stage::Create
@@ -36,15 +47,15 @@ fn set_up(alloc: Global, plan: &BlockPlan, client: &str) -> Result<Setup, NoMemo
             Stage::Append
         },
         stamp: plan.block.b.generation_stamp,
-        block: plan.block.b.copy(alloc)?,
+        block,
         locs: copy_nodes(alloc, plan.block.locs.as_slice())?,
         storage_types,
         storage_ids,
         min_bytes: bytes,
         max_bytes: bytes,
         chunk: plan.chunk,
-        token: plan.block.block_token.copy(alloc)?,
-        client: Text::from_str(alloc, client)?,
+        token,
+        client,
     })
 }
 
