@@ -1,5 +1,5 @@
 -- What comes of an ask for a datanode more, and of the transfer to it.
-use Rattle.std.proofs.Common.{◌≡◌, ◌≢◌, ◌⊎◌, inl, inr, ⊎_elim, ℕ, ◌<◌, ◌≤◌, true, List, Some, refl, ◌∙◌, ap, subst, arith}
+use Rattle.std.proofs.Common.{◌≡◌, ◌≢◌, ◌⊎◌, inl, inr, ⊎_elim, ℕ, ◌<◌, ◌≤◌, true, List, Some, refl, sym, ◌∙◌, ap, subst, arith}
 use Rattle.std.proofs.lemmas.List.Elements.{All-from_recursion}
 use Rattle.std.specs.List.{Contains}
 use Rattle.std.specs.Prelude.{Result, Ok, Err}
@@ -31,19 +31,30 @@ use Rattle.hdfs_model.proofs.Repeating.{datanode_repeats}
 use Rattle.hdfs_names.specs.Shown.{shown as policy_of}
 use Rattle.hdfs_namenode.specs.Asked.{AskedOnce, ReachesAll, Through}
 use Rattle.hdfs_recovery.specs.declared.block_plan.BlockPlan.{BlockPlan}
+use Rattle.hdfs_recovery.specs.declared.block_plan.WriteFault.{WriteFault}
 use Rattle.hdfs_recovery.specs.declared.block_plan.WriteFault.TheVariants as faults
 use Rattle.hdfs_recovery.specs.declared.block_plan.RebuildSettings.{RebuildSettings}
 use Rattle.hdfs_recovery.specs.Between.{HelpLacks, KeepsLinks, OnlyBlockOf, WaitsOn}
 use Rattle.hdfs_recovery.specs.Plans.{IsDue, Known, Waits}
-use Rattle.hdfs_recovery.specs.Replacing.{AddsNode, AddsNone, AreApart, Completes, GivesToAdded, fault_of_none, fault_of_transfer, with_nodes}
+use Rattle.hdfs_recovery.specs.Replacing.{AddsNode, AddsNone, AreApart, Completes, GivesBlock, GivesNoBlock, GivesToAdded, fault_of_none, fault_of_transfer, with_nodes}
 use Rattle.hdfs_recovery.proofs.Adding.{all_in, each_apart, only_given, waits_added, waits_without}
 use Rattle.hdfs_recovery.proofs.Asks.{asked_error, asked_links, asked_row, asked_told}
-use Rattle.hdfs_recovery.proofs.Stepping.{only_block_of_trans, only_block_of-same, waits_on_refl, waits_same}
+use Rattle.hdfs_recovery.proofs.Stepping.{keeps_links_refl, only_block_of_trans, only_block_of-same, waits_on_refl, waits_same}
 
 -- a transfer changes no link
 pub transfer_links : (old new : Shown) → OnlyWrites old new → ((link : ℕ) → new.writes link ≡ old.writes link) → KeepsLinks old new
 transfer_links old new only writes =
     record { later = only.later; reads = record { links = only.reads; places = only.places }; writes = writes }
+
+-- Giving a datanode the block, or not, changes no link.
+pub gives_links : (plan : BlockPlan) (located : LocatedBlock) (name : List ℕ) (old new : Shown) → GivesBlock plan located name old new
+    → KeepsLinks old new
+gives_links plan located name old new (transfer, gives, given) = transfer_links old new given.only given.writes
+
+pub gives_no_links : (plan : BlockPlan) (located : LocatedBlock) (name : List ℕ) (old : Shown) (fault : WriteFault) (new : Shown)
+    → GivesNoBlock plan located name old fault new → KeepsLinks old new
+gives_no_links plan located name old fault new (inl (memory, same)) = subst (KeepsLinks old) (sym same) (keeps_links_refl old)
+gives_no_links plan located name old fault new (inr (transfer, why, gives, is, not)) = transfer_links old new not.only not.writes
 
 none_fault : (error : HdfsError) → error ≢ errors.NoMemory → fault_of_none error ≡ faults.NoReplacement
 none_fault errors.NoMemory apart = absurd (apart refl)
@@ -171,6 +182,16 @@ module _ {C : Type 0} (shown : C → Shown) (serves : C → ℕ → Ask → Resu
           why links.NoMemory cause = inl refl
           why links.Broken cause = inr (refl, failed (cause (λ same. absurd (cc))))
           why links.Refused cause = inr (refl, failed (cause (λ same. absurd (cc))))
+
+    pub waits_given : (name : List ℕ) (new : Shown) → GivesBlock plan located name m new → WaitsOn plan a (with_nodes plan located) new
+    waits_given name new (transfer, gives, given) = waits_with new name transfer gives given
+
+    pub given_none : (name : List ℕ) (fault : WriteFault) (new : Shown) → GivesNoBlock plan located name m fault new → AddsNone plan a fault new
+    given_none name fault new (inl (memory, same)) =
+        subst (λ (f : WriteFault). AddsNone plan a f new) (sym memory)
+        (subst (AddsNone plan a faults.NoMemory) (sym same) (none_prepared (Ok (answers.GetAdditionalDatanode located)) asked))
+    given_none name fault new (inr (transfer, why, gives, is, not)) =
+        subst (λ (f : WriteFault). AddsNone plan a f new) (sym is) (none_given new name transfer gives why not)
 
 -- Each of the datanodes is one of them.
 each_there : (plan : BlockPlan) (old : Shown) (excluded : List DatanodeInfo) → AreApart plan old excluded plan.block.locs

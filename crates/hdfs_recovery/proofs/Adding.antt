@@ -122,13 +122,13 @@ each_apart existing excludes nodes adds =
 
 -- What gives the added one the block, where these are the copies of what stands at its place and beside it.
 pub gives_to_added : (plan : BlockPlan) (located : LocatedBlock) (client : List ℕ) (transfer : Transfer) (target : DatanodeInfo)
-    → 0 < length plan.block.locs → length plan.block.storage_types ≡ length plan.block.locs → HasOneMore plan.block.locs located.locs
-    → (place beside : ℕ) → place ≡ place_of plan.block.locs located.locs → beside ≡ place_beside place
+    → transfer.targets ≡ target ∷ [] → 0 < length plan.block.locs → length plan.block.storage_types ≡ length plan.block.locs
+    → HasOneMore plan.block.locs located.locs → (place beside : ℕ) → place ≡ place_of plan.block.locs located.locs → beside ≡ place_beside place
     → target ≡ get_or located.locs place target → transfer.source ≡ get_or located.locs beside transfer.source
-    → transfer.block ≡ plan.block.b → transfer.targets ≡ target ∷ []
+    → transfer.block ≡ plan.block.b
     → transfer.target_storage_types ≡ slice_index_or plan.block.storage_types 0 0 ∷ []
     → transfer.token ≡ located.block_token → transfer.client ≡ client → GivesToAdded plan located client transfer
-gives_to_added plan located client transfer target some types one place beside at near is source block targets type token client_is =
+gives_to_added plan located client transfer target targets some types one place beside at near is source block type token client_is =
     let long = one_more_long plan.block.locs located.locs one in
     let lt : place < length located.locs = omega (arith, at, place_within plan.block.locs located.locs long) in
     let lt' : beside < length located.locs =

@@ -25,7 +25,7 @@ use Rattle.hdfs_pipeline.specs.Pipelines.{Bad, Failed, Pipeline, empty_pipeline}
 use Rattle.hdfs_blocks.specs.Carrying.{AreSlices, LinkCarries, LinkGoesOn}
 use Rattle.hdfs_blocks.specs.Rebuilding.{BlockHolds, IsListed}
 use Rattle.hdfs_blocks.proofs.Rebuilding.{block_further, block_waits}
-use Rattle.hdfs_recovery.specs.declared.attempts.Fallen.{Fallen}
+use Rattle.hdfs_recovery.specs.declared.attempts.Collected.{Collected}
 use Rattle.hdfs_recovery.specs.declared.block_plan.BlockPlan.{BlockPlan}
 use Rattle.hdfs_recovery.specs.declared.block_plan.WriteFault.{WriteFault}
 use Rattle.hdfs_recovery.specs.declared.block_plan.WriteFault.TheVariants as faults
@@ -263,14 +263,15 @@ module _ (plan : BlockPlan) (block : Block) (least : ℕ) (client : List ℕ) (w
             (stamp.0, e.2.0.records.table id ∙ d.4.only.records.table id ∙ stamp.1, stamp.2),
           )
 
-      pub falls_again : (fallen : Fallen) → Collects plan sent fallen → FallsAgain (course_of plan block least client window replay) a fallen z
-      falls_again fallen collects = record {
-        plan = collects.same_plan;
-        places = subst (λ (k : ℕ). ArePlaces k fallen.failed) sent_nodes (is_core.failed fallen.failed collects.failed);
+      pub falls_again : (collected : Collected) → Collects sent collected → FallsAgain (course_of plan block least client window replay) a
+          (record { plan = plan; failed = collected.failed; replay = collected.replay }) z
+      falls_again collected collects = record {
+        plan = refl;
+        places = subst (λ (k : ℕ). ArePlaces k collected.failed) sent_nodes (is_core.failed collected.failed collects.failed);
         failed = λ k d lt.
-            let node = slice_index_or nodes (slice_index_or fallen.failed k d) [] in
+            let node = slice_index_or nodes (slice_index_or collected.failed k d) [] in
             rose_since (a.counts.nodes node) (a.counts.nodes node) (n.counts.nodes node) (z.counts.nodes node) (omega arith)
-            (have_failed fallen.failed collects.failed k d lt) (later_end.counts.nodes node);
+            (have_failed collected.failed collects.failed k d lt) (later_end.counts.nodes node);
         replay = collects.replay ∙ sym sends.pushed;
         links = fallen_links;
         told = waits_again;

@@ -7,14 +7,14 @@ use Rattle.hdfs_model.specs.Pipes.{WriteEnded}
 use Rattle.hdfs_model.specs.Shown.{Shown}
 use Rattle.hdfs_pipeline.specs.Cores.{IsCore}
 use Rattle.hdfs_pipeline.specs.Pipelines.{Pipeline, empty_pipeline}
-use Rattle.hdfs_recovery.specs.declared.attempts.Attempt.TheVariants as attempts
-use Rattle.hdfs_recovery.specs.declared.attempts.Fallen.{Fallen}
+use Rattle.hdfs_recovery.specs.declared.attempts.Collected.{Collected}
+use Rattle.hdfs_recovery.specs.declared.attempts.Resumption.TheVariants as resumptions
 use Rattle.hdfs_recovery.specs.declared.block_plan.BlockPlan.{BlockPlan}
 use Rattle.hdfs_recovery.specs.declared.block_plan.WriteFault.{WriteFault}
 use Rattle.hdfs_recovery.specs.declared.replay.SentAgain.{SentAgain}
 use Rattle.hdfs_recovery.specs.Plans.{IsRecovery}
 use Rattle.hdfs_recovery.specs.Resuming.{Reopens, SendsAndNames, SendsOrNamesNot, resending}
-use Rattle.hdfs_recovery.specs.Trying.{Collects, CollectsNot, Resumed, ResumedNot, course_of}
+use Rattle.hdfs_recovery.specs.Trying.{Collects, CollectsNot, Resumed, ResumedNot, course_of, with_plan}
 use Rattle.hdfs_recovery.proofs.Attempting.{stands_again, falls_again, collects_not, names_not, stops_short}
 use Rattle.hdfs_recovery.proofs.Ending.{Drifts}
 
@@ -23,15 +23,6 @@ pub reopened_as : (block : Block) (plan : BlockPlan) (least : ℕ) (x y : List �
     → Reopens (IsRecovery block plan least x) a link b → Reopens (IsRecovery block plan least y) a link b
 reopened_as block plan least x y a link b same reopens = subst (λ (name : List ℕ). Reopens (IsRecovery block plan least name) a link b) same reopens
 
--- Packets that were sent again for a block were so for one that is the same.
-pub sent_for : (link : ℕ) (replay : List Outgoing) (core : Pipeline) (x y : Block) (plan : BlockPlan) (b : Shown) (sent : SentAgain) (n : Shown)
-    → x ≡ y → SendsAndNames (resending link replay core b) x plan sent n → SendsAndNames (resending link replay core b) y plan sent n
-sent_for link replay core x y plan b sent n same sends = subst (λ (name : Block). SendsAndNames (resending link replay core b) name plan sent n) same sends
-
-pub unsent_for : (link : ℕ) (replay : List Outgoing) (core : Pipeline) (x y : Block) (plan : BlockPlan) (b : Shown) (fault : WriteFault)
-    (n : Shown) → x ≡ y → SendsOrNamesNot (resending link replay core b) x plan fault n → SendsOrNamesNot (resending link replay core b) y plan fault n
-unsent_for link replay core x y plan b fault n same none = subst (λ (name : Block). SendsOrNamesNot (resending link replay core b) name plan fault n) same none
-
 module _ (plan : BlockPlan) (block : Block) (least : ℕ) (client : List ℕ) (window : ℕ) (replay : List Outgoing) (link : ℕ) (core : Pipeline)
     (a b : Shown) (to_write : IsToWrite plan.block) (same : block.block_id ≡ plan.block.b.block_id)
     (windows : (1 ≤ window) × (window ≤ 1000)) (empty : core ≡ empty_pipeline window (length plan.block.locs))
@@ -39,17 +30,17 @@ module _ (plan : BlockPlan) (block : Block) (least : ℕ) (client : List ℕ) (w
   -- the packets were sent, and the pipeline was named
   module _ (sent : SentAgain) (n : Shown) (s : SendsAndNames (resending link replay core b) block plan sent n) (is_core : IsCore sent.core) where
     pub resumed_stands : sent.core.end ≡ None
-        → Resumed (course_of plan block least client window replay) a (attempts.Stands (record { plan = plan; core = sent.core; link = link })) n
+        → Resumed (course_of plan block least client window replay) a (with_plan plan (resumptions.Stands sent.core link)) n
     resumed_stands going =
         stands_again plan block least client window replay link core a b s.between n sent to_write same windows empty reopens s.sends s.links
         s.names is_core going
 
     module _ (z : Shown) (before : Shown) where
-      pub resumed_fell : Drifts link sent.core n before → WriteEnded before link z → (fallen : Fallen) → Collects plan sent fallen
-          → Resumed (course_of plan block least client window replay) a (attempts.Fell fallen) z
-      resumed_fell drifts gone fallen collects =
+      pub resumed_fell : Drifts link sent.core n before → WriteEnded before link z → (collected : Collected) → Collects sent collected
+          → Resumed (course_of plan block least client window replay) a (with_plan plan (resumptions.Fell collected)) z
+      resumed_fell drifts gone collected collects =
           falls_again plan block least client window replay link core a b s.between n sent to_write same windows empty reopens s.sends s.links
-          s.names is_core before z drifts gone fallen collects
+          s.names is_core before z drifts gone collected collects
 
       pub resumed_none : Drifts link sent.core n before → WriteEnded before link z → (fault : WriteFault) → CollectsNot sent fault
           → ResumedNot plan a fault z

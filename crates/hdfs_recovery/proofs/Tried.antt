@@ -1,9 +1,10 @@
 -- What comes of the steps of one attempt to rebuild a pipeline, by what each step says.
-use Rattle.std.proofs.Common.{◌≡◌, ℕ, ◌+◌, ◌-◌, List, subst}
+use Rattle.std.proofs.Common.{◌≡◌, ℕ, ◌+◌, ◌-◌, List, ◌∙◌, ap, subst}
 use Rattle.std.specs.Prelude.{Result, Ok, Err, IfOk, IfErr}
 use Rattle.hdfs_wire.specs.Outgoing.{Outgoing}
 use Rattle.hdfs_model.specs.declared.messages.Block.{Block}
 use Rattle.hdfs_model.specs.declared.messages.DatanodeInfo.{DatanodeInfo}
+use Rattle.hdfs_model.specs.Namenode.{IsToWrite}
 use Rattle.hdfs_model.specs.Shown.{Shown}
 use Rattle.hdfs_blocks.specs.Carrying.{total}
 use Rattle.hdfs_recovery.specs.declared.attempts.Attempt.{Attempt}
@@ -15,9 +16,9 @@ use Rattle.hdfs_recovery.specs.Between.{KeepsLinks}
 use Rattle.hdfs_recovery.specs.Plans.{nodes_at}
 use Rattle.hdfs_recovery.specs.Replacing.{Completes, CompletesNot}
 use Rattle.hdfs_recovery.specs.Resuming.{Restamps, RestampsNot}
-use Rattle.hdfs_recovery.specs.Trying.{LeavesOut, Resumed, ResumedNot, course_of}
+use Rattle.hdfs_recovery.specs.Trying.{GivesPlan, LeavesOut, Resumed, ResumedNot, course_of}
 use Rattle.hdfs_recovery.proofs.Leaving.{left_plan}
-use Rattle.hdfs_recovery.proofs.Trying.{attempted, complete_gave_none, restamp_gave_none, resume_gave_none}
+use Rattle.hdfs_recovery.proofs.Trying.{attempted, complete_gave_none, next_id, next_to_write, restamp_gave_none, resume_gave_none}
 
 pub ok_by : {T E : Type 0} (P Q : T → Type 0) (r : Result T E) → ((x : T) → P x → Q x) → IfOk r P → IfOk r Q
 ok_by P Q (Ok x) h is = h x is
@@ -26,6 +27,18 @@ ok_by P Q (Err e) h is = tt
 pub err_by : {T E : Type 0} (P Q : E → Type 0) (r : Result T E) → ((e : E) → P e → Q e) → IfErr r P → IfErr r Q
 err_by P Q (Ok x) h is = tt
 err_by P Q (Err e) h is = h e is
+
+-- A pipeline can be set up by the next plan, to go on with the block.
+pub to_resume : (plan0 plan3 : BlockPlan) (settings : RebuildSettings) (failed : List ℕ) (a n : Shown)
+    → GivesPlan plan0 settings failed a plan3 n → (block : Block) → block ≡ plan0.block.b
+    → IsToWrite plan3.block × (block.block_id ≡ plan3.block.b.block_id)
+to_resume plan0 plan3 settings failed a n given block same =
+    let completes =
+    subst (λ (p : BlockPlan). Completes p settings (nodes_at plan0.block.locs failed) a given.whole given.between) given.leaves.is given.completes in (
+      next_to_write plan0 given.whole plan3 settings failed a given.between n given.leaves.within given.stays completes given.keeps given.restamps,
+      ap (λ (b : Block). b.block_id) same
+          ∙ next_id plan0 given.whole plan3 settings failed a given.between n given.leaves.within given.stays completes given.keeps given.restamps,
+    )
 
 module _ (plan0 plan1 : BlockPlan) (settings : RebuildSettings) (failed : List ℕ) (client : List ℕ) (replay : List Outgoing) (unsent : ℕ)
     (a m : Shown) (leaves : LeavesOut plan0 settings failed plan1) (stays : KeepsLinks a m) where

@@ -124,6 +124,11 @@ pub record GaveNone (task : Task) (before : Standing) (fault : WriteFault) (new 
   pub cause : HasRebuildCause task before fault new
   pub touches : Touches before.plan before.shown new
 
+-- There is no plan for the next pipeline, so that an attempt comes to no link, whatever is to be sent.
+abbrev pub GivesNoPlan : RebuildSettings → Standing → WriteFault → Shown → Type 0
+GivesNoPlan settings before fault new =
+    (client : List ℕ) (replay : List Outgoing) (unsent : ℕ) → GaveNone (task_of settings client replay unsent) before fault new
+
 -- what came of an attempt
 abbrev pub Attempted : Task → Standing → Attempt → Shown → Type 0
 Attempted task before (attempts.Stands rebuilt) new = Recovered task before rebuilt new

@@ -13,6 +13,7 @@ use Rattle.hdfs_model.specs.Namenode.{IsToWrite}
 use Rattle.hdfs_model.specs.Picture.{Picture}
 use Rattle.hdfs_model.specs.Sending.{uuids}
 use Rattle.hdfs_model.specs.Shown.{Shown}
+use Rattle.hdfs_model.specs.Transferring.{NotTransferred, Transferred}
 use Rattle.hdfs_names.specs.Shown.{shown as policy_of}
 use Rattle.hdfs_recovery.specs.declared.block_plan.BlockPlan.{BlockPlan}
 use Rattle.hdfs_recovery.specs.declared.block_plan.WriteFault.{WriteFault}
@@ -43,6 +44,11 @@ pub record GivesToAdded (plan : BlockPlan) (located : LocatedBlock) (client : Li
   pub token : transfer.token ≡ located.block_token
   pub named_so : transfer.client ≡ client
 
+-- The datanode that was added was given the block.
+abbrev pub GivesBlock : BlockPlan → LocatedBlock → List ℕ → Shown → Shown → Type 0
+GivesBlock plan located client old new =
+    (transfer : Transfer) × GivesToAdded plan located client transfer × Transferred old transfer new
+
 -- the plan with the datanodes and the storages of an answer
 abbrev pub with_nodes : BlockPlan → LocatedBlock → BlockPlan
 with_nodes plan located = record plan {
@@ -58,6 +64,13 @@ fault_of_none error = faults.NoReplacement
 abbrev pub fault_of_transfer : LinkFault → WriteFault
 fault_of_transfer links.NoMemory = faults.NoMemory
 fault_of_transfer fault = faults.NoReplacement
+
+-- It wasn't: for want of memory before any call, or the transfer has failed.
+abbrev pub GivesNoBlock : BlockPlan → LocatedBlock → List ℕ → Shown → WriteFault → Shown → Type 0
+GivesNoBlock plan located client old fault new =
+    ((fault ≡ faults.NoMemory) × (new ≡ old))
+    ⊎ ((transfer : Transfer) × (why : LinkFault) × GivesToAdded plan located client transfer × (fault ≡ fault_of_transfer why)
+    × NotTransferred old transfer why new)
 
 -- over a told picture, where a block waits: each of these datanodes is one of the plan, or is none of the excluded ones
 abbrev pub AreApart : BlockPlan → Shown → List DatanodeInfo → List DatanodeInfo → Type 0

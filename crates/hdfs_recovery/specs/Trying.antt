@@ -14,7 +14,10 @@ use Rattle.hdfs_pipeline.specs.Pipelines.{Pipeline, Failed, Bad}
 use Rattle.hdfs_pipeline.specs.Places.{ArePlaces}
 use Rattle.hdfs_recovery.specs.declared.attempts.Attempt.{Attempt}
 use Rattle.hdfs_recovery.specs.declared.attempts.Attempt.TheVariants as attempts
+use Rattle.hdfs_recovery.specs.declared.attempts.Collected.{Collected}
 use Rattle.hdfs_recovery.specs.declared.attempts.Fallen.{Fallen}
+use Rattle.hdfs_recovery.specs.declared.attempts.Resumption.{Resumption}
+use Rattle.hdfs_recovery.specs.declared.attempts.Resumption.TheVariants as resumptions
 use Rattle.hdfs_recovery.specs.declared.block_plan.BlockPlan.{BlockPlan}
 use Rattle.hdfs_recovery.specs.declared.block_plan.BlockPipeline.{BlockPipeline}
 use Rattle.hdfs_recovery.specs.declared.block_plan.WriteFault.{WriteFault}
@@ -23,9 +26,10 @@ use Rattle.hdfs_recovery.specs.declared.block_plan.RebuildSettings.{RebuildSetti
 use Rattle.hdfs_recovery.specs.declared.replay.SentAgain.{SentAgain}
 use Rattle.hdfs_recovery.specs.Between.{KeepsLinks, OnlyBlockOf, Touches}
 use Rattle.hdfs_blocks.specs.Carrying.{AreSlices, FollowFrom, LinkCarries}
-use Rattle.hdfs_recovery.specs.Plans.{HasStamp, IsRecovery, Known, Waits, block_without, without}
+use Rattle.hdfs_recovery.specs.Plans.{HasStamp, IsRecovery, Known, Waits, block_without, nodes_at, without}
 use Rattle.hdfs_blocks.specs.Rebuilding.{IsListed}
-use Rattle.hdfs_recovery.specs.Resuming.{AskFails}
+use Rattle.hdfs_recovery.specs.Replacing.{Completes}
+use Rattle.hdfs_recovery.specs.Resuming.{AskFails, Restamps}
 
 -- the datanodes that have failed are left out, and some are left
 pub record LeavesOut (plan : BlockPlan) (settings : RebuildSettings) (failed : List ℕ) (plan' : BlockPlan) : Type 0 where
@@ -39,6 +43,19 @@ LeavesNone plan settings failed fault =
     (fault ≡ faults.NoMemory)
     ⊎ ((fault ≡ faults.AllNodes) × (without 0 failed plan.block.locs ≡ []))
     ⊎ ((fault ≡ faults.RebuildLimit plan.rebuilds) × (plan.rebuilds ≡ settings.rebuild_limit))
+
+-- The plan of the next pipeline: the datanodes that have failed are left out, one more is added where that is due, and the block has a
+-- greater generation stamp.
+pub record GivesPlan (plan : BlockPlan) (settings : RebuildSettings) (failed : List ℕ) (old : Shown) (plan' : BlockPlan)
+    (new : Shown) : Type 0 where
+  pub left : BlockPlan
+  pub whole : BlockPlan
+  pub between : Shown
+  pub leaves : LeavesOut plan settings failed left
+  pub stays : KeepsLinks old between
+  pub completes : Completes left settings (nodes_at plan.block.locs failed) old whole between
+  pub keeps : KeepsLinks between new
+  pub restamps : Restamps whole between plan' new
 
 -- what is to be done on the next pipeline: the plan has its datanodes and generation stamp, the block has this name so far and at least
 -- so many bytes, and these packets are sent again
@@ -97,6 +114,12 @@ abbrev pub Resumed : Course → Shown → Attempt → Shown → Type 0
 Resumed course old (attempts.Stands rebuilt) new = StandsAgain course old rebuilt new
 Resumed course old (attempts.Fell fallen) new = FallsAgain course old fallen new
 
+-- what came of the next pipeline of a plan, with the plan
+abbrev pub with_plan : BlockPlan → Resumption → Attempt
+with_plan plan (resumptions.Stands core link) = attempts.Stands (record { plan = plan; core = core; link = link })
+with_plan plan (resumptions.Fell collected) =
+    attempts.Fell (record { plan = plan; failed = collected.failed; replay = collected.replay })
+
 -- why no pipeline stands: for want of memory, since a namenode has failed, or since the links have
 abbrev pub ResumeCause : BlockPlan → Shown → WriteFault → Shown → Type 0
 ResumeCause plan old fault new =
@@ -117,10 +140,9 @@ FallsFrom {C} shown Ends link core old =
     × (((last : Pipeline) × Drove link [] core (shown old) last (shown before)) ⊎ StopsShort link [] core (shown old) (shown before))
 
 -- all packets of a pipeline that has ended come back, with the places of the datanodes that have failed
-pub record Collects (plan : BlockPlan) (sent : SentAgain) (fallen : Fallen) : Type 0 where
-  pub same_plan : fallen.plan ≡ plan
-  pub failed : sent.core.end ≡ Some (Failed fallen.failed)
-  pub replay : fallen.replay ≡ sent.core.pushed ++ sent.rest
+pub record Collects (sent : SentAgain) (collected : Collected) : Type 0 where
+  pub failed : sent.core.end ≡ Some (Failed collected.failed)
+  pub replay : collected.replay ≡ sent.core.pushed ++ sent.rest
 
 -- they don't, for want of memory or after a bad acknowledgement
 abbrev pub CollectsNot : SentAgain → WriteFault → Type 0

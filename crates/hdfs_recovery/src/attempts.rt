@@ -1,17 +1,19 @@
 //! Rebuilds a pipeline after datanodes of it have failed.
 
-ghost use Rattle.std.specs.Prelude.{◌≡◌, ◌<◌, ◌≤◌, ◌^◌, [], Some, None, IsSome, IfOk, IfErr};
+ghost use Rattle.std.specs.Prelude.{◌≡◌, ◌<◌, ◌≤◌, ◌++◌, ◌^◌, [], Some, None, IsSome, IfOk, IfErr, length};
 ghost use Rattle.hdfs_model.specs.declared.picture.OpenWrite.{OpenWrite};
 ghost use Rattle.hdfs_model.specs.Namenode.{IsToWrite};
 ghost use Rattle.hdfs_namenode.specs.Asked.{ReachesAll};
 ghost use Rattle.hdfs_namenode.specs.Clients.{SameClient, name_of, proxy_of};
 ghost use Rattle.hdfs_pipeline.specs.Driving.{Drives, IsGoing};
 ghost use Rattle.hdfs_pipeline.specs.Pipelines.{Done};
+ghost use Rattle.hdfs_pipeline.specs.Places.{ArePlaces};
 ghost use Rattle.hdfs_blocks.specs.Carrying.{total};
-ghost use Rattle.hdfs_recovery.specs.Attempts.{task_of, standing, Attempted, GaveNone, RebuiltAfter, GaveNoneAfter};
+ghost use Rattle.hdfs_recovery.specs.Attempts.{task_of, standing, Attempted, GaveNone, GivesNoPlan, RebuiltAfter, GaveNoneAfter};
+ghost use Rattle.hdfs_recovery.specs.Between.{KeepsLinks};
 ghost use Rattle.hdfs_recovery.specs.Plans.{CanRebuild, IsReplay};
 ghost use Rattle.hdfs_recovery.specs.Resuming.{SendsAndNames, SendsOrNamesNot, resending};
-ghost use Rattle.hdfs_recovery.specs.Trying.{LeavesOut, LeavesNone, Resumed, ResumedNot, FallsFrom, Collects, CollectsNot, course_of};
+ghost use Rattle.hdfs_recovery.specs.Trying.{LeavesOut, LeavesNone, GivesPlan, Resumed, ResumedNot, FallsFrom, Collects, CollectsNot, course_of, with_plan};
 
 use crate::block_plan::{
     BlockPipeline, BlockPlan, RebuildSettings, WriteFault, copy_at, nodes_without,
@@ -22,7 +24,7 @@ use crate::replay::{SentAgain, send_again};
 use hdfs_model::{Block, Cluster};
 use hdfs_namenode::NamenodeProtocol;
 use hdfs_pipeline::{PipelineCore, PipelineEnd, drive_end};
-use hdfs_wire::{List, WritePacket};
+use hdfs_wire::{List, NoMemory, WritePacket};
 use std::alloc::Global;
 
 /// A pipeline of which datanodes failed while packets were sent again on it.
@@ -31,6 +33,20 @@ pub(crate) struct Fallen {
     pub(crate) plan: BlockPlan,
     pub(crate) failed: List<u32>,
     pub(crate) replay: List<WritePacket>,
+}
+
+/// The places of the datanodes of a pipeline that failed, and all packets of it, in order.
+#[derive(Drop)]
+pub(crate) struct Collected {
+    pub(crate) failed: List<u32>,
+    pub(crate) replay: List<WritePacket>,
+}
+
+/// What came of the next pipeline of a plan, without the plan.
+#[derive(Drop)]
+pub(crate) enum Resumption {
+    Stands { core: PipelineCore, link: u64 },
+    Fell(Collected),
 }
 
 /// What came of an attempt.
@@ -65,12 +81,13 @@ fn leave_out(
     ensures err { IfErr result (LeavesNone plan settings.now failed.now) }
 {
     if plan.rebuilds == settings.rebuild_limit {
-        return Err(WriteFault::RebuildLimit {
-            rebuilds: plan.rebuilds,
-        });
+        let rebuilds = plan.rebuilds;
+        drop(plan);
+        return Err(WriteFault::RebuildLimit { rebuilds });
     }
     let block = nodes_without(alloc, plan.block, failed)?;
     if block.locs.as_slice().is_empty() {
+        drop(block);
         return Err(WriteFault::AllNodes);
     }
     Ok(BlockPlan {
@@ -107,30 +124,32 @@ fn replay_and_name<C: Cluster>(
     Ok(sent)
 }
 
+/// Packets with others behind them.
+fn join(
+    mut replay: List<WritePacket>,
+    rest: List<WritePacket>,
+) -> Result<List<WritePacket>, NoMemory>
+    ensures { IfOk result (λ joined. joined ≡ replay ++ rest) }
+{
+    for packet in rest.into_vec() {
+        replay.push(packet)?;
+    }
+    Ok(replay)
+}
+
 /// A pipeline has ended while packets were sent again on it. Its link is ended, and all packets come back in order.
-fn collect<C: Cluster>(
-    cluster: &mut C,
-    plan: BlockPlan,
-    link: u64,
-    sent: SentAgain,
-) -> Result<Fallen, WriteFault>
+fn collect<C: Cluster>(cluster: &mut C, link: u64, sent: SentAgain) -> Result<Collected, WriteFault>
     requires drives { Drives (C.shown cluster.old) link sent.core }
     requires ended { IsSome sent.core.end × (sent.core.end ≡ Some Done → ⊥) }
     ensures ended { FallsFrom C.shown (λ before. C.ends before link cluster.new) link sent.core cluster.old }
-    ensures fallen { IfOk result (Collects plan sent) }
+    ensures collected { IfOk result (Collects sent) }
     ensures err { IfErr result (CollectsNot sent) }
 {
     let SentAgain { core, rest } = sent;
     match drive_end(core, cluster, link)? {
-        PipelineEnd::Recover { failed, mut replay } => {
-            for packet in rest.into_vec() {
-                replay.push(packet)?;
-            }
-            Ok(Fallen {
-                plan,
-                failed,
-                replay,
-            })
+        PipelineEnd::Recover { failed, replay } => {
+            let replay = join(replay, rest)?;
+            Ok(Collected { failed, replay })
         }
         PipelineEnd::Bad { seqno } => Err(WriteFault::BadAck { seqno }),
         PipelineEnd::Success => unreachable!(),
@@ -139,41 +158,118 @@ fn collect<C: Cluster>(
 
 /// Sets the pipeline of the plan up, sends the packets again on it, and names it. The block has this name so far, and at least `least`
 /// bytes.
-fn resume<C: Cluster>(
+fn resume_by<C: Cluster>(
     alloc: Global,
     cluster: &mut C,
     namenode: &mut NamenodeProtocol,
-    plan: BlockPlan,
-    block: Block,
+    plan: &BlockPlan,
+    block: &Block,
     window: u32,
     least: u64,
     replay: List<WritePacket>,
-) -> Result<Attempt, WriteFault>
+) -> Result<Resumption, WriteFault>
     requires reaches { ReachesAll (proxy_of namenode.old) (C.shown cluster.old) }
-    requires block { IsToWrite plan.block × (block.block_id ≡ plan.block.b.block_id) }
+    requires block { IsToWrite plan.now.block × (block.now.block_id ≡ plan.now.block.b.block_id) }
     requires packets { (1 ≤ window) × (window ≤ 1000) × IsReplay window replay }
-    ensures ok { IfOk result (λ attempt. Resumed (course_of plan block least (name_of namenode.old) window replay)
-        (C.shown cluster.old) attempt (C.shown cluster.new)) }
-    ensures err { IfErr result (λ fault. ResumedNot plan (C.shown cluster.old) fault (C.shown cluster.new)) }
+    ensures ok { IfOk result (λ resumed. Resumed (course_of plan.now block.now least (name_of namenode.old) window replay)
+        (C.shown cluster.old) (with_plan plan.now resumed) (C.shown cluster.new)) }
+    ensures err { IfErr result (λ fault. ResumedNot plan.now (C.shown cluster.old) fault (C.shown cluster.new)) }
     ensures client { SameClient namenode.old namenode.new }
 {
-    let name = block.copy(alloc)?;
     let client = namenode.client_name();
-    let (core, link) = reopen(alloc, cluster, &plan, block, window, least, client)?;
-    match replay_and_name(alloc, cluster, namenode, &plan, &name, core, link, replay) {
+    let (core, link) = reopen(alloc, cluster, plan, block, window, least, client)?;
+    match replay_and_name(alloc, cluster, namenode, plan, block, core, link, replay) {
         Ok(sent) if sent.core.has_ended() => {
-            let fallen = collect(cluster, plan, link, sent)?;
-            Ok(Attempt::Fell(fallen))
+            let collected = collect(cluster, link, sent)?;
+            Ok(Resumption::Fell(collected))
         }
         Ok(sent) => {
             let core = sent.core;
-            Ok(Attempt::Stands(BlockPipeline { plan, core, link }))
+            Ok(Resumption::Stands { core, link })
         }
         Err(fault) => {
             cluster.end_write(link);
             Err(fault)
         }
     }
+}
+
+/// What came of the next pipeline of this plan, with the plan.
+fn with_plan(plan: BlockPlan, resumed: Resumption) -> Attempt
+    ensures { result ≡ with_plan plan resumed }
+{
+    match resumed {
+        Resumption::Stands { core, link } => Attempt::Stands(BlockPipeline { plan, core, link }),
+        Resumption::Fell(Collected { failed, replay }) => Attempt::Fell(Fallen {
+            plan,
+            failed,
+            replay,
+        }),
+    }
+}
+
+/// The same, and the plan comes with what came of it.
+fn resume<C: Cluster>(
+    alloc: Global,
+    cluster: &mut C,
+    namenode: &mut NamenodeProtocol,
+    plan: BlockPlan,
+    block: &Block,
+    window: u32,
+    least: u64,
+    replay: List<WritePacket>,
+) -> Result<Attempt, WriteFault>
+    requires reaches { ReachesAll (proxy_of namenode.old) (C.shown cluster.old) }
+    requires block { IsToWrite plan.block × (block.now.block_id ≡ plan.block.b.block_id) }
+    requires packets { (1 ≤ window) × (window ≤ 1000) × IsReplay window replay }
+    ensures ok { IfOk result (λ attempt. Resumed (course_of plan block.now least (name_of namenode.old) window replay)
+        (C.shown cluster.old) attempt (C.shown cluster.new)) }
+    ensures err { IfErr result (λ fault. ResumedNot plan (C.shown cluster.old) fault (C.shown cluster.new)) }
+    ensures client { SameClient namenode.old namenode.new }
+{
+    match resume_by(
+        alloc, cluster, namenode, &plan, block, window, least, replay,
+    ) {
+        Ok(resumed) => Ok(with_plan(plan, resumed)),
+        Err(fault) => {
+            drop(plan);
+            Err(fault)
+        }
+    }
+}
+
+/// The plan of the next pipeline: without the datanodes that have failed, with one more where that is due, and with a greater
+/// generation stamp for its block.
+fn next_plan<C: Cluster>(
+    alloc: Global,
+    cluster: &mut C,
+    namenode: &mut NamenodeProtocol,
+    plan: BlockPlan,
+    settings: &RebuildSettings,
+    failed: &[u32],
+) -> Result<BlockPlan, WriteFault>
+    requires reaches { ReachesAll (proxy_of namenode.old) (C.shown cluster.old) }
+    requires block { IsToWrite plan.block × ArePlaces (length plan.block.locs) failed.now }
+    requires rebuilds { plan.rebuilds ≤ settings.now.rebuild_limit }
+    ensures links { KeepsLinks (C.shown cluster.old) (C.shown cluster.new) }
+    ensures ok { IfOk result (λ plan'. GivesPlan plan settings.now failed.now (C.shown cluster.old) plan' (C.shown cluster.new)) }
+    ensures err { IfErr result (λ fault. GivesNoPlan settings.now (standing plan failed.now (C.shown cluster.old)) fault (C.shown cluster.new)) }
+    ensures client { SameClient namenode.old namenode.new }
+{
+    let Ok(excluded) = copy_at(alloc, plan.block.locs.as_slice(), failed) else {
+        drop(plan);
+        return Err(WriteFault::NoMemory);
+    };
+    let plan = leave_out(alloc, plan, settings, failed)?;
+    let plan = complete(
+        alloc,
+        cluster,
+        namenode,
+        plan,
+        settings,
+        excluded.as_slice(),
+    )?;
+    restamp(cluster, namenode, plan)
 }
 
 /// Rebuilds the pipeline once.
@@ -195,29 +291,24 @@ fn try_once<C: Cluster>(
         (standing plan failed.now (C.shown cluster.old)) fault (C.shown cluster.new)) }
     ensures client { SameClient namenode.old namenode.new }
 {
-    let excluded = copy_at(alloc, plan.block.locs.as_slice(), failed)?;
-    let block = plan.block.b.copy(alloc)?;
+    let Ok(block) = plan.block.b.copy(alloc) else {
+        drop(plan);
+        return Err(WriteFault::NoMemory);
+    };
     let least = block.num_bytes - (total(replay.as_slice()) + unsent);
-    let plan = leave_out(alloc, plan, settings, failed)?;
-    let plan = complete(
-        alloc,
-        cluster,
-        namenode,
-        plan,
-        settings,
-        excluded.as_slice(),
-    )?;
-    let plan = restamp(cluster, namenode, plan)?;
-    resume(
-        alloc,
-        cluster,
-        namenode,
-        plan,
-        block,
-        settings.window,
-        least,
-        replay,
-    )
+    match next_plan(alloc, cluster, namenode, plan, settings, failed) {
+        Ok(plan) => resume(
+            alloc,
+            cluster,
+            namenode,
+            plan,
+            &block,
+            settings.window,
+            least,
+            replay,
+        ),
+        Err(fault) => Err(fault),
+    }
 }
 
 /// Rebuilds the pipeline of a block after the datanodes at some of its places, counted from 0, have failed (upstream's block writer does

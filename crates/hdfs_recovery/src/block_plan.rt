@@ -4,7 +4,7 @@ ghost use Rattle.std.specs.Prelude.{◌≡◌, ◌<◌, IfOk, All, length};
 ghost use Rattle.hdfs_recovery.specs.declared.block_plan.WriteFault.TheVariants as faults;
 ghost use Rattle.hdfs_recovery.specs.Plans.{without, block_without, nodes_at};
 
-use hdfs_model::{DatanodeInfo, HdfsError, LocatedBlock};
+use hdfs_model::{Block, DatanodeInfo, HdfsError, LocatedBlock, Token};
 use hdfs_names::ReplaceDatanodeOnFailure;
 use hdfs_pipeline::PipelineCore;
 use hdfs_wire::{List, NoMemory, Text};
@@ -114,6 +114,57 @@ fn without<T: Drop>(alloc: Global, items: List<T>, places: &[u32]) -> Result<Lis
     Ok(left)
 }
 
+/// What a datanode is told beside the datanodes of a block: which block it is, the token for it, and which client asks.
+#[derive(Drop)]
+pub(crate) struct Access {
+    pub(crate) block: Block,
+    pub(crate) token: Token,
+    pub(crate) client: Text,
+}
+
+/// The same in memory of its own.
+pub(crate) fn access_to(
+    alloc: Global,
+    block: &Block,
+    token: &Token,
+    client: &str,
+) -> Result<Access, NoMemory>
+    ensures { IfOk result (λ access. (access.block ≡ block.now) × (access.token ≡ token.now) × (access.client ≡ client.now)) }
+{
+    let client = Text::from_str(alloc, client)?;
+    let block = block.copy(alloc)?;
+    let token = token.copy(alloc)?;
+    Ok(Access {
+        block,
+        token,
+        client,
+    })
+}
+
+/// The datanodes of a block and their storages.
+#[derive(Drop)]
+struct Replicas {
+    locs: List<DatanodeInfo>,
+    storage_types: List<u32>,
+    storage_ids: List<Text>,
+}
+
+/// The datanodes and storages but those at some places.
+fn replicas_without(alloc: Global, replicas: Replicas, failed: &[u32]) -> Result<Replicas, NoMemory>
+    ensures { IfOk result (λ left. (left.locs ≡ without 0 failed.now replicas.locs)
+        × (left.storage_types ≡ without 0 failed.now replicas.storage_types)
+        × (left.storage_ids ≡ without 0 failed.now replicas.storage_ids)) }
+{
+    let locs = without(alloc, replicas.locs, failed)?;
+    let storage_types = without(alloc, replicas.storage_types, failed)?;
+    let storage_ids = without(alloc, replicas.storage_ids, failed)?;
+    Ok(Replicas {
+        locs,
+        storage_types,
+        storage_ids,
+    })
+}
+
 /// The block without the datanodes at some places of its locations, counted from 0: their locations, storage types and storage ids
 /// are left out, and nothing else changes (upstream leaves them out where it rebuilds a pipeline).
 pub fn nodes_without(
@@ -123,13 +174,16 @@ pub fn nodes_without(
 ) -> Result<LocatedBlock, NoMemory>
     ensures { IfOk result (λ left. left ≡ block_without failed.now block) }
 {
-    let locs = without(alloc, block.locs, failed)?;
-    let storage_types = without(alloc, block.storage_types, failed)?;
-    let storage_ids = without(alloc, block.storage_ids, failed)?;
+    let replicas = Replicas {
+        locs: block.locs,
+        storage_types: block.storage_types,
+        storage_ids: block.storage_ids,
+    };
+    let left = replicas_without(alloc, replicas, failed)?;
     Ok(LocatedBlock {
-        locs,
-        storage_types,
-        storage_ids,
+        locs: left.locs,
+        storage_types: left.storage_types,
+        storage_ids: left.storage_ids,
         ..block
     })
 }

@@ -10,14 +10,14 @@ ghost use Rattle.hdfs_recovery.specs.Between.{KeepsLinks};
 ghost use Rattle.hdfs_recovery.specs.Plans.{IsRecovery};
 ghost use Rattle.hdfs_recovery.specs.Resuming.{fault_of_ask, with_stamp, Restamps, RestampsNot, Reopens, ReopensNot, NamesSo, NamesNot};
 
-use crate::block_plan::{BlockPlan, WriteFault};
+use crate::block_plan::{BlockPlan, WriteFault, access_to};
 use hdfs_model::{
     Block, Cluster, DatanodeId, DatanodeInfo, HdfsError, LinkFault, LocatedBlock, Setup, Stage,
     copy_nodes, copy_texts,
 };
 use hdfs_namenode::NamenodeProtocol;
 use hdfs_pipeline::PipelineCore;
-use hdfs_wire::{List, NoMemory, Text};
+use hdfs_wire::{List, NoMemory};
 use std::alloc::Global;
 
 /// What it is for a rebuild that a namenode gave no answer.
@@ -44,7 +44,10 @@ pub(crate) fn restamp<C: Cluster>(
 {
     match namenode.update_block_for_pipeline(cluster, &plan.block.b) {
         Ok(located) => Ok(with_stamp(plan, located)),
-        Err(error) => Err(fault_of_ask(error)),
+        Err(error) => {
+            drop(plan);
+            Err(fault_of_ask(error))
+        }
     }
 }
 
@@ -71,24 +74,28 @@ fn copy_types(alloc: Global, types: &[u32]) -> Result<List<u32>, NoMemory>
 fn set_up(
     alloc: Global,
     plan: &BlockPlan,
-    block: Block,
+    block: &Block,
     safe: u64,
     client: &str,
 ) -> Result<Setup, NoMemory>
-    ensures { IfOk result (IsRecovery block plan.now safe client.now) }
+    ensures { IfOk result (IsRecovery block.now plan.now safe client.now) }
 {
+    let locs = copy_nodes(alloc, plan.block.locs.as_slice())?;
+    let storage_types = copy_types(alloc, plan.block.storage_types.as_slice())?;
+    let storage_ids = copy_texts(alloc, plan.block.storage_ids.as_slice())?;
+    let access = access_to(alloc, block, &plan.block.block_token, client)?;
     Ok(Setup {
-        block,
+        block: access.block,
         stage: Stage::Recovery,
-        locs: copy_nodes(alloc, plan.block.locs.as_slice())?,
-        storage_types: copy_types(alloc, plan.block.storage_types.as_slice())?,
-        storage_ids: copy_texts(alloc, plan.block.storage_ids.as_slice())?,
+        locs,
+        storage_types,
+        storage_ids,
         stamp: plan.block.b.generation_stamp,
         min_bytes: safe,
         max_bytes: plan.block.b.num_bytes,
         chunk: plan.chunk,
-        token: plan.block.block_token.copy(alloc)?,
-        client: Text::from_str(alloc, client)?,
+        token: access.token,
+        client: access.client,
     })
 }
 
@@ -97,7 +104,7 @@ pub(crate) fn reopen<C: Cluster>(
     alloc: Global,
     cluster: &mut C,
     plan: &BlockPlan,
-    block: Block,
+    block: &Block,
     window: u32,
     safe: u64,
     client: &str,
@@ -106,7 +113,7 @@ pub(crate) fn reopen<C: Cluster>(
     requires window { (1 ≤ window) × (window ≤ 1000) }
     ensures core { IfOk result (λ opened. opened.0 ≡ empty_pipeline window (length plan.now.block.locs)) }
     ensures opened { IfOk result (λ opened.
-        Reopens (IsRecovery block plan.now safe client.now) (C.shown cluster.old) opened.1 (C.shown cluster.new)) }
+        Reopens (IsRecovery block.now plan.now safe client.now) (C.shown cluster.old) opened.1 (C.shown cluster.new)) }
     ensures err { IfErr result (λ fault. ReopensNot (C.shown cluster.old) fault (C.shown cluster.new)) }
 {
     let nodes = plan.block.locs.as_slice().len() as u32;

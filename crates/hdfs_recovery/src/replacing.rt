@@ -1,17 +1,17 @@
 //! How a datanode is added to a pipeline in the place of one that failed.
 
-ghost use Rattle.std.specs.Prelude.{◌≡◌, ◌<◌, IfOk, IfErr, length};
+ghost use Rattle.std.specs.Prelude.{◌≡◌, ◌<◌, [], ◌∷◌, IfOk, OnOk, IfErr, length};
 ghost use Rattle.hdfs_model.specs.Effects.{HasOneMore};
 ghost use Rattle.hdfs_model.specs.Namenode.{IsToWrite};
 ghost use Rattle.hdfs_namenode.specs.Asked.{ReachesAll};
 ghost use Rattle.hdfs_namenode.specs.Clients.{SameClient, proxy_of};
 ghost use Rattle.hdfs_recovery.specs.Between.{KeepsLinks};
-ghost use Rattle.hdfs_recovery.specs.Replacing.{place_of, place_beside, with_nodes, fault_of_none, fault_of_transfer, GivesToAdded, AddsNode, AddsNone, Completes, CompletesNot};
+ghost use Rattle.hdfs_recovery.specs.Replacing.{place_of, place_beside, with_nodes, fault_of_none, fault_of_transfer, GivesToAdded, GivesBlock, GivesNoBlock, AddsNode, AddsNone, Completes, CompletesNot};
 
-use crate::block_plan::{BlockPlan, RebuildSettings, WriteFault};
+use crate::block_plan::{BlockPlan, RebuildSettings, WriteFault, access_to};
 use hdfs_model::{Cluster, DatanodeInfo, HdfsError, LinkFault, LocatedBlock, Transfer};
 use hdfs_namenode::NamenodeProtocol;
-use hdfs_wire::{List, NoMemory, Text};
+use hdfs_wire::{List, NoMemory};
 use std::alloc::Global;
 
 /// Where the datanode stands that was added to others: at the first place at which the lists differ.
@@ -35,6 +35,24 @@ fn place_beside(place: usize) -> usize
     if place == 0 { 1 } else { place - 1 }
 }
 
+/// This datanode alone, in memory of its own.
+fn one_node(alloc: Global, node: &DatanodeInfo) -> Result<List<DatanodeInfo>, NoMemory>
+    ensures { IfOk result (λ nodes. nodes ≡ node.now ∷ []) }
+{
+    let mut nodes = List::new(alloc);
+    nodes.push(node.copy(alloc)?)?;
+    Ok(nodes)
+}
+
+/// This storage type alone.
+fn one_type(alloc: Global, storage_type: u32) -> Result<List<u32>, NoMemory>
+    ensures { IfOk result (λ types. types ≡ storage_type ∷ []) }
+{
+    let mut types = List::new(alloc);
+    types.push(storage_type)?;
+    Ok(types)
+}
+
 /// What gives the datanode that was added to those of the plan the block: the datanode beside it does.
 fn transfer_to_added(
     alloc: Global,
@@ -50,17 +68,17 @@ fn transfer_to_added(
     let nodes = located.locs.as_slice();
     let place = place_of(plan.block.locs.as_slice(), nodes);
     let beside = place_beside(place);
-    let mut targets = List::new(alloc);
-    targets.push(nodes[place].copy(alloc)?)?;
-    let mut target_storage_types = List::new(alloc);
-    target_storage_types.push(plan.block.storage_types.as_slice()[0])?;
+    let targets = one_node(alloc, &nodes[place])?;
+    let target_storage_types = one_type(alloc, plan.block.storage_types.as_slice()[0])?;
+    let source = nodes[beside].copy(alloc)?;
+    let access = access_to(alloc, &plan.block.b, &located.block_token, client)?;
     Ok(Transfer {
-        block: plan.block.b.copy(alloc)?,
-        source: nodes[beside].copy(alloc)?,
+        block: access.block,
+        source,
         targets,
         target_storage_types,
-        token: located.block_token.copy(alloc)?,
-        client: Text::from_str(alloc, client)?,
+        token: access.token,
+        client: access.client,
     })
 }
 
@@ -97,6 +115,29 @@ fn fault_of_transfer(fault: LinkFault) -> WriteFault
     }
 }
 
+/// Has the datanode that was added given the block.
+fn give_block<C: Cluster>(
+    alloc: Global,
+    cluster: &mut C,
+    plan: &BlockPlan,
+    located: &LocatedBlock,
+    client: &str,
+) -> Result<(), WriteFault>
+    requires some { 0 < length plan.now.block.locs }
+    requires types { length plan.now.block.storage_types ≡ length plan.now.block.locs }
+    requires one { HasOneMore plan.now.block.locs located.now.locs }
+    ensures ok { OnOk result (GivesBlock plan.now located.now client.now (C.shown cluster.old) (C.shown cluster.new)) }
+    ensures err { IfErr result (λ fault. GivesNoBlock plan.now located.now client.now (C.shown cluster.old) fault (C.shown cluster.new)) }
+{
+    let transfer = transfer_to_added(alloc, plan, located, client)?;
+    let given = cluster.transfer(&transfer);
+    drop(transfer);
+    match given {
+        Ok(()) => Ok(()),
+        Err(fault) => Err(fault_of_transfer(fault)),
+    }
+}
+
 /// Asks for a datanode more, and has it given the block.
 fn add_datanode<C: Cluster>(
     alloc: Global,
@@ -124,10 +165,12 @@ fn add_datanode<C: Cluster>(
         Ok(located) => located,
         Err(error) => return Err(fault_of_none(error)),
     };
-    let transfer = transfer_to_added(alloc, plan, &located, namenode.client_name())?;
-    match cluster.transfer(&transfer) {
+    match give_block(alloc, cluster, plan, &located, namenode.client_name()) {
         Ok(()) => Ok(located),
-        Err(fault) => Err(fault_of_transfer(fault)),
+        Err(fault) => {
+            drop(located);
+            Err(fault)
+        }
     }
 }
 
@@ -158,6 +201,9 @@ pub(crate) fn complete<C: Cluster>(
     match add_datanode(alloc, cluster, namenode, &plan, excluded) {
         Ok(located) => Ok(with_nodes(plan, located)),
         Err(WriteFault::NoReplacement) if settings.replace.is_best_effort() => Ok(plan),
-        Err(fault) => Err(fault),
+        Err(fault) => {
+            drop(plan);
+            Err(fault)
+        }
     }
 }

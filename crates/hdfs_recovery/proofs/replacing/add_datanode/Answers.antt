@@ -1,6 +1,5 @@
 -- A datanode is asked for, and is given the block; or none is added.
 use Rattle.std.proofs.Common.{Err, List, sym, subst}
-use Rattle.std.proofs.lemmas.Result.{err_from_is_err_and}
 use Rattle.std.specs.Prelude.{Ok}
 use Rattle.hdfs_model.specs.declared.asks.Answer.TheVariants as answers
 use Rattle.hdfs_model.specs.declared.messages.DatanodeInfo.{DatanodeInfo}
@@ -9,7 +8,7 @@ use Rattle.hdfs_namenode.specs.Clients.{name_of, proxy_of, through}
 use Rattle.hdfs_namenode.proofs.Services.{reaches_service}
 use Rattle.hdfs_recovery.specs.declared.block_plan.WriteFault.{WriteFault}
 use Rattle.hdfs_recovery.specs.Replacing.{AddsNone}
-use Rattle.hdfs_recovery.proofs.Added.{apart, asked_so, none_answered, none_given, none_prepared, transfer_links, waits_with}
+use Rattle.hdfs_recovery.proofs.Added.{apart, asked_so, given_none, gives_links, gives_no_links, none_answered, waits_given}
 use Rattle.hdfs_recovery.proofs.Asks.{asked_links}
 use Rattle.hdfs_recovery.proofs.Stepping.{keeps_links_trans}
 use Rattle.hdfs_recovery.proofs.replacing.add_datanode.Goals as goal
@@ -37,36 +36,18 @@ returns-in-Err-clause-err g c =
     (through c.get_additional_datanode.new.self c.get_additional_datanode.new.cluster) c.requires.reaches
     c.in-Err.error asked)
 
-pub returns-in_err-transfer-clause-links : goal.returns-in_err-transfer-clause-links
-returns-in_err-transfer-clause-links g c =
-    asked_links g.C.Cluster.shown g.C.Cluster.serves g.met.C.Cluster.serves_rows g.met.C.Cluster.active_below _ (through c.args.namenode.now c.args.cluster.now)
-    (through c.get_additional_datanode.new.self c.get_additional_datanode.new.cluster) c.requires.reaches
-    (Ok (answers.GetAdditionalDatanode c.in-Ok.located)) c.in-Ok.ensures.asked
-
-pub returns-in_err-transfer-clause-err : goal.returns-in_err-transfer-clause-err
-returns-in_err-transfer-clause-err g c =
-    let p = err_from_is_err_and c.from_residual.result c.from_residual.ensures.1 in
-    let asked = asked_so g.C.Cluster.shown g.C.Cluster.serves g.met.C.Cluster.serves_rows g.met.C.Cluster.active_below c.args.plan.now c.args.excluded.now 1
-    (name_of c.args.namenode.now) c.as_slice-2.result.now (through c.args.namenode.now c.args.cluster.now)
-    (through c.get_additional_datanode.new.self c.get_additional_datanode.new.cluster) c.requires.reaches
-    c.as_str.result.now c.as_slice.result.now (Ok (answers.GetAdditionalDatanode c.in-Ok.located)) c.as_str.ensures c.as_slice.ensures c.in-Ok.ensures.asked in
-    rw (p.1, p.2) (none_prepared g.C.Cluster.shown g.C.Cluster.serves g.met.C.Cluster.serves_rows g.met.C.Cluster.active_below c.args.plan.now c.args.excluded.now 1
-    (name_of c.args.namenode.now) c.as_slice-2.result.now (through c.args.namenode.now c.args.cluster.now)
-    (through c.get_additional_datanode.new.self c.get_additional_datanode.new.cluster) c.requires.reaches
-    (Ok (answers.GetAdditionalDatanode c.in-Ok.located)) asked)
-
-pub returns-in-Ok-transfer-clause-links : goal.returns-in-Ok-transfer-clause-links
-returns-in-Ok-transfer-clause-links g c =
-    let given = c.in-Ok-transfer.ensures.ok in
+pub returns-in-Ok-give_block-clause-links : goal.returns-in-Ok-give_block-clause-links
+returns-in-Ok-give_block-clause-links g c =
     keeps_links_trans (g.C.Cluster.shown c.args.cluster.now) (g.C.Cluster.shown c.get_additional_datanode.new.cluster)
-    (g.C.Cluster.shown c.transfer.new.self)
+    (g.C.Cluster.shown c.give_block.new.cluster)
     (asked_links g.C.Cluster.shown g.C.Cluster.serves g.met.C.Cluster.serves_rows g.met.C.Cluster.active_below _ (through c.args.namenode.now c.args.cluster.now)
     (through c.get_additional_datanode.new.self c.get_additional_datanode.new.cluster) c.requires.reaches
     (Ok (answers.GetAdditionalDatanode c.in-Ok.located)) c.in-Ok.ensures.asked)
-    (transfer_links (g.C.Cluster.shown c.get_additional_datanode.new.cluster) (g.C.Cluster.shown c.transfer.new.self) given.only given.writes)
+    (gives_links c.args.plan.now c.in-Ok.located c.client_name.result.now (g.C.Cluster.shown c.get_additional_datanode.new.cluster)
+    (g.C.Cluster.shown c.give_block.new.cluster) c.in-Ok-give_block.ensures.ok)
 
-pub returns-in-Ok-transfer-clause-adds : goal.returns-in-Ok-transfer-clause-adds
-returns-in-Ok-transfer-clause-adds g c =
+pub returns-in-Ok-give_block-clause-adds : goal.returns-in-Ok-give_block-clause-adds
+returns-in-Ok-give_block-clause-adds g c =
     let asked = asked_so g.C.Cluster.shown g.C.Cluster.serves g.met.C.Cluster.serves_rows g.met.C.Cluster.active_below c.args.plan.now c.args.excluded.now 1
     (name_of c.args.namenode.now) c.as_slice-2.result.now (through c.args.namenode.now c.args.cluster.now)
     (through c.get_additional_datanode.new.self c.get_additional_datanode.new.cluster) c.requires.reaches
@@ -78,32 +59,31 @@ returns-in-Ok-transfer-clause-adds g c =
           (name_of c.args.namenode.now) c.as_slice-2.result.now (through c.args.namenode.now c.args.cluster.now)
           (through c.get_additional_datanode.new.self c.get_additional_datanode.new.cluster) c.requires.reaches
           c.in-Ok.located asked;
-      waits = waits_with g.C.Cluster.shown g.C.Cluster.serves g.met.C.Cluster.serves_rows g.met.C.Cluster.active_below c.args.plan.now c.args.excluded.now 1
+      waits = waits_given g.C.Cluster.shown g.C.Cluster.serves g.met.C.Cluster.serves_rows g.met.C.Cluster.active_below c.args.plan.now c.args.excluded.now 1
           (name_of c.args.namenode.now) c.as_slice-2.result.now (through c.args.namenode.now c.args.cluster.now)
           (through c.get_additional_datanode.new.self c.get_additional_datanode.new.cluster) c.requires.reaches
-          c.in-Ok.located asked (g.C.Cluster.shown c.transfer.new.self) c.client_name.result.now c.in_ok-transfer.transfer c.in_ok-transfer.ensures c.in-Ok-transfer.ensures.ok;
+          c.in-Ok.located asked c.client_name.result.now
+          (g.C.Cluster.shown c.give_block.new.cluster) c.in-Ok-give_block.ensures.ok;
     }
 
-pub returns-in-Err-transfer-clause-links : goal.returns-in-Err-transfer-clause-links
-returns-in-Err-transfer-clause-links g c =
-    let given = c.in-Err-transfer.ensures.err in
+pub returns-in-Err-give_block-clause-links : goal.returns-in-Err-give_block-clause-links
+returns-in-Err-give_block-clause-links g c =
     keeps_links_trans (g.C.Cluster.shown c.args.cluster.now) (g.C.Cluster.shown c.get_additional_datanode.new.cluster)
-    (g.C.Cluster.shown c.transfer.new.self)
+    (g.C.Cluster.shown c.give_block.new.cluster)
     (asked_links g.C.Cluster.shown g.C.Cluster.serves g.met.C.Cluster.serves_rows g.met.C.Cluster.active_below _ (through c.args.namenode.now c.args.cluster.now)
     (through c.get_additional_datanode.new.self c.get_additional_datanode.new.cluster) c.requires.reaches
     (Ok (answers.GetAdditionalDatanode c.in-Ok.located)) c.in-Ok.ensures.asked)
-    (transfer_links (g.C.Cluster.shown c.get_additional_datanode.new.cluster) (g.C.Cluster.shown c.transfer.new.self) given.only given.writes)
+    (gives_no_links c.args.plan.now c.in-Ok.located c.client_name.result.now (g.C.Cluster.shown c.get_additional_datanode.new.cluster)
+    c.in-Err-give_block.fault (g.C.Cluster.shown c.give_block.new.cluster) c.in-Err-give_block.ensures.err)
 
-pub returns-in-Err-transfer-clause-err : goal.returns-in-Err-transfer-clause-err
-returns-in-Err-transfer-clause-err g c =
+pub returns-in-Err-give_block-clause-err : goal.returns-in-Err-give_block-clause-err
+returns-in-Err-give_block-clause-err g c =
     let asked = asked_so g.C.Cluster.shown g.C.Cluster.serves g.met.C.Cluster.serves_rows g.met.C.Cluster.active_below c.args.plan.now c.args.excluded.now 1
     (name_of c.args.namenode.now) c.as_slice-2.result.now (through c.args.namenode.now c.args.cluster.now)
     (through c.get_additional_datanode.new.self c.get_additional_datanode.new.cluster) c.requires.reaches
     c.as_str.result.now c.as_slice.result.now (Ok (answers.GetAdditionalDatanode c.in-Ok.located)) c.as_str.ensures c.as_slice.ensures c.in-Ok.ensures.asked in
-    subst (λ (f : WriteFault). AddsNone c.args.plan.now (g.C.Cluster.shown c.args.cluster.now) f (g.C.Cluster.shown c.transfer.new.self))
-    (sym c.fault_of_transfer.ensures)
-    (none_given g.C.Cluster.shown g.C.Cluster.serves g.met.C.Cluster.serves_rows g.met.C.Cluster.active_below c.args.plan.now c.args.excluded.now 1
+    given_none g.C.Cluster.shown g.C.Cluster.serves g.met.C.Cluster.serves_rows g.met.C.Cluster.active_below c.args.plan.now c.args.excluded.now 1
     (name_of c.args.namenode.now) c.as_slice-2.result.now (through c.args.namenode.now c.args.cluster.now)
     (through c.get_additional_datanode.new.self c.get_additional_datanode.new.cluster) c.requires.reaches
-    c.in-Ok.located asked (g.C.Cluster.shown c.transfer.new.self) c.client_name.result.now c.in_ok-transfer.transfer c.in_ok-transfer.ensures c.in-Err-transfer.fault
-    c.in-Err-transfer.ensures.err)
+    c.in-Ok.located asked c.client_name.result.now c.in-Err-give_block.fault
+    (g.C.Cluster.shown c.give_block.new.cluster) c.in-Err-give_block.ensures.err

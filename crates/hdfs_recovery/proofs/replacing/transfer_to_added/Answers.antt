@@ -32,6 +32,6 @@ offset_bounds-nodes-beside c =
 
 pub returns : goal.returns
 returns c =
-    gives_to_added c.args.plan.now c.args.located.now c.args.client.now _ c.in_ok-copy.field-0 c.requires.some c.requires.types
+    gives_to_added c.args.plan.now c.args.located.now c.args.client.now _ _ c.in_ok-targets.ensures c.requires.some c.requires.types
     c.requires.one c.place_of-place.result c.place_beside-beside.result (search rules) c.place_beside-beside.ensures
-    (search rules) (search rules) (search rules) (search rules) (search rules) (search rules) (search rules)
+    (search rules) (search rules) (search rules) (search rules) (search rules) (search rules)
