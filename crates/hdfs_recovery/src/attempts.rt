@@ -253,7 +253,8 @@ fn next_plan<C: Cluster>(
     requires rebuilds { plan.rebuilds ≤ settings.now.rebuild_limit }
     ensures links { KeepsLinks (C.shown cluster.old) (C.shown cluster.new) }
     ensures ok { IfOk result (λ plan'. GivesPlan plan settings.now failed.now (C.shown cluster.old) plan' (C.shown cluster.new)) }
-    ensures err { IfErr result (λ fault. GivesNoPlan settings.now (standing plan failed.now (C.shown cluster.old)) fault (C.shown cluster.new)) }
+    ensures err { IfErr result (λ fault.
+        GivesNoPlan settings.now (standing plan failed.now (C.shown cluster.old)) fault (C.shown cluster.new)) }
     ensures client { SameClient namenode.old namenode.new }
 {
     let Ok(excluded) = copy_at(alloc, plan.block.locs.as_slice(), failed) else {

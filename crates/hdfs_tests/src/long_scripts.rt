@@ -2,6 +2,7 @@
 
 use hdfs_checking::{Ending, noted_of_new};
 use std::alloc::{AllocError, Global};
+use std::test::Fail;
 
 /// So many bytes: newlines, and then number signs.
 fn comment(alloc: Global, newlines: usize, count: usize) -> Result<Vec<u8>, AllocError> {
@@ -33,52 +34,41 @@ fn is_ending(given: &Ending, status: u8, text: &str) -> bool {
 }
 
 /// Whether a script is answered so, and with this note.
-fn answers(alloc: Global, script: &[u8], status: u8, text: &str, wanted: &str) -> bool {
-    match noted_of_new(alloc, script) {
-        Ok((given, note)) => is_ending(&given, status, text) && note.as_str() == wanted,
-        Err(_fail) => false,
-    }
+fn answers(
+    alloc: Global,
+    script: &[u8],
+    status: u8,
+    text: &str,
+    wanted: &str,
+) -> Result<bool, Fail> {
+    let (given, note) = noted_of_new(alloc, script)?;
+    Ok(is_ending(&given, status, text) && note.as_str() == wanted)
 }
 
-fn whole_answers(alloc: Global) -> bool {
-    match comment(alloc, 0, 16777216) {
-        Ok(script) => answers(alloc, &script, 0, "", "the script has no command"),
-        Err(_) => false,
-    }
-}
-
-fn longer_answers(alloc: Global, newlines: usize, text: &str, wanted: &str) -> bool {
-    match comment(alloc, newlines, 16777217) {
-        Ok(script) => answers(alloc, &script, 1, text, wanted),
-        Err(_) => false,
-    }
-}
-
-fn comments_answer(alloc: Global) -> bool {
-    match comments(alloc, 256) {
-        Ok(script) => answers(
-            alloc,
-            &script,
-            1,
-            "bad 257\n",
-            "line 257: the script has more than 16777216 bytes",
-        ),
-        Err(_) => false,
-    }
+/// Whether a script of so many newlines, and a byte more than may be, is refused at a line with this note.
+fn is_refused(alloc: Global, newlines: usize, text: &str, wanted: &str) -> Result<bool, Fail> {
+    let script = comment(alloc, newlines, 16777217)?;
+    answers(alloc, &script, 1, text, wanted)
 }
 
 #[test]
-fn a_script_has_at_most_16_777_216_bytes(rt: HostRuntime) {
+fn a_script_has_at_most_16_777_216_bytes(rt: HostRuntime) -> Result<(), Fail> {
     let alloc = rt.alloc();
-    assert!(rt; whole_answers(alloc));
+    let script = comment(alloc, 0, 16777216)?;
+    let holds = answers(alloc, &script, 0, "", "the script has no command")?;
+    assert!(rt; holds);
     let wanted = "line 1: the script has more than 16777216 bytes";
-    assert!(rt; longer_answers(alloc, 0, "bad 1\n", wanted));
+    assert!(rt; is_refused(alloc, 0, "bad 1\n", wanted)?);
+    Ok(())
 }
 
 #[test]
-fn the_line_that_passes_the_limit_is_told(rt: HostRuntime) {
+fn the_line_that_passes_the_limit_is_told(rt: HostRuntime) -> Result<(), Fail> {
     let alloc = rt.alloc();
-    assert!(rt; comments_answer(alloc));
+    let script = comments(alloc, 256)?;
+    let wanted = "line 257: the script has more than 16777216 bytes";
+    assert!(rt; answers(alloc, &script, 1, "bad 257\n", wanted)?);
     let wanted = "line 4: the script has more than 16777216 bytes";
-    assert!(rt; longer_answers(alloc, 3, "bad 4\n", wanted));
+    assert!(rt; is_refused(alloc, 3, "bad 4\n", wanted)?);
+    Ok(())
 }

@@ -5,6 +5,7 @@ use hdfs_cluster::MemCluster;
 use hdfs_model::Store;
 use hdfs_streams::{MemSink, MemSource};
 use std::alloc::Global;
+use std::test::Fail;
 
 /// Words that aren't those of a session.
 const WORDS: [&[&str]; 4] = [&[], &["make"], &["session", "session"], &["Session"]];
@@ -23,11 +24,9 @@ fn ends_over(
     sink: &mut MemSink,
     store: &mut MemCluster,
     wanted: (u8, &str),
-) -> bool {
-    match answer_words(alloc, texts, source, sink, store) {
-        Ok(given) => (given.status, given.text.as_str()) == wanted,
-        Err(_fail) => false,
-    }
+) -> Result<bool, Fail> {
+    let given = answer_words(alloc, texts, source, sink, store)?;
+    Ok((given.status, given.text.as_str()) == wanted)
 }
 
 /// Whether the program ends so over a new store.
@@ -37,85 +36,73 @@ fn ends(
     source: &mut MemSource,
     sink: &mut MemSink,
     wanted: (u8, &str),
-) -> bool {
-    match store_of(alloc, false) {
-        Ok(mut store) => ends_over(alloc, texts, source, sink, &mut store, wanted),
-        Err(_fail) => false,
-    }
+) -> Result<bool, Fail> {
+    let mut store = store_of(alloc, false)?;
+    ends_over(alloc, texts, source, sink, &mut store, wanted)
 }
 
 /// Whether words are refused.
-fn is_refused(alloc: Global, texts: &[&str]) -> bool {
-    match source(alloc, b"file /a 644 1 8 00\n") {
-        Ok(mut source) => ends(alloc, texts, &mut source, &mut sink(alloc), (1, "bad 0\n")),
-        Err(_fail) => false,
-    }
+fn is_refused(alloc: Global, texts: &[&str]) -> Result<bool, Fail> {
+    let mut source = source(alloc, b"file /a 644 1 8 00\n")?;
+    ends(alloc, texts, &mut source, &mut sink(alloc), (1, "bad 0\n"))
 }
 
 #[test]
-fn other_words_are_refused(rt: HostRuntime) {
+fn other_words_are_refused(rt: HostRuntime) -> Result<(), Fail> {
     for texts in &WORDS {
-        assert!(rt; is_refused(rt.alloc(), texts), "{texts:?}");
+        assert!(rt; is_refused(rt.alloc(), texts)?, "{texts:?}");
     }
+    Ok(())
 }
 
 /// Whether the program over a sink that fails at a call, and takes a byte a call, writes the bytes before that one.
-fn writes_prefix(alloc: Global, texts: &[&str], script: &[u8], text: &str, call: u64) -> bool {
+fn writes_prefix(
+    alloc: Global,
+    texts: &[&str],
+    script: &[u8],
+    text: &str,
+    call: u64,
+) -> Result<bool, Fail> {
     let prefix = text.get(..call.saturating_sub(1) as usize).unwrap_or("");
-    let Ok(mut sink) = failing_sink(alloc, call) else {
-        return false;
-    };
-    match source(alloc, script) {
-        Ok(mut source) => ends(alloc, texts, &mut source, &mut sink, (5, prefix)),
-        Err(_fail) => false,
-    }
+    let mut sink = failing_sink(alloc, call)?;
+    let mut source = source(alloc, script)?;
+    ends(alloc, texts, &mut source, &mut sink, (5, prefix))
 }
 
 #[test]
-fn other_words_and_a_sink_that_fails_give_a_prefix_of_the_refusal(rt: HostRuntime) {
+fn other_words_and_a_sink_that_fails_give_a_prefix_of_the_refusal(
+    rt: HostRuntime,
+) -> Result<(), Fail> {
     for call in 1..=6u64 {
-        assert!(rt;
-            writes_prefix(rt.alloc(), &["make"], b"", "bad 0\n", call),
-            "call {call}"
-        );
-    }
-}
-
-#[test]
-fn a_sink_that_fails_has_a_prefix_of_the_text(rt: HostRuntime) {
-    for call in 1..=11u64 {
-        let holds = writes_prefix(rt.alloc(), &["session"], NO_BYTE, "ok bytes -\n", call);
+        let holds = writes_prefix(rt.alloc(), &["make"], b"", "bad 0\n", call)?;
         assert!(rt; holds, "call {call}");
     }
+    Ok(())
+}
+
+#[test]
+fn a_sink_that_fails_has_a_prefix_of_the_text(rt: HostRuntime) -> Result<(), Fail> {
+    for call in 1..=11u64 {
+        let holds = writes_prefix(rt.alloc(), &["session"], NO_BYTE, "ok bytes -\n", call)?;
+        assert!(rt; holds, "call {call}");
+    }
+    Ok(())
 }
 
 /// Whether a source that fails at a call ends the program, and leaves the store as it was.
-fn fails_untouched(alloc: Global, call: u64, store: &mut MemCluster) -> bool {
-    match failing_source(alloc, ONE_BYTE, call) {
-        Ok(mut source) => {
-            ends_over(
-                alloc,
-                &["session"],
-                &mut source,
-                &mut sink(alloc),
-                store,
-                (4, ""),
-            ) && store.fresh()
-        }
-        Err(_fail) => false,
-    }
-}
-
-fn fails_at(alloc: Global, call: u64) -> bool {
-    match store_of(alloc, false) {
-        Ok(mut store) => fails_untouched(alloc, call, &mut store),
-        Err(_fail) => false,
-    }
+fn fails_untouched(alloc: Global, call: u64, store: &mut MemCluster) -> Result<bool, Fail> {
+    let mut source = failing_source(alloc, ONE_BYTE, call)?;
+    let mut sink = sink(alloc);
+    let ended = ends_over(alloc, &["session"], &mut source, &mut sink, store, (4, ""))?;
+    Ok(ended && store.fresh())
 }
 
 #[test]
-fn a_source_that_fails_ends_with_status_4(rt: HostRuntime) {
+fn a_source_that_fails_ends_with_status_4(rt: HostRuntime) -> Result<(), Fail> {
     for call in 1..=2u64 {
-        assert!(rt; fails_at(rt.alloc(), call), "call {call}");
+        let mut store = store_of(rt.alloc(), false)?;
+        let holds = fails_untouched(rt.alloc(), call, &mut store)?;
+        assert!(rt; holds, "call {call}");
     }
+    Ok(())
 }
