@@ -9,7 +9,8 @@ use crate::scenes::{BYTES, Ran, Scene};
 use crate::steps::{open, three_hold};
 use crate::ways::{Failure, Way, failures, never, way_of};
 use hdfs_block_writer::{BlockPlan, BlockWriter};
-use hdfs_cluster::{Appended, Cluster, LocatedBlock, MemCluster};
+use hdfs_cluster::{Appended, LocatedBlock, MemCluster};
+use hdfs_namenode::NamenodeProtocol;
 use std::alloc::Global;
 
 /// Whether the first six bytes are written, and the file is closed then.
@@ -85,25 +86,44 @@ pub(crate) fn append(alloc: Global, line: &str) -> Option<String> {
 }
 
 /// Lets go of a writer.
+fn abandon_writer(cluster: &mut MemCluster, writer: BlockWriter)
+    requires { GoesOn cluster.old writer }
+{
+    writer.abandon(cluster);
+}
+
 fn abandon(cluster: &mut MemCluster, writer: Box<BlockWriter>)
     requires { GoesOn cluster.old writer.value }
 {
-    Box::into_inner(writer).abandon(cluster);
+    abandon_writer(cluster, Box::into_inner(writer));
 }
 
-/// Writes these bytes behind the six, and lets go of the writer.
-fn write_behind(scene: &mut Scene, bytes: &[u8]) -> Option<()> {
+/// Whether these bytes are written.
+fn are_written(
+    cluster: &mut MemCluster,
+    namenode: &mut NamenodeProtocol,
+    writer: &mut BlockWriter,
+    bytes: &[u8],
+) -> bool
+    requires { GoesOn cluster.old writer.old }
+    ensures { GoesOn cluster.new writer.new }
+{
+    if !namenode.reaches_all(cluster) {
+        return false;
+    }
+    writer.write(cluster, namenode, bytes).is_ok()
+}
+
+/// Whether these bytes are written behind the six. The writer is let go then.
+fn write_behind(scene: &mut Scene, bytes: &[u8]) -> Option<bool> {
     let alloc = scene.alloc;
     let plan = append_plan(scene)?;
     let cluster = &mut *scene.cluster;
     let namenode = &mut *scene.namenode;
     let mut writer = open(alloc, cluster, namenode, plan, &never(100), 64)?;
-    if !namenode.reaches_all(cluster) {
-        return None;
-    }
-    let wrote = writer.write(cluster, namenode, bytes).is_ok();
+    let wrote = are_written(cluster, namenode, &mut *writer, bytes);
     abandon(cluster, writer);
-    if wrote { Some(()) } else { None }
+    Some(wrote)
 }
 
 /// The bytes that are written behind the six.
@@ -112,7 +132,9 @@ const BEHIND: [u8; 7] = [7, 8, 9, 10, 11, 12, 13];
 /// What the datanodes hold once these bytes are written behind the six and the writer is let go, and the number of the next link.
 fn hold_after(alloc: Global, bytes: &[u8]) -> Option<String> {
     let mut scene = with_six(alloc, 3, &[])?;
-    write_behind(&mut *scene, bytes)?;
+    if !write_behind(&mut *scene, bytes)? {
+        return None;
+    }
     let held = three_hold(&mut *scene)?;
     let next = next_link(&mut *scene)?;
     format!(in alloc; "held:{}; next link {next}", held.as_str()).ok()

@@ -141,7 +141,12 @@ impl Scene {
         let outcome: Outcome = match open_writer(
             self.alloc, cluster, namenode, plan, &settings, 64,
         ) {
-            Ok(writer) => write_pieces(cluster, namenode, writer, bytes, way.step),
+            Ok(writer) => {
+                if !namenode.reaches_all(cluster) {
+                    return None;
+                }
+                write_pieces(cluster, namenode, writer, bytes, way.step)
+            }
             Err(fault) => Err(fault),
         };
         let kept: Result<Box<Outcome>, _> = Box::new(self.alloc, outcome);
@@ -150,6 +155,22 @@ impl Scene {
 }
 
 /// Opens a writer of the plan's block, which has at most so many bytes.
+fn replicated(
+    alloc: Global,
+    cluster: &mut MemCluster,
+    namenode: &NamenodeProtocol,
+    plan: BlockPlan,
+    settings: &RebuildSettings,
+    size: u64,
+) -> Result<BlockWriter, WriteFault>
+    requires plan { IsPlanned plan }
+    requires window { (1 ≤ settings.now.window) × (settings.now.window ≤ 1000) }
+    requires size { (6 ≤ size) × (size ≤ 64) }
+    ensures { IfOk result (λ writer. GoesOn cluster.new writer) }
+{
+    BlockWriter::replicated(alloc, cluster, namenode, plan, settings, size, 0)
+}
+
 pub(crate) fn open_writer(
     alloc: Global,
     cluster: &mut MemCluster,
@@ -164,10 +185,20 @@ pub(crate) fn open_writer(
     ensures { IfOk result (λ writer. GoesOn cluster.new writer.value) }
 {
     let plan = Box::into_inner(plan);
-    match BlockWriter::replicated(alloc, cluster, namenode, plan, settings, size, 0) {
-        Ok(writer) => Ok(Box::new(alloc, writer)?),
-        Err(fault) => Err(fault),
-    }
+    let writer = replicated(alloc, cluster, namenode, plan, settings, size)?;
+    Ok(Box::new(alloc, writer)?)
+}
+
+/// Closes the block.
+pub(crate) fn close_writer(
+    cluster: &mut MemCluster,
+    namenode: &mut NamenodeProtocol,
+    writer: BlockWriter,
+) -> Outcome
+    requires reaches { ReachesAll (proxy_of namenode.old) (shown_of cluster.old) }
+    requires goes { GoesOn cluster.old writer }
+{
+    writer.close(cluster, namenode)
 }
 
 /// Writes bytes, so many in a call.
@@ -203,7 +234,7 @@ fn write_pieces(
     requires step { 0 < step }
 {
     put_pieces(cluster, namenode, &mut *writer, bytes, step)?;
-    Box::into_inner(writer).close(cluster, namenode)
+    close_writer(cluster, namenode, Box::into_inner(writer))
 }
 
 /// A cluster over which block 256 was written, and what came of it.

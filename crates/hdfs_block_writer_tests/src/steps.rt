@@ -4,7 +4,7 @@ ghost use Rattle.hdfs_block_writer_tests.specs.Going.{GoesOn, IsPlanned};
 
 use crate::looking::{ending, held, next_link};
 use crate::messages::plan;
-use crate::scenes::{BYTES, Scene, open_writer, settings};
+use crate::scenes::{BYTES, Scene, close_writer, open_writer, settings};
 use crate::ways::{Way, failures, never};
 use hdfs_block_writer::{BlockPlan, BlockWriter, WriteFault};
 use hdfs_cluster::{Block, MemCluster};
@@ -85,7 +85,7 @@ fn close(
     if !namenode.reaches_all(cluster) {
         return None;
     }
-    let outcome = Box::into_inner(writer).close(cluster, namenode);
+    let outcome = close_writer(cluster, namenode, Box::into_inner(writer));
     let told = named(alloc, &outcome);
     drop(outcome);
     told

@@ -1,5 +1,5 @@
 //! Sessions over a cluster in memory that holds a file of four bytes, by their values.
-ghost use Rattle.std.specs.Prelude.{◌<◌, IfSome};
+ghost use Rattle.std.specs.Prelude.{◌<◌};
 ghost use Rattle.hdfs_client.specs.Session.{Stands};
 ghost use Rattle.hdfs_cluster.specs.MemShown.{shown_of};
 
@@ -37,9 +37,7 @@ fn command(alloc: Global, line: &str) -> Option<Box<Command>> {
 }
 
 /// The cluster, whose file is encrypted or plain.
-fn store(alloc: Global, word: &str) -> Option<Box<MemCluster>>
-    ensures { IfSome result (λ store. 0 < (shown_of store.value).namenodes) }
-{
+fn store(alloc: Global, word: &str) -> Option<Box<MemCluster>> {
     match holding(alloc, word == "encrypted") {
         Ok(store) => Box::new(alloc, store).ok(),
         Err(_) => None,
@@ -76,15 +74,23 @@ fn apply_all(
     Some(answers)
 }
 
+/// What the commands of a new session are answered.
+fn in_session(alloc: Global, store: &mut MemCluster, lines: &str) -> Option<String> {
+    let settings = settings(alloc).ok()?;
+    if store.namenodes() == 0 {
+        return None;
+    }
+    match Session::new(alloc, &*store, &settings) {
+        Ok(mut session) => apply_all(alloc, store, &mut session, lines),
+        Err(_) => None,
+    }
+}
+
 /// What commands are answered that one session runs, over a cluster whose file is plain or encrypted.
 pub(crate) fn session(alloc: Global, rest: &str) -> Option<String> {
     let (word, lines) = rest.split_once(' ')?;
     let mut store = store(alloc, word)?;
-    let settings = settings(alloc).ok()?;
-    match Session::new(alloc, &*store, &settings) {
-        Ok(mut session) => apply_all(alloc, &mut *store, &mut session, lines),
-        Err(_) => None,
-    }
+    in_session(alloc, &mut *store, lines)
 }
 
 /// What a session of one command is answered.

@@ -99,9 +99,9 @@ fn create(
     cluster: &mut MemCluster,
     namenode: &mut NamenodeProtocol,
     block_size: u64,
-) -> Option<Box<FileWriter>>
+) -> Option<FileWriter>
     requires size { (0 < block_size) × (block_size < 2 ^ 63) }
-    ensures { IfSome result (λ writer. (shown : Shown) → Stands shown writer.value) }
+    ensures { IfSome result (λ writer. (shown : Shown) → Stands shown writer) }
 {
     if !namenode.is_service_of(cluster) {
         return None;
@@ -111,7 +111,7 @@ fn create(
     drop(answer);
     let id = created?;
     let path = Text::from_str(alloc, PATH).ok()?;
-    Box::new(alloc, FileWriter::new(alloc, path, id, sizes(block_size))).ok()
+    Some(FileWriter::new(alloc, path, id, sizes(block_size)))
 }
 
 /// Opens the file to be gone on with, and gives its writer.
@@ -120,9 +120,9 @@ fn append(
     cluster: &mut MemCluster,
     namenode: &mut NamenodeProtocol,
     block_size: u64,
-) -> Option<Box<FileWriter>>
+) -> Option<FileWriter>
     requires size { (0 < block_size) × (block_size < 2 ^ 63) }
-    ensures { IfSome result (λ writer. (shown : Shown) → Stands shown writer.value) }
+    ensures { IfSome result (λ writer. (shown : Shown) → Stands shown writer) }
 {
     if !namenode.is_service_of(cluster) {
         return None;
@@ -130,8 +130,7 @@ fn append(
     let path = Text::from_str(alloc, PATH).ok()?;
     match namenode.append(cluster, PATH, 4) {
         Ok(Appended { block, .. }) => {
-            let writer = FileWriter::appended(alloc, path, None, sizes(block_size), block);
-            Box::new(alloc, writer).ok()
+            Some(FileWriter::appended(alloc, path, None, sizes(block_size), block))
         }
         Err(_) => None,
     }
@@ -154,25 +153,25 @@ fn write(
 }
 
 /// Whether the file is closed.
-fn close(writer: Box<FileWriter>, cluster: &mut MemCluster, namenode: &mut NamenodeProtocol) -> bool
-    requires { Stands (shown_of cluster.old) writer.value }
+fn close(writer: FileWriter, cluster: &mut MemCluster, namenode: &mut NamenodeProtocol) -> bool
+    requires { Stands (shown_of cluster.old) writer }
 {
     if !namenode.reaches_all(cluster) {
         return false;
     }
-    Box::into_inner(writer).close(cluster, namenode).is_ok()
+    writer.close(cluster, namenode).is_ok()
 }
 
 /// Whether the bytes are written, and the file is closed then.
 fn finish(
-    mut writer: Box<FileWriter>,
+    mut writer: FileWriter,
     cluster: &mut MemCluster,
     namenode: &mut NamenodeProtocol,
     bytes: &[u8],
 ) -> bool
-    requires { Stands (shown_of cluster.old) writer.value }
+    requires { Stands (shown_of cluster.old) writer }
 {
-    write(&mut *writer, cluster, namenode, bytes) && close(writer, cluster, namenode)
+    write(&mut writer, cluster, namenode, bytes) && close(writer, cluster, namenode)
 }
 
 /// Whether the file is created with these bytes, and closed.
@@ -220,7 +219,7 @@ fn write_twice(
 {
     match create(alloc, cluster, namenode, block_size) {
         Some(mut writer) => {
-            write(&mut *writer, cluster, namenode, first)
+            write(&mut writer, cluster, namenode, first)
                 && finish(writer, cluster, namenode, second)
         }
         None => false,
