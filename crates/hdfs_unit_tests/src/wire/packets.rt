@@ -24,7 +24,7 @@ fn packet(alloc: Global, argument: &str) -> Result<ReadPacket, WireFault> {
     }
     let mut bytes = PACKET;
     if let Some(place) = bytes.get_mut(number(argument, 1) as usize) {
-        *place = small(argument, 2) as u8;
+        *place = nth(argument, 2).parse().unwrap_or(0);
     }
     parsed(alloc, &bytes)
 }
