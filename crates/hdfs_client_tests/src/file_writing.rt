@@ -1,8 +1,8 @@
 //! Files are written block by block in memory, and read back.
 ghost use Rattle.std.specs.Prelude.{◌≡◌, ◌<◌, ◌≤◌, ◌^◌, true, IfSome};
-ghost use Rattle.hdfs_cluster.specs.MemShown.{shown_of};
-ghost use Rattle.hdfs_files.specs.Writers.{AreSizes, Stands};
-ghost use Rattle.hdfs_model.specs.Shown.{Shown};
+ghost use Rattle.hdfs_client_tests.specs.Going.{GoesOn, IsFresh};
+ghost use Rattle.hdfs_files.specs.Writers.{AreSizes};
+ghost use Rattle.hdfs_model.specs.Namenode.{IsToWrite};
 
 use crate::asking::{read, run_one};
 use crate::words::{number, push, text};
@@ -93,15 +93,41 @@ fn id_of(answer: &Result<Option<FileStatusMsg>, HdfsError>) -> Option<Option<u64
     }
 }
 
+/// The writer of a file that was created.
+fn new_writer(alloc: Global, path: Text, id: Option<u64>, block_size: u64) -> FileWriter
+    requires { (0 < block_size) × (block_size < 2 ^ 63) }
+    ensures { IsFresh result }
+{
+    FileWriter::new(alloc, path, id, sizes(block_size))
+}
+
+/// The writer of a file that was opened to be gone on with.
+fn appended(alloc: Global, path: Text, opened: Appended, block_size: u64) -> FileWriter
+    requires size { (0 < block_size) × (block_size < 2 ^ 63) }
+    requires block { IfSome opened.block IsToWrite }
+    ensures { IsFresh result }
+{
+    let Appended { block, stat: _stat } = opened;
+    FileWriter::appended(alloc, path, None, sizes(block_size), block)
+}
+
+/// A writer, in a box.
+fn boxed(alloc: Global, writer: FileWriter) -> Option<Box<FileWriter>>
+    requires { IsFresh writer }
+    ensures { IfSome result (λ writer. IsFresh writer.value) }
+{
+    Box::new(alloc, writer).ok()
+}
+
 /// Creates the file, and gives its writer.
 fn create(
     alloc: Global,
     cluster: &mut MemCluster,
     namenode: &mut NamenodeProtocol,
     block_size: u64,
-) -> Option<FileWriter>
+) -> Option<Box<FileWriter>>
     requires size { (0 < block_size) × (block_size < 2 ^ 63) }
-    ensures { IfSome result (λ writer. (shown : Shown) → Stands shown writer) }
+    ensures { IfSome result (λ writer. IsFresh writer.value) }
 {
     if !namenode.is_service_of(cluster) {
         return None;
@@ -111,7 +137,7 @@ fn create(
     drop(answer);
     let id = created?;
     let path = Text::from_str(alloc, PATH).ok()?;
-    Some(FileWriter::new(alloc, path, id, sizes(block_size)))
+    boxed(alloc, new_writer(alloc, path, id, block_size))
 }
 
 /// Opens the file to be gone on with, and gives its writer.
@@ -120,18 +146,16 @@ fn append(
     cluster: &mut MemCluster,
     namenode: &mut NamenodeProtocol,
     block_size: u64,
-) -> Option<FileWriter>
+) -> Option<Box<FileWriter>>
     requires size { (0 < block_size) × (block_size < 2 ^ 63) }
-    ensures { IfSome result (λ writer. (shown : Shown) → Stands shown writer) }
+    ensures { IfSome result (λ writer. IsFresh writer.value) }
 {
     if !namenode.is_service_of(cluster) {
         return None;
     }
     let path = Text::from_str(alloc, PATH).ok()?;
     match namenode.append(cluster, PATH, 4) {
-        Ok(Appended { block, .. }) => {
-            Some(FileWriter::appended(alloc, path, None, sizes(block_size), block))
-        }
+        Ok(opened) => boxed(alloc, appended(alloc, path, opened, block_size)),
         Err(_) => None,
     }
 }
@@ -143,8 +167,8 @@ fn write(
     namenode: &mut NamenodeProtocol,
     bytes: &[u8],
 ) -> bool
-    requires { Stands (shown_of cluster.old) writer.old }
-    ensures { Stands (shown_of cluster.new) writer.new }
+    requires { GoesOn cluster.old writer.old }
+    ensures { GoesOn cluster.new writer.new }
 {
     if !namenode.reaches_all(cluster) {
         return false;
@@ -152,9 +176,26 @@ fn write(
     writer.write(cluster, namenode, bytes).ok() == Some(bytes.len())
 }
 
+/// Whether all of the first bytes are written.
+fn write_first(
+    writer: &mut FileWriter,
+    cluster: &mut MemCluster,
+    namenode: &mut NamenodeProtocol,
+    bytes: &[u8],
+) -> bool
+    requires { IsFresh writer.old }
+    ensures { GoesOn cluster.new writer.new }
+{
+    write(writer, cluster, namenode, bytes)
+}
+
 /// Whether the file is closed.
-fn close(writer: FileWriter, cluster: &mut MemCluster, namenode: &mut NamenodeProtocol) -> bool
-    requires { Stands (shown_of cluster.old) writer }
+fn close_writer(
+    writer: FileWriter,
+    cluster: &mut MemCluster,
+    namenode: &mut NamenodeProtocol,
+) -> bool
+    requires { GoesOn cluster.old writer }
 {
     if !namenode.reaches_all(cluster) {
         return false;
@@ -162,52 +203,41 @@ fn close(writer: FileWriter, cluster: &mut MemCluster, namenode: &mut NamenodePr
     writer.close(cluster, namenode).is_ok()
 }
 
-/// Whether the bytes are written, and the file is closed then.
-fn finish(
-    mut writer: FileWriter,
+fn close(writer: Box<FileWriter>, cluster: &mut MemCluster, namenode: &mut NamenodeProtocol) -> bool
+    requires { GoesOn cluster.old writer.value }
+{
+    close_writer(Box::into_inner(writer), cluster, namenode)
+}
+
+/// Whether the first bytes are written, and the file is closed then.
+fn write_once(
+    mut writer: Box<FileWriter>,
     cluster: &mut MemCluster,
     namenode: &mut NamenodeProtocol,
     bytes: &[u8],
 ) -> bool
-    requires { Stands (shown_of cluster.old) writer }
+    requires { IsFresh writer.value }
 {
-    write(&mut writer, cluster, namenode, bytes) && close(writer, cluster, namenode)
+    write_first(&mut *writer, cluster, namenode, bytes) && close(writer, cluster, namenode)
 }
 
-/// Whether the file is created with these bytes, and closed.
-fn create_with(
-    alloc: Global,
-    cluster: &mut MemCluster,
-    namenode: &mut NamenodeProtocol,
-    block_size: u64,
-    bytes: &[u8],
-) -> bool
-    requires { (0 < block_size) × (block_size < 2 ^ 63) }
-{
-    match create(alloc, cluster, namenode, block_size) {
-        Some(writer) => finish(writer, cluster, namenode, bytes),
-        None => false,
-    }
-}
-
-/// Whether the file is opened again, these bytes are written behind those that are there, and it is closed.
-fn go_on(
-    alloc: Global,
-    cluster: &mut MemCluster,
-    namenode: &mut NamenodeProtocol,
-    block_size: u64,
-    bytes: &[u8],
-) -> bool
-    requires { (0 < block_size) × (block_size < 2 ^ 63) }
-{
-    match append(alloc, cluster, namenode, block_size) {
-        Some(writer) => finish(writer, cluster, namenode, bytes),
-        None => false,
-    }
-}
-
-/// Whether the file is created, and written by two calls of one writer, and closed.
+/// Whether bytes are written by two calls, and the file is closed then.
 fn write_twice(
+    mut writer: Box<FileWriter>,
+    cluster: &mut MemCluster,
+    namenode: &mut NamenodeProtocol,
+    first: &[u8],
+    second: &[u8],
+) -> bool
+    requires { IsFresh writer.value }
+{
+    write_first(&mut *writer, cluster, namenode, first)
+        && write(&mut *writer, cluster, namenode, second)
+        && close(writer, cluster, namenode)
+}
+
+/// Whether the file is created, and written by one writer.
+fn create_and_write(
     alloc: Global,
     cluster: &mut MemCluster,
     namenode: &mut NamenodeProtocol,
@@ -218,10 +248,39 @@ fn write_twice(
     requires { (0 < block_size) × (block_size < 2 ^ 63) }
 {
     match create(alloc, cluster, namenode, block_size) {
-        Some(mut writer) => {
-            write(&mut writer, cluster, namenode, first)
-                && finish(writer, cluster, namenode, second)
-        }
+        Some(writer) => write_twice(writer, cluster, namenode, first, second),
+        None => false,
+    }
+}
+
+/// Whether the file is created, and written by one call.
+fn create_with(
+    alloc: Global,
+    cluster: &mut MemCluster,
+    namenode: &mut NamenodeProtocol,
+    block_size: u64,
+    bytes: &[u8],
+) -> bool
+    requires { (0 < block_size) × (block_size < 2 ^ 63) }
+{
+    match create(alloc, cluster, namenode, block_size) {
+        Some(writer) => write_once(writer, cluster, namenode, bytes),
+        None => false,
+    }
+}
+
+/// Whether the file is opened again, and these bytes are written behind those that are there.
+fn go_on(
+    alloc: Global,
+    cluster: &mut MemCluster,
+    namenode: &mut NamenodeProtocol,
+    block_size: u64,
+    bytes: &[u8],
+) -> bool
+    requires { (0 < block_size) × (block_size < 2 ^ 63) }
+{
+    match append(alloc, cluster, namenode, block_size) {
+        Some(writer) => write_once(writer, cluster, namenode, bytes),
         None => false,
     }
 }
@@ -242,7 +301,7 @@ fn is_written(
         create_with(alloc, cluster, namenode, size, first)
             && go_on(alloc, cluster, namenode, size, second)
     } else {
-        write_twice(alloc, cluster, namenode, size, first, second)
+        create_and_write(alloc, cluster, namenode, size, first, second)
     }
 }
 
