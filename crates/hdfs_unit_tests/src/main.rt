@@ -114,14 +114,19 @@ fn follow(rt: &HostRuntime, line: &str, held: &mut [u64]) -> io::Result<()> {
     }
 }
 
+/// Prints how many lines of each topic held.
+fn print_counts(rt: &HostRuntime, held: &[u64]) -> io::Result<()> {
+    for (topic, count) in TOPICS.iter().zip(held) {
+        println!(rt; "{topic} {count}")?;
+    }
+    Ok(())
+}
+
 fn main(rt: HostRuntime) -> io::Result<()> {
     let mut held = [0u64; 12];
     for line in BufReader::new(rt.alloc(), rt.reader())?.lines(rt.alloc()) {
         let line = line?;
         follow(&rt, line.as_str(), &mut held)?;
     }
-    for (topic, count) in TOPICS.iter().zip(held) {
-        println!(rt; "{topic} {count}")?;
-    }
-    Ok(())
+    print_counts(&rt, &held)
 }

@@ -119,15 +119,26 @@ fn load(
     put_flag(out, taken)
 }
 
-/// Loads the file and cuts its replicas, a comma between two.
+/// Cuts replicas, a comma between two.
+fn cut_each(
+    alloc: Global,
+    out: &mut String,
+    files: &mut PlainFiles,
+    before: &mut Vec<Line>,
+    text: &str,
+) -> Result<(), NoMemory> {
+    load(out, files, before, file(alloc)?)?;
+    for row in text.split(',') {
+        load(out, files, before, short(alloc, row)?)?;
+    }
+    Ok(())
+}
+
+/// Loads the file and cuts its replicas.
 fn cut(alloc: Global, out: &mut String, text: &str) -> Result<(), NoMemory> {
     let mut files = PlainFiles::new(alloc)?;
     let mut before = Vec::new(alloc);
-    load(out, &mut files, &mut before, file(alloc)?)?;
-    for row in text.split(',') {
-        load(out, &mut files, &mut before, short(alloc, row)?)?;
-    }
-    Ok(())
+    cut_each(alloc, out, &mut files, &mut before, text)
 }
 
 pub(crate) fn tell(

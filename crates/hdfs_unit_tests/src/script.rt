@@ -77,28 +77,38 @@ fn replication(out: &mut String, read: &Parsed) -> Result<(), NoMemory> {
     }
 }
 
-/// What a script comes to, and its first bad line.
-fn put_read(alloc: Global, out: &mut String, word: &str, read: &Parsed) -> Result<(), NoMemory> {
-    match word {
-        "commands" => commands(out, read)?,
-        "sets" => sets(alloc, out, read)?,
-        "writes" => writes(alloc, out, read)?,
-        "encrypts" => encrypts(out, read)?,
-        "namenodes" => namenodes(out, read)?,
-        "replication" => replication(out, read)?,
-        _ => no_such_word(out)?,
-    }
-    match read.bad {
+/// Puts the first bad line, if there is one, behind the text.
+fn put_bad(out: &mut String, bad: Option<u64>) -> Result<(), NoMemory> {
+    match bad {
         Some(bad) => Ok(write!(out, "bad {bad}")?),
         None => Ok(()),
     }
+}
+
+/// What a script comes to.
+fn put_read(alloc: Global, out: &mut String, word: &str, read: &Parsed) -> Result<(), NoMemory> {
+    match word {
+        "commands" => commands(out, read),
+        "sets" => sets(alloc, out, read),
+        "writes" => writes(alloc, out, read),
+        "encrypts" => encrypts(out, read),
+        "namenodes" => namenodes(out, read),
+        "replication" => replication(out, read),
+        _ => no_such_word(out),
+    }
+}
+
+/// What a script comes to, and its first bad line.
+fn put_all(alloc: Global, out: &mut String, word: &str, read: &Parsed) -> Result<(), NoMemory> {
+    put_read(alloc, out, word, read)?;
+    put_bad(out, read.bad)
 }
 
 fn read(alloc: Global, out: &mut String, word: &str, argument: &str) -> Result<(), NoMemory> {
     let text = script(alloc, argument)?;
     let read = parse(alloc, text.as_str().as_bytes());
     drop(text);
-    put_read(alloc, out, word, &read?)
+    put_all(alloc, out, word, &read?)
 }
 
 /// What is said of a line of a script, over a fresh store or another one.
