@@ -1,6 +1,7 @@
 -- What the namenodes that give what they are told to give show.
 use Rattle.std.specs.Prelude.{◌≡◌, ◌<◌, ◌≤◌, [], Some, None, Result, IfOk}
 use Rattle.std.proofs.lemmas.Option.{none-some}
+use Rattle.slab.specs.Slab as slab
 use Rattle.hdfs_model.specs.Counts.{Rose}
 use Rattle.hdfs_model.specs.Namenode.{IsFailure, last_of}
 use Rattle.hdfs_model.specs.Picture.{Picture}
@@ -11,15 +12,15 @@ use Rattle.hdfs_model.specs.Shown.{Shown}
 use Rattle.hdfs_model.specs.Sound.{IsSound}
 use Rattle.hdfs_namenode_tests.specs.declared.fake_namenodes.FakeNamenodes.{FakeNamenodes}
 
--- no picture, three namenodes, one count for all of them, and no links
+-- no picture, three namenodes, and one count for all of them
 abbrev pub shown_of : FakeNamenodes → Shown
 shown_of fake = record {
   picture = None;
   counts = record { calls = λ i. fake.failed; links = 0; nodes = λ d. 0 };
   last = fake.last;
   namenodes = 3;
-  reads = λ link. None;
-  writes = λ link. None;
+  reads = λ link. slab.get fake.reads link;
+  writes = λ link. slab.get fake.writes link;
   loaded = record { settings = None; lines = [] };
 }
 

@@ -4,12 +4,13 @@ ghost use Rattle.hdfs_model.specs.Namenode.{IsFailure, IsFalse, IsShaped, last_o
 ghost use Rattle.hdfs_namenode_tests.specs.Namenodes.{GivesNone};
 
 use hdfs_model::{
-    AclStatusMsg, Answer, Ask, AskFault, Cluster, EncryptionKey, LastAnswer, LinkFault, ReadAsk,
-    ServerDefaults, Setup, Summary, Transfer,
+    AclStatusMsg, Answer, Ask, AskFault, Cluster, EncryptionKey, LastAnswer, LinkFault, OpenRead,
+    OpenWrite, ReadAsk, ServerDefaults, Setup, Summary, Transfer,
 };
 use hdfs_wire::{
     Ack, Blob, ChecksumInfo, List, NoMemory, ReadPacket, Text, WireFault, WritePacket,
 };
+use slab::Slab;
 use std::alloc::Global;
 
 /// What a namenode gives: an answer, the exception of a standby, of an observer, of a path at which something stands, or of anything else,
@@ -60,6 +61,8 @@ pub(crate) struct FakeNamenodes {
     pub(crate) asked: Vec<u32>,
     pub(crate) last: LastAnswer,
     pub(crate) failed: u64,
+    pub(crate) reads: Slab<OpenRead>,
+    pub(crate) writes: Slab<OpenWrite>,
 }
 
 const OBSERVER: &str = "org.apache.hadoop.ipc.ObserverRetryOnActiveException";
@@ -215,6 +218,8 @@ impl FakeNamenodes {
             asked: Vec::new(alloc),
             last: LastAnswer::Fine,
             failed: 0,
+            reads: Slab::new(alloc),
+            writes: Slab::new(alloc),
         }
     }
 
@@ -325,15 +330,20 @@ impl Cluster for FakeNamenodes {
         Err(LinkFault::NoMemory)
     }
 
-    fn checksums(&self, _link: u64) -> Option<ChecksumInfo> {
-        None
+    fn checksums(&self, link: u64) -> Option<ChecksumInfo> {
+        match self.reads.get(link as usize) {
+            Some(read) => read.checksums,
+            None => None,
+        }
     }
 
     fn packet(&mut self, _link: u64) -> Result<ReadPacket, LinkFault> {
         Err(LinkFault::NoMemory)
     }
 
-    fn end_read(&mut self, _link: u64, keep: bool) -> bool {
+    fn end_read(&mut self, link: u64, keep: bool) -> bool {
+        let ended = self.reads.try_remove(link as usize);
+        drop(ended);
         keep
     }
 
@@ -349,7 +359,10 @@ impl Cluster for FakeNamenodes {
         Err(LinkFault::NoMemory)
     }
 
-    fn end_write(&mut self, _link: u64) {}
+    fn end_write(&mut self, link: u64) {
+        let ended = self.writes.try_remove(link as usize);
+        drop(ended);
+    }
 
     fn transfer(&mut self, _transfer: &Transfer) -> Result<(), LinkFault> {
         Err(LinkFault::NoMemory)
