@@ -1,19 +1,19 @@
 -- Datanodes have failed so many times, one time behind another.
 use Rattle.std.proofs.Common.{◌≡◌, ℕ, zero, suc, ◌+◌, ◌-◌, ◌≤◌, subst, arith}
 use Rattle.hdfs_model.specs.Causes.{SomeNodeRose}
+use Rattle.hdfs_model.specs.Failures.{ADatanode}
 use Rattle.hdfs_model.specs.Shown.{Shown, Later}
-use Rattle.hdfs_model.proofs.Frames.{later_trans, rose_since}
+use Rattle.hdfs_model.proofs.Failures.{failed_on, failed_since}
+use Rattle.hdfs_model.proofs.Frames.{later_trans}
 use Rattle.hdfs_block_writer.specs.OpenPipelines.{NodesFailTimes}
 
 -- a datanode has failed since before
 pub some_rose_since : (a b c : Shown) → Later a b → SomeNodeRose b.counts c → SomeNodeRose a.counts c
-some_rose_since a b c later some =
-    (some.0, rose_since (a.counts.nodes some.0) (b.counts.nodes some.0) (c.counts.nodes some.0) (c.counts.nodes some.0) (later.counts.nodes some.0) some.1 (omega arith))
+some_rose_since a b c later some = failed_since a b c ADatanode later.counts some
 
 -- or before, and since then too
 some_rose_until : (a b c : Shown) → Later b c → SomeNodeRose a.counts b → SomeNodeRose a.counts c
-some_rose_until a b c later some =
-    (some.0, rose_since (a.counts.nodes some.0) (a.counts.nodes some.0) (b.counts.nodes some.0) (c.counts.nodes some.0) (omega arith) some.1 (later.counts.nodes some.0))
+some_rose_until a b c later some = failed_on a b c ADatanode later some
 
 -- so they have since before
 pub fails_since : (times : ℕ) (a b c : Shown) → Later a b → NodesFailTimes times b c → NodesFailTimes times a c

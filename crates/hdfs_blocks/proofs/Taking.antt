@@ -12,7 +12,7 @@ use Rattle.hdfs_model.proofs.Frames.{told_after, told_weaker, only_reads_from-Re
 use Rattle.hdfs_wire.specs.Checksums.{IsChecked}
 use Rattle.hdfs_wire.specs.declared.read_packet.ReadPacket.{ReadPacket}
 use Rattle.hdfs_blocks.specs.Blocks.{node_at, node_count, held_at, IsToBlame}
-use Rattle.hdfs_blocks.specs.Reader.{tried_of, Holds, LinkHolds, OthersStay, PlaceIs, PlacedIn, ShowsBlock, stage_of, before_opening, before_link}
+use Rattle.hdfs_blocks.specs.Reader.{tried_of, Holds, IsNodeAt, LinkHolds, OthersStay, PlaceIs, PlacedIn, ShowsBlock, stage_of, before_opening, before_link}
 use Rattle.hdfs_blocks.specs.Going.{Frame, Goes, Accepts, IsPartOf, count_at, gives_up}
 use Rattle.hdfs_blocks.specs.declared.block_read.BlockRead.{BlockRead}
 use Rattle.hdfs_blocks.specs.declared.given_up.GivenUp.{GivenUp}
@@ -203,6 +203,8 @@ module _ (s t : Shown) (r : BlockRead) (l : ℕ) (packet : ReadPacket) (holds : 
           h.2,
           record {
             node = h.3.node ∙ sym same_node;
+            listed = subst (λ (b : LocatedBlock). IsNodeAt b (tried_of r') h.1.ask.node) (sym same.block)
+                (subst (λ (k : ℕ). IsNodeAt r.block k h.1.ask.node) (sym same_tried) h.3.listed);
             same_block = h.3.same_block ∙ sym (ap (λ (b : LocatedBlock). b.b) same.block);
             token = h.3.token ∙ sym (ap (λ (b : LocatedBlock). b.block_token) same.block);
             same_client = h.3.same_client ∙ sym same.client;

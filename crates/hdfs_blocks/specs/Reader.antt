@@ -1,5 +1,6 @@
 -- A reader of a block, the cluster that it reads from, and the bytes of the block.
 use Rattle.std.specs.Prelude.{◌≡◌, ◌≢◌, ◌⊎◌, ◌↔◌, ℕ, zero, suc, ◌+◌, ◌<◌, ◌≤◌, Bool, true, false, List, ◌∷◌, ◌++◌, length, slice_get, Option, Some, None, IsSome, IsSomeAnd, IfSome, Result, Ok, IfOk, IfErr}
+use Rattle.hdfs_model.specs.declared.messages.DatanodeId.{DatanodeId}
 use Rattle.hdfs_model.specs.declared.messages.LocatedBlock.{LocatedBlock}
 use Rattle.hdfs_model.specs.declared.messages.ReadAsk.{ReadAsk}
 use Rattle.hdfs_model.specs.declared.picture.ReadPlace.{ReadPlace}
@@ -74,10 +75,15 @@ IsOver reader = (has_failed reader ≡ true) ⊎ (wanted_of reader ≡ end_of re
 abbrev pub EndsStill : {C : Type 0} → BlockRead → C → Result (Option (List ℕ)) HdfsError → C → Type 0
 EndsStill reader old result new = ((result ≡ Ok None) ↔ IsOver reader) × (result ≡ Ok None → new ≡ old)
 
--- a read of a block up to this byte was asked for from its k-th location in a client's name, with the block's stamp, pool and token as
--- they were answered
+-- the node is that of the k-th location of a block, with the address that is listed for it
+abbrev pub IsNodeAt : LocatedBlock → ℕ → DatanodeId → Type 0
+IsNodeAt block k node = IsSomeAnd (slice_get block.locs k) (λ listed. node ≡ listed.id)
+
+-- a read of a block up to this byte was asked for from its k-th location, at the address that is listed for it, in a client's name, with
+-- the block's stamp, pool and token as they were answered
 pub record IsAskFor (block : LocatedBlock) (k : ℕ) (client : List ℕ) (end : ℕ) (ask : ReadAsk) : Type 0 where
   pub node : ask.node.datanode_uuid ≡ node_at block k
+  pub listed : IsNodeAt block k ask.node
   pub same_block : ask.block ≡ block.b
   pub token : ask.token ≡ block.block_token
   pub same_client : ask.client ≡ client

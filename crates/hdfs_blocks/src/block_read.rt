@@ -1,5 +1,5 @@
 //! A range of one block, read from the nodes that are listed for it, in order.
-ghost use Rattle.std.specs.Prelude.{◌≡◌, ◌<◌, ◌≤◌, ◌+◌, ◌-◌, ◌^◌, ◌⊎◌, ℕ, List, [], Option, Some, None, Ok, IfOk, OnOk, OnErr, IfErr, IsSomeAnd, MatchOption, length, slice_get, true, false};
+ghost use Rattle.std.specs.Prelude.{◌≡◌, ◌<◌, ◌≤◌, ◌+◌, ◌-◌, ◌^◌, ◌⊎◌, ℕ, List, [], Option, Some, None, Ok, IfOk, OnOk, OnErr, IfErr, MatchOption, length, true, false};
 ghost use Rattle.hdfs_blocks.specs.Blocks.{node_count};
 ghost use Rattle.hdfs_model.specs.declared.errors.HdfsError.TheVariants as errors;
 
@@ -272,7 +272,6 @@ impl BlockRead {
         requires idle { self.old.link ≡ None }
         requires asked { IsAskFor self.old.block (tried_of self.old) self.old.client self.old.end ask.now }
         requires offset { ask.now.offset ≡ self.old.wanted }
-        requires listed { IsSomeAnd (slice_get self.old.block.locs (tried_of self.old)) (λ listed. ask.now.node ≡ listed.id) }
         ensures goes { Goes (C.shown cluster.old) (C.shown cluster.new) self.old self.new }
         ensures same { (self.new.wanted ≡ self.old.wanted) × (self.new.failed ≡ self.old.failed) }
         ensures opened { IfOk result (λ link. self.new.link ≡ link) }

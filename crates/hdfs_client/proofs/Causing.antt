@@ -19,18 +19,19 @@ use Rattle.hdfs_model.specs.Namenode.{Locates, IsNoFile, StandsForNoFile, class_
 use Rattle.hdfs_model.specs.Shown.{Shown, Later, OnlyReads}
 use Rattle.hdfs_model.specs.Stores.{Agrees}
 use Rattle.hdfs_model.specs.Causes.{AllFailed, ByteLost, CallsRose, FileLost, HasLength, IsEncryptedAt, OpensEncrypted, Cause, Tells, IsEarly}
-use Rattle.hdfs_model.proofs.Frames.{told_after, rose_since}
+use Rattle.hdfs_model.proofs.Frames.{never_fall_refl, told_after, rose_since}
 use Rattle.hdfs_namenode.specs.Asked.{exception_error}
 use Rattle.hdfs_namenode.specs.Relaying.{RefusedBy, TellsAsk}
 use Rattle.hdfs_client.specs.Meeting.{Meets, IsClosed}
 use Rattle.hdfs_client.specs.Ranges.{Stored, FailsAt}
 use Rattle.hdfs_client.proofs.Agreeing.{agrees_moved, agrees_files, is_told, byte_lost, locates_blocks, stores_blocks}
+use Rattle.hdfs_client.proofs.Refusing.{rose_cause}
 use Rattle.hdfs_client.proofs.Stepping.{Found, found_file, is_closed, refused_read, done_read, bad_range}
 
 -- what holds of an error over any cluster
 pub tells_from-FailsAt : (name : List ℕ) (offset len : ℕ) (old new : Shown) (e : HdfsError) → FailsAt (λ byte. offset < offset + len) e → Tells (commands.Read name offset len) old new e
-tells_from-FailsAt name offset len old new errors.NoMemory h = tt
-tells_from-FailsAt name offset len old new (errors.DataTransferError (transfer.Read byte)) h = (offset, len, (refl, refl), omega (arith, h))
+tells_from-FailsAt name offset len old new errors.NoMemory h = (tt, (tt, tt))
+tells_from-FailsAt name offset len old new (errors.DataTransferError (transfer.Read byte)) h = ((offset, len, (refl, refl), omega (arith, h)), (tt, tt))
 tells_from-FailsAt name offset len old new e h = absurd h
 
 -- an error of datanodes is no refusal
@@ -60,24 +61,14 @@ module _ (w : World) (s s' : Shown) (state : State) (name path : List ℕ) (offs
   missing_cause h =
       let t = closed_there in
       let lacking = h t.0 t.1 t.2 in
-      (lacking.0, refused_read w s state name path meets t.0 t.1 offset len lacking.0 lacking.1)
+      ((lacking.0, refused_read w s state name path meets t.0 t.1 offset len lacking.0 lacking.1), tt)
 
   exception_cause : (class message : List ℕ) → (p : Picture) → s.picture ≡ Some p → StandsForNoFile (kinds p) path class ⊎ CallsRose s.counts s' → Cause w state command s s' (exception_error class message)
   exception_cause class message p told h = by_test (is_taken class) refl
     where
       by_test : (b : Bool) → is_taken class ≡ b → Cause w state command s s' (cond b (errors.AlreadyExists message) (errors.RPCError class message))
-      by_test true is = ⊎_elim (λ stands. absurd (false≢true (sym (not_taken stands.0) ∙ sym (ap is_taken stands.2) ∙ is))) (λ rose. inr rose) h
-      by_test false is = ⊎_elim (λ stands. inl (stands.0, refused_read w s state name path meets p told offset len stands.0 stands.1, stands.2)) (λ rose. inr rose) h
-
-  -- a namenode has failed
-  rose_cause : (e : HdfsError) → TellsAsk s s' e → CallsRose s.counts s' → Cause w state command s s' e
-  rose_cause errors.NoMemory tells rose = tt
-  rose_cause (errors.AlreadyExists message) tells rose = inr rose
-  rose_cause (errors.RPCError class message) tells rose = inr rose
-  rose_cause (errors.IOError (io_faults.Namenode last)) tells rose = rose
-  rose_cause (errors.InvalidRPCResponse fault) tells rose = rose
-  rose_cause (errors.FatalRPCError class message) tells rose = rose
-  rose_cause e tells rose = absurd tells
+      by_test true is = (⊎_elim (λ stands. absurd (false≢true (sym (not_taken stands.0) ∙ sym (ap is_taken stands.2) ∙ is))) (λ rose. inr rose) h, tt)
+      by_test false is = (⊎_elim (λ stands. inl (stands.0, refused_read w s state name path meets p told offset len stands.0 stands.1, stands.2)) (λ rose. inr rose) h, tt)
 
   -- why the look-up fails
   pub looked_cause : (from count : ℕ) (e : HdfsError) → TellsAsk s s' e
@@ -86,10 +77,10 @@ module _ (w : World) (s s' : Shown) (state : State) (name path : List ℕ) (offs
   looked_cause from count e tells why =
       let t = closed_there in
       ⊎_elim
-      (λ memory. subst (Cause w state command s s') (sym memory) tt)
+      (λ memory. subst (Cause w state command s s') (sym memory) (tt, tt))
       (λ more. ⊎_elim
       (λ refused. subst (Cause w state command s s') (sym refused.3) (exception_cause refused.0 refused.1 t.0 t.1 (inl refused.2)))
-      (λ rose. rose_cause e tells rose)
+      (λ rose. rose_cause w state command s s s' e (never_fall_refl s.counts) tells rose)
       more)
       (why t.0 t.1 t.2)
 
@@ -110,7 +101,7 @@ module _ (w : World) (s s' : Shown) (state : State) (name path : List ℕ) (offs
 
       -- it is refused for that where the file is encrypted
       pub encrypted_cause : is_some found.encryption ≡ true → Cause w state command s s' (errors.UnsupportedFeature features.Encryption)
-      encrypted_cause is = inr (subst (λ (q : List ℕ). IsEncryptedAt state q) (sym meets.called) (here.3.content, here.3.filed, sym here.3.encryption ∙ is))
+      encrypted_cause is = (inr (subst (λ (q : List ℕ). IsEncryptedAt state q) (sym meets.called) (here.3.content, here.3.filed, sym here.3.encryption ∙ is)), tt)
 
       -- and else no encrypted file is opened
       pub opens_plain : found.encryption ≡ None → OpensEncrypted state (target_of w command) command → ⊥
@@ -123,22 +114,15 @@ module _ (w : World) (s s' : Shown) (state : State) (name path : List ℕ) (offs
       pub moves_cause : offset + len ≤ found.file_length → 0 < len → w.defaults.encrypt_data_transfer ≡ true → Cause w state command s s' (errors.UnsupportedFeature features.Encryption)
       moves_cause within some encrypts =
           let f = here.3 in
-          inl (
-            (
-              replies.Bytes (range_of f.content.bytes offset len),
-              state,
-              done_read w s state name path meets here.0 here.1 found here.2 f offset len (omega (arith, within, f.long)),
-            ),
-            (some, encrypts),
-          )
+          let done = done_read w s state name path meets here.0 here.1 found here.2 f offset len (omega (arith, within, f.long)) in
+          (inl ((replies.Bytes (range_of f.content.bytes offset len), state, done), (some, encrypts)), tt)
 
       pub range_cause : found.file_length < offset + len → Cause w state command s s' (errors.InvalidArgument (args.Range offset len found.file_length))
       range_cause past =
           let f = here.3 in
-          let length_is : HasLength state path found.file_length = (f.content, ap content_of f.filed, f.long) in (
-            bad_range w s state name path meets here.0 here.1 found here.2 f offset len (omega (arith, past, f.long)),
-            subst (λ (q : List ℕ). HasLength state q found.file_length) (sym meets.called) length_is,
-          )
+          let length_is : HasLength state path found.file_length = (f.content, ap content_of f.filed, f.long) in
+          let bad = bad_range w s state name path meets here.0 here.1 found here.2 f offset len (omega (arith, past, f.long)) in
+          ((bad, subst (λ (q : List ℕ). HasLength state q found.file_length) (sym meets.called) length_is), tt)
 
       -- the blocks that were found store the file, still
       after : (q : Picture) × (s'.picture ≡ Some q) × SameFiles here.0 q
@@ -192,16 +176,12 @@ module _ (w : World) (s s' : Shown) (state : State) (name path : List ℕ) (offs
             }
 
         pub blocks_cause : (e : HdfsError) → ((content : List ℕ) (st : Stored s' found.blocks content) → FailsAt (ByteLost st.picture st.ids offset (offset + len) (AllFailed s'.counts u.counts st.picture)) e) → Cause w state command s u e
-        blocks_cause errors.NoMemory h = tt
+        blocks_cause errors.NoMemory h = (tt, tt)
         blocks_cause (errors.DataTransferError (transfer.Read byte)) h =
-            let f = here.3 in (
-              (
-                replies.Bytes (range_of f.content.bytes offset len),
-                state,
-                done_read w s state name path meets here.0 here.1 found here.2 f offset len (omega (arith, within, f.long)),
-              ),
-              subst (λ (q : List ℕ). FileLost s.counts u q offset (offset + len) byte) (sym meets.called) (file_lost byte h),
-            )
+            let f = here.3 in
+            let done = done_read w s state name path meets here.0 here.1 found here.2 f offset len (omega (arith, within, f.long)) in
+            let lost = subst (λ (q : List ℕ). FileLost s.counts u q offset (offset + len) byte) (sym meets.called) (file_lost byte h) in
+            (((replies.Bytes (range_of f.content.bytes offset len), state, done), lost), tt)
         blocks_cause e h = absurd (h here.3.content.bytes stored)
 
       pub agrees_read : (u : Shown) → OnlyReads s' u → Agrees u.picture state.files

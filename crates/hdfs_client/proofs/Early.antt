@@ -10,7 +10,8 @@ use Rattle.hdfs_model.specs.declared.errors.HdfsError.TheVariants as errors
 use Rattle.hdfs_model.specs.Causes.{Cause, Tells}
 use Rattle.hdfs_model.specs.Files.{State, kinds_of, no_file}
 use Rattle.hdfs_model.specs.Paths.{is_path}
-use Rattle.hdfs_model.specs.Sessions.{Answers, Owed, OwedBy, IsNotOwed, is_misplaced, spared}
+use Rattle.hdfs_model.specs.Sessions.{Answers, spared}
+use Rattle.hdfs_model.specs.Owing.{Owed, OwedBy, IsNotOwed, is_misplaced}
 use Rattle.hdfs_model.specs.Shown.{Shown}
 use Rattle.hdfs_model.specs.Steps.{World, Outcome, Refused, Done, BadPath, WrongState, created, create_file, create_refusal, append_file, append_refusal, write_node, close_node, read_file, is_opened, path_of, step, step_at, target_of}
 use Rattle.hdfs_model.proofs.Frames.{later_refl, same_reads_refl}
@@ -63,7 +64,7 @@ memory_answers (Refused why) = inl refl
 
 -- for want of memory
 pub memory_acts : (s : Shown) (session : Session) (command : Command) → Stands s session → Acts command s session s (after session (error_result errors.NoMemory)) (Err errors.NoMemory)
-memory_acts s session command stands = early_acts s session command errors.NoMemory stands tt (λ state ready. (tt, memory_answers (step (world_at session s) state command)))
+memory_acts s session command stands = early_acts s session command errors.NoMemory stands (tt, (tt, tt)) (λ state ready. ((tt, tt), memory_answers (step (world_at session s) state command)))
 
 bad_path : (w : World) (state : State) (command : Command) → is_path (target_of w command) ≡ false → step w state command ≡ Refused BadPath
 bad_path w state command is = ap (λ (b : Bool). cond b (step_at w state (target_of w command) command) (Refused BadPath)) is
@@ -71,9 +72,9 @@ bad_path w state command is = ap (λ (b : Bool). cond b (step_at w state (target
 -- for the path rule
 pub path_acts : (s : Shown) (session : Session) (command : Command) → Stands s session → is_path (target_of (world_at session s) command) ≡ false
     → Acts command s session s (after session (error_result (errors.InvalidPath (path_of command)))) (Err (errors.InvalidPath (path_of command)))
-path_acts s session command stands is = early_acts s session command (errors.InvalidPath (path_of command)) stands refl (λ state ready.
+path_acts s session command stands is = early_acts s session command (errors.InvalidPath (path_of command)) stands (refl, (tt, tt)) (λ state ready.
     (let refused = bad_path (world_at session s) state command is in
-    (refused, subst (λ (o : Outcome). Answers o (errors.InvalidPath (path_of command))) (sym refused) (inr tt))))
+    ((refused, tt), subst (λ (o : Outcome). Answers o (errors.InvalidPath (path_of command))) (sym refused) (inr tt))))
 
 not_false : (b : Bool) → not b ≡ true → b ≡ false
 not_false true is = absurd (cc)
@@ -95,10 +96,10 @@ misplaced_step w state command is placed =
 pub state_acts : (s : Shown) (session : Session) (command : Command) → Stands s session → is_path (target_of (world_at session s) command) ≡ true
     → is_misplaced command (opened_of session (target_of (world_at session s) command)) ≡ true
     → Acts command s session s (after session (error_result (errors.InvalidArgument args.State))) (Err (errors.InvalidArgument args.State))
-state_acts s session command stands is placed = early_acts s session command (errors.InvalidArgument args.State) stands tt (λ state ready.
+state_acts s session command stands is placed = early_acts s session command (errors.InvalidArgument args.State) stands (tt, (tt, tt)) (λ state ready.
     (let here = ap (is_misplaced command) (ready.ready.opened (target_of (world_at session s) command)) ∙ placed in
     let refused = misplaced_step (world_at session s) state command is here in
-    (refused, subst (λ (o : Outcome). Answers o (errors.InvalidArgument args.State)) (sym refused) (inr tt))))
+    ((refused, tt), subst (λ (o : Outcome). Answers o (errors.InvalidArgument args.State)) (sym refused) (inr tt))))
 
 -- what is owed for the path rule
 pub owed_path : (w : World) (opened : List ℕ → Bool) (command : Command) (error : HdfsError) → is_path (target_of w command) ≡ false → error ≡ errors.InvalidPath (path_of command) → Owed w opened command error

@@ -28,7 +28,6 @@ use Rattle.hdfs_files.specs.OnlyFiles.{OnlyFile}
 use Rattle.hdfs_files.specs.Tails.{FileCarries}
 use Rattle.hdfs_files.specs.Writers as files
 use Rattle.hdfs_files.specs.declared.file_writer.FileWriter.{FileWriter}
-use Rattle.hdfs_files.proofs.Asked.{Came}
 use Rattle.hdfs_files.proofs.Others.{agrees_others, carries_others}
 use Rattle.hdfs_client.specs.Acting.{Acts, IsReady, world_at}
 use Rattle.hdfs_client.specs.Encrypted.{OnlyTouches}
@@ -41,7 +40,9 @@ use Rattle.hdfs_client.proofs.Acted.{idle_acts, reads_same, spares_but}
 use Rattle.hdfs_client.proofs.Failing.{append_opens, others_open}
 use Rattle.hdfs_client.proofs.Looking.{looks_from-Leaves}
 use Rattle.hdfs_client.proofs.OneFile.{apart_by_test}
-use Rattle.hdfs_client.proofs.Opening.{Over, appending}
+use Rattle.hdfs_namenode.specs.Relaying.{Came}
+use Rattle.hdfs_client.specs.Opening.{appending}
+use Rattle.hdfs_client.proofs.Opening.{Over}
 use Rattle.hdfs_client.proofs.Prepared.{looks_trans}
 use Rattle.hdfs_client.proofs.Sized.{remembers_trans}
 use Rattle.hdfs_client.proofs.Starting.{OpensFile, appended_opens, appended_over}
@@ -150,9 +151,9 @@ module _ (s m t u : Shown) (session session' session'' : Session) (path : List �
       (λ node. touches.nodes node ∙ looks.nodes node)
       (λ r. writers r ∙ kept r)
       (remembers_trans session session' session'' prepares.remembers remembers)
-      tt
+      (tt, (tt, tt))
       (λ at' byte lost. lost)
-      (λ state ready. (inr (subst (λ (x : List ℕ). IsEncryptedAt state x) (sym called) ((opens state ready).content, (opens state ready).filed, sym (opens state ready).encryption ∙ encrypted)), agrees state ready))
+      (λ state ready. ((inr (subst (λ (x : List ℕ). IsEncryptedAt state x) (sym called) ((opens state ready).content, (opens state ready).filed, sym (opens state ready).encryption ∙ encrypted)), tt), agrees state ready))
       carries
 
   -- the blocks of the other files stay as they were

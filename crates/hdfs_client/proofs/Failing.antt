@@ -21,11 +21,10 @@ use Rattle.hdfs_model.specs.Limits.{are_defaults, are_options}
 use Rattle.hdfs_model.specs.Shown.{Shown}
 use Rattle.hdfs_model.specs.Steps.{is_opened, path_of, target_of}
 use Rattle.hdfs_model.specs.Stores.{Agrees}
-use Rattle.hdfs_model.proofs.Frames.{never_fall_refl, rose_since, told_before, told_weaker}
-use Rattle.hdfs_model.proofs.Relaying.{Repeats}
-use Rattle.hdfs_namenode.specs.Relaying.{DoneOrNot, RelaysTold, TellsAsk}
+use Rattle.hdfs_model.proofs.Frames.{never_fall_refl, told_before, told_weaker}
+use Rattle.hdfs_model.specs.Repeating.{DoneOrNot, Repeats}
+use Rattle.hdfs_namenode.specs.Relaying.{Came, RelaysTold, TellsAsk}
 use Rattle.hdfs_namenode.proofs.Relayed.{relayed_done}
-use Rattle.hdfs_files.proofs.Asked.{Came}
 use Rattle.hdfs_files.specs.Writers as files
 use Rattle.hdfs_files.specs.declared.file_writer.FileWriter.{FileWriter}
 use Rattle.std.proofs.lemmas.Bool.{false≢true}
@@ -42,14 +41,6 @@ use Rattle.hdfs_client.proofs.Prepared.{looks_refl, looks_trans}
 use Rattle.hdfs_client.proofs.Looking.{looks_from-Leaves}
 use Rattle.hdfs_client.proofs.Refusing.{ask_not_early, ask_tells, exception_cause, rose_cause}
 use Rattle.hdfs_client.proofs.Sized.{remembers_refl, remembers_trans}
-
--- namenodes that have failed since a time have failed since an earlier time
-pub rose_before : (a b c : Shown) → OnlyLooks a b → CallsRose b.counts c → CallsRose a.counts c
-rose_before a b c looks rose = (
-  rose.0,
-  rose.1,
-  rose_since (a.counts.calls rose.0) (b.counts.calls rose.0) (c.counts.calls rose.0) (c.counts.calls rose.0) (looks.later.counts.calls rose.0) rose.2 (omega arith),
-)
 
 -- an ask that was done or not may be done
 pub may_be_done : (ask : Ask) (p q : Picture) → DoneOrNot ask p q → MayBeDone ask p q
@@ -71,8 +62,8 @@ append_opens name = record { uses = tt; found = λ old new path byte lost. lost 
 pub options_acts : (s : Shown) (session : Session) (name : List ℕ) (options : WriteOptions) → Stands s session → are_options options ≡ false
     → Acts (commands.Create name options) s session s (after {T = Reply} session (Err (errors.InvalidArgument args.Options))) (Err (errors.InvalidArgument args.Options))
 options_acts s session name options stands out =
-    failed_acts (commands.Create name options) s s session session (errors.InvalidArgument args.Options) stands (looks_refl s) (λ r. refl) (remembers_refl session) tt (λ path byte lost. lost)
-    (λ state ready. (out, agrees_but (spared (world_at session s) state (commands.Create name options) (errors.InvalidArgument args.Options)) s.picture state.files ready.ready.fits.agrees))
+    failed_acts (commands.Create name options) s s session session (errors.InvalidArgument args.Options) stands (looks_refl s) (λ r. refl) (remembers_refl session) (out, (tt, tt)) (λ path byte lost. lost)
+    (λ state ready. ((out, tt), agrees_but (spared (world_at session s) state (commands.Create name options) (errors.InvalidArgument args.Options)) s.picture state.files ready.ready.fits.agrees))
     (λ state ready. record { each = λ p told r writer is. inr (ready.carried.each p told r writer is) })
 
 module _ (command : Command) (opens : Opens command) (s m : Shown) (session session' : Session) (stands : Stands s session)
@@ -96,20 +87,20 @@ module _ (command : Command) (opens : Opens command) (s m : Shown) (session sess
   -- want of memory, once the defaults were asked for
   pub starved_acts : Acts command s session m (after {T = Reply} session' (Err errors.NoMemory)) (Err errors.NoMemory)
   starved_acts =
-      failed_acts command s m session session' errors.NoMemory stands prepares.looks kept prepares.remembers tt (opens.found s m)
-      (λ state ready. (tt, agrees_but (spared (world_at session s) state command errors.NoMemory) m.picture state.files (agrees_still state ready)))
+      failed_acts command s m session session' errors.NoMemory stands prepares.looks kept prepares.remembers (tt, (tt, tt)) (opens.found s m)
+      (λ state ready. ((tt, tt), agrees_but (spared (world_at session s) state command errors.NoMemory) m.picture state.files (agrees_still state ready)))
       open_still
 
   lacks_cause : (state : State) → IsReady s session state command → (error : HdfsError) → TellsAsk s m error
       → ((p : Picture) → s.picture ≡ Some p → (error ≡ errors.NoMemory) ⊎ CallsRose s.counts m) → Cause (world_at session s) state command s m error
   lacks_cause state ready error tells why =
       let told = is_told s.picture state.files ready.ready.fits.agrees in
-      ⊎_elim (λ memory. subst (Cause (world_at session s) state command s m) (sym memory) tt) (rose_cause (world_at session s) state command s s m error tells) (why told.0 told.1)
+      ⊎_elim (λ memory. subst (Cause (world_at session s) state command s m) (sym memory) (tt, tt)) (rose_cause (world_at session s) state command s s m error (never_fall_refl s.counts) tells) (why told.0 told.1)
 
   out_cause : (state : State) → IsReady s session state command → (defaults : ServerDefaults) → are_defaults defaults ≡ false → AreTold s (defaults_known session) defaults → Cause (world_at session s) state command s m (errors.InvalidArgument args.Defaults)
   out_cause state ready defaults out same =
       let told = is_told s.picture state.files ready.ready.fits.agrees in
-      (opens.uses, ap (λ (o : Option Picture). are_defaults (defaults_of o)) told.1 ∙ ap are_defaults (sym (same told.0 told.1 ready.carried.defaults)) ∙ out)
+      ((opens.uses, ap (λ (o : Option Picture). are_defaults (defaults_of o)) told.1 ∙ ap are_defaults (sym (same told.0 told.1 ready.carried.defaults)) ∙ out), tt)
 
   -- no defaults
   pub lacks_acts : (error : HdfsError) → LacksDefaults s session error m → Acts command s session m (after {T = Reply} session' (Err error)) (Err error)
@@ -119,7 +110,7 @@ module _ (command : Command) (opens : Opens command) (s m : Shown) (session sess
       open_still
   lacks_acts error (inr out) =
       subst (λ (e : HdfsError). Acts command s session m (after {T = Reply} session' (Err e)) (Err e)) (sym out.0)
-      (failed_acts command s m session session' (errors.InvalidArgument args.Defaults) stands prepares.looks kept prepares.remembers opens.uses (opens.found s m)
+      (failed_acts command s m session session' (errors.InvalidArgument args.Defaults) stands prepares.looks kept prepares.remembers (opens.uses, (tt, tt)) (opens.found s m)
       (λ state ready. (out_cause state ready out.1 out.2 out.3, agrees_but (spared (world_at session s) state command (errors.InvalidArgument args.Defaults)) m.picture state.files (agrees_still state ready)))
       open_still)
 
@@ -164,14 +155,14 @@ module _ (command : Command) (opens : Opens command) (s m : Shown) (session sess
 
     asked_cause : (state : State) → IsReady s session state command → (p : Picture) → m.picture ≡ Some p → (error : HdfsError) → TellsAsk m t error
         → (q : Picture) → RelaysTold (CallsRose m.counts t) p ask (Err error) q → Cause (world_at session s) state command s t error
-    asked_cause state ready p told error tells q (inl memory) = subst (Cause (world_at session s) state command s t) (sym memory.0) tt
+    asked_cause state ready p told error tells q (inl memory) = subst (Cause (world_at session s) state command s t) (sym memory.0) (tt, tt)
     asked_cause state ready p told error tells q (inr (inl refused)) =
         let o = over state ready p told in
         let by = refused.0 in
         subst (Cause (world_at session s) state command s t) (sym by.3)
         (exception_cause (world_at session s) state command s t (kinds p path) o.refusal o.stepped by.0 by.1 (inl (o.refused by.0 by.2)))
     asked_cause state ready p told error tells q (inr (inr rose)) =
-        rose_cause (world_at session s) state command s m t error tells (rose_before s m t prepares.looks rose.0)
+        rose_cause (world_at session s) state command s m t error prepares.looks.later.counts tells rose.0
 
     -- an error of the ask
     pub refused_acts : (error : HdfsError) → Came m ask (Err error) t → ((p : Picture) → Repeats ask p) → Acts command s session t (after {T = Reply} session'' (Err error)) (Err error)
@@ -187,7 +178,7 @@ pub unkept_acts : (command : Command) → Opens command → (s m t : Shown) (ses
     → target_of (world_at session s) command ≡ path → ((state : State) → IsReady s session state command → (p : Picture) → m.picture ≡ Some p → Over p (world_at session s) state command path ask)
     → OnlyLooks m t → ((p : Picture) → m.picture ≡ Some p → (q : Picture) × (t.picture ≡ Some q) × MayBeDone ask p q) → Acts command s session t (after {T = Reply} session'' (Err errors.NoMemory)) (Err errors.NoMemory)
 unkept_acts command opens s m t session session' session'' stands prepares writers remembers ask path called over looks done =
-    late_acts command opens s m session session' stands prepares t session'' writers remembers ask path (λ state. called) over errors.NoMemory refl looks tt (λ state ready p told. (tt, done p told))
+    late_acts command opens s m session session' stands prepares t session'' writers remembers ask path (λ state. called) over errors.NoMemory refl looks (tt, (tt, tt)) (λ state ready p told. ((tt, tt), done p told))
 
 -- no status of the file was answered, of which an answer over a told picture always tells
 pub unstated_acts : (command : Command) → Opens command → (name : List ℕ) → name ≡ path_of command → (s m t : Shown) (session session' session'' : Session) → Stands s session → Prepares s session m session'
@@ -195,7 +186,7 @@ pub unstated_acts : (command : Command) → Opens command → (name : List ℕ) 
     → ((state : State) → IsReady s session state command → (p : Picture) → m.picture ≡ Some p → Over p (world_at session s) state command path ask) → OnlyLooks m t → t.last ≡ last_answers.Fine
     → ((p : Picture) → m.picture ≡ Some p → ⊥) → Acts command s session t (after {T = Reply} session'' (Err (errors.FileNotFound name))) (Err (errors.FileNotFound name))
 unstated_acts command opens name is s m t session session' session'' stands prepares writers remembers ask path called over looks last none =
-    late_acts command opens s m session session' stands prepares t session'' writers remembers ask path (λ state. called) over (errors.FileNotFound name) refl looks (is, last) (λ state ready p told. absurd (none p told))
+    late_acts command opens s m session session' stands prepares t session'' writers remembers ask path (λ state. called) over (errors.FileNotFound name) refl looks (is, (last, tt)) (λ state ready p told. absurd (none p told))
 
 -- the status of a new file tells encryption information, which an answer over a told picture never does
 pub unsupported_acts : (command : Command) → Opens command → CanMeetEncryption command → (s m t : Shown) (session session' session'' : Session) → Stands s session → Prepares s session m session'
@@ -203,5 +194,5 @@ pub unsupported_acts : (command : Command) → Opens command → CanMeetEncrypti
     → ((state : State) → IsReady s session state command → (p : Picture) → m.picture ≡ Some p → Over p (world_at session s) state command path ask) → OnlyLooks m t
     → ((p : Picture) → m.picture ≡ Some p → ⊥) → Acts command s session t (after {T = Reply} session'' (Err (errors.UnsupportedFeature features.Encryption))) (Err (errors.UnsupportedFeature features.Encryption))
 unsupported_acts command opens can s m t session session' session'' stands prepares writers remembers ask path called over looks none =
-    late_acts command opens s m session session' stands prepares t session'' writers remembers ask path (λ state. called) over (errors.UnsupportedFeature features.Encryption) refl looks can
+    late_acts command opens s m session session' stands prepares t session'' writers remembers ask path (λ state. called) over (errors.UnsupportedFeature features.Encryption) refl looks (can, (tt, tt))
     (λ state ready p told. absurd (none p told))

@@ -1,6 +1,5 @@
 -- What holds of an error holds still once the session's files are given up.
 use Rattle.std.proofs.Common.{◌≡◌, inl, inr, ⊎_elim, ℕ, ◌+◌, ◌<◌, List, [], ◌∷◌, length, Contains, get_or, Option, Some, sym, ◌∙◌, ap, subst, arith}
-use Rattle.std.specs.Prelude.{All, Any}
 use Rattle.hdfs_model.specs.declared.commands.Command.{Command}
 use Rattle.hdfs_model.specs.declared.commands.Command.TheVariants as commands
 use Rattle.hdfs_model.specs.declared.commands.Reply.{Reply}
@@ -11,15 +10,16 @@ use Rattle.hdfs_model.specs.declared.errors.HdfsError.TheVariants as errors
 use Rattle.hdfs_model.specs.declared.errors.IoFault.TheVariants as io_faults
 use Rattle.hdfs_model.specs.declared.errors.TransferFault.TheVariants as transfer
 use Rattle.hdfs_model.specs.declared.picture.BlockEntry.{BlockEntry}
-use Rattle.hdfs_model.specs.Causes.{LiesAt, FileLost, CommandLost, OfLastBlock, PipelineFailed, SomeListedFailed, CallsRose, Cause, Tells}
-use Rattle.hdfs_model.specs.Counts.{CallsRoseTimes, FaultCounts, NeverFall, NoneRose, Rose}
+use Rattle.hdfs_model.specs.Causes.{LiesAt, FileLost, CommandLost, LastBlockAt, PipelineFailed, SomeListedFailed, Because, Cause}
+use Rattle.hdfs_model.specs.Counts.{FaultCounts, NeverFall, NoneRose, Rose}
+use Rattle.hdfs_model.specs.Failures.{ANamenode, TheLinks, failure_of}
 use Rattle.hdfs_model.specs.Files.{State, Content, File}
 use Rattle.hdfs_model.specs.Sessions.{Avoids}
 use Rattle.hdfs_model.specs.Shown.{Shown, Later, SameReadPlaces, SameReads}
 use Rattle.hdfs_model.specs.Steps.{World, Done, step, target_of}
-use Rattle.hdfs_model.proofs.Frames.{rose_since, told_after}
+use Rattle.hdfs_model.proofs.Failures.{each_rose, failed_on, one_rose}
+use Rattle.hdfs_model.proofs.Frames.{never_fall_refl, rose_since, told_after}
 use Rattle.hdfs_files.proofs.Storing.{contains_head, contains_later}
-use Rattle.hdfs_files.proofs.Times.{times_until}
 use Rattle.hdfs_client.specs.Session.{LeavesFiles}
 use Rattle.hdfs_client.proofs.Avoiding.{read_closed}
 
@@ -35,51 +35,12 @@ lies_among t from (first ∷ ids) id at h =
     ⊎_elim (λ here. subst (Contains (first ∷ ids)) here.0 (contains_head first ids)) (λ rest. contains_later first id ids (lies_among t (from + rest.0.length) ids id at rest.2)) h
 
 module _ (old u v : Shown) (later : Later u v) where
-  links_on : Rose old.counts.links u.counts.links → Rose old.counts.links v.counts.links
-  links_on rose = rose_since old.counts.links old.counts.links u.counts.links v.counts.links (omega arith) rose later.counts.links
-
   node_on : (d : List ℕ) → Rose (old.counts.nodes d) (u.counts.nodes d) → Rose (old.counts.nodes d) (v.counts.nodes d)
   node_on d rose = rose_since (old.counts.nodes d) (old.counts.nodes d) (u.counts.nodes d) (v.counts.nodes d) (omega arith) rose (later.counts.nodes d)
 
-  calls_on : CallsRose old.counts u → CallsRose old.counts v
-  calls_on rose =
-      let i = rose.0 in
-      (i, subst (λ (n : ℕ). i < n) (sym later.namenodes) rose.1, rose_since (old.counts.calls i) (old.counts.calls i) (u.counts.calls i) (v.counts.calls i) (omega arith) rose.2 (later.counts.calls i))
-
-  times_on : CallsRoseTimes u.namenodes 5 old.counts u.counts → CallsRoseTimes v.namenodes 5 old.counts v.counts
-  times_on times =
-      subst (λ (n : ℕ). CallsRoseTimes n 5 old.counts v.counts) (sym later.namenodes)
-      (times_until u.namenodes 5 old.counts u.counts v.counts times later.counts)
-
-  -- what an error tells
-  pub tells_on : v.last ≡ u.last → (command : Command) (e : HdfsError) → Tells command old u e → Tells command old v e
-  tells_on last command errors.NoMemory h = tt
-  tells_on last command errors.Failed h = h
-  tells_on last command (errors.IOError (io_faults.Namenode i)) h = (last ∙ h.0, omega (arith, h.1, later.namenodes), omega (arith, h.2, later.counts.calls i))
-  tells_on last command (errors.IOError io_faults.Link) h = (h.0, links_on h.1)
-  tells_on last command (errors.DataTransferError (transfer.Read byte)) h = h
-  tells_on last command (errors.DataTransferError transfer.Setup) h = (h.0, links_on h.1)
-  tells_on last command (errors.DataTransferError transfer.AllNodes) h = (h.0, (h.1.0, node_on h.1.0 h.1.1))
-  tells_on last command (errors.DataTransferError transfer.NoReplacement) h = (h.0, (h.1.0, node_on h.1.0 h.1.1))
-  tells_on last command (errors.DataTransferError (transfer.RebuildLimit rebuilds)) h = (h.0, (h.1.0, node_on h.1.0 h.1.1))
-  tells_on last command (errors.DataTransferError (transfer.BadAck seqno)) h = (h.0, links_on h.1)
-  tells_on last command (errors.InvalidPath text) h = h
-  tells_on last command (errors.InvalidArgument args.State) h = h
-  tells_on last command (errors.InvalidArgument args.Settings) h = h
-  tells_on last command (errors.InvalidArgument args.Options) h = h
-  tells_on last command (errors.InvalidArgument args.Defaults) h = h
-  tells_on last command (errors.InvalidArgument (args.Range offset len length)) h = h
-  tells_on last command (errors.AlreadyExists message) h = (h.0, h.1, last ∙ h.2)
-  tells_on last command (errors.OperationFailed name) h = (h.0, last ∙ h.1, times_on h.2)
-  tells_on last command (errors.FileNotFound name) h = (h.0, last ∙ h.1)
-  tells_on last command (errors.UnsupportedFeature features.Encryption) h = h
-  tells_on last command (errors.RPCError class message) h = (h.0, last ∙ h.1)
-  tells_on last command (errors.InvalidRPCResponse fault) h = (last ∙ h.0, calls_on h.1)
-  tells_on last command (errors.FatalRPCError class message) h = (last ∙ h.0, calls_on h.1)
-
   module _ (reads : SameReads u v) (state : State) (leaves : LeavesFiles u v state) where
-    of_last_on : (path : List ℕ) (P Q : BlockEntry → Type 0) → ((entry : BlockEntry) → P entry → Q entry) → OfLastBlock u path P → OfLastBlock v path Q
-    of_last_on path P Q follows h =
+    last_on : (path : List ℕ) → LastBlockAt u path → LastBlockAt v path
+    last_on path h =
         let after = told_after (SameReadPlaces u) u.picture v.picture h.picture reads.places h.told in
         let records = leaves.records h.picture after.0 h.told after.1 in
         record {
@@ -92,20 +53,16 @@ module _ (old u v : Shown) (later : Later u v) where
           last = h.last;
           entry = h.entry;
           is = records.table h.id ∙ h.is;
-          so = follows h.entry h.so;
         }
 
     some_on : (path : List ℕ) → SomeListedFailed old.counts u path → SomeListedFailed old.counts v path
-    some_on path =
-        of_last_on path (λ entry. Any (λ node. Rose (old.counts.nodes node) (u.counts.nodes node)) entry.nodes)
-        (λ entry. Any (λ node. Rose (old.counts.nodes node) (v.counts.nodes node)) entry.nodes)
-        (λ entry any. (any.0, any.1, any.2, any.3, node_on any.1 any.4))
+    unfolding last_on
+    some_on path h = (last_on path h.0, one_rose old.counts old.counts u.counts v.counts h.0.entry.nodes (never_fall_refl old.counts) later.counts h.1)
 
     pipeline_on : (path : List ℕ) → PipelineFailed old.counts u path → PipelineFailed old.counts v path
-    pipeline_on path =
-        of_last_on path (λ entry. (0 < length entry.nodes) × All (λ node. Rose (old.counts.nodes node) (u.counts.nodes node)) entry.nodes)
-        (λ entry. (0 < length entry.nodes) × All (λ node. Rose (old.counts.nodes node) (v.counts.nodes node)) entry.nodes)
-        (λ entry all. (all.0, λ k d lt. node_on (get_or entry.nodes k d) (all.1 k d lt)))
+    unfolding last_on
+    pipeline_on path h =
+        (last_on path h.0, h.1, each_rose old.counts old.counts u.counts v.counts h.0.entry.nodes (never_fall_refl old.counts) later.counts h.2)
 
     lost_on : (path : List ℕ) (content : Content) → state.files path ≡ Some (File content) → (from end byte : ℕ) → FileLost old.counts u path from end byte → FileLost old.counts v path from end byte
     lost_on path content closed from end byte h =
@@ -144,32 +101,27 @@ module _ (old u v : Shown) (later : Later u v) where
     command_lost_on w (commands.Write text bytes) avoids reply next done byte h = h
     command_lost_on w (commands.Close text) avoids reply next done byte h = h
 
+    -- what holds beside what has failed
+    because_on : (w : World) (command : Command) → Avoids w state command → (e : HdfsError) → Because w state command old u e → Because w state command old v e
+    because_on w command avoids (errors.DataTransferError (transfer.Read byte)) h = (h.0, command_lost_on w command avoids h.0.0 h.0.1 h.0.2 byte h.1)
+    because_on w command avoids (errors.DataTransferError transfer.AllNodes) h = (h.0, pipeline_on (target_of w command) h.1)
+    because_on w command avoids (errors.DataTransferError transfer.NoReplacement) h = (
+      h.0,
+      h.1,
+      ⊎_elim (λ rose. inl (failed_on old u v TheLinks later rose)) (λ rose. inr (failed_on old u v ANamenode later rose)) h.2,
+      some_on (target_of w command) h.3,
+    )
+    because_on w command avoids (errors.DataTransferError (transfer.RebuildLimit rebuilds)) h = (h.0, h.1, some_on (target_of w command) h.2)
+    because_on w command avoids (errors.AlreadyExists message) h = ⊎_elim (λ is. inl is) (λ rose. inr (failed_on old u v ANamenode later rose)) h
+    because_on w command avoids (errors.RPCError class message) h = ⊎_elim (λ is. inl is) (λ rose. inr (failed_on old u v ANamenode later rose)) h
+    because_on w command avoids (errors.IOError io_faults.Link) h = h
+    because_on w command avoids (errors.InvalidArgument args.State) h = h
+    because_on w command avoids (errors.UnsupportedFeature features.Encryption) h = h
+    because_on w command avoids e h = h
+
     -- a cause
     pub cause_on : (w : World) (command : Command) → Avoids w state command → (e : HdfsError) → Cause w state command old u e → Cause w state command old v e
-    cause_on w command avoids errors.NoMemory h = tt
-    cause_on w command avoids errors.Failed h = h
-    cause_on w command avoids (errors.IOError (io_faults.Namenode i)) h = calls_on h
-    cause_on w command avoids (errors.IOError io_faults.Link) h = (h.0, links_on h.1)
-    cause_on w command avoids (errors.DataTransferError (transfer.Read byte)) h = (h.0, command_lost_on w command avoids h.0.0 h.0.1 h.0.2 byte h.1)
-    cause_on w command avoids (errors.DataTransferError transfer.Setup) h = (h.0, links_on h.1)
-    cause_on w command avoids (errors.DataTransferError transfer.AllNodes) h = (h.0, pipeline_on (target_of w command) h.1)
-    cause_on w command avoids (errors.DataTransferError transfer.NoReplacement) h =
-        (h.0, h.1, ⊎_elim (λ rose. inl (links_on rose)) (λ rose. inr (calls_on rose)) h.2, some_on (target_of w command) h.3)
-    cause_on w command avoids (errors.DataTransferError (transfer.RebuildLimit rebuilds)) h = (h.0, h.1, some_on (target_of w command) h.2)
-    cause_on w command avoids (errors.DataTransferError (transfer.BadAck seqno)) h = (h.0, links_on h.1)
-    cause_on w command avoids (errors.InvalidPath text) h = h
-    cause_on w command avoids (errors.InvalidArgument args.State) h = h
-    cause_on w command avoids (errors.InvalidArgument args.Settings) h = h
-    cause_on w command avoids (errors.InvalidArgument args.Options) h = h
-    cause_on w command avoids (errors.InvalidArgument args.Defaults) h = h
-    cause_on w command avoids (errors.InvalidArgument (args.Range offset len length)) h = h
-    cause_on w command avoids (errors.AlreadyExists message) h = ⊎_elim (λ is. inl is) (λ rose. inr (calls_on rose)) h
-    cause_on w command avoids (errors.OperationFailed name) h = (h.0, calls_on h.1, h.2)
-    cause_on w command avoids (errors.FileNotFound name) h = h
-    cause_on w command avoids (errors.UnsupportedFeature features.Encryption) h = h
-    cause_on w command avoids (errors.RPCError class message) h = ⊎_elim (λ is. inl is) (λ rose. inr (calls_on rose)) h
-    cause_on w command avoids (errors.InvalidRPCResponse fault) h = calls_on h
-    cause_on w command avoids (errors.FatalRPCError class message) h = calls_on h
+    cause_on w command avoids e h = (because_on w command avoids e h.0, failed_on old u v (failure_of e) later h.1)
 
 -- where no count rose until a time none did until an earlier time
 pub none_rose_earlier : (n : ℕ) (a b c : FaultCounts) → NeverFall b c → NoneRose n a c → NoneRose n a b

@@ -8,7 +8,6 @@ use Rattle.hdfs_model.specs.declared.asks.Answer.{Answer}
 use Rattle.hdfs_model.specs.declared.asks.Answer.TheVariants as answers
 use Rattle.hdfs_model.specs.declared.asks.Ask.{Ask}
 use Rattle.hdfs_model.specs.declared.asks.Ask.TheVariants as asks
-use Rattle.hdfs_model.specs.declared.asks.AskFault.{AskFault}
 use Rattle.hdfs_model.specs.declared.commands.Command.{Command}
 use Rattle.hdfs_model.specs.declared.commands.Command.TheVariants as commands
 use Rattle.hdfs_model.specs.declared.commands.WriteOptions.{WriteOptions}
@@ -29,10 +28,10 @@ use Rattle.hdfs_model.specs.Sound.{IsSound, IsFileAt}
 use Rattle.hdfs_model.specs.Steps.{World, Refused, append_file, create_file, created, is_opened, open_node, step, target_of}
 use Rattle.hdfs_model.specs.Stores.{AgreesAt}
 use Rattle.hdfs_model.proofs.Repeating.{append_repeats, create_repeats}
-use Rattle.hdfs_namenode.specs.Asked.{AskedOnce, Through}
+use Rattle.hdfs_namenode.specs.Relaying.{Came}
 use Rattle.hdfs_namenode.proofs.Relayed.{relayed_row}
-use Rattle.hdfs_files.proofs.Asked.{Came}
 use Rattle.hdfs_client.specs.Encrypted.{tells_encryption}
+use Rattle.hdfs_client.specs.Opening.{appending, creating}
 use Rattle.hdfs_client.proofs.Agreeing.{agrees_files}
 use Rattle.hdfs_files.specs.Tails.{Tail, FileCarries}
 use Rattle.hdfs_files.proofs.Creating.{created_others}
@@ -65,9 +64,8 @@ apart_from : (path r : List ℕ) → bytes_eq path r ≡ false → r ≢ path
 apart_from path r test same = false≢true (sym test ∙ (bytes_eq-Decides path r).1 (sym same))
 
 module _ (path client : List ℕ) (options : WriteOptions) (replication block_size : ℕ) where
-  -- the ask for a new file
-  abbrev pub creating : Ask
-  creating = asks.Create path options.permission client (cond options.overwrite 3 1) options.create_parent replication block_size
+  abbrev making : Ask
+  making = creating path client options replication block_size
 
   abbrev pub made : FileEntry
   made = new_file options.permission replication block_size
@@ -77,32 +75,32 @@ module _ (path client : List ℕ) (options : WriteOptions) (replication block_si
     abbrev pub Made : Picture → Type 0
     Made q = (create_refusal (kinds p) path options.overwrite options.create_parent ≡ None) × Creates path made p q
 
-    made_by : (q : Picture) (status : Option FileStatusMsg) → Row p creating (answers.Create status) q → Made q
+    made_by : (q : Picture) (status : Option FileStatusMsg) → Row p making (answers.Create status) q → Made q
     made_by q status row = (ap (λ (b : Bool). create_refusal (kinds p) path b options.create_parent) (sym (flag_is options.overwrite)) ∙ row.0, row.2)
 
-    made_of : (q : Picture) (answer : Answer) → Row p creating answer q → Made q
+    made_of : (q : Picture) (answer : Answer) → Row p making answer q → Made q
     made_of q (answers.Create status) row = made_by q status row
     made_of q answer row = absurd row
 
     -- it was made, or nothing changed
-    pub may_be_made : (q : Picture) → MayBeDone creating p q → SameButActive p q ⊎ Made q
+    pub may_be_made : (q : Picture) → MayBeDone making p q → SameButActive p q ⊎ Made q
     may_be_made q (inl same) = inl same
     may_be_made q (inr (inl done)) = inr (made_of q done.0 done.2)
     may_be_made q (inr (inr own)) = absurd own.0
 
     -- a file that was answered to be created is
-    pub was_made : (s t : Shown) (status : Option FileStatusMsg) → s.picture ≡ Some p → Came s creating (Ok (answers.Create status)) t
-        → (q : Picture) × (t.picture ≡ Some q) × Made q × MayBeDone creating p q
+    pub was_made : (s t : Shown) (status : Option FileStatusMsg) → s.picture ≡ Some p → Came s making (Ok (answers.Create status)) t
+        → (q : Picture) × (t.picture ≡ Some q) × Made q × MayBeDone making p q
     was_made s t status told came =
         let one = came.told p told (create_repeats path client options.permission (cond options.overwrite 3 1) options.create_parent replication block_size p) in
-        let row : Row p creating (answers.Create status) one.0 = relayed_row (CallsRose s.counts t) p creating (answers.Create status) one.0 (λ is. absurd (cc is)) one.2 in
+        let row : Row p making (answers.Create status) one.0 = relayed_row (CallsRose s.counts t) p making (answers.Create status) one.0 (λ is. absurd (cc is)) one.2 in
         (one.0, one.1, made_by one.0 status row, inr (inl (answers.Create status, tt, row)))
 
     -- and isn't encrypted
-    pub was_plain : (s t : Shown) (status : Option FileStatusMsg) → s.picture ≡ Some p → Came s creating (Ok (answers.Create status)) t → tells_encryption status ≡ false
+    pub was_plain : (s t : Shown) (status : Option FileStatusMsg) → s.picture ≡ Some p → Came s making (Ok (answers.Create status)) t → tells_encryption status ≡ false
     was_plain s t status told came =
         let one = came.told p told (create_repeats path client options.permission (cond options.overwrite 3 1) options.create_parent replication block_size p) in
-        let row : Row p creating (answers.Create status) one.0 = relayed_row (CallsRose s.counts t) p creating (answers.Create status) one.0 (λ is. absurd (cc is)) one.2 in
+        let row : Row p making (answers.Create status) one.0 = relayed_row (CallsRose s.counts t) p making (answers.Create status) one.0 (λ is. absurd (cc is)) one.2 in
         ap tells_encryption row.1.is ∙ row.1.encryption
 
     module _ (world : World) (state : State) (name : List ℕ) (sound : IsSound p) (agrees : (r : List ℕ) → AgreesAt p (p.names r) (state.files r)) (named : is_path path ≡ true) (closed : is_opened state path ≡ false)
@@ -112,7 +110,7 @@ module _ (path client : List ℕ) (options : WriteOptions) (replication block_si
           ap (λ (k : List ℕ → Option Kind). create_refusal k path options.overwrite options.create_parent) (sym (kinds_same p state.files agrees))
           ∙ ap (λ (b : Bool). create_refusal (kinds p) path b options.create_parent) (sym (flag_is options.overwrite))
 
-      spares_made : (q : Picture) → MayBeDone creating p q → (r : List ℕ) → touched state path (commands.Create name options) r ≡ false → AgreesAt q (q.names r) (state.files r)
+      spares_made : (q : Picture) → MayBeDone making p q → (r : List ℕ) → touched state path (commands.Create name options) r ≡ false → AgreesAt q (q.names r) (state.files r)
       spares_made q may r free =
           let parts = or_false (bytes_eq path r) (is_none (state.files r) && list_any (bytes_eq r) (ancestors path)) free in
           ⊎_elim
@@ -127,7 +125,7 @@ module _ (path client : List ℕ) (options : WriteOptions) (replication block_si
           ∙ ap (create_file state path (created world options)) (ap (λ (k : List ℕ → Option Kind). create_refusal k path options.overwrite options.create_parent) (sym (kinds_same p state.files agrees)) ∙ none) in
           absurd (cc (is, done))
 
-      pub create_over : Over p world state (commands.Create name options) path creating
+      pub create_over : Over p world state (commands.Create name options) path making
       create_over = record {
         refusal = create_refusal (kinds p) path (overwrites (cond options.overwrite 3 1)) options.create_parent;
         refused = λ class h. h;
@@ -145,9 +143,8 @@ module _ (path client : List ℕ) (options : WriteOptions) (replication block_si
       }
 
 module _ (path client : List ℕ) (flag : ℕ) where
-  -- the ask for a file that is gone on with
-  abbrev pub appending : Ask
-  appending = asks.Append path client flag
+  abbrev reopening : Ask
+  reopening = appending path client flag
 
   module _ (p : Picture) where
     -- the row of it
@@ -158,25 +155,25 @@ module _ (path client : List ℕ) (flag : ℕ) where
       pub status : HasStatus file appended.stat
       pub opens : Opens path file appended.block p q
 
-    reopened_by : (q : Picture) (appended : Appended) → Row p appending (answers.Append appended) q → Reopened q appended
+    reopened_by : (q : Picture) (appended : Appended) → Row p reopening (answers.Append appended) q → Reopened q appended
     reopened_by q appended row = record { none = row.0; file = row.1.0; at = row.1.1; status = row.1.2; opens = row.1.3 }
 
-    reopened_of : (q : Picture) (answer : Answer) → Row p appending answer q → (appended : Appended) × Reopened q appended
+    reopened_of : (q : Picture) (answer : Answer) → Row p reopening answer q → (appended : Appended) × Reopened q appended
     reopened_of q (answers.Append appended) row = (appended, reopened_by q appended row)
     reopened_of q answer row = absurd row
 
     -- it was opened, or nothing changed
-    pub may_be_reopened : (q : Picture) → MayBeDone appending p q → SameButActive p q ⊎ ((appended : Appended) × Reopened q appended)
+    pub may_be_reopened : (q : Picture) → MayBeDone reopening p q → SameButActive p q ⊎ ((appended : Appended) × Reopened q appended)
     may_be_reopened q (inl same) = inl same
     may_be_reopened q (inr (inl done)) = inr (reopened_of q done.0 done.2)
     may_be_reopened q (inr (inr own)) = absurd own.0
 
     -- a file that was answered to be opened is
-    pub was_reopened : (s t : Shown) (appended : Appended) → s.picture ≡ Some p → Came s appending (Ok (answers.Append appended)) t
-        → (q : Picture) × (t.picture ≡ Some q) × Reopened q appended × MayBeDone appending p q
+    pub was_reopened : (s t : Shown) (appended : Appended) → s.picture ≡ Some p → Came s reopening (Ok (answers.Append appended)) t
+        → (q : Picture) × (t.picture ≡ Some q) × Reopened q appended × MayBeDone reopening p q
     was_reopened s t appended told came =
         let one = came.told p told (append_repeats path client flag p) in
-        let row : Row p appending (answers.Append appended) one.0 = relayed_row (CallsRose s.counts t) p appending (answers.Append appended) one.0 (λ is. absurd (cc is)) one.2 in
+        let row : Row p reopening (answers.Append appended) one.0 = relayed_row (CallsRose s.counts t) p reopening (answers.Append appended) one.0 (λ is. absurd (cc is)) one.2 in
         (one.0, one.1, reopened_by one.0 appended row, inr (inl (answers.Append appended, came.relays.shaped, row)))
 
     module _ (world : World) (state : State) (name : List ℕ) (sound : IsSound p) (agrees : (r : List ℕ) → AgreesAt p (p.names r) (state.files r)) (named : is_path path ≡ true) (closed : is_opened state path ≡ false)
@@ -192,7 +189,7 @@ module _ (path client : List ℕ) (flag : ℕ) where
           let done = append_step world state path named closed name called ∙ ap (append_file state path) free ∙ ap (open_node state path) there.filed in
           absurd (cc (is, done))
 
-      pub append_over : Over p world state (commands.Append name) path appending
+      pub append_over : Over p world state (commands.Append name) path reopening
       append_over = record {
         refusal = append_refusal (kinds p) path;
         refused = λ class h. h;
@@ -211,17 +208,3 @@ module _ (path client : List ℕ) (flag : ℕ) where
             (λ done. carries_others path p q sound (opened_only p q path done.1.file done.1.at done.0.block done.1.opens) r tail bytes apart c)
             (may_be_reopened q may);
       }
-
--- an ask for a new file, as it is written
-pub creating_as : {C : Type 0} (serves : C → ℕ → Ask → Result Answer AskFault → C → Type 0) (src path client : List ℕ) (options : WriteOptions) (flag r r' k k' : ℕ) (outcome : Result Answer HdfsError) (a b : Through C) → src ≡ path
-    → flag ≡ cond options.overwrite 3 1 → r ≡ r' → k ≡ k' → AskedOnce serves true (asks.Create src options.permission client flag options.create_parent r k) a outcome b → AskedOnce serves true (creating path client options r' k') a outcome b
-creating_as serves src path client options flag r r' k k' outcome a b one two three four asked =
-    subst (λ (x : ℕ). AskedOnce serves true (creating path client options r' x) a outcome b) four
-    (subst (λ (x : ℕ). AskedOnce serves true (creating path client options x k) a outcome b) three
-    (subst (λ (x : ℕ). AskedOnce serves true (asks.Create path options.permission client x options.create_parent r k) a outcome b) two
-    (subst (λ (x : List ℕ). AskedOnce serves true (asks.Create x options.permission client flag options.create_parent r k) a outcome b) one asked)))
-
--- an ask for a file that is gone on with, as it is written
-pub appending_as : {C : Type 0} (serves : C → ℕ → Ask → Result Answer AskFault → C → Type 0) (src path client : List ℕ) (flag : ℕ) (outcome : Result Answer HdfsError) (a b : Through C) → src ≡ path
-    → AskedOnce serves true (asks.Append src client flag) a outcome b → AskedOnce serves true (appending path client flag) a outcome b
-appending_as serves src path client flag outcome a b one asked = subst (λ (x : List ℕ). AskedOnce serves true (asks.Append x client flag) a outcome b) one asked

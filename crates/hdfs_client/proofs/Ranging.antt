@@ -12,7 +12,8 @@ use Rattle.hdfs_model.specs.Causes.{Cause, Tells}
 use Rattle.hdfs_model.specs.Files.{State}
 use Rattle.hdfs_model.specs.Namenode.{Locates}
 use Rattle.hdfs_model.specs.Picture.{Picture, SameButActive, SameFiles, Told}
-use Rattle.hdfs_model.specs.Sessions.{IsNotOwed, MeetsNoEncryption, defaults_of}
+use Rattle.hdfs_model.specs.Sessions.{MeetsNoEncryption, defaults_of}
+use Rattle.hdfs_model.specs.Owing.{IsNotOwed}
 use Rattle.hdfs_model.specs.Shown.{OnlyReads, Shown}
 use Rattle.hdfs_model.specs.Steps.{World}
 use Rattle.hdfs_model.proofs.Frames.{same_files_trans, told_after}
@@ -25,7 +26,6 @@ use Rattle.hdfs_client.specs.Looking.{OnlyLooks}
 use Rattle.hdfs_client.specs.Meeting.{IsClosed, KnowsDefaults, KnowsWorld, Meets}
 use Rattle.hdfs_client.proofs.Agreeing.{is_told}
 use Rattle.hdfs_client.proofs.Causing.{encrypted_cause, moves_cause, opens_plain, range_cause}
-use Rattle.hdfs_client.proofs.Failing.{rose_before}
 use Rattle.hdfs_client.proofs.Owing.{ask_not_owed}
 use Rattle.hdfs_client.proofs.Refusing.{ask_tells, rose_cause}
 use Rattle.hdfs_client.proofs.Stepping.{is_closed}
@@ -89,8 +89,8 @@ stay_asked path s m t stay asked p told closed =
 -- a range that is refused
 module _ (name : List ℕ) (offset len : ℕ) (found : LocatedBlocks) where
   pub refused_tells : (old new : Shown) (e : HdfsError) → RefusesRange found offset len e → IsNotOwed e × Tells (commands.Read name offset len) old new e
-  refused_tells old new e (inl plain) = subst (λ (x : HdfsError). IsNotOwed x × Tells (commands.Read name offset len) old new x) (sym plain.0) (tt, tt)
-  refused_tells old new e (inr past) = subst (λ (x : HdfsError). IsNotOwed x × Tells (commands.Read name offset len) old new x) (sym past.0) (tt, ((refl, refl), past.1))
+  refused_tells old new e (inl plain) = subst (λ (x : HdfsError). IsNotOwed x × Tells (commands.Read name offset len) old new x) (sym plain.0) (tt, (tt, (tt, tt)))
+  refused_tells old new e (inr past) = subst (λ (x : HdfsError). IsNotOwed x × Tells (commands.Read name offset len) old new x) (sym past.0) (tt, (((refl, refl), past.1), (tt, tt)))
 
   module _ (s m : Shown) (path : List ℕ) (stay : Stay path s m) (located : (p : Picture) → s.picture ≡ Some p → IsClosed p path → Locates p path found)
       (w : World) (state : State) (meets : Meets w s state name path) where
@@ -112,8 +112,8 @@ module _ (name : List ℕ) (offset len : ℕ) (found : LocatedBlocks) where
       -- bytes that may not be moved
       pub transfer_cause : OnlyLooks s m → offset + len ≤ found.file_length → (e : HdfsError) → LacksTransfer len m client' e t → Cause w state (commands.Read name offset len) s t e
       transfer_cause looks within e (inl asked) =
-          ⊎_elim (λ memory. subst (Cause w state (commands.Read name offset len) s t) (sym memory) tt)
-          (λ rose. rose_cause w state (commands.Read name offset len) s m t e asked.0 (rose_before s m t looks rose))
+          ⊎_elim (λ memory. subst (Cause w state (commands.Read name offset len) s t) (sym memory) (tt, tt))
+          (λ rose. rose_cause w state (commands.Read name offset len) s m t e looks.later.counts asked.0 rose)
           (asked.1 there.0 there.1)
       transfer_cause looks within e (inr moves) =
           subst (Cause w state (commands.Read name offset len) s t) (sym moves.0)
@@ -131,4 +131,4 @@ module _ (name : List ℕ) (offset len : ℕ) (found : LocatedBlocks) where
 pub transfer_tells : (name : List ℕ) (offset len : ℕ) (s m t : Shown) (client : NamenodeProtocol) (e : HdfsError) → OnlyLooks s m → LacksTransfer len m client e t
     → IsNotOwed e × Tells (commands.Read name offset len) s t e
 transfer_tells name offset len s m t client e looks (inl asked) = (ask_not_owed m t e asked.0, ask_tells (commands.Read name offset len) s m t e looks.later.counts asked.0)
-transfer_tells name offset len s m t client e looks (inr moves) = subst (λ (x : HdfsError). IsNotOwed x × Tells (commands.Read name offset len) s t x) (sym moves.0) (tt, tt)
+transfer_tells name offset len s m t client e looks (inr moves) = subst (λ (x : HdfsError). IsNotOwed x × Tells (commands.Read name offset len) s t x) (sym moves.0) (tt, (tt, (tt, tt)))

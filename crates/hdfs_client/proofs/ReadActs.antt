@@ -12,7 +12,8 @@ use Rattle.hdfs_model.specs.Files.{State, Writing, Content}
 use Rattle.hdfs_model.specs.Headline.{Applied}
 use Rattle.hdfs_model.specs.Paths.{is_path, absolute}
 use Rattle.hdfs_model.specs.Picture.{Picture, SameFiles}
-use Rattle.hdfs_model.specs.Sessions.{MeetsNoEncryption, defaults_of, is_misplaced, spared, world_with}
+use Rattle.hdfs_model.specs.Sessions.{MeetsNoEncryption, defaults_of, spared, world_with}
+use Rattle.hdfs_model.specs.Owing.{is_misplaced}
 use Rattle.hdfs_model.specs.Shown.{Shown, Later, SameLinks, SamePlaces, SameWrites}
 use Rattle.hdfs_model.specs.Steps.{World, Outcome, Done, is_opened, path_of, step, target_of}
 use Rattle.hdfs_model.specs.Stores.{Agrees}

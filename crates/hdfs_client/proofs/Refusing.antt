@@ -1,5 +1,5 @@
 -- What refuses a command that opens a file to be written, over a picture that agrees with the files.
-use Rattle.std.proofs.Common.{◌≡◌, ◌⊎◌, inl, inr, ⊎_elim, ℕ, Bool, true, false, cond, List, Option, Some, None, refl, sym, ◌∙◌, ap, arith}
+use Rattle.std.proofs.Common.{◌≡◌, ◌⊎◌, inl, inr, ⊎_elim, ℕ, Bool, true, false, cond, List, Option, Some, None, refl, sym, ◌∙◌, ap}
 use Rattle.std.proofs.Math.Path.{fun_ext}
 use Rattle.std.proofs.lemmas.Bool.{false≢true}
 use Rattle.std.specs.Option.{option_map}
@@ -11,8 +11,9 @@ use Rattle.hdfs_model.specs.declared.errors.HdfsError.TheVariants as errors
 use Rattle.hdfs_model.specs.declared.errors.IoFault.TheVariants as io_faults
 use Rattle.hdfs_model.specs.declared.picture.Entry.{Entry}
 use Rattle.hdfs_model.specs.declared.picture.Entry.TheVariants as entries
-use Rattle.hdfs_model.specs.Causes.{Cause, CallsRose, Tells}
+use Rattle.hdfs_model.specs.Causes.{Because, Cause, CallsRose, Tells}
 use Rattle.hdfs_model.specs.Counts.{NeverFall}
+use Rattle.hdfs_model.specs.Failures.{ANamenode, IsOfAsk, failure_of}
 use Rattle.hdfs_model.specs.Files.{Files, State, Node, Dir, File, Writing, Kind, Directory, ClosedFile, OpenFile, NoFile, NotDirectory, Missing, NotFile, kind_of, kinds_of}
 use Rattle.hdfs_model.specs.Namenode.{StandsForAny, StandsForRefusal, class_for, class_in_the_way, is_taken}
 use Rattle.hdfs_model.specs.Paths.{is_path}
@@ -22,7 +23,7 @@ use Rattle.hdfs_model.specs.Shown.{Shown}
 use Rattle.hdfs_model.specs.Steps.{World, Refused, append_file, create_file, created, is_opened, step, step_at, target_of}
 use Rattle.hdfs_model.specs.Stores.{AgreesAt}
 use Rattle.hdfs_model.specs.Sessions.{is_before_asking}
-use Rattle.hdfs_model.proofs.Frames.{rose_since}
+use Rattle.hdfs_model.proofs.Failures.{ask_can_end, failed_since, means_since}
 use Rattle.hdfs_namenode.specs.Asked.{exception_error}
 use Rattle.hdfs_namenode.specs.Relaying.{TellsAsk}
 
@@ -70,41 +71,31 @@ not_taken NotDirectory = refl
 not_taken Missing = refl
 not_taken NotFile = refl
 
-calls_before : (s m t : Shown) → NeverFall s.counts m.counts → CallsRose m.counts t → CallsRose s.counts t
-calls_before s m t fall rose =
-    let i = rose.0 in
-    (i, rose.1, rose_since (s.counts.calls i) (m.counts.calls i) (t.counts.calls i) (t.counts.calls i) (fall.calls i) rose.2 (omega arith))
-
 -- what an error of an ask tells of the command that asked
 pub ask_tells : (command : Command) (s m t : Shown) (error : HdfsError) → NeverFall s.counts m.counts → TellsAsk m t error → Tells command s t error
-ask_tells command s m t errors.NoMemory fall tells = tt
-ask_tells command s m t (errors.IOError (io_faults.Namenode last)) fall tells = (tells.0, tells.1, omega (arith, fall.calls last, tells.2))
-ask_tells command s m t (errors.AlreadyExists message) fall tells = tells
-ask_tells command s m t (errors.RPCError class message) fall tells = tells
-ask_tells command s m t (errors.InvalidRPCResponse fault) fall tells = (tells.0, calls_before s m t fall tells.1)
-ask_tells command s m t (errors.FatalRPCError class message) fall tells = (tells.0, calls_before s m t fall tells.1)
-ask_tells command s m t error fall tells = absurd tells
+ask_tells command s m t error fall tells = (ask_can_end command error tells.0, means_since s m t error fall tells.1)
 
 -- it is none that comes before anything is asked
 pub ask_not_early : (m t : Shown) (error : HdfsError) → TellsAsk m t error → is_before_asking error ≡ false
-ask_not_early m t errors.NoMemory tells = refl
-ask_not_early m t (errors.AlreadyExists message) tells = refl
-ask_not_early m t (errors.RPCError class message) tells = refl
-ask_not_early m t (errors.IOError fault) tells = refl
-ask_not_early m t (errors.InvalidRPCResponse fault) tells = refl
-ask_not_early m t (errors.FatalRPCError class message) tells = refl
-ask_not_early m t error tells = absurd tells
+ask_not_early m t (errors.InvalidPath text) tells = absurd tells.0
+ask_not_early m t (errors.InvalidArgument fault) tells = absurd tells.0
+ask_not_early m t error tells = refl
 
 -- where a namenode has failed, it has its cause
-pub rose_cause : (world : World) (state : State) (command : Command) (s m t : Shown) (error : HdfsError) → TellsAsk m t error → CallsRose s.counts t
-    → Cause world state command s t error
-rose_cause world state command s m t errors.NoMemory tells rose = tt
-rose_cause world state command s m t (errors.AlreadyExists message) tells rose = inr rose
-rose_cause world state command s m t (errors.RPCError class message) tells rose = inr rose
-rose_cause world state command s m t (errors.IOError (io_faults.Namenode last)) tells rose = rose
-rose_cause world state command s m t (errors.InvalidRPCResponse fault) tells rose = rose
-rose_cause world state command s m t (errors.FatalRPCError class message) tells rose = rose
-rose_cause world state command s m t error tells rose = absurd tells
+because_rose : (world : World) (state : State) (command : Command) (s t : Shown) (error : HdfsError) → IsOfAsk error → CallsRose s.counts t
+    → Because world state command s t error
+because_rose world state command s t errors.NoMemory of rose = tt
+because_rose world state command s t (errors.IOError (io_faults.Namenode last)) of rose = tt
+because_rose world state command s t (errors.AlreadyExists message) of rose = inr rose
+because_rose world state command s t (errors.RPCError class message) of rose = inr rose
+because_rose world state command s t (errors.InvalidRPCResponse fault) of rose = tt
+because_rose world state command s t (errors.FatalRPCError class message) of rose = tt
+because_rose world state command s t error of rose = absurd of
+
+pub rose_cause : (world : World) (state : State) (command : Command) (s m t : Shown) (error : HdfsError) → NeverFall s.counts m.counts → TellsAsk m t error
+    → CallsRose m.counts t → Cause world state command s t error
+rose_cause world state command s m t error fall tells rose =
+    (because_rose world state command s t error tells.0 (failed_since s m t ANamenode fall rose), failed_since s m t (failure_of error) fall tells.1.1)
 
 module _ (world : World) (state : State) (command : Command) (s t : Shown) (kind : Option Kind) (refusal : Option Refusal) (stepped : (why : Refusal) → refusal ≡ Some why → step world state command ≡ Refused why) where
   exists_by : (class : List ℕ) (why : Refusal) → is_taken class ≡ true → refusal ≡ Some why → StandsForRefusal kind why class → step world state command ≡ Refused Exists
@@ -127,5 +118,5 @@ module _ (world : World) (state : State) (command : Command) (s t : Shown) (kind
   exception_cause class message h = by_test (is_taken class) refl
     where
       by_test : (b : Bool) → is_taken class ≡ b → Cause world state command s t (cond b (errors.AlreadyExists message) (errors.RPCError class message))
-      by_test true is = ⊎_elim (λ stands. inl (exists_by class stands.0 is stands.1 stands.2)) (λ rose. inr rose) h
-      by_test false is = ⊎_elim (λ stands. inl (lacks_by class stands.0 is stands.1 stands.2)) (λ rose. inr rose) h
+      by_test true is = (⊎_elim (λ stands. inl (exists_by class stands.0 is stands.1 stands.2)) (λ rose. inr rose) h, tt)
+      by_test false is = (⊎_elim (λ stands. inl (lacks_by class stands.0 is stands.1 stands.2)) (λ rose. inr rose) h, tt)

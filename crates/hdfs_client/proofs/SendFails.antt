@@ -105,12 +105,12 @@ module _ (command : Command) (sends : Sends command) (old new : Shown) (session 
       → Acts command old session new session' (Err error)
   sending_fails idle sound error closes tells touches causes =
       fails_by idle sound error
-      (tells_sending path old new command sends error closes tells)
-      (λ early. absurd (not_early path old new command sends error tells early))
-      (is_after_asking path old new error tells)
+      (tells_sending path command sends old new error closes tells)
+      (λ early. absurd (not_early path command sends error tells.0 early))
+      (is_after_asking path error tells.0)
       touches
       (λ state ready o.
-      cause_sending path old new command sends (world_at session old) state called (done state o) (sizes_of writer)
+      cause_sending path command sends old new (world_at session old) state called (done state o) (sizes_of writer)
       (ap (λ (r : RebuildSettings). r.rebuild_limit) (before.sized path writer here).rebuilding)
       (ap (λ (r : RebuildSettings). r.replace.best_effort) (before.sized path writer here).rebuilding) error tells (causes_at error causes o.picture o.file.content.bytes o.told o.file.carries))
 
@@ -118,14 +118,11 @@ module _ (command : Command) (sends : Sends command) (old new : Shown) (session 
   pub unsupported_fails : (TouchesNothing command → SameNodes old new) → ((p : Picture) → old.picture ≡ Some p → IsSound p) → CanMeetEncryption command → MovesBytes command → SameNodes old new
       → TouchesFile old writer new → HasCause old writer unsupported new → Acts command old session new session' (Err unsupported)
   unsupported_fails idle sound can moves nodes touches causes =
-      fails_by idle sound unsupported can (λ early. nodes) refl touches
-      (λ state ready o. inl (
-        done state o,
-        (
-          moves,
-          sym (encrypted_is session old writer (before.sized path writer here) state ready.carried) ∙ causes_at unsupported causes o.picture o.file.content.bytes o.told o.file.carries,
-        ),
-      ))
+      fails_by idle sound unsupported (can, (tt, tt)) (λ early. nodes) refl touches
+      (λ state ready o.
+      (let wanted = sym (encrypted_is session old writer (before.sized path writer here) state ready.carried)
+      ∙ causes_at unsupported causes o.picture o.file.content.bytes o.told o.file.carries in
+      (inl (done state o, (moves, wanted)), tt)))
 
 -- a write that is refused, as the file's attributes are out of their limits
 pub write_refused : (old new : Shown) (session session' : Session) (name path more : List ℕ) (writer : FileWriter) → writer_of session path ≡ Some writer → absolute (settings_of session).home name ≡ path
@@ -136,15 +133,18 @@ pub write_refused : (old new : Shown) (session session' : Session) (name path mo
     → Acts (commands.Write name more) old session new session' (Err (errors.InvalidArgument args.Options))
 write_refused old new session session' name path more writer here called out same later reads nodes links stands writers others sound =
     acts_failed (commands.Write name more) old new session session' later reads (λ none. nodes) links stands writers (errors.InvalidArgument args.Options)
-    tt
+    (tt, (tt, tt))
     (λ early. nodes)
     (λ at byte lost. lost)
     (λ state ready.
     (let o = open_at old session state (commands.Write name more) path writer ready here in (
       (
-        o.file.content,
-        subst (λ (x : List ℕ). state.files x ≡ Some (Writing o.file.content)) (sym called) o.file.named,
-        attributes_out (sizes_of writer) o.file.content.attributes o.file.replication o.file.block_size out,
+        (
+          o.file.content,
+          subst (λ (x : List ℕ). state.files x ≡ Some (Writing o.file.content)) (sym called) o.file.named,
+          attributes_out (sizes_of writer) o.file.content.attributes o.file.replication o.file.block_size out,
+        ),
+        tt,
       ),
       agrees_but_by_path (spared (world_at session old) state (commands.Write name more) (errors.InvalidArgument args.Options)) new.picture o.picture state.files
           (ap (λ (s : Shown). s.picture) same ∙ o.told) (λ other free. o.agrees other),

@@ -15,6 +15,7 @@ use Rattle.hdfs_namenode.proofs.Services.{reaches_same, same_service_refl, same_
 use Rattle.hdfs_files.specs.Writers.{sizes_of}
 use Rattle.hdfs_files.specs.declared.file_writer.FileWriter.{FileWriter}
 use Rattle.hdfs_files.specs.declared.sizes.WriteSizes.{WriteSizes}
+use Rattle.hdfs_recovery.specs.declared.block_plan.RebuildSettings.{RebuildSettings}
 use Rattle.hdfs_client.specs.Preparing.{Remembers, sizes_by}
 use Rattle.hdfs_client.specs.Session.{Carried, IsSized, defaults_known, rebuilding_by}
 use Rattle.hdfs_client.specs.declared.session.Session.{Session}
@@ -41,11 +42,6 @@ remembers_with session writers = record { settings = refl; name = refl; service 
 pub remembers_asked : (session : Session) (protocol : NamenodeProtocol) → SameClient session.namenode protocol → Remembers session (record session { namenode = protocol })
 remembers_asked session protocol same = record { settings = refl; name = same.name; service = same.service; known = λ defaults is. same.defaults ∙ is }
 
--- and one that asks on, and has other writers
-pub remembers_on : (session : Session) (protocol : NamenodeProtocol) (writers : BTreeMap (String Global) FileWriter) → SameClient session.namenode protocol
-    → Remembers session (record session { namenode = protocol; writers = writers })
-remembers_on session protocol writers same = record { settings = refl; name = same.name; service = same.service; known = λ defaults is. same.defaults ∙ is }
-
 -- and one whose command has failed
 pub remembers_failed : (a b : Session) → Remembers a b → Remembers a (record b { failed = true })
 remembers_failed a b one = record { settings = one.settings; name = one.name; service = one.service; known = one.known }
@@ -70,6 +66,11 @@ module _ (session session' : Session) (remembers : Remembers session session') w
     packet_size = ap (λ (s : WriteSizes). s.packet_size) same ∙ sized.packet_size;
     encrypted = ap (λ (s : WriteSizes). s.encrypted) same ∙ sized.encrypted;
   }
+
+  -- it gives a file the sizes that it gave it
+  pub sizes_still : (d : ServerDefaults) (replication block_size : ℕ) → sizes_by session' d replication block_size ≡ sizes_by session d replication block_size
+  sizes_still d replication block_size =
+      ap (λ (x : RebuildSettings). record (sizes_by session d replication block_size) { rebuilding = x }) (ap rebuilding_by remembers.settings)
 
   -- so is a new one, which was given them
   pub sized_by : (d : ServerDefaults) (writer : FileWriter) (replication block_size : ℕ)

@@ -31,7 +31,6 @@ use Rattle.hdfs_files.specs.Tails.{Tail, Bare, FileCarries}
 use Rattle.hdfs_files.specs.Writers as files
 use Rattle.hdfs_files.specs.declared.file_writer.FileWriter.{FileWriter}
 use Rattle.hdfs_files.specs.declared.sizes.WriteSizes.{WriteSizes}
-use Rattle.hdfs_files.proofs.Asked.{Came}
 use Rattle.hdfs_files.proofs.Others.{tail_stays}
 use Rattle.hdfs_client.specs.Acting.{Acts, IsReady, world_at}
 use Rattle.hdfs_client.specs.Preparing.{HasDefaults, Prepares, Remembers, sizes_by}
@@ -41,7 +40,9 @@ use Rattle.hdfs_client.proofs.Acted.{BeginsFile, begun_acts}
 use Rattle.hdfs_client.proofs.Agreeing.{agrees_files, agrees_told, is_told}
 use Rattle.hdfs_client.proofs.Begun.{Begun, closed_at, create_begun, open_begun}
 use Rattle.hdfs_client.proofs.Moved.{HasMore}
-use Rattle.hdfs_client.proofs.Opening.{Over, append_over, appending, create_over, creating, made, was_made, was_reopened}
+use Rattle.hdfs_namenode.specs.Relaying.{Came}
+use Rattle.hdfs_client.specs.Opening.{appending, creating}
+use Rattle.hdfs_client.proofs.Opening.{Over, append_over, create_over, made, was_made, was_reopened}
 use Rattle.hdfs_client.proofs.Prepared.{looks_trans}
 use Rattle.hdfs_client.proofs.Looking.{looks_from-Leaves}
 use Rattle.hdfs_client.proofs.Refusing.{append_step, create_step, kinds_same}

@@ -19,12 +19,12 @@ use Rattle.hdfs_model.specs.Shown.{Shown}
 use Rattle.hdfs_model.specs.Sound.{IsSound, IsFileAt}
 use Rattle.hdfs_model.specs.Steps.{target_of}
 use Rattle.hdfs_files.specs.OnlyFiles.{KeepsBlocks, OnlyFile}
-use Rattle.hdfs_files.specs.WholeBlocks.{IsWhole, IsOfSize, IsUpTo, AllBehind, AllBetween, LastOne}
+use Rattle.hdfs_model.specs.Stored.{IsWhole, IsOfSize, IsUpTo, AllBehind, AllBetween, LastOne, AreFull}
 use Rattle.hdfs_files.specs.Writers.{sizes_of}
 use Rattle.hdfs_files.proofs.Others.{others_keep}
 use Rattle.hdfs_client.specs.Acting.{world_at}
 use Rattle.hdfs_client.specs.Session.{writer_of}
-use Rattle.hdfs_client.specs.Whole.{AreFull, AreWhole, AreFilled, KeepsWhole}
+use Rattle.hdfs_client.specs.Whole.{AreWhole, AreFilled, KeepsWhole}
 use Rattle.hdfs_client.specs.declared.session.Session.{Session}
 
 -- The blocks of what stands at a path stay, and what datanodes hold of them. Where a file stands there, it stood there before.

@@ -17,14 +17,14 @@ use Rattle.hdfs_model.specs.Picture.{Picture, SameFiles}
 use Rattle.hdfs_model.specs.Sound.{IsSound, IsFileAt}
 use Rattle.hdfs_files.specs.OnlyFiles.{KeepsBlocks}
 use Rattle.hdfs_files.specs.Tails.{tail_length}
-use Rattle.hdfs_files.specs.WholeBlocks.{IsWhole, IsOfSize, IsUpTo, AllBehind, AllBetween}
+use Rattle.hdfs_model.specs.Stored.{IsWhole, IsOfSize, IsUpTo, AllBehind, AllBetween, AreFull}
 use Rattle.hdfs_files.specs.Writers.{tail_opened}
 use Rattle.hdfs_files.proofs.Creating.{created_keeps}
 use Rattle.hdfs_files.proofs.Placing.{at_id, at_path}
 use Rattle.hdfs_files.proofs.WholeBlocks.{IsKept, before_last, none_between, size_kept, whole_kept}
-use Rattle.hdfs_client.specs.Whole.{AreFull}
 use Rattle.hdfs_client.proofs.Begun.{opened_named, opened_only}
-use Rattle.hdfs_client.proofs.Opening.{appending, creating, made, may_be_made, may_be_reopened}
+use Rattle.hdfs_client.specs.Opening.{appending, creating}
+use Rattle.hdfs_client.proofs.Opening.{made, may_be_made, may_be_reopened}
 use Rattle.hdfs_client.proofs.WholeBeside.{StaysAt, stays_elsewhere, stays_named}
 
 -- what stays over each of two calls stays over both

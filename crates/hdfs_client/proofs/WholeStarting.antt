@@ -18,16 +18,15 @@ use Rattle.hdfs_model.specs.Causes.{CallsRose}
 use Rattle.hdfs_model.specs.Namenode.{MayBeDone}
 use Rattle.hdfs_model.specs.Paths.{absolute, is_path}
 use Rattle.hdfs_model.specs.Picture.{Picture, SameButActive, SameFiles}
-use Rattle.hdfs_model.specs.Sessions.{is_misplaced}
+use Rattle.hdfs_model.specs.Owing.{is_misplaced}
 use Rattle.hdfs_model.specs.Shown.{Shown}
 use Rattle.hdfs_model.specs.Sound.{IsSound, IsFileAt}
 use Rattle.hdfs_model.specs.Steps.{path_of, target_of}
 use Rattle.hdfs_model.proofs.Frames.{same_files_refl, told_after}
-use Rattle.hdfs_model.proofs.Relaying.{Repeats}
+use Rattle.hdfs_model.specs.Repeating.{Repeats}
 use Rattle.hdfs_namenode.proofs.Relayed.{relayed_done}
-use Rattle.hdfs_files.proofs.Asked.{Came}
 use Rattle.hdfs_files.specs.Tails.{Tail, Bare, tail_length}
-use Rattle.hdfs_files.specs.WholeBlocks.{IsWhole, IsOfSize, AllBetween}
+use Rattle.hdfs_model.specs.Stored.{IsWhole, IsOfSize, AllBetween}
 use Rattle.hdfs_files.specs.Writers.{sizes_of, tail_of, tail_opened}
 use Rattle.hdfs_files.specs.declared.file_writer.FileWriter.{FileWriter}
 use Rattle.hdfs_files.specs.declared.sizes.WriteSizes.{WriteSizes}
@@ -41,7 +40,9 @@ use Rattle.hdfs_client.proofs.Agreeing.{is_told}
 use Rattle.hdfs_client.proofs.Begun.{opened_only}
 use Rattle.hdfs_client.proofs.Moved.{HasMore, none_from}
 use Rattle.hdfs_client.proofs.OneFile.{not_same, same_test}
-use Rattle.hdfs_client.proofs.Opening.{appending, creating, made, was_made, was_reopened}
+use Rattle.hdfs_namenode.specs.Relaying.{Came}
+use Rattle.hdfs_client.specs.Opening.{appending, creating}
+use Rattle.hdfs_client.proofs.Opening.{made, was_made, was_reopened}
 use Rattle.hdfs_client.proofs.ReadActs.{meets}
 use Rattle.hdfs_client.proofs.Failing.{may_be_done}
 use Rattle.hdfs_client.proofs.Stepping.{is_closed}

@@ -16,14 +16,15 @@ use Rattle.hdfs_model.specs.Steps.{target_of}
 use Rattle.hdfs_model.specs.Stores.{AgreesAt}
 use Rattle.hdfs_files.specs.OnlyFiles.{OnlyFile}
 use Rattle.hdfs_files.specs.Tails.{FileCarries, tail_length}
-use Rattle.hdfs_files.specs.WholeBlocks.{IsWhole, IsOfSize, AllBehind, AllBetween, StaysWhole, ClosesWhole}
+use Rattle.hdfs_files.specs.WholeBlocks.{StaysWhole, ClosesWhole}
+use Rattle.hdfs_model.specs.Stored.{IsWhole, IsOfSize, AllBehind, AllBetween, AreFull}
 use Rattle.hdfs_files.specs.Writers.{AreLimited, Keeps, CarriesMore, Closes, TouchesFile, Fails, tail_of, sizes_of, path_of}
 use Rattle.hdfs_files.specs.declared.file_writer.FileWriter.{FileWriter}
 use Rattle.hdfs_files.specs.declared.sizes.WriteSizes.{WriteSizes}
 use Rattle.hdfs_files.proofs.Moving.{only_file_refl}
 use Rattle.hdfs_client.specs.Acting.{world_at}
 use Rattle.hdfs_client.specs.Session.{writer_of}
-use Rattle.hdfs_client.specs.Whole.{AreFull, AreWhole, AreFilled, KeepsBlocksWhole}
+use Rattle.hdfs_client.specs.Whole.{AreWhole, AreFilled, KeepsBlocksWhole}
 use Rattle.hdfs_client.specs.declared.session.Session.{Session}
 use Rattle.hdfs_client.proofs.Limited.{limited_cases}
 use Rattle.hdfs_client.proofs.OneFile.{not_same, same_test, open_attributes}

@@ -9,11 +9,11 @@ use Rattle.hdfs_model.specs.declared.errors.HdfsError.{HdfsError}
 use Rattle.hdfs_model.specs.declared.errors.HdfsError.TheVariants as errors
 use Rattle.hdfs_model.specs.Paths.{is_path, absolute}
 use Rattle.hdfs_model.specs.Picture.{Picture}
-use Rattle.hdfs_model.specs.Sessions.{IsNotOwed}
+use Rattle.hdfs_model.specs.Owing.{IsNotOwed}
 use Rattle.hdfs_model.specs.Shown.{Shown, SameNodes}
 use Rattle.hdfs_model.specs.Sound.{IsSound}
 use Rattle.hdfs_namenode.specs.Clients.{SameClient}
-use Rattle.hdfs_files.specs.Failing.{TellsClose, TellsWrite}
+use Rattle.hdfs_files.specs.Failing.{TellsClose, IsOfWrite}
 use Rattle.hdfs_files.specs.Writers as files
 use Rattle.hdfs_files.specs.declared.file_writer.FileWriter.{FileWriter}
 use Rattle.hdfs_files.proofs.Moving.{own_link_refl}
@@ -116,7 +116,7 @@ module _ (old new : Shown) (session session' : Session) (name path : List ℕ) (
             sending_fails (commands.Write name more) tt old new session session' path writer c.here c.before c.called done_at
             own.later own.reads (links_of_one old new session session' path (Some writer) (Some writer') (call_of (Some writer') c own)) (fails_stands own) (elsewhere (Some writer') c)
             (others_open old new session session' path (Some writer) (Some writer') (call_of (Some writer') c own) (λ w is. (let one : writer' ≡ w = cc in subst (λ (x : FileWriter). files.has_failed x ≡ true) one has)))
-            empty c.sound error (λ name is. absurd (subst (TellsWrite old new) is fails.tells)) tells fails.touches fails.cause
+            empty c.sound error (λ name is. absurd (subst IsOfWrite is fails.tells.0)) tells fails.touches fails.cause
 
         -- a write of bytes that are to be encrypted
         encrypting_acts : (error : HdfsError) → files.Fails old writer error new → error ≡ unsupported → more ≢ [] → SameNodes old new → Acts (commands.Write name more) old session new session' (Err error)
@@ -130,7 +130,7 @@ module _ (old new : Shown) (session session' : Session) (name path : List ℕ) (
 
         -- a write that fails
         failing_acts : (error : HdfsError) → (error ≡ unsupported → more ≢ []) → files.Fails old writer error new → Acts (commands.Write name more) old session new session' (Err error)
-        failing_acts error some fails = ⊎_elim (closing_acts error fails) (λ un. encrypting_acts error fails un.0 (some un.0) un.1) (fails_as_close path old new error fails.tells)
+        failing_acts error some fails = ⊎_elim (closing_acts error fails) (λ un. encrypting_acts error fails un.0 (some un.0) un.1) (fails_as_close path old new error fails.tells fails.refused)
 
         -- a write that is refused
         refused_acts : (files.AreLimited (files.sizes_of writer) → ⊥) → files.link_of writer ≡ None → new ≡ old → Acts (commands.Write name more) old session new session' (Err (errors.InvalidArgument args.Options))
@@ -185,11 +185,11 @@ pub write_not_owed : (old new : Shown) (writer : FileWriter) (error : HdfsError)
     → ((files.AreLimited (files.sizes_of writer) → ⊥) → error ≡ errors.InvalidArgument args.Options) → IsNotOwed error
 write_not_owed old new writer error fails refused =
     ⊎_elim
-    (λ limited. ⊎_elim (λ tells. not_owed (files.path_of writer) old new error tells) (λ un. subst IsNotOwed (sym un.0) tt)
-    (fails_as_close (files.path_of writer) old new error (fails limited).tells))
+    (λ limited. ⊎_elim (λ tells. not_owed (files.path_of writer) error tells.0) (λ un. subst IsNotOwed (sym un.0) tt)
+    (fails_as_close (files.path_of writer) old new error (fails limited).tells (fails limited).refused))
     (λ out. subst IsNotOwed (sym (refused out)) tt)
     (limited_cases (files.sizes_of writer))
 
 -- nor does a close
 pub close_not_owed : (old new : Shown) (writer : FileWriter) (error : HdfsError) → files.FailsToClose old writer error new → IsNotOwed error
-close_not_owed old new writer error fails = not_owed (files.path_of writer) old new error fails.tells
+close_not_owed old new writer error fails = not_owed (files.path_of writer) error fails.tells.0

@@ -6,15 +6,14 @@ use Rattle.hdfs_model.specs.declared.errors.HdfsError.{HdfsError}
 use Rattle.hdfs_model.specs.declared.errors.HdfsError.TheVariants as errors
 use Rattle.hdfs_model.specs.declared.messages.LocatedBlocks.{LocatedBlocks}
 use Rattle.hdfs_model.specs.declared.messages.ServerDefaults.{ServerDefaults}
-use Rattle.hdfs_model.specs.Causes.{CallsRose}
 use Rattle.hdfs_model.specs.Namenode.{Locates}
 use Rattle.hdfs_model.specs.Picture.{Picture}
 use Rattle.hdfs_model.specs.Shown.{Shown}
 use Rattle.hdfs_namenode.specs.Asked.{SameService}
 use Rattle.hdfs_namenode.specs.Clients.{defaults_of, name_of, proxy_of}
-use Rattle.hdfs_namenode.specs.Relaying.{TellsAsk}
 use Rattle.hdfs_namenode.specs.declared.protocol.NamenodeProtocol.{NamenodeProtocol}
 use Rattle.hdfs_client.specs.Meeting.{IsClosed, KnowsDefaults}
+use Rattle.hdfs_client.specs.Preparing.{AskedInVain}
 
 -- the error of a read that can't be done without encryption
 abbrev pub Unsupported : HdfsError → Type 0
@@ -38,11 +37,10 @@ RefusesRange found offset len error =
     (Unsupported error × (is_some found.encryption ≡ true))
     ⊎ ((error ≡ errors.InvalidArgument (args.Range offset len found.file_length)) × (found.file_length < offset + len))
 
--- Bytes may not be moved: the defaults were asked for in vain, over a told picture only where a namenode has failed; or there are some, and
--- the defaults want them encrypted.
+-- Bytes may not be moved: the defaults were asked for in vain, or there are some, and the defaults want them encrypted.
 abbrev pub LacksTransfer : ℕ → Shown → NamenodeProtocol → HdfsError → Shown → Type 0
 LacksTransfer len old namenode error new =
-    (TellsAsk old new error × ((p : Picture) → old.picture ≡ Some p → (error ≡ errors.NoMemory) ⊎ CallsRose old.counts new))
+    AskedInVain old error new
     ⊎ (Unsupported error × (0 < len) × ((p : Picture) → old.picture ≡ Some p → KnowsDefaults old (defaults_of namenode)
     → p.defaults.encrypt_data_transfer ≡ true))
 

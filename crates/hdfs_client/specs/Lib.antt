@@ -3,6 +3,7 @@ pub mod Encrypted
 pub mod Finding
 pub mod Looking
 pub mod Meeting
+pub mod Opening
 pub mod Preparing
 pub mod Ranges
 pub mod Session

@@ -43,10 +43,15 @@ pub record HasDefaults (old : Shown) (session session' : Session) (defaults : Se
   pub known : defaults_known session' ≡ Some defaults
   pub told : AreTold old (defaults_known session) defaults
 
--- why there are none: the ask has failed, over a told picture only where a namenode has, or they are out of their limits
+-- they were asked for in vain, over a told picture only where a namenode has failed
+abbrev pub AskedInVain : Shown → HdfsError → Shown → Type 0
+AskedInVain old error new =
+    TellsAsk old new error × ((p : Picture) → old.picture ≡ Some p → (error ≡ errors.NoMemory) ⊎ CallsRose old.counts new)
+
+-- why there are none: they were asked for in vain, or they are out of their limits
 abbrev pub LacksDefaults : Shown → Session → HdfsError → Shown → Type 0
 LacksDefaults old session error new =
-    (TellsAsk old new error × ((p : Picture) → old.picture ≡ Some p → (error ≡ errors.NoMemory) ⊎ CallsRose old.counts new))
+    AskedInVain old error new
     ⊎ ((error ≡ errors.InvalidArgument args.Defaults) × (defaults : ServerDefaults) × (are_defaults defaults ≡ false)
     × AreTold old (defaults_known session) defaults)
 

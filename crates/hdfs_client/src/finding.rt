@@ -3,7 +3,8 @@ ghost use Rattle.std.specs.Prelude.{◌≡◌, ◌+◌, ◌≤◌, ℕ, None, So
 ghost use Rattle.hdfs_model.specs.Causes.{Cause, Tells};
 ghost use Rattle.hdfs_model.specs.Files.{State};
 ghost use Rattle.hdfs_model.specs.Picture.{Picture, SameButActive, SameFiles, Told};
-ghost use Rattle.hdfs_model.specs.Sessions.{IsNotOwed, MeetsNoEncryption};
+ghost use Rattle.hdfs_model.specs.Sessions.{MeetsNoEncryption};
+ghost use Rattle.hdfs_model.specs.Owing.{IsNotOwed};
 ghost use Rattle.hdfs_model.specs.Steps.{World};
 ghost use Rattle.hdfs_namenode.specs.Asked.{ReachesAll};
 ghost use Rattle.hdfs_namenode.specs.Clients.{defaults_of, proxy_of};

@@ -4,7 +4,7 @@ ghost use Rattle.hdfs_model.specs.Causes.{Cause, Tells};
 ghost use Rattle.hdfs_model.specs.Files.{State};
 ghost use Rattle.hdfs_model.specs.Namenode.{Locates};
 ghost use Rattle.hdfs_model.specs.Picture.{Picture, SameFiles};
-ghost use Rattle.hdfs_model.specs.Sessions.{IsNotOwed};
+ghost use Rattle.hdfs_model.specs.Owing.{IsNotOwed};
 ghost use Rattle.hdfs_model.specs.Steps.{World};
 ghost use Rattle.hdfs_client.specs.Looking.{OnlyLooks};
 ghost use Rattle.hdfs_namenode.specs.Asked.{ReachesAll};

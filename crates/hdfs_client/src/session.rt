@@ -4,7 +4,7 @@ ghost use Rattle.hdfs_client.specs.Acting.{Acts, world_at};
 ghost use Rattle.hdfs_model.specs.Files.{State};
 ghost use Rattle.hdfs_model.specs.Limits.{are_settings};
 ghost use Rattle.hdfs_model.specs.Paths.{is_path, absolute};
-ghost use Rattle.hdfs_model.specs.Sessions.{Owed, is_misplaced};
+ghost use Rattle.hdfs_model.specs.Owing.{Owed, is_misplaced};
 ghost use Rattle.hdfs_model.specs.Shown.{Later, SameReads};
 ghost use Rattle.hdfs_model.specs.Steps.{path_of};
 ghost use Rattle.hdfs_model.specs.declared.errors.HdfsError.TheVariants as errors;

@@ -1,11 +1,17 @@
 //! The commands of a session that write.
-ghost use Rattle.std.specs.Prelude.{◌≡◌, ◌<◌, ℕ, List, Some, IfOk, IfErr, OnOk, OnErr, string_bytes, true, false};
+ghost use Rattle.std.specs.Prelude.{◌≡◌, ◌<◌, ℕ, List, Some, IfOk, IfErr, IfSome, OnOk, OnErr, string_bytes, true, false, unwrap_or};
 ghost use Rattle.std.specs.BTreeMap.{get_by_text, IsUnchanged};
 ghost use Rattle.std.specs.Map.{update};
 ghost use Rattle.std.specs.Str.{bytes_eq};
+ghost use Rattle.hdfs_client.specs.Opening.{appending, create_flag, creating};
+ghost use Rattle.hdfs_model.specs.declared.asks.Answer.TheVariants as answers;
 ghost use Rattle.hdfs_model.specs.declared.commands.Command.TheVariants as Command;
+ghost use Rattle.hdfs_model.specs.Namenode.{IsToWrite};
 ghost use Rattle.hdfs_model.specs.Paths.{is_path, absolute};
-ghost use Rattle.hdfs_model.specs.Sessions.{IsNotOwed};
+ghost use Rattle.hdfs_model.specs.Owing.{IsNotOwed};
+ghost use Rattle.hdfs_namenode.specs.Asked.{ReachesAll, as_answer};
+ghost use Rattle.hdfs_namenode.specs.Clients.{name_of, proxy_of};
+ghost use Rattle.hdfs_namenode.specs.Relaying.{Came};
 
 use crate::encrypted::tells_encryption;
 use crate::session::Session;
@@ -25,6 +31,13 @@ const OVERWRITE: u32 = 3;
 
 /// The flag of a file that is gone on with (upstream's `APPEND`).
 const APPEND: u32 = 4;
+
+/// The flag of a new file with these options.
+fn create_flag(options: &WriteOptions) -> u32
+    ensures { result ≡ create_flag options.now }
+{
+    if options.overwrite { OVERWRITE } else { CREATE }
+}
 
 /// The id of a file that is told with its status.
 fn file_id_of(status: &Option<FileStatusMsg>) -> Option<u64> {
@@ -58,6 +71,7 @@ fn keep(
 
 impl Session {
     ghost use Rattle.hdfs_client.specs.Acting.{Acts};
+    ghost use Rattle.hdfs_client.specs.Encrypted.{OnlyAsked};
     ghost use Rattle.hdfs_client.specs.Preparing.{HasDefaults, LacksDefaults, Prepares, sizes_by};
     ghost use Rattle.hdfs_client.specs.Session.{settings_of, has_failed, opened_of, after, Stands};
     ghost use Rattle.hdfs_client.specs.Whole.{KeepsBlocksWhole};
@@ -94,6 +108,47 @@ impl Session {
         }
     }
 
+    /// Asks for a new file at this path, with these options, and with the defaults where they say nothing.
+    fn ask_create<C: Cluster>(
+        &mut self,
+        cluster: &mut C,
+        path: &Text,
+        options: &WriteOptions,
+        defaults: &ServerDefaults,
+    ) -> Result<Option<FileStatusMsg>, HdfsError>
+        requires { ReachesAll (proxy_of self.old.namenode) (C.shown cluster.old) }
+        ensures came { Came (C.shown cluster.old) (creating path.now (name_of self.old.namenode) options.now
+            (unwrap_or options.now.replication defaults.now.replication)
+            (unwrap_or options.now.block_size defaults.now.block_size))
+            (as_answer answers.Create result) (C.shown cluster.new) }
+        ensures asked { OnlyAsked self.old self.new }
+    {
+        self.namenode.create(
+            cluster,
+            path.as_str(),
+            options.permission,
+            create_flag(options),
+            options.create_parent,
+            options.replication.unwrap_or(defaults.replication),
+            options.block_size.unwrap_or(defaults.block_size),
+        )
+    }
+
+    /// Asks for the file at this path, which is gone on with.
+    fn ask_append<C: Cluster>(
+        &mut self,
+        cluster: &mut C,
+        path: &Text,
+    ) -> Result<Appended, HdfsError>
+        requires { ReachesAll (proxy_of self.old.namenode) (C.shown cluster.old) }
+        ensures came { Came (C.shown cluster.old) (appending path.now (name_of self.old.namenode) 4)
+            (as_answer answers.Append result) (C.shown cluster.new) }
+        ensures block { IfOk result (λ appended. IfSome appended.block IsToWrite) }
+        ensures asked { OnlyAsked self.old self.new }
+    {
+        self.namenode.append(cluster, path.as_str(), APPEND)
+    }
+
     /// Creates a file, and keeps its writer.
     pub(crate) fn create<C: Cluster>(
         &mut self,
@@ -116,24 +171,16 @@ impl Session {
             return Err(HdfsError::InvalidArgument(ArgFault::Options));
         }
         let defaults = self.defaults(cluster)?;
-        let replication = options.replication.unwrap_or(defaults.replication);
-        let block_size = options.block_size.unwrap_or(defaults.block_size);
         let key = String::from_str(self.alloc, path.as_str())?;
-        let status = self.namenode.create(
-            cluster,
-            path.as_str(),
-            options.permission,
-            if options.overwrite { OVERWRITE } else { CREATE },
-            options.create_parent,
-            replication,
-            block_size,
-        )?;
+        let status = self.ask_create(cluster, &path, options, &defaults)?;
         let encrypted = tells_encryption(&status);
         let file_id = file_id_of(&status);
         drop(status);
         if encrypted {
             return Err(self.refuse_created(cluster, path.as_str()));
         }
+        let replication = options.replication.unwrap_or(defaults.replication);
+        let block_size = options.block_size.unwrap_or(defaults.block_size);
         let sizes = self.sizes(&defaults, replication, block_size);
         let writer = FileWriter::new(self.alloc, path, file_id, sizes);
         keep(&mut self.writers, key, writer)?;
@@ -160,7 +207,7 @@ impl Session {
     {
         let defaults = self.defaults(cluster)?;
         let key = String::from_str(self.alloc, path.as_str())?;
-        let Appended { block, stat } = self.namenode.append(cluster, path.as_str(), APPEND)?;
+        let Appended { block, stat } = self.ask_append(cluster, &path)?;
         let Some(stat) = stat else {
             drop(block);
             return Err(HdfsError::FileNotFound(name.copy(self.alloc)?));

@@ -1,44 +1,22 @@
 -- What an ask of a namenode comes to, where a writer knows the file.
-use Rattle.std.proofs.Common.{◌≡◌, ◌⊎◌, inl, inr, ℕ, ◌<◌, true, false, Bool, List, Option, Some, subst}
-use Rattle.std.specs.Prelude.{Result, Ok, Err}
-use Rattle.hdfs_model.specs.declared.asks.Answer.{Answer}
+use Rattle.std.proofs.Common.{◌≡◌, ◌⊎◌, inl, inr, ℕ, true, false, List, Option, subst}
+use Rattle.std.specs.Prelude.{Ok, Err}
 use Rattle.hdfs_model.specs.declared.asks.Answer.TheVariants as answers
 use Rattle.hdfs_model.specs.declared.asks.Ask.{Ask}
 use Rattle.hdfs_model.specs.declared.asks.Ask.TheVariants as asks
-use Rattle.hdfs_model.specs.declared.asks.AskFault.{AskFault}
 use Rattle.hdfs_model.specs.declared.errors.HdfsError.{HdfsError}
 use Rattle.hdfs_model.specs.declared.errors.HdfsError.TheVariants as errors
 use Rattle.hdfs_model.specs.declared.messages.Block.{Block}
 use Rattle.hdfs_model.specs.declared.messages.DatanodeInfo.{DatanodeInfo}
 use Rattle.hdfs_model.specs.declared.messages.LocatedBlock.{LocatedBlock}
 use Rattle.hdfs_model.specs.declared.picture.FileEntry.{FileEntry}
-use Rattle.hdfs_model.specs.Causes.{CallsRose}
 use Rattle.hdfs_model.specs.Effects.{AddsBlock, Completes}
 use Rattle.hdfs_model.specs.Namenode.{Row}
 use Rattle.hdfs_model.specs.Picture.{Picture, SameButActive}
-use Rattle.hdfs_model.specs.Shown.{Shown, Served}
 use Rattle.hdfs_model.specs.Sound.{IsFileAt}
-use Rattle.hdfs_model.proofs.Relaying.{Repeats}
-use Rattle.hdfs_namenode.specs.Asked.{AskedOnce, ReachesAll, Through}
-use Rattle.hdfs_namenode.specs.Relaying.{DoneOrNot, RelaysTold}
-use Rattle.hdfs_namenode.proofs.Relayed.{Relays, relayed_once, relayed_told_once, relayed_row, relayed_done, relayed_rose}
-
--- What an ask has come to: over any cluster, and over a told picture, from which it may be done more than once.
-pub record Came (old : Shown) (ask : Ask) (result : Result Answer HdfsError) (new : Shown) : Type 0 where
-  pub relays : Relays old ask result new
-  pub told : (p : Picture) → old.picture ≡ Some p → Repeats ask p
-      → (q : Picture) × (new.picture ≡ Some q) × RelaysTold (CallsRose old.counts new) p ask result q
-
-module _ {C : Type 0} (shown : C → Shown) (serves : C → ℕ → Ask → Result Answer AskFault → C → Type 0)
-    (rows : (old new : C) (i : ℕ) (ask : Ask) (result : Result Answer AskFault) → serves old i ask result new → Served (shown old) i ask result (shown new))
-    (below : (c : C) (p : Picture) → (shown c).picture ≡ Some p → p.active < (shown c).namenodes) where
-  -- a service that reaches all namenodes was asked
-  pub came : (write : Bool) (ask : Ask) (old : Through C) (result : Result Answer HdfsError) (new : Through C) → ReachesAll old.proxy (shown old.cluster)
-      → AskedOnce serves write ask old result new → Came (shown old.cluster) ask result (shown new.cluster)
-  came write ask old result new reaches asked = record {
-    relays = relayed_once shown serves rows write ask old result new reaches asked;
-    told = λ p told repeats. relayed_told_once shown serves rows write ask old result new p (below old.cluster p told) reaches told repeats asked;
-  }
+use Rattle.hdfs_model.specs.Repeating.{DoneOrNot}
+use Rattle.hdfs_namenode.specs.Relaying.{RelaysTold}
+use Rattle.hdfs_namenode.proofs.Relayed.{relayed_row, relayed_done, relayed_rose}
 
 same_file_at : (p : Picture) (path : List ℕ) (a b : FileEntry) → IsFileAt p path a → IsFileAt p path b → a ≡ b
 same_file_at p path a b one two = cc (one, two)

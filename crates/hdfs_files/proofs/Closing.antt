@@ -4,11 +4,9 @@ use Rattle.std.specs.Prelude.{Result, Ok, Err, Bool, true, false}
 use Rattle.hdfs_model.specs.declared.asks.Answer.{Answer}
 use Rattle.hdfs_model.specs.declared.asks.Ask.{Ask}
 use Rattle.hdfs_model.specs.declared.errors.HdfsError.{HdfsError}
-use Rattle.hdfs_model.specs.declared.messages.DatanodeInfo.{DatanodeInfo}
 use Rattle.hdfs_model.specs.declared.messages.LocatedBlock.{LocatedBlock}
 use Rattle.hdfs_model.specs.declared.asks.Answer.TheVariants as answers
 use Rattle.hdfs_model.specs.declared.asks.Ask.TheVariants as asks
-use Rattle.hdfs_model.specs.declared.asks.AskFault.{AskFault}
 use Rattle.hdfs_model.specs.declared.errors.HdfsError.TheVariants as errors
 use Rattle.hdfs_model.specs.declared.messages.Block.{Block}
 use Rattle.hdfs_model.specs.declared.picture.LastAnswer.TheVariants as last_answers
@@ -16,21 +14,19 @@ use Rattle.hdfs_model.specs.Causes.{CallsRose}
 use Rattle.hdfs_model.specs.Counts.{CallsRoseTimes}
 use Rattle.hdfs_model.specs.Effects.{blocks_at}
 use Rattle.hdfs_model.specs.Picture.{Picture}
+use Rattle.hdfs_model.specs.Repeating.{Leaves}
 use Rattle.hdfs_model.specs.Shown.{SameNodes, Shown}
 use Rattle.hdfs_model.specs.Files.{File}
 use Rattle.hdfs_model.specs.Sound.{IsSound}
 use Rattle.hdfs_model.specs.Stores.{AgreesAt}
 use Rattle.hdfs_model.proofs.Frames.{never_fall_refl}
-use Rattle.hdfs_model.proofs.Framing.{Leaves}
 use Rattle.hdfs_block_writer.specs.declared.block_writer.BlockWriter.{BlockWriter}
-use Rattle.hdfs_namenode.specs.Asked.{AskedOnce, Through, as_answer}
-use Rattle.hdfs_namenode.specs.Relaying.{RelaysTold}
+use Rattle.hdfs_namenode.specs.Relaying.{Came, RelaysTold}
 use Rattle.hdfs_files.specs.declared.file_writer.FileWriter.{FileWriter}
 use Rattle.hdfs_files.specs.OnlyFiles.{OnlyFile}
 use Rattle.hdfs_files.specs.Tails.{FileCarries}
 use Rattle.hdfs_files.specs.WholeBlocks.{ClosesWhole}
 use Rattle.hdfs_files.specs.Writers.{blocks_in, tail_done, tail_by, tail_of, IsBetweenBlocks, link_of, link_by, OnlyOwnLink, Closed, FailsToClose}
-use Rattle.hdfs_files.proofs.Asked.{Came}
 use Rattle.hdfs_files.proofs.Completing.{IsAsked, complete_again, only_asked, says_closed, says_not, says_nothing, says_rose}
 use Rattle.hdfs_files.proofs.Growing.{closed_agrees}
 use Rattle.hdfs_files.proofs.Joining.{calls_since, tells_since, tells_close}
@@ -47,9 +43,9 @@ pub record Asking (tries : ℕ) (a : Shown) (w : FileWriter) (b : Shown) : Type 
   pub times : CallsRoseTimes a.namenodes tries a.counts b.counts
   pub nodes : SameNodes a b
   pub told : (p : Picture) (bytes : List ℕ) → a.picture ≡ Some p → (c : FileCarries p w.path (tail_done w.last) bytes)
-      → (q : Picture) × (b.picture ≡ Some q) × IsAsked p w.path bytes w.last c.file q × ((tries ≡ 0) ⊎ CallsRose a.counts b)
+      → (q : Picture) × (b.picture ≡ Some q) × IsAsked p w.path bytes w.last c.file q
 
-module _ (a b : Shown) (w : FileWriter) (between : IsBetweenBlocks w) (sound : Shows IsSound b) (tries : ℕ) (asking : Asking tries a w b) where
+module _ {a b : Shown} {w : FileWriter} (between : IsBetweenBlocks w) (sound : Shows IsSound b) {tries : ℕ} (asking : Asking tries a w b) where
   own_link : (x : Shown) → OnlyOwnLink a None x None → OnlyOwnLink a (link_of w) x None
   own_link x own = subst (λ (g : Option BlockWriter). OnlyOwnLink a (link_by g) x None) (sym between.none) own
 
@@ -61,7 +57,7 @@ module _ (a b : Shown) (w : FileWriter) (between : IsBetweenBlocks w) (sound : S
   pub no_memory : FailsToClose a w errors.NoMemory b
   no_memory = record {
     own = own_link b asking.own;
-    tells = tt;
+    tells = (tt, (tt, tt));
     touches = λ p bytes told c.
         (let c' = known p bytes told c in
         let f = asking.told p bytes told c' in
@@ -75,12 +71,14 @@ module _ (a b : Shown) (w : FileWriter) (between : IsBetweenBlocks w) (sound : S
     own = own_link b asking.own;
     tells = (
       refl,
-      ⊎_elim (λ first. absurd (some first)) (λ fine. fine) asking.last,
-      subst (λ (n : ℕ). CallsRoseTimes n 5 a.counts b.counts) (sym asking.own.later.namenodes)
-          (times_enough a.namenodes 5 tries a.counts b.counts enough asking.times),
+      (
+        ⊎_elim (λ first. absurd (some first)) (λ fine. fine) asking.last,
+        subst (λ (n : ℕ). CallsRoseTimes n 5 a.counts b.counts) (sym asking.own.later.namenodes)
+            (times_enough a.namenodes 5 tries a.counts b.counts enough asking.times),
+      ),
     );
     touches = no_memory.touches;
-    cause = λ p bytes told c. ⊎_elim (λ first. absurd (some first)) (λ rose. rose) (asking.told p bytes told (known p bytes told c)).3;
+    cause = λ p bytes told c. tt;
   }
 
   module _ (c : Shown) (client : List ℕ) where
@@ -123,7 +121,7 @@ module _ (a b : Shown) (w : FileWriter) (between : IsBetweenBlocks w) (sound : S
       told = λ p bytes told carried.
           (let m = asked_more (Ok (answers.Complete false)) came p bytes told carried in
           let says = says_not (CallsRose b.counts c) p w.path bytes w.last carried.file client w.file_id m.0 m.3 m.1 m.4 m.5 in
-          (m.1, m.2, says.1, inr (calls_since a b c asking.own.later says.0)));
+          (m.1, m.2, says.1));
     }
 
     -- the file is closed
@@ -155,8 +153,8 @@ module _ (a b : Shown) (w : FileWriter) (between : IsBetweenBlocks w) (sound : S
     asked_error error came = record {
       own = own_link c (own_asked came.relays.leaves);
       tells =
-          let apart = apart_asked b c error came.relays.tells in
-          tells_close w.path a c error apart (tells_since a b c error asking.own.later came.relays.leaves.later apart (tells_asked b c error came.relays.tells));
+          tells_close w.path a c error (apart_asked error came.relays.tells.0)
+          (tells_since a b c error asking.own.later (tells_asked b c error came.relays.tells));
       touches = λ p bytes told carried.
           (let c' = known p bytes told carried in
           let m = asked_more (Err error) came p bytes told c' in
@@ -175,21 +173,5 @@ asks_first a w = record {
   last = inl refl;
   times = never_fall_refl a.counts;
   nodes = λ d. refl;
-  told = λ p bytes told c. (p, told, inl (record { kept = λ id. (refl, λ node. refl); only = only_file_refl w.path p; carried = c; same = refl }), inl refl);
+  told = λ p bytes told c. (p, told, inl (record { kept = λ id. (refl, λ node. refl); only = only_file_refl w.path p; carried = c; same = refl }));
 }
-
--- the ask by what its parts are
-pub completing_as : {C : Type 0} (serves : C → ℕ → Ask → Result Answer AskFault → C → Type 0) (write : Bool) (path path' client : List ℕ) (last last' : Option Block) (id : Option ℕ) (result result' : Result Bool HdfsError) (old new : Through C) → path ≡ path' → last ≡ last' → result ≡ result'
-    → AskedOnce serves write (asks.Complete path client last id) old (as_answer answers.Complete result) new → AskedOnce serves write (asks.Complete path' client last' id) old (as_answer answers.Complete result') new
-completing_as serves write path path' client last last' id result result' old new one two three h =
-    subst (λ (r : Result Bool HdfsError). AskedOnce serves write (asks.Complete path' client last' id) old (as_answer answers.Complete r) new) three
-    (subst (λ (l : Option Block). AskedOnce serves write (asks.Complete path' client l id) old (as_answer answers.Complete result) new) two
-    (subst (λ (q : List ℕ). AskedOnce serves write (asks.Complete q client last id) old (as_answer answers.Complete result) new) one h))
-
-pub adding_as : {C : Type 0} (serves : C → ℕ → Ask → Result Answer AskFault → C → Type 0) (write : Bool) (path path' client : List ℕ) (last last' : Option Block) (excludes excludes' : List DatanodeInfo) (id : Option ℕ) (result result' : Result LocatedBlock HdfsError) (old new : Through C) → path ≡ path' → last ≡ last' → excludes ≡ excludes' → result ≡ result'
-    → AskedOnce serves write (asks.AddBlock path client last excludes id) old (as_answer answers.AddBlock result) new → AskedOnce serves write (asks.AddBlock path' client last' excludes' id) old (as_answer answers.AddBlock result') new
-adding_as serves write path path' client last last' excludes excludes' id result result' old new one two three four h =
-    subst (λ (r : Result LocatedBlock HdfsError). AskedOnce serves write (asks.AddBlock path' client last' excludes' id) old (as_answer answers.AddBlock r) new) four
-    (subst (λ (x : List DatanodeInfo). AskedOnce serves write (asks.AddBlock path' client last' x id) old (as_answer answers.AddBlock result) new) three
-    (subst (λ (l : Option Block). AskedOnce serves write (asks.AddBlock path' client l excludes id) old (as_answer answers.AddBlock result) new) two
-    (subst (λ (q : List ℕ). AskedOnce serves write (asks.AddBlock q client last excludes id) old (as_answer answers.AddBlock result) new) one h)))

@@ -12,7 +12,7 @@ use Rattle.hdfs_model.specs.declared.picture.FileEntry.{FileEntry}
 use Rattle.hdfs_model.specs.Effects.{Changes, Completes, blocks_at}
 use Rattle.hdfs_model.specs.Picture.{Picture, SameFiles, SameButActive}
 use Rattle.hdfs_model.specs.Sound.{IsSound, IsFileAt}
-use Rattle.hdfs_model.proofs.Relaying.{Repeats}
+use Rattle.hdfs_model.specs.Repeating.{Repeats}
 use Rattle.hdfs_model.proofs.Repeating.{complete_repeats}
 use Rattle.hdfs_namenode.specs.Relaying.{RelaysTold}
 use Rattle.hdfs_blocks.specs.Carrying.{HoldsWhole}

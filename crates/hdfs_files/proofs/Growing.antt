@@ -18,7 +18,7 @@ use Rattle.hdfs_model.specs.Picture.{Picture}
 use Rattle.hdfs_model.specs.Sending.{uuids}
 use Rattle.hdfs_model.specs.Sound.{IsSound, IsFileAt}
 use Rattle.hdfs_model.specs.Stores.{AgreesAt, StoresBlocks}
-use Rattle.hdfs_model.proofs.Relaying.{Repeats}
+use Rattle.hdfs_model.specs.Repeating.{Repeats}
 use Rattle.hdfs_model.proofs.Repeating.{add_repeats}
 use Rattle.hdfs_blocks.specs.Carrying.{HoldsWhole}
 use Rattle.hdfs_files.specs.OnlyFiles.{OnlyFile, SameFile}

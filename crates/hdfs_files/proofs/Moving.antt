@@ -7,7 +7,7 @@ use Rattle.hdfs_model.specs.Effects.{KeepsBytes}
 use Rattle.hdfs_model.specs.Pipes.{OnlyWrites, WriteOpened, WriteNotOpened}
 use Rattle.hdfs_model.specs.Shown.{Shown, SameReads, SameReadPlaces}
 use Rattle.hdfs_model.proofs.Frames.{told_weaker}
-use Rattle.hdfs_model.proofs.Framing.{Leaves}
+use Rattle.hdfs_model.specs.Repeating.{Leaves}
 use Rattle.hdfs_block_writer.proofs.OwnLinks as block_links
 use Rattle.hdfs_files.specs.OnlyFiles.{OnlyFile, SameFile}
 use Rattle.hdfs_files.specs.Writers.{OnlyOwnLink}

@@ -25,7 +25,7 @@ use Rattle.hdfs_files.specs.declared.sizes.WriteSizes.{WriteSizes}
 use Rattle.hdfs_files.specs.Faults.{error_of}
 use Rattle.hdfs_files.specs.Tails.{IsFull}
 use Rattle.hdfs_files.specs.Writers.{AreLimited, ArePackets, AreSizes, plan_of, link_of, link_by, tail_by, tail_of, Keeps, Stands, IsBetweenBlocks, HasRoom, BlockStands, OnlyOwnLink, Wrote, Adds, FailsOtherwise}
-use Rattle.hdfs_files.proofs.Asked.{Came}
+use Rattle.hdfs_namenode.specs.Relaying.{Came}
 use Rattle.hdfs_files.proofs.Moving.{own_link_refl, own_link_left, own_link_opened, own_link_unopened, only_file_refl}
 use Rattle.hdfs_files.proofs.Placing.{some_none}
 use Rattle.hdfs_files.proofs.Steps.{Shows, ended_carries, gave_up_touches, gave_up_cause, unopened_cause, wrote_carries, added_carries, opened_carries, settled_carries, unopened_touches, unopened_tells, unopened_apart, unanswered_touches, unanswered_rose}
@@ -36,11 +36,12 @@ pub starved_fails : (a : Shown) (w : FileWriter) → link_of w ≡ None → Fail
 starved_fails a w idle = record {
   fails = record {
     own = subst (λ (x : Option ℕ). OnlyOwnLink a x a None) (sym idle) (own_link_refl a None);
-    tells = tt;
+    tells = (tt, (tt, tt));
+    refused = λ refusal. absurd refusal;
     touches = λ p bytes told c. (p, told, only_file_refl w.path p);
     cause = λ p bytes told c. tt;
   };
-  apart = tt;
+  apart = λ refusal. refusal;
 }
 
 -- the writer of a block that hasn't failed has a pipeline
@@ -83,6 +84,7 @@ module _ (a b : Shown) (sound : Shows IsSound a) (sound' : Shows IsSound b) (w :
         fails = record {
           own = own_from None (subst (λ (x : Option ℕ). OnlyOwnLink a x b None) (sym (ap link_in pipe.1)) gives.own);
           tells = tells_fault a b block.settings pipe.0.plan (IsCarrying block) fault gives.cause;
+          refused = λ refusal. absurd (apart_fault a b block.settings pipe.0.plan (IsCarrying block) fault gives.cause refusal);
           touches = gave_up_touches a b sound sound' w block going fault gave;
           cause = λ p bytes told c. gave_up_cause a b sound sound' w block going same fault gave p bytes told c;
         };
@@ -160,11 +162,12 @@ module _ (a m : Shown) (sound : Shows IsSound a) (w : FileWriter) (between : IsB
     fails = record {
       own = idle_own a m w None between.none (own_link_left a m None came.relays.leaves);
       tells = tells_asked a m error came.relays.tells;
+      refused = λ refusal. absurd (apart_asked error came.relays.tells.0 refusal);
       touches = unanswered_touches a m sound w between client error came;
       cause = λ p bytes told c.
           asked_cause w.sizes w.path a a m error came.relays.tells (λ some. unanswered_rose a m sound w between client error some came p bytes told c);
     };
-    apart = apart_asked a m error came.relays.tells;
+    apart = apart_asked error came.relays.tells.0;
   }
 
 -- a writer of a file that opens the pipeline of a block
@@ -184,6 +187,7 @@ module _ (m b : Shown) (w : FileWriter) (found : LocatedBlock) (none : w.going �
     fails = record {
       own = idle_own m b w None none (own_link_unopened m b setup fault None not_opened);
       tells = unopened_tells m b w found none reopened setup fault not_opened;
+      refused = λ refusal. absurd (unopened_apart fault refusal);
       touches = unopened_touches m b w found none reopened setup fault not_opened;
       cause = λ p bytes told c. unopened_cause w.sizes w.path m b fault;
     };

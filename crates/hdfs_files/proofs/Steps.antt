@@ -40,7 +40,8 @@ use Rattle.hdfs_files.specs.OnlyFiles.{OnlyFile, SameFile}
 use Rattle.hdfs_files.specs.Tails.{Tail, Finished, Reopened, Going, tail_length, IsFull, FillsBlocks, StoresFront, TailCarries, FileCarries}
 use Rattle.hdfs_files.specs.WholeBlocks.{StaysWhole}
 use Rattle.hdfs_files.specs.Writers.{blocks_in, plan_of, tail_done, tail_by, tail_of, IsBetweenBlocks, CarriesMore, TouchesFile, LeavesFile}
-use Rattle.hdfs_files.proofs.Asked.{Came, add_rose, added, not_added}
+use Rattle.hdfs_namenode.specs.Relaying.{Came}
+use Rattle.hdfs_files.proofs.Asked.{add_rose, added, not_added}
 use Rattle.hdfs_files.proofs.Blocks.{touches_own, going_more, going_ended, going_whole}
 use Rattle.hdfs_files.proofs.Completing.{front_same}
 use Rattle.hdfs_files.proofs.Filling.{tail_going, tail_reopened, tail_between, fills_same, fills_more, fills_trans, fills_grown}
@@ -75,9 +76,9 @@ unopened_cause sizes path a b link_faults.Refused = tt
 
 -- and none is for encryption
 pub unopened_apart : (fault : LinkFault) → IsNoRefusal (error_of (fault_of fault))
-unopened_apart link_faults.NoMemory = tt
-unopened_apart link_faults.Broken = tt
-unopened_apart link_faults.Refused = tt
+unopened_apart link_faults.NoMemory refusal = refusal
+unopened_apart link_faults.Broken refusal = refusal
+unopened_apart link_faults.Refused refusal = refusal
 
 -- what is carried between blocks
 pub as_done : (writer : FileWriter) → IsBetweenBlocks writer → (p : Picture) (path bytes : List ℕ) → FileCarries p path (tail_of writer) bytes → FileCarries p path (tail_done writer.last) bytes
@@ -336,9 +337,9 @@ module _ (m b : Shown) (writer : FileWriter) (found : LocatedBlock) (none : writ
       (after.0, after.1, only_file_active writer.path p after.0 after.2.rest)
 
   pub unopened_tells : (setup : Setup) (fault : LinkFault) → WriteNotOpened m setup fault b → TellsWrite m b (error_of (fault_of fault))
-  unopened_tells setup link_faults.NoMemory not_opened = tt
-  unopened_tells setup link_faults.Broken not_opened = not_opened.cause (λ same. absurd (cc same))
-  unopened_tells setup link_faults.Refused not_opened = not_opened.cause (λ same. absurd (cc same))
+  unopened_tells setup link_faults.NoMemory not_opened = (tt, (tt, tt))
+  unopened_tells setup link_faults.Broken not_opened = (tt, (tt, not_opened.cause (λ same. absurd (cc same))))
+  unopened_tells setup link_faults.Refused not_opened = (tt, (tt, not_opened.cause (λ same. absurd (cc same))))
 
 -- a block that isn't gone on with is the last that is done
 pub settled_carries : (a : Shown) (writer writer' : FileWriter) (found : LocatedBlock) → writer.going ≡ None → writer.reopened ≡ Some found → IsBetweenBlocks writer' → writer'.last ≡ Some found.b → CarriesMore a writer [] a writer'

@@ -1,13 +1,13 @@
 -- What the faults of a writer of a block and of an ask tell for a writer of a file, and their causes.
 use Rattle.std.proofs.Common.{◌≡◌, ◌⊎◌, inl, inr, ℕ, ◌-◌, ◌<◌, List, [], ◌∷◌, ◌++◌, length, Some, subst}
-use Rattle.std.specs.Prelude.{Any, All}
 use Rattle.hdfs_model.specs.declared.errors.HdfsError.{HdfsError}
 use Rattle.hdfs_model.specs.declared.errors.HdfsError.TheVariants as errors
 use Rattle.hdfs_model.specs.declared.errors.IoFault.TheVariants as io_faults
 use Rattle.hdfs_model.specs.declared.picture.BlockEntry.{BlockEntry}
 use Rattle.hdfs_model.specs.declared.picture.FileEntry.{FileEntry}
-use Rattle.hdfs_model.specs.Causes.{CallsRose, OfLastBlock, PipelineFailed, SomeListedFailed}
+use Rattle.hdfs_model.specs.Causes.{CallsRose, LastBlockAt, PipelineFailed, SomeListedFailed}
 use Rattle.hdfs_model.specs.Counts.{Rose}
+use Rattle.hdfs_model.specs.Failures.{IsOfAsk}
 use Rattle.hdfs_model.specs.Picture.{Picture}
 use Rattle.hdfs_model.specs.Shown.{Shown}
 use Rattle.hdfs_model.specs.Sound.{IsFileAt}
@@ -20,23 +20,24 @@ use Rattle.hdfs_recovery.specs.Between.{HasLastError}
 use Rattle.hdfs_block_writer.specs.OpenPipelines.{AllListedFail, HasCause, ListedFails, NamenodeFails}
 use Rattle.hdfs_block_writer.proofs.Failures.{some_fails}
 use Rattle.hdfs_files.specs.declared.sizes.WriteSizes.{WriteSizes}
-use Rattle.hdfs_files.specs.Failing.{TellsWrite, CauseOfWrite, IsNoRefusal}
+use Rattle.hdfs_files.specs.Failing.{TellsWrite, CauseOfWrite, IsNoRefusal, IsOfWrite}
 use Rattle.hdfs_files.specs.Faults.{error_of}
 
--- an error of an ask, as it is told
+-- an error of an ask is one of a writer
+of_ask : (error : HdfsError) → IsOfAsk error → IsOfWrite error
+of_ask (errors.IOError io_faults.Link) of = absurd of
+of_ask (errors.DataTransferError fault) of = absurd of
+of_ask (errors.UnsupportedFeature feature) of = absurd of
+of_ask error of = of
+
+-- as it is told
 pub tells_asked : (a b : Shown) (error : HdfsError) → TellsAsk a b error → TellsWrite a b error
-tells_asked a b errors.NoMemory tells = tt
-tells_asked a b (errors.AlreadyExists message) tells = tells
-tells_asked a b (errors.RPCError class message) tells = tells
-tells_asked a b (errors.IOError (io_faults.Namenode last)) tells = tells
-tells_asked a b (errors.InvalidRPCResponse fault) tells = tells
-tells_asked a b (errors.FatalRPCError class message) tells = tells
-tells_asked a b error tells = absurd tells
+tells_asked a b error tells = (of_ask error tells.0, tells.1)
 
 -- it is none for encryption
-pub apart_asked : (a b : Shown) (error : HdfsError) → TellsAsk a b error → IsNoRefusal error
-apart_asked a b (errors.UnsupportedFeature feature) tells = tells
-apart_asked a b error tells = tt
+pub apart_asked : (error : HdfsError) → IsOfAsk error → IsNoRefusal error
+apart_asked (errors.UnsupportedFeature feature) of refusal = of
+apart_asked error of refusal = refusal
 
 -- and where it has its cause, from an earlier call on
 pub asked_cause : (sizes : WriteSizes) (path : List ℕ) (a b c : Shown) (error : HdfsError) → TellsAsk b c error
@@ -47,34 +48,33 @@ asked_cause sizes path a b c (errors.RPCError class message) tells rose = rose (
 asked_cause sizes path a b c (errors.IOError fault) tells rose = tt
 asked_cause sizes path a b c (errors.InvalidRPCResponse fault) tells rose = tt
 asked_cause sizes path a b c (errors.FatalRPCError class message) tells rose = tt
-asked_cause sizes path a b c error tells rose = absurd tells
+asked_cause sizes path a b c error tells rose = absurd tells.0
 
 -- what a fault tells by its cause
 pub tells_fault : (a b : Shown) (settings : RebuildSettings) (plan : BlockPlan) (W : Picture → Type 0) (fault : WriteFault)
     → HasCause settings plan W a fault b → TellsWrite a b (error_of fault)
-tells_fault a b settings plan W faults.NoMemory cause = tt
-tells_fault a b settings plan W faults.Failed cause = cause
-tells_fault a b settings plan W faults.Link cause = cause.1
-tells_fault a b settings plan W faults.Setup cause = cause.1
-tells_fault a b settings plan W (faults.BadAck seqno) cause = cause
-tells_fault a b settings plan W faults.AllNodes cause = cause.0
-tells_fault a b settings plan W faults.NoReplacement cause = cause.1
-tells_fault a b settings plan W (faults.RebuildLimit rebuilds) cause = some_fails (settings.rebuild_limit - plan.rebuilds) a b cause.1
+tells_fault a b settings plan W faults.NoMemory cause = (tt, (tt, tt))
+tells_fault a b settings plan W faults.Failed cause = absurd cause
+tells_fault a b settings plan W faults.Link cause = (tt, (tt, cause.1))
+tells_fault a b settings plan W faults.Setup cause = (tt, (tt, cause.1))
+tells_fault a b settings plan W (faults.BadAck seqno) cause = (tt, (tt, cause))
+tells_fault a b settings plan W faults.AllNodes cause = (tt, (tt, cause.0))
+tells_fault a b settings plan W faults.NoReplacement cause = (tt, (tt, cause.1))
+tells_fault a b settings plan W (faults.RebuildLimit rebuilds) cause = (tt, (tt, some_fails (settings.rebuild_limit - plan.rebuilds) a b cause.1))
 tells_fault a b settings plan W (faults.Namenode error) cause = tells_asked a b error cause.1
 
 -- and none is for encryption
 pub apart_fault : (a b : Shown) (settings : RebuildSettings) (plan : BlockPlan) (W : Picture → Type 0) (fault : WriteFault)
     → HasCause settings plan W a fault b → IsNoRefusal (error_of fault)
-apart_fault a b settings plan W (faults.Namenode error) cause = apart_asked a b error cause.1
-apart_fault a b settings plan W fault cause = tt
+apart_fault a b settings plan W (faults.Namenode error) cause = apart_asked error cause.1.0
+apart_fault a b settings plan W fault cause = λ refusal. refusal
 
 -- A block was given up over a picture, and is the last one of the file at a path still.
 module _ (a b : Shown) (path : List ℕ) (file : FileEntry) (front : List ℕ) (plan : BlockPlan) (ends : file.blocks ≡ front ++ plan.block.b.block_id ∷ []) (q : Picture)
     (told' : b.picture ≡ Some q) (named : IsFileAt q path file) (W : Picture → Type 0) (p : Picture) (told : a.picture ≡ Some p) (w : W p) where
-  -- what is so of its entry is so of that of the file's last block
-  of_last : (IsSo : BlockEntry → Type 0) (r : Picture) (entry : BlockEntry) → b.picture ≡ Some r → r.table plan.block.b.block_id ≡ Some entry → IsSo entry
-      → OfLastBlock b path IsSo
-  of_last IsSo r entry is at so =
+  -- the file's last block, by its entry in the same picture
+  of_last : (r : Picture) (entry : BlockEntry) → b.picture ≡ Some r → r.table plan.block.b.block_id ≡ Some entry → LastBlockAt b path
+  of_last r entry is at =
       let same : r ≡ q = cc (is, told') in
       record {
         picture = q;
@@ -86,21 +86,17 @@ module _ (a b : Shown) (path : List ℕ) (file : FileEntry) (front : List ℕ) (
         last = ends;
         entry = entry;
         is = subst (λ (x : Picture). x.table plan.block.b.block_id ≡ Some entry) same at;
-        so = so;
       }
 
   -- a datanode has failed that is listed for it
   listed_failed : ListedFails W plan.block.b.block_id a b → SomeListedFailed a.counts b path
-  listed_failed fails =
-      let f = fails p told w in
-      of_last (λ entry. Any (λ node. Rose (a.counts.nodes node) (b.counts.nodes node)) entry.nodes) f.0 f.1 f.2 f.3 f.4
+  unfolding of_last
+  listed_failed fails = let f = fails p told w in (of_last f.0 f.1 f.2 f.3, f.4)
 
   -- all have
   all_failed : AllListedFail W plan.block.b.block_id a b → PipelineFailed a.counts b path
-  all_failed fails =
-      let f = fails p told w in
-      of_last (λ entry. (0 < length entry.nodes) × All (λ node. Rose (a.counts.nodes node) (b.counts.nodes node)) entry.nodes)
-      f.0 f.1 f.2 f.3 (f.4, f.5)
+  unfolding of_last
+  all_failed fails = let f = fails p told w in (of_last f.0 f.1 f.2 f.3, f.4, f.5)
 
   -- the links have failed, or a namenode
   help_failed : Rose a.counts.links b.counts.links ⊎ (NamenodeFails W a b × HasLastError a b) → Rose a.counts.links b.counts.links ⊎ CallsRose a.counts b

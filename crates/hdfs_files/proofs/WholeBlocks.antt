@@ -10,7 +10,8 @@ use Rattle.hdfs_model.specs.Picture.{Picture}
 use Rattle.hdfs_model.specs.Sound.{IsSound, IsFileAt}
 use Rattle.hdfs_blocks.specs.Carrying.{HoldsWhole}
 use Rattle.hdfs_files.specs.Tails.{Tail, Finished, tail_length, IsFull, TailCarries, FileCarries}
-use Rattle.hdfs_files.specs.WholeBlocks.{IsWhole, IsOfSize, IsUpTo, AllBehind, AllBetween, StaysWhole, ClosesWhole}
+use Rattle.hdfs_files.specs.WholeBlocks.{StaysWhole, ClosesWhole}
+use Rattle.hdfs_model.specs.Stored.{IsWhole, IsOfSize, IsUpTo, AllBehind, AllBetween}
 use Rattle.hdfs_files.specs.Writers.{tail_done}
 use Rattle.hdfs_files.proofs.Adding as adding
 use Rattle.hdfs_files.proofs.Others.{is_listed}

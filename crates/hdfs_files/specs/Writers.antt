@@ -17,7 +17,7 @@ use Rattle.hdfs_block_writer.specs.BlockWriters as blocks
 use Rattle.hdfs_block_writer.specs.OpenPipelines as pipelines
 use Rattle.hdfs_block_writer.specs.declared.block_writer.BlockWriter.{BlockWriter}
 use Rattle.hdfs_recovery.specs.declared.block_plan.BlockPlan.{BlockPlan}
-use Rattle.hdfs_files.specs.Failing.{TellsWrite, TellsClose, CauseOfWrite, IsNoRefusal}
+use Rattle.hdfs_files.specs.Failing.{TellsWrite, TellsClose, CauseOfWrite, IsNoRefusal, IsRefusal}
 use Rattle.hdfs_files.specs.OnlyFiles.{OnlyFile, SameFile}
 use Rattle.hdfs_files.specs.Tails.{Tail, Bare, Finished, Reopened, Going, FillsBlocks, FileCarries}
 use Rattle.hdfs_files.specs.WholeBlocks.{StaysWhole, ClosesWhole}
@@ -208,11 +208,12 @@ pub record Wrote (old : Shown) (writer : FileWriter) (more : List ℕ) (new : Sh
   pub own : OnlyOwnLink old (link_of writer) new (link_of writer')
   pub carries : CarriesMore old writer more new writer'
 
--- A call has failed: no link is left, the error tells what it stands for, and over a told picture nothing changed but the file, and
--- an exception of a namenode has its cause.
+-- A call has failed: no link is left, the error tells what it stands for, and no datanode has failed where bytes are refused for encryption.
+-- Over a told picture nothing changed but the file, and an exception of a namenode has its cause.
 pub record Fails (old : Shown) (writer : FileWriter) (error : HdfsError) (new : Shown) : Type 0 where
   pub own : OnlyOwnLink old (link_of writer) new None
   pub tells : TellsWrite old new error
+  pub refused : IsRefusal error → SameNodes old new
   pub touches : TouchesFile old writer new
   pub cause : HasCause old writer error new
 

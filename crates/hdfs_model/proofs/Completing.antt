@@ -1,7 +1,6 @@
 -- Where nothing failed and the numbers are in their limits, an error of a command is that of its refusal, or want of memory.
-use Rattle.std.proofs.Common.{◌≡◌, ⊎_elim, inl, inr, ℕ, ◌<◌, Bool, true, false, ◌&&◌, List, refl, sym, ◌∙◌, subst}
+use Rattle.std.proofs.Common.{◌≡◌, ⊎_elim, inl, inr, ℕ, Bool, true, false, ◌&&◌, List, refl, sym, ◌∙◌, subst}
 use Rattle.std.proofs.lemmas.Bool.{false≢true}
-use Rattle.std.specs.Prelude.{[], slice_index_or}
 use Rattle.hdfs_model.specs.declared.commands.Command.{Command}
 use Rattle.hdfs_model.specs.declared.commands.Command.TheVariants as commands
 use Rattle.hdfs_model.specs.declared.errors.ArgFault.TheVariants as args
@@ -10,13 +9,15 @@ use Rattle.hdfs_model.specs.declared.errors.HdfsError.{HdfsError}
 use Rattle.hdfs_model.specs.declared.errors.HdfsError.TheVariants as errors
 use Rattle.hdfs_model.specs.declared.errors.IoFault.TheVariants as io_faults
 use Rattle.hdfs_model.specs.declared.errors.TransferFault.TheVariants as transfer
-use Rattle.hdfs_model.specs.Causes.{Cause, CommandLost, OptionsOut, UsesDefaults}
-use Rattle.hdfs_model.specs.Counts.{NoneRose, Rose}
+use Rattle.hdfs_model.specs.Causes.{Because, Cause, CommandLost, OptionsOut, UsesDefaults}
+use Rattle.hdfs_model.specs.Counts.{NoneRose}
+use Rattle.hdfs_model.specs.Failures.{ANamenode, failure_of}
 use Rattle.hdfs_model.specs.Files.{State}
 use Rattle.hdfs_model.specs.Limits.{are_numbers, are_options, are_defaults}
 use Rattle.hdfs_model.specs.Sessions.{Answers, IsLimited, WritesInLimits}
 use Rattle.hdfs_model.specs.Shown.{Shown}
 use Rattle.hdfs_model.specs.Steps.{World, Outcome, Refused, Done, Refusal, BadPath, WrongState, Exists, Lacks, BadRange, step, target_of}
+use Rattle.hdfs_model.proofs.Failures.{IsQuiet, none_failed}
 
 both_true : (a b : Bool) → (a && b) ≡ true → (a ≡ true) × (b ≡ true)
 both_true true b both = (refl, both)
@@ -45,30 +46,24 @@ module _ (world : World) (state : State) (command : Command) (old new : Shown) (
   at_refusal : (why : Refusal) (error : HdfsError) → step world state command ≡ Refused why → Answers (Refused why) error → Answers (step world state command) error
   at_refusal why error is h = subst (λ (o : Outcome). Answers o error) (sym is) h
 
-  none_called : (i : ℕ) → i < new.namenodes → Rose (old.counts.calls i) (new.counts.calls i) → ⊥
-  none_called i below rose = none.calls i (subst (λ (n : ℕ). i < n) size below) rose
+  by_because : (error : HdfsError) → Because world state command old new error → IsQuiet (failure_of error) → Answers (step world state command) error
+  by_because errors.NoMemory h quiet = memory_answers (step world state command)
+  by_because errors.Failed h quiet = absurd h
+  by_because (errors.IOError io_faults.Link) h quiet = absurd quiet
+  by_because (errors.DataTransferError (transfer.Read byte)) h quiet = absurd (found byte h.1)
+  by_because (errors.InvalidPath text) h quiet = at_refusal BadPath (errors.InvalidPath text) h (inr tt)
+  by_because (errors.InvalidArgument args.State) h quiet = at_refusal WrongState (errors.InvalidArgument args.State) h (inr tt)
+  by_because (errors.InvalidArgument args.Settings) h quiet = absurd h
+  by_because (errors.InvalidArgument args.Options) h quiet = absurd (options_in world state (target_of world command) command limited.numbers limited.attributes h)
+  by_because (errors.InvalidArgument args.Defaults) h quiet = absurd (defaults_in world command limited.numbers h.0 h.1)
+  by_because (errors.InvalidArgument (args.Range offset len n)) h quiet = at_refusal BadRange (errors.InvalidArgument (args.Range offset len n)) h.0 (inr tt)
+  by_because (errors.AlreadyExists message) h quiet =
+      ⊎_elim (λ is. at_refusal Exists (errors.AlreadyExists message) is (inr tt)) (λ rose. absurd (none_failed old new size none ANamenode rose)) h
+  by_because (errors.UnsupportedFeature features.Encryption) h quiet = ⊎_elim (λ moves. absurd (limited.plain.bytes moves.1)) (λ opens. absurd (limited.plain.file opens)) h
+  by_because (errors.FileNotFound name) h quiet = at_refusal (Lacks h.0) (errors.FileNotFound name) h.1 (inr tt)
+  by_because (errors.RPCError class message) h quiet =
+      ⊎_elim (λ is. at_refusal (Lacks is.0) (errors.RPCError class message) is.1 (inr tt)) (λ rose. absurd (none_failed old new size none ANamenode rose)) h
+  by_because error h quiet = absurd quiet
 
   pub cause_completes : (error : HdfsError) → Cause world state command old new error → Answers (step world state command) error
-  cause_completes errors.NoMemory h = memory_answers (step world state command)
-  cause_completes errors.Failed h = absurd h
-  cause_completes (errors.IOError (io_faults.Namenode last)) h = absurd (none_called h.0 h.1 h.2)
-  cause_completes (errors.IOError io_faults.Link) h = absurd (none.links h.1)
-  cause_completes (errors.DataTransferError (transfer.Read byte)) h = absurd (found byte h.1)
-  cause_completes (errors.DataTransferError transfer.Setup) h = absurd (none.links h.1)
-  cause_completes (errors.DataTransferError transfer.AllNodes) h = absurd (none.nodes (slice_index_or h.1.entry.nodes 0 []) (h.1.so.1 0 [] h.1.so.0))
-  cause_completes (errors.DataTransferError transfer.NoReplacement) h = (let f = h.3.so in absurd (none.nodes f.1 f.4))
-  cause_completes (errors.DataTransferError (transfer.RebuildLimit rebuilds)) h = (let f = h.2.so in absurd (none.nodes f.1 f.4))
-  cause_completes (errors.DataTransferError (transfer.BadAck seqno)) h = absurd (none.links h.1)
-  cause_completes (errors.InvalidPath text) h = at_refusal BadPath (errors.InvalidPath text) h (inr tt)
-  cause_completes (errors.InvalidArgument args.State) h = at_refusal WrongState (errors.InvalidArgument args.State) h (inr tt)
-  cause_completes (errors.InvalidArgument args.Settings) h = absurd h
-  cause_completes (errors.InvalidArgument args.Options) h = absurd (options_in world state (target_of world command) command limited.numbers limited.attributes h)
-  cause_completes (errors.InvalidArgument args.Defaults) h = absurd (defaults_in world command limited.numbers h.0 h.1)
-  cause_completes (errors.InvalidArgument (args.Range offset len n)) h = at_refusal BadRange (errors.InvalidArgument (args.Range offset len n)) h.0 (inr tt)
-  cause_completes (errors.AlreadyExists message) h = ⊎_elim (λ is. at_refusal Exists (errors.AlreadyExists message) is (inr tt)) (λ rose. absurd (none_called rose.0 rose.1 rose.2)) h
-  cause_completes (errors.OperationFailed name) h = absurd (none_called h.1.0 h.1.1 h.1.2)
-  cause_completes (errors.UnsupportedFeature features.Encryption) h = ⊎_elim (λ moves. absurd (limited.plain.bytes moves.1)) (λ opens. absurd (limited.plain.file opens)) h
-  cause_completes (errors.FileNotFound name) h = at_refusal (Lacks h.0) (errors.FileNotFound name) h.1 (inr tt)
-  cause_completes (errors.RPCError class message) h = ⊎_elim (λ is. at_refusal (Lacks is.0) (errors.RPCError class message) is.1 (inr tt)) (λ rose. absurd (none_called rose.0 rose.1 rose.2)) h
-  cause_completes (errors.InvalidRPCResponse fault) h = absurd (none_called h.0 h.1 h.2)
-  cause_completes (errors.FatalRPCError class message) h = absurd (none_called h.0 h.1 h.2)
+  cause_completes error h = by_because error h.0 (none_failed old new size none (failure_of error) h.1)

@@ -1,5 +1,6 @@
 pub mod Asking
 pub mod Completing
+pub mod Failures
 pub mod Folding
 pub mod Frames
 pub mod Framing

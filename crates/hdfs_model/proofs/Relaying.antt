@@ -15,19 +15,9 @@ use Rattle.hdfs_model.specs.Files.{Kind, Directory, ClosedFile, OpenFile, NoFile
 use Rattle.hdfs_model.specs.Namenode.{Row, IsShaped, IsOwn, IsRefusal, MayBeDone, IsFalse, ServesTold, StandsForAny, StandsForNoFile, StandsForRefusal, class_for, class_in_the_way, is_retriable, overwrites}
 use Rattle.hdfs_model.specs.Picture.{Picture, SameButActive, SamePicture, entry_kind, kinds}
 use Rattle.hdfs_model.specs.Refusals.{Refusal, BadPath, WrongState, Exists, Lacks, BadRange, create_refusal, append_refusal}
+use Rattle.hdfs_model.specs.Repeating.{DoneOrNot, Repeats}
 use Rattle.hdfs_model.specs.Shown.{Shown, Served, Later}
 use Rattle.hdfs_model.proofs.Frames.{told_after, later_refl, later_trans, rose_since}
-
--- the ask had its effect once, or none
-abbrev pub DoneOrNot : Ask → Picture → Picture → Type 0
-DoneOrNot ask p q = SameButActive p q ⊎ ((answer : Answer) × IsShaped ask answer × Row p ask answer q)
-
--- the rows of an ask from a picture may stand behind one another, and from none of the pictures between is an answer the implementation's own
-pub record Repeats (ask : Ask) (p : Picture) : Type 0 where
-  pub left : (q r : Picture) (b : Answer) → SameButActive p q → Row q ask b r → Row p ask b r
-  pub twice : (q r : Picture) (a b : Answer) → Row p ask a q → Row q ask b r → Row p ask b r
-  pub right : (q r : Picture) (a : Answer) → Row p ask a q → SameButActive q r → Row p ask a r
-  pub not_own : (q : Picture) → DoneOrNot ask p q → IsOwn q ask → ⊥
 
 pub same_trans : (p q r : Picture) → SameButActive p q → SameButActive q r → SameButActive p r
 same_trans p q r f g = record {

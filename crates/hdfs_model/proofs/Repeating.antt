@@ -28,7 +28,8 @@ use Rattle.hdfs_model.specs.Picture.{Picture, SameButActive, entry_kind, kinds}
 use Rattle.hdfs_model.specs.Refusals.{create_refusal, append_refusal, open_refusal, with_parents}
 use Rattle.hdfs_model.specs.Sound.{IsFileAt}
 use Rattle.hdfs_model.specs.Sending.{uuids}
-use Rattle.hdfs_model.proofs.Relaying.{Repeats, same_trans}
+use Rattle.hdfs_model.specs.Repeating.{Repeats}
+use Rattle.hdfs_model.proofs.Relaying.{same_trans}
 
 same_keeps : (p q : Picture) → SameButActive p q → KeepsBytes p q
 same_keeps p q same = record { held = same.files.held; defaults = same.files.defaults; reads = same.reads; writes = same.writes }

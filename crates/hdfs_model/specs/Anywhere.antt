@@ -9,7 +9,6 @@ use Rattle.hdfs_model.specs.declared.errors.Fault.{Fault}
 use Rattle.hdfs_model.specs.declared.errors.HdfsError.{HdfsError}
 use Rattle.hdfs_model.specs.Shown.{Shown, Later, SameReads, SameNodes}
 use Rattle.hdfs_model.specs.Causes.{Tells, IsEarly, TouchesNothing}
-use Rattle.hdfs_model.specs.Headline.{IsStart}
 
 -- The reply is one to the command, and a write has taken all of its bytes. (Which bytes a read gives a told picture says.)
 abbrev pub IsReply : Command → Reply → Type 0
@@ -44,6 +43,5 @@ pub record Runs (commands : List Command) (old new : Shown) (result : Result (Ve
   pub writes : (link : ℕ) → new.writes link ≡ old.writes link
   pub replies : IfOk result (λ replies. AreReplies commands replies.items)
   pub done : IfErr result (λ fault. AreReplies (take (fault.at - 1) commands) fault.done)
-  pub start : IfErr result (λ fault. fault.at ≡ 0 → IsStart fault.error)
   pub tells : IfErr result (λ fault. fault.at ≢ 0 → (command : Command) × (slice_get commands (fault.at - 1) ≡ Some command)
       × Tells command old new fault.error)

@@ -1,6 +1,5 @@
 -- Why a command fails: for each error what holds where it is answered.
-use Rattle.std.specs.Prelude.{◌≡◌, ◌≢◌, ◌⊎◌, ℕ, ◌+◌, ◌<◌, ◌≤◌, true, false, List, [], ◌∷◌, ◌++◌, length, All, Any, Option, Some, slice_index_or}
-use Rattle.hdfs_model.specs.declared.picture.LastAnswer.TheVariants as last_answers
+use Rattle.std.specs.Prelude.{◌≡◌, ◌≢◌, ◌⊎◌, ℕ, ◌+◌, ◌<◌, ◌≤◌, true, false, List, [], ◌∷◌, ◌++◌, length, Option, Some, slice_index_or}
 use Rattle.hdfs_model.specs.declared.picture.BlockEntry.{BlockEntry}
 use Rattle.hdfs_model.specs.declared.picture.Entry.TheVariants as entries
 use Rattle.hdfs_model.specs.declared.picture.FileEntry.{FileEntry}
@@ -13,12 +12,14 @@ use Rattle.hdfs_model.specs.declared.errors.IoFault.TheVariants as io_faults
 use Rattle.hdfs_model.specs.declared.errors.TransferFault.TheVariants as transfer
 use Rattle.hdfs_model.specs.declared.errors.ArgFault.TheVariants as args
 use Rattle.hdfs_model.specs.declared.errors.Feature.TheVariants as features
-use Rattle.hdfs_model.specs.Counts.{CallsRoseTimes, FaultCounts, Rose, RoseTwice}
+use Rattle.hdfs_model.specs.Counts.{FaultCounts, Rose}
+pub use Rattle.hdfs_model.specs.Failures.{CallsRose, SomeNodeRose}
+use Rattle.hdfs_model.specs.Failures.{EachRose, HasFailed, IsOfAsk, Means, OneRose, failure_of}
 use Rattle.hdfs_model.specs.Files.{State, Content, NoFile, File, Writing}
 use Rattle.hdfs_model.specs.Limits.{are_options, are_defaults, are_attributes}
 use Rattle.hdfs_model.specs.Steps.{World, Outcome, Refused, Done, Refusal, BadPath, WrongState, Exists, Lacks, BadRange, content_of, step, path_of, target_of}
 use Rattle.hdfs_model.specs.Picture.{Picture}
-use Rattle.hdfs_model.specs.Namenode.{class_for, is_taken}
+use Rattle.hdfs_model.specs.Namenode.{class_for}
 use Rattle.hdfs_model.specs.Shown.{Shown}
 
 -- the block with this id begins at this offset of a file with these blocks, the first of which begins at `from`
@@ -59,8 +60,8 @@ abbrev pub CommandLost : FaultCounts → Shown → List ℕ → Command → ℕ 
 CommandLost old new path (commands.Read text offset len) byte = FileLost old new path offset (offset + len) byte
 CommandLost old new path command byte = ⊥
 
--- what is so of the last block of the file at a path, in a picture that is told
-pub record OfLastBlock (new : Shown) (path : List ℕ) (IsSo : BlockEntry → Type 0) : Type 0 where
+-- the last block of the file at a path, in a picture that is told
+pub record LastBlockAt (new : Shown) (path : List ℕ) : Type 0 where
   pub picture : Picture
   pub told : new.picture ≡ Some picture
   pub file : FileEntry
@@ -70,16 +71,15 @@ pub record OfLastBlock (new : Shown) (path : List ℕ) (IsSo : BlockEntry → Ty
   pub last : file.blocks ≡ front ++ id ∷ []
   pub entry : BlockEntry
   pub is : picture.table id ≡ Some entry
-  pub so : IsSo entry
 
 -- a datanode that is listed for that block has failed
 abbrev pub SomeListedFailed : FaultCounts → Shown → List ℕ → Type 0
-SomeListedFailed old new path = OfLastBlock new path (λ entry. Any (λ node. Rose (old.nodes node) (new.counts.nodes node)) entry.nodes)
+SomeListedFailed old new path = (block : LastBlockAt new path) × OneRose old new.counts block.entry.nodes
 
 -- each datanode that is listed for it has failed, and there is one
 abbrev pub PipelineFailed : FaultCounts → Shown → List ℕ → Type 0
 PipelineFailed old new path =
-    OfLastBlock new path (λ entry. (0 < length entry.nodes) × All (λ node. Rose (old.nodes node) (new.counts.nodes node)) entry.nodes)
+    (block : LastBlockAt new path) × (0 < length block.entry.nodes) × EachRose old new.counts block.entry.nodes
 
 -- the step does what the command asks
 abbrev pub IsDone : Outcome → Type 0
@@ -92,18 +92,6 @@ IsLacking outcome = (why : NoFile) × (outcome ≡ Refused (Lacks why))
 -- an exception of this class stands for that
 abbrev pub StandsForLacking : Outcome → List ℕ → Type 0
 StandsForLacking outcome class = (why : NoFile) × (outcome ≡ Refused (Lacks why)) × (class ≡ class_for why)
-
--- a namenode has failed
-abbrev pub CallsRose : FaultCounts → Shown → Type 0
-CallsRose old new = (i : ℕ) × (i < new.namenodes) × Rose (old.calls i) (new.counts.calls i)
-
--- some datanode has failed
-abbrev pub SomeNodeRose : FaultCounts → Shown → Type 0
-SomeNodeRose old new = (node : List ℕ) × Rose (old.nodes node) (new.counts.nodes node)
-
--- the last answer of a namenode was an exception that says that something stands at the path, with this message
-abbrev pub IsTakenBy : List ℕ → Shown → Type 0
-IsTakenBy message shown = (class : List ℕ) × (is_taken class ≡ true) × (shown.last ≡ last_answers.Exception class message)
 
 -- the offset and the length that a command asks for
 abbrev pub Asks : Command → ℕ → ℕ → Type 0
@@ -161,11 +149,11 @@ UsesDefaults (commands.Create path options) = Unit {0}
 UsesDefaults (commands.Append path) = Unit {0}
 UsesDefaults command = ⊥
 
--- the command has options, or writes a file that has attributes
-abbrev pub HasOptions : Command → Type 0
-HasOptions (commands.Create path options) = Unit {0}
-HasOptions (commands.Write path bytes) = Unit {0}
-HasOptions command = ⊥
+-- the command's options are out of their limits, or it writes to a file, whose attributes may be
+abbrev pub OptionsMayBeOut : Command → Type 0
+OptionsMayBeOut (commands.Create path options) = are_options options ≡ false
+OptionsMayBeOut (commands.Write path bytes) = Unit {0}
+OptionsMayBeOut command = ⊥
 
 -- the length of the file at a path
 abbrev pub HasLength : State → List ℕ → ℕ → Type 0
@@ -178,33 +166,25 @@ OptionsOut state path (commands.Write text bytes) =
     (content : Content) × (state.files path ≡ Some (Writing content)) × (are_attributes content.attributes ≡ false)
 OptionsOut state path command = ⊥
 
+-- The command can end with the error, which names what the command names.
+abbrev pub CanEnd : Command → HdfsError → Type 0
+CanEnd command (errors.IOError io_faults.Link) = Sends command
+CanEnd command (errors.DataTransferError (transfer.Read byte)) = (offset : ℕ) × (len : ℕ) × Asks command offset len × (0 < len)
+CanEnd command (errors.DataTransferError fault) = Sends command
+CanEnd command (errors.InvalidPath text) = text ≡ path_of command
+CanEnd command (errors.InvalidArgument args.State) = Unit {0}
+CanEnd command (errors.InvalidArgument args.Options) = OptionsMayBeOut command
+CanEnd command (errors.InvalidArgument args.Defaults) = UsesDefaults command
+CanEnd command (errors.InvalidArgument (args.Range offset len length)) = Asks command offset len × (length < offset + len)
+CanEnd command (errors.OperationFailed name) = IsClose command
+CanEnd command (errors.UnsupportedFeature features.Encryption) = CanMeetEncryption command
+CanEnd command (errors.FileNotFound path) = path ≡ path_of command
+CanEnd command error = IsOfAsk error
+
 -- What holds of an error of a command over any cluster, told or not, from what is shown before the command, or before an
 -- earlier one, to what is shown once it has ended.
 abbrev pub Tells : Command → Shown → Shown → HdfsError → Type 0
-Tells command old new errors.NoMemory = Unit {0}
-Tells command old new (errors.IOError (io_faults.Namenode last)) =
-    (new.last ≡ last_answers.Broken) × (last < new.namenodes) × RoseTwice (old.counts.calls last) (new.counts.calls last)
-Tells command old new (errors.IOError io_faults.Link) = Sends command × Rose old.counts.links new.counts.links
-Tells command old new (errors.DataTransferError (transfer.Read byte)) = (offset : ℕ) × (len : ℕ) × Asks command offset len × (0 < len)
-Tells command old new (errors.DataTransferError transfer.Setup) = Sends command × Rose old.counts.links new.counts.links
-Tells command old new (errors.DataTransferError transfer.AllNodes) = Sends command × SomeNodeRose old.counts new
-Tells command old new (errors.DataTransferError transfer.NoReplacement) = Sends command × SomeNodeRose old.counts new
-Tells command old new (errors.DataTransferError (transfer.RebuildLimit rebuilds)) = Sends command × SomeNodeRose old.counts new
-Tells command old new (errors.DataTransferError (transfer.BadAck seqno)) = Sends command × Rose old.counts.links new.counts.links
-Tells command old new (errors.InvalidPath text) = text ≡ path_of command
-Tells command old new (errors.InvalidArgument args.State) = Unit {0}
-Tells command old new (errors.InvalidArgument args.Options) = HasOptions command
-Tells command old new (errors.InvalidArgument args.Defaults) = UsesDefaults command
-Tells command old new (errors.InvalidArgument (args.Range offset len length)) = Asks command offset len × (length < offset + len)
-Tells command old new (errors.AlreadyExists message) = IsTakenBy message new
-Tells command old new (errors.OperationFailed name) =
-    IsClose command × (new.last ≡ last_answers.Fine) × CallsRoseTimes new.namenodes 5 old.counts new.counts
-Tells command old new (errors.UnsupportedFeature features.Encryption) = CanMeetEncryption command
-Tells command old new (errors.FileNotFound path) = (path ≡ path_of command) × (new.last ≡ last_answers.Fine)
-Tells command old new (errors.RPCError class message) = (is_taken class ≡ false) × (new.last ≡ last_answers.Exception class message)
-Tells command old new (errors.InvalidRPCResponse fault) = (new.last ≡ last_answers.BadReply fault) × CallsRose old.counts new
-Tells command old new (errors.FatalRPCError class message) = (new.last ≡ last_answers.Fatal class message) × CallsRose old.counts new
-Tells command old new error = ⊥
+Tells command old new error = CanEnd command error × Means old new error
 
 -- the error is a refusal, which comes before any datanode is asked or sent anything
 abbrev pub IsEarly : Command → HdfsError → Type 0
@@ -219,43 +199,40 @@ IsEarly command (errors.InvalidRPCResponse fault) = Sends command → ⊥
 IsEarly command (errors.FatalRPCError class message) = Sends command → ⊥
 IsEarly command error = ⊥
 
--- The cause of an error of a command over a state, from what is shown before the command to what is shown once it has
--- ended. Want of memory has none.
-abbrev pub Cause : World → State → Command → Shown → Shown → HdfsError → Type 0
-Cause world state command old new errors.NoMemory = Unit {0}
-Cause world state command old new (errors.IOError (io_faults.Namenode last)) = CallsRose old.counts new
-Cause world state command old new (errors.IOError io_faults.Link) =
-    IsDone (step world state command) × Rose old.counts.links new.counts.links
-Cause world state command old new (errors.DataTransferError (transfer.Read byte)) =
+-- Why a command over a state ends with an error, beside what has failed: from what is shown before the command to what is shown once
+-- it has ended. Want of memory says nothing, nor does an error of an ask but an exception.
+abbrev pub Because : World → State → Command → Shown → Shown → HdfsError → Type 0
+Because world state command old new (errors.IOError io_faults.Link) = IsDone (step world state command)
+Because world state command old new (errors.DataTransferError (transfer.Read byte)) =
     IsDone (step world state command) × CommandLost old.counts new (target_of world command) command byte
-Cause world state command old new (errors.DataTransferError transfer.Setup) =
-    IsDone (step world state command) × Rose old.counts.links new.counts.links
-Cause world state command old new (errors.DataTransferError transfer.AllNodes) =
+Because world state command old new (errors.DataTransferError transfer.AllNodes) =
     IsDone (step world state command) × PipelineFailed old.counts new (target_of world command)
-Cause world state command old new (errors.DataTransferError transfer.NoReplacement) =
+Because world state command old new (errors.DataTransferError transfer.NoReplacement) =
     IsDone (step world state command) × (world.best_effort ≡ false) × (Rose old.counts.links new.counts.links ⊎ CallsRose old.counts new)
     × SomeListedFailed old.counts new (target_of world command)
-Cause world state command old new (errors.DataTransferError (transfer.RebuildLimit rebuilds)) =
+Because world state command old new (errors.DataTransferError (transfer.RebuildLimit rebuilds)) =
     IsDone (step world state command) × (rebuilds ≡ world.rebuild_limit) × SomeListedFailed old.counts new (target_of world command)
-Cause world state command old new (errors.DataTransferError (transfer.BadAck seqno)) =
-    IsDone (step world state command) × Rose old.counts.links new.counts.links
-Cause world state command old new (errors.InvalidPath text) = step world state command ≡ Refused BadPath
-Cause world state command old new (errors.InvalidArgument args.State) = step world state command ≡ Refused WrongState
-Cause world state command old new (errors.InvalidArgument args.Options) = OptionsOut state (target_of world command) command
-Cause world state command old new (errors.InvalidArgument args.Defaults) = UsesDefaults command × (are_defaults world.defaults ≡ false)
-Cause world state command old new (errors.InvalidArgument (args.Range offset len length)) =
+Because world state command old new (errors.DataTransferError fault) = IsDone (step world state command)
+Because world state command old new (errors.InvalidPath text) = step world state command ≡ Refused BadPath
+Because world state command old new (errors.InvalidArgument args.State) = step world state command ≡ Refused WrongState
+Because world state command old new (errors.InvalidArgument args.Options) = OptionsOut state (target_of world command) command
+Because world state command old new (errors.InvalidArgument args.Defaults) =
+    UsesDefaults command × (are_defaults world.defaults ≡ false)
+Because world state command old new (errors.InvalidArgument (args.Range offset len length)) =
     (step world state command ≡ Refused BadRange) × HasLength state (target_of world command) length
-Cause world state command old new (errors.AlreadyExists message) = (step world state command ≡ Refused Exists) ⊎ CallsRose old.counts new
-Cause world state command old new (errors.OperationFailed name) =
-    IsDone (step world state command) × CallsRose old.counts new × (name ≡ target_of world command)
-Cause world state command old new (errors.UnsupportedFeature features.Encryption) =
+Because world state command old new (errors.AlreadyExists message) = (step world state command ≡ Refused Exists) ⊎ CallsRose old.counts new
+Because world state command old new (errors.OperationFailed name) =
+    IsDone (step world state command) × (name ≡ target_of world command)
+Because world state command old new (errors.UnsupportedFeature features.Encryption) =
     (IsDone (step world state command) × MovesEncrypted world command) ⊎ OpensEncrypted state (target_of world command) command
-Cause world state command old new (errors.FileNotFound name) = IsLacking (step world state command)
-Cause world state command old new (errors.RPCError class message) =
+Because world state command old new (errors.FileNotFound name) = IsLacking (step world state command)
+Because world state command old new (errors.RPCError class message) =
     StandsForLacking (step world state command) class ⊎ CallsRose old.counts new
-Cause world state command old new (errors.InvalidRPCResponse fault) = CallsRose old.counts new
-Cause world state command old new (errors.FatalRPCError class message) = CallsRose old.counts new
-Cause world state command old new error = ⊥
+Because world state command old new error = IsOfAsk error
+
+-- the cause of an error of a command over a state: that, and what it says has failed
+abbrev pub Cause : World → State → Command → Shown → Shown → HdfsError → Type 0
+Cause world state command old new error = Because world state command old new error × HasFailed (failure_of error) old new
 
 -- the errors that stand for a refusal
 abbrev pub IsKind : Refusal → HdfsError → Type 0

@@ -6,16 +6,15 @@ use Rattle.hdfs_model.specs.declared.commands.Command.{Command}
 use Rattle.hdfs_model.specs.declared.commands.Command.TheVariants as commands
 use Rattle.hdfs_model.specs.declared.commands.Reply.{Reply}
 use Rattle.hdfs_model.specs.declared.commands.Settings.{Settings}
-use Rattle.hdfs_model.specs.declared.errors.ArgFault.TheVariants as args
 use Rattle.hdfs_model.specs.declared.errors.Fault.{Fault}
 use Rattle.hdfs_model.specs.declared.errors.HdfsError.{HdfsError}
 use Rattle.hdfs_model.specs.declared.errors.HdfsError.TheVariants as errors
 use Rattle.hdfs_model.specs.declared.messages.ServerDefaults.{ServerDefaults}
-use Rattle.hdfs_model.specs.Paths.{is_path, ancestors}
+use Rattle.hdfs_model.specs.Paths.{ancestors}
 use Rattle.hdfs_model.specs.Files.{State, IsState, Writing, Content}
 use Rattle.hdfs_model.specs.Limits.{are_numbers, are_attributes}
 use Rattle.hdfs_model.specs.Picture.{Picture}
-use Rattle.hdfs_model.specs.Steps.{World, Outcome, Refused, Done, path_of, target_of, is_opened, step}
+use Rattle.hdfs_model.specs.Steps.{World, Outcome, Refused, Done, target_of, is_opened, step}
 use Rattle.hdfs_model.specs.Folds.{Folded, Ends, Stops}
 use Rattle.hdfs_model.specs.Shown.{Shown}
 use Rattle.hdfs_model.specs.Causes.{IsKind, MovesEncrypted, OpensEncrypted}
@@ -84,31 +83,6 @@ AreLimited world state [] = Unit {0}
 AreLimited world state (command ∷ commands) =
     IsLimited world state command × ((reply : Reply) (next : State) → step world state command ≡ Done reply next
     → AreLimited world next commands)
-
--- a write and a close want the path open, all others want it not
-abbrev pub is_misplaced : Command → Bool → Bool
-is_misplaced (commands.Write path bytes) is_open = not is_open
-is_misplaced (commands.Close path) is_open = not is_open
-is_misplaced command is_open = is_open
-
--- the error says neither of the path rule nor of what the session has open
-abbrev pub IsNotOwed : HdfsError → Type 0
-IsNotOwed (errors.InvalidPath text) = ⊥
-IsNotOwed (errors.InvalidArgument args.State) = ⊥
-IsNotOwed error = Unit {0}
-
--- the error that is owed where the path rule is broken, or what the session has open
-abbrev pub OwedBy : Bool → Bool → List ℕ → HdfsError → Type 0
-OwedBy false misplaced path error = error ≡ errors.InvalidPath path
-OwedBy true true path error = error ≡ errors.InvalidArgument args.State
-OwedBy true false path error = IsNotOwed error
-
--- What a command is refused for before anything is asked, exactly: the path rule comes first, then what the session has open.
--- Want of memory may come instead.
-abbrev pub Owed : World → (List ℕ → Bool) → Command → HdfsError → Type 0
-Owed world opened command error =
-    (error ≡ errors.NoMemory)
-    ⊎ OwedBy (is_path (target_of world command)) (is_misplaced command (opened (target_of world command))) (path_of command) error
 
 -- The paths that a command touches: its own where it writes, and where it creates those above it at which nothing stood. One
 -- that only reads touches none.

@@ -15,7 +15,7 @@ use Rattle.hdfs_model.specs.Shown.{Shown, Served, Later}
 use Rattle.hdfs_model.proofs.Frames.{later_refl, later_trans, rose_since}
 use Rattle.hdfs_model.proofs.Framing.{asked_leaves, broken_rose, failure_rose}
 use Rattle.hdfs_namenode.specs.Asked.{outcome_of}
-use Rattle.hdfs_namenode.specs.Relaying.{HasFailed, HasGivenUp, HasNoAnswer, HasPassedOn}
+use Rattle.hdfs_namenode.specs.Relaying.{RoseAt, HasGivenUp, HasNoAnswer, HasPassedOn}
 
 module _ {C : Type 0} (shown : C → Shown) (serves : C → ℕ → Ask → Result Answer AskFault → C → Type 0)
     (rows : (old new : C) (i : ℕ) (ask : Ask) (result : Result Answer AskFault) → serves old i ask result new → Served (shown old) i ask result (shown new))
@@ -58,7 +58,7 @@ module _ {C : Type 0} (shown : C → Shown) (serves : C → ℕ → Ask → Resu
     until = later_refl (shown u);
   }
 
-  failed_one : (i : ℕ) (t u : C) (given : Result Answer AskFault) → IsFailure given → AsksOne serves i ask t given u → HasFailed (shown t) (shown u) i
+  failed_one : (i : ℕ) (t u : C) (given : Result Answer AskFault) → IsFailure given → AsksOne serves i ask t given u → RoseAt (shown t) (shown u) i
   failed_one i t u given fails asked = failure_rose shown serves rows ask (i ∷ []) i given t u fails (alone i t u given asked)
 
   -- one namenode that passes the ask on
@@ -110,10 +110,10 @@ module _ {C : Type 0} (shown : C → Shown) (serves : C → ℕ → Ask → Resu
     has_last given asks passes = subst (λ (l : List ℕ). Contains l last) (sym (order_ends given asks passes)) (Contains-push asks.front last)
 
     some_failed : (given : Result Answer AskFault) → AsksInOrder serves order ask old last given new → passes_on given ≡ true → IsFailure given
-        → Any (HasFailed (shown old) (shown new)) order
+        → Any (RoseAt (shown old) (shown new)) order
     some_failed given asks passes fails =
-        subst (λ (l : List ℕ). Any (HasFailed (shown old) (shown new)) l) (sym (order_ends given asks passes))
-        (Any-push (HasFailed (shown old) (shown new)) asks.front last (failure_rose shown serves rows ask order last given old new fails asks))
+        subst (λ (l : List ℕ). Any (RoseAt (shown old) (shown new)) l) (sym (order_ends given asks passes))
+        (Any-push (RoseAt (shown old) (shown new)) asks.front last (failure_rose shown serves rows ask order last given old new fails asks))
 
     exception_called : (class message : List ℕ) (b : Bool) → HasNoAnswer shown serves order ask old new (cond b (errors.AlreadyExists message) (errors.RPCError class message))
     exception_called class message true = tt

@@ -12,38 +12,30 @@ use Rattle.hdfs_model.specs.Causes.{CallsRose}
 use Rattle.hdfs_model.specs.Counts.{Rose, RoseTwice}
 use Rattle.hdfs_model.specs.Namenode.{Row, IsFailure, IsShaped, IsFalse, is_taken, last_of}
 use Rattle.hdfs_model.specs.Picture.{Picture}
+use Rattle.hdfs_model.specs.Repeating.{DoneOrNot, Leaves, Repeats}
 use Rattle.hdfs_model.specs.Shown.{Shown, Served}
 use Rattle.hdfs_model.proofs.Frames.{same_picture_refl}
 use Rattle.hdfs_model.specs.Failover.{AsksInOrder}
-use Rattle.hdfs_model.proofs.Framing.{Leaves, asked_leaves, broken_rose, failure_rose, leaves_refl}
-use Rattle.hdfs_model.proofs.Relaying.{Comes, Repeats, asked_told}
-use Rattle.hdfs_namenode.specs.Asked.{Asked, AskedInOrder, AskedNothing, AskedOnce, IsServiceOf, ReachesAll, Through, error_of, order_of, outcome_of}
-use Rattle.hdfs_namenode.specs.Relaying.{DoneOrNot, RefusedBy, RelaysTold, TellsAsk}
+use Rattle.hdfs_model.proofs.Framing.{asked_leaves, broken_rose, failure_rose, leaves_refl}
+use Rattle.hdfs_model.proofs.Relaying.{Comes, asked_told}
+use Rattle.hdfs_namenode.specs.Asked.{Asked, AskedInOrder, IsServiceOf, ReachesAll, Through, error_of, order_of, outcome_of}
+use Rattle.hdfs_namenode.specs.Relaying.{Came, RefusedBy, Relays, RelaysTold, TellsAsk}
 use Rattle.hdfs_namenode.proofs.Services.{asked_plain, last_below, reaches_has, reaches_service, service_below}
-
--- What an ask leaves over any cluster; its answer is of its ask, and false to `complete` says that a namenode has failed. Its error tells
--- the last answer of a namenode.
-pub record Relays (old : Shown) (ask : Ask) (result : Result Answer HdfsError) (new : Shown) : Type 0 where
-  pub leaves : Leaves old new
-  pub shaped : IfOk result (IsShaped ask)
-  pub tells : IfErr result (TellsAsk old new)
-  pub fine : IfOk result (λ answer. new.last ≡ last_answers.Fine)
-  pub denied : IfOk result (λ answer. IsFalse answer → CallsRose old.counts new)
 
 exception_tells : (old new : Shown) (class message : List ℕ) (b : Bool) → is_taken class ≡ b → new.last ≡ last_answers.Exception class message
     → TellsAsk old new (cond b (errors.AlreadyExists message) (errors.RPCError class message))
-exception_tells old new class message true is last = (class, is, last)
-exception_tells old new class message false is last = (is, last)
+exception_tells old new class message true is last = (tt, ((class, is, last), tt))
+exception_tells old new class message false is last = (tt, ((is, last), tt))
 
 -- what its last answer tells, where it is a fault
 fault_tells : (old new : Shown) (last : ℕ) (fault : AskFault) → new.last ≡ last_of (Err fault) → last < new.namenodes
     → (IsFailure (Err fault) → Rose (old.counts.calls last) (new.counts.calls last))
     → (fault ≡ faults.Broken → RoseTwice (old.counts.calls last) (new.counts.calls last)) → TellsAsk old new (error_of last fault)
-fault_tells old new last faults.NoMemory is low rose twice = tt
-fault_tells old new last faults.Broken is low rose twice = (is, low, twice refl)
-fault_tells old new last (faults.BadReply fault) is low rose twice = (is, (last, low, rose tt))
+fault_tells old new last faults.NoMemory is low rose twice = (tt, (tt, tt))
+fault_tells old new last faults.Broken is low rose twice = (tt, (is, (low, twice refl)))
+fault_tells old new last (faults.BadReply fault) is low rose twice = (tt, (is, (last, low, rose tt)))
 fault_tells old new last (faults.Exception class message) is low rose twice = exception_tells old new class message (is_taken class) refl is
-fault_tells old new last (faults.Fatal class message) is low rose twice = (is, (last, low, rose tt))
+fault_tells old new last (faults.Fatal class message) is low rose twice = (tt, (is, (last, low, rose tt)))
 
 relays_given : (old new : Shown) (ask : Ask) (last : ℕ) (given : Result Answer AskFault) → Leaves old new → IfOk given (IsShaped ask) → new.last ≡ last_of given
     → last < new.namenodes → (IsFailure given → Rose (old.counts.calls last) (new.counts.calls last))
@@ -59,7 +51,7 @@ relays_given old new ask last (Err fault) leaves shaped is low rose twice = reco
 
 -- nothing was asked
 pub relays_nothing : (a : Shown) (ask : Ask) → Relays a ask (Err errors.NoMemory) a
-relays_nothing a ask = record { leaves = leaves_refl a; shaped = tt; tells = tt; fine = tt; denied = tt }
+relays_nothing a ask = record { leaves = leaves_refl a; shaped = tt; tells = (tt, (tt, tt)); fine = tt; denied = tt }
 
 comes_relayed : (risen : Type 0) (p : Picture) (ask : Ask) (last : ℕ) (given : Result Answer AskFault) (q : Picture) → Comes risen p ask given q
     → RelaysTold risen p ask (outcome_of last given) q
@@ -119,16 +111,6 @@ module _ {C : Type 0} (shown : C → Shown) (serves : C → ℕ → Ask → Resu
   relayed reaches asked =
       relayed_in_order (reaches_service old.proxy (shown old.cluster) reaches) (asked_plain serves write ask old outcome new reaches.plain asked)
 
-  pub relayed_nothing : AskedNothing old outcome new → Relays (shown old.cluster) ask outcome (shown new.cluster)
-  relayed_nothing nothing =
-      subst (λ (r : Result Answer HdfsError). Relays (shown old.cluster) ask r (shown new.cluster)) (sym nothing.is)
-      (subst (λ (t : Through C). Relays (shown old.cluster) ask (Err errors.NoMemory) (shown t.cluster)) (sym nothing.same) (relays_nothing (shown old.cluster) ask))
-
-  pub relayed_once : ReachesAll old.proxy (shown old.cluster) → AskedOnce serves write ask old outcome new
-      → Relays (shown old.cluster) ask outcome (shown new.cluster)
-  relayed_once reaches (inl asked) = relayed reaches asked
-  relayed_once reaches (inr nothing) = relayed_nothing nothing
-
   -- what is told of it
   abbrev pub IsTold : Picture → Type 0
   IsTold p = (q : Picture) × ((shown new.cluster).picture ≡ Some q) × RelaysTold (CallsRose (shown old.cluster).counts (shown new.cluster)) p ask outcome q
@@ -147,15 +129,26 @@ module _ {C : Type 0} (shown : C → Shown) (serves : C → ℕ → Ask → Resu
         subst (λ (r : Result Answer HdfsError). RelaysTold risen p ask r came.0) (sym asked.is) (comes_relayed risen p ask asked.last asked.given came.0 came.2),
       )
 
-  pub told_nothing : (p : Picture) → (shown old.cluster).picture ≡ Some p → AskedNothing old outcome new → IsTold p
-  told_nothing p told nothing =
-      let risen = CallsRose (shown old.cluster).counts (shown new.cluster) in (
-        p,
-        subst (λ (t : Through C). (shown t.cluster).picture ≡ Some p) (sym nothing.same) told,
-        subst (λ (r : Result Answer HdfsError). RelaysTold risen p ask r p) (sym nothing.is) (inl (refl, inl (same_picture_refl p).rest)),
-      )
+module _ {C : Type 0} {shown : C → Shown} {serves : C → ℕ → Ask → Result Answer AskFault → C → Type 0} where
+  -- a service that reaches all namenodes was asked
+  pub came : ((old new : C) (i : ℕ) (ask : Ask) (result : Result Answer AskFault) → serves old i ask result new → Served (shown old) i ask result (shown new))
+      → ((c : C) (p : Picture) → (shown c).picture ≡ Some p → p.active < (shown c).namenodes)
+      → {write : Bool} {ask : Ask} {old : Through C} {result : Result Answer HdfsError} {new : Through C} → Asked serves write ask old result new
+      → ReachesAll old.proxy (shown old.cluster) → Came (shown old.cluster) ask result (shown new.cluster)
+  came rows below {write} {ask} {old} {result} {new} asked reaches = record {
+    relays = relayed shown serves rows write ask old result new reaches asked;
+    told = λ p told repeats. relayed_told shown serves rows write ask old result new p (below old.cluster p told) reaches told repeats asked;
+  }
 
-  pub relayed_told_once : (p : Picture) → p.active < (shown old.cluster).namenodes → ReachesAll old.proxy (shown old.cluster) → (shown old.cluster).picture ≡ Some p
-      → Repeats ask p → AskedOnce serves write ask old outcome new → IsTold p
-  relayed_told_once p active reaches told repeats (inl asked) = relayed_told p active reaches told repeats asked
-  relayed_told_once p active reaches told repeats (inr nothing) = told_nothing p told nothing
+-- nothing was asked, for want of memory
+pub came_nothing : {s : Shown} {ask : Ask} → Came s ask (Err errors.NoMemory) s
+came_nothing {s} {ask} = record {
+  relays = relays_nothing s ask;
+  told = λ p told repeats. (p, told, inl (refl, inl (same_picture_refl p).rest));
+}
+
+-- what it has come to, by what the ask and its result are
+pub came_as : {s t : Shown} {ask ask' : Ask} {result result' : Result Answer HdfsError} → ask ≡ ask' → result ≡ result' → Came s ask result t
+    → Came s ask' result' t
+came_as {s} {t} {ask} {ask'} {result} {result'} one two came =
+    subst (λ (r : Result Answer HdfsError). Came s ask' r t) two (subst (λ (a : Ask). Came s a result t) one came)

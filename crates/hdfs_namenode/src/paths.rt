@@ -2,7 +2,8 @@
 ghost use Rattle.std.specs.Prelude.{◌≡◌, true, false};
 ghost use Rattle.hdfs_model.specs.declared.asks.Ask.TheVariants as asks;
 ghost use Rattle.hdfs_model.specs.declared.asks.Answer.TheVariants as answers;
-ghost use Rattle.hdfs_namenode.specs.Asked.{AskedOnce, IsServiceOf, as_answer};
+ghost use Rattle.hdfs_namenode.specs.Asked.{AskedOnce, IsServiceOf, ReachesAll, as_answer};
+ghost use Rattle.hdfs_namenode.specs.Relaying.{Came};
 
 use crate::protocol::NamenodeProtocol;
 use hdfs_model::{Answer, Ask, Cluster, DirList, FileStatusMsg, HdfsError, LocatedBlocks, Summary};
@@ -22,6 +23,9 @@ impl NamenodeProtocol {
         requires { IsServiceOf (proxy_of self.old) (C.shown cluster.old) }
         ensures asked { AskedOnce C.serves false (asks.GetBlockLocations src.now offset length) (through self.old cluster.old)
             (as_answer answers.GetBlockLocations result) (through self.new cluster.new) }
+        ensures came { ReachesAll (proxy_of self.old) (C.shown cluster.old) → Came (C.shown cluster.old)
+            (asks.GetBlockLocations src.now offset length)
+            (as_answer answers.GetBlockLocations result) (C.shown cluster.new) }
         ensures keeps { SameClient self.old self.new }
     {
         let ask = Ask::GetBlockLocations {
@@ -168,6 +172,8 @@ impl NamenodeProtocol {
         requires { IsServiceOf (proxy_of self.old) (C.shown cluster.old) }
         ensures asked { AskedOnce C.serves true (asks.Delete src.now recursive) (through self.old cluster.old)
             (as_answer answers.Delete result) (through self.new cluster.new) }
+        ensures came { ReachesAll (proxy_of self.old) (C.shown cluster.old) → Came (C.shown cluster.old)
+            (asks.Delete src.now recursive) (as_answer answers.Delete result) (C.shown cluster.new) }
         ensures keeps { SameClient self.old self.new }
     {
         let ask = Ask::Delete {

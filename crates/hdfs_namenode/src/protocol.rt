@@ -5,6 +5,7 @@ ghost use Rattle.hdfs_model.specs.Namenode.{IsShaped};
 ghost use Rattle.hdfs_model.specs.declared.asks.Ask.TheVariants as asks;
 ghost use Rattle.hdfs_model.specs.declared.asks.Answer.TheVariants as answers;
 ghost use Rattle.hdfs_namenode.specs.Asked.{Asked, IsServiceOf, ReachesAll, SameService, as_answer};
+ghost use Rattle.hdfs_namenode.specs.Relaying.{Came, CameCached};
 
 use crate::proxy::NameServiceProxy;
 use hdfs_leases::FileLeases;
@@ -86,6 +87,8 @@ impl NamenodeProtocol {
     ) -> Result<Answer, HdfsError>
         requires { IsServiceOf (proxy_of self.old) (C.shown cluster.old) }
         ensures asked { Asked C.serves write ask (through self.old cluster.old) result (through self.new cluster.new) }
+        ensures came { ReachesAll (proxy_of self.old) (C.shown cluster.old)
+            → Came (C.shown cluster.old) ask result (C.shown cluster.new) }
         ensures shape { IfOk result (IsShaped ask) }
         ensures keeps { SameClient self.old self.new }
     {
@@ -102,6 +105,8 @@ impl NamenodeProtocol {
         requires { IsServiceOf (proxy_of self.old) (C.shown cluster.old) }
         ensures asked { Asked C.serves false asks.GetServerDefaults (through self.old cluster.old)
             (as_answer answers.GetServerDefaults result) (through self.new cluster.new) }
+        ensures came { ReachesAll (proxy_of self.old) (C.shown cluster.old) → Came (C.shown cluster.old)
+            asks.GetServerDefaults (as_answer answers.GetServerDefaults result) (C.shown cluster.new) }
         ensures keeps { SameClient self.old self.new }
     {
         let answer = self.ask(cluster, Ask::GetServerDefaults, false)?;
@@ -122,6 +127,8 @@ impl NamenodeProtocol {
         ensures known { IfSome (defaults_of self.old) (λ kept. (result ≡ Ok kept) × (cluster.new ≡ cluster.old) × (self.new ≡ self.old)) }
         ensures asked { defaults_of self.old ≡ None → Asked C.serves false asks.GetServerDefaults (through self.old cluster.old)
             (as_answer answers.GetServerDefaults result) (through self.new cluster.new) }
+        ensures came { ReachesAll (proxy_of self.old) (C.shown cluster.old)
+            → CameCached (defaults_of self.old) (C.shown cluster.old) result (C.shown cluster.new) }
         ensures kept { IfOk result (λ defaults. defaults_of self.new ≡ Some defaults) }
         ensures err { OnErr result (defaults_of self.new ≡ None) }
         ensures held { (key_of self.new ≡ key_of self.old) × (leases_of self.new ≡ leases_of self.old) }

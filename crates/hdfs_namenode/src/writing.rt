@@ -4,7 +4,8 @@ ghost use Rattle.hdfs_model.specs.Effects.{HasOneMore};
 ghost use Rattle.hdfs_model.specs.Namenode.{IsToWrite};
 ghost use Rattle.hdfs_model.specs.declared.asks.Ask.TheVariants as asks;
 ghost use Rattle.hdfs_model.specs.declared.asks.Answer.TheVariants as answers;
-ghost use Rattle.hdfs_namenode.specs.Asked.{AskedOnce, IsServiceOf, as_answer};
+ghost use Rattle.hdfs_namenode.specs.Asked.{AskedOnce, IsServiceOf, ReachesAll, as_answer};
+ghost use Rattle.hdfs_namenode.specs.Relaying.{Came};
 
 use crate::copies::copy_block;
 use crate::protocol::NamenodeProtocol;
@@ -34,6 +35,9 @@ impl NamenodeProtocol {
         ensures asked { AskedOnce C.serves true
             (asks.Create src.now masked (name_of self.old) create_flag create_parent replication block_size)
             (through self.old cluster.old) (as_answer answers.Create result) (through self.new cluster.new) }
+        ensures came { ReachesAll (proxy_of self.old) (C.shown cluster.old) → Came (C.shown cluster.old)
+            (asks.Create src.now masked (name_of self.old) create_flag create_parent replication block_size)
+            (as_answer answers.Create result) (C.shown cluster.new) }
         ensures keeps { SameClient self.old self.new }
     {
         let ask = Ask::Create {
@@ -63,6 +67,8 @@ impl NamenodeProtocol {
         requires { IsServiceOf (proxy_of self.old) (C.shown cluster.old) }
         ensures asked { AskedOnce C.serves true (asks.Append src.now (name_of self.old) flag) (through self.old cluster.old)
             (as_answer answers.Append result) (through self.new cluster.new) }
+        ensures came { ReachesAll (proxy_of self.old) (C.shown cluster.old) → Came (C.shown cluster.old)
+            (asks.Append src.now (name_of self.old) flag) (as_answer answers.Append result) (C.shown cluster.new) }
         ensures block { IfOk result (λ appended. IfSome appended.block IsToWrite) }
         ensures keeps { SameClient self.old self.new }
     {
@@ -93,6 +99,9 @@ impl NamenodeProtocol {
         ensures asked { AskedOnce C.serves true
             (asks.AddBlock src.now (name_of self.old) (option_copied previous.entry) excludes.now file_id)
             (through self.old cluster.old) (as_answer answers.AddBlock result) (through self.new cluster.new) }
+        ensures came { ReachesAll (proxy_of self.old) (C.shown cluster.old) → Came (C.shown cluster.old)
+            (asks.AddBlock src.now (name_of self.old) (option_copied previous.entry) excludes.now file_id)
+            (as_answer answers.AddBlock result) (C.shown cluster.new) }
         ensures keeps { SameClient self.old self.new }
     {
         let ask = self.add_block_ask(src, previous, excludes, file_id)?;
@@ -115,6 +124,9 @@ impl NamenodeProtocol {
         requires { IsServiceOf (proxy_of self.old) (C.shown cluster.old) }
         ensures asked { AskedOnce C.serves true (asks.Complete src.now (name_of self.old) (option_copied last.entry) file_id)
             (through self.old cluster.old) (as_answer answers.Complete result) (through self.new cluster.new) }
+        ensures came { ReachesAll (proxy_of self.old) (C.shown cluster.old) → Came (C.shown cluster.old)
+            (asks.Complete src.now (name_of self.old) (option_copied last.entry) file_id)
+            (as_answer answers.Complete result) (C.shown cluster.new) }
         ensures keeps { SameClient self.old self.new }
     {
         let ask = self.complete_ask(src, last, file_id)?;
@@ -138,6 +150,9 @@ impl NamenodeProtocol {
         requires { IsServiceOf (proxy_of self.old) (C.shown cluster.old) }
         ensures asked { AskedOnce C.serves true (asks.UpdateBlockForPipeline block.now (name_of self.old)) (through self.old cluster.old)
             (as_answer answers.UpdateBlockForPipeline result) (through self.new cluster.new) }
+        ensures came { ReachesAll (proxy_of self.old) (C.shown cluster.old) → Came (C.shown cluster.old)
+            (asks.UpdateBlockForPipeline block.now (name_of self.old))
+            (as_answer answers.UpdateBlockForPipeline result) (C.shown cluster.new) }
         ensures keeps { SameClient self.old self.new }
     {
         let ask = Ask::UpdateBlockForPipeline {
@@ -168,6 +183,10 @@ impl NamenodeProtocol {
         ensures asked { AskedOnce C.serves true (asks.GetAdditionalDatanode src.now blk.now existings.now excludes.now num_additional_nodes
             (name_of self.old) existing_storage_uuids.now) (through self.old cluster.old)
             (as_answer answers.GetAdditionalDatanode result) (through self.new cluster.new) }
+        ensures came { ReachesAll (proxy_of self.old) (C.shown cluster.old) → Came (C.shown cluster.old)
+            (asks.GetAdditionalDatanode src.now blk.now existings.now excludes.now num_additional_nodes
+            (name_of self.old) existing_storage_uuids.now)
+            (as_answer answers.GetAdditionalDatanode result) (C.shown cluster.new) }
         ensures shape { IfOk result (λ located. IsToWrite located × HasOneMore existings.now located.locs) }
         ensures keeps { SameClient self.old self.new }
     {
@@ -200,6 +219,9 @@ impl NamenodeProtocol {
         requires { IsServiceOf (proxy_of self.old) (C.shown cluster.old) }
         ensures asked { AskedOnce C.serves true (asks.UpdatePipeline (name_of self.old) old_block.now new_block.now new_nodes.now
             storage_ids.now) (through self.old cluster.old) (as_answer (λ _. answers.UpdatePipeline) result) (through self.new cluster.new) }
+        ensures came { ReachesAll (proxy_of self.old) (C.shown cluster.old) → Came (C.shown cluster.old)
+            (asks.UpdatePipeline (name_of self.old) old_block.now new_block.now new_nodes.now storage_ids.now)
+            (as_answer (λ _. answers.UpdatePipeline) result) (C.shown cluster.new) }
         ensures keeps { SameClient self.old self.new }
     {
         let ask = self.update_pipeline_ask(old_block, new_block, new_nodes, storage_ids)?;

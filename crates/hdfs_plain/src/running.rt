@@ -2,7 +2,7 @@
 ghost use Rattle.std.specs.Prelude.{◌≡◌, ◌++◌, ◌∷◌, [], ℕ, take, Option, Some, None, IfOk};
 ghost use Rattle.hdfs_model.specs.Files.{State};
 ghost use Rattle.hdfs_model.specs.Folds.{fold};
-ghost use Rattle.hdfs_model.specs.Sessions as sessions;
+ghost use Rattle.hdfs_model.specs.Owing as owing;
 ghost use Rattle.hdfs_model.specs.Steps as spec;
 ghost use Rattle.hdfs_model.specs.Steps.{step, step_at};
 ghost use Rattle.hdfs_plain.specs.Plain.{Holds};
@@ -29,7 +29,7 @@ pub struct PlainFold {
 
 // Whether a command wants a path closed that is open, or open that isn't.
 fn is_misplaced(command: &Command, is_open: bool) -> bool
-    ensures { result ≡ sessions.is_misplaced command.now is_open }
+    ensures { result ≡ owing.is_misplaced command.now is_open }
 {
     match command {
         Command::Write { .. } | Command::Close { .. } => !is_open,

@@ -7,7 +7,6 @@ use Rattle.hdfs_model.specs.declared.asks.Answer.{Answer}
 use Rattle.hdfs_model.specs.declared.asks.Answer.TheVariants as answers
 use Rattle.hdfs_model.specs.declared.asks.Ask.{Ask}
 use Rattle.hdfs_model.specs.declared.asks.Ask.TheVariants as asks
-use Rattle.hdfs_model.specs.declared.asks.AskFault.{AskFault}
 use Rattle.hdfs_model.specs.declared.asks.LinkFault.{LinkFault}
 use Rattle.hdfs_model.specs.declared.asks.LinkFault.TheVariants as links
 use Rattle.hdfs_model.specs.declared.errors.HdfsError.{HdfsError}
@@ -21,15 +20,16 @@ use Rattle.hdfs_model.specs.Effects.{AddsOneOf}
 use Rattle.hdfs_model.specs.Namenode.{IsToWrite, Row}
 use Rattle.hdfs_model.specs.Picture.{Picture, SameButActive}
 use Rattle.hdfs_model.specs.Pipes.{OnlyWrites}
-use Rattle.hdfs_model.specs.Shown.{Served, Shown}
+use Rattle.hdfs_model.specs.Repeating.{Repeats}
+use Rattle.hdfs_model.specs.Shown.{Shown}
 use Rattle.hdfs_model.specs.Transferring.{GivesAll, GivesSome, NotTransferred, Transferred}
 use Rattle.hdfs_model.specs.Writing.{OnlyBlock}
 use Rattle.hdfs_model.specs.Sending.{uuids}
 use Rattle.hdfs_model.proofs.Frames.{rose_since, told_after}
-use Rattle.hdfs_model.proofs.Relaying.{Repeats}
 use Rattle.hdfs_model.proofs.Repeating.{datanode_repeats}
 use Rattle.hdfs_names.specs.Shown.{shown as policy_of}
-use Rattle.hdfs_namenode.specs.Asked.{AskedOnce, ReachesAll, Through}
+use Rattle.hdfs_namenode.specs.Relaying.{Came}
+use Rattle.hdfs_namenode.proofs.Relayed.{came_as}
 use Rattle.hdfs_recovery.specs.declared.block_plan.BlockPlan.{BlockPlan}
 use Rattle.hdfs_recovery.specs.declared.block_plan.WriteFault.{WriteFault}
 use Rattle.hdfs_recovery.specs.declared.block_plan.WriteFault.TheVariants as faults
@@ -38,7 +38,7 @@ use Rattle.hdfs_recovery.specs.Between.{HelpLacks, KeepsLinks, OnlyBlockOf, Wait
 use Rattle.hdfs_recovery.specs.Plans.{IsDue, Known, Waits}
 use Rattle.hdfs_recovery.specs.Replacing.{AddsNode, AddsNone, AreApart, Completes, GivesBlock, GivesNoBlock, GivesToAdded, fault_of_none, fault_of_transfer, with_nodes}
 use Rattle.hdfs_recovery.proofs.Adding.{all_in, each_apart, only_given, waits_added, waits_without}
-use Rattle.hdfs_recovery.proofs.Asks.{asked_error, asked_links, asked_row, asked_told}
+use Rattle.hdfs_recovery.proofs.Asks.{asked_error, asked_row, asked_told}
 use Rattle.hdfs_recovery.proofs.Stepping.{keeps_links_refl, only_block_of_trans, only_block_of-same, waits_on_refl, waits_same}
 
 -- a transfer changes no link
@@ -47,59 +47,42 @@ transfer_links old new only writes =
     record { later = only.later; reads = record { links = only.reads; places = only.places }; writes = writes }
 
 -- Giving a datanode the block, or not, changes no link.
-pub gives_links : (plan : BlockPlan) (located : LocatedBlock) (name : List ℕ) (old new : Shown) → GivesBlock plan located name old new
+pub gives_links : {plan : BlockPlan} {located : LocatedBlock} {name : List ℕ} {old new : Shown} → GivesBlock plan located name old new
     → KeepsLinks old new
-gives_links plan located name old new (transfer, gives, given) = transfer_links old new given.only given.writes
+gives_links {plan} {located} {name} {old} {new} (transfer, gives, given) = transfer_links old new given.only given.writes
 
-pub gives_no_links : (plan : BlockPlan) (located : LocatedBlock) (name : List ℕ) (old : Shown) (fault : WriteFault) (new : Shown)
+pub gives_no_links : {plan : BlockPlan} {located : LocatedBlock} {name : List ℕ} {old : Shown} {fault : WriteFault} {new : Shown}
     → GivesNoBlock plan located name old fault new → KeepsLinks old new
-gives_no_links plan located name old fault new (inl (memory, same)) = subst (KeepsLinks old) (sym same) (keeps_links_refl old)
-gives_no_links plan located name old fault new (inr (transfer, why, gives, is, not)) = transfer_links old new not.only not.writes
+gives_no_links {plan} {located} {name} {old} {fault} {new} (inl (memory, same)) = subst (KeepsLinks old) (sym same) (keeps_links_refl old)
+gives_no_links {plan} {located} {name} {old} {fault} {new} (inr (transfer, why, gives, is, not)) = transfer_links old new not.only not.writes
 
 none_fault : (error : HdfsError) → error ≢ errors.NoMemory → fault_of_none error ≡ faults.NoReplacement
 none_fault errors.NoMemory apart = absurd (apart refl)
 none_fault error apart = refl
 
 -- One ask for a datanode more.
-module _ {C : Type 0} (shown : C → Shown) (serves : C → ℕ → Ask → Result Answer AskFault → C → Type 0)
-    (rows : (old new : C) (i : ℕ) (ask : Ask) (result : Result Answer AskFault) → serves old i ask result new
-    → Served (shown old) i ask result (shown new))
-    (active : (s : C) (p : Picture) → (shown s).picture ≡ Some p → p.active < (shown s).namenodes)
-    (plan : BlockPlan) (excludes : List DatanodeInfo) (count : ℕ) (client : List ℕ) (ids : List (List ℕ)) (old mid : Through C)
-    (reaches : ReachesAll old.proxy (shown old.cluster)) where
-  abbrev ask : Ask
-  ask = asks.GetAdditionalDatanode plan.src plan.block.b plan.block.locs excludes count client ids
+module _ (plan : BlockPlan) (excludes : List DatanodeInfo) (count : ℕ) (client : List ℕ) (ids : List (List ℕ)) where
+  abbrev pub adding : Ask
+  adding = asks.GetAdditionalDatanode plan.src plan.block.b plan.block.locs excludes count client ids
 
-  abbrev a : Shown
-  a = shown old.cluster
-
-  abbrev m : Shown
-  m = shown mid.cluster
-
-  -- the ask with the parts that its caller names
-  pub asked_so : (src : List ℕ) (existing : List DatanodeInfo) (outcome : Result Answer HdfsError) → src ≡ plan.src
-      → existing ≡ plan.block.locs
-      → AskedOnce serves true (asks.GetAdditionalDatanode src plan.block.b existing excludes count client ids) old outcome mid
-      → AskedOnce serves true ask old outcome mid
-  asked_so src existing outcome same same_nodes asked =
-      subst (λ (nodes : List DatanodeInfo). AskedOnce serves true (asks.GetAdditionalDatanode plan.src plan.block.b nodes excludes count client ids) old outcome mid)
-      same_nodes
-      (subst (λ (path : List ℕ). AskedOnce serves true (asks.GetAdditionalDatanode path plan.block.b existing excludes count client ids) old outcome mid)
-      same asked)
-
-  row_same : (p q : Picture) (answer : Answer) → Row p ask answer q → SameButActive p q
+  row_same : (p q : Picture) (answer : Answer) → Row p adding answer q → SameButActive p q
   row_same p q (answers.GetAdditionalDatanode located) row = row.2
   row_same p q answer row = absurd row
 
   -- it may be asked for again
-  again : (p : Picture) (known : Known) → Waits p plan known → Repeats ask p
+  again : (p : Picture) (known : Known) → Waits p plan known → Repeats adding p
   again p known w = datanode_repeats plan.src plan.block.b plan.block.locs excludes count client ids p w.file
 
+module _ (plan : BlockPlan) {excludes : List DatanodeInfo} {count : ℕ} {client : List ℕ} {ids : List (List ℕ)} {a m : Shown} where
+  -- the ask with the parts that its caller names
+  pub asked_so : {src : List ℕ} {existing : List DatanodeInfo} {result : Result Answer HdfsError} → src ≡ plan.src → existing ≡ plan.block.locs
+      → Came a (asks.GetAdditionalDatanode src plan.block.b existing excludes count client ids) result m → Came a (adding plan excludes count client ids) result m
+  asked_so same same_nodes came = came_as (cc (same, same_nodes)) refl came
+
   -- Whatever comes of it, the block waits as before.
-  pub waits_asked : (outcome : Result Answer HdfsError) → AskedOnce serves true ask old outcome mid → WaitsOn plan a plan m
-  waits_asked outcome asked p known is w =
-      let x = asked_told shown serves rows active ask old mid reaches SameButActive p is (again p known w) (λ q same. same)
-      (λ q answer row. row_same p q answer row) outcome asked in (
+  waits_asked : {result : Result Answer HdfsError} → Came a (adding plan excludes count client ids) result m → WaitsOn plan a plan m
+  waits_asked came p known is w =
+      let x = asked_told came SameButActive p is (again plan excludes count client ids p known w) (λ q same. same) (row_same plan excludes count client ids p) in (
         x.0,
         x.1,
         waits_same p x.0 plan known x.2 w,
@@ -108,43 +91,42 @@ module _ {C : Type 0} (shown : C → Shown) (serves : C → ℕ → Ask → Resu
       )
 
   -- why none was answered
-  pub none_prepared : (outcome : Result Answer HdfsError) → AskedOnce serves true ask old outcome mid → AddsNone plan a faults.NoMemory m
-  none_prepared outcome asked = record { cause = inl refl; waits = waits_asked outcome asked }
+  none_prepared : {result : Result Answer HdfsError} → Came a (adding plan excludes count client ids) result m → AddsNone plan a faults.NoMemory m
+  none_prepared came = record { cause = inl refl; waits = waits_asked came }
 
-  pub none_answered : (error : HdfsError) → AskedOnce serves true ask old (Err error) mid → AddsNone plan a (fault_of_none error) m
-  none_answered error asked = record {
+  pub none_answered : {error : HdfsError} → Came a (adding plan excludes count client ids) (Err error) m → AddsNone plan a (fault_of_none error) m
+  none_answered {error} came = record {
     cause = ⊎_elim
         (λ memory. inl (ap fault_of_none memory))
         (λ other. inr (
           none_fault error other.0,
-          inr (λ p known is w. other.2 p is (again p known w) (λ class none. none), (error, other.0, other.1)),
+          inr (λ p known is w. other.2 p is (again plan excludes count client ids p known w) (λ class none. none), (error, other.0, other.1)),
         ))
-        (asked_error shown serves rows active ask old mid reaches error asked);
-    waits = waits_asked (Err error) asked;
+        (asked_error came);
+    waits = waits_asked came;
   }
 
   -- A datanode was answered: over a told picture it is none of the others, nor of those that are left out.
-  module _ (located : LocatedBlock) (asked : AskedOnce serves true ask old (Ok (answers.GetAdditionalDatanode located)) mid) where
+  module _ {located : LocatedBlock} (came : Came a (adding plan excludes count client ids) (Ok (answers.GetAdditionalDatanode located)) m) where
     answered : (p : Picture) (known : Known) → a.picture ≡ Some p → Waits p plan known
         → (q : Picture) × (m.picture ≡ Some q) × AddsOneOf plan.block.locs excludes located.locs × SameButActive p q
     answered p known is w =
-        let x = asked_row shown serves rows active ask old mid reaches (answers.GetAdditionalDatanode located) (λ no. absurd (cc)) asked p is
-        (again p known w) in
+        let x = asked_row came (λ no. absurd (cc)) p is (again plan excludes count client ids p known w) in
         (x.0, x.1, x.2.1, x.2.2)
 
     pub apart : AreApart plan a excludes located.locs
     apart p known is w = let x = answered p known is w in each_apart plan.block.locs excludes located.locs x.2
 
     -- Then it is given the block, or it isn't.
-    module _ (new : Shown) (name : List ℕ) (transfer : Transfer) (gives : GivesToAdded plan located name transfer) where
+    module _ {name : List ℕ} (transfer : Transfer) (gives : GivesToAdded plan located name transfer) where
       only_both : (p q r : Picture) → SameButActive p q → OnlyBlock transfer.block.block_id (uuids transfer.targets) q r
           → OnlyBlockOf plan.block.b.block_id p r
       only_both p q r same only =
           only_block_of_trans plan.block.b.block_id p q r (only_block_of-same plan.block.b.block_id p q same)
           (only_given transfer q r plan.block.b.block_id (ap (λ (b : Block). b.block_id) gives.block) only)
 
-      pub waits_with : Transferred m transfer new → WaitsOn plan a (with_nodes plan located) new
-      waits_with given p known is w =
+      waits_with : {new : Shown} → Transferred m transfer new → WaitsOn plan a (with_nodes plan located) new
+      waits_with {new} given p known is w =
           let x = answered p known is w in
           let y = told_after (GivesAll transfer) m.picture new.picture x.0 given.gives x.1 in
           let only = y.2.only in (
@@ -155,8 +137,8 @@ module _ {C : Type 0} (shown : C → Shown) (serves : C → ℕ → Ask → Resu
             only_both p x.0 y.0 x.3 only,
           )
 
-      pub none_given : (fault : LinkFault) → NotTransferred m transfer fault new → AddsNone plan a (fault_of_transfer fault) new
-      none_given fault given = record {
+      none_given : {new : Shown} (fault : LinkFault) → NotTransferred m transfer fault new → AddsNone plan a (fault_of_transfer fault) new
+      none_given {new} fault given = record {
         cause = why fault given.cause;
         waits = λ p known is w.
             (let x = answered p known is w in
@@ -171,7 +153,7 @@ module _ {C : Type 0} (shown : C → Shown) (serves : C → ℕ → Ask → Resu
       }
         where
           before : a.counts.links ≤ m.counts.links
-          before = (asked_links shown serves rows active ask old mid reaches (Ok (answers.GetAdditionalDatanode located)) asked).later.counts.links
+          before = came.relays.leaves.later.counts.links
 
           failed : Rose m.counts.links new.counts.links → HelpLacks plan a new
           failed rose = inl (rose_since a.counts.links m.counts.links new.counts.links new.counts.links before rose (omega arith))
@@ -183,15 +165,14 @@ module _ {C : Type 0} (shown : C → Shown) (serves : C → ℕ → Ask → Resu
           why links.Broken cause = inr (refl, failed (cause (λ same. absurd (cc))))
           why links.Refused cause = inr (refl, failed (cause (λ same. absurd (cc))))
 
-    pub waits_given : (name : List ℕ) (new : Shown) → GivesBlock plan located name m new → WaitsOn plan a (with_nodes plan located) new
-    waits_given name new (transfer, gives, given) = waits_with new name transfer gives given
+    pub waits_given : {name : List ℕ} {new : Shown} → GivesBlock plan located name m new → WaitsOn plan a (with_nodes plan located) new
+    waits_given (transfer, gives, given) = waits_with transfer gives given
 
-    pub given_none : (name : List ℕ) (fault : WriteFault) (new : Shown) → GivesNoBlock plan located name m fault new → AddsNone plan a fault new
-    given_none name fault new (inl (memory, same)) =
-        subst (λ (f : WriteFault). AddsNone plan a f new) (sym memory)
-        (subst (AddsNone plan a faults.NoMemory) (sym same) (none_prepared (Ok (answers.GetAdditionalDatanode located)) asked))
-    given_none name fault new (inr (transfer, why, gives, is, not)) =
-        subst (λ (f : WriteFault). AddsNone plan a f new) (sym is) (none_given new name transfer gives why not)
+    pub given_none : {name : List ℕ} {fault : WriteFault} {new : Shown} → GivesNoBlock plan located name m fault new → AddsNone plan a fault new
+    given_none {name} {fault} {new} (inl (memory, same)) =
+        subst (λ (f : WriteFault). AddsNone plan a f new) (sym memory) (subst (AddsNone plan a faults.NoMemory) (sym same) (none_prepared came))
+    given_none {name} {fault} {new} (inr (transfer, why, gives, is, not)) =
+        subst (λ (f : WriteFault). AddsNone plan a f new) (sym is) (none_given transfer gives why not)
 
 -- Each of the datanodes is one of them.
 each_there : (plan : BlockPlan) (old : Shown) (excluded : List DatanodeInfo) → AreApart plan old excluded plan.block.locs

@@ -1,22 +1,19 @@
 -- What is asked between two pipelines, and what comes of it.
-use Rattle.std.proofs.Common.{◌≡◌, ◌≢◌, ◌⊎◌, inl, inr, ℕ, ◌<◌, true, List, Some, refl}
+use Rattle.std.proofs.Common.{◌≡◌, ◌≢◌, ◌⊎◌, inl, inr, ℕ, List, Some, refl}
 use Rattle.std.specs.Prelude.{Result, Ok, Err}
 use Rattle.hdfs_model.specs.declared.asks.Answer.{Answer}
 use Rattle.hdfs_model.specs.declared.asks.Ask.{Ask}
-use Rattle.hdfs_model.specs.declared.asks.AskFault.{AskFault}
 use Rattle.hdfs_model.specs.declared.errors.HdfsError.{HdfsError}
 use Rattle.hdfs_model.specs.declared.errors.HdfsError.TheVariants as errors
 use Rattle.hdfs_model.specs.Causes.{CallsRose}
 use Rattle.hdfs_model.specs.Effects.{KeepsBytes}
 use Rattle.hdfs_model.specs.Namenode.{Row, IsFalse, IsRefusal}
 use Rattle.hdfs_model.specs.Picture.{Picture, SameButActive}
-use Rattle.hdfs_model.specs.Shown.{Shown, Served, SameReadPlaces}
+use Rattle.hdfs_model.specs.Repeating.{DoneOrNot, Leaves, Repeats}
+use Rattle.hdfs_model.specs.Shown.{Shown, SameReadPlaces}
 use Rattle.hdfs_model.proofs.Frames.{told_weaker}
-use Rattle.hdfs_model.proofs.Framing.{Leaves}
-use Rattle.hdfs_model.proofs.Relaying.{Repeats}
-use Rattle.hdfs_namenode.specs.Asked.{AskedOnce, ReachesAll, Through}
-use Rattle.hdfs_namenode.specs.Relaying.{DoneOrNot, TellsAsk}
-use Rattle.hdfs_namenode.proofs.Relayed.{relayed_done, relayed_once, relayed_rose, relayed_row, relayed_told_once}
+use Rattle.hdfs_namenode.specs.Relaying.{Came, TellsAsk}
+use Rattle.hdfs_namenode.proofs.Relayed.{relayed_done, relayed_rose, relayed_row}
 use Rattle.hdfs_recovery.specs.Between.{KeepsLinks}
 
 -- an ask changes no link
@@ -40,56 +37,44 @@ memory_or_other : (error : HdfsError) → (error ≡ errors.NoMemory) ⊎ (error
 memory_or_other errors.NoMemory = inl refl
 memory_or_other error = inr (λ is. absurd (cc))
 
+-- Why nothing is answered: for want of memory, or since a namenode has failed. The error stands for its last answer.
+abbrev pub Fails : Shown → Ask → HdfsError → Shown → Type 0
+Fails a ask error b = (error ≡ errors.NoMemory)
+    ⊎ ((error ≢ errors.NoMemory) × TellsAsk a b error
+    × ((p : Picture) → a.picture ≡ Some p → Repeats ask p → ((class : List ℕ) → IsRefusal p ask class → ⊥) → CallsRose a.counts b))
+
 -- One ask of a service that has all namenodes of the cluster, and what its caller has.
-module _ {C : Type 0} (shown : C → Shown) (serves : C → ℕ → Ask → Result Answer AskFault → C → Type 0)
-    (rows : (old new : C) (i : ℕ) (ask : Ask) (result : Result Answer AskFault) → serves old i ask result new
-    → Served (shown old) i ask result (shown new))
-    (active : (s : C) (p : Picture) → (shown s).picture ≡ Some p → p.active < (shown s).namenodes)
-    (ask : Ask) (old new : Through C) (reaches : ReachesAll old.proxy (shown old.cluster)) where
-  abbrev a : Shown
-  a = shown old.cluster
-
-  abbrev b : Shown
-  b = shown new.cluster
-
-  pub asked_links : (outcome : Result Answer HdfsError) → AskedOnce serves true ask old outcome new → KeepsLinks a b
-  asked_links outcome asked = leaves_links a b (relayed_once shown serves rows true ask old outcome new reaches asked).leaves
+module _ {a b : Shown} {ask : Ask} where
+  pub asked_links : {result : Result Answer HdfsError} → Came a ask result b → KeepsLinks a b
+  asked_links {result} came = leaves_links a b came.relays.leaves
 
   -- Over a told picture in which the ask may be done again: what holds of the row's effect and of none holds.
-  pub asked_told : (R : Picture → Picture → Type 0) (p : Picture) → a.picture ≡ Some p → Repeats ask p
-      → ((q : Picture) → SameButActive p q → R p q) → ((q : Picture) (answer : Answer) → Row p ask answer q → R p q)
-      → (outcome : Result Answer HdfsError) → AskedOnce serves true ask old outcome new → (q : Picture) × (b.picture ≡ Some q) × R p q
-  asked_told R p is repeats same row outcome asked =
-      let x = relayed_told_once shown serves rows true ask old outcome new p (active old.cluster p is) reaches is repeats asked in
-      let relays = relayed_once shown serves rows true ask old outcome new reaches asked in (
+  pub asked_told : {result : Result Answer HdfsError} → Came a ask result b → (R : Picture → Picture → Type 0) (p : Picture) → a.picture ≡ Some p
+      → Repeats ask p → ((q : Picture) → SameButActive p q → R p q) → ((q : Picture) (answer : Answer) → Row p ask answer q → R p q)
+      → (q : Picture) × (b.picture ≡ Some q) × R p q
+  asked_told {result} came R p is repeats same row =
+      let x = came.told p is repeats in (
         x.0,
         x.1,
-        by_done (R p x.0) ask p x.0 (same x.0) (row x.0)
-            (relayed_done (CallsRose a.counts b) p ask outcome x.0 relays.shaped x.2),
+        by_done (R p x.0) ask p x.0 (same x.0) (row x.0) (relayed_done (CallsRose a.counts b) p ask result x.0 came.relays.shaped x.2),
       )
 
   -- What is answered is by the row.
-  pub asked_row : (answer : Answer) → (IsFalse answer → ⊥) → AskedOnce serves true ask old (Ok answer) new → (p : Picture) → a.picture ≡ Some p
+  pub asked_row : {answer : Answer} → Came a ask (Ok answer) b → (IsFalse answer → ⊥) → (p : Picture) → a.picture ≡ Some p
       → Repeats ask p → (q : Picture) × (b.picture ≡ Some q) × Row p ask answer q
-  asked_row answer closed asked p is repeats =
-      let x = relayed_told_once shown serves rows true ask old (Ok answer) new p (active old.cluster p is) reaches is repeats asked in
+  asked_row {answer} came closed p is repeats =
+      let x = came.told p is repeats in
       (x.0, x.1, relayed_row (CallsRose a.counts b) p ask answer x.0 closed x.2)
 
-  -- Why nothing is: for want of memory, or since a namenode has failed. The error stands for its last answer.
-  abbrev Fails : HdfsError → Type 0
-  Fails error = (error ≡ errors.NoMemory)
-      ⊎ ((error ≢ errors.NoMemory) × TellsAsk a b error
-      × ((p : Picture) → a.picture ≡ Some p → Repeats ask p → ((class : List ℕ) → IsRefusal p ask class → ⊥) → CallsRose a.counts b))
-
-  pub asked_error : (error : HdfsError) → AskedOnce serves true ask old (Err error) new → Fails error
-  asked_error error asked = by_memory (memory_or_other error)
+  pub asked_error : {error : HdfsError} → Came a ask (Err error) b → Fails a ask error b
+  asked_error {error} came = by_memory (memory_or_other error)
     where
-      by_memory : (error ≡ errors.NoMemory) ⊎ (error ≢ errors.NoMemory) → Fails error
+      by_memory : (error ≡ errors.NoMemory) ⊎ (error ≢ errors.NoMemory) → Fails a ask error b
       by_memory (inl memory) = inl memory
       by_memory (inr other) = inr (
         other,
-        (relayed_once shown serves rows true ask old (Err error) new reaches asked).tells,
+        came.relays.tells,
         λ p is repeats none.
-            (let x = relayed_told_once shown serves rows true ask old (Err error) new p (active old.cluster p is) reaches is repeats asked in
+            (let x = came.told p is repeats in
             relayed_rose (CallsRose a.counts b) p ask error x.0 other (λ refused. none refused.0 refused.2) x.2),
       )

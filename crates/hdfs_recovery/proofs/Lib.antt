@@ -13,3 +13,4 @@ pub mod Resuming
 pub mod Stepping
 pub mod Tried
 pub mod Trying
+pub mod WrongWays

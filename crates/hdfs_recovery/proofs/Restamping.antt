@@ -1,11 +1,10 @@
 -- How a block gets another pipeline: its generation stamp, its link, and its datanodes in the block table.
-use Rattle.std.proofs.Common.{◌≡◌, ◌≢◌, inl, inr, ⊎_elim, ℕ, ◌<◌, true, List, map, Some, IsSome, refl, sym, ◌∙◌, ap, subst}
+use Rattle.std.proofs.Common.{◌≡◌, ◌≢◌, inl, inr, ⊎_elim, ℕ, ◌<◌, List, map, Some, IsSome, refl, sym, ◌∙◌, ap, subst}
 use Rattle.std.specs.Prelude.{Result, Ok, Err}
 use Rattle.hdfs_model.specs.declared.asks.Answer.{Answer}
 use Rattle.hdfs_model.specs.declared.asks.Answer.TheVariants as answers
 use Rattle.hdfs_model.specs.declared.asks.Ask.{Ask}
 use Rattle.hdfs_model.specs.declared.asks.Ask.TheVariants as asks
-use Rattle.hdfs_model.specs.declared.asks.AskFault.{AskFault}
 use Rattle.hdfs_model.specs.declared.errors.HdfsError.{HdfsError}
 use Rattle.hdfs_model.specs.declared.errors.HdfsError.TheVariants as errors
 use Rattle.hdfs_model.specs.declared.messages.Block.{Block}
@@ -16,10 +15,10 @@ use Rattle.hdfs_model.specs.declared.picture.BlockEntry.{BlockEntry}
 use Rattle.hdfs_model.specs.Effects.{NamesPipeline}
 use Rattle.hdfs_model.specs.Namenode.{Row}
 use Rattle.hdfs_model.specs.Picture.{Picture, SameButActive}
-use Rattle.hdfs_model.specs.Shown.{Shown, Served}
-use Rattle.hdfs_model.proofs.Relaying.{Repeats}
+use Rattle.hdfs_model.specs.Repeating.{Repeats}
+use Rattle.hdfs_model.specs.Shown.{Shown}
 use Rattle.hdfs_model.proofs.Repeating.{name_repeats, stamp_repeats}
-use Rattle.hdfs_namenode.specs.Asked.{AskedOnce, ReachesAll, Through}
+use Rattle.hdfs_namenode.specs.Relaying.{Came}
 use Rattle.hdfs_recovery.specs.declared.block_plan.BlockPlan.{BlockPlan}
 use Rattle.hdfs_recovery.specs.declared.block_plan.WriteFault.{WriteFault}
 use Rattle.hdfs_recovery.specs.declared.block_plan.WriteFault.TheVariants as faults
@@ -50,33 +49,23 @@ waits_stamped p plan stamp token known w = record {
 }
 
 -- The namenodes were asked for a greater generation stamp.
-module _ {C : Type 0} (shown : C → Shown) (serves : C → ℕ → Ask → Result Answer AskFault → C → Type 0)
-    (rows : (old new : C) (i : ℕ) (ask : Ask) (result : Result Answer AskFault) → serves old i ask result new
-    → Served (shown old) i ask result (shown new))
-    (active : (s : C) (p : Picture) → (shown s).picture ≡ Some p → p.active < (shown s).namenodes)
-    (plan : BlockPlan) (client : List ℕ) (old new : Through C) (reaches : ReachesAll old.proxy (shown old.cluster)) where
-  abbrev Stamping : Ask
-  Stamping = asks.UpdateBlockForPipeline plan.block.b client
+abbrev pub stamping : BlockPlan → List ℕ → Ask
+stamping plan client = asks.UpdateBlockForPipeline plan.block.b client
 
-  abbrev a : Shown
-  a = shown old.cluster
+stamp_row : (plan : BlockPlan) (client : List ℕ) (p q : Picture) (answer : Answer) → Row p (stamping plan client) answer q → SameButActive p q
+stamp_row plan client p q (answers.UpdateBlockForPipeline located) row = row.1
+stamp_row plan client p q answer row = absurd row
 
-  abbrev b : Shown
-  b = shown new.cluster
+-- it may be asked for again
+stamp_again : (plan : BlockPlan) (client : List ℕ) (p : Picture) (entry : BlockEntry) → p.table plan.block.b.block_id ≡ Some entry
+    → Repeats (stamping plan client) p
+stamp_again plan client p entry listed = stamp_repeats plan.block.b client p (is_some p plan.block.b.block_id entry listed)
 
-  stamp_row : (p q : Picture) (answer : Answer) → Row p Stamping answer q → SameButActive p q
-  stamp_row p q (answers.UpdateBlockForPipeline located) row = row.1
-  stamp_row p q answer row = absurd row
-
-  -- it may be asked for again
-  stamp_again : (p : Picture) (entry : BlockEntry) → p.table plan.block.b.block_id ≡ Some entry → Repeats Stamping p
-  stamp_again p entry listed = stamp_repeats plan.block.b client p (is_some p plan.block.b.block_id entry listed)
-
-  stamp_waits : (plan' : BlockPlan) → ((q : Picture) (known : Known) → Waits q plan known → Waits q plan' known)
-      → (outcome : Result Answer HdfsError) → AskedOnce serves true Stamping old outcome new → WaitsOn plan a plan' b
-  stamp_waits plan' waits outcome asked p known is w =
-      let x = asked_told shown serves rows active Stamping old new reaches SameButActive p is
-      (stamp_again p w.block.lists.entry w.block.lists.is) (λ q same. same) (stamp_row p) outcome asked in (
+module _ (plan : BlockPlan) {client : List ℕ} {a b : Shown} where
+  stamp_waits : {result : Result Answer HdfsError} (plan' : BlockPlan) → ((q : Picture) (known : Known) → Waits q plan known → Waits q plan' known)
+      → Came a (stamping plan client) result b → WaitsOn plan a plan' b
+  stamp_waits plan' waits came p known is w =
+      let x = asked_told came SameButActive p is (stamp_again plan client p w.block.lists.entry w.block.lists.is) (λ q same. same) (stamp_row plan client p) in (
         x.0,
         x.1,
         waits x.0 known (waits_same p x.0 plan known x.2 w),
@@ -85,35 +74,33 @@ module _ {C : Type 0} (shown : C → Shown) (serves : C → ℕ → Ask → Resu
       )
 
   -- a stamp that was answered is greater than that of the block table
-  stamp_newer : (located : LocatedBlock) → AskedOnce serves true Stamping old (Ok (answers.UpdateBlockForPipeline located)) new
+  stamp_newer : (located : LocatedBlock) → Came a (stamping plan client) (Ok (answers.UpdateBlockForPipeline located)) b
       → (p : Picture) (entry : BlockEntry) → a.picture ≡ Some p → p.table plan.block.b.block_id ≡ Some entry
       → entry.stamp < located.b.generation_stamp
-  stamp_newer located asked p entry is listed =
-      let row = (asked_row shown serves rows active Stamping old new reaches (answers.UpdateBlockForPipeline located) (λ no. absurd (cc)) asked p is
-      (stamp_again p entry listed)).2.0 in
+  stamp_newer located came p entry is listed =
+      let row = (asked_row came (λ no. absurd (cc)) p is (stamp_again plan client p entry listed)).2.0 in
       let same : row.entry ≡ entry = some_same row.entry entry (sym row.is ∙ listed) in
       subst (λ (e : BlockEntry). e.stamp < located.b.generation_stamp) same row.greater
     where
       some_same : (x y : BlockEntry) → Some x ≡ Some y → x ≡ y
       some_same x y is = cc
 
-  pub restamped : (located : LocatedBlock) (plan' : BlockPlan) → plan' ≡ with_stamp plan located.b.generation_stamp located.block_token
-      → AskedOnce serves true Stamping old (Ok (answers.UpdateBlockForPipeline located)) new → Restamps plan a plan' b
-  restamped located plan' is asked =
+  pub restamped : {located : LocatedBlock} {plan' : BlockPlan} → plan' ≡ with_stamp plan located.b.generation_stamp located.block_token
+      → Came a (stamping plan client) (Ok (answers.UpdateBlockForPipeline located)) b → Restamps plan a plan' b
+  restamped {located} {plan'} is came =
       let stamp = located.b.generation_stamp in
       let token = located.block_token in record {
         stamp = stamp;
         token = token;
         is = is;
-        newer = stamp_newer located asked;
+        newer = stamp_newer located came;
         waits =
             subst (λ (x : BlockPlan). WaitsOn plan a x b) (sym is)
-            (stamp_waits (with_stamp plan stamp token) (λ q known. waits_stamped q plan stamp token known)
-            (Ok (answers.UpdateBlockForPipeline located)) asked);
+            (stamp_waits (with_stamp plan stamp token) (λ q known. waits_stamped q plan stamp token known) came);
       }
 
-  restamped_none : (error : HdfsError) → AskedOnce serves true Stamping old (Err error) new → RestampsNot plan a (fault_of_ask error) b
-  restamped_none error asked = record {
+  restamped_none : (error : HdfsError) → Came a (stamping plan client) (Err error) b → RestampsNot plan a (fault_of_ask error) b
+  restamped_none error came = record {
     cause = ⊎_elim
         (λ memory. inl (fault_of_none error memory))
         (λ other. inr (
@@ -121,61 +108,52 @@ module _ {C : Type 0} (shown : C → Shown) (serves : C → ℕ → Ask → Resu
           fault_of_other error other.0,
           other.0,
           other.1,
-          λ p known is w. other.2 p is (stamp_again p w.block.lists.entry w.block.lists.is) (λ class refused. refused),
+          λ p known is w. other.2 p is (stamp_again plan client p w.block.lists.entry w.block.lists.is) (λ class refused. refused),
         ))
-        (asked_error shown serves rows active Stamping old new reaches error asked);
-    waits = stamp_waits plan (λ q known w. w) (Err error) asked;
+        (asked_error came);
+    waits = stamp_waits plan (λ q known w. w) came;
   }
 
-  pub restamped_not : (error : HdfsError) (fault : WriteFault) → fault ≡ fault_of_ask error → AskedOnce serves true Stamping old (Err error) new
-      → RestampsNot plan a fault b
-  restamped_not error fault is asked = subst (λ (f : WriteFault). RestampsNot plan a f b) (sym is) (restamped_none error asked)
+  pub restamped_not : {error : HdfsError} {fault : WriteFault} → fault ≡ fault_of_ask error → Came a (stamping plan client) (Err error) b → RestampsNot plan a fault b
+  restamped_not {error} is came = subst (λ (f : WriteFault). RestampsNot plan a f b) (sym is) (restamped_none error came)
 
 -- The namenodes were asked to name the datanodes of a pipeline.
-module _ {C : Type 0} (shown : C → Shown) (serves : C → ℕ → Ask → Result Answer AskFault → C → Type 0)
-    (rows : (old new : C) (i : ℕ) (ask : Ask) (result : Result Answer AskFault) → serves old i ask result new
-    → Served (shown old) i ask result (shown new))
-    (active : (s : C) (p : Picture) → (shown s).picture ≡ Some p → p.active < (shown s).namenodes)
-    (block : Block) (plan : BlockPlan) (client : List ℕ) (nodes : List DatanodeId) (ids : List (List ℕ))
-    (same : block.block_id ≡ plan.block.b.block_id) (are : nodes ≡ map (λ node. node.id) plan.block.locs) (old new : Through C)
-    (reaches : ReachesAll old.proxy (shown old.cluster)) where
-  abbrev Naming : Ask
-  Naming = asks.UpdatePipeline client block plan.block.b nodes ids
+abbrev pub naming : Block → BlockPlan → List ℕ → List DatanodeId → List (List ℕ) → Ask
+naming block plan client nodes ids = asks.UpdatePipeline client block plan.block.b nodes ids
 
-  abbrev before : Shown
-  before = shown old.cluster
-
-  abbrev after : Shown
-  after = shown new.cluster
-
+module _ (block : Block) (plan : BlockPlan) (client : List ℕ) (nodes : List DatanodeId) (ids : List (List ℕ)) where
   -- the datanodes that are named are those of the plan
-  of_plan : (p q : Picture) → NamesPipeline block plan.block.b nodes p q
+  of_plan : nodes ≡ map (λ node. node.id) plan.block.locs → (p q : Picture) → NamesPipeline block plan.block.b nodes p q
       → NamesPipeline block plan.block.b (map (λ node. node.id) plan.block.locs) p q
-  of_plan p q row = subst (λ (n : List DatanodeId). NamesPipeline block plan.block.b n p q) are row
+  of_plan are p q row = subst (λ (n : List DatanodeId). NamesPipeline block plan.block.b n p q) are row
 
   -- it may be named again
-  name_again : (p : Picture) (entry : BlockEntry) → p.table block.block_id ≡ Some entry → Repeats Naming p
-  name_again p entry listed =
+  name_again : block.block_id ≡ plan.block.b.block_id → (p : Picture) (entry : BlockEntry) → p.table block.block_id ≡ Some entry
+      → Repeats (naming block plan client nodes ids) p
+  name_again same p entry listed =
       name_repeats client block plan.block.b nodes ids p same (is_some p block.block_id entry listed)
 
-  name_row : (p q : Picture) (answer : Answer) → Row p Naming answer q → MayBeNamed block plan p q
-  name_row p q answers.UpdatePipeline row = inr (of_plan p q row)
-  name_row p q answer row = absurd row
+  name_row : nodes ≡ map (λ node. node.id) plan.block.locs → (p q : Picture) (answer : Answer) → Row p (naming block plan client nodes ids) answer q
+      → MayBeNamed block plan p q
+  name_row are p q answers.UpdatePipeline row = inr (of_plan are p q row)
+  name_row are p q answer row = absurd row
 
-  may_be_named : (outcome : Result Answer HdfsError) → AskedOnce serves true Naming old outcome new → NamesSo (MayBeNamed block plan) block before after
-  may_be_named outcome asked p entry is listed =
-      asked_told shown serves rows active Naming old new reaches (MayBeNamed block plan) p is (name_again p entry listed) (λ q stays. inl stays)
-      (name_row p) outcome asked
+module _ {block : Block} (plan : BlockPlan) {client : List ℕ} {nodes : List DatanodeId} {ids : List (List ℕ)} {before after : Shown}
+    (same : block.block_id ≡ plan.block.b.block_id) (are : nodes ≡ map (λ node. node.id) plan.block.locs) where
+  may_be_named : {result : Result Answer HdfsError} → Came before (naming block plan client nodes ids) result after → NamesSo (MayBeNamed block plan) block before after
+  may_be_named came p entry is listed =
+      asked_told came (MayBeNamed block plan) p is (name_again block plan client nodes ids same p entry listed) (λ q stays. inl stays)
+      (name_row block plan client nodes ids are p)
 
-  pub named : AskedOnce serves true Naming old (Ok answers.UpdatePipeline) new
+  pub named : Came before (naming block plan client nodes ids) (Ok answers.UpdatePipeline) after
       → NamesSo (NamesPipeline block plan.block.b (map (λ node. node.id) plan.block.locs)) block before after
-  named asked p entry is listed =
-      let x = asked_row shown serves rows active Naming old new reaches answers.UpdatePipeline (λ no. absurd (cc)) asked p is (name_again p entry listed) in
-      (x.0, x.1, of_plan p x.0 x.2)
+  named came p entry is listed =
+      let x = asked_row came (λ no. absurd (cc)) p is (name_again block plan client nodes ids same p entry listed) in
+      (x.0, x.1, of_plan block plan client nodes ids are p x.0 x.2)
 
-  named_none : (error : HdfsError) → AskedOnce serves true Naming old (Err error) new → NamesNot block plan before (fault_of_ask error) after
-  named_none error asked = record {
-    may = may_be_named (Err error) asked;
+  named_none : (error : HdfsError) → Came before (naming block plan client nodes ids) (Err error) after → NamesNot block plan before (fault_of_ask error) after
+  named_none error came = record {
+    may = may_be_named came;
     cause = ⊎_elim
         (λ memory. inl (fault_of_none error memory))
         (λ other. inr (
@@ -183,11 +161,10 @@ module _ {C : Type 0} (shown : C → Shown) (serves : C → ℕ → Ask → Resu
           fault_of_other error other.0,
           other.0,
           other.1,
-          λ p entry is listed. other.2 p is (name_again p entry listed) (λ class refused. refused),
+          λ p entry is listed. other.2 p is (name_again block plan client nodes ids same p entry listed) (λ class refused. refused),
         ))
-        (asked_error shown serves rows active Naming old new reaches error asked);
+        (asked_error came);
   }
 
-  pub named_not : (error : HdfsError) (fault : WriteFault) → fault ≡ fault_of_ask error → AskedOnce serves true Naming old (Err error) new
-      → NamesNot block plan before fault after
-  named_not error fault is asked = subst (λ (f : WriteFault). NamesNot block plan before f after) (sym is) (named_none error asked)
+  pub named_not : {error : HdfsError} {fault : WriteFault} → fault ≡ fault_of_ask error → Came before (naming block plan client nodes ids) (Err error) after → NamesNot block plan before fault after
+  named_not {error} is came = subst (λ (f : WriteFault). NamesNot block plan before f after) (sym is) (named_none error came)

@@ -3,16 +3,16 @@ use Rattle.std.proofs.Common.{◌≡◌, inl, inr, ⊎_elim, ℕ, ◌==◌, List
 use Rattle.std.proofs.lemmas.Bool.{cond-false, ne_eqb}
 use Rattle.std.specs.List.{Contains}
 use Rattle.hdfs_model.specs.declared.errors.HdfsError.{HdfsError}
-use Rattle.hdfs_model.specs.declared.errors.HdfsError.TheVariants as errors
-use Rattle.hdfs_model.specs.declared.errors.IoFault.TheVariants as io_faults
 use Rattle.hdfs_model.specs.declared.messages.Block.{Block}
 use Rattle.hdfs_model.specs.declared.messages.DatanodeId.{DatanodeId}
 use Rattle.hdfs_model.specs.declared.picture.BlockEntry.{BlockEntry}
 use Rattle.hdfs_model.specs.Causes.{CallsRose}
 use Rattle.hdfs_model.specs.Effects.{IsBeingWritten, NamesPipeline, names_of}
+use Rattle.hdfs_model.specs.Failures.{ANamenode}
 use Rattle.hdfs_model.specs.Picture.{Picture, SameButActive}
 use Rattle.hdfs_model.specs.Shown.{Shown, Later}
 use Rattle.hdfs_model.specs.Writing.{OnlyBlock}
+use Rattle.hdfs_model.proofs.Failures.{failed_on, failed_since, means_on, means_since}
 use Rattle.hdfs_model.proofs.Frames.{rose_since, later_refl, later_trans, same_reads_refl, same_reads_trans}
 use Rattle.hdfs_model.specs.Sending.{uuids}
 use Rattle.hdfs_blocks.proofs.Rebuilding.{waits_stays}
@@ -86,28 +86,13 @@ only_block_of-named id block block' nodes p q same named = record {
   writes = λ link place at apart. named.changes.bytes.writes link ∙ at;
 }
 
--- What has failed between two moments has failed from an earlier one to a later one.
+-- A namenode that has failed between two moments has failed from an earlier one to a later one.
 pub calls_rose_since : (a b c d : Shown) → Later a b → Later c d → CallsRose b.counts c → CallsRose a.counts d
-calls_rose_since a b c d first then rose = (
-  rose.0,
-  omega (arith, rose.1, then.namenodes),
-  rose_since (a.counts.calls rose.0) (b.counts.calls rose.0) (c.counts.calls rose.0) (d.counts.calls rose.0) (first.counts.calls rose.0) rose.2
-      (then.counts.calls rose.0),
-)
+calls_rose_since a b c d first then rose = failed_on a c d ANamenode then (failed_since a b c ANamenode first.counts rose)
 
 -- An error tells as much of more calls, where the last ask is the same.
 pub tells_since : (a b c d : Shown) (error : HdfsError) → Later a b → Later c d → d.last ≡ c.last → TellsAsk b c error → TellsAsk a d error
-tells_since a b c d errors.NoMemory first then same tells = tt
-tells_since a b c d (errors.IOError (io_faults.Namenode last)) first then same tells = (
-  same ∙ tells.0,
-  omega (arith, tells.1, then.namenodes),
-  omega (arith, first.counts.calls last, tells.2, then.counts.calls last),
-)
-tells_since a b c d (errors.AlreadyExists message) first then same tells = (tells.0, tells.1, same ∙ tells.2)
-tells_since a b c d (errors.RPCError class message) first then same tells = (tells.0, same ∙ tells.1)
-tells_since a b c d (errors.InvalidRPCResponse fault) first then same tells = (same ∙ tells.0, calls_rose_since a b c d first then tells.1)
-tells_since a b c d (errors.FatalRPCError class message) first then same tells = (same ∙ tells.0, calls_rose_since a b c d first then tells.1)
-tells_since a b c d error first then same tells = absurd tells
+tells_since a b c d error first then same tells = (tells.0, means_on a c d error then same (means_since a b c error first.counts tells.1))
 
 -- The block is written still where names stay.
 pub written_still : (p q : Picture) (path : List ℕ) (block block' : Block) → ((at : List ℕ) → q.names at ≡ p.names at)

@@ -7,15 +7,13 @@ use Rattle.hdfs_model.specs.declared.commands.Command.{Command}
 use Rattle.hdfs_model.specs.declared.commands.Reply.{Reply}
 use Rattle.hdfs_model.specs.declared.errors.Fault.{Fault}
 use Rattle.hdfs_model.specs.Anywhere.{AreReplies, IsReply, Runs}
-use Rattle.hdfs_model.specs.Headline.{IsStart}
 use Rattle.hdfs_model.specs.Shown.{Shown, Later, SameReads}
 use Rattle.hdfs_model.proofs.Frames.{later_refl, later_trans, same_reads_refl, same_reads_trans}
+use Rattle.hdfs_model.proofs.Failures.{tells_on, tells_since}
 use Rattle.hdfs_client.specs.Acting.{Acts}
 use Rattle.hdfs_client.specs.Session.{HasLink}
 use Rattle.hdfs_client.specs.declared.session.Session.{Session}
-use Rattle.hdfs_client.proofs.Onward.{tells_on}
 use Rattle.hdfs_session.proofs.Owning.{OwnLinks, own_end, own_next}
-use Rattle.hdfs_client.proofs.Since.{tells_since}
 
 -- one more command has its reply
 are_replies_push : (commands : List Command) (replies : List Reply) (command : Command) (reply : Reply) → AreReplies commands replies → IsReply command reply → AreReplies (commands ++ command ∷ []) (replies ++ reply ∷ [])
@@ -32,14 +30,13 @@ replies_next commands n replies command reply below here all one =
     subst (λ (l : List Command). AreReplies l (replies ++ reply ∷ [])) (sym more) (are_replies_push (take n commands) replies command reply all one)
 
 -- no command was run
-pub runs_start : (commands : List Command) (start : Shown) (fault : Fault) → fault.at ≡ 0 → fault.done ≡ [] → IsStart fault.error → Runs commands start start (Err fault)
-runs_start commands start fault at none is = record {
+pub runs_start : (commands : List Command) (start : Shown) (fault : Fault) → fault.at ≡ 0 → fault.done ≡ [] → Runs commands start start (Err fault)
+runs_start commands start fault at none = record {
   later = later_refl start;
   reads = same_reads_refl start;
   writes = λ link. refl;
   replies = tt;
   done = subst (λ (rs : List Reply). AreReplies (take (fault.at - 1) commands) rs) (sym none) (subst (λ (n : ℕ). AreReplies (take (n - 1) commands) []) (sym at) tt);
-  start = λ begun. is;
   tells = λ some. absurd (some at);
 }
 
@@ -55,7 +52,6 @@ runs_failed commands start now new final session session' n command fault below 
   writes = own_end start new final session' session' (own_next start now new session session' own acts.links) others none;
   replies = tt;
   done = subst (λ (i : ℕ). AreReplies (take i commands) fault.done) (omega (arith, at)) replied;
-  start = λ begun. absurd (omega (arith, at, begun));
   tells = λ some. (
     command,
     ap (slice_get commands) (omega (arith, at)) ∙ slice_get_read commands (length commands) n command refl below here,

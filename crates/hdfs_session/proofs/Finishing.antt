@@ -8,7 +8,7 @@ use Rattle.hdfs_model.specs.declared.errors.Fault.{Fault}
 use Rattle.hdfs_model.specs.declared.errors.HdfsError.TheVariants as errors
 use Rattle.hdfs_model.specs.Files.{State}
 use Rattle.hdfs_model.specs.Folds.{Folded, Ends, Stops, fold, and_then, behind}
-use Rattle.hdfs_model.specs.Headline.{IsStart, Stopped}
+use Rattle.hdfs_model.specs.Headline.{Stopped}
 use Rattle.hdfs_model.specs.Sessions.{Answers, Complete, Fits, IsLimited, AreLimited}
 use Rattle.hdfs_model.specs.Shown.{Shown}
 use Rattle.hdfs_model.specs.Steps.{World, Outcome, Refused, Done, step}
@@ -92,7 +92,7 @@ is_limited_at w s (first ∷ rest) (suc n) command replies last below here is li
     is_limited_at w f.1 rest n command f.3.0 last (omega (arith, below)) here f.3.1 (limited.1 f.0 f.1 f.2)
 
 -- a session that was stopped before its first command
-pub stopped_start : (w : World) (state : State) (commands : List Command) (start : Shown) (fault : Fault) → fault.at ≡ 0 → fault.done ≡ [] → IsStart fault.error → Fits start state
+pub stopped_start : (w : World) (state : State) (commands : List Command) (start : Shown) (fault : Fault) → fault.at ≡ 0 → fault.done ≡ [] → fault.error ≡ errors.NoMemory → Fits start state
     → Stopped w state commands start start fault
 stopped_start w state commands start fault at none is fits = record {
   last = state;

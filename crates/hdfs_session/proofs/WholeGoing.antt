@@ -23,11 +23,11 @@ use Rattle.hdfs_model.specs.Shown.{Shown, SameReads, SameReadPlaces}
 use Rattle.hdfs_model.specs.Sound.{IsFileAt}
 use Rattle.hdfs_model.specs.Steps.{World, target_of}
 use Rattle.hdfs_model.proofs.Frames.{told_before}
-use Rattle.hdfs_files.specs.WholeBlocks.{IsWhole, AllBehind}
+use Rattle.hdfs_model.specs.Stored.{IsWhole, AllBehind, Creates, HasAdded, IsWellDone, AreWellDone, LeavesWhole}
 use Rattle.hdfs_files.specs.declared.file_writer.FileWriter.{FileWriter}
 use Rattle.hdfs_client.specs.Acting.{Acts, world_at}
 use Rattle.hdfs_client.specs.Session.{Carried, CarriesOpen, LeavesFiles, writer_of}
-use Rattle.hdfs_client.specs.Whole.{Creates, HasAdded, IsWellDone, AreWellDone, AreWhole, AreFilled, LeavesWhole, KeepsWhole, KeepsBlocksWhole}
+use Rattle.hdfs_client.specs.Whole.{AreWhole, AreFilled, KeepsWhole, KeepsBlocksWhole}
 use Rattle.hdfs_client.specs.declared.session.Session.{Session}
 use Rattle.hdfs_client.proofs.Agreeing.{is_told}
 use Rattle.hdfs_session.proofs.Going.{GoneOn, is_ready, open_carried}

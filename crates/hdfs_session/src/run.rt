@@ -1,11 +1,10 @@
 //! A session from its first command to its last.
-ghost use Rattle.std.specs.Prelude.{◌≡◌, ◌<◌, true, false};
+ghost use Rattle.std.specs.Prelude.{◌≡◌, ◌<◌, true, false, IfErr};
 ghost use Rattle.hdfs_model.specs.Anywhere.{Runs};
-ghost use Rattle.hdfs_model.specs.Headline.{WhereReady, Ran};
+ghost use Rattle.hdfs_model.specs.Headline.{LeavesWhole, WhereReady, Ran};
 ghost use Rattle.hdfs_model.specs.Sessions.{world_of, none_open};
 ghost use Rattle.hdfs_model.specs.Limits.{are_settings};
-ghost use Rattle.hdfs_client.specs.Session.{StopsAtOnce};
-ghost use Rattle.hdfs_client.specs.Whole.{LeavesWhole};
+ghost use Rattle.hdfs_client.specs.Session.{IsNotBegun, StopsAtOnce};
 
 use hdfs_client::Session;
 use hdfs_model::{Cluster, Command, Fault, HdfsError, Reply, Settings};
@@ -23,6 +22,7 @@ pub fn run_session<C: Cluster>(
 ) -> Result<Vec<Reply>, Fault>
     requires namenode { 0 < (C.shown cluster.old).namenodes }
     ensures settings { are_settings settings.now ≡ false → StopsAtOnce settings.now result × (cluster.new ≡ cluster.old) }
+    ensures start { IfErr result (λ fault. fault.at ≡ 0 → IsNotBegun settings.now fault.error) }
     ensures anywhere { Runs commands.now (C.shown cluster.old) (C.shown cluster.new) result }
     ensures ran { are_settings settings.now ≡ true → let old = C.shown cluster.old in
         let world = world_of settings.now old in

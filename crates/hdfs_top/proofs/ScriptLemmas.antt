@@ -15,6 +15,7 @@ use Rattle.hdfs_model.specs.Sessions.{Fits, AreLimited, world_with}
 use Rattle.hdfs_model.specs.Shown.{Shown, Later}
 use Rattle.hdfs_model.specs.Steps.{World}
 use Rattle.hdfs_model.proofs.Frames.{told_refl, same_picture_refl, never_fall_trans, never_fall_from-SameCounts, same_counts_trans}
+use Rattle.hdfs_model.proofs.Failures.{tells_since}
 use Rattle.hdfs_script.specs.declared.entry.Parsed.{Parsed}
 use Rattle.hdfs_script.specs.Parsing.{Parses, plain_lines}
 use Rattle.hdfs_script.specs.Scripts.{Script, script, begins, ends_bad, entries_in, first_bad, first_place, line_entries, script_limit, session_settings, unless_bad}
@@ -25,7 +26,7 @@ use Rattle.hdfs_streams.proofs.PrintLemmas.{wrote_none}
 use Rattle.hdfs_top.specs.declared.note.Note.{Note}
 use Rattle.hdfs_top.specs.Top.{IsSession, Outside, outside, IsKnown, Loaded, Finishes, Halts, NotesFault, RefusedScript, StatusOf, ScriptDecides, world_over}
 use Rattle.hdfs_top.specs.Inside.{RanSession, Gave, IsKnownStore, LoadsScript, RefusesScript, PrintsWhole, Concludes, ToEnd, ToFault, NotesStop, RanCommands, stage, world_ready}
-use Rattle.hdfs_client.proofs.Since.{cause_since, tells_since}
+use Rattle.hdfs_client.proofs.Since.{cause_since}
 use Rattle.hdfs_top.proofs.LoadLemmas.{closed_lines}
 use Rattle.hdfs_top.proofs.ReadyLemmas.{readies_counts, readies_defaults, readies_fits, readies_lines, readies_settings, readies_some}
 use Rattle.hdfs_top.proofs.SessionLemmas.{whole_at_2}

@@ -30,7 +30,7 @@ returns-in_err-out-clause-err g c =
     let s = g.C.Cluster.shown c.args.cluster.now in
     let s' = g.C.Cluster.shown c.find_range.new.cluster in
     let h = c.in_ok-found.ensures in
-    rw (p.1, p.2) (λ w state meets knows. (tt, agrees_looked w s s' state c.args.name.now c.args.path.now c.args.offset c.args.len meets h.files))
+    rw (p.1, p.2) (λ w state meets knows. ((tt, tt), agrees_looked w s s' state c.args.name.now c.args.path.now c.args.offset c.args.len meets h.files))
 
 pub returns-in_err-read_blocks-clause-err : goal.returns-in_err-read_blocks-clause-err
 returns-in_err-read_blocks-clause-err g c =

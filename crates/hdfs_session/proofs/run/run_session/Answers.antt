@@ -98,6 +98,9 @@ returns-in-Err-apply-clause-anywhere g c =
     kept.0 kept.1 kept.2 c.abandon.ensures.others c.abandon.ensures.none at
     (subst (AreReplies (take c.loop-command.command-index c.args.commands.now)) (sym f.ensures.done) before.replied)
 
+pub returns-in-Err-apply-clause-start : goal.returns-in-Err-apply-clause-start
+returns-in-Err-apply-clause-start g c = λ begun. absurd (omega (arith, begun, c.fault_at-in-Err-apply.ensures.at, c.len.ensures))
+
 pub returns-in-Err-apply-clause-ran : goal.returns-in-Err-apply-clause-ran
 returns-in-Err-apply-clause-ran g c = λ good state ready.
     let s = g.C.Cluster.shown c.args.cluster.now in
@@ -148,7 +151,6 @@ returns-clause-anywhere g c =
       writes = own_end s t v session session before.own c.abandon-2.ensures.others c.abandon-2.ensures.none;
       replies = subst (λ cs. AreReplies cs c.loop-command.replies.items) (take_all c.loop-command.command-index c.args.commands.now c.loop-command-test.false) before.replied;
       done = tt;
-      start = tt;
       tells = tt;
     }
 

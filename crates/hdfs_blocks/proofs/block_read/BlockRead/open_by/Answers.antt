@@ -43,22 +43,22 @@ pub returns-in-Ok-clause-cached : goal.returns-in-Ok-clause-cached
 returns-in-Ok-clause-cached g c =
     let address : c.as_str.result.now ≡ address_of_node c.args.ask.now.node = cc (c.as_str.ensures.value, c.in_ok-address.ensures) in
     keeps_others c.args.self.now (record c.args.self.now { link = Some c.in-Ok.link; position = None }) c.args.cache.now c.connect.new.cache c.args.self.now.given_up c.args.ask.now.node c.as_str.result.now refl
-    (omega arith) c.requires.listed address c.in-Ok.ensures.others
+    (omega arith) c.requires.asked.listed address c.in-Ok.ensures.others
 
 pub returns-in-Err-NoMemory-clause-cached : goal.returns-in-Err-NoMemory-clause-cached
 returns-in-Err-NoMemory-clause-cached g c =
     let address : c.as_str.result.now ≡ address_of_node c.args.ask.now.node = cc (c.as_str.ensures.value, c.in_ok-address.ensures) in
     keeps_others c.args.self.now c.args.self.now c.args.cache.now c.connect.new.cache c.args.self.now.given_up c.args.ask.now.node c.as_str.result.now refl
-    (omega arith) c.requires.listed address c.in-Err-NoMemory.ensures.others
+    (omega arith) c.requires.asked.listed address c.in-Err-NoMemory.ensures.others
 
 pub returns-in_err-lose-in-Err-clause-cached : goal.returns-in_err-lose-in-Err-clause-cached
 returns-in_err-lose-in-Err-clause-cached g c =
     let address : c.as_str.result.now ≡ address_of_node c.args.ask.now.node = cc (c.as_str.ensures.value, c.in_ok-address.ensures) in
     keeps_others c.args.self.now c.lose.new.self c.args.cache.now c.connect.new.cache c.args.self.now.given_up c.args.ask.now.node c.as_str.result.now refl
-    (tried_grows (g.C.Cluster.shown c.args.cluster.now) (g.C.Cluster.shown c.lose.new.cluster) c.args.self.now c.lose.new.self (returns-in_err-lose-in-Err-clause-goes g c).locations) c.requires.listed address c.in-Err.ensures.others
+    (tried_grows (g.C.Cluster.shown c.args.cluster.now) (g.C.Cluster.shown c.lose.new.cluster) c.args.self.now c.lose.new.self (returns-in_err-lose-in-Err-clause-goes g c).locations) c.requires.asked.listed address c.in-Err.ensures.others
 
 pub returns-clause-cached : goal.returns-clause-cached
 returns-clause-cached g c =
     let address : c.as_str.result.now ≡ address_of_node c.args.ask.now.node = cc (c.as_str.ensures.value, c.in_ok-address.ensures) in
     keeps_others c.args.self.now c.lose.new.self c.args.cache.now c.connect.new.cache c.args.self.now.given_up c.args.ask.now.node c.as_str.result.now refl
-    (tried_grows (g.C.Cluster.shown c.args.cluster.now) (g.C.Cluster.shown c.lose.new.cluster) c.args.self.now c.lose.new.self (returns-clause-goes g c).locations) c.requires.listed address c.in-Err.ensures.others
+    (tried_grows (g.C.Cluster.shown c.args.cluster.now) (g.C.Cluster.shown c.lose.new.cluster) c.args.self.now c.lose.new.self (returns-clause-goes g c).locations) c.requires.asked.listed address c.in-Err.ensures.others

@@ -5,7 +5,7 @@ use Rattle.hdfs_model.specs.declared.commands.Command.TheVariants as commands
 use Rattle.hdfs_model.specs.declared.errors.ArgFault.TheVariants as args
 use Rattle.hdfs_model.specs.declared.errors.HdfsError.TheVariants as errors
 use Rattle.hdfs_model.specs.Paths.{is_path}
-use Rattle.hdfs_model.specs.Sessions.{is_misplaced}
+use Rattle.hdfs_model.specs.Owing.{is_misplaced}
 use Rattle.hdfs_client.specs.Acting.{world_at}
 use Rattle.hdfs_client.specs.Session.{opened_of}
 use Rattle.hdfs_client.proofs.Early.{fact_true, owed_result, state_acts, target_acts}
