@@ -65,7 +65,7 @@ pub asks_no_send : (m m' : MemCluster) (link : ℕ) (o : Option OpenWrite) (resu
 asks_no_send m m' link None result rest same uncounted good = tt
 asks_no_send m m' link (Some write) result rest same uncounted good = calls_nothing m m' calls.Send (first_of write) (is_counted result) (is_broken result) rest same uncounted good
 
-never_memory : (kind : Option LinkKind) → planned_failure kind ≡ Some link_faults.NoMemory → ⊥
+pub never_memory : (kind : Option LinkKind) → planned_failure kind ≡ Some link_faults.NoMemory → ⊥
 never_memory None is = cc
 never_memory (Some kinds.Broken) is = cc
 never_memory (Some kinds.Refused) is = cc
@@ -159,12 +159,6 @@ asks_forgotten m m' mid link rest forgets same vacant =
     (λ l shown. same.links.bad l ∙ still_bad (is_bad m.faults l) (eqb link l) (is_bad mid l) (forgets.left l)
     (other_link link l (λ equal. false≢true (sym (ap is_some (ap (λ (k : ℕ). write_told (slab.get m.links k)) equal ∙ vacant)) ∙ shown))))
     (same.links.faults ∙ forgets.faults) (λ d. same.nodes d ∙ forgets.nodes d)
-
--- a failure that is planned is counted
-pub counted_failure : (kind : Option LinkKind) (fault : LinkFault) → planned_failure kind ≡ Some fault → is_counted {X = ℕ} (Err fault) ≡ true
-counted_failure kind link_faults.NoMemory is = absurd (never_memory kind is)
-counted_failure kind link_faults.Broken is = refl
-counted_failure kind link_faults.Refused is = refl
 
 -- among the first so many datanodes is the last of them
 times_some : (d : List ℕ) (uuids : List (List ℕ)) (i : ℕ) → i < length uuids → get_or uuids i [] ≡ d → 1 ≤ times d (take (suc i) uuids)

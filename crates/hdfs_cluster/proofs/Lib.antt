@@ -19,6 +19,7 @@ pub mod Places
 pub mod Placing
 pub mod Puts
 pub mod Serving
+pub mod SettingUp
 pub mod ShortCuts
 pub mod ShortLines
 pub mod Slices

@@ -7,6 +7,7 @@ pub mod Lines
 pub mod Links
 pub mod MemShown
 pub mod Responding
+pub mod SettingUp
 pub mod Shortening
 pub mod Slices
 pub mod Starting

@@ -5,29 +5,19 @@ ghost use Rattle.hdfs_model.specs.Pipes.{IsSetup, WriteOpened, WriteNotOpened, F
 ghost use Rattle.hdfs_model.specs.Shown.{Opened, NotOpened, Given, NotGiven, Ended};
 ghost use Rattle.hdfs_model.specs.Transferring.{IsTransfer, Transferred, NotTransferred};
 ghost use Rattle.hdfs_model.specs.declared.asks.LinkFault.TheVariants as link_faults;
-ghost use Rattle.hdfs_cluster.specs.Failures.{planned_failure, planned_transfer_failure};
+ghost use Rattle.hdfs_cluster.specs.Failures.{planned_transfer_failure};
 
+use crate::known::Known;
 use crate::mem_cluster::MemCluster;
 use crate::mem_link::MemLink;
 use crate::planned_asks::{answer, failures_after};
 use crate::read_link::MemRead;
+use crate::set_up::enter;
 use crate::write_link::MemWrite;
 use hdfs_model::{
     Answer, Ask, AskFault, Cluster, LastAnswer, LinkFault, LinkKind, ReadAsk, Setup, Transfer,
 };
 use hdfs_wire::{Ack, ChecksumInfo, NoMemory, ReadPacket, WritePacket};
-
-/// How a set-up fails that is planned so. One with a bad acknowledgement to come doesn't.
-fn failure(kind: Option<LinkKind>) -> Option<LinkFault>
-    ensures { result ≡ planned_failure kind }
-{
-    match kind {
-        Some(LinkKind::Broken) => Some(LinkFault::Broken),
-        Some(LinkKind::Refused) => Some(LinkFault::Refused),
-        Some(LinkKind::BadAck) => None,
-        None => None,
-    }
-}
 
 /// How a transfer fails that is planned so. No acknowledgement of it comes to be bad: the connection breaks.
 fn transfer_failure(kind: Option<LinkKind>) -> Option<LinkFault>
@@ -63,10 +53,13 @@ impl Cluster for MemCluster {
             self.last = LastAnswer::NoMemory;
             return Err(AskFault::NoMemory);
         }
+        let known = Known {
+            alloc: self.alloc,
+            config: &self.config,
+            loaded: self.loaded.as_slice(),
+        };
         let answered = answer(
-            self.alloc,
-            &self.config,
-            self.loaded.as_slice(),
+            &known,
             &mut self.space,
             &mut self.nodes,
             i,
@@ -154,19 +147,22 @@ impl Cluster for MemCluster {
         // A fault line acts at exactly its set-up.
         ensures asks { AsksSetUp self.old result self.new }
     {
-        let key = self.links.vacant_key();
-        let locs = setup.locs.as_slice();
-        let base = self
-            .nodes
-            .enter_all(self.alloc, locs, setup.block.block_id, key as u64)?;
-        let write = MemWrite::new(self.alloc, setup, base);
-        self.links.reserve(1)?;
-        self.faults.end(key as u64);
-        let kind = self.faults.set_up(key as u64)?;
-        if let Some(fault) = failure(kind) {
-            return Err(fault);
+        let link = self.links.vacant_key();
+        let entered = enter(
+            self.alloc,
+            &mut self.links,
+            &mut self.nodes,
+            &mut self.faults,
+            &setup,
+            link as u64,
+        );
+        match entered {
+            Ok(base) => {
+                let write = MemWrite::new(self.alloc, setup, base);
+                Ok(self.links.insert_reserved(MemLink::Write(write)) as u64)
+            }
+            Err(fault) => Err(fault),
         }
-        Ok(self.links.insert_reserved(MemLink::Write(write)) as u64)
     }
 
     fn send(&mut self, link: u64, packet: &WritePacket) -> Result<(), LinkFault>

@@ -10,8 +10,7 @@ ghost use Rattle.hdfs_cluster.specs.Responding.{AskComesTo, DoesPlanned, Respond
 ghost use Rattle.hdfs_cluster.specs.Responding as spec;
 ghost use Rattle.hdfs_replicas.specs.Nodes.{SameNodes};
 
-use crate::config::Config;
-use crate::loaded::Kept;
+use crate::known::Known;
 use crate::responding::{is_failure_of, respond};
 use hdfs_model::{Answer, Ask, AskFault, AskKind, LastAnswer};
 use hdfs_namespace::{Namespace, exception, last_answer};
@@ -115,23 +114,22 @@ fn planned_answer(
 
 /// What namenode `i` does that is planned to fail so: the ask, where its answer is late, and else nothing.
 fn do_planned(
-    alloc: Global,
-    config: &Config,
-    loaded: &[Kept],
+    known: &Known<'_>,
     space: &mut Namespace,
     nodes: &mut Datanodes,
     i: u32,
     ask: &Ask,
     kind: &AskKind,
 )
-    ensures does { (links : Slab MemLink) → DoesPlanned (map line_of loaded.now) nodes.old.count kind.now
-        (picture_at space.old nodes.old config.now.settings links) i ask.now (picture_at space.new nodes.new config.now.settings links) }
+    ensures does { (links : Slab MemLink) → DoesPlanned (map line_of known.now.loaded.now) nodes.old.count kind.now
+        (picture_at space.old nodes.old known.now.config.now.settings links) i ask.now
+        (picture_at space.new nodes.new known.now.config.now.settings links) }
     ensures rest { SameNodes nodes.old nodes.new }
 {
     match kind {
         AskKind::Lost => {}
         AskKind::Late => {
-            let unheard = respond(alloc, config, loaded, space, nodes, i, ask);
+            let unheard = respond(known, space, nodes, i, ask);
             drop(unheard);
         }
         AskKind::FalseAnswer => {}
@@ -142,9 +140,7 @@ fn do_planned(
 
 /// What namenode `i` answers that is planned to fail so, and what that does.
 fn answer_planned(
-    alloc: Global,
-    config: &Config,
-    loaded: &[Kept],
+    known: &Known<'_>,
     space: &mut Namespace,
     nodes: &mut Datanodes,
     i: u32,
@@ -152,52 +148,51 @@ fn answer_planned(
     kind: &AskKind,
 ) -> Result<Answered, NoMemory>
     ensures is { IfOk result (λ answered. answered.result ≡ spec.planned_answer kind.now ask.now) }
-    ensures does { OnOk result ((links : Slab MemLink) → DoesPlanned (map line_of loaded.now) nodes.old.count kind.now
-        (picture_at space.old nodes.old config.now.settings links) i ask.now (picture_at space.new nodes.new config.now.settings links)) }
+    ensures does { OnOk result ((links : Slab MemLink) → DoesPlanned (map line_of known.now.loaded.now) nodes.old.count kind.now
+        (picture_at space.old nodes.old known.now.config.now.settings links) i ask.now
+        (picture_at space.new nodes.new known.now.config.now.settings links)) }
     ensures last { IfOk result (λ answered. answered.last ≡ last_of answered.result) }
     ensures failed { IfOk result (λ answered. answered.failed ≡ false) }
     ensures answered { IfOk result (λ answered. is_answered answered.result ≡ true) }
-    ensures err { OnErr result ((links : Slab MemLink) → SamePicture (picture_at space.old nodes.old config.now.settings links)
-        (picture_at space.new nodes.new config.now.settings links)) }
+    ensures err { OnErr result ((links : Slab MemLink)
+        → SamePicture (picture_at space.old nodes.old known.now.config.now.settings links)
+        (picture_at space.new nodes.new known.now.config.now.settings links)) }
     ensures rest { SameNodes nodes.old nodes.new }
 {
-    let given = planned_answer(alloc, kind, ask)?;
-    let answered = told(alloc, given, true)?;
-    do_planned(alloc, config, loaded, space, nodes, i, ask, kind);
+    let given = planned_answer(known.alloc, kind, ask)?;
+    let answered = told(known.alloc, given, true)?;
+    do_planned(known, space, nodes, i, ask, kind);
     Ok(answered)
 }
 
 /// What namenode `i` answers that isn't planned to fail, and what that does.
 fn answer_unplanned(
-    alloc: Global,
-    config: &Config,
-    loaded: &[Kept],
+    known: &Known<'_>,
     space: &mut Namespace,
     nodes: &mut Datanodes,
     i: u32,
     ask: &Ask,
 ) -> Result<Answered, NoMemory>
-    ensures responds { IfOk result (λ answered. (links : Slab MemLink) → Responds (map line_of loaded.now) nodes.old.count
-        (picture_at space.old nodes.old config.now.settings links) i ask.now answered.result
-        (picture_at space.new nodes.new config.now.settings links)) }
+    ensures responds { IfOk result (λ answered. (links : Slab MemLink) → Responds (map line_of known.now.loaded.now) nodes.old.count
+        (picture_at space.old nodes.old known.now.config.now.settings links) i ask.now answered.result
+        (picture_at space.new nodes.new known.now.config.now.settings links)) }
     ensures last { IfOk result (λ answered. answered.last ≡ last_of answered.result) }
     ensures failed { IfOk result (λ answered. answered.failed ≡ is_failure answered.result) }
     ensures answered { IfOk result (λ answered. is_answered answered.result ≡ true) }
     ensures shape { IfOk result (λ answered. IfOk answered.result (IsShaped ask.now)) }
-    ensures err { OnErr result ((links : Slab MemLink) → SamePicture (picture_at space.old nodes.old config.now.settings links)
-        (picture_at space.new nodes.new config.now.settings links)) }
+    ensures err { OnErr result ((links : Slab MemLink)
+        → SamePicture (picture_at space.old nodes.old known.now.config.now.settings links)
+        (picture_at space.new nodes.new known.now.config.now.settings links)) }
     ensures rest { SameNodes nodes.old nodes.new }
 {
-    let given = respond(alloc, config, loaded, space, nodes, i, ask);
-    let answered = told(alloc, given, false)?;
+    let given = respond(known, space, nodes, i, ask);
+    let answered = told(known.alloc, given, false)?;
     Ok(answered)
 }
 
 /// What namenode `i` answers that is planned to fail so, or isn't planned to, and what that does.
 pub(crate) fn answer(
-    alloc: Global,
-    config: &Config,
-    loaded: &[Kept],
+    known: &Known<'_>,
     space: &mut Namespace,
     nodes: &mut Datanodes,
     i: u32,
@@ -205,19 +200,20 @@ pub(crate) fn answer(
     kind: Option<&AskKind>,
 ) -> Result<Answered, NoMemory>
     ensures comes { IfOk result (λ answered. (links : Slab MemLink)
-        → AskComesTo (map line_of loaded.now) nodes.old.count (option_copied kind.entry)
-        (picture_at space.old nodes.old config.now.settings links) i ask.now answered.result
-        (picture_at space.new nodes.new config.now.settings links)) }
+        → AskComesTo (map line_of known.now.loaded.now) nodes.old.count (option_copied kind.entry)
+        (picture_at space.old nodes.old known.now.config.now.settings links) i ask.now answered.result
+        (picture_at space.new nodes.new known.now.config.now.settings links)) }
     ensures last { IfOk result (λ answered. answered.last ≡ last_of answered.result) }
     ensures failed { IfOk result (λ answered. answered.failed ≡ own_failure (option_copied kind.entry) answered.result) }
     ensures answered { IfOk result (λ answered. is_answered answered.result ≡ true) }
     ensures shape { IfOk result (λ answered. IfOk answered.result (IsShaped ask.now)) }
-    ensures err { OnErr result ((links : Slab MemLink) → SamePicture (picture_at space.old nodes.old config.now.settings links)
-        (picture_at space.new nodes.new config.now.settings links)) }
+    ensures err { OnErr result ((links : Slab MemLink)
+        → SamePicture (picture_at space.old nodes.old known.now.config.now.settings links)
+        (picture_at space.new nodes.new known.now.config.now.settings links)) }
     ensures rest { SameNodes nodes.old nodes.new }
 {
     match kind {
-        None => answer_unplanned(alloc, config, loaded, space, nodes, i, ask),
-        Some(kind) => answer_planned(alloc, config, loaded, space, nodes, i, ask, kind),
+        None => answer_unplanned(known, space, nodes, i, ask),
+        Some(kind) => answer_planned(known, space, nodes, i, ask, kind),
     }
 }

@@ -11,7 +11,7 @@ ghost use Rattle.hdfs_cluster.specs.Responding.{AnswersHere, IsCreate, IsGetAddi
 ghost use Rattle.hdfs_cluster.specs.Responding as spec;
 ghost use Rattle.hdfs_replicas.specs.Nodes.{SameNodes};
 
-use crate::config::Config;
+use crate::known::Known;
 use crate::loaded::Kept;
 use hdfs_model::{Answer, Ask, AskFault, Attributes};
 use hdfs_namespace::{Namespace, STANDBY, exception};
@@ -184,21 +184,20 @@ fn other_answer(alloc: Global, ask: &Ask) -> Result<Answer, AskFault>
 
 /// What namenode `i` responds, and what that does.
 pub(crate) fn respond(
-    alloc: Global,
-    config: &Config,
-    loaded: &[Kept],
+    known: &Known<'_>,
     space: &mut Namespace,
     nodes: &mut Datanodes,
     i: u32,
     ask: &Ask,
 ) -> Result<Answer, AskFault>
-    ensures responds { (links : Slab MemLink) → Responds (map line_of loaded.now) nodes.old.count
-        (picture_at space.old nodes.old config.now.settings links) i ask.now result
-        (picture_at space.new nodes.new config.now.settings links) }
+    ensures responds { (links : Slab MemLink) → Responds (map line_of known.now.loaded.now) nodes.old.count
+        (picture_at space.old nodes.old known.now.config.now.settings links) i ask.now result
+        (picture_at space.new nodes.new known.now.config.now.settings links) }
     ensures shape { IfOk result (IsShaped ask.now) }
     ensures rest { SameNodes nodes.old nodes.new }
 {
-    if i != config.settings.active {
+    let alloc = known.alloc;
+    if i != known.config.settings.active {
         return Err(exception(alloc, STANDBY)?);
     }
     if !is_of_session(ask) {
@@ -209,7 +208,7 @@ pub(crate) fn respond(
             let found = space.locations(alloc, src.as_str())?;
             Ok(Answer::GetBlockLocations(Some(found)))
         }
-        Ask::GetServerDefaults => Ok(Answer::GetServerDefaults(config.settings.defaults)),
+        Ask::GetServerDefaults => Ok(Answer::GetServerDefaults(known.config.settings.defaults)),
         Ask::Create { .. } => create(alloc, space, ask),
         Ask::Append { src, .. } => Ok(Answer::Append(space.append(alloc, nodes, src.as_str())?)),
         Ask::AddBlock { src, previous, .. } => {
@@ -224,7 +223,13 @@ pub(crate) fn respond(
             let block = space.update_block_for_pipeline(alloc, block)?;
             Ok(Answer::UpdateBlockForPipeline(block))
         }
-        Ask::GetAdditionalDatanode { .. } => additional_datanode(alloc, loaded, space, nodes, ask),
+        Ask::GetAdditionalDatanode { .. } => additional_datanode(
+            alloc,
+            known.loaded,
+            space,
+            nodes,
+            ask,
+        ),
         Ask::UpdatePipeline { .. } => update_pipeline(alloc, space, ask),
         _ => unreachable!(),
     }

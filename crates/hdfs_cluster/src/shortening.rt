@@ -85,34 +85,41 @@ fn to_cut(
     Ok(Some(uuid.copy(alloc)?))
 }
 
-/// Cuts a replica of a closed file's block to `len` bytes where that can be done, and says whether it was.
+/// Which replica is to be cut: that of a file's block on the datanode with this number in the block's list, and to how many bytes.
+#[derive(Drop)]
+struct Cut<'a> {
+    path: &'a str,
+    block: u32,
+    node: u32,
+    len: u64,
+}
+
+/// Cuts a replica of a closed file's block where that can be done, and says whether it was.
 fn shorten(
     alloc: Global,
     space: &Namespace,
     nodes: &mut Datanodes,
-    path: &str,
-    block: u32,
-    node: u32,
-    len: u64,
+    cut: &Cut<'_>,
 ) -> Result<bool, NoMemory>
     ensures done { IfOk result (λ done. done ≡ true → (id : ℕ) × (uuid : List ℕ)
-        × IsShort (space_of space.now nodes.old) path.now block node len id uuid × CutsReplica nodes.old uuid id len nodes.new) }
-    ensures refused { IfOk result (λ done. done ≡ false
-        → (id : ℕ) (uuid : List ℕ) → IsShort (space_of space.now nodes.old) path.now block node len id uuid → ⊥) }
+        × IsShort (space_of space.now nodes.old) cut.now.path.now cut.now.block cut.now.node cut.now.len id uuid
+        × CutsReplica nodes.old uuid id cut.now.len nodes.new) }
+    ensures refused { IfOk result (λ done. done ≡ false → (id : ℕ) (uuid : List ℕ)
+        → IsShort (space_of space.now nodes.old) cut.now.path.now cut.now.block cut.now.node cut.now.len id uuid → ⊥) }
     ensures same { IfOk result (λ done. done ≡ false → SameHeld nodes.old nodes.new) }
     ensures err { OnErr result (SameHeld nodes.old nodes.new) }
     ensures rest { SameNodes nodes.old nodes.new }
 {
-    let Some(id) = space.closed_block(path, block) else {
+    let Some(id) = space.closed_block(cut.path, cut.block) else {
         return Ok(false);
     };
     let Some(entry) = space.table.get(&id) else {
         return Err(NoMemory);
     };
-    let Some(uuid) = to_cut(alloc, nodes, id, entry, node, len)? else {
+    let Some(uuid) = to_cut(alloc, nodes, id, entry, cut.node, cut.len)? else {
         return Ok(false);
     };
-    nodes.cut(alloc, uuid.as_str(), id, len)?;
+    nodes.cut(alloc, uuid.as_str(), id, cut.len)?;
     Ok(true)
 }
 
@@ -133,15 +140,13 @@ impl MemCluster {
         ensures counted { CountsNothing self.old self.new }
     {
         self.loaded.reserve(1)?;
-        if !shorten(
-            self.alloc,
-            &self.space,
-            &mut self.nodes,
-            path.as_str(),
+        let cut = Cut {
+            path: path.as_str(),
             block,
             node,
             len,
-        )? {
+        };
+        if !shorten(self.alloc, &self.space, &mut self.nodes, &cut)? {
             return Ok(false);
         }
         self.loaded.push_reserved(Kept::Short {

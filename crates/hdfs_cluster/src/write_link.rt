@@ -8,7 +8,7 @@ ghost use Rattle.hdfs_cluster.specs.Telling.{GoesOn, TellsAll};
 use bytes::Bytes;
 use hdfs_faults::FaultPlan;
 use hdfs_model::{DatanodeInfo, Setup};
-use hdfs_replicas::Datanodes;
+use hdfs_replicas::{Datanodes, Held};
 use hdfs_wire::{Ack, List, NoMemory, PacketHeader, WritePacket};
 use std::alloc::Global;
 
@@ -17,7 +17,7 @@ use std::alloc::Global;
 #[derive(Drop)]
 pub struct MemWrite {
     pub(crate) setup: Setup,
-    pub(crate) base: Vec<Bytes>,
+    pub(crate) base: Vec<Held>,
     pub(crate) sent: Vec<WritePacket>,
     pub(crate) responses: Vec<Ack>,
     pub(crate) acknowledged: usize,
@@ -91,7 +91,7 @@ impl MemWrite {
     ghost use Rattle.hdfs_replicas.specs.Nodes.{SameNodes};
 
     /// A link that was just opened.
-    pub(crate) fn new(alloc: Global, setup: Setup, base: Vec<Bytes>) -> MemWrite
+    pub(crate) fn new(alloc: Global, setup: Setup, base: Vec<Held>) -> MemWrite
         ensures setup { result.setup ≡ setup }
         ensures base { result.base.items ≡ base.items }
         ensures sent { result.sent.items ≡ [] }

@@ -1,5 +1,5 @@
 -- What a change at one key of a map with text keys does to what is looked up.
-use Rattle.std.proofs.Common.{◌≡◌, ◌≢◌, ⊎_elim, ℕ, Bool, true, false, ◌&&◌, eqb, cond, List, Option, Some, None, is_some, refl, sym, ◌∙◌, ap, subst, arith}
+use Rattle.std.proofs.Common.{◌≡◌, ◌≢◌, ⊎_elim, ℕ, Bool, true, false, ◌&&◌, eqb, cond, List, Option, Some, None, is_some, String, string_bytes, refl, sym, ◌∙◌, ap, subst, arith}
 use Rattle.std.specs.Str.{bytes_eq}
 use Rattle.std.specs.Map.{update}
 use Rattle.std.proofs.lemmas.Slice.Eq.{bytes_eq-Decides}
@@ -8,8 +8,11 @@ use Rattle.hdfs_replicas.specs.Nodes.{replica_in, is_here, Joins}
 use Rattle.hdfs_replicas.specs.declared.replica.Replica.{Replica}
 use Rattle.hdfs_replicas.specs.Blocks.{ChangesBlock}
 use Rattle.hdfs_replicas.specs.Replicas.{SameReplica}
+use Rattle.std.proofs.lemmas.Map.Text.{btree_map_updates_text}
+use Rattle.std.specs.Cmp.Lexicographic.{slice_cmp}
+use Rattle.std.specs.String.{string_cmp}
 use Rattle.std.specs.Ordering.{nat_cmp}
-use Rattle.std.specs.BTreeMap.{get}
+use Rattle.std.specs.BTreeMap.{BTreeMap, get, get_by_text, UpdatesBy}
 use Rattle.std.proofs.lemmas.Bool.{cases_eq}
 use Rattle.std.proofs.lemmas.Bool.Decides.{nat_tests}
 
@@ -133,3 +136,35 @@ here_false uuid block d b apart = by_tests (bytes_eq d uuid) (eqb block b) (byte
     by_tests true true node same apart = absurd (apart (node refl) (same refl))
     by_tests true false node same apart = refl
     by_tests false t node same apart = refl
+
+-- What becomes of a map of datanodes where one of them was lent, and one of its replicas alone has changed.
+pub record Lent {Y : Type 0} (m n : BTreeMap (String Y) Datanode) (uuid : List ℕ) (block : ℕ) (v w : Datanode) : Type 1 where
+  -- what is there stays, and no datanode comes
+  pub stays : (d : List ℕ) → is_some (get_by_text m d) ≡ true → is_some (get_by_text n d) ≡ true
+  pub there : (d : List ℕ) → is_some (get_by_text n d) ≡ is_some (get_by_text m d)
+  -- this one has changed, and the others haven't
+  pub here : get_by_text n uuid ≡ Some w
+  pub others : (d : List ℕ) → d ≢ uuid → get_by_text n d ≡ get_by_text m d
+  -- what holds of the replica that changed, and of each other one and itself, holds of each
+  pub each : (P : List ℕ → ℕ → Option Replica → Option Replica → Type 0) → P uuid block (get nat_cmp v.blocks block) (get nat_cmp w.blocks block)
+      → ((d : List ℕ) (b : ℕ) → (d ≡ uuid → b ≡ block → ⊥) → (o : Option Replica) → P d b o o)
+      → (d : List ℕ) (b : ℕ) → P d b (replica_in (get_by_text m d) b) (replica_in (get_by_text n d) b)
+  -- the same where nothing depends on which it is
+  pub related : (R : Option Replica → Option Replica → Type 0) → ((o : Option Replica) → R o o) → R (get nat_cmp v.blocks block) (get nat_cmp w.blocks block)
+      → (d : List ℕ) (b : ℕ) → R (replica_in (get_by_text m d) b) (replica_in (get_by_text n d) b)
+
+pub lent : {Y : Type 0} (m n : BTreeMap (String Y) Datanode) (uuid : List ℕ) (block : ℕ) (v w : Datanode) → UpdatesBy string_cmp (λ k. slice_cmp nat_cmp uuid (string_bytes k)) m n (Some w)
+    → Some v ≡ get_by_text m uuid → ChangesBlock block v w → Lent m n uuid block v w
+lent m n uuid block v w lends is change =
+    let look = get_by_text m in
+    let after = get_by_text n in
+    let updates = btree_map_updates_text uuid m n (Some w) lends in
+    let was = sym is in
+    record {
+      stays = update_some look after uuid w updates;
+      there = change_there look after uuid v w updates was block change;
+      here = update_at look after uuid w updates;
+      others = update_other look after uuid w updates;
+      each = change_each look after uuid v w updates was block change;
+      related = change_related look after uuid v w updates was block change;
+    }

@@ -5,6 +5,7 @@ ghost use Rattle.std.specs.BTreeMap.{get};
 ghost use Rattle.hdfs_model.specs.Sending.{put};
 ghost use Rattle.hdfs_replicas.specs.Replicas.{held_by, whole_by, undisturbed_by, IsGiven, SameLinksOf, SameReplica};
 
+use crate::held::Held;
 use crate::replica::{Piece, Replica};
 use bytes::Bytes;
 use hdfs_wire::NoMemory;
@@ -122,9 +123,9 @@ impl Datanode {
         }
     }
 
-    /// Notes a link that is opened on a block, and answers what is held of that.
-    pub(crate) fn enter(&mut self, alloc: Global, block: u64, link: u64) -> Result<Bytes, NoMemory>
-        ensures value { IfOk result (λ bytes. bytes ≡ held_by (get nat_cmp self.old.blocks block)) }
+    /// Notes a link that is opened on a block, and answers what is held of that, without a copy of it.
+    pub(crate) fn enter(&mut self, alloc: Global, block: u64, link: u64) -> Result<Held, NoMemory>
+        ensures value { IfOk result (λ held. held ≡ held_by (get nat_cmp self.old.blocks block)) }
         ensures own { OnOk result (undisturbed_by (get nat_cmp self.new.blocks block) link ≡ true) }
         ensures others { (other : ℕ) → (link ≡ other → ⊥) → undisturbed_by (get nat_cmp self.new.blocks block) other
             ≡ undisturbed_by (get nat_cmp self.old.blocks block) other }
@@ -138,6 +139,6 @@ impl Datanode {
             unreachable!();
         };
         replica.enter(link)?;
-        Ok(replica.read(alloc)?)
+        replica.held(alloc)
     }
 }

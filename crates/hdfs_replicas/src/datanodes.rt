@@ -6,6 +6,7 @@ ghost use Rattle.hdfs_faults.specs.Series.{uuid_of};
 ghost use Rattle.hdfs_replicas.specs.Uuids.{first_node, lowest};
 
 use crate::datanode::Datanode;
+use crate::held::Held;
 use crate::replica::Piece;
 use bytes::Bytes;
 use hdfs_model::DatanodeInfo;
@@ -212,8 +213,8 @@ impl Datanodes {
         uuid: &str,
         block: u64,
         link: u64,
-    ) -> Result<Bytes, NoMemory>
-        ensures value { IfOk result (λ bytes. bytes ≡ held_in self.old uuid.now block) }
+    ) -> Result<Held, NoMemory>
+        ensures value { IfOk result (λ held. held ≡ held_in self.old uuid.now block) }
         ensures own { OnOk result (undisturbed_in self.new uuid.now block link ≡ true) }
         ensures others { (d : List ℕ) (b other : ℕ) → (link ≡ other → ⊥)
             → undisturbed_in self.new d b other ≡ undisturbed_in self.old d b other }

@@ -3,7 +3,9 @@
 
 mod datanode;
 mod datanodes;
+mod held;
 mod pipeline;
 mod replica;
 
 pub use datanodes::{Datanodes, uuid};
+pub use held::Held;

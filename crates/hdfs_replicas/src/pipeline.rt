@@ -3,6 +3,7 @@ ghost use Rattle.std.specs.Prelude.{◌≡◌, ◌==◌, ◌&&◌, ℕ, true, fa
 ghost use Rattle.hdfs_model.specs.Sending.{put};
 
 use crate::datanodes::Datanodes;
+use crate::held::Held;
 use crate::replica::Piece;
 use bytes::Bytes;
 use hdfs_model::DatanodeInfo;
@@ -13,14 +14,15 @@ impl Datanodes {
     ghost use Rattle.hdfs_replicas.specs.Nodes.{replica_at, held_in, whole_in, undisturbed_in, is_named, is_on, SameHeld, SameNodes};
     ghost use Rattle.hdfs_replicas.specs.Replicas.{IsGiven, MayBeGiven, SameReplica};
 
-    /// Notes a link that is opened on a block at each of its datanodes, and answers what each of them holds of that.
+    /// Notes a link that is opened on a block at each of its datanodes, and answers what each of them holds of that, without a copy
+    /// of it.
     pub fn enter_all(
         &mut self,
         alloc: Global,
         locs: &[DatanodeInfo],
         block: u64,
         link: u64,
-    ) -> Result<Vec<Bytes>, NoMemory>
+    ) -> Result<Vec<Held>, NoMemory>
         ensures base { IfOk result (λ base. base.items ≡ map (λ node. held_in self.old node.id.datanode_uuid block) locs.now) }
         ensures entered { OnOk result ((d : List ℕ) → is_named locs.now d ≡ true → undisturbed_in self.new d block link ≡ true) }
         ensures others { (d : List ℕ) (b other : ℕ) → (link ≡ other → ⊥)

@@ -3,6 +3,7 @@ ghost use Rattle.std.specs.Prelude.{◌≡◌, ◌≤◌, ◌==◌, ◌&&◌, �
 ghost use Rattle.hdfs_model.specs.Sending.{put};
 ghost use Rattle.hdfs_replicas.specs.Pieces.{put_pieces};
 
+use crate::held::Held;
 use bytes::Bytes;
 use hdfs_wire::NoMemory;
 use std::alloc::Global;
@@ -39,11 +40,22 @@ fn put_over(alloc: Global, bytes: &mut Vec<u8>, piece: &Piece) -> Result<(), NoM
     Ok(())
 }
 
-/// Bytes with pieces over them, in memory of their own.
+/// How many bytes there are once pieces are put over others.
+fn joined_len(base: &Bytes, pieces: &[Piece]) -> usize {
+    let mut len = base.len();
+    for piece in pieces {
+        let at = len.min(piece.at as usize);
+        len = len.max(at.saturating_add(piece.bytes.len()));
+    }
+    len
+}
+
+/// Bytes with pieces over them, in memory of their own, whose room is taken at once.
 fn joined(alloc: Global, base: &Bytes, pieces: &[Piece]) -> Result<Vec<u8>, NoMemory>
     ensures { IfOk result (λ bytes. bytes.items ≡ put_pieces base.now pieces.now) }
 {
-    let mut bytes = Vec::from_slice(alloc, base.as_slice())?;
+    let mut bytes = Vec::with_capacity(alloc, joined_len(base, pieces))?;
+    bytes.extend_from_slice(base.as_slice())?;
     for piece in pieces {
         put_over(alloc, &mut bytes, piece)?;
     }
@@ -73,6 +85,7 @@ impl Replica {
     {
         self.base = bytes;
         self.taken = 0;
+        self.pieces.clear();
     }
 
     /// Holds these bytes, which come from another datanode, from now on. It disturbs all links.
@@ -84,7 +97,7 @@ impl Replica {
         self.undisturbed.clear();
     }
 
-    /// Its bytes without a copy of them, where they were read since the last piece came.
+    /// Its bytes in one piece, without a copy of them where they were read since the last piece came.
     pub(crate) fn read(&mut self, alloc: Global) -> Result<Bytes, NoMemory>
         ensures value { IfOk result (λ bytes. bytes ≡ bytes_of self.old) }
         ensures bytes { bytes_of self.new ≡ bytes_of self.old }
@@ -94,8 +107,16 @@ impl Replica {
             let bytes = joined(alloc, &self.base, &self.pieces[..self.taken])?;
             self.base = Bytes::from_vec(bytes)?;
             self.taken = 0;
+            self.pieces.clear();
         }
         Ok(self.base.clone()?)
+    }
+
+    /// What it holds, without a copy of the bytes.
+    pub(crate) fn held(&self, alloc: Global) -> Result<Held, NoMemory>
+        ensures { IfOk result (λ held. held ≡ bytes_of self.now) }
+    {
+        Held::new(alloc, &self.base, &self.pieces[..self.taken])
     }
 
     /// Keeps its first so many bytes alone. It disturbs all links.

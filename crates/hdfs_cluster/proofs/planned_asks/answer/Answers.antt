@@ -17,8 +17,8 @@ use Rattle.hdfs_cluster.proofs.planned_asks.answer.Goals as goal
 pub returns-in-None-clause-comes : goal.returns-in-None-clause-comes
 returns-in-None-clause-comes c =
     let r = c.answer_unplanned in
-    let settings = c.args.config.now.settings in
-    subst (λ (k : Option AskKind). IfOk r.result (λ answered. (links : Slab MemLink) → AskComesTo (map line_of c.args.loaded.now) c.args.nodes.now.count k
+    let settings = c.args.known.now.config.now.settings in
+    subst (λ (k : Option AskKind). IfOk r.result (λ answered. (links : Slab MemLink) → AskComesTo (map line_of c.args.known.now.loaded.now) c.args.nodes.now.count k
     (picture_at c.args.space.now c.args.nodes.now settings links) c.args.i c.args.ask.now answered.result (picture_at r.new.space r.new.nodes settings links))) (sym (ap option_copied c.in-None.is)) r.ensures.responds
 
 pub returns-in-None-clause-failed : goal.returns-in-None-clause-failed
@@ -28,9 +28,9 @@ returns-in-None-clause-failed c =
 pub returns-in-Some-clause-comes : goal.returns-in-Some-clause-comes
 returns-in-Some-clause-comes c =
     let r = c.answer_planned in
-    let settings = c.args.config.now.settings in
+    let settings = c.args.known.now.config.now.settings in
     let kind = c.in-Some.kind.now in
-    let Comes : Option AskKind → Answered → Type 0 = λ k answered. (links : Slab MemLink) → AskComesTo (map line_of c.args.loaded.now) c.args.nodes.now.count k
+    let Comes : Option AskKind → Answered → Type 0 = λ k answered. (links : Slab MemLink) → AskComesTo (map line_of c.args.known.now.loaded.now) c.args.nodes.now.count k
     (picture_at c.args.space.now c.args.nodes.now settings links) c.args.i c.args.ask.now answered.result (picture_at r.new.space r.new.nodes settings links) in
     subst (λ (k : Option AskKind). IfOk r.result (Comes k)) (sym (ap option_copied c.in-Some.is))
     (both_ok r.result (λ answered. answered.result ≡ planned_answer kind c.args.ask.now) (Comes (Some kind)) (λ answered is does links. inr (is, does links)) r.ensures.is r.ensures.does)

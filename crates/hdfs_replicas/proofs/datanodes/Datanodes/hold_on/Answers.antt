@@ -1,54 +1,37 @@
 -- One datanode takes the block, and everything else stays.
 use Rattle.std.proofs.Common.{◌≡◌, Some, refl, sym, rules, ◌≢◌}
-use Rattle.std.proofs.lemmas.Map.Text.{btree_map_updates_text}
-use Rattle.std.specs.BTreeMap.{get_by_text}
 use Rattle.hdfs_faults.specs.Series.{uuid_of}
 use Rattle.hdfs_replicas.specs.Uuids.{first_node}
 use Rattle.hdfs_replicas.specs.Replicas.{held_by, SameLinksOf}
-use Rattle.hdfs_replicas.proofs.Nodes.{update_some, update_other, change_there, change_each, change_related}
+use Rattle.hdfs_replicas.proofs.Nodes.{lent}
 use Rattle.hdfs_replicas.proofs.datanodes.Datanodes.hold_on.Goals as goal
 
 pub invariant_of-self : goal.invariant_of-self
 invariant_of-self c =
-    let w = c.hold.new.self in
-    let look = get_by_text c.args.self.now.by_uuid in
-    let after = get_by_text (c.get_mut.follows.lender w) in
-    let updates = btree_map_updates_text c.args.uuid.now c.args.self.now.by_uuid (c.get_mut.follows.lender w) (Some w) ((c.get_mut.follows.holds w).3 (search rules)) in
+    let o = lent c.args.self.now.by_uuid (c.get_mut.follows.lender c.hold.new.self) c.args.uuid.now c.args.block c.in-Some.node.now c.hold.new.self ((c.get_mut.follows.holds c.hold.new.self).3 (search rules)) c.in-Some.ensures.value c.hold.ensures.rest in
     record {
       some = c.args.self.now.some;
-      first = update_some look after c.args.uuid.now w updates first_node c.args.self.now.first;
-      numbered = λ k below. update_some look after c.args.uuid.now w updates (uuid_of k) (c.args.self.now.numbered k below);
+      first = o.stays first_node c.args.self.now.first;
+      numbered = λ k below. o.stays (uuid_of k) (c.args.self.now.numbered k below);
     }
 
 pub returns-in-Some-clause-nodes : goal.returns-in-Some-clause-nodes
 returns-in-Some-clause-nodes c =
-    let w = c.hold.new.self in
-    let look = get_by_text c.args.self.now.by_uuid in
-    let after = get_by_text (c.get_mut.follows.lender w) in
-    let updates = btree_map_updates_text c.args.uuid.now c.args.self.now.by_uuid (c.get_mut.follows.lender w) (Some w) ((c.get_mut.follows.holds w).3 (search rules)) in
-    update_other look after c.args.uuid.now w updates
+    let o = lent c.args.self.now.by_uuid (c.get_mut.follows.lender c.hold.new.self) c.args.uuid.now c.args.block c.in-Some.node.now c.hold.new.self ((c.get_mut.follows.holds c.hold.new.self).3 (search rules)) c.in-Some.ensures.value c.hold.ensures.rest in
+    o.others
 
 pub returns-in-Some-clause-others : goal.returns-in-Some-clause-others
 returns-in-Some-clause-others c =
-    let w = c.hold.new.self in
-    let look = get_by_text c.args.self.now.by_uuid in
-    let after = get_by_text (c.get_mut.follows.lender w) in
-    let updates = btree_map_updates_text c.args.uuid.now c.args.self.now.by_uuid (c.get_mut.follows.lender w) (Some w) ((c.get_mut.follows.holds w).3 (search rules)) in
-    λ d other apart. change_each look after c.args.uuid.now c.in-Some.node.now w updates (sym c.in-Some.ensures.value) c.args.block c.hold.ensures.rest
+    let o = lent c.args.self.now.by_uuid (c.get_mut.follows.lender c.hold.new.self) c.args.uuid.now c.args.block c.in-Some.node.now c.hold.new.self ((c.get_mut.follows.holds c.hold.new.self).3 (search rules)) c.in-Some.ensures.value c.hold.ensures.rest in
+    λ d other apart. o.each
     (λ d b o n. b ≢ c.args.block → held_by n ≡ held_by o) (λ other. absurd (other refl)) (λ d b elsewhere o other. refl) d other apart
 
 pub returns-in-Some-clause-links : goal.returns-in-Some-clause-links
 returns-in-Some-clause-links c =
-    let w = c.hold.new.self in
-    let look = get_by_text c.args.self.now.by_uuid in
-    let after = get_by_text (c.get_mut.follows.lender w) in
-    let updates = btree_map_updates_text c.args.uuid.now c.args.self.now.by_uuid (c.get_mut.follows.lender w) (Some w) ((c.get_mut.follows.holds w).3 (search rules)) in
-    change_related look after c.args.uuid.now c.in-Some.node.now w updates (sym c.in-Some.ensures.value) c.args.block c.hold.ensures.rest SameLinksOf (λ o link. refl) c.hold.ensures.links
+    let o = lent c.args.self.now.by_uuid (c.get_mut.follows.lender c.hold.new.self) c.args.uuid.now c.args.block c.in-Some.node.now c.hold.new.self ((c.get_mut.follows.holds c.hold.new.self).3 (search rules)) c.in-Some.ensures.value c.hold.ensures.rest in
+    o.related SameLinksOf (λ o link. refl) c.hold.ensures.links
 
 pub returns-in-Some-clause-rest : goal.returns-in-Some-clause-rest
 returns-in-Some-clause-rest c =
-    let w = c.hold.new.self in
-    let look = get_by_text c.args.self.now.by_uuid in
-    let after = get_by_text (c.get_mut.follows.lender w) in
-    let updates = btree_map_updates_text c.args.uuid.now c.args.self.now.by_uuid (c.get_mut.follows.lender w) (Some w) ((c.get_mut.follows.holds w).3 (search rules)) in
-    record { there = change_there look after c.args.uuid.now c.in-Some.node.now w updates (sym c.in-Some.ensures.value) c.args.block c.hold.ensures.rest; count = refl }
+    let o = lent c.args.self.now.by_uuid (c.get_mut.follows.lender c.hold.new.self) c.args.uuid.now c.args.block c.in-Some.node.now c.hold.new.self ((c.get_mut.follows.holds c.hold.new.self).3 (search rules)) c.in-Some.ensures.value c.hold.ensures.rest in
+    record { there = o.there; count = refl }
