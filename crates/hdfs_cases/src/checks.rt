@@ -26,11 +26,12 @@ pub(crate) fn told(
     }
 }
 
-/// A note, of which two dots leave the rest open.
+/// The first line of a note, of which two dots leave the rest open.
 fn note_line(alloc: Global, wanted: &str, note: &str) -> Result<String, Fail> {
+    let line = note.lines().next().unwrap_or(note);
     match wanted.strip_suffix("..") {
-        Some(front) if note.starts_with(front) => Ok(format!(in alloc; "note {wanted}")?),
-        _ => Ok(format!(in alloc; "note {note}")?),
+        Some(front) if line.starts_with(front) => Ok(format!(in alloc; "note {wanted}")?),
+        _ => Ok(format!(in alloc; "note {line}")?),
     }
 }
 

@@ -1,15 +1,30 @@
-//! Scripts that are refused: a line has the number of the first bad line, the script, and what is noted, if that is told.
+//! Scripts that are refused: a line has the number of the first bad line, the script, and what is noted, if that is told: the note's first
+//! line, and the characters below which it has marks.
 
 use crate::escapes::bytes_of;
 use hdfs_checking::{noted_of_new, plain_answer, refused};
 use std::alloc::Global;
 use std::test::Fail;
 
+/// The characters of a note's second line above the marks of its third; none where they stand behind its end.
+fn marked(note: &str) -> &str {
+    let mut lines = note.lines().skip(1);
+    let (shown, marks) = (lines.next().unwrap_or(""), lines.next().unwrap_or(""));
+    let front = marks.len().saturating_sub(marks.trim_start().len());
+    shown.get(front..marks.len()).unwrap_or("")
+}
+
+/// Whether a note begins with this line, and marks these characters, if any are told; an empty line isn't compared.
+fn is_noted(noted: &str, wanted: &str) -> bool {
+    let (line, characters) = wanted.split_once('\t').unwrap_or((wanted, marked(noted)));
+    line.is_empty() || noted.lines().next() == Some(line) && marked(noted) == characters
+}
+
 /// Whether a script is refused for this line by the program, which notes what is told, and by the plain program.
 fn is_refused(alloc: Global, number: &str, script: &[u8], note: &str) -> Result<bool, Fail> {
     let wanted = refused(alloc, number.parse()?)?;
     let (given, noted) = noted_of_new(alloc, script)?;
-    if given != wanted || (!note.is_empty() && noted.as_str() != note) {
+    if given != wanted || !is_noted(noted.as_str(), note) {
         return Ok(false);
     }
     Ok(plain_answer(alloc, script)? == wanted)

@@ -4,7 +4,7 @@ use crate::{Ending, answer_on, store_of};
 use hdfs_cluster::{Cluster, MemCluster};
 use hdfs_model::LocatedBlocks;
 use hdfs_namenode::{NameServiceProxy, NamenodeProtocol};
-use hdfs_top::Note;
+use hdfs_top::{Note, failed_names};
 use std::alloc::{AllocError, Global};
 use std::test::Fail;
 
@@ -16,6 +16,13 @@ pub fn noted(
 ) -> Result<(Ending, String), Fail> {
     let mut note = Box::new(alloc, Note::Nothing)?;
     let given = answer_on(alloc, script, store, &mut note)?;
+    let counts = store.seen()?;
+    note.tell_failed(failed_names(
+        alloc,
+        counts.calls.as_slice(),
+        counts.links,
+        counts.nodes.as_slice(),
+    )?);
     Ok((given, format!(in alloc; "{note}")?))
 }
 

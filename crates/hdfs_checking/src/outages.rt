@@ -84,7 +84,7 @@ fn fault_line(alloc: Global, number: u64) -> Result<String, Fail> {
     Ok(format!(in alloc; "fault ask {namenode} {nth} {kind}\n")?)
 }
 
-/// Whether a line plans an exception with which a note ends that is behind these words.
+/// Whether a line plans an exception which a note tells behind these words.
 fn is_planned(alloc: Global, script: &str, note: &str) -> Result<bool, Fail> {
     for kind in &KINDS {
         let line = format!(in alloc; " {kind}\n")?;
@@ -107,7 +107,7 @@ fn note_error(
     counts: &Counts,
 ) -> Result<bool, Fail> {
     let most = counts.calls.as_slice().iter().copied().max().unwrap_or(0);
-    if note.ends_with(": Namenode") {
+    if note.contains(": Namenode; ") {
         outages.broken = outages.broken.saturating_add(1);
         return Ok(most >= 2);
     }

@@ -104,19 +104,19 @@ fn note_error(
     counts: &Counts,
 ) -> Result<bool, Fail> {
     let some_node = counts.nodes.as_slice().iter().any(|count| *count > 0);
-    if error.ends_with(": Link") || error.ends_with(": Setup") {
+    if error.contains(": Link; ") || error.contains(": Setup; ") {
         tally.set_up = tally.set_up.saturating_add(1);
         return Ok(counts.links > 0);
     }
-    if error.ends_with(": BadAck") {
+    if error.contains(": BadAck; ") {
         tally.bad_ack = tally.bad_ack.saturating_add(1);
         return Ok(counts.links > 0);
     }
-    if error.ends_with(": AllNodes") {
+    if error.contains(": AllNodes; ") {
         tally.all_nodes = tally.all_nodes.saturating_add(1);
         return all_listed_failed(alloc, store, counts);
     }
-    if error.ends_with(": NoReplacement") {
+    if error.contains(": NoReplacement; ") {
         tally.no_replacement = tally.no_replacement.saturating_add(1);
         let called = counts.calls.as_slice().iter().any(|count| *count > 0);
         return Ok(

@@ -23,7 +23,7 @@ use Rattle.hdfs_script.specs.Scripts.{Script, is_fault}
 use Rattle.hdfs_script.specs.Texts.{fault_text}
 use Rattle.hdfs_streams.specs.Streams.{SourceShown, SinkShown, Wrote}
 use Rattle.hdfs_top.specs.declared.note.Note.{Note}
-use Rattle.hdfs_top.specs.declared.note.Note.TheVariants as notes
+use Rattle.hdfs_top.specs.Notes.{TellsStop, stop_of}
 use Rattle.hdfs_top.specs.Top.{IsClosed, IsKnown, IsSession, Loaded, NoneFailed, NotesFault, RanProgram, StatusOf, outside}
 use Rattle.hdfs_in_memory.specs.Program.{Streams, memory_world, IsUnfailed, IsNew, IsFaultless, FailsAsPlanned, RanStore, PrintsRefusal, PrintsReplies, PrintsFault, NotesPrinted, FaultlessDecides}
 
@@ -121,13 +121,17 @@ notes_known source source' sink sink' old new fresh' bytes note is_new planned t
         stopped = halted.stopped;
         wrote = subst (λ (f : Fault). Wrote sink (fault_text f) sink') (sym halts.1) noted.wrote;
       };
-      is = subst (λ (f : Fault). note ≡ notes.Stopped f.at f.error) (sym halts.1) noted.is;
+      is = subst (λ (f : Fault). TellsStop note f.at f.error) (sym halts.1) noted.is;
     }
 
 pub notes_new : (source source' : SourceShown) (sink sink' : SinkShown) (old new : Shown) (fresh fresh' : Bool) (bytes : List ℕ) (note : Note) → IsNew old → FailsAsPlanned new → fresh ≡ true → source.left ≡ Some bytes → NotesFault (outside source sink old fresh) note (outside source' sink' new fresh') → NotesPrinted bytes sink note sink'
 notes_new source source' sink sink' old new fresh fresh' bytes note is_new planned is told noted =
     notes_known source source' sink sink' old new fresh' bytes note is_new planned told
     (subst (λ (f : Bool). NotesFault (outside source sink old f) note (outside source' sink' new fresh')) is noted)
+
+-- what else is told of it changes nothing of that
+pub notes_more : (bytes : List ℕ) (before after : SinkShown) (note more : Note) → stop_of more ≡ stop_of note → NotesPrinted bytes before note after → NotesPrinted bytes before more after
+notes_more bytes before after note more same noted = record { printed = noted.printed; is = same ∙ noted.is }
 
 -- where no line plans a fault none is counted
 node_fault_of_none : (d : List ℕ) (rest : List Line) → list_any is_fault rest ≡ false → node_fault_count rest d ≡ 0

@@ -18,7 +18,7 @@ use Rattle.hdfs_script.specs.Scripts.{Script, is_fault, script, session_settings
 use Rattle.hdfs_script.specs.Texts.{replies_text, fault_text, refusal_text}
 use Rattle.hdfs_streams.specs.Streams.{SourceShown, SinkShown, Wrote}
 use Rattle.hdfs_top.specs.declared.note.Note.{Note}
-use Rattle.hdfs_top.specs.declared.note.Note.TheVariants as notes
+use Rattle.hdfs_top.specs.Notes.{TellsStop}
 use Rattle.hdfs_top.specs.Top.{RanProgram, StatusOf, outside}
 
 -- what is seen of a source and a sink
@@ -105,7 +105,7 @@ pub record PrintsFault (bytes : List ℕ) (before after : SinkShown) : Type 0 wh
 -- a note tells of the fault at which the script stopped, and whose text was printed
 pub record NotesPrinted (bytes : List ℕ) (before : SinkShown) (note : Note) (after : SinkShown) : Type 0 where
   pub printed : PrintsFault bytes before after
-  pub is : note ≡ notes.Stopped printed.fault.at printed.fault.error
+  pub is : TellsStop note printed.fault.at printed.fault.error
 
 -- a script without a fault line, whose numbers are in their limits, ends as the fold says, where no read and no write failed
 abbrev pub FaultlessDecides : List ℕ → Streams → ℕ → Streams → Type 0

@@ -3,5 +3,5 @@
 
 mod over_memory;
 
-pub use hdfs_top::Note;
+pub use hdfs_top::{EXPLANATIONS, Note, explain};
 pub use over_memory::run_words;

@@ -1,11 +1,13 @@
 //! A run of the program over a new cluster in memory.
 ghost use Rattle.std.specs.Prelude.{◌≡◌, ◌≤◌, ℕ, List, Some, map, string_bytes};
+ghost use Rattle.hdfs_top.specs.Notes.{stop_of};
 ghost use Rattle.hdfs_top.specs.Top.{IsSession};
 ghost use Rattle.hdfs_in_memory.specs.Program.{RanNew, PrintsRefusal, PrintsReplies, PrintsFault, NotesPrinted, FaultlessDecides};
 
 use hdfs_cluster::{MemCluster, MemSettings};
 use hdfs_streams::{Sink, Source};
-use hdfs_top::{Note, top};
+use hdfs_top::{Note, failed_names, top};
+use hdfs_wire::{NoMemory, Text};
 use std::alloc::Global;
 
 /// Runs words over a new cluster, which holds the root alone. The statuses are those of `top`; where there is no memory for
@@ -42,5 +44,27 @@ pub fn run_words<S: Source, K: Sink>(
     let Ok(mut store) = MemCluster::new(alloc, MemSettings::of_scripts()) else {
         return 3;
     };
-    top(alloc, words, source, sink, &mut store, note)
+    let status = top(alloc, words, source, sink, &mut store, note);
+    tell_failed(alloc, &store, note);
+    status
+}
+
+// Tells of a session that stopped also what has failed of a cluster, but for want of memory.
+fn tell_failed(alloc: Global, store: &MemCluster, note: &mut Note)
+    ensures { stop_of note.new ≡ stop_of note.old }
+{
+    if let Ok(failed) = failed_of(alloc, store) {
+        note.tell_failed(failed);
+    }
+}
+
+// What has failed of a cluster.
+fn failed_of(alloc: Global, store: &MemCluster) -> Result<Text, NoMemory> {
+    let counts = store.seen()?;
+    failed_names(
+        alloc,
+        counts.calls.as_slice(),
+        counts.links,
+        counts.nodes.as_slice(),
+    )
 }

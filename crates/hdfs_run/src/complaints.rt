@@ -1,5 +1,5 @@
-//! The line on standard error that says what a status leaves unsaid. Where it can't be written nothing else changes.
-use hdfs_in_memory::Note;
+//! The lines on standard error that say what a status leaves unsaid. Where they can't be written nothing else changes.
+use hdfs_in_memory::{EXPLANATIONS, Note};
 use std::io;
 
 // Says what a status says by itself.
@@ -24,12 +24,31 @@ fn tell_words(rt: &HostRuntime, words: &[String]) -> io::Result<()> {
     eprintln!(rt; ", see --help")
 }
 
+// Says which names `--explain` knows.
+fn tell_names(rt: &HostRuntime) -> io::Result<()> {
+    eprintln!(rt;
+        "hdfs_run: --explain takes the name of an error, or that of the value which it keeps:"
+    )?;
+    for row in &EXPLANATIONS {
+        eprintln!(rt; "  {row}")?;
+    }
+    Ok(())
+}
+
+// Says of words that are refused which are unknown, or which names there are.
+fn tell_refused(rt: &HostRuntime, words: &[String]) -> io::Result<()> {
+    match words.first() {
+        Some(word) if word.as_str() == "--explain" => tell_names(rt),
+        _ => tell_words(rt, words),
+    }
+}
+
 /// Says what a status of the program over some words leaves unsaid.
 pub(crate) fn complain(rt: &HostRuntime, status: u8, words: &[String], note: &Note) {
     let _ = match note {
         Note::Nothing => tell_status(rt, status),
         _ if status == 5 => tell_status(rt, status),
-        Note::Words => tell_words(rt, words),
+        Note::Words => tell_refused(rt, words),
         note => eprintln!(rt; "hdfs_run: {note}"),
     };
 }

@@ -5,9 +5,12 @@ pub(crate) const VERSION: &str = "hdfs_run 0.1.0\n";
 pub(crate) const HELP: &str = "\
 Runs a script of file commands over an HDFS cluster in memory, with one namenode and three datanodes, if it says nothing else.
 It reads the script from standard input and writes a line for each reply to standard output. What goes wrong is said in a
-line on standard error: which line of the script and why, or which command and the error.
+line on standard error: which line of the script and why; or which command, its path, the error, what has failed and what to do.
 
-Usage: hdfs_run session | --help | --version
+Usage: hdfs_run session | --explain NAME | --help | --version
+
+`--explain NAME` says of an error, as DataTransferError or AllNodes, when it comes, what is so of the file afterwards and what to
+do next. Without a name, or with one that isn't there, all names are listed on standard error.
 
 A script has lines for settings, then for directories, files and short replicas to load, then for faults, and then one for each command to run:
 

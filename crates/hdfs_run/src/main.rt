@@ -6,9 +6,10 @@ mod help;
 
 use complaints::complain;
 use hdfs_edge::{StdSink, StdSource, WordsFault, words};
-use hdfs_in_memory::{Note, run_words};
+use hdfs_in_memory::{Note, explain, run_words};
 use hdfs_script::write_refusal;
 use hdfs_streams::{IoFailed, Sink, write_all};
+use hdfs_wire::NoMemory;
 use help::{HELP, VERSION};
 use std::process::ExitCode;
 
@@ -20,6 +21,11 @@ fn status_of(good: u8, printed: Result<(), IoFailed>) -> u8 {
     }
 }
 
+// Prints a text, and answers the status.
+fn print<K: Sink>(sink: &mut K, text: &str) -> u8 {
+    status_of(0, write_all(sink, text.as_bytes()))
+}
+
 // Refuses words that can't be told.
 fn refuse_words<K: Sink>(rt: &HostRuntime, sink: &mut K, fault: WordsFault) -> u8 {
     let _ = eprintln!(rt; "hdfs_run: {fault}");
@@ -29,22 +35,43 @@ fn refuse_words<K: Sink>(rt: &HostRuntime, sink: &mut K, fault: WordsFault) -> u
     }
 }
 
+// What the errors of a name mean, where the words are `--explain` and a name that there is; else nothing.
+fn explanation(rt: &HostRuntime, words: &[String]) -> Result<String, NoMemory> {
+    match words {
+        [option, name] if option.as_str() == "--explain" => explain(rt.alloc(), name.as_str()),
+        _ => Ok(String::new(rt.alloc())),
+    }
+}
+
+// Runs words over standard input, if they are those of a session.
+fn run_session<K: Sink>(rt: &HostRuntime, words: &[String], sink: &mut K, note: &mut Note) -> u8 {
+    let mut source = StdSource::new(rt.stdin());
+    run_words(rt.alloc(), words, &mut source, sink, note)
+}
+
+// Does what words say, and answers the status.
+fn answer<K: Sink>(rt: &HostRuntime, words: &[String], sink: &mut K, note: &mut Note) -> u8 {
+    match words {
+        [word] if word.as_str() == "--help" => return print(sink, HELP),
+        [word] if word.as_str() == "--version" => return print(sink, VERSION),
+        _ => {}
+    }
+    match explanation(rt, words) {
+        Ok(text) if text.is_empty() => run_session(rt, words, sink, note),
+        Ok(text) => print(sink, text.as_str()),
+        Err(NoMemory) => 3,
+    }
+}
+
 // Runs the words of the command line over standard input and output, and complains on standard error.
 fn run(rt: &HostRuntime) -> u8 {
-    let mut source = StdSource::new(rt.stdin());
     let mut sink = StdSink::new(rt.stdout());
     let words = match words(rt) {
         Ok(words) => words,
         Err(fault) => return refuse_words(rt, &mut sink, fault),
     };
     let mut note = Note::Nothing;
-    let status = match words.as_slice() {
-        [word] if word.as_str() == "--help" => status_of(0, write_all(&mut sink, HELP.as_bytes())),
-        [word] if word.as_str() == "--version" => {
-            status_of(0, write_all(&mut sink, VERSION.as_bytes()))
-        }
-        words => run_words(rt.alloc(), words, &mut source, &mut sink, &mut note),
-    };
+    let status = answer(rt, words.as_slice(), &mut sink, &mut note);
     complain(rt, status, words.as_slice(), &note);
     status
 }

@@ -1,13 +1,13 @@
 -- The words of a line.
-use Rattle.std.proofs.Common.{◌≡◌, ◌≢◌, ℕ, true, false, ◌&&◌, nat_le, nat_lt, eqb, List, [], ◌∷◌, length, get_or, take, map, refl, ◌∙◌, ap, arith}
+use Rattle.std.proofs.Common.{◌≡◌, ◌≢◌, ℕ, true, false, ◌&&◌, nat_le, nat_lt, eqb, List, [], ◌∷◌, length, get_or, take, map, Some, refl, ◌∙◌, ap, arith}
 use Rattle.std.specs.List.{list_all, slice_split}
 use Rattle.std.specs.Str.{IsAscii, IsUtf8}
 use Rattle.std.proofs.lemmas.Str.{IsUtf8-from_ascii}
 use Rattle.std.proofs.lemmas.Str.Ascii.{IsAscii-nil, IsAscii-cons}
 use Rattle.std.proofs.lemmas.Bool.Decides.{nat_tests}
 use Rattle.hdfs_script.specs.declared.entry.Entry.{Entry}
-use Rattle.hdfs_script.specs.declared.entry.Entry.TheVariants.{Bad}
-use Rattle.hdfs_script.specs.Entries.{is_alphanumeric, words_entry, ascii_entry, entry_of}
+use Rattle.hdfs_script.specs.declared.entry.Entry.TheVariants.{Blank, Sets, Loads, Runs, Bad}
+use Rattle.hdfs_script.specs.Entries.{good, is_alphanumeric, words_entry, ascii_entry, entry_of}
 use Rattle.hdfs_script.specs.Words.{is_word}
 
 -- printable bytes are ASCII
@@ -94,3 +94,11 @@ entry_of_words (c ∷ rest) some other words is =
 -- a line of ASCII, and one that isn't
 pub entry_of_ascii : (line : List ℕ) (entry : Entry) → true ≡ list_all (λ b. nat_lt b 128) line → entry ≡ ascii_entry line → entry ≡ entry_of line
 entry_of_ascii line entry ascii is = is ∙ rw (← ascii) refl
+
+-- an entry that isn't bad is the one of which that is said
+pub entry_of_good : (entry wanted : Entry) → Some entry ≡ good wanted → entry ≡ wanted
+entry_of_good entry Bad is = absurd (cc is)
+entry_of_good entry Blank is = cc is
+entry_of_good entry (Sets setting) is = cc is
+entry_of_good entry (Loads line) is = cc is
+entry_of_good entry (Runs command) is = cc is

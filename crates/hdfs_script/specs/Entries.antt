@@ -15,12 +15,20 @@ use Rattle.hdfs_model.specs.declared.store.ReadKind.TheVariants as read_kinds
 use Rattle.hdfs_names.specs.declared.replacement.Policy.{Policy}
 use Rattle.hdfs_names.specs.declared.replacement.Policy.TheVariants as policies
 use Rattle.hdfs_script.specs.declared.entry.Entry.{Entry}
-use Rattle.hdfs_script.specs.declared.entry.Entry.TheVariants.{Blank, Sets, Loads, Bad}
+use Rattle.hdfs_script.specs.declared.entry.Entry.TheVariants.{Blank, Sets, Loads, Runs, Bad}
 use Rattle.hdfs_script.specs.declared.entry.Setting.{Setting}
 use Rattle.hdfs_script.specs.declared.entry.Setting.TheVariants as settings
 use Rattle.hdfs_script.specs.Commands.{append_entry, close_entry, create_entry, flag_of, options_of, read_entry, write_entry}
 use Rattle.hdfs_script.specs.Numbers.{number, hex_bytes}
 use Rattle.hdfs_script.specs.Words.{is_word}
+
+-- an entry that isn't bad
+abbrev pub good : Entry → Option Entry
+good Bad = None
+good Blank = Some Blank
+good (Sets setting) = Some (Sets setting)
+good (Loads line) = Some (Loads line)
+good (Runs command) = Some (Runs command)
 
 -- the attributes of a file, where each is a number; it isn't encrypted
 abbrev pub attributes : Option ℕ → Option ℕ → Option ℕ → Option Attributes

@@ -1,4 +1,8 @@
 //! What a script says.
+ghost use Rattle.std.specs.Prelude.{◌≡◌, None};
+ghost use Rattle.std.specs.Result.{result_ok};
+
+use crate::wrong::{Why, Wrong};
 use hdfs_model::{Command, Line, MemSettings};
 use hdfs_names::{Policy, ReplaceDatanodeOnFailure};
 use hdfs_wire::{List, Text};
@@ -57,6 +61,16 @@ pub enum Entry {
     Runs(Command),
     /// It is no line of a script.
     Bad,
+}
+
+/// What a line says that isn't bad, or why it is bad.
+pub(crate) type Reading = Result<Entry, Wrong>;
+
+/// A bad line, since this word of it is wrong.
+pub(crate) fn bad(word: usize, why: Why) -> Reading
+    ensures { result_ok result ≡ None }
+{
+    Err(Wrong { word, why })
 }
 
 /// Where the next line of a script stands: the part of the line before it, and the numbers of the namenodes by the settings so

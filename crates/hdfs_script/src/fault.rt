@@ -1,12 +1,16 @@
 //! The lines of a script that plan a fault.
-ghost use Rattle.std.specs.Prelude.{◌≡◌, ◌^◌, ℕ, IfOk, MatchOption};
+ghost use Rattle.std.specs.Prelude.{◌≡◌, ◌^◌, ℕ, IfOk, MatchResult};
+ghost use Rattle.std.specs.Result.{result_ok};
 ghost use Rattle.hdfs_model.specs.declared.store.FaultLine.{FaultLine as Fault};
 ghost use Rattle.hdfs_script.specs.Entries as spec;
+ghost use Rattle.hdfs_script.specs.Entries.{good};
 ghost use Rattle.hdfs_script.specs.Numbers.{number as number_of};
 
-use crate::entry::Entry;
+use crate::entry::{Entry, Reading, bad};
+use crate::forms::no_line;
 use crate::numbers::number;
 use crate::words::{U32_MOST, U64_MOST, is_text, word};
+use crate::wrong::{Why, Wrong};
 use hdfs_model::{AskKind, FaultLine, Line, LinkKind, ReadKind};
 use hdfs_wire::{NoMemory, Text};
 use std::alloc::Global;
@@ -28,16 +32,19 @@ pub(crate) fn link_kind(text: &[u8]) -> Option<LinkKind>
 }
 
 // `fault link N KIND`
-fn link_entry(nth: &[u8], kind: &[u8]) -> Entry
-    ensures { result ≡ spec.link_entry (number_of 10 (2 ^ 64) nth.now) (spec.link_kind kind.now) }
+fn link_entry(nth: &[u8], kind: &[u8]) -> Reading
+    ensures { result_ok result ≡ good (spec.link_entry (number_of 10 (2 ^ 64) nth.now) (spec.link_kind kind.now)) }
 {
-    let (Some(nth), Some(kind)) = (number(10, U64_MOST, nth), link_kind(kind)) else {
-        return Entry::Bad;
+    let Some(nth) = number(10, U64_MOST, nth) else {
+        return bad(2, Why::Nth);
+    };
+    let Some(kind) = link_kind(kind) else {
+        return bad(3, Why::LinkKind);
     };
     if nth == 0 {
-        return Entry::Bad;
+        return bad(2, Why::Nth);
     }
-    Entry::Loads(Line::Fault(FaultLine::Link { nth, kind }))
+    Ok(Entry::Loads(Line::Fault(FaultLine::Link { nth, kind })))
 }
 
 // A call of the object with a number: a datanode, or a namenode.
@@ -46,41 +53,57 @@ struct NodeCall {
     nth: u64,
 }
 
-// The call that two words write.
-fn node_call(node: &[u8], nth: &[u8]) -> Option<NodeCall>
-    ensures { (fault : ℕ → ℕ → Fault) → MatchOption result (spec.node_fault fault node.now nth.now ≡ Entry.Bad)
-        (λ call. spec.node_fault fault node.now nth.now ≡ Entry.Loads (Line.Fault (fault call.node call.nth))) }
+// The call that words 2 and 3 write. What is wrong with a number of an object that isn't one is given.
+fn node_call(other: Why, node: &[u8], nth: &[u8]) -> Result<NodeCall, Wrong>
+    ensures { (fault : ℕ → ℕ → Fault) → MatchResult result
+        (λ call. spec.node_fault fault node.now nth.now ≡ Entry.Loads (Line.Fault (fault call.node call.nth)))
+        (λ wrong. spec.node_fault fault node.now nth.now ≡ Entry.Bad) }
 {
-    let (Some(node), Some(nth)) = (number(10, U32_MOST, node), number(10, U64_MOST, nth)) else {
-        return None;
+    let Some(node) = number(10, U32_MOST, node) else {
+        return Err(Wrong {
+            word: 2,
+            why: other,
+        });
+    };
+    let Some(nth) = number(10, U64_MOST, nth) else {
+        return Err(Wrong {
+            word: 3,
+            why: Why::Nth,
+        });
     };
     if nth == 0 {
-        return None;
+        return Err(Wrong {
+            word: 3,
+            why: Why::Nth,
+        });
     }
-    Some(NodeCall {
+    Ok(NodeCall {
         node: node as u32,
         nth,
     })
 }
 
 // `fault ack D N`
-fn ack_entry(node: &[u8], nth: &[u8]) -> Entry
-    ensures { result ≡ spec.node_fault (λ node nth. FaultLine.AckOf node nth) node.now nth.now }
+fn ack_entry(node: &[u8], nth: &[u8]) -> Reading
+    ensures { result_ok result ≡ good (spec.node_fault (λ node nth. FaultLine.AckOf node nth) node.now nth.now) }
 {
-    let Some(NodeCall { node, nth }) = node_call(node, nth) else {
-        return Entry::Bad;
-    };
-    Entry::Loads(Line::Fault(FaultLine::AckOf { node, nth }))
+    match node_call(Why::Node, node, nth) {
+        Ok(NodeCall { node, nth }) => Ok(Entry::Loads(Line::Fault(FaultLine::AckOf { node, nth }))),
+        Err(wrong) => Err(wrong),
+    }
 }
 
 // `fault send D N`
-fn send_entry(node: &[u8], nth: &[u8]) -> Entry
-    ensures { result ≡ spec.node_fault (λ node nth. FaultLine.SendTo node nth) node.now nth.now }
+fn send_entry(node: &[u8], nth: &[u8]) -> Reading
+    ensures { result_ok result ≡ good (spec.node_fault (λ node nth. FaultLine.SendTo node nth) node.now nth.now) }
 {
-    let Some(NodeCall { node, nth }) = node_call(node, nth) else {
-        return Entry::Bad;
-    };
-    Entry::Loads(Line::Fault(FaultLine::SendTo { node, nth }))
+    match node_call(Why::Node, node, nth) {
+        Ok(NodeCall { node, nth }) => Ok(Entry::Loads(Line::Fault(FaultLine::SendTo {
+            node,
+            nth,
+        }))),
+        Err(wrong) => Err(wrong),
+    }
 }
 
 /// How a datanode fails in a read.
@@ -103,16 +126,20 @@ pub(crate) fn read_kind(text: &[u8]) -> Option<ReadKind>
 }
 
 /// `fault read D N KIND`
-pub(crate) fn read_fault(node: &[u8], nth: &[u8], kind: &[u8]) -> Entry
-    ensures { result ≡ spec.read_fault (spec.read_kind kind.now) node.now nth.now }
+pub(crate) fn read_fault(node: &[u8], nth: &[u8], kind: &[u8]) -> Reading
+    ensures { result_ok result ≡ good (spec.read_fault (spec.read_kind kind.now) node.now nth.now) }
 {
     let Some(kind) = read_kind(kind) else {
-        return Entry::Bad;
+        return bad(4, Why::ReadKind);
     };
-    let Some(NodeCall { node, nth }) = node_call(node, nth) else {
-        return Entry::Bad;
-    };
-    Entry::Loads(Line::Fault(FaultLine::ReadOf { node, nth, kind }))
+    match node_call(Why::Node, node, nth) {
+        Ok(NodeCall { node, nth }) => Ok(Entry::Loads(Line::Fault(FaultLine::ReadOf {
+            node,
+            nth,
+            kind,
+        }))),
+        Err(wrong) => Err(wrong),
+    }
 }
 
 /// How a namenode fails an ask, but for an exception.
@@ -135,26 +162,20 @@ pub(crate) fn ask_kind(text: &[u8]) -> Option<AskKind>
 }
 
 /// `fault ask I N KIND`
-pub(crate) fn ask_fault(namenode: &[u8], nth: &[u8], kind: &[u8]) -> Entry
-    ensures { result ≡ spec.ask_fault (spec.ask_kind kind.now) namenode.now nth.now }
+pub(crate) fn ask_fault(namenode: &[u8], nth: &[u8], kind: &[u8]) -> Reading
+    ensures { result_ok result ≡ good (spec.ask_fault (spec.ask_kind kind.now) namenode.now nth.now) }
 {
     let Some(kind) = ask_kind(kind) else {
-        return Entry::Bad;
+        return bad(4, Why::AskKind);
     };
-    let Some(
-        NodeCall {
-            node: namenode,
+    match node_call(Why::Namenode, namenode, nth) {
+        Ok(NodeCall { node, nth }) => Ok(Entry::Loads(Line::Fault(FaultLine::Ask {
+            namenode: node,
             nth,
-        },
-    ) = node_call(namenode, nth)
-    else {
-        return Entry::Bad;
-    };
-    Entry::Loads(Line::Fault(FaultLine::Ask {
-        namenode,
-        nth,
-        kind,
-    }))
+            kind,
+        }))),
+        Err(wrong) => Err(wrong),
+    }
 }
 
 /// `fault ask I N exception CLASS`
@@ -164,35 +185,34 @@ pub(crate) fn exception_fault(
     nth: &[u8],
     kind: &[u8],
     class: &[u8],
-) -> Result<Entry, NoMemory>
-    ensures { IfOk result (λ entry. entry ≡ spec.exception_fault namenode.now nth.now kind.now class.now) }
+) -> Result<Reading, NoMemory>
+    ensures { IfOk result (λ reading. result_ok reading
+        ≡ good (spec.exception_fault namenode.now nth.now kind.now class.now)) }
 {
     if !is_text(kind, "exception") {
-        return Ok(Entry::Bad);
+        return Ok(bad(4, Why::AskWords));
     }
     let Some(class) = word(class) else {
-        return Ok(Entry::Bad);
+        return Ok(bad(5, Why::Class));
     };
-    let Some(
-        NodeCall {
-            node: namenode,
-            nth,
-        },
-    ) = node_call(namenode, nth)
-    else {
-        return Ok(Entry::Bad);
+    let NodeCall {
+        node: namenode,
+        nth,
+    } = match node_call(Why::Namenode, namenode, nth) {
+        Ok(call) => call,
+        Err(wrong) => return Ok(Err(wrong)),
     };
     let kind = AskKind::Exception(Text::from_str(alloc, class)?);
-    Ok(Entry::Loads(Line::Fault(FaultLine::Ask {
+    Ok(Ok(Entry::Loads(Line::Fault(FaultLine::Ask {
         namenode,
         nth,
         kind,
-    })))
+    }))))
 }
 
 /// `fault link N KIND`, `fault ack D N` or `fault send D N`
-pub(crate) fn fault_entry(call: &[u8], a: &[u8], b: &[u8]) -> Entry
-    ensures { result ≡ spec.fault_entry call.now a.now b.now }
+pub(crate) fn fault_entry(call: &[u8], a: &[u8], b: &[u8]) -> Reading
+    ensures { result_ok result ≡ good (spec.fault_entry call.now a.now b.now) }
 {
     if is_text(call, "link") {
         return link_entry(a, b);
@@ -203,5 +223,5 @@ pub(crate) fn fault_entry(call: &[u8], a: &[u8], b: &[u8]) -> Entry
     if is_text(call, "send") {
         return send_entry(a, b);
     }
-    Entry::Bad
+    no_line(b"fault", call, 4)
 }

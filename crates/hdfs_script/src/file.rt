@@ -1,38 +1,56 @@
 //! The lines of a script with a directory, a file or a short replica.
 ghost use Rattle.std.specs.Prelude.{◌≡◌, IfOk};
+ghost use Rattle.std.specs.Result.{result_ok};
 ghost use Rattle.hdfs_script.specs.Entries as spec;
+ghost use Rattle.hdfs_script.specs.Entries.{good};
 ghost use Rattle.hdfs_script.specs.Numbers.{hex_bytes as hex_bytes_of};
 
-use crate::entry::Entry;
+use crate::entry::{Entry, Reading, bad};
 use crate::numbers::{hex_bytes, number};
 use crate::words::{U32_MOST, U64_MOST, word};
+use crate::wrong::{Why, Wrong};
 use hdfs_model::{Attributes, Line};
 use hdfs_wire::{NoMemory, Text};
 use std::alloc::Global;
 
 /// `dir PATH`
-pub(crate) fn dir_entry(alloc: Global, path: &[u8]) -> Result<Entry, NoMemory>
-    ensures { IfOk result (λ entry. entry ≡ spec.dir_entry path.now) }
+pub(crate) fn dir_entry(alloc: Global, path: &[u8]) -> Result<Reading, NoMemory>
+    ensures { IfOk result (λ reading. result_ok reading ≡ good (spec.dir_entry path.now)) }
 {
     let Some(path) = word(path) else {
-        return Ok(Entry::Bad);
+        return Ok(bad(1, Why::Unprintable));
     };
     let path = Text::from_str(alloc, path)?;
-    Ok(Entry::Loads(Line::Dir { path }))
+    Ok(Ok(Entry::Loads(Line::Dir { path })))
 }
 
-/// `PERM REPL BLOCK`
+/// `PERM REPL BLOCK`, from word 2 on.
 pub(crate) fn attributes(
     permission: &[u8],
     replication: &[u8],
     block_size: &[u8],
-) -> Option<Attributes>
-    ensures { result ≡ spec.attributes_of permission.now replication.now block_size.now }
+) -> Result<Attributes, Wrong>
+    ensures { result_ok result ≡ spec.attributes_of permission.now replication.now block_size.now }
 {
-    let permission = number(8, U32_MOST, permission)?;
-    let replication = number(10, U32_MOST, replication)?;
-    let block_size = number(10, U64_MOST, block_size)?;
-    Some(Attributes {
+    let Some(permission) = number(8, U32_MOST, permission) else {
+        return Err(Wrong {
+            word: 2,
+            why: Why::Permission,
+        });
+    };
+    let Some(replication) = number(10, U32_MOST, replication) else {
+        return Err(Wrong {
+            word: 3,
+            why: Why::Replication,
+        });
+    };
+    let Some(block_size) = number(10, U64_MOST, block_size) else {
+        return Err(Wrong {
+            word: 4,
+            why: Why::BlockSize,
+        });
+    };
+    Ok(Attributes {
         permission: permission as u32,
         replication: replication as u32,
         block_size,
@@ -44,23 +62,28 @@ pub(crate) fn attributes(
 pub(crate) fn file_entry(
     alloc: Global,
     path: &[u8],
-    attributes: Option<Attributes>,
+    attributes: Result<Attributes, Wrong>,
     bytes: &[u8],
-) -> Result<Entry, NoMemory>
-    ensures { IfOk result (λ entry. entry ≡ spec.file_entry path.now attributes (hex_bytes_of bytes.now)) }
+) -> Result<Reading, NoMemory>
+    ensures { IfOk result (λ reading. result_ok reading
+        ≡ good (spec.file_entry path.now (result_ok attributes) (hex_bytes_of bytes.now))) }
 {
-    let (Some(attributes), Some(path)) = (attributes, word(path)) else {
-        return Ok(Entry::Bad);
+    let Some(path) = word(path) else {
+        return Ok(bad(1, Why::Unprintable));
+    };
+    let attributes = match attributes {
+        Ok(attributes) => attributes,
+        Err(wrong) => return Ok(Err(wrong)),
     };
     let Some(bytes) = hex_bytes(alloc, bytes)? else {
-        return Ok(Entry::Bad);
+        return Ok(bad(5, Why::Hex));
     };
     let path = Text::from_str(alloc, path)?;
-    Ok(Entry::Loads(Line::File {
+    Ok(Ok(Entry::Loads(Line::File {
         path,
         attributes,
         bytes,
-    }))
+    })))
 }
 
 /// `short PATH K D LEN`
@@ -70,20 +93,26 @@ pub(crate) fn short_entry(
     block: &[u8],
     node: &[u8],
     len: &[u8],
-) -> Result<Entry, NoMemory>
-    ensures { IfOk result (λ entry. entry ≡ spec.short_entry path.now block.now node.now len.now) }
+) -> Result<Reading, NoMemory>
+    ensures { IfOk result (λ reading. result_ok reading ≡ good (spec.short_entry path.now block.now node.now len.now)) }
 {
-    let (Some(block), Some(node)) = (number(10, U32_MOST, block), number(10, U32_MOST, node)) else {
-        return Ok(Entry::Bad);
+    let Some(path) = word(path) else {
+        return Ok(bad(1, Why::Unprintable));
     };
-    let (Some(len), Some(path)) = (number(10, U64_MOST, len), word(path)) else {
-        return Ok(Entry::Bad);
+    let Some(block) = number(10, U32_MOST, block) else {
+        return Ok(bad(2, Why::Block));
+    };
+    let Some(node) = number(10, U32_MOST, node) else {
+        return Ok(bad(3, Why::Node));
+    };
+    let Some(len) = number(10, U64_MOST, len) else {
+        return Ok(bad(4, Why::Length));
     };
     let path = Text::from_str(alloc, path)?;
-    Ok(Entry::Loads(Line::Short {
+    Ok(Ok(Entry::Loads(Line::Short {
         path,
         block: block as u32,
         node: node as u32,
         len,
-    }))
+    })))
 }

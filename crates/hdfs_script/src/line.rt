@@ -1,15 +1,19 @@
 //! One line of a script.
-ghost use Rattle.std.specs.Prelude.{◌≡◌, ◌&&◌, [], ◌∷◌, map, IfOk, codes, if◌then◌else◌};
+ghost use Rattle.std.specs.Prelude.{◌≡◌, ◌&&◌, [], ◌∷◌, map, None, IfOk, codes, if◌then◌else◌};
+ghost use Rattle.std.specs.Result.{result_ok};
 ghost use Rattle.std.specs.Str.{bytes_eq};
 ghost use Rattle.hdfs_script.specs.Commands.{create_entry as create_entry_of};
 ghost use Rattle.hdfs_script.specs.Entries as spec;
+ghost use Rattle.hdfs_script.specs.Entries.{good};
 
 use crate::command::{append_entry, close_entry, create_entry, options, read_entry, write_entry};
-use crate::entry::Entry;
+use crate::entry::{Entry, Reading, bad};
 use crate::fault::{ask_fault, exception_fault, fault_entry, read_fault};
 use crate::file::{attributes, dir_entry, file_entry, short_entry};
+use crate::forms::no_line;
 use crate::setting::set_entry;
 use crate::words::{is_ascii, is_text, words};
+use crate::wrong::{Why, Wrong};
 use hdfs_model::WriteOptions;
 use hdfs_wire::NoMemory;
 use std::alloc::Global;
@@ -20,13 +24,14 @@ fn eight_words(
     kind: &[u8],
     call: &[u8],
     path: &[u8],
-    options: Option<WriteOptions>,
-) -> Result<Entry, NoMemory>
-    ensures { IfOk result (λ entry. entry ≡ (if bytes_eq kind.now (codes "do") && bytes_eq call.now (codes "create")
-        then create_entry_of path.now options else Entry.Bad)) }
+    options: Result<WriteOptions, Wrong>,
+) -> Result<Reading, NoMemory>
+    ensures { IfOk result (λ reading. result_ok reading
+        ≡ good (if bytes_eq kind.now (codes "do") && bytes_eq call.now (codes "create")
+        then create_entry_of path.now (result_ok options) else Entry.Bad)) }
 {
     if !is_text(kind, "do") || !is_text(call, "create") {
-        return Ok(Entry::Bad);
+        return Ok(no_line(kind, call, 8));
     }
     Ok(create_entry(alloc, path, options)?)
 }
@@ -40,8 +45,9 @@ fn six_words(
     b: &[u8],
     c: &[u8],
     d: &[u8],
-) -> Result<Entry, NoMemory>
-    ensures { IfOk result (λ entry. entry ≡ spec.words_entry (kind.now ∷ call.now ∷ a.now ∷ b.now ∷ c.now ∷ d.now ∷ [])) }
+) -> Result<Reading, NoMemory>
+    ensures { IfOk result (λ reading. result_ok reading
+        ≡ good (spec.words_entry (kind.now ∷ call.now ∷ a.now ∷ b.now ∷ c.now ∷ d.now ∷ []))) }
 {
     if is_text(kind, "file") {
         let attributes = attributes(a, b, c);
@@ -50,7 +56,7 @@ fn six_words(
     if is_text(kind, "fault") && is_text(call, "ask") {
         return Ok(exception_fault(alloc, a, b, c, d)?);
     }
-    Ok(Entry::Bad)
+    Ok(no_line(kind, call, 6))
 }
 
 // A line of five words.
@@ -61,8 +67,9 @@ fn five_words(
     a: &[u8],
     b: &[u8],
     c: &[u8],
-) -> Result<Entry, NoMemory>
-    ensures { IfOk result (λ entry. entry ≡ spec.words_entry (kind.now ∷ call.now ∷ a.now ∷ b.now ∷ c.now ∷ [])) }
+) -> Result<Reading, NoMemory>
+    ensures { IfOk result (λ reading. result_ok reading
+        ≡ good (spec.words_entry (kind.now ∷ call.now ∷ a.now ∷ b.now ∷ c.now ∷ []))) }
 {
     if is_text(kind, "fault") && is_text(call, "read") {
         return Ok(read_fault(a, b, c));
@@ -76,7 +83,7 @@ fn five_words(
     if is_text(kind, "short") {
         return Ok(short_entry(alloc, call, a, b, c)?);
     }
-    Ok(Entry::Bad)
+    Ok(no_line(kind, call, 5))
 }
 
 // A line of four words.
@@ -86,27 +93,28 @@ fn four_words(
     call: &[u8],
     a: &[u8],
     b: &[u8],
-) -> Result<Entry, NoMemory>
-    ensures { IfOk result (λ entry. entry ≡ spec.words_entry (kind.now ∷ call.now ∷ a.now ∷ b.now ∷ [])) }
+) -> Result<Reading, NoMemory>
+    ensures { IfOk result (λ reading. result_ok reading
+        ≡ good (spec.words_entry (kind.now ∷ call.now ∷ a.now ∷ b.now ∷ []))) }
 {
     if is_text(kind, "fault") {
         return Ok(fault_entry(call, a, b));
     }
     if !is_text(kind, "do") || !is_text(call, "write") {
-        return Ok(Entry::Bad);
+        return Ok(no_line(kind, call, 4));
     }
     Ok(write_entry(alloc, a, b)?)
 }
 
 // A line of three words.
-fn three_words(alloc: Global, kind: &[u8], call: &[u8], a: &[u8]) -> Result<Entry, NoMemory>
-    ensures { IfOk result (λ entry. entry ≡ spec.words_entry (kind.now ∷ call.now ∷ a.now ∷ [])) }
+fn three_words(alloc: Global, kind: &[u8], call: &[u8], a: &[u8]) -> Result<Reading, NoMemory>
+    ensures { IfOk result (λ reading. result_ok reading ≡ good (spec.words_entry (kind.now ∷ call.now ∷ a.now ∷ []))) }
 {
     if is_text(kind, "set") {
         return Ok(set_entry(alloc, call, a)?);
     }
     if !is_text(kind, "do") {
-        return Ok(Entry::Bad);
+        return Ok(no_line(kind, call, 3));
     }
     if is_text(call, "append") {
         return Ok(append_entry(alloc, a)?);
@@ -114,22 +122,33 @@ fn three_words(alloc: Global, kind: &[u8], call: &[u8], a: &[u8]) -> Result<Entr
     if is_text(call, "close") {
         return Ok(close_entry(alloc, a)?);
     }
-    Ok(Entry::Bad)
+    Ok(no_line(kind, call, 3))
 }
 
 // A line of two words.
-fn two_words(alloc: Global, kind: &[u8], path: &[u8]) -> Result<Entry, NoMemory>
-    ensures { IfOk result (λ entry. entry ≡ spec.words_entry (kind.now ∷ path.now ∷ [])) }
+fn two_words(alloc: Global, kind: &[u8], path: &[u8]) -> Result<Reading, NoMemory>
+    ensures { IfOk result (λ reading. result_ok reading ≡ good (spec.words_entry (kind.now ∷ path.now ∷ []))) }
 {
     if !is_text(kind, "dir") {
-        return Ok(Entry::Bad);
+        return Ok(no_line(kind, path, 2));
     }
     Ok(dir_entry(alloc, path)?)
 }
 
+// What is wrong with words of which no line has so many.
+fn other_words(words: &[&[u8]]) -> Reading
+    ensures { result_ok result ≡ None }
+{
+    match words {
+        [] => no_line(b"", b"", 0),
+        [kind] => no_line(kind, b"", 1),
+        [kind, call, ..] => no_line(kind, call, words.len()),
+    }
+}
+
 // What the words of a line say.
-fn words_entry(alloc: Global, words: &[&[u8]]) -> Result<Entry, NoMemory>
-    ensures { IfOk result (λ entry. entry ≡ spec.words_entry (map (λ word. word.now) words.now)) }
+fn words_entry(alloc: Global, words: &[&[u8]]) -> Result<Reading, NoMemory>
+    ensures { IfOk result (λ reading. result_ok reading ≡ good (spec.words_entry (map (λ word. word.now) words.now))) }
 {
     match words.len() {
         8 => {
@@ -143,20 +162,30 @@ fn words_entry(alloc: Global, words: &[&[u8]]) -> Result<Entry, NoMemory>
         4 => Ok(four_words(alloc, words[0], words[1], words[2], words[3])?),
         3 => Ok(three_words(alloc, words[0], words[1], words[2])?),
         2 => Ok(two_words(alloc, words[0], words[1])?),
-        _ => Ok(Entry::Bad),
+        _ => Ok(other_words(words)),
     }
+}
+
+/// What a line says that isn't bad, or why it is bad.
+pub(crate) fn reading(alloc: Global, line: &[u8]) -> Result<Reading, NoMemory>
+    ensures { IfOk result (λ reading. result_ok reading ≡ good (spec.entry_of line.now)) }
+{
+    if !is_ascii(line) {
+        return Ok(bad(0, Why::NotAscii));
+    }
+    if line.is_empty() || line[0] == b'#' {
+        return Ok(Ok(Entry::Blank));
+    }
+    let words = words(alloc, line)?;
+    Ok(words_entry(alloc, words.as_slice())?)
 }
 
 /// What a line says.
 pub(crate) fn entry(alloc: Global, line: &[u8]) -> Result<Entry, NoMemory>
     ensures { IfOk result (λ entry. entry ≡ spec.entry_of line.now) }
 {
-    if !is_ascii(line) {
-        return Ok(Entry::Bad);
+    match reading(alloc, line)? {
+        Ok(entry) => Ok(entry),
+        Err(_) => Ok(Entry::Bad),
     }
-    if line.is_empty() || line[0] == b'#' {
-        return Ok(Entry::Blank);
-    }
-    let words = words(alloc, line)?;
-    Ok(words_entry(alloc, words.as_slice())?)
 }

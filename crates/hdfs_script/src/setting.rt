@@ -1,16 +1,19 @@
 //! The lines of a script that set something.
 ghost use Rattle.std.specs.Prelude.{◌≡◌, ◌&&◌, ◌^◌, ◌+◌, ℕ, nat_le, length, IfOk, MatchOption};
 ghost use Rattle.std.specs.List.{list_all};
+ghost use Rattle.std.specs.Result.{result_ok};
 ghost use Rattle.hdfs_script.specs.Commands.{flag_of};
 ghost use Rattle.hdfs_script.specs.Entries as spec;
+ghost use Rattle.hdfs_script.specs.Entries.{good};
 ghost use Rattle.hdfs_script.specs.Numbers.{number as number_of};
 
 use crate::command::flag;
-use crate::entry::{Entry, Setting};
+use crate::entry::{Entry, Reading, Setting, bad};
 use crate::numbers::number;
 use crate::words::{
     BLOCK_SIZE_MOST, NAMENODE_MOST, NAMENODES_MOST, REPLICATION_MOST, SMALL_MOST, is_text, word,
 };
+use crate::wrong::Why;
 use hdfs_model::{MAX_CHUNK, MAX_NODES, MAX_PACKET};
 use hdfs_names::Policy;
 use hdfs_wire::{NoMemory, Text};
@@ -36,17 +39,17 @@ fn is_user(text: &[u8]) -> bool
 }
 
 // `set user NAME`
-fn user_entry(alloc: Global, name: &[u8]) -> Result<Entry, NoMemory>
-    ensures { IfOk result (λ entry. entry ≡ spec.user_entry name.now) }
+fn user_entry(alloc: Global, name: &[u8]) -> Result<Reading, NoMemory>
+    ensures { IfOk result (λ reading. result_ok reading ≡ good (spec.user_entry name.now)) }
 {
     if !is_user(name) {
-        return Ok(Entry::Bad);
+        return Ok(bad(2, Why::User));
     }
     let Some(name) = word(name) else {
-        return Ok(Entry::Bad);
+        return Ok(bad(2, Why::User));
     };
     let name = Text::from_str(alloc, name)?;
-    Ok(Entry::Sets(Setting::User(name)))
+    Ok(Ok(Entry::Sets(Setting::User(name))))
 }
 
 // The number from 1 to `most` that a text writes.
@@ -63,105 +66,106 @@ fn from_one(most: u32, text: &[u8]) -> Option<u32>
 }
 
 // `set namenodes NAMENODES`
-fn namenodes_entry(namenodes: &[u8]) -> Entry
-    ensures { result ≡ spec.from_one (λ n. Setting.Namenodes n) (number_of 10 17 namenodes.now) }
+fn namenodes_entry(namenodes: &[u8]) -> Reading
+    ensures { result_ok result ≡ good (spec.from_one (λ n. Setting.Namenodes n) (number_of 10 17 namenodes.now)) }
 {
     match from_one(NAMENODES_MOST, namenodes) {
-        Some(namenodes) => Entry::Sets(Setting::Namenodes(namenodes)),
-        None => Entry::Bad,
+        Some(namenodes) => Ok(Entry::Sets(Setting::Namenodes(namenodes))),
+        None => bad(2, Why::Namenodes),
     }
 }
 
 // `set active ACTIVE`
-fn active_entry(active: &[u8]) -> Entry
-    ensures { result ≡ spec.from_zero (λ n. Setting.Active n) (number_of 10 16 active.now) }
+fn active_entry(active: &[u8]) -> Reading
+    ensures { result_ok result ≡ good (spec.from_zero (λ n. Setting.Active n) (number_of 10 16 active.now)) }
 {
     let Some(active) = number(10, NAMENODE_MOST, active) else {
-        return Entry::Bad;
+        return bad(2, Why::Active);
     };
-    Entry::Sets(Setting::Active(active as u32))
+    Ok(Entry::Sets(Setting::Active(active as u32)))
 }
 
 // `set nodes NODES`
-fn nodes_entry(nodes: &[u8]) -> Entry
-    ensures { result ≡ spec.from_one (λ n. Setting.Nodes n) (number_of 10 65 nodes.now) }
+fn nodes_entry(nodes: &[u8]) -> Reading
+    ensures { result_ok result ≡ good (spec.from_one (λ n. Setting.Nodes n) (number_of 10 65 nodes.now)) }
 {
     match from_one(MAX_NODES, nodes) {
-        Some(nodes) => Entry::Sets(Setting::Nodes(nodes)),
-        None => Entry::Bad,
+        Some(nodes) => Ok(Entry::Sets(Setting::Nodes(nodes))),
+        None => bad(2, Why::Nodes),
     }
 }
 
 // `set block BLOCK_SIZE`
-fn block_entry(block_size: &[u8]) -> Entry
-    ensures { result ≡ spec.from_one (λ n. Setting.Block n) (number_of 10 (2 ^ 63) block_size.now) }
+fn block_entry(block_size: &[u8]) -> Reading
+    ensures { result_ok result ≡ good (spec.from_one (λ n. Setting.Block n) (number_of 10 (2 ^ 63) block_size.now)) }
 {
     let Some(block_size) = number(10, BLOCK_SIZE_MOST, block_size) else {
-        return Entry::Bad;
+        return bad(2, Why::BlockSize);
     };
     if block_size == 0 {
-        return Entry::Bad;
+        return bad(2, Why::BlockSize);
     }
-    Entry::Sets(Setting::Block(block_size))
+    Ok(Entry::Sets(Setting::Block(block_size)))
 }
 
 // `set chunk CHUNK`
-fn chunk_entry(chunk: &[u8]) -> Entry
-    ensures { result ≡ spec.from_one (λ n. Setting.Chunk n) (number_of 10 (2 ^ 30 + 1) chunk.now) }
+fn chunk_entry(chunk: &[u8]) -> Reading
+    ensures { result_ok result ≡ good (spec.from_one (λ n. Setting.Chunk n) (number_of 10 (2 ^ 30 + 1) chunk.now)) }
 {
     match from_one(MAX_CHUNK, chunk) {
-        Some(chunk) => Entry::Sets(Setting::Chunk(chunk)),
-        None => Entry::Bad,
+        Some(chunk) => Ok(Entry::Sets(Setting::Chunk(chunk))),
+        None => bad(2, Why::Chunk),
     }
 }
 
 // `set packet PACKET`
-fn packet_entry(packet: &[u8]) -> Entry
-    ensures { result ≡ spec.from_zero (λ n. Setting.Packet n) (number_of 10 (2 ^ 31) packet.now) }
+fn packet_entry(packet: &[u8]) -> Reading
+    ensures { result_ok result ≡ good (spec.from_zero (λ n. Setting.Packet n) (number_of 10 (2 ^ 31) packet.now)) }
 {
     let Some(packet) = number(10, MAX_PACKET as u64, packet) else {
-        return Entry::Bad;
+        return bad(2, Why::Packet);
     };
-    Entry::Sets(Setting::Packet(packet as u32))
+    Ok(Entry::Sets(Setting::Packet(packet as u32)))
 }
 
 // `set replication REPLICATION`
-fn replication_entry(replication: &[u8]) -> Entry
-    ensures { result ≡ spec.from_one (λ n. Setting.Replication n) (number_of 10 65536 replication.now) }
+fn replication_entry(replication: &[u8]) -> Reading
+    ensures { result_ok result
+        ≡ good (spec.from_one (λ n. Setting.Replication n) (number_of 10 65536 replication.now)) }
 {
     match from_one(REPLICATION_MOST, replication) {
-        Some(replication) => Entry::Sets(Setting::Replication(replication)),
-        None => Entry::Bad,
+        Some(replication) => Ok(Entry::Sets(Setting::Replication(replication))),
+        None => bad(2, Why::Replication),
     }
 }
 
 // `set encrypt ENCRYPT`
-fn encrypt_entry(encrypt: &[u8]) -> Entry
-    ensures { result ≡ spec.encrypt_entry (flag_of encrypt.now) }
+fn encrypt_entry(encrypt: &[u8]) -> Reading
+    ensures { result_ok result ≡ good (spec.encrypt_entry (flag_of encrypt.now)) }
 {
     match flag(encrypt) {
-        Some(encrypt) => Entry::Sets(Setting::Encrypt(encrypt)),
-        None => Entry::Bad,
+        Some(encrypt) => Ok(Entry::Sets(Setting::Encrypt(encrypt))),
+        None => bad(2, Why::Encrypt),
     }
 }
 
 // `set rebuilds REBUILDS`
-fn rebuilds_entry(rebuilds: &[u8]) -> Entry
-    ensures { result ≡ spec.from_one (λ n. Setting.Rebuilds n) (number_of 10 1001 rebuilds.now) }
+fn rebuilds_entry(rebuilds: &[u8]) -> Reading
+    ensures { result_ok result ≡ good (spec.from_one (λ n. Setting.Rebuilds n) (number_of 10 1001 rebuilds.now)) }
 {
     match from_one(SMALL_MOST, rebuilds) {
-        Some(rebuilds) => Entry::Sets(Setting::Rebuilds(rebuilds)),
-        None => Entry::Bad,
+        Some(rebuilds) => Ok(Entry::Sets(Setting::Rebuilds(rebuilds))),
+        None => bad(2, Why::Rebuilds),
     }
 }
 
 // `set window WINDOW`
-fn window_entry(window: &[u8]) -> Entry
-    ensures { result ≡ spec.from_one (λ n. Setting.Window n) (number_of 10 1001 window.now) }
+fn window_entry(window: &[u8]) -> Reading
+    ensures { result_ok result ≡ good (spec.from_one (λ n. Setting.Window n) (number_of 10 1001 window.now)) }
 {
     match from_one(SMALL_MOST, window) {
-        Some(window) => Entry::Sets(Setting::Window(window)),
-        None => Entry::Bad,
+        Some(window) => Ok(Entry::Sets(Setting::Window(window))),
+        None => bad(2, Why::Window),
     }
 }
 
@@ -185,28 +189,28 @@ fn policy_named(name: &[u8]) -> Option<Policy>
 }
 
 // `set policy POLICY`
-fn policy_entry(name: &[u8]) -> Entry
-    ensures { result ≡ spec.policy_entry (spec.policy_named name.now) }
+fn policy_entry(name: &[u8]) -> Reading
+    ensures { result_ok result ≡ good (spec.policy_entry (spec.policy_named name.now)) }
 {
     match policy_named(name) {
-        Some(policy) => Entry::Sets(Setting::Policy(policy)),
-        None => Entry::Bad,
+        Some(policy) => Ok(Entry::Sets(Setting::Policy(policy))),
+        None => bad(2, Why::Policy),
     }
 }
 
 // `set besteffort BEST_EFFORT`
-fn best_effort_entry(best_effort: &[u8]) -> Entry
-    ensures { result ≡ spec.best_effort_entry (flag_of best_effort.now) }
+fn best_effort_entry(best_effort: &[u8]) -> Reading
+    ensures { result_ok result ≡ good (spec.best_effort_entry (flag_of best_effort.now)) }
 {
     match flag(best_effort) {
-        Some(best_effort) => Entry::Sets(Setting::BestEffort(best_effort)),
-        None => Entry::Bad,
+        Some(best_effort) => Ok(Entry::Sets(Setting::BestEffort(best_effort))),
+        None => bad(2, Why::BestEffort),
     }
 }
 
 // A setting of the session's writes.
-fn writing_entry(key: &[u8], value: &[u8]) -> Entry
-    ensures { result ≡ spec.writing_entry key.now value.now }
+fn writing_entry(key: &[u8], value: &[u8]) -> Reading
+    ensures { result_ok result ≡ good (spec.writing_entry key.now value.now) }
 {
     if is_text(key, "rebuilds") {
         return rebuilds_entry(value);
@@ -220,12 +224,12 @@ fn writing_entry(key: &[u8], value: &[u8]) -> Entry
     if is_text(key, "besteffort") {
         return best_effort_entry(value);
     }
-    Entry::Bad
+    bad(1, Why::SetWords)
 }
 
 // A default of the cluster, or a setting of the session's writes.
-fn default_entry(key: &[u8], value: &[u8]) -> Entry
-    ensures { result ≡ spec.default_entry key.now value.now }
+fn default_entry(key: &[u8], value: &[u8]) -> Reading
+    ensures { result_ok result ≡ good (spec.default_entry key.now value.now) }
 {
     if is_text(key, "block") {
         return block_entry(value);
@@ -246,8 +250,8 @@ fn default_entry(key: &[u8], value: &[u8]) -> Entry
 }
 
 // A setting of the cluster or of the session's writes.
-fn cluster_entry(key: &[u8], value: &[u8]) -> Entry
-    ensures { result ≡ spec.cluster_entry key.now value.now }
+fn cluster_entry(key: &[u8], value: &[u8]) -> Reading
+    ensures { result_ok result ≡ good (spec.cluster_entry key.now value.now) }
 {
     if is_text(key, "namenodes") {
         return namenodes_entry(value);
@@ -262,8 +266,8 @@ fn cluster_entry(key: &[u8], value: &[u8]) -> Entry
 }
 
 /// `set KEY VALUE`
-pub(crate) fn set_entry(alloc: Global, key: &[u8], value: &[u8]) -> Result<Entry, NoMemory>
-    ensures { IfOk result (λ entry. entry ≡ spec.set_entry key.now value.now) }
+pub(crate) fn set_entry(alloc: Global, key: &[u8], value: &[u8]) -> Result<Reading, NoMemory>
+    ensures { IfOk result (λ reading. result_ok reading ≡ good (spec.set_entry key.now value.now)) }
 {
     if is_text(key, "user") {
         return Ok(user_entry(alloc, value)?);

@@ -1,10 +1,17 @@
-//! What can be wrong with a script, in words for the person who wrote it.
+//! What can be wrong with a line of a script, in words for the person who wrote it.
 use std::error::Error;
 use std::fmt;
 
-/// What is wrong with a line of a script. The words in capitals are those of the line's form.
+/// Why a line of a script is bad: which of its words is wrong, counted from 0, and why. The word behind the last one is missing.
 #[derive(Clone, Copy, Debug, PartialEq, Eq)]
-pub enum Wrong {
+pub struct Wrong {
+    pub word: usize,
+    pub why: Why,
+}
+
+/// What is wrong with a word, or with a line. The words in capitals are those of the line's form.
+#[derive(Clone, Copy, Debug, PartialEq, Eq)]
+pub enum Why {
     NotAscii,
     CarriageReturn,
     Kind,
@@ -63,104 +70,86 @@ pub enum Wrong {
     Replica,
 }
 
-impl Wrong {
+impl Why {
     /// What is wrong, in words.
     fn text(self) -> &'static str {
         match self {
-            Wrong::NotAscii => "a byte that isn't ASCII",
-            Wrong::CarriageReturn =>
-                "ends with a carriage return, where a newline alone ends a line",
-            Wrong::Kind =>
-                "begins with none of `set`, `dir`, `file`, `short`, `fault`, `do` and `#`",
-            Wrong::SetWords =>
+            Why::NotAscii => "a byte that isn't ASCII",
+            Why::CarriageReturn => "ends with a carriage return, where a newline alone ends a line",
+            Why::Kind => "begins with none of `set`, `dir`, `file`, `short`, `fault`, `do` and `#`",
+            Why::SetWords =>
                 "not `set SETTING VALUE`, with one space between words, where SETTING is `user`, `namenodes`, `active`, `nodes`, `block`, `chunk`, `packet`, `replication`, `encrypt`, `rebuilds`, `window`, `policy` or `besteffort`",
-            Wrong::DirWords => "not `dir PATH`, with one space between words",
-            Wrong::FileWords =>
+            Why::DirWords => "not `dir PATH`, with one space between words",
+            Why::FileWords =>
                 "not `file PATH PERMISSION REPLICATION BLOCK_SIZE HEX`, with one space between words",
-            Wrong::ShortWords => "not `short PATH BLOCK NODE LENGTH`, with one space between words",
-            Wrong::FaultWords =>
+            Why::ShortWords => "not `short PATH BLOCK NODE LENGTH`, with one space between words",
+            Why::FaultWords =>
                 "begins with none of `fault ask`, `fault link`, `fault ack`, `fault send` and `fault read`",
-            Wrong::AskWords =>
+            Why::AskWords =>
                 "neither `fault ask NAMENODE NTH KIND` nor `fault ask NAMENODE NTH exception CLASS`, with one space between words",
-            Wrong::LinkWords => "not `fault link NTH KIND`, with one space between words",
-            Wrong::AckWords => "not `fault ack NODE NTH`, with one space between words",
-            Wrong::SendWords => "not `fault send NODE NTH`, with one space between words",
-            Wrong::ReadFaultWords => "not `fault read NODE NTH KIND`, with one space between words",
-            Wrong::CommandWords =>
+            Why::LinkWords => "not `fault link NTH KIND`, with one space between words",
+            Why::AckWords => "not `fault ack NODE NTH`, with one space between words",
+            Why::SendWords => "not `fault send NODE NTH`, with one space between words",
+            Why::ReadFaultWords => "not `fault read NODE NTH KIND`, with one space between words",
+            Why::CommandWords =>
                 "begins with none of `do create`, `do append`, `do write`, `do close` and `do read`",
-            Wrong::CreateWords =>
+            Why::CreateWords =>
                 "not `do create PATH PERMISSION REPLICATION BLOCK_SIZE OVERWRITE PARENT`, with one space between words",
-            Wrong::AppendWords => "not `do append PATH`, with one space between words",
-            Wrong::WriteWords => "not `do write PATH HEX`, with one space between words",
-            Wrong::CloseWords => "not `do close PATH`, with one space between words",
-            Wrong::ReadWords => "not `do read PATH OFFSET LENGTH`, with one space between words",
-            Wrong::User => "NAME isn't one or more letters and digits",
-            Wrong::Namenodes =>
+            Why::AppendWords => "not `do append PATH`, with one space between words",
+            Why::WriteWords => "not `do write PATH HEX`, with one space between words",
+            Why::CloseWords => "not `do close PATH`, with one space between words",
+            Why::ReadWords => "not `do read PATH OFFSET LENGTH`, with one space between words",
+            Why::User => "NAME isn't one or more letters and digits",
+            Why::Namenodes =>
                 "NAMENODES isn't a number from 1 to 16, or isn't above the number of the active namenode",
-            Wrong::Active => "ACTIVE isn't the number of a namenode, which are counted from 0",
-            Wrong::Nodes => "NODES isn't a number from 1 to 64",
-            Wrong::Chunk => "CHUNK isn't a number of bytes from 1 to 1073741824",
-            Wrong::Packet => "PACKET isn't a number of bytes from 0 to 2147483647",
-            Wrong::Encrypt => "ENCRYPT isn't `true` or `false`",
-            Wrong::Rebuilds => "REBUILDS isn't a number from 1 to 1000",
-            Wrong::Window => "WINDOW isn't a number of packets from 1 to 1000",
-            Wrong::Policy => "POLICY isn't `DEFAULT`, `NEVER`, `ALWAYS` or `DISABLE`",
-            Wrong::BestEffort => "BEST_EFFORT isn't `true` or `false`",
-            Wrong::Path => "PATH isn't absolute, or has a component that is empty, `.` or `..`",
-            Wrong::Unprintable => "PATH is empty, or has a byte that isn't printable",
-            Wrong::Permission => "PERMISSION isn't a number from 0 to 7777 in octal digits",
-            Wrong::Replication => "REPLICATION isn't a number from 1 to 65535",
-            Wrong::BlockSize => "BLOCK_SIZE isn't a number of bytes from 1 to 9223372036854775807",
-            Wrong::PermissionDigits =>
+            Why::Active => "ACTIVE isn't the number of a namenode, which are counted from 0",
+            Why::Nodes => "NODES isn't a number from 1 to 64",
+            Why::Chunk => "CHUNK isn't a number of bytes from 1 to 1073741824",
+            Why::Packet => "PACKET isn't a number of bytes from 0 to 2147483647",
+            Why::Encrypt => "ENCRYPT isn't `true` or `false`",
+            Why::Rebuilds => "REBUILDS isn't a number from 1 to 1000",
+            Why::Window => "WINDOW isn't a number of packets from 1 to 1000",
+            Why::Policy => "POLICY isn't `DEFAULT`, `NEVER`, `ALWAYS` or `DISABLE`",
+            Why::BestEffort => "BEST_EFFORT isn't `true` or `false`",
+            Why::Path => "PATH isn't absolute, or has a component that is empty, `.` or `..`",
+            Why::Unprintable => "PATH is empty, or has a byte that isn't printable",
+            Why::Permission => "PERMISSION isn't a number from 0 to 7777 in octal digits",
+            Why::Replication => "REPLICATION isn't a number from 1 to 65535",
+            Why::BlockSize => "BLOCK_SIZE isn't a number of bytes from 1 to 9223372036854775807",
+            Why::PermissionDigits =>
                 "PERMISSION isn't a number from 0 to 37777777777 in octal digits",
-            Wrong::GivenReplication => "REPLICATION isn't `-` or a number from 0 to 4294967295",
-            Wrong::GivenBlockSize =>
+            Why::GivenReplication => "REPLICATION isn't `-` or a number from 0 to 4294967295",
+            Why::GivenBlockSize =>
                 "BLOCK_SIZE isn't `-` or a number from 0 to 18446744073709551615",
-            Wrong::Overwrite => "OVERWRITE isn't `true` or `false`",
-            Wrong::Parent => "PARENT isn't `true` or `false`",
-            Wrong::Hex => "HEX isn't `-` or pairs of lower-case hexadecimal digits",
-            Wrong::Block => "BLOCK isn't a number from 0 to 4294967295",
-            Wrong::Node => "NODE isn't a number from 0 to 4294967295",
-            Wrong::Namenode => "NAMENODE isn't a number from 0 to 4294967295",
-            Wrong::Nth => "NTH isn't a number from 1 to 18446744073709551615",
-            Wrong::AskKind => "KIND isn't `lost`, `late`, `false`, `fatal` or `exception CLASS`",
-            Wrong::Class => "CLASS is empty, or has a byte that isn't printable",
-            Wrong::LinkKind => "KIND isn't `broken`, `refused` or `badack`",
-            Wrong::ReadKind => "KIND isn't `broken`, `damaged`, `gap` or `refused`",
-            Wrong::Offset => "OFFSET isn't a number from 0 to 18446744073709551615",
-            Wrong::Length => "LENGTH isn't a number from 0 to 18446744073709551615",
-            Wrong::Order =>
+            Why::Overwrite => "OVERWRITE isn't `true` or `false`",
+            Why::Parent => "PARENT isn't `true` or `false`",
+            Why::Hex => "HEX isn't `-` or pairs of lower-case hexadecimal digits",
+            Why::Block => "BLOCK isn't a number from 0 to 4294967295",
+            Why::Node => "NODE isn't a number from 0 to 4294967295",
+            Why::Namenode => "NAMENODE isn't a number from 0 to 4294967295",
+            Why::Nth => "NTH isn't a number from 1 to 18446744073709551615",
+            Why::AskKind => "KIND isn't `lost`, `late`, `false`, `fatal` or `exception CLASS`",
+            Why::Class => "CLASS is empty, or has a byte that isn't printable",
+            Why::LinkKind => "KIND isn't `broken`, `refused` or `badack`",
+            Why::ReadKind => "KIND isn't `broken`, `damaged`, `gap` or `refused`",
+            Why::Offset => "OFFSET isn't a number from 0 to 18446744073709551615",
+            Why::Length => "LENGTH isn't a number from 0 to 18446744073709551615",
+            Why::Order =>
                 "out of order, since settings come first, then directories, files and short replicas, then faults, then commands",
-            Wrong::TooLong => "the script has more than 16777216 bytes",
-            Wrong::HeldStore =>
+            Why::TooLong => "the script has more than 16777216 bytes",
+            Why::HeldStore =>
                 "the store isn't fresh, so it takes no line with a setting, a directory, a file or a short replica",
-            Wrong::Place => "something stands at PATH already, or its parent is no directory",
-            Wrong::Replica =>
+            Why::Place => "something stands at PATH already, or its parent is no directory",
+            Why::Replica =>
                 "there is no such replica, it is shorter already, or none would be whole",
         }
     }
 }
 
-impl fmt::Display for Wrong {
+impl fmt::Display for Why {
     fn fmt<W: fmt::Write>(&self, f: &mut fmt::Formatter<W>) -> fmt::Result {
         f.write_str(self.text())
     }
 }
 
-impl Error for Wrong {}
-
-/// Why a script is refused, and at which line, counted from 1.
-#[derive(Clone, Copy, Debug, PartialEq, Eq)]
-pub struct Complaint {
-    pub number: u64,
-    pub wrong: Wrong,
-}
-
-impl fmt::Display for Complaint {
-    fn fmt<W: fmt::Write>(&self, f: &mut fmt::Formatter<W>) -> fmt::Result {
-        let number = self.number;
-        write!(f, "line {number}: {}", self.wrong)
-    }
-}
-
-impl Error for Complaint {}
+impl Error for Why {}

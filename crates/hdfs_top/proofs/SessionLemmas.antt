@@ -21,7 +21,7 @@ use Rattle.hdfs_streams.specs.declared.streams.IoFailed.{IoFailed}
 use Rattle.hdfs_streams.specs.Streams.{SinkShown, Prints, Wrote}
 use Rattle.hdfs_top.specs.Top.{IsClosed, StatusOf}
 use Rattle.hdfs_top.specs.declared.note.Note.{Note}
-use Rattle.hdfs_top.specs.declared.note.Note.TheVariants as notes
+use Rattle.hdfs_top.specs.Notes.{TellsStop}
 use Rattle.hdfs_top.specs.Inside.{IsKnownStore, Concludes, ToEnd, ToFault, NotesStop, RanCommands, stage, world_ready}
 
 -- the status of a print
@@ -91,7 +91,7 @@ ran_to_fault w given commands old new before after status fault is later ran oth
     record { later = later; ending = inr (inr (to_fault w given commands old new before after status fault is ran other printed)) }
 
 -- and that was noted
-pub notes_stop : (w : World) (given : ScriptSettings) (commands : List Command) (old new : Shown) (before after : SinkShown) (status : ℕ) (fault : Fault) (note : Note) → w ≡ world_ready given old → RanReady w commands old new (Err fault) → fault.error ≢ errors.NoMemory → Concludes 2 before (fault_text fault) status after → note ≡ notes.Stopped fault.at fault.error → NotesStop given commands (stage old before) status note (stage new after)
+pub notes_stop : (w : World) (given : ScriptSettings) (commands : List Command) (old new : Shown) (before after : SinkShown) (status : ℕ) (fault : Fault) (note : Note) → w ≡ world_ready given old → RanReady w commands old new (Err fault) → fault.error ≢ errors.NoMemory → Concludes 2 before (fault_text fault) status after → TellsStop note fault.at fault.error → NotesStop given commands (stage old before) status note (stage new after)
 unfolding to_fault
 notes_stop w given commands old new before after status fault note is ran other printed noted =
     record { stop = to_fault w given commands old new before after status fault is ran other printed; is = noted }

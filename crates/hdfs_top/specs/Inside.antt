@@ -23,7 +23,7 @@ use Rattle.hdfs_script.specs.Scripts.{script_limit, session_settings}
 use Rattle.hdfs_script.specs.Texts.{replies_text, fault_text}
 use Rattle.hdfs_streams.specs.Streams.{SourceShown, SinkShown, TookAtMost, IsFront, Wrote, WrotePart}
 use Rattle.hdfs_top.specs.declared.note.Note.{Note}
-use Rattle.hdfs_top.specs.declared.note.Note.TheVariants as notes
+use Rattle.hdfs_top.specs.Notes.{TellsStop}
 use Rattle.hdfs_top.specs.Top.{IsSession, IsClosed, Outside, RanProgram, StatusOf}
 
 -- the words were those of a session
@@ -128,7 +128,7 @@ pub record ToFault (given : ScriptSettings) (commands : List Command) (old : Sta
 -- a note tells of the fault at which commands stopped, and whose text was printed
 pub record NotesStop (given : ScriptSettings) (commands : List Command) (old : Stage) (status : ℕ) (note : Note) (new : Stage) : Type 0 where
   pub stop : ToFault given commands old status new
-  pub is : note ≡ notes.Stopped stop.fault.at stop.fault.error
+  pub is : TellsStop note stop.fault.at stop.fault.error
 
 -- commands were run, and what they answered was printed; for want of memory nothing was
 pub record RanCommands (given : ScriptSettings) (commands : List Command) (old : Stage) (status : ℕ) (new : Stage) : Type 0 where

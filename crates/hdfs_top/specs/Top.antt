@@ -15,7 +15,7 @@ use Rattle.hdfs_script.specs.Scripts.{Script, script, script_limit, script_world
 use Rattle.hdfs_script.specs.Texts.{replies_text, fault_text, refusal_text}
 use Rattle.hdfs_streams.specs.Streams.{SourceShown, SinkShown, TookAtMost, Wrote, WrotePart}
 use Rattle.hdfs_top.specs.declared.note.Note.{Note}
-use Rattle.hdfs_top.specs.declared.note.Note.TheVariants as notes
+use Rattle.hdfs_top.specs.Notes.{TellsStop}
 
 -- the one word that is known
 abbrev pub IsSession : List (List ℕ) → Type 0
@@ -97,7 +97,7 @@ WroteFault before after = (bytes : List ℕ) (state : State) → IsKnown before 
 -- A note tells of the fault at which a session stopped: its text was written, and it is the one at which the script stops.
 pub record NotesFault (before : Outside) (note : Note) (after : Outside) : Type 0 where
   pub fault : Fault
-  pub is : note ≡ notes.Stopped fault.at fault.error
+  pub is : TellsStop note fault.at fault.error
   pub wrote : Wrote before.sink (fault_text fault) after.sink
   pub halts : (bytes : List ℕ) (state : State) → IsKnown before bytes state
       → (halted : Halts before bytes state (fault_text fault) after) × (halted.fault ≡ fault)

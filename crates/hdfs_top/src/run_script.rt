@@ -54,7 +54,7 @@ fn run_commands<K: Sink, C: Store>(
         Ok(replies) => tell_replies(sink, replies.as_slice()),
         Err(fault) => {
             let status = tell_stop(sink, &fault);
-            *note = note_of_fault(fault);
+            *note = note_of_fault(alloc, commands, fault);
             status
         }
     }

@@ -118,7 +118,7 @@ fn wrong(alloc: Global, out: &mut String, argument: &str) -> Result<(), NoMemory
     let told = complaint_at(alloc, text.as_str().as_bytes(), fresh, number(argument, 0));
     drop(text);
     match told {
-        Some(Complaint { number, wrong }) => Ok(write!(out, "{number} {wrong:?}")?),
+        Some(told) => Ok(write!(out, "{} {:?}", told.number, told.why)?),
         None => put(out, None),
     }
 }

@@ -1,10 +1,6 @@
-use Rattle.std.proofs.Common.{◌∙◌, ap, arith, map}
-use Rattle.std.proofs.lemmas.Bool.Decides.{nat_tests}
-use Rattle.hdfs_script.proofs.WordLemmas.{entry_of_ascii, entry_of_words}
+use Rattle.hdfs_script.proofs.WordLemmas.{entry_of_good}
 use Rattle.hdfs_script.proofs.line.entry.Goals as goal
 
--- the words of the line, of which there are some
-pub returns : goal.returns
-returns c =
-    entry_of_ascii c.args.line.now _ c.if-not-is_ascii.ensures
-    (c.in_ok-words_entry.ensures ∙ entry_of_words c.args.line.now (λ none. grind (arith, nat_tests)) (λ e. omega arith) _ (ap (λ items. map (λ word. word.now) items) c.as_slice.ensures.value ∙ c.in_ok-words.ensures))
+-- what was read
+pub returns-in-Ok : goal.returns-in-Ok
+returns-in-Ok c = entry_of_good _ _ (rw c.in-Ok.is at c.in_ok-entry.ensures)
