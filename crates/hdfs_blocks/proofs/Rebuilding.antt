@@ -157,7 +157,7 @@ waits_apart p q id listed nodes safe bytes c other others only apart =
 
 -- a transfer to all targets is one to some
 pub gives_some : (transfer : Transfer) (p q : Picture) → GivesAll transfer p q → GivesSome transfer p q
-gives_some transfer p q gives = record { only = gives.only; each = λ k d lt. inl (gives.each k d lt) }
+gives_some transfer p q gives = record { only = gives.only; links = gives.links; each = λ k d lt. inl (gives.each k d lt) }
 
 -- After a transfer to some of its targets.
 module _ (transfer : Transfer) (p q : Picture) (gives : GivesSome transfer p q) where

@@ -10,7 +10,7 @@ use Rattle.hdfs_model.specs.declared.errors.HdfsError.TheVariants as errors
 use Rattle.hdfs_model.specs.Anywhere.{Applies}
 use Rattle.hdfs_model.specs.Causes.{CallsRose, Tells}
 use Rattle.hdfs_model.specs.Effects.{KeepsBytes}
-use Rattle.hdfs_model.specs.Namenode.{Locates, Row, IsNoFile}
+use Rattle.hdfs_model.specs.Namenode.{AsksWhole, Locates, Row, IsNoFile}
 use Rattle.hdfs_model.specs.Picture.{Picture, SameFiles, SameButActive}
 use Rattle.hdfs_model.specs.Repeating.{DoneOrNot, Leaves}
 use Rattle.hdfs_model.specs.Shown.{Shown, OnlyReads, SamePlaces, SameReadPlaces}
@@ -25,7 +25,7 @@ use Rattle.hdfs_client.specs.Looking.{OnlyLooks}
 -- a look-up by its row leaves the picture, but for which namenode is active
 row_same : (p q : Picture) (src : List ℕ) (offset length : ℕ) (answer : Answer) → Row p (asks.GetBlockLocations src offset length) answer q → SameButActive p q
 row_same p q src offset length (answers.GetBlockLocations None) row = row.1
-row_same p q src offset length (answers.GetBlockLocations (Some found)) row = row.1
+row_same p q src offset length (answers.GetBlockLocations (Some found)) row = row.2
 row_same p q src offset length answer row = absurd row
 
 -- the files stay, whether it is done or not
@@ -67,10 +67,10 @@ module _ {s t : Shown} {src : List ℕ} {offset length : ℕ} where
       let to = came.told p told (locations_repeats src offset length p closed) in
       (to.0, relayed_row (CallsRose s.counts t) p (asks.GetBlockLocations src offset length) (answers.GetBlockLocations found) to.0 (λ is. absurd (cc)) to.2)
 
-  -- an answer is that of the file
+  -- an answer is that of the file, where all its blocks were asked for
   pub found_looked : {found : LocatedBlocks} → Came s (asks.GetBlockLocations src offset length) (Ok (answers.GetBlockLocations (Some found))) t → (p : Picture) → s.picture ≡ Some p
-      → IsClosed p src → Locates p src found
-  found_looked {found} came p told closed = (row_looked (Some found) came p told closed).1.0
+      → IsClosed p src → AsksWhole offset length → Locates p src found
+  found_looked {found} came p told closed = (row_looked (Some found) came p told closed).1.1
 
   -- no answer: there is no file
   pub missing_looked : Came s (asks.GetBlockLocations src offset length) (Ok (answers.GetBlockLocations None)) t → (p : Picture) → s.picture ≡ Some p → IsClosed p src → IsNoFile p src

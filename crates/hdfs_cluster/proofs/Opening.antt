@@ -1,7 +1,8 @@
 -- What the active namenode answers to the opening of a file.
 use Rattle.std.proofs.Common.{◌≡◌, inl, inr, ℕ, List, [], ◌∷◌, ◌++◌, length, Option, Some, None, Ok, Err, IfSome, refl, sym, ◌∙◌, ap, subst}
 use Rattle.std.specs.BTreeMap.{get_by_text}
-use Rattle.std.specs.List.{All, Contains}
+use Rattle.std.specs.List.{All, Contains, IsDistinct}
+use Rattle.std.specs.Str.{bytes_eq}
 use Rattle.slab.specs.Slab as slab
 use Rattle.slab.specs.Slab.{Slab}
 use Rattle.hdfs_model.specs.declared.asks.Ask.TheVariants as asks
@@ -29,7 +30,7 @@ use Rattle.hdfs_namespace.specs.Answering.{Answers, StandsForWritten}
 use Rattle.hdfs_namespace.specs.Memory.{table_of}
 use Rattle.hdfs_cluster.specs.MemShown.{picture_at}
 use Rattle.hdfs_replicas.specs.Nodes.{held_in, SameHeld}
-use Rattle.hdfs_namespace.proofs.Answering.{whole_held, whole_listed}
+use Rattle.hdfs_namespace.proofs.Answering.{whole_apart, whole_held, whole_listed}
 use Rattle.hdfs_cluster.proofs.Places.{place_same}
 
 abbrev new_entry : ℕ → ℕ → List (List ℕ) → BlockEntry
@@ -80,6 +81,7 @@ module _ (space space' : Namespace) (nodes nodes' : Datanodes) (settings : MemSe
           stamp = r.greater;
           some = shape.some;
           listed = subst (All (Contains entry.nodes)) (sym named) (whole_listed (held_in nodes) id entry);
+          apart = subst (IsDistinct bytes_eq) (sym named) (whole_apart (held_in nodes) id entry);
           whole = subst (All (λ node. length (held_in nodes node id) ≡ entry.length)) (sym named) (whole_held (held_in nodes) id entry);
           now = ap (λ (ns : List (List ℕ)). new_entry entry.length stamp ns) (sym named);
         },

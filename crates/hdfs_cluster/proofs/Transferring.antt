@@ -1,5 +1,5 @@
 -- What a transfer does to what a cluster shows, and how it is counted.
-use Rattle.std.proofs.Common.{◌≡◌, ◌≢◌, ◌⊎◌, inl, inr, ⊎_elim, ℕ, ◌+◌, Bool, true, false, ◌&&◌, ◌||◌, eqb, List, [], ◌∷◌, map, Option, Some, None, is_some, unwrap_or, Result, refl, sym, ◌∙◌, ap, arith}
+use Rattle.std.proofs.Common.{◌≡◌, ◌≢◌, ◌⊎◌, inl, inr, ⊎_elim, ℕ, ◌+◌, Bool, true, false, not, ◌&&◌, ◌||◌, eqb, List, [], ◌∷◌, map, Option, Some, None, is_some, unwrap_or, Result, refl, sym, ◌∙◌, ap, subst, arith}
 use Rattle.std.proofs.lemmas.Bool.{eqb-true}
 use Rattle.std.proofs.lemmas.List.Elements.{All-cons, All-nil}
 use Rattle.std.proofs.lemmas.Slice.Eq.{bytes_eq-Decides}
@@ -19,9 +19,9 @@ use Rattle.hdfs_model.specs.declared.store.LinkKind.TheVariants as kinds
 use Rattle.hdfs_model.specs.Counts.{Rose}
 use Rattle.hdfs_model.specs.Picture.{Picture}
 use Rattle.hdfs_model.specs.Pipes.{OnlyWrites}
-use Rattle.hdfs_model.specs.Sending.{WritePlace, uuids}
+use Rattle.hdfs_model.specs.Sending.{WritePlace, node_at, uuids}
 use Rattle.hdfs_model.specs.Shown.{Shown}
-use Rattle.hdfs_model.specs.Transferring.{Transferred, NotTransferred, given_by}
+use Rattle.hdfs_model.specs.Transferring.{IsGivenOver, LinksAreGivenOver, Transferred, NotTransferred, given_by}
 use Rattle.hdfs_model.specs.Writing.{OnlyBlock}
 use Rattle.hdfs_faults.specs.declared.fault_plan.FaultPlan.{FaultPlan}
 use Rattle.hdfs_faults.specs.Calls.{one_if}
@@ -145,6 +145,28 @@ module _ (space : Namespace) (settings : MemSettings) (last : LastAnswer) (failu
     writes = λ link place is apart. other_write link (slab.get s link) place is apart;
   }
 
+  -- a link that has the block may be disturbed at the targets, and all else of it stays
+  given_over : (link : ℕ) (slot : Option MemLink) (place : WritePlace) → write_place nodes link slot ≡ Some place
+      → (place' : WritePlace) × (write_place nodes' link slot ≡ Some place') × IsGivenOver (uuids transfer.targets) place place'
+  given_over link None place is = absurd (cc)
+  given_over link (Some (links.Read read)) place is = absurd (cc)
+  given_over link (Some (links.Write write)) place is =
+      let same : place_of nodes link write ≡ place = ap (λ (o : Option WritePlace). unwrap_or o (place_of nodes link write)) is in
+      (place_of nodes' link write, refl, subst (λ (place : WritePlace). IsGivenOver (uuids transfer.targets) place (place_of nodes' link write)) same (record {
+        block = refl;
+        nodes = refl;
+        base = λ i within. refl;
+        sent = refl;
+        responses = refl;
+        acknowledged = refl;
+        received = λ i within. refl;
+        disturbed = λ i within apart.
+            ap not ((apart_stays (node_at (place_of nodes link write) i) write.setup.block.block_id (λ equal named. apart named)).links link);
+      }))
+
+  links_given_over : LinksAreGivenOver (uuids transfer.targets) p q
+  links_given_over = λ link place is. given_over link (slab.get s link) place is
+
   -- the block was given to all targets
   pub transferred : ((d : List ℕ) → is_named targets d ≡ true → IsGiven (held_in nodes source block) (replica_at nodes' d block)) → Transferred old transfer new
   transferred given = record {
@@ -152,6 +174,7 @@ module _ (space : Namespace) (settings : MemSettings) (last : LastAnswer) (failu
     writes = λ link. refl;
     gives = record {
       only = only_block;
+      links = links_given_over;
       each = all_named (λ d. q.held d block ≡ given_by transfer p) transfer.targets
           (λ d named. (given d (ap (λ (locs : List DatanodeInfo). is_named locs d) is_targets ∙ named)).bytes ∙ ap (λ (u : List ℕ). held_in nodes u block) is_source);
     };
@@ -165,6 +188,7 @@ module _ (space : Namespace) (settings : MemSettings) (last : LastAnswer) (failu
     writes = λ link. refl;
     gives = record {
       only = only_block;
+      links = links_given_over;
       each = all_named (λ d. (q.held d block ≡ given_by transfer p) ⊎ (q.held d block ≡ p.held d block)) transfer.targets
           (λ d named. ⊎_elim (λ same. inr same.bytes) (λ given. inl (given.bytes ∙ ap (λ (u : List ℕ). held_in nodes u block) is_source)) (some d));
     };

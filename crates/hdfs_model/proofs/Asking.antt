@@ -38,7 +38,7 @@ closes_keeps false src file last p q changes = changes.bytes
 -- the effect of a row
 pub row_keeps : (p q : Picture) (ask : Ask) (answer : Answer) → Row p ask answer q → KeepsBytes p q
 row_keeps p q (asks.GetBlockLocations src offset length) (answers.GetBlockLocations None) row = keeps_same p q row.1
-row_keeps p q (asks.GetBlockLocations src offset length) (answers.GetBlockLocations (Some found)) row = keeps_same p q row.1
+row_keeps p q (asks.GetBlockLocations src offset length) (answers.GetBlockLocations (Some found)) row = keeps_same p q row.2
 row_keeps p q asks.GetServerDefaults (answers.GetServerDefaults defaults) row = keeps_same p q row.1
 row_keeps p q (asks.Create src masked client flag parents replication block_size) (answers.Create status) row = row.2.changes.bytes
 row_keeps p q (asks.Append src client flag) (answers.Append appended) row = opens_keeps src row.1.0 appended.block p q row.1.3

@@ -16,13 +16,14 @@ use Rattle.hdfs_model.specs.declared.messages.Block.{Block}
 use Rattle.hdfs_model.specs.declared.messages.DatanodeId.{DatanodeId}
 use Rattle.hdfs_model.specs.declared.messages.DatanodeInfo.{DatanodeInfo}
 use Rattle.hdfs_model.specs.declared.messages.LocatedBlock.{LocatedBlock}
+use Rattle.hdfs_model.specs.declared.messages.LocatedBlocks.{LocatedBlocks}
 use Rattle.hdfs_model.specs.declared.picture.BlockEntry.{BlockEntry}
 use Rattle.hdfs_model.specs.declared.picture.Entry.{Entry}
 use Rattle.hdfs_model.specs.declared.picture.Entry.TheVariants as entries
 use Rattle.hdfs_model.specs.declared.picture.FileEntry.{FileEntry}
 use Rattle.hdfs_model.specs.Effects.{KeepsBytes, Changes, Creates, Opens, AddsBlock, AddsNew, GivesAgain, IsRetried, IsEntry, Completes, ClosesIf, NamesPipeline, IsLast, HasBlock, names_of, IsBeingWritten, with_entry, with_length, with_block, of_length, blocks_at, table_without}
 use Rattle.hdfs_model.specs.Files.{Kind, OpenFile, NoFile, no_file}
-use Rattle.hdfs_model.specs.Namenode.{Row, IsOwn, LocatesBlocks, overwrites, new_file}
+use Rattle.hdfs_model.specs.Namenode.{Row, IsOwn, Locates, LocatesBlocks, overwrites, new_file}
 use Rattle.hdfs_model.specs.Paths.{ancestors}
 use Rattle.hdfs_model.specs.Picture.{Picture, SameButActive, entry_kind, kinds}
 use Rattle.hdfs_model.specs.Refusals.{create_refusal, append_refusal, open_refusal, with_parents}
@@ -265,6 +266,7 @@ module _ (src client : List ℕ) (flag : ℕ) (p : Picture) where
       stamp = o.5.stamp;
       some = o.5.some;
       listed = o.5.listed;
+      apart = o.5.apart;
       whole = All-weaker (λ node. length (q.held node o.1) ≡ o.2.length) (λ node. length (p.held node o.1) ≡ o.2.length) (λ node is. ap length (sym (same.files.held node o.1)) ∙ is) (uuids block.locs) o.5.whole;
       now = o.5.now;
     },
@@ -546,24 +548,27 @@ locations_repeats src offset length p closed = quiet_repeats (asks.GetBlockLocat
   where
     quiet : (q r : Picture) (a : Answer) → Row q (asks.GetBlockLocations src offset length) a r → SameButActive q r
     quiet q r (answers.GetBlockLocations None) row = row.1
-    quiet q r (answers.GetBlockLocations (Some found)) row = row.1
+    quiet q r (answers.GetBlockLocations (Some found)) row = row.2
     quiet q r a row = absurd row
+
+    there : (q : Picture) → SameButActive p q → no_file (kinds q) src ≡ None → no_file (kinds p) src ≡ None
+    there q same allowed = ap (λ (k : List ℕ → Option Kind). no_file k src) (kinds_same p q same) ∙ allowed
+
+    located : (q : Picture) (found : LocatedBlocks) → SameButActive p q → Locates q src found → Locates p src found
+    located q found same h = record {
+      allowed = there q same h.allowed;
+      file = h.file;
+      named = sym (same.files.names src) ∙ h.named;
+      encryption = h.encryption;
+      blocks = subst (λ (t : ℕ → Option BlockEntry). LocatesBlocks t 0 found.file_length h.file.blocks found.blocks) (table_same p q same) h.blocks;
+    }
 
     left : (q r : Picture) (a : Answer) → SameButActive p q → Row q (asks.GetBlockLocations src offset length) a r → Row p (asks.GetBlockLocations src offset length) a r
     left q r (answers.GetBlockLocations None) same row = ((row.0.0, ap (λ (k : List ℕ → Option Kind). no_file k src) (kinds_same p q same) ∙ row.0.1), same_trans p q r same row.1)
-    left q r (answers.GetBlockLocations (Some found)) same row = (
-      record {
-        allowed = ap (λ (k : List ℕ → Option Kind). no_file k src) (kinds_same p q same) ∙ row.0.allowed;
-        file = row.0.file;
-        named = sym (same.files.names src) ∙ row.0.named;
-        encryption = row.0.encryption;
-        blocks = subst (λ (t : ℕ → Option BlockEntry). LocatesBlocks t 0 found.file_length row.0.file.blocks found.blocks) (table_same p q same) row.0.blocks;
-      },
-      same_trans p q r same row.1,
-    )
+    left q r (answers.GetBlockLocations (Some found)) same row = (there q same row.0, λ whole. located q found same (row.1 whole), same_trans p q r same row.2)
     left q r a same row = absurd row
 
     right : (q r : Picture) (a : Answer) → Row p (asks.GetBlockLocations src offset length) a q → SameButActive q r → Row p (asks.GetBlockLocations src offset length) a r
     right q r (answers.GetBlockLocations None) row same = (row.0, same_trans p q r row.1 same)
-    right q r (answers.GetBlockLocations (Some found)) row same = (row.0, same_trans p q r row.1 same)
+    right q r (answers.GetBlockLocations (Some found)) row same = (row.0, row.1, same_trans p q r row.2 same)
     right q r a row same = absurd row

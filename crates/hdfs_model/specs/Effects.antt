@@ -80,7 +80,7 @@ pub record Creates (src : List ℕ) (file : FileEntry) (old new : Picture) : Typ
   pub is_open : file.is_open ≡ true
   pub changes : Changes old new (with_parents old.names entries.Dir src (entries.File file)) (table_without old.table (blocks_at (old.names src)))
 
--- The last block of a file that is gone on with: it has a greater generation stamp, and names some of its datanodes, all of
+-- The last block of a file that is gone on with: it has a greater generation stamp, and names some of its datanodes, each once, all of
 -- which hold it whole. Only these are listed from then on.
 pub record Reopens (old : Picture) (id : ℕ) (block : LocatedBlock) (entry entry' : BlockEntry) : Type 0 where
   pub is : old.table id ≡ Some entry
@@ -89,6 +89,7 @@ pub record Reopens (old : Picture) (id : ℕ) (block : LocatedBlock) (entry entr
   pub stamp : entry.stamp < block.b.generation_stamp
   pub some : 0 < length block.locs
   pub listed : All (Contains entry.nodes) (uuids block.locs)
+  pub apart : IsDistinct bytes_eq (uuids block.locs)
   pub whole : All (λ node. length (old.held node id) ≡ entry.length) (uuids block.locs)
   pub now : entry' ≡ record { length = entry.length; stamp = block.b.generation_stamp; nodes = uuids block.locs }
 
@@ -169,13 +170,18 @@ pub record IsBeingWritten (p : Picture) (path : List ℕ) (block : Block) : Type
   pub is_open : file.is_open ≡ true
   pub has : Contains file.blocks block.block_id
 
--- these datanodes are the existing ones in their order, and one more among them
+-- two datanodes listen at one place
+abbrev pub SameAddress : DatanodeId → DatanodeId → Type 0
+SameAddress a b = (a.ip_addr ≡ b.ip_addr) × (a.xfer_port ≡ b.xfer_port)
+
+-- these datanodes are the existing ones in their order, and one more among them, which has an address of its own
 pub record HasOneMore (existing nodes : List DatanodeInfo) : Type 0 where
   pub front : List DatanodeInfo
   pub node : DatanodeInfo
   pub back : List DatanodeInfo
   pub is : nodes ≡ front ++ node ∷ back
   pub others : existing ≡ front ++ back
+  pub apart : All (λ other. SameAddress node.id other.id → ⊥) existing
 
 -- the one more is none of the existing ones, nor of those that are to be left out
 abbrev pub AddsOneOf : List DatanodeInfo → List DatanodeInfo → List DatanodeInfo → Type 0

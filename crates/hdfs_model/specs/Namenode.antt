@@ -79,6 +79,7 @@ StandsForNoFile kinds path class = (why : NoFile) × (no_file kinds path ≡ Som
 -- a block as it stands in the table, at this offset of its file
 pub record LocatesBlock (entry : BlockEntry) (at id : ℕ) (block : LocatedBlock) : Type 0 where
   pub same_id : block.b.block_id ≡ id
+  pub stamp : block.b.generation_stamp ≡ entry.stamp
   pub length : block.b.num_bytes ≡ entry.length
   pub offset : block.offset ≡ at
   pub nodes : uuids block.locs ≡ entry.nodes
@@ -99,6 +100,10 @@ pub record Locates (p : Picture) (src : List ℕ) (found : LocatedBlocks) : Type
   pub named : p.names src ≡ Some (entries.File file)
   pub encryption : is_some found.encryption ≡ file.attributes.encrypted
   pub blocks : LocatesBlocks p.table 0 found.file_length file.blocks found.blocks
+
+-- a range that asks for all blocks of a file
+abbrev pub AsksWhole : ℕ → ℕ → Type 0
+AsksWhole offset length = (offset ≡ 0) × (length ≡ 2 ^ 63 - 1)
 
 -- a flag of create asks for overwriting
 abbrev pub overwrites : ℕ → Bool
@@ -133,7 +138,7 @@ IsShaped (asks.GetBlockLocations src offset length) (answers.GetBlockLocations N
 IsShaped (asks.GetBlockLocations src offset length) (answers.GetBlockLocations (Some found)) =
     (found.file_length < 2 ^ 63)
     × All (λ block. block.offset + block.b.num_bytes < 2 ^ 63) found.blocks
-    × (offset ≡ 0 → length ≡ 2 ^ 63 - 1 → Follow 0 found.file_length found.blocks)
+    × (AsksWhole offset length → Follow 0 found.file_length found.blocks)
 IsShaped asks.GetServerDefaults (answers.GetServerDefaults defaults) = Unit {0}
 IsShaped (asks.Create src masked client flag parents replication block_size) (answers.Create status) = Unit {0}
 IsShaped (asks.Append src client flag) (answers.Append appended) = IfSome appended.block IsToWrite
@@ -166,11 +171,12 @@ IsShaped asks.GetHaServiceState (answers.GetHaServiceState state) = Unit {0}
 IsShaped ask answer = ⊥
 
 -- The row of an ask: what an active namenode answers, and what it does to all but which namenode is active. A look-up
--- changes nothing. False is no answer of the row to `complete`.
+-- changes nothing, and says which blocks a file has where all of them are asked for: of a narrower range a namenode answers the blocks that
+-- it finds there. False is no answer of the row to `complete`.
 abbrev pub Row : Picture → Ask → Answer → Picture → Type 0
 Row old (asks.GetBlockLocations src offset length) (answers.GetBlockLocations None) new = IsNoFile old src × SameButActive old new
 Row old (asks.GetBlockLocations src offset length) (answers.GetBlockLocations (Some found)) new =
-    Locates old src found × SameButActive old new
+    (no_file (kinds old) src ≡ None) × (AsksWhole offset length → Locates old src found) × SameButActive old new
 Row old asks.GetServerDefaults (answers.GetServerDefaults defaults) new = (defaults ≡ old.defaults) × SameButActive old new
 Row old (asks.Create src masked client flag parents replication block_size) (answers.Create status) new =
     (create_refusal (kinds old) src (overwrites flag) parents ≡ None)

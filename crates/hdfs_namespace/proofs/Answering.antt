@@ -4,7 +4,7 @@ use Rattle.std.proofs.lemmas.Bool.{eqb-true, false≢true, or_left, or_right, or
 use Rattle.std.proofs.lemmas.List.{append-nil}
 use Rattle.std.proofs.lemmas.List.Elements.{All-contains_itself, All-filter, All-weaker, Contains-append_cases, filter_passes}
 use Rattle.std.proofs.lemmas.Slice.Eq.{bytes_eq-Decides}
-use Rattle.std.specs.List.{All, Contains}
+use Rattle.std.specs.List.{All, Contains, IsDistinct, filter}
 use Rattle.std.specs.Option.{option_map}
 use Rattle.std.specs.Str.{bytes_eq}
 use Rattle.hdfs_model.specs.declared.asks.Ask.{Ask}
@@ -30,7 +30,9 @@ use Rattle.hdfs_model.specs.Sending.{uuids}
 use Rattle.hdfs_model.proofs.Trees.{no_file_there}
 use Rattle.hdfs_namespace.specs.Adding.{holds_whole, whole_nodes}
 use Rattle.hdfs_namespace.specs.Answering.{LocatesFile, StandsForRefusal, StandsForStray, IsStray, IsUnknown, Answers}
-use Rattle.hdfs_namespace.specs.Pipelines.{AddsLowest, GivesStamp, IsOfOpen, Renews}
+use Rattle.hdfs_namespace.specs.Pipelines.{AddsLowest, GivesStamp, IsOfOpen, Renews, is_addressed, is_barred}
+use Rattle.hdfs_namespace.proofs.Barring.{own_address}
+use Rattle.hdfs_namespace.proofs.EachOnce.{all_once, once_apart}
 use Rattle.hdfs_namespace.proofs.Locating.{all_within}
 use Rattle.hdfs_replicas.specs.Nodes.{is_named}
 
@@ -49,7 +51,7 @@ module _ (names : List ℕ → Option Entry) (tree : IsTree (kinds_in names)) (s
 module _ (p q : Picture) (i : ℕ) (active : i ≡ p.active) (same : SamePicture p q) where
   pub answers_found : (src : List ℕ) (offset length : ℕ) (found : LocatedBlocks) → LocatesFile p.names p.table src found → no_file (kinds p) src ≡ None
       → Answers p i (asks.GetBlockLocations src offset length) (Ok (answers.GetBlockLocations (Some found))) q
-  answers_found src offset length found h allowed = (active, same.active, tt, (record { allowed = allowed; file = h.file; named = h.named; encryption = h.encryption; blocks = h.blocks }, same.rest))
+  answers_found src offset length found h allowed = (active, same.active, tt, (allowed, λ whole. record { allowed = allowed; file = h.file; named = h.named; encryption = h.encryption; blocks = h.blocks }, same.rest))
 
   pub answers_excused : (src : List ℕ) (offset length : ℕ) (fault : AskFault) → StandsForRefusal (kinds p) src fault → Answers p i (asks.GetBlockLocations src offset length) (Err fault) q
   answers_excused src offset length faults.NoMemory h = same
@@ -70,16 +72,25 @@ not_among locs uuid unnamed has = false≢true (sym unnamed ∙ named_at locs uu
 
 -- the datanode that is added is one more, and neither existing nor left out
 adds_one : (count : ℕ) (existing excludes nodes : List DatanodeInfo) → AddsLowest count existing excludes nodes → AddsOneOf existing excludes nodes
-adds_one count existing excludes nodes h = (one, λ among. ⊎_elim (not_among existing uuid free.0) (not_among excludes uuid free.1) (Contains-append_cases (uuids existing) (uuids excludes) uuid among))
+adds_one count existing excludes nodes h = (one, λ among. ⊎_elim (not_among existing uuid free.0) (not_among excludes uuid free.1.0) (Contains-append_cases (uuids existing) (uuids excludes) uuid among))
   where
     uuid : List ℕ
     uuid = h.behind.node.id.datanode_uuid
 
     one : HasOneMore existing nodes
-    one = record { front = existing; node = h.behind.node; back = []; is = h.behind.is; others = sym (append-nil existing) }
+    one = record {
+      front = existing;
+      node = h.behind.node;
+      back = [];
+      is = h.behind.is;
+      others = sym (append-nil existing);
+      apart = own_address uuid h.behind.node existing (h.behind.at ∙ sym h.behind.named) free.1.1;
+    }
 
-    free : (is_named existing uuid ≡ false) × (is_named excludes uuid ≡ false)
-    free = or_parts (is_named existing uuid) (is_named excludes uuid) (ap (λ (u : List ℕ). is_named existing u || is_named excludes u) h.behind.named ∙ h.lowest.free)
+    free : (is_named existing uuid ≡ false) × ((is_named excludes uuid ≡ false) × (is_addressed existing uuid ≡ false))
+    free =
+        let parts = or_parts (is_named existing uuid) (is_named excludes uuid || is_addressed existing uuid) (ap (is_barred existing excludes) h.behind.named ∙ h.lowest.free) in
+        (parts.0, or_parts (is_named excludes uuid) (is_addressed existing uuid) parts.1)
 
 -- the block is one of an open file of the picture
 module _ (p : Picture) (src : List ℕ) (block : Block) where
@@ -91,15 +102,23 @@ module _ (p : Picture) (src : List ℕ) (block : Block) where
 
 -- the datanodes on which a block is reopened
 module _ (held : List ℕ → ℕ → List ℕ) (id : ℕ) (entry : BlockEntry) where
+  abbrev found : List (List ℕ)
+  found = filter (holds_whole held id entry.length) entry.nodes
+
   -- they were listed for it
   pub whole_listed : All (Contains entry.nodes) (whole_nodes held id entry)
-  whole_listed = All-filter (holds_whole held id entry.length) (Contains entry.nodes) entry.nodes (All-contains_itself entry.nodes)
+  whole_listed = all_once (Contains entry.nodes) found (All-filter (holds_whole held id entry.length) (Contains entry.nodes) entry.nodes (All-contains_itself entry.nodes))
+
+  -- each once
+  pub whole_apart : IsDistinct bytes_eq (whole_nodes held id entry)
+  whole_apart = once_apart found
 
   -- and hold it whole
   pub whole_held : All (λ node. length (held node id) ≡ entry.length) (whole_nodes held id entry)
   whole_held =
       let passes = filter_passes (holds_whole held id entry.length) entry.nodes in
-      All-weaker (λ node. holds_whole held id entry.length node ≡ true) (λ node. length (held node id) ≡ entry.length) (λ node. eqb-true (length (held node id)) entry.length) (whole_nodes held id entry) passes
+      all_once (λ node. length (held node id) ≡ entry.length) found
+      (All-weaker (λ node. holds_whole held id entry.length node ≡ true) (λ node. length (held node id) ≡ entry.length) (λ node. eqb-true (length (held node id)) entry.length) found passes)
 
 -- what the active namenode has to show where a pipeline is to be made anew
 module _ (p q : Picture) (i : ℕ) (active : i ≡ p.active) where
@@ -153,7 +172,7 @@ pub same_picture : (p : Picture) → SamePicture p p
 same_picture p = record { rest = record { files = record { names = λ path. refl; table = λ id. refl; held = λ node id. refl; defaults = refl }; reads = λ link. refl; writes = λ link. refl }; active = refl }
 
 pub shaped_found : (src : List ℕ) (offset length : ℕ) (found : LocatedBlocks) → found.file_length < 2 ^ 63 → Follow 0 found.file_length found.blocks → IsShaped (asks.GetBlockLocations src offset length) (answers.GetBlockLocations (Some found))
-shaped_found src offset length found short follow = (short, all_within 0 found.file_length found.blocks follow short, λ from whole. follow)
+shaped_found src offset length found short follow = (short, all_within 0 found.file_length found.blocks follow short, λ whole. follow)
 
 pub shaped_one_more : (src : List ℕ) (block : Block) (client : List ℕ) (existing excludes : List DatanodeInfo) (number : ℕ) (ids : List (List ℕ)) (count : ℕ) (olds outs : List DatanodeInfo) → olds ≡ existing
     → (located : LocatedBlock) → IsToWrite located → AddsLowest count olds outs located.locs → IsShaped (asks.GetAdditionalDatanode src block existing excludes number client ids) (answers.GetAdditionalDatanode located)

@@ -1,6 +1,8 @@
 pub mod Answering
 pub mod Apart
+pub mod Barring
 pub mod Directories
+pub mod EachOnce
 pub mod FileChanges
 pub mod Fronts
 pub mod Locating

@@ -1,6 +1,6 @@
 -- How blocks and files come into a cluster in memory.
 use Rattle.std.specs.Prelude.{◌≡◌, ◌≢◌, ◌<◌, ◌==◌, ℕ, Bool, true, false, List, [], ◌∷◌, ◌++◌, length, min, filter, slice_index_or, Contains, Option, Some, None, unwrap_or, if◌then◌else◌}
-use Rattle.std.specs.List.{All, list_any}
+use Rattle.std.specs.List.{All, fold, list_any}
 use Rattle.std.specs.Str.{bytes_eq}
 use Rattle.hdfs_model.specs.declared.picture.Entry.{Entry}
 use Rattle.hdfs_model.specs.declared.picture.Entry.TheVariants as entries
@@ -132,9 +132,17 @@ with_pipeline entry stamp nodes = record { length = entry.length; stamp = stamp;
 abbrev pub holds_whole : (List ℕ → ℕ → List ℕ) → ℕ → ℕ → List ℕ → Bool
 holds_whole held id count node = length (held node id) == count
 
--- exactly those of a block's datanodes that hold it whole, in their order
+-- texts with one more behind them, where it isn't one of them
+abbrev pub with_text : List (List ℕ) → List ℕ → List (List ℕ)
+with_text texts text = if list_any (bytes_eq text) texts then texts else texts ++ text ∷ []
+
+-- each of these texts once, in the order in which they first come
+abbrev pub each_once : List (List ℕ) → List (List ℕ)
+each_once texts = fold with_text [] texts
+
+-- exactly those of a block's datanodes that hold it whole, each once, in their order
 abbrev pub whole_nodes : (List ℕ → ℕ → List ℕ) → ℕ → BlockEntry → List (List ℕ)
-whole_nodes held id entry = filter (holds_whole held id entry.length) entry.nodes
+whole_nodes held id entry = each_once (filter (holds_whole held id entry.length) entry.nodes)
 
 -- a block with another generation stamp, listed on exactly those of its datanodes that hold it whole
 abbrev pub with_whole : (List ℕ → ℕ → List ℕ) → ℕ → BlockEntry → ℕ → BlockEntry

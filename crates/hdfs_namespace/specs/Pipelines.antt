@@ -1,5 +1,7 @@
 -- How a block that is being written gets another pipeline in a cluster in memory.
 use Rattle.std.specs.Prelude.{◌≡◌, ℕ, ◌<◌, Bool, true, false, ◌||◌, List, [], ◌∷◌, ◌++◌, Contains, Option, Some}
+use Rattle.std.specs.List.{list_any}
+use Rattle.std.specs.Str.{bytes_eq}
 use Rattle.hdfs_faults.specs.Series.{uuid_of}
 use Rattle.hdfs_model.specs.declared.messages.Block.{Block}
 use Rattle.hdfs_model.specs.declared.messages.DatanodeId.{DatanodeId}
@@ -28,9 +30,13 @@ pub record IsOfOpen (names : List ℕ → Option Entry) (path : List ℕ) (id : 
   pub is_open : file.is_open ≡ true
   pub has : Contains file.blocks id
 
--- whether a datanode is one of the existing ones, or one of those that are to be left out
+-- whether one of these datanodes has the address at which the datanode with a uuid listens: its uuid is its host, too
+abbrev pub is_addressed : List DatanodeInfo → List ℕ → Bool
+is_addressed nodes uuid = list_any (λ node. bytes_eq uuid node.id.ip_addr) nodes
+
+-- whether a datanode is one of the existing ones, or one of those that are to be left out, or listens where an existing one does
 abbrev pub is_barred : List DatanodeInfo → List DatanodeInfo → List ℕ → Bool
-is_barred existing excludes uuid = is_named existing uuid || is_named excludes uuid
+is_barred existing excludes uuid = is_named existing uuid || (is_named excludes uuid || is_addressed existing uuid)
 
 -- each of so many datanodes is barred
 abbrev pub AreBarred : (List ℕ → Bool) → ℕ → Type 0
@@ -42,10 +48,11 @@ pub record IsLowestFree (barred : List ℕ → Bool) (count number : ℕ) : Type
   pub free : barred (uuid_of number) ≡ false
   pub below : AreBarred barred number
 
--- these are the existing datanodes in their order, and behind them the one with this uuid
+-- these are the existing datanodes in their order, and behind them the one with this uuid, which is its host, too
 pub record IsBehind (existing : List DatanodeInfo) (uuid : List ℕ) (nodes : List DatanodeInfo) : Type 0 where
   pub node : DatanodeInfo
   pub named : node.id.datanode_uuid ≡ uuid
+  pub at : node.id.ip_addr ≡ uuid
   pub is : nodes ≡ existing ++ node ∷ []
 
 -- the datanode behind the existing ones is the lowest of so many that is neither existing nor left out

@@ -1,13 +1,15 @@
 //! How a file is opened to be gone on with in a cluster in memory.
 ghost use Rattle.std.specs.Prelude.{◌≡◌, ℕ, true, List, Some, None, IfOk, IfErr, IfSome, OnOk, OnErr, MatchResult};
 ghost use Rattle.std.specs.BTreeMap.{get_by_text};
+ghost use Rattle.std.specs.List.{list_any};
+ghost use Rattle.std.specs.Str.{bytes_eq};
 ghost use Rattle.hdfs_model.specs.declared.picture.Entry.TheVariants as entries;
 ghost use Rattle.hdfs_model.specs.declared.picture.FileEntry.{FileEntry};
 ghost use Rattle.hdfs_model.specs.Effects.{HasStatus, with_entry};
 ghost use Rattle.hdfs_model.specs.Namenode.{IsToWrite, StandsForAny};
 ghost use Rattle.hdfs_model.specs.Picture.{kinds_in};
 ghost use Rattle.hdfs_model.specs.Refusals.{append_refusal};
-ghost use Rattle.hdfs_namespace.specs.Adding.{HasOne, OpensAgain, Reopened, whole_nodes, with_open};
+ghost use Rattle.hdfs_namespace.specs.Adding.{HasOne, OpensAgain, Reopened, each_once, whole_nodes, with_open};
 ghost use Rattle.hdfs_namespace.specs.Spaces.{space_of};
 ghost use Rattle.hdfs_namespace.specs.Answering.{StandsForWritten};
 ghost use Rattle.hdfs_replicas.specs.Nodes.{held_in, SameHeld, SameNodes};
@@ -21,7 +23,27 @@ use hdfs_replicas::Datanodes;
 use hdfs_wire::{List, NoMemory, Text};
 use std::alloc::Global;
 
-/// The uuids of the datanodes that are listed for a block and hold it whole, in their order.
+/// Whether a text is one of these.
+fn is_among(texts: &[Text], text: &Text) -> bool
+    ensures { result ≡ list_any (bytes_eq text.now) texts.now }
+{
+    texts.iter().any(|other| text.as_str() == other.as_str())
+}
+
+/// Each of these texts once, in the order in which they first come.
+fn each_once(alloc: Global, texts: &[Text]) -> Result<List<Text>, NoMemory>
+    ensures { IfOk result (λ once. once ≡ each_once texts.now) }
+{
+    let mut once = List::new(alloc);
+    for text in texts {
+        if !is_among(once.as_slice(), text) {
+            once.push(text.copy(alloc)?)?;
+        }
+    }
+    Ok(once)
+}
+
+/// The uuids of the datanodes that are listed for a block and hold it whole, each once, in their order.
 fn whole_nodes(
     alloc: Global,
     nodes: &mut Datanodes,
@@ -38,7 +60,7 @@ fn whole_nodes(
             whole.push(uuid.copy(alloc)?)?;
         }
     }
-    Ok(whole)
+    each_once(alloc, whole.as_slice())
 }
 
 impl Namespace {

@@ -68,9 +68,10 @@ pub fn exception(alloc: Global, class: &str) -> Result<AskFault, NoMemory>
     })
 }
 
-/// The datanode with this uuid.
+/// The datanode with this uuid, which is its host, too.
 pub(crate) fn info(alloc: Global, uuid: &Text) -> Result<DatanodeInfo, NoMemory>
-    ensures { IfOk result (λ info. info.id.datanode_uuid ≡ uuid.now) }
+    ensures named { IfOk result (λ info. info.id.datanode_uuid ≡ uuid.now) }
+    ensures host { IfOk result (λ info. info.id.ip_addr ≡ uuid.now) }
 {
     Ok(DatanodeInfo {
         id: DatanodeId {
@@ -152,7 +153,6 @@ pub(crate) fn located_block(
     offset: u64,
 ) -> Result<LocatedBlock, NoMemory>
     ensures block { IfOk result (λ block. LocatesBlock entry.now offset id block) }
-    ensures stamp { IfOk result (λ block. block.b.generation_stamp ≡ entry.now.stamp) }
     ensures types { IfOk result (λ block. length block.storage_types ≡ length entry.now.nodes) }
     ensures ids { IfOk result (λ block. length block.storage_ids ≡ length entry.now.nodes) }
 {

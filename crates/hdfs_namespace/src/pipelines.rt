@@ -2,12 +2,13 @@
 ghost use Rattle.std.specs.Prelude.{◌≡◌, ◌≢◌, ◌↔◌, ◌||◌, ℕ, List, IsTrue, IsSome, Some, IfOk, IfErr, IfSome, OnOk, OnErr, MatchOption};
 ghost use Rattle.std.specs.BTreeMap.{get_by_text};
 ghost use Rattle.std.specs.BTreeSet.{contains_text};
+ghost use Rattle.std.specs.Str.{bytes_eq};
 ghost use Rattle.hdfs_faults.specs.Series.{uuid_of};
 ghost use Rattle.hdfs_model.specs.Effects.{names_of};
 ghost use Rattle.hdfs_model.specs.Namenode.{IsToWrite};
 ghost use Rattle.hdfs_namespace.specs.Answering.{StandsForStray};
 ghost use Rattle.hdfs_namespace.specs.Memory.{table_of};
-ghost use Rattle.hdfs_namespace.specs.Pipelines.{AddsLowest, AreBarred, GivesStamp, IsBehind, IsLowestFree, IsOfOpen, Renews, is_barred};
+ghost use Rattle.hdfs_namespace.specs.Pipelines.{AddsLowest, AreBarred, GivesStamp, IsBehind, IsLowestFree, IsOfOpen, Renews, is_addressed, is_barred};
 ghost use Rattle.hdfs_replicas.specs.Nodes.{is_named};
 
 use crate::blocks::{has_id, set_pipeline};
@@ -30,17 +31,35 @@ fn copy_uuids(alloc: Global, nodes: &[DatanodeId]) -> Result<List<Text>, NoMemor
     Ok(copies)
 }
 
+/// Puts a text into a set.
+fn put(alloc: Global, set: &mut BTreeSet<String>, text: &Text) -> Result<(), NoMemory>
+    ensures { OnOk result ((other : List ℕ) → contains_text set.new other ≡ (bytes_eq other text.now || contains_text set.old other)) }
+{
+    set.insert(String::from_str(alloc, text.as_str())?)?;
+    Ok(())
+}
+
 /// Puts the uuids of datanodes into a set.
 fn bar(alloc: Global, barred: &mut BTreeSet<String>, nodes: &[DatanodeInfo]) -> Result<(), NoMemory>
-    ensures { OnOk result ((uuid : List ℕ) → contains_text barred.new uuid ≡ (contains_text barred.old uuid || is_named nodes.now uuid)) }
+    ensures { OnOk result ((uuid : List ℕ) → contains_text barred.new uuid ≡ (is_named nodes.now uuid || contains_text barred.old uuid)) }
 {
     for node in nodes {
-        barred.insert(String::from_str(alloc, node.id.datanode_uuid.as_str())?)?;
+        put(alloc, barred, &node.id.datanode_uuid)?;
     }
     Ok(())
 }
 
-/// The uuids of the existing datanodes, and of those that are to be left out.
+/// Puts the hosts of datanodes into a set.
+fn bar_hosts(alloc: Global, barred: &mut BTreeSet<String>, nodes: &[DatanodeInfo]) -> Result<(), NoMemory>
+    ensures { OnOk result ((uuid : List ℕ) → contains_text barred.new uuid ≡ (is_addressed nodes.now uuid || contains_text barred.old uuid)) }
+{
+    for node in nodes {
+        put(alloc, barred, &node.id.ip_addr)?;
+    }
+    Ok(())
+}
+
+/// The uuids of the existing datanodes and of those that are to be left out, and the hosts of the existing ones.
 fn barred(
     alloc: Global,
     existing: &[DatanodeInfo],
@@ -49,8 +68,9 @@ fn barred(
     ensures { IfOk result (λ barred. (uuid : List ℕ) → contains_text barred uuid ≡ is_barred existing.now excludes.now uuid) }
 {
     let mut barred = BTreeSet::new(alloc);
-    bar(alloc, &mut barred, existing)?;
+    bar_hosts(alloc, &mut barred, existing)?;
     bar(alloc, &mut barred, excludes)?;
+    bar(alloc, &mut barred, existing)?;
     Ok(barred)
 }
 
@@ -127,7 +147,7 @@ impl Namespace {
     }
 
     /// A block of the open file at a path, on the existing datanodes and behind them on the lowest-numbered one that is neither
-    /// existing nor excluded; none where there is no such datanode.
+    /// existing nor excluded, nor listens where an existing one does; none where there is no such datanode.
     pub fn additional_datanode(
         &self,
         alloc: Global,

@@ -52,6 +52,7 @@ pub returns-in-Ok-Some-clause-files : goal.returns-in-Ok-Some-clause-files
 returns-in-Ok-Some-clause-files g c = files_looked (c.in-Ok-Some.ensures.came c.requires)
 
 pub returns-in-Ok-Some-clause-found : goal.returns-in-Ok-Some-clause-found
-returns-in-Ok-Some-clause-found g c =
+returns-in-Ok-Some-clause-found g c = λ p told closed.
     found_looked {offset = 0} {length = 9223372036854775807}
     (came_as refl (ap (λ (found : Option LocatedBlocks). Ok (answers.GetBlockLocations found)) c.in-Ok-Some.field-0-is) (c.in-Ok-Some.ensures.came c.requires))
+    p told closed (refl, refl)
