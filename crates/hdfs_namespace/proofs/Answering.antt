@@ -77,6 +77,11 @@ adds_one count existing excludes nodes h = (one, λ among. ⊎_elim (not_among e
     uuid : List ℕ
     uuid = h.behind.node.id.datanode_uuid
 
+    free : (is_named existing uuid ≡ false) × ((is_named excludes uuid ≡ false) × (is_addressed existing uuid ≡ false))
+    free =
+        let parts = or_parts (is_named existing uuid) (is_named excludes uuid || is_addressed existing uuid) (ap (is_barred existing excludes) h.behind.named ∙ h.lowest.free) in
+        (parts.0, or_parts (is_named excludes uuid) (is_addressed existing uuid) parts.1)
+
     one : HasOneMore existing nodes
     one = record {
       front = existing;
@@ -86,11 +91,6 @@ adds_one count existing excludes nodes h = (one, λ among. ⊎_elim (not_among e
       others = sym (append-nil existing);
       apart = own_address uuid h.behind.node existing (h.behind.at ∙ sym h.behind.named) free.1.1;
     }
-
-    free : (is_named existing uuid ≡ false) × ((is_named excludes uuid ≡ false) × (is_addressed existing uuid ≡ false))
-    free =
-        let parts = or_parts (is_named existing uuid) (is_named excludes uuid || is_addressed existing uuid) (ap (is_barred existing excludes) h.behind.named ∙ h.lowest.free) in
-        (parts.0, or_parts (is_named excludes uuid) (is_addressed existing uuid) parts.1)
 
 -- the block is one of an open file of the picture
 module _ (p : Picture) (src : List ℕ) (block : Block) where

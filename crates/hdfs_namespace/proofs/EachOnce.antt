@@ -1,5 +1,5 @@
 -- Texts of which each is taken once are some of those that were there, and no two of them are the same.
-use Rattle.std.proofs.Common.{◌≡◌, ◌×◌, ℕ, Bool, true, false, cond, ◌||◌, List, [], ◌∷◌, ◌++◌, refl, ◌∙◌}
+use Rattle.std.proofs.Common.{◌≡◌, ℕ, Bool, true, false, cond, ◌||◌, List, [], ◌∷◌, ◌++◌, refl, ◌∙◌}
 use Rattle.std.proofs.lemmas.Bool.{or_parts}
 use Rattle.std.proofs.lemmas.List.Elements.{All-append, All-cons, All-head, All-nil, All-tail}
 use Rattle.std.proofs.lemmas.Map.Keys.{IsDistinct-cons, IsDistinct-head, IsDistinct-tail}
@@ -23,17 +23,15 @@ all_once P texts more = all_behind P [] texts (All-nil P) more
 
 -- one more behind the others
 all_push : (P : List ℕ → Type 0) (texts : List (List ℕ)) (text : List ℕ) → AllByRecursion P texts → P text → AllByRecursion P (texts ++ text ∷ [])
-unfolding AllByRecursion
 all_push P [] text held here = (here, tt)
 all_push P (first ∷ texts) text held here = (held.0, all_push P texts text held.1 here)
 
+none_apart : (P : List ℕ → Type 0) → AllByRecursion P []
+none_apart P = tt
+
 distinct_push : (texts : List (List ℕ)) (text : List ℕ) → list_any (bytes_eq text) texts ≡ false → IsDistinct bytes_eq texts
     → IsDistinct bytes_eq (texts ++ text ∷ [])
-distinct_push [] text apart distinct = IsDistinct-cons bytes_eq text [] (none (λ y. bytes_eq text y ≡ false)) distinct
-  where
-    none : (P : List ℕ → Type 0) → AllByRecursion P []
-    unfolding AllByRecursion
-    none P = tt
+distinct_push [] text apart distinct = IsDistinct-cons bytes_eq text [] (none_apart (λ y. bytes_eq text y ≡ false)) distinct
 distinct_push (first ∷ texts) text apart distinct =
     let parts = or_parts (bytes_eq text first) (list_any (bytes_eq text) texts) apart in
     IsDistinct-cons bytes_eq first (texts ++ text ∷ [])
@@ -51,8 +49,5 @@ distinct_behind taken (text ∷ texts) distinct =
 
 -- no two are the same
 pub once_apart : (texts : List (List ℕ)) → IsDistinct bytes_eq (each_once texts)
-once_apart texts = distinct_behind [] texts none
-  where
-    none : IsDistinct bytes_eq []
-    unfolding IsDistinct
-    none = tt
+unfolding IsDistinct
+once_apart texts = distinct_behind [] texts tt
