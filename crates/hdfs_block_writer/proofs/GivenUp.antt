@@ -10,8 +10,8 @@ use Rattle.hdfs_model.specs.Causes.{SomeNodeRose}
 use Rattle.hdfs_model.specs.Counts.{Rose}
 use Rattle.hdfs_model.specs.Pipes.{WriteEnded}
 use Rattle.hdfs_model.specs.Sending.{uuids}
-use Rattle.hdfs_model.specs.Shown.{Shown, Later}
-use Rattle.hdfs_model.proofs.Frames.{later_refl, later_trans, rose_since}
+use Rattle.hdfs_model.specs.Shown.{Shown}
+use Rattle.hdfs_model.proofs.Frames.{later_refl, rose_since}
 use Rattle.hdfs_pipeline.specs.Driving.{Drove, StopsShort}
 use Rattle.hdfs_pipeline.specs.Pipelines.{Bad, Pipeline}
 use Rattle.hdfs_names.specs.Replacements.{ShouldReplace}
@@ -71,9 +71,6 @@ module _ (settings : RebuildSettings) (client : List ℕ) (a : Shown) (pipe : Bl
         (none : GaveNone (task settings client a pipe came last z m failed fell bytes unsent below) then fault new) where
       links_now : KeepsLinks m new
       links_now = keeps_links_trans m then.shown new chain.links none.links
-
-      later_a : Later a new
-      later_a = later_trans a then.shown new chain.later none.links.later
 
       node_rose : SomeNodeRose a.counts new
       node_rose = some_rose settings client a pipe came last z m failed fell bytes unsent below new links_now.later

@@ -9,7 +9,6 @@ use Rattle.hdfs_model.specs.Sending.{uuids}
 use Rattle.hdfs_model.specs.Shown.{Shown}
 use Rattle.hdfs_model.specs.Writing.{Releases, Starts}
 use Rattle.hdfs_model.proofs.Frames.{told_after}
-use Rattle.hdfs_pipeline.specs.Cores.{IsCore}
 use Rattle.hdfs_pipeline.specs.Pipelines.{Pipeline, empty_pipeline}
 use Rattle.hdfs_block_writer.specs.Packing.{filling_of, setup_of}
 use Rattle.hdfs_blocks.proofs.Beginning.{carries_begins}
@@ -21,24 +20,11 @@ use Rattle.hdfs_recovery.specs.declared.block_plan.RebuildSettings.{RebuildSetti
 use Rattle.hdfs_block_writer.specs.declared.block_writer.BlockWriter.{BlockWriter}
 use Rattle.hdfs_block_writer.specs.BlockWriters.{AreFull, GoesOver, Stands, link_in, link_of, safe_of, start_of}
 use Rattle.hdfs_block_writer.specs.OpenPipelines.{Has, IsStanding, OnlyOwnLink, id_of, nodes_of}
-use Rattle.hdfs_block_writer.specs.Written.{BeginsWhole, LetsGo, OpensLink}
+use Rattle.hdfs_block_writer.specs.Written.{BeginsWhole, LetsGo}
 use Rattle.hdfs_block_writer.proofs.OwnLinks.{own_link_refl}
+use Rattle.hdfs_recovery.proofs.Resuming.{empty_is_core}
 use Rattle.hdfs_recovery.proofs.Stepping.{written_still}
 use Rattle.hdfs_block_writer.proofs.Wrote.{gave_up_ended, pipe_is}
-
--- an empty pipeline is a core
-empty_is_core : (window nodes : ℕ) → (1 ≤ window) × (window ≤ 1000) → (1 ≤ nodes) × (nodes ≤ 256) → IsCore (empty_pipeline window nodes)
-empty_is_core window nodes windows some = record {
-  window = windows;
-  nodes = some;
-  forgets = refl;
-  few = omega arith;
-  sent = omega arith;
-  one = omega arith;
-  within = omega arith;
-  heartbeats = omega arith;
-  failed = λ places is. absurd (cc is);
-}
 
 module _ (plan : BlockPlan) (settings : RebuildSettings) (link : ℕ) (client : List ℕ) (w : BlockWriter) (core : Pipeline) (a b : Shown)
     (to_write : IsToWrite plan.block) (rebuilds : plan.rebuilds ≤ settings.rebuild_limit)
@@ -102,9 +88,6 @@ module _ (plan : BlockPlan) (settings : RebuildSettings) (link : ℕ) (client : 
         λ packet some. absurd (cc (none, some)),
         subst AreFull same (λ k d lt. absurd (omega (arith, lt))),
       )
-
-  pub new_opens : OpensLink a (setup_of plan.block plan.chunk client) w b
-  new_opens = (link, ap link_in piped, opened)
 
   pub new_begins : BeginsWhole a plan w b
   new_begins p bytes told written whole =

@@ -4,6 +4,7 @@ use Rattle.std.proofs.lemmas.List.{append-nil, length-map}
 use Rattle.std.specs.List.{slice_index_or}
 use Rattle.hdfs_wire.specs.Outgoing.{Outgoing}
 use Rattle.hdfs_model.specs.declared.messages.DatanodeInfo.{DatanodeInfo}
+use Rattle.hdfs_model.specs.declared.messages.Setup.{Setup}
 use Rattle.hdfs_model.specs.declared.picture.OpenWrite.{OpenWrite}
 use Rattle.hdfs_model.specs.Causes.{SomeNodeRose}
 use Rattle.hdfs_model.specs.Counts.{Rose}
@@ -144,7 +145,7 @@ module _ (settings : RebuildSettings) (client : List ℕ) (a : Shown) (pipe : Bl
     again = omega (arith, chain.rebuilds, ok.begins.next.once)
 
     opened_locs : ok.opened.0.setup.locs ≡ pipe'.plan.block.locs
-    opened_locs = ok.opened.2.nodes
+    opened_locs = ap (λ (s : Setup). s.locs) ok.opened.2
 
     set_up : (write : OpenWrite) → new.writes pipe'.link ≡ Some write → write.setup.locs ≡ pipe'.plan.block.locs
     set_up write at =

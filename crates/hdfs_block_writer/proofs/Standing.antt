@@ -77,9 +77,11 @@ module _ (settings : RebuildSettings) (pipe : BlockPipeline) (b : Shown) (stands
 
   -- it can be rebuilt
   pub can_rebuild_standing : (bytes unsent : ℕ) (replay : List Outgoing) → replay ≡ pipe.core.pushed
-      → (total pipe.core.pushed + unsent ≤ bytes) × (bytes < 2 ^ 63) → CanRebuild (long_plan pipe.plan bytes) settings failed replay unsent
+      → (total pipe.core.pushed + unsent ≤ bytes) × (bytes < 2 ^ 63)
+      → CanRebuild (record { plan = long_plan pipe.plan bytes; failed = failed; replay = replay }) settings unsent
   can_rebuild_standing bytes unsent replay same few =
-      subst (λ (packets : List Outgoing). CanRebuild (long_plan pipe.plan bytes) settings failed packets unsent) (sym same)
+      subst (λ (packets : List Outgoing). CanRebuild (record { plan = long_plan pipe.plan bytes; failed = failed; replay = packets }) settings unsent)
+      (sym same)
       (record {
         block = long_to_write pipe.plan bytes few.1 stands.block;
         places = failed_places;

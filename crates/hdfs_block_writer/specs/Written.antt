@@ -1,13 +1,11 @@
 -- What the calls of a writer of one block do.
 use Rattle.std.specs.Prelude.{◌≡◌, ◌⊎◌, ℕ, pos, ◌+◌, ◌≤◌, true, List, [], ◌++◌, length, Some, None}
 use Rattle.hdfs_wire.specs.Outgoing.{Outgoing}
-use Rattle.hdfs_model.specs.declared.asks.LinkFault.{LinkFault}
-use Rattle.hdfs_model.specs.declared.asks.LinkFault.TheVariants as links
 use Rattle.hdfs_model.specs.declared.messages.Block.{Block}
 use Rattle.hdfs_model.specs.declared.messages.Setup.{Setup}
 use Rattle.hdfs_model.specs.Effects.{IsBeingWritten}
 use Rattle.hdfs_model.specs.Picture.{Picture}
-use Rattle.hdfs_model.specs.Pipes.{WriteEnded, WriteNotOpened, WriteOpened}
+use Rattle.hdfs_model.specs.Pipes.{WriteEnded, WriteOpened}
 use Rattle.hdfs_model.specs.Sending.{uuids}
 use Rattle.hdfs_model.specs.Shown.{Shown}
 use Rattle.hdfs_model.specs.Writing.{OnlyBlock}
@@ -17,10 +15,10 @@ use Rattle.hdfs_recovery.specs.declared.block_plan.BlockPipeline.{BlockPipeline}
 use Rattle.hdfs_recovery.specs.declared.block_plan.BlockPlan.{BlockPlan}
 use Rattle.hdfs_recovery.specs.declared.block_plan.RebuildSettings.{RebuildSettings}
 use Rattle.hdfs_recovery.specs.declared.block_plan.WriteFault.{WriteFault}
-use Rattle.hdfs_recovery.specs.declared.block_plan.WriteFault.TheVariants as faults
 use Rattle.hdfs_block_writer.specs.declared.block_writer.BlockWriter.{BlockWriter}
 use Rattle.hdfs_block_writer.specs.BlockWriters.{AreFull, Carries, HasFailed, length_of, link_of, size_of, start_of}
 use Rattle.hdfs_recovery.specs.Between.{OnlyBlockOf}
+pub use Rattle.hdfs_recovery.specs.Opening.{OpensNone, fault_of}
 use Rattle.hdfs_block_writer.specs.OpenPipelines.{EndsReceived, GivesUp, IsSteady, KeepsBlock, KeepsStamp, OnlyOwnLink, RebuiltOnFailures, id_of, nodes_of}
 
 -- A new writer of this block, whose first packet has the seqno 0, with what it was asked to write with.
@@ -47,17 +45,6 @@ BeginsWhole old plan writer new =
     (p : Picture) (bytes : List ℕ) → old.picture ≡ Some p → IsBeingWritten p plan.src plan.block.b
     → HoldsWhole p plan.block.b.block_id plan.block.b.num_bytes (uuids plan.block.locs) bytes
     → (q : Picture) × (new.picture ≡ Some q) × Carries q writer bytes
-
--- what it is for a writer that no pipeline was set up
-abbrev pub fault_of : LinkFault → WriteFault
-fault_of links.NoMemory = faults.NoMemory
-fault_of links.Broken = faults.Link
-fault_of links.Refused = faults.Setup
-
--- no pipeline was set up, and nothing changed; for want of memory it may not even have been asked for
-abbrev pub OpensNone : Shown → Setup → WriteFault → Shown → Type 0
-OpensNone old setup fault new =
-    ((fault ≡ faults.NoMemory) × (new ≡ old)) ⊎ ((why : LinkFault) × (fault ≡ fault_of why) × WriteNotOpened old setup why new)
 
 -- with what it writes
 pub record Keeps (writer writer' : BlockWriter) : Type 0 where

@@ -3,11 +3,11 @@
 ghost use Rattle.std.specs.Prelude.{◌≡◌, ◌<◌, ◌≤◌, ◌+◌, ◌-◌, ◌^◌, ◌↔◌, [], length, take, min, None, Some, Err, IsSome, IsTrue, IfOk, IfErr, OnOk};
 ghost use Rattle.hdfs_recovery.specs.declared.block_plan.WriteFault.TheVariants as faults;
 
-use crate::pushing::{finish, push};
-use crate::set_up::open;
 use hdfs_model::{Block, Cluster};
 use hdfs_namenode::NamenodeProtocol;
-use hdfs_recovery::{BlockPipeline, BlockPlan, RebuildSettings, WriteFault};
+use hdfs_recovery::{
+    BlockPipeline, BlockPlan, Opening, RebuildSettings, WriteFault, open_pipeline,
+};
 use hdfs_wire::WritePacket;
 use std::alloc::Global;
 
@@ -76,7 +76,8 @@ impl BlockWriter {
             (setup_of plan.block plan.chunk (name_of namenode.now)) fault (C.shown cluster.new)) }
     {
         let client = namenode.client_name();
-        let (core, link) = match open(alloc, cluster, &plan, settings.window, client) {
+        let opening = Opening::first(&plan, settings.window);
+        let (core, link) = match open_pipeline(alloc, cluster, &plan, opening, client) {
             Ok(opened) => opened,
             Err(fault) => {
                 drop(plan);
@@ -135,22 +136,10 @@ impl BlockWriter {
             drop(packet);
             return Err(WriteFault::Failed);
         };
-        match push(
-            self.alloc,
-            cluster,
-            namenode,
-            &self.settings,
-            pipe,
-            self.length,
-            packet,
-        ) {
-            Ok(pipe) => {
-                drop(self.pipe.replace(pipe));
-                self.seqno += 1;
-                Ok(())
-            }
-            Err(fault) => Err(fault),
-        }
+        let pipe = self.push(cluster, namenode, pipe, packet)?;
+        drop(self.pipe.replace(pipe));
+        self.seqno += 1;
+        Ok(())
     }
 
     /// Sends the packet where it has no room left.
@@ -168,14 +157,11 @@ impl BlockWriter {
         ensures err { IfErr result (λ fault. Fails (C.shown cluster.old) self.old fault (C.shown cluster.new) self.new) }
         ensures client { SameClient namenode.old namenode.new }
     {
-        if self.has_full_packet() {
-            match self.flush(cluster, namenode) {
-                Ok(()) => Ok(()),
-                Err(fault) => Err(fault),
-            }
-        } else {
-            Ok(())
+        if !self.has_full_packet() {
+            return Ok(());
         }
+        self.flush(cluster, namenode)?;
+        Ok(())
     }
 
     /// Takes some of the bytes, at least one, and says how many.
@@ -195,17 +181,12 @@ impl BlockWriter {
         ensures err { IfErr result (λ fault. Fails (C.shown cluster.old) self.old fault (C.shown cluster.new) self.new) }
         ensures client { SameClient namenode.old namenode.new }
     {
-        let count = match self.fill(bytes) {
-            Ok(count) => count,
-            Err(_) => {
-                self.fail(cluster);
-                return Err(WriteFault::NoMemory);
-            }
+        let Ok(count) = self.fill(bytes) else {
+            self.fail(cluster);
+            return Err(WriteFault::NoMemory);
         };
-        match self.flush_full(cluster, namenode) {
-            Ok(()) => Ok(count),
-            Err(fault) => Err(fault),
-        }
+        self.flush_full(cluster, namenode)?;
+        Ok(count)
     }
 
     /// Takes the bytes, all of which the block has room for.
@@ -226,10 +207,8 @@ impl BlockWriter {
     {
         let mut rest = bytes;
         'pieces: while !rest.is_empty() {
-            match self.write_piece(cluster, namenode, rest) {
-                Ok(taken) => rest = &rest[taken..],
-                Err(fault) => return Err(fault),
-            }
+            let taken = self.write_piece(cluster, namenode, rest)?;
+            rest = &rest[taken..];
         }
         Ok(())
     }
@@ -262,10 +241,8 @@ impl BlockWriter {
         }
         let room = (self.block_size - self.length) as usize;
         let taken = bytes.len().min(room);
-        match self.write_all(cluster, namenode, &bytes[..taken]) {
-            Ok(()) => Ok(taken),
-            Err(fault) => Err(fault),
-        }
+        self.write_all(cluster, namenode, &bytes[..taken])?;
+        Ok(taken)
     }
 
     /// Sends the last packet, waits until all are acknowledged, and ends the link.
@@ -283,35 +260,17 @@ impl BlockWriter {
         ensures err { IfErr result (λ fault. GaveUp (C.shown cluster.old) self.old fault (C.shown cluster.new)) }
         ensures client { SameClient namenode.old namenode.new }
     {
-        let packet = match self.last_packet() {
-            Ok(packet) => packet,
-            Err(_) => {
-                self.fail(cluster);
-                return Err(WriteFault::NoMemory);
-            }
+        let Ok(packet) = self.last_packet() else {
+            self.fail(cluster);
+            return Err(WriteFault::NoMemory);
         };
         let Some(pipe) = self.pipe.take() else {
             drop(packet);
             return Err(WriteFault::Failed);
         };
-        let length = self.length;
-        let pushed = push(
-            self.alloc,
-            cluster,
-            namenode,
-            &self.settings,
-            pipe,
-            length,
-            packet,
-        );
-        let pipe = match pushed {
-            Ok(pipe) => pipe,
-            Err(fault) => return Err(fault),
-        };
-        match finish(self.alloc, cluster, namenode, &self.settings, pipe, length) {
-            Ok(plan) => Ok(named(plan, length)),
-            Err(fault) => Err(fault),
-        }
+        let pipe = self.push(cluster, namenode, pipe, packet)?;
+        let plan = self.finish(cluster, namenode, pipe)?;
+        Ok(named(plan, self.length))
     }
 
     /// Sends what is left, waits until all packets are acknowledged, and answers the block's name with its length and the generation stamp
@@ -355,10 +314,8 @@ impl BlockWriter {
         if self.pipe.is_none() {
             return Err(WriteFault::Failed);
         }
-        match self.flush(cluster, namenode) {
-            Ok(()) => self.end(cluster, namenode),
-            Err(fault) => Err(fault),
-        }
+        self.flush(cluster, namenode)?;
+        self.end(cluster, namenode)
     }
 
     /// Gives the block up: the link is ended, and nothing else happens.

@@ -4,7 +4,6 @@
 mod block_writer;
 mod packing;
 mod pushing;
-mod set_up;
 
 pub use block_writer::BlockWriter;
 pub use hdfs_recovery::{BlockPlan, RebuildSettings, WriteFault};

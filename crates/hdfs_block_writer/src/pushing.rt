@@ -1,19 +1,14 @@
 //! Packets go down the pipeline of a block, which is rebuilt where datanodes of it fail.
 
 ghost use Rattle.std.specs.Prelude.{◌≡◌, ◌<◌, ◌≤◌, ◌+◌, ◌^◌, [], Some, IsSome, IfOk, IfErr, OnOk};
-ghost use Rattle.hdfs_namenode.specs.Asked.{ReachesAll};
-ghost use Rattle.hdfs_namenode.specs.Clients.{SameClient, proxy_of};
-ghost use Rattle.hdfs_pipeline.specs.Pipelines.{Done};
-ghost use Rattle.hdfs_blocks.specs.Carrying.{total};
-ghost use Rattle.hdfs_block_writer.specs.OpenPipelines.{Finishes, IsStanding};
-ghost use Rattle.hdfs_block_writer.specs.Pushing.{CanPush, FallsEnded, FallsFor, FinishesNot, IsEnding, Pushes, PushesNot, PushesOnce, ReceivesAll, ReceivesOnce, RebuildsEnded, Settles, bytes_in};
+ghost use Rattle.hdfs_block_writer.specs.Pushing.{bytes_in};
 
+use crate::block_writer::BlockWriter;
 use hdfs_model::Cluster;
 use hdfs_namenode::NamenodeProtocol;
 use hdfs_pipeline::{PipelineEnd, drive_end, drive_push};
-use hdfs_recovery::{BlockPipeline, BlockPlan, RebuildSettings, WriteFault, rebuild};
+use hdfs_recovery::{BlockPipeline, BlockPlan, Fallen, WriteFault, rebuild};
 use hdfs_wire::{NoMemory, WritePacket};
-use std::alloc::Global;
 
 /// What came of driving a pipeline to its end.
 #[derive(Drop)]
@@ -41,87 +36,6 @@ fn with_length(plan: BlockPlan, length: u64) -> BlockPlan
     BlockPlan { block, ..plan }
 }
 
-/// Rebuilds a pipeline that has ended, and whose link is ended first. Its packets are sent again, behind them the block has `unsent`
-/// bytes, and `length` in all.
-fn rebuild_ended<C: Cluster>(
-    alloc: Global,
-    cluster: &mut C,
-    namenode: &mut NamenodeProtocol,
-    settings: &RebuildSettings,
-    pipe: BlockPipeline,
-    length: u64,
-    unsent: u64,
-) -> Result<BlockPipeline, WriteFault>
-    requires reaches { ReachesAll (proxy_of namenode.old) (C.shown cluster.old) }
-    requires standing { IsStanding settings.now (C.shown cluster.old) pipe [] }
-    requires ended { IsSome pipe.core.end × (pipe.core.end ≡ Some Done → ⊥) }
-    requires few { (total pipe.core.pushed + unsent ≤ length) × (length < 2 ^ 63) }
-    ensures ok { IfOk result (λ pipe'. RebuildsEnded settings.now (C.shown cluster.old) pipe (C.shown cluster.new) pipe') }
-    ensures err { IfErr result (λ fault. FallsEnded settings.now (C.shown cluster.old) pipe fault (C.shown cluster.new)) }
-    ensures client { SameClient namenode.old namenode.new }
-{
-    let BlockPipeline { plan, core, link } = pipe;
-    match drive_end(core, cluster, link) {
-        Ok(PipelineEnd::Recover { failed, replay }) => {
-            let plan = with_length(plan, length);
-            let rebuilt = rebuild(
-                alloc, cluster, namenode, plan, settings, failed, replay, unsent,
-            );
-            match rebuilt {
-                Ok(rebuilt) => Ok(rebuilt),
-                Err(fault) => Err(fault),
-            }
-        }
-        Ok(PipelineEnd::Bad { seqno }) => {
-            drop(plan);
-            Err(WriteFault::BadAck { seqno })
-        }
-        Ok(PipelineEnd::Success) => unreachable!(),
-        Err(NoMemory) => {
-            drop(plan);
-            Err(WriteFault::NoMemory)
-        }
-    }
-}
-
-/// Pushes a packet. Where the pipeline has ended with it or before, it is rebuilt. The packet comes back where it wasn't pushed.
-fn push_once<C: Cluster>(
-    alloc: Global,
-    cluster: &mut C,
-    namenode: &mut NamenodeProtocol,
-    settings: &RebuildSettings,
-    mut pipe: BlockPipeline,
-    length: u64,
-    packet: WritePacket,
-) -> Result<PushedOnce, WriteFault>
-    requires reaches { ReachesAll (proxy_of namenode.old) (C.shown cluster.old) }
-    requires can { CanPush settings.now (C.shown cluster.old) pipe length packet }
-    ensures ok { IfOk result (λ pushed. PushesOnce settings.now (C.shown cluster.old) pipe packet pushed (C.shown cluster.new)) }
-    ensures err { IfErr result (λ fault. PushesNot settings.now (C.shown cluster.old) pipe packet fault (C.shown cluster.new)) }
-    ensures client { SameClient namenode.old namenode.new }
-{
-    match drive_push(&mut pipe.core, cluster, pipe.link, packet) {
-        Ok(back) => {
-            if !pipe.core.has_ended() {
-                return Ok(PushedOnce { pipe, back });
-            }
-            let unsent = bytes_of(&back);
-            match rebuild_ended(alloc, cluster, namenode, settings, pipe, length, unsent) {
-                Ok(pipe) => Ok(PushedOnce { pipe, back }),
-                Err(fault) => {
-                    drop(back);
-                    Err(fault)
-                }
-            }
-        }
-        Err(NoMemory) => {
-            cluster.end_write(pipe.link);
-            drop(pipe);
-            Err(WriteFault::NoMemory)
-        }
-    }
-}
-
 /// How many bytes a packet has, where there is one.
 fn bytes_of(packet: &Option<WritePacket>) -> u64
     ensures { result ≡ bytes_in packet.now }
@@ -132,105 +46,192 @@ fn bytes_of(packet: &Option<WritePacket>) -> u64
     }
 }
 
-/// Pushes a packet, rebuilding the pipeline as often as datanodes of it fail. The block has `length` bytes with it.
-pub(crate) fn push<C: Cluster>(
-    alloc: Global,
-    cluster: &mut C,
-    namenode: &mut NamenodeProtocol,
-    settings: &RebuildSettings,
-    pipe: BlockPipeline,
-    length: u64,
-    packet: WritePacket,
-) -> Result<BlockPipeline, WriteFault>
-    requires reaches { ReachesAll (proxy_of namenode.old) (C.shown cluster.old) }
-    requires can { CanPush settings.now (C.shown cluster.old) pipe length packet }
-    ensures ok { IfOk result (λ pipe'. Pushes settings.now (C.shown cluster.old) pipe packet (C.shown cluster.new) pipe') }
-    ensures err { IfErr result (λ fault. PushesNot settings.now (C.shown cluster.old) pipe packet fault (C.shown cluster.new)) }
-    ensures client { SameClient namenode.old namenode.new }
-{
-    let mut pushed = PushedOnce {
-        pipe,
-        back: Some(packet),
-    };
-    loop {
-        let PushedOnce { pipe, back } = pushed;
-        let Some(packet) = back else {
-            return Ok(pipe);
+impl BlockWriter {
+    ghost use Rattle.hdfs_namenode.specs.Asked.{ReachesAll};
+    ghost use Rattle.hdfs_namenode.specs.Clients.{SameClient, proxy_of};
+    ghost use Rattle.hdfs_pipeline.specs.Pipelines.{Done};
+    ghost use Rattle.hdfs_blocks.specs.Carrying.{total};
+    ghost use Rattle.hdfs_block_writer.specs.OpenPipelines.{Finishes, IsStanding};
+    ghost use Rattle.hdfs_block_writer.specs.Pushing.{CanPush, FallsEnded, FallsFor, FinishesNot, IsEnding, Pushes, PushesNot, PushesOnce, ReceivesAll, ReceivesOnce, RebuildsEnded, Settles};
+
+    /// Rebuilds a pipeline of the block that has ended, and whose link is ended first. Its packets are sent again. Behind them the block
+    /// has `unsent` bytes.
+    fn rebuild_ended<C: Cluster>(
+        &self,
+        cluster: &mut C,
+        namenode: &mut NamenodeProtocol,
+        pipe: BlockPipeline,
+        unsent: u64,
+    ) -> Result<BlockPipeline, WriteFault>
+        requires reaches { ReachesAll (proxy_of namenode.old) (C.shown cluster.old) }
+        requires standing { IsStanding self.now.settings (C.shown cluster.old) pipe [] }
+        requires ended { IsSome pipe.core.end × (pipe.core.end ≡ Some Done → ⊥) }
+        requires few { (total pipe.core.pushed + unsent ≤ self.now.length) × (self.now.length < 2 ^ 63) }
+        ensures ok { IfOk result (λ pipe'. RebuildsEnded self.now.settings (C.shown cluster.old) pipe (C.shown cluster.new) pipe') }
+        ensures err { IfErr result (λ fault. FallsEnded self.now.settings (C.shown cluster.old) pipe fault (C.shown cluster.new)) }
+        ensures client { SameClient namenode.old namenode.new }
+    {
+        let BlockPipeline { plan, core, link } = pipe;
+        match drive_end(core, cluster, link) {
+            Ok(PipelineEnd::Recover { failed, replay }) => {
+                let plan = with_length(plan, self.length);
+                let fallen = Fallen {
+                    plan,
+                    failed,
+                    replay,
+                };
+                rebuild(
+                    self.alloc,
+                    cluster,
+                    namenode,
+                    &self.settings,
+                    fallen,
+                    unsent,
+                )
+            }
+            Ok(PipelineEnd::Bad { seqno }) => {
+                drop(plan);
+                Err(WriteFault::BadAck { seqno })
+            }
+            Ok(PipelineEnd::Success) => unreachable!(),
+            Err(NoMemory) => {
+                drop(plan);
+                Err(WriteFault::NoMemory)
+            }
+        }
+    }
+
+    /// Pushes a packet. Where the pipeline has ended with it or before, it is rebuilt. The packet comes back where it wasn't pushed.
+    fn push_once<C: Cluster>(
+        &self,
+        cluster: &mut C,
+        namenode: &mut NamenodeProtocol,
+        mut pipe: BlockPipeline,
+        packet: WritePacket,
+    ) -> Result<PushedOnce, WriteFault>
+        requires reaches { ReachesAll (proxy_of namenode.old) (C.shown cluster.old) }
+        requires can { CanPush self.now.settings (C.shown cluster.old) pipe self.now.length packet }
+        ensures ok { IfOk result (λ pushed.
+            PushesOnce self.now.settings (C.shown cluster.old) pipe packet pushed (C.shown cluster.new)) }
+        ensures err { IfErr result (λ fault.
+            PushesNot self.now.settings (C.shown cluster.old) pipe packet fault (C.shown cluster.new)) }
+        ensures client { SameClient namenode.old namenode.new }
+    {
+        match drive_push(&mut pipe.core, cluster, pipe.link, packet) {
+            Ok(back) => {
+                if !pipe.core.has_ended() {
+                    return Ok(PushedOnce { pipe, back });
+                }
+                let unsent = bytes_of(&back);
+                let pipe = self.rebuild_ended(cluster, namenode, pipe, unsent)?;
+                Ok(PushedOnce { pipe, back })
+            }
+            Err(NoMemory) => {
+                cluster.end_write(pipe.link);
+                drop(pipe);
+                Err(WriteFault::NoMemory)
+            }
+        }
+    }
+
+    /// Pushes a packet on a pipeline of the block, rebuilding that as often as datanodes of it fail. The block's length counts the packet.
+    pub(crate) fn push<C: Cluster>(
+        &self,
+        cluster: &mut C,
+        namenode: &mut NamenodeProtocol,
+        pipe: BlockPipeline,
+        packet: WritePacket,
+    ) -> Result<BlockPipeline, WriteFault>
+        requires reaches { ReachesAll (proxy_of namenode.old) (C.shown cluster.old) }
+        requires can { CanPush self.now.settings (C.shown cluster.old) pipe self.now.length packet }
+        ensures ok { IfOk result (λ pipe'. Pushes self.now.settings (C.shown cluster.old) pipe packet (C.shown cluster.new) pipe') }
+        ensures err { IfErr result (λ fault.
+            PushesNot self.now.settings (C.shown cluster.old) pipe packet fault (C.shown cluster.new)) }
+        ensures client { SameClient namenode.old namenode.new }
+    {
+        let mut pushed = PushedOnce {
+            pipe,
+            back: Some(packet),
         };
-        pushed = push_once(alloc, cluster, namenode, settings, pipe, length, packet)?;
-    }
-}
-
-/// Drives a pipeline whose last packet was pushed to its end, and ends its link. Where datanodes of it have failed before all packets were
-/// acknowledged, it is rebuilt, and the others are sent again.
-fn finish_once<C: Cluster>(
-    alloc: Global,
-    cluster: &mut C,
-    namenode: &mut NamenodeProtocol,
-    settings: &RebuildSettings,
-    pipe: BlockPipeline,
-    length: u64,
-) -> Result<Settled, WriteFault>
-    requires reaches { ReachesAll (proxy_of namenode.old) (C.shown cluster.old) }
-    requires standing { IsStanding settings.now (C.shown cluster.old) pipe [] }
-    requires ending { IsEnding pipe }
-    requires few { (total pipe.core.pushed ≤ length) × (length < 2 ^ 63) }
-    ensures ok { IfOk result (λ settled. Settles settings.now (C.shown cluster.old) pipe settled (C.shown cluster.new)) }
-    ensures last { IfOk result (λ settled. ReceivesOnce C.shown C.ends cluster.old pipe settled cluster.new) }
-    ensures err { IfErr result (λ fault. FallsFor settings.now (C.shown cluster.old) pipe [] fault (C.shown cluster.new)) }
-    ensures client { SameClient namenode.old namenode.new }
-{
-    let BlockPipeline { plan, core, link } = pipe;
-    match drive_end(core, cluster, link) {
-        Ok(PipelineEnd::Success) => Ok(Settled::Done(plan)),
-        Ok(PipelineEnd::Bad { seqno }) => {
-            drop(plan);
-            Err(WriteFault::BadAck { seqno })
-        }
-        Ok(PipelineEnd::Recover { failed, replay }) => {
-            // Once all packets are acknowledged none is to be sent again.
-            if replay.as_slice().is_empty() {
-                drop(failed);
-                drop(replay);
-                return Ok(Settled::Done(plan));
-            }
-            let plan = with_length(plan, length);
-            match rebuild(alloc, cluster, namenode, plan, settings, failed, replay, 0) {
-                Ok(rebuilt) => Ok(Settled::Rebuilt(rebuilt)),
-                Err(fault) => Err(fault),
-            }
-        }
-        Err(NoMemory) => {
-            drop(plan);
-            Err(WriteFault::NoMemory)
+        loop {
+            let PushedOnce { pipe, back } = pushed;
+            let Some(packet) = back else {
+                return Ok(pipe);
+            };
+            pushed = self.push_once(cluster, namenode, pipe, packet)?;
         }
     }
-}
 
-/// Waits until the last packet of the block, which was pushed last, is acknowledged, rebuilding the pipeline as often as datanodes of it
-/// fail. The link is ended, whatever comes of it.
-pub(crate) fn finish<C: Cluster>(
-    alloc: Global,
-    cluster: &mut C,
-    namenode: &mut NamenodeProtocol,
-    settings: &RebuildSettings,
-    pipe: BlockPipeline,
-    length: u64,
-) -> Result<BlockPlan, WriteFault>
-    requires reaches { ReachesAll (proxy_of namenode.old) (C.shown cluster.old) }
-    requires standing { IsStanding settings.now (C.shown cluster.old) pipe [] }
-    requires ending { IsEnding pipe }
-    requires few { (total pipe.core.pushed ≤ length) × (length < 2 ^ 63) }
-    ensures finishes { IfOk result (λ plan. Finishes settings.now (C.shown cluster.old) pipe (C.shown cluster.new) plan) }
-    ensures last { OnOk result (ReceivesAll C.shown C.ends cluster.old pipe cluster.new) }
-    ensures err { IfErr result (λ fault. FinishesNot settings.now (C.shown cluster.old) pipe fault (C.shown cluster.new)) }
-    ensures client { SameClient namenode.old namenode.new }
-{
-    let mut pipe = pipe;
-    loop {
-        match finish_once(alloc, cluster, namenode, settings, pipe, length)? {
-            Settled::Done(plan) => return Ok(plan),
-            Settled::Rebuilt(rebuilt) => pipe = rebuilt,
+    /// Drives a pipeline whose last packet was pushed to its end, and ends its link. Where datanodes of it have failed before all packets
+    /// were acknowledged, it is rebuilt, and the others are sent again.
+    fn finish_once<C: Cluster>(
+        &self,
+        cluster: &mut C,
+        namenode: &mut NamenodeProtocol,
+        pipe: BlockPipeline,
+    ) -> Result<Settled, WriteFault>
+        requires reaches { ReachesAll (proxy_of namenode.old) (C.shown cluster.old) }
+        requires standing { IsStanding self.now.settings (C.shown cluster.old) pipe [] }
+        requires ending { IsEnding pipe }
+        requires few { (total pipe.core.pushed ≤ self.now.length) × (self.now.length < 2 ^ 63) }
+        ensures ok { IfOk result (λ settled. Settles self.now.settings (C.shown cluster.old) pipe settled (C.shown cluster.new)) }
+        ensures last { IfOk result (λ settled. ReceivesOnce C.shown C.ends cluster.old pipe settled cluster.new) }
+        ensures err { IfErr result (λ fault. FallsFor self.now.settings (C.shown cluster.old) pipe [] fault (C.shown cluster.new)) }
+        ensures client { SameClient namenode.old namenode.new }
+    {
+        let BlockPipeline { plan, core, link } = pipe;
+        match drive_end(core, cluster, link) {
+            Ok(PipelineEnd::Success) => Ok(Settled::Done(plan)),
+            Ok(PipelineEnd::Bad { seqno }) => {
+                drop(plan);
+                Err(WriteFault::BadAck { seqno })
+            }
+            Ok(PipelineEnd::Recover { failed, replay }) => {
+                // Once all packets are acknowledged none is to be sent again.
+                if replay.as_slice().is_empty() {
+                    drop(failed);
+                    drop(replay);
+                    return Ok(Settled::Done(plan));
+                }
+                let plan = with_length(plan, self.length);
+                let fallen = Fallen {
+                    plan,
+                    failed,
+                    replay,
+                };
+                let rebuilt = rebuild(self.alloc, cluster, namenode, &self.settings, fallen, 0)?;
+                Ok(Settled::Rebuilt(rebuilt))
+            }
+            Err(NoMemory) => {
+                drop(plan);
+                Err(WriteFault::NoMemory)
+            }
+        }
+    }
+
+    /// Waits until the last packet of the block, which was pushed last on this pipeline, is acknowledged, rebuilding the pipeline as often
+    /// as datanodes of it fail. The link is ended, whatever comes of it.
+    pub(crate) fn finish<C: Cluster>(
+        &self,
+        cluster: &mut C,
+        namenode: &mut NamenodeProtocol,
+        pipe: BlockPipeline,
+    ) -> Result<BlockPlan, WriteFault>
+        requires reaches { ReachesAll (proxy_of namenode.old) (C.shown cluster.old) }
+        requires standing { IsStanding self.now.settings (C.shown cluster.old) pipe [] }
+        requires ending { IsEnding pipe }
+        requires few { (total pipe.core.pushed ≤ self.now.length) × (self.now.length < 2 ^ 63) }
+        ensures finishes { IfOk result (λ plan. Finishes self.now.settings (C.shown cluster.old) pipe (C.shown cluster.new) plan) }
+        ensures last { OnOk result (ReceivesAll C.shown C.ends cluster.old pipe cluster.new) }
+        ensures err { IfErr result (λ fault. FinishesNot self.now.settings (C.shown cluster.old) pipe fault (C.shown cluster.new)) }
+        ensures client { SameClient namenode.old namenode.new }
+    {
+        let mut pipe = pipe;
+        loop {
+            match self.finish_once(cluster, namenode, pipe)? {
+                Settled::Done(plan) => return Ok(plan),
+                Settled::Rebuilt(rebuilt) => pipe = rebuilt,
+            }
         }
     }
 }

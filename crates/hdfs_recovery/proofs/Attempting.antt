@@ -1,19 +1,19 @@
 -- What comes of a pipeline that is set up to go on with a block.
-use Rattle.std.proofs.Common.{◌≡◌, inl, inr, ⊎_elim, ℕ, ℤ, ◌≤◌, List, [], ◌++◌, length, Some, None, refl, sym, ◌∙◌, ap, subst, arith}
-use Rattle.std.specs.Prelude.{map}
+use Rattle.std.proofs.Common.{◌≡◌, ◌≢◌, inl, inr, ⊎_elim, ℕ, ℤ, ◌≤◌, List, [], ◌++◌, length, Some, None, refl, sym, ◌∙◌, ap, subst, arith}
 use Rattle.std.specs.List.{slice_index_or}
 use Rattle.std.proofs.lemmas.List.{append-nil, get_or_default}
 use Rattle.hdfs_wire.specs.Outgoing.{Outgoing}
+use Rattle.hdfs_model.specs.declared.asks.LinkFault.{LinkFault}
+use Rattle.hdfs_model.specs.declared.asks.LinkFault.TheVariants as link_faults
 use Rattle.hdfs_model.specs.declared.errors.HdfsError.{HdfsError}
-use Rattle.hdfs_model.specs.declared.messages.Block.{Block}
+use Rattle.hdfs_model.specs.declared.messages.Setup.{Setup}
 use Rattle.hdfs_model.specs.declared.picture.BlockEntry.{BlockEntry}
 use Rattle.hdfs_model.specs.declared.picture.OpenWrite.{OpenWrite}
 use Rattle.hdfs_model.specs.Causes.{CallsRose}
 use Rattle.hdfs_model.specs.Counts.{Rose}
-use Rattle.hdfs_model.specs.Effects.{NamesPipeline}
 use Rattle.hdfs_model.specs.Namenode.{IsToWrite}
 use Rattle.hdfs_model.specs.Picture.{Picture, SamePicture}
-use Rattle.hdfs_model.specs.Pipes.{WriteEnded}
+use Rattle.hdfs_model.specs.Pipes.{WriteEnded, WriteOpened}
 use Rattle.hdfs_model.specs.Sending.{WritePlace, uuids}
 use Rattle.hdfs_model.specs.Shown.{Shown, Later}
 use Rattle.hdfs_model.specs.Writing.{Releases}
@@ -29,20 +29,22 @@ use Rattle.hdfs_recovery.specs.declared.attempts.Collected.{Collected}
 use Rattle.hdfs_recovery.specs.declared.block_plan.BlockPlan.{BlockPlan}
 use Rattle.hdfs_recovery.specs.declared.block_plan.WriteFault.{WriteFault}
 use Rattle.hdfs_recovery.specs.declared.block_plan.WriteFault.TheVariants as faults
+use Rattle.hdfs_recovery.specs.declared.opening.Opening.{Opening}
 use Rattle.hdfs_recovery.specs.declared.replay.SentAgain.{SentAgain}
 use Rattle.hdfs_recovery.specs.Between.{KeepsLinks, NamenodeFailed, OnlyBlockOf, Touches}
-use Rattle.hdfs_recovery.specs.Plans.{HasStamp, IsRecovery, Known, Waits}
-use Rattle.hdfs_recovery.specs.Resuming.{NamesNot, NamesSo, Reopens, ReopensNot, SendsAgain}
-use Rattle.hdfs_recovery.specs.Trying.{Collects, CollectsNot, FallsAgain, HaveFailed, ResumedNot, StandsAgain, course_of}
+use Rattle.hdfs_recovery.specs.Opening.{OpensNone, fault_of, setup_for}
+use Rattle.hdfs_recovery.specs.Plans.{HasStamp, Known, Waits}
+use Rattle.hdfs_recovery.specs.Resuming.{NamesIt, NamesNot, NamesSo, SendsAgain}
+use Rattle.hdfs_recovery.specs.Trying.{Collects, CollectsNot, FallsAgain, HaveFailed, ResumeCause, ResumedNot, StandsAgain, course_of}
 use Rattle.hdfs_recovery.proofs.Ending.{Drifts, LinkOnly, keeps_links_by, link_only_trans, link_only_of-ended, link_only_of-keeps, link_only_of-on, link_only_of-opened}
-use Rattle.hdfs_recovery.proofs.Resuming.{opened_goes, opened_empty, opened_window, opened_nodes, opened_picture, opened_told, opened_carries, opened_lists, opened_only, opened_settles, sent_picture, sent_told, sent_only, sent_place, sent_at, sent_block, sent_settled, sent_entry, sent_holds, sent_carries, named_holds, named_carries, named_stamp, may_be_named_only, may_be_named_writes, released_only, some_is}
-use Rattle.hdfs_recovery.proofs.Stepping.{calls_rose_since, only_block_of_refl, only_block_of-named, only_block_of-only, only_block_of-same, only_block_of_trans, tells_since, written_still}
+use Rattle.hdfs_recovery.proofs.Resuming.{opened_goes, opened_empty, opened_window, opened_nodes, opened_picture, opened_told, opened_carries, opened_lists, opened_only, opened_settles, sent_picture, sent_told, sent_only, sent_place, sent_at, sent_block, sent_settled, sent_entry, sent_holds, sent_carries, named_holds, named_carries, named_only, named_stamp, may_be_named_only, may_be_named_writes, released_only, some_is}
+use Rattle.hdfs_recovery.proofs.Stepping.{calls_rose_since, keeps_links_refl, only_block_of_refl, only_block_of-only, only_block_of-same, only_block_of_trans, tells_since, written_still}
 
 -- A link was set up, packets were sent again on it, and the namenode was asked something.
-module _ (plan : BlockPlan) (block : Block) (least : ℕ) (client : List ℕ) (window : ℕ) (replay : List Outgoing) (link : ℕ) (core : Pipeline)
-    (a b m n : Shown) (sent : SentAgain) (to_write : IsToWrite plan.block) (same : block.block_id ≡ plan.block.b.block_id)
-    (windows : (1 ≤ window) × (window ≤ 1000)) (empty : core ≡ empty_pipeline window (length plan.block.locs))
-    (reopens : Reopens (IsRecovery block plan least client) a link b) (sends : SendsAgain link replay core b sent m) (links : KeepsLinks m n) where
+module _ (plan : BlockPlan) (opening : Opening) (client : List ℕ) (replay : List Outgoing) (link : ℕ) (core : Pipeline)
+    (a b m n : Shown) (sent : SentAgain) (to_write : IsToWrite plan.block)
+    (windows : (1 ≤ opening.window) × (opening.window ≤ 1000)) (empty : core ≡ empty_pipeline opening.window (length plan.block.locs))
+    (opened : WriteOpened a (setup_for plan opening client) link b) (sends : SendsAgain link replay core b sent m) (links : KeepsLinks m n) where
   abbrev id : ℕ
   id = plan.block.b.block_id
 
@@ -50,24 +52,20 @@ module _ (plan : BlockPlan) (block : Block) (least : ℕ) (client : List ℕ) (w
   nodes = uuids plan.block.locs
 
   abbrev new_write : OpenWrite
-  new_write = record { setup = reopens.setup; end = None; waiting = [] }
+  new_write = record { setup = setup_for plan opening client; end = None; waiting = [] }
 
   until_sent : LinkOnly link a m
   until_sent =
-      link_only_trans link a b m (link_only_of-opened link reopens.setup a b reopens.opened) (link_only_of-on link b m sends.drove.on)
+      link_only_trans link a b m (link_only_of-opened link (setup_for plan opening client) a b opened) (link_only_of-on link b m sends.drove.on)
 
   pub until_asked : LinkOnly link a n
   until_asked = link_only_trans link a m n until_sent (link_only_of-keeps link m n links)
 
-  -- what rose on the link has risen since the set-up was asked for
-  rose_sent : (x y z : Shown → ℕ) → x a ≤ x b → x m ≤ x n → Rose (x b) (x m) → Rose (x a) (x n)
-  rose_sent x y z before after rose = rose_since (x a) (x b) (x m) (x n) before rose after
-
   pub bad_rose : (seqno : ℤ) → sent.core.end ≡ Some (Bad seqno) → Rose a.counts.links n.counts.links
   bad_rose seqno bad =
-      rose_since a.counts.links b.counts.links m.counts.links n.counts.links reopens.opened.only.later.counts.links
+      rose_since a.counts.links b.counts.links m.counts.links n.counts.links opened.only.later.counts.links
       (sends.drove.cause.bad seqno
-      (opened_goes plan block least client window link core a b to_write windows empty reopens).going bad)
+      (opened_goes plan opening client link core a b to_write windows empty opened).going bad)
       links.later.counts.links
 
   pub have_failed : (places : List ℕ) → sent.core.end ≡ Some (Failed places) → HaveFailed plan places a n
@@ -76,11 +74,11 @@ module _ (plan : BlockPlan) (block : Block) (least : ℕ) (client : List ℕ) (w
       let rose : Rose (b.counts.nodes node) (m.counts.nodes node) =
       subst
       (λ (ns : List (List ℕ)). let at = slice_index_or ns (slice_index_or places k d) [] in Rose (b.counts.nodes at) (m.counts.nodes at))
-      (opened_nodes plan block least client window link core a b to_write windows empty reopens new_write reopens.opened.opened)
-      (sends.drove.cause.failed new_write places reopens.opened.opened
-      (opened_goes plan block least client window link core a b to_write windows empty reopens).going failed k d lt) in
+      (opened_nodes plan opening client link core a b to_write windows empty opened new_write opened.opened)
+      (sends.drove.cause.failed new_write places opened.opened
+      (opened_goes plan opening client link core a b to_write windows empty opened).going failed k d lt) in
       rose_since (a.counts.nodes node) (b.counts.nodes node) (m.counts.nodes node) (n.counts.nodes node)
-      (reopens.opened.only.later.counts.nodes node) rose (links.later.counts.nodes node)
+      (opened.only.later.counts.nodes node) rose (links.later.counts.nodes node)
 
   -- the pipeline has as many datanodes as the plan
   pub sent_nodes : sent.core.nodes ≡ length plan.block.locs
@@ -89,22 +87,22 @@ module _ (plan : BlockPlan) (block : Block) (least : ℕ) (client : List ℕ) (w
   -- Over a told picture in which the block waits.
   module _ (p : Picture) (known : Known) (told : a.picture ≡ Some p) (w : Waits p plan known) where
     abbrev p1 : Picture
-    p1 = opened_picture plan block least client window link core a b to_write windows empty reopens same p known told w
+    p1 = opened_picture plan opening client link core a b to_write windows empty opened p known told w
 
     abbrev t1 : b.picture ≡ Some p1
-    t1 = opened_told plan block least client window link core a b to_write windows empty reopens same p known told w
+    t1 = opened_told plan opening client link core a b to_write windows empty opened p known told w
 
     abbrev c1 : LinkCarries p1 link id nodes known.safe [] known.bytes
-    c1 = opened_carries plan block least client window link core a b to_write windows empty reopens same p known told w
+    c1 = opened_carries plan opening client link core a b to_write windows empty opened p known told w
 
     abbrev l1 : IsListed p1 id known.listed known.bytes
-    l1 = opened_lists plan block least client window link core a b to_write windows empty reopens same p known told w
+    l1 = opened_lists plan opening client link core a b to_write windows empty opened p known told w
 
     abbrev e1 : core.pushed ≡ []
-    e1 = opened_empty plan block least client window link core a b to_write windows empty reopens
+    e1 = opened_empty plan opening client link core a b to_write windows empty opened
 
     abbrev s1 : Settles c1.on.place core 0
-    s1 = opened_settles plan block least client window link core a b to_write windows empty reopens same p known told w
+    s1 = opened_settles plan opening client link core a b to_write windows empty opened p known told w
 
     abbrev p2 : Picture
     p2 = sent_picture plan link replay core b m sent sends e1 p1 known t1 c1 l1 to_write.some s1
@@ -127,17 +125,14 @@ module _ (plan : BlockPlan) (block : Block) (least : ℕ) (client : List ℕ) (w
     o2 : OnlyBlockOf id p p2
     o2 =
         only_block_of_trans id p p1 p2
-        (opened_only plan block least client window link core a b to_write windows empty reopens same p known told w)
+        (opened_only plan opening client link core a b to_write windows empty opened p known told w)
         (sent_only plan link replay core b m sent sends e1 p1 known t1 c1 l1 to_write.some s1)
 
     abbrev entry2 : BlockEntry
     entry2 = l1.entry
 
-    -- the block table has the block by each of its names
-    is2 : p2.table block.block_id ≡ Some entry2
-    is2 =
-        subst (λ (i : ℕ). p2.table i ≡ Some entry2) (sym same)
-        (sent_entry plan link replay core b m sent sends e1 p1 known t1 c1 l1 to_write.some s1)
+    is2 : p2.table id ≡ Some entry2
+    is2 = sent_entry plan link replay core b m sent sends e1 p1 known t1 c1 l1 to_write.some s1
 
     h2 : AreSlices known.bytes known.safe replay → BlockHolds p2 id link known.listed nodes known.safe known.bytes
     h2 slices = sent_holds plan link replay core b m sent sends e1 p1 known t1 c1 l1 to_write.some s1 slices
@@ -160,22 +155,22 @@ module _ (plan : BlockPlan) (block : Block) (least : ℕ) (client : List ℕ) (w
             )
 
   -- the pipeline was named
-  module _ (names : NamesSo (NamesPipeline block plan.block.b (map (λ node. node.id) plan.block.locs)) block m n) (is_core : IsCore sent.core) where
+  module _ (names : NamesSo (NamesIt opening.stamp plan) plan m n) (is_core : IsCore sent.core) where
     -- It goes on, and stands.
     pub stands_again : sent.core.end ≡ None
-        → StandsAgain (course_of plan block least client window replay) a (record { plan = plan; core = sent.core; link = link }) n
+        → StandsAgain (course_of plan opening client replay) a (record { plan = plan; core = sent.core; link = link }) n
     stands_again going =
-        let still = sends.drove.on.still_open new_write reopens.opened.opened in
+        let still = sends.drove.on.still_open new_write opened.opened in
         record {
           plan = refl;
           later = until_asked.later;
           reads = until_asked.reads;
-          fresh = reopens.opened.fresh;
+          fresh = opened.fresh;
           others = until_asked.others;
           opened = (
             still.0,
             links.writes link ∙ still.1,
-            subst (IsRecovery block plan least client) (sym still.2) reopens.is,
+            still.2,
           );
           going = record {
             drives = (sends.drove.drives.0, links.writes link ∙ sends.drove.drives.1, sends.drove.drives.2);
@@ -184,7 +179,7 @@ module _ (plan : BlockPlan) (block : Block) (least : ℕ) (client : List ℕ) (w
           };
           window =
               sends.drove.goes.window
-              ∙ opened_window plan block least client window link core a b to_write windows empty reopens;
+              ∙ opened_window plan opening client link core a b to_write windows empty opened;
           pushed = sym (sends.pushed ∙ ap (λ (xs : List Outgoing). sent.core.pushed ++ xs) (sends.all going) ∙ append-nil sent.core.pushed);
           goes_on = λ packet start follow.
               let f = sends.goes_on going packet start follow in
@@ -194,11 +189,11 @@ module _ (plan : BlockPlan) (block : Block) (least : ℕ) (client : List ℕ) (w
               let q = names r (entry2 p known told w) (t2 p known told w) (is2 p known told w) in (
                 q.0,
                 q.1,
-                named_carries plan block same link r q.0 known q.2 (h2 p known told w slices) replay (c2 p known told w slices going),
-                (named_holds plan block same link r q.0 known q.2 (h2 p known told w slices)).lists,
+                named_carries plan opening.stamp link r q.0 known q.2 (h2 p known told w slices) replay (c2 p known told w slices going),
+                (named_holds plan opening.stamp link r q.0 known q.2 (h2 p known told w slices)).lists,
                 only_block_of_trans id p r q.0 (o2 p known told w)
-                    (only_block_of-named id block plan.block.b (map (λ node. node.id) plan.block.locs) r q.0 same q.2),
-                named_stamp block plan.block.b (map (λ node. node.id) plan.block.locs) r q.0 q.2,
+                    (named_only plan opening.stamp r q.0 q.2),
+                named_stamp plan opening.stamp r q.0 q.2,
               );
         }
 
@@ -210,7 +205,7 @@ module _ (plan : BlockPlan) (block : Block) (least : ℕ) (client : List ℕ) (w
           (link_only_trans link n x z (link_only_of-on link n x drifts.on) (link_only_of-ended link x z gone))
 
       fallen_links : KeepsLinks a z
-      fallen_links = keeps_links_by link a z until_ended reopens.opened.fresh.write gone.ended
+      fallen_links = keeps_links_by link a z until_ended opened.fresh.write gone.ended
 
       later_end : Later n z
       later_end = later_trans n x z drifts.on.only.later gone.writes.only.later
@@ -222,7 +217,7 @@ module _ (plan : BlockPlan) (block : Block) (least : ℕ) (client : List ℕ) (w
           let at = q.2.changes.bytes.writes link ∙ at2 p known told w in
           let d = drifts.told q.0 (place2 p known told w) 0 q.1 at (settled2 p known told w) in
           closed p known told w q.0
-          (only_block_of-named id block plan.block.b (map (λ node. node.id) plan.block.locs) r q.0 same q.2) at x z (
+          (named_only plan opening.stamp r q.0 q.2) at x z (
             d.0,
             d.1,
             d.2,
@@ -240,7 +235,7 @@ module _ (plan : BlockPlan) (block : Block) (least : ℕ) (client : List ℕ) (w
       waits_again p known told w slices =
           let r = p2 p known told w in
           let q = names r (entry2 p known told w) (t2 p known told w) (is2 p known told w) in
-          let h3 = named_holds plan block same link r q.0 known q.2 (h2 p known told w slices) in
+          let h3 = named_holds plan opening.stamp link r q.0 known q.2 (h2 p known told w slices) in
           let at = q.2.changes.bytes.writes link ∙ at2 p known told w in
           let s3 : Settles h3.on.place sent.core 0 = subst (λ (place : WritePlace). Settles place sent.core 0)
           (some_is (place2 p known told w) h3.on.place (sym at ∙ h3.on.told)) (settled2 p known told w) in
@@ -249,7 +244,7 @@ module _ (plan : BlockPlan) (block : Block) (least : ℕ) (client : List ℕ) (w
           let h4 = block_further q.0 d.0 id link nodes nodes known.safe known.bytes h3 further tt in
           let e = told_after (Releases link) x.picture z.picture d.0 gone.released d.2 in
           let t = fallen_touches p known told w in
-          let stamp = named_stamp block plan.block.b (map (λ node. node.id) plan.block.locs) r q.0 q.2 in
+          let stamp = named_stamp plan opening.stamp r q.0 q.2 in
           let o : OnlyBlockOf id p e.0 = subst (OnlyBlockOf id p) (some_is t.0 e.0 (sym t.1 ∙ e.1)) t.2 in (
             e.0,
             e.1,
@@ -263,7 +258,7 @@ module _ (plan : BlockPlan) (block : Block) (least : ℕ) (client : List ℕ) (w
             (stamp.0, e.2.0.records.table id ∙ d.4.only.records.table id ∙ stamp.1, stamp.2),
           )
 
-      pub falls_again : (collected : Collected) → Collects sent collected → FallsAgain (course_of plan block least client window replay) a
+      pub falls_again : (collected : Collected) → Collects sent collected → FallsAgain (course_of plan opening client replay) a
           (record { plan = plan; failed = collected.failed; replay = collected.replay }) z
       falls_again collected collects = record {
         plan = refl;
@@ -291,9 +286,9 @@ module _ (plan : BlockPlan) (block : Block) (least : ℕ) (client : List ℕ) (w
       }
 
   -- It wasn't, and the link was ended.
-  module _ (fault : WriteFault) (z : Shown) (not : NamesNot block plan m fault n) (gone : WriteEnded n link z) where
+  module _ (fault : WriteFault) (z : Shown) (not : NamesNot opening.stamp plan m fault n) (gone : WriteEnded n link z) where
     unnamed_failed : (error : HdfsError) → fault ≡ faults.Namenode error
-        → ((p : Picture) (entry : BlockEntry) → m.picture ≡ Some p → p.table block.block_id ≡ Some entry → CallsRose m.counts n)
+        → ((p : Picture) (entry : BlockEntry) → m.picture ≡ Some p → p.table id ≡ Some entry → CallsRose m.counts n)
         → NamenodeFailed plan a z
     unnamed_failed error is rose p known told w =
         calls_rose_since a m n z until_sent.later gone.writes.only.later
@@ -302,7 +297,7 @@ module _ (plan : BlockPlan) (block : Block) (least : ℕ) (client : List ℕ) (w
     pub names_not : ResumedNot plan a fault z
     names_not = record {
       links =
-          keeps_links_by link a z (link_only_trans link a n z until_asked (link_only_of-ended link n z gone)) reopens.opened.fresh.write
+          keeps_links_by link a z (link_only_trans link a n z until_asked (link_only_of-ended link n z gone)) opened.fresh.write
           gone.ended;
       cause = inl (⊎_elim
           (λ memory. inl memory)
@@ -317,48 +312,59 @@ module _ (plan : BlockPlan) (block : Block) (least : ℕ) (client : List ℕ) (w
       touches = λ p known told w.
           let r = p2 p known told w in
           let q = not.may r (entry2 p known told w) (t2 p known told w) (is2 p known told w) in
-          let at = may_be_named_writes plan block r q.0 link q.2 ∙ at2 p known told w in
-          closed p known told w q.0 (may_be_named_only plan block r q.0 same q.2) at n z
+          let at = may_be_named_writes plan opening.stamp r q.0 link q.2 ∙ at2 p known told w in
+          closed p known told w q.0 (may_be_named_only plan opening.stamp r q.0 q.2) at n z
           (q.0, place2 p known told w, q.1, at, only_block_of_refl id q.0, block2 p known told w) gone;
     }
 
 -- Memory was wanting while the packets were sent again, and the link was ended.
-module _ (plan : BlockPlan) (block : Block) (least : ℕ) (client : List ℕ) (window : ℕ) (replay : List Outgoing) (link : ℕ) (core : Pipeline)
-    (a b n z : Shown) (to_write : IsToWrite plan.block) (same : block.block_id ≡ plan.block.b.block_id)
-    (windows : (1 ≤ window) × (window ≤ 1000)) (empty : core ≡ empty_pipeline window (length plan.block.locs))
-    (reopens : Reopens (IsRecovery block plan least client) a link b) (stops : StopsShort link replay core b n) (gone : WriteEnded n link z) where
+module _ (plan : BlockPlan) (opening : Opening) (client : List ℕ) (replay : List Outgoing) (link : ℕ) (core : Pipeline)
+    (a b n z : Shown) (to_write : IsToWrite plan.block)
+    (windows : (1 ≤ opening.window) × (opening.window ≤ 1000)) (empty : core ≡ empty_pipeline opening.window (length plan.block.locs))
+    (opened : WriteOpened a (setup_for plan opening client) link b) (stops : StopsShort link replay core b n) (gone : WriteEnded n link z) where
   pub stops_short : ResumedNot plan a faults.NoMemory z
   stops_short = record {
     links =
         keeps_links_by link a z
-        (link_only_trans link a b z (link_only_of-opened link reopens.setup a b reopens.opened)
+        (link_only_trans link a b z (link_only_of-opened link (setup_for plan opening client) a b opened)
         (link_only_trans link b n z (link_only_of-on link b n stops.on) (link_only_of-ended link n z gone)))
-        reopens.opened.fresh.write gone.ended;
+        opened.fresh.write gone.ended;
     cause = inl (inl refl);
     touches = λ p known told w.
-        let p1 = opened_picture plan block least client window link core a b to_write windows empty reopens same p known told w in
-        let c1 = opened_carries plan block least client window link core a b to_write windows empty reopens same p known told w in
+        let p1 = opened_picture plan opening client link core a b to_write windows empty opened p known told w in
+        let c1 = opened_carries plan opening client link core a b to_write windows empty opened p known told w in
         let d = stops.told p1 c1.on.place 0
-        (opened_told plan block least client window link core a b to_write windows empty reopens same p known told w) c1.on.told
-        (opened_settles plan block least client window link core a b to_write windows empty reopens same p known told w) in
+        (opened_told plan opening client link core a b to_write windows empty opened p known told w) c1.on.told
+        (opened_settles plan opening client link core a b to_write windows empty opened p known told w) in
         let e = told_after (Releases link) n.picture z.picture d.0 gone.released d.2 in
         let id = plan.block.b.block_id in (
           e.0,
           e.1,
           only_block_of_trans id p p1 e.0
-              (opened_only plan block least client window link core a b to_write windows empty reopens same p known told w)
+              (opened_only plan opening client link core a b to_write windows empty opened p known told w)
               (only_block_of_trans id p1 d.0 e.0
               (subst (λ (i : ℕ). OnlyBlockOf i p1 d.0) c1.on.block (only_block_of-only c1.on.place.block c1.on.place.nodes p1 d.0 d.4.only))
               (released_only id link d.0 e.0 d.1 d.3 (d.4.moves.block ∙ c1.on.block) e.2)),
         );
   }
 
--- No link was set up.
-pub reopens_not : (plan : BlockPlan) (a : Shown) (fault : WriteFault) (b : Shown) → ReopensNot a fault b → ResumedNot plan a fault b
-reopens_not plan a fault b none = record {
-  links = none.links;
-  cause = ⊎_elim (λ memory. inl (inl memory)) (λ links. inr (⊎_elim (λ link. inl link) (λ setup. inr (inl setup)) links.0, links.1)) none.cause;
+-- No link was opened.
+pub opens_none : (plan : BlockPlan) (setup : Setup) (a : Shown) (fault : WriteFault) (b : Shown) → OpensNone a setup fault b
+    → ResumedNot plan a fault b
+opens_none plan setup a fault b (inl (memory, same)) = subst (λ (x : Shown). ResumedNot plan a fault x) (sym same) (record {
+  links = keeps_links_refl a;
+  cause = inl (inl memory);
+  touches = λ p known told w. (p, told, only_block_of_refl plan.block.b.block_id p);
+})
+opens_none plan setup a fault b (inr (why, is, none)) = record {
+  links = record { later = none.only.later; reads = record { links = none.only.reads; places = none.only.places }; writes = none.writes };
+  cause = by_why why is none.cause;
   touches = λ p known told w.
       let x = told_after SamePicture a.picture b.picture p none.picture told in
       (x.0, x.1, only_block_of-same plan.block.b.block_id p x.0 x.2.rest);
 }
+  where
+    by_why : (w : LinkFault) → fault ≡ fault_of w → (w ≢ link_faults.NoMemory → Rose a.counts.links b.counts.links) → ResumeCause plan a fault b
+    by_why link_faults.NoMemory is rose = inl (inl is)
+    by_why link_faults.Broken is rose = inr (inl is, rose (λ same. cc))
+    by_why link_faults.Refused is rose = inr (inr (inl is), rose (λ same. cc))

@@ -270,15 +270,6 @@ module _ (link : ℕ) (core0 : Pipeline) (old : Shown) (done : List Outgoing) (p
       goes_on = λ still. none_has core'.end has still;
     }
 
-  -- It wasn't sent, since the pipeline had ended before.
-  pub none_more : IsSome core.end → SentSoFar link core0 old (done ++ packet ∷ []) core (rest ++ packet ∷ []) now
-  none_more has = record {
-    parts = ap (λ (xs : List Outgoing). xs ++ packet ∷ []) s.parts ∙ append_assoc core.pushed rest (packet ∷ []);
-    drove = s.drove;
-    all = λ still. none_has core.end has still;
-    goes_on = λ still. none_has core.end has still;
-  }
-
 map_same : {X : Type 0} (xs : List X) → map (λ y. y) xs ≡ xs
 map_same [] = refl
 map_same (x ∷ xs) = ap (λ (ys : List _). x ∷ ys) (map_same xs)

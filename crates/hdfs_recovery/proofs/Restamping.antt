@@ -7,7 +7,6 @@ use Rattle.hdfs_model.specs.declared.asks.Ask.{Ask}
 use Rattle.hdfs_model.specs.declared.asks.Ask.TheVariants as asks
 use Rattle.hdfs_model.specs.declared.errors.HdfsError.{HdfsError}
 use Rattle.hdfs_model.specs.declared.errors.HdfsError.TheVariants as errors
-use Rattle.hdfs_model.specs.declared.messages.Block.{Block}
 use Rattle.hdfs_model.specs.declared.messages.DatanodeId.{DatanodeId}
 use Rattle.hdfs_model.specs.declared.messages.LocatedBlock.{LocatedBlock}
 use Rattle.hdfs_model.specs.declared.messages.Token.{Token}
@@ -23,8 +22,9 @@ use Rattle.hdfs_recovery.specs.declared.block_plan.BlockPlan.{BlockPlan}
 use Rattle.hdfs_recovery.specs.declared.block_plan.WriteFault.{WriteFault}
 use Rattle.hdfs_recovery.specs.declared.block_plan.WriteFault.TheVariants as faults
 use Rattle.hdfs_recovery.specs.Between.{WaitsOn}
+use Rattle.hdfs_recovery.specs.Opening.{with_stamp_of}
 use Rattle.hdfs_recovery.specs.Plans.{Known, Waits}
-use Rattle.hdfs_recovery.specs.Resuming.{fault_of_ask, with_stamp, Restamps, RestampsNot, MayBeNamed, NamesSo, NamesNot}
+use Rattle.hdfs_recovery.specs.Resuming.{fault_of_ask, with_stamp, Restamps, RestampsNot, MayBeNamed, NamesIt, NamesSo, NamesNot}
 use Rattle.hdfs_recovery.proofs.Asks.{asked_told, asked_row, asked_error}
 use Rattle.hdfs_recovery.proofs.Stepping.{only_block_of-same, written_still, waits_same}
 
@@ -118,40 +118,42 @@ module _ (plan : BlockPlan) {client : List ℕ} {a b : Shown} where
   restamped_not {error} is came = subst (λ (f : WriteFault). RestampsNot plan a f b) (sym is) (restamped_none error came)
 
 -- The namenodes were asked to name the datanodes of a pipeline.
-abbrev pub naming : Block → BlockPlan → List ℕ → List DatanodeId → List (List ℕ) → Ask
-naming block plan client nodes ids = asks.UpdatePipeline client block plan.block.b nodes ids
+abbrev pub naming : ℕ → BlockPlan → List ℕ → List DatanodeId → List (List ℕ) → Ask
+naming stamp plan client nodes ids = asks.UpdatePipeline client (with_stamp_of plan.block.b stamp) plan.block.b nodes ids
 
-module _ (block : Block) (plan : BlockPlan) (client : List ℕ) (nodes : List DatanodeId) (ids : List (List ℕ)) where
+module _ (stamp : ℕ) (plan : BlockPlan) (client : List ℕ) (nodes : List DatanodeId) (ids : List (List ℕ)) where
   -- the datanodes that are named are those of the plan
-  of_plan : nodes ≡ map (λ node. node.id) plan.block.locs → (p q : Picture) → NamesPipeline block plan.block.b nodes p q
-      → NamesPipeline block plan.block.b (map (λ node. node.id) plan.block.locs) p q
-  of_plan are p q row = subst (λ (n : List DatanodeId). NamesPipeline block plan.block.b n p q) are row
+  of_plan : nodes ≡ map (λ node. node.id) plan.block.locs → (p q : Picture)
+      → NamesPipeline (with_stamp_of plan.block.b stamp) plan.block.b nodes p q → NamesIt stamp plan p q
+  of_plan are p q row = subst (λ (n : List DatanodeId). NamesPipeline (with_stamp_of plan.block.b stamp) plan.block.b n p q) are row
 
   -- it may be named again
-  name_again : block.block_id ≡ plan.block.b.block_id → (p : Picture) (entry : BlockEntry) → p.table block.block_id ≡ Some entry
-      → Repeats (naming block plan client nodes ids) p
-  name_again same p entry listed =
-      name_repeats client block plan.block.b nodes ids p same (is_some p block.block_id entry listed)
+  name_again : (p : Picture) (entry : BlockEntry) → p.table plan.block.b.block_id ≡ Some entry
+      → Repeats (naming stamp plan client nodes ids) p
+  name_again p entry listed =
+      name_repeats client (with_stamp_of plan.block.b stamp) plan.block.b nodes ids p refl (is_some p plan.block.b.block_id entry listed)
 
-  name_row : nodes ≡ map (λ node. node.id) plan.block.locs → (p q : Picture) (answer : Answer) → Row p (naming block plan client nodes ids) answer q
-      → MayBeNamed block plan p q
+  name_row : nodes ≡ map (λ node. node.id) plan.block.locs → (p q : Picture) (answer : Answer) → Row p (naming stamp plan client nodes ids) answer q
+      → MayBeNamed stamp plan p q
   name_row are p q answers.UpdatePipeline row = inr (of_plan are p q row)
   name_row are p q answer row = absurd row
 
-module _ {block : Block} (plan : BlockPlan) {client : List ℕ} {nodes : List DatanodeId} {ids : List (List ℕ)} {before after : Shown}
-    (same : block.block_id ≡ plan.block.b.block_id) (are : nodes ≡ map (λ node. node.id) plan.block.locs) where
-  may_be_named : {result : Result Answer HdfsError} → Came before (naming block plan client nodes ids) result after → NamesSo (MayBeNamed block plan) block before after
+module _ {stamp : ℕ} (plan : BlockPlan) {client : List ℕ} {nodes : List DatanodeId} {ids : List (List ℕ)} {before after : Shown}
+    (are : nodes ≡ map (λ node. node.id) plan.block.locs) where
+  may_be_named : {result : Result Answer HdfsError} → Came before (naming stamp plan client nodes ids) result after
+      → NamesSo (MayBeNamed stamp plan) plan before after
   may_be_named came p entry is listed =
-      asked_told came (MayBeNamed block plan) p is (name_again block plan client nodes ids same p entry listed) (λ q stays. inl stays)
-      (name_row block plan client nodes ids are p)
+      asked_told came (MayBeNamed stamp plan) p is (name_again stamp plan client nodes ids p entry listed) (λ q stays. inl stays)
+      (name_row stamp plan client nodes ids are p)
 
-  pub named : Came before (naming block plan client nodes ids) (Ok answers.UpdatePipeline) after
-      → NamesSo (NamesPipeline block plan.block.b (map (λ node. node.id) plan.block.locs)) block before after
+  pub named : Came before (naming stamp plan client nodes ids) (Ok answers.UpdatePipeline) after
+      → NamesSo (NamesIt stamp plan) plan before after
   named came p entry is listed =
-      let x = asked_row came (λ no. absurd (cc)) p is (name_again block plan client nodes ids same p entry listed) in
-      (x.0, x.1, of_plan block plan client nodes ids are p x.0 x.2)
+      let x = asked_row came (λ no. absurd (cc)) p is (name_again stamp plan client nodes ids p entry listed) in
+      (x.0, x.1, of_plan stamp plan client nodes ids are p x.0 x.2)
 
-  named_none : (error : HdfsError) → Came before (naming block plan client nodes ids) (Err error) after → NamesNot block plan before (fault_of_ask error) after
+  named_none : (error : HdfsError) → Came before (naming stamp plan client nodes ids) (Err error) after
+      → NamesNot stamp plan before (fault_of_ask error) after
   named_none error came = record {
     may = may_be_named came;
     cause = ⊎_elim
@@ -161,10 +163,11 @@ module _ {block : Block} (plan : BlockPlan) {client : List ℕ} {nodes : List Da
           fault_of_other error other.0,
           other.0,
           other.1,
-          λ p entry is listed. other.2 p is (name_again block plan client nodes ids same p entry listed) (λ class refused. refused),
+          λ p entry is listed. other.2 p is (name_again stamp plan client nodes ids p entry listed) (λ class refused. refused),
         ))
         (asked_error came);
   }
 
-  pub named_not : {error : HdfsError} {fault : WriteFault} → fault ≡ fault_of_ask error → Came before (naming block plan client nodes ids) (Err error) after → NamesNot block plan before fault after
-  named_not {error} is came = subst (λ (f : WriteFault). NamesNot block plan before f after) (sym is) (named_none error came)
+  pub named_not : {error : HdfsError} {fault : WriteFault} → fault ≡ fault_of_ask error
+      → Came before (naming stamp plan client nodes ids) (Err error) after → NamesNot stamp plan before fault after
+  named_not {error} is came = subst (λ (f : WriteFault). NamesNot stamp plan before f after) (sym is) (named_none error came)

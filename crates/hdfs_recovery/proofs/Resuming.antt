@@ -5,16 +5,14 @@ use Rattle.std.specs.Prelude.{map}
 use Rattle.std.specs.List.{slice_index_or}
 use Rattle.std.proofs.lemmas.List.{append-nil, length-map}
 use Rattle.hdfs_wire.specs.Outgoing.{Outgoing}
-use Rattle.hdfs_model.specs.declared.messages.Block.{Block}
-use Rattle.hdfs_model.specs.declared.messages.DatanodeId.{DatanodeId}
 use Rattle.hdfs_model.specs.declared.messages.DatanodeInfo.{DatanodeInfo}
 use Rattle.hdfs_model.specs.declared.messages.Setup.{Setup}
 use Rattle.hdfs_model.specs.declared.picture.BlockEntry.{BlockEntry}
 use Rattle.hdfs_model.specs.declared.picture.OpenWrite.{OpenWrite}
-use Rattle.hdfs_model.specs.Effects.{NamesPipeline, names_of}
+use Rattle.hdfs_model.specs.Effects.{names_of}
 use Rattle.hdfs_model.specs.Namenode.{IsToWrite}
 use Rattle.hdfs_model.specs.Picture.{Picture}
-use Rattle.hdfs_model.specs.Pipes.{nodes_of}
+use Rattle.hdfs_model.specs.Pipes.{WriteOpened, nodes_of}
 use Rattle.hdfs_model.specs.Sending.{WritePlace, uuids}
 use Rattle.hdfs_model.specs.Shown.{Shown}
 use Rattle.hdfs_model.specs.Writing.{IsFresh, Releases, Starts, GoesFurther}
@@ -23,20 +21,22 @@ use Rattle.hdfs_pipeline.specs.Cores.{IsCore}
 use Rattle.hdfs_pipeline.specs.Driving.{IsGoing, SentMore, Settles}
 use Rattle.hdfs_pipeline.specs.Pipelines.{Pipeline, empty_pipeline}
 use Rattle.hdfs_blocks.specs.Carrying.{AreSlices, Awaits, LinkCarries, LinkGoesOn}
-use Rattle.hdfs_blocks.specs.Rebuilding.{BlockHolds, BlockWaits, IsListed}
+use Rattle.hdfs_blocks.specs.Rebuilding.{BlockHolds, IsListed}
 use Rattle.hdfs_blocks.proofs.Links.{link_stays}
 use Rattle.hdfs_blocks.proofs.OnlyBlocks.{only_block_same, only_block_from-Releases, only_block_from-Starts}
 use Rattle.hdfs_blocks.proofs.Rebuilding.{waits_holds, waits_opens}
 use Rattle.hdfs_blocks.proofs.Recovering.{holds_named, replay_fails, replay_further}
 use Rattle.hdfs_recovery.specs.declared.block_plan.BlockPlan.{BlockPlan}
+use Rattle.hdfs_recovery.specs.declared.opening.Opening.{Opening}
 use Rattle.hdfs_recovery.specs.declared.replay.SentAgain.{SentAgain}
 use Rattle.hdfs_recovery.specs.Between.{OnlyBlockOf}
-use Rattle.hdfs_recovery.specs.Plans.{HasStamp, IsRecovery, Known, Waits}
-use Rattle.hdfs_recovery.specs.Resuming.{MayBeNamed, Reopens, SendsAgain}
+use Rattle.hdfs_recovery.specs.Opening.{setup_for, with_stamp_of}
+use Rattle.hdfs_recovery.specs.Plans.{HasStamp, Known, Waits}
+use Rattle.hdfs_recovery.specs.Resuming.{MayBeNamed, NamesIt, SendsAgain}
 use Rattle.hdfs_recovery.proofs.Stepping.{only_block_of-named, only_block_of-only, only_block_of-same}
 
 -- an empty pipeline is a core
-empty_is_core : (window nodes : ℕ) → (1 ≤ window) × (window ≤ 1000) → (1 ≤ nodes) × (nodes ≤ 256) → IsCore (empty_pipeline window nodes)
+pub empty_is_core : (window nodes : ℕ) → (1 ≤ window) × (window ≤ 1000) → (1 ≤ nodes) × (nodes ≤ 256) → IsCore (empty_pipeline window nodes)
 empty_is_core window nodes windows some = record {
   window = windows;
   nodes = some;
@@ -71,55 +71,39 @@ fresh_settles setup p place window fresh =
       going = λ going. (refl, fresh.acknowledged);
     }
 
--- A pipeline was set up with the datanodes of a plan.
-module _ (plan : BlockPlan) (block : Block) (least : ℕ) (client : List ℕ) (window link : ℕ) (core : Pipeline) (a b : Shown)
-    (to_write : IsToWrite plan.block) (windows : (1 ≤ window) × (window ≤ 1000))
-    (empty : core ≡ empty_pipeline window (length plan.block.locs)) (reopens : Reopens (IsRecovery block plan least client) a link b) where
+-- A pipeline was opened with the datanodes of a plan.
+module _ (plan : BlockPlan) (opening : Opening) (client : List ℕ) (link : ℕ) (core : Pipeline) (a b : Shown)
+    (to_write : IsToWrite plan.block) (windows : (1 ≤ opening.window) × (opening.window ≤ 1000))
+    (empty : core ≡ empty_pipeline opening.window (length plan.block.locs)) (opened : WriteOpened a (setup_for plan opening client) link b) where
   abbrev new_write : OpenWrite
-  new_write = record { setup = reopens.setup; end = None; waiting = [] }
-
-  many : length reopens.setup.locs ≡ length plan.block.locs
-  many = ap length reopens.is.nodes
+  new_write = record { setup = setup_for plan opening client; end = None; waiting = [] }
 
   pub opened_goes : IsGoing b link core
   opened_goes =
       subst (IsGoing b link) (sym empty)
       (record {
-        drives = (
-          new_write,
-          reopens.opened.opened,
-          λ going. record { nodes = many; sent = refl; taken = refl; waiting = refl; heartbeats = refl },
-        );
-        is_core = empty_is_core window (length plan.block.locs) windows (to_write.some, to_write.few);
+        drives = (new_write, opened.opened, λ going. record { nodes = refl; sent = refl; taken = refl; waiting = refl; heartbeats = refl });
+        is_core = empty_is_core opening.window (length plan.block.locs) windows (to_write.some, to_write.few);
         going = refl;
       })
 
   pub opened_empty : core.pushed ≡ []
   opened_empty = ap (λ (c : Pipeline). c.pushed) empty
 
-  pub opened_window : core.window ≡ window
+  pub opened_window : core.window ≡ opening.window
   opened_window = ap (λ (c : Pipeline). c.window) empty
 
-  pub opened_fresh : (write : OpenWrite) → b.writes link ≡ Some write → write.end ≡ None
-  opened_fresh write at = ap (λ (w : OpenWrite). w.end) (some_is write new_write (sym at ∙ reopens.opened.opened))
+  opened_setup : (write : OpenWrite) → b.writes link ≡ Some write → write ≡ new_write
+  opened_setup write at = some_is write new_write (sym at ∙ opened.opened)
 
   -- the datanodes of the link are those of the plan
   pub opened_nodes : (write : OpenWrite) → b.writes link ≡ Some write → nodes_of write ≡ uuids plan.block.locs
-  opened_nodes write at =
-      ap nodes_of (some_is write new_write (sym at ∙ reopens.opened.opened)) ∙ ap uuids reopens.is.nodes
+  opened_nodes write at = ap nodes_of (opened_setup write at)
 
   -- Over a told picture in which the block waits.
-  module _ (same : block.block_id ≡ plan.block.b.block_id) (p : Picture) (known : Known) (told : a.picture ≡ Some p) (w : Waits p plan known) where
-    setup_id : reopens.setup.block.block_id ≡ plan.block.b.block_id
-    setup_id = ap (λ (x : Block). x.block_id) reopens.is.block_name ∙ same
-
-    waits : BlockWaits p plan.block.b.block_id known.listed (uuids reopens.setup.locs) known.safe known.bytes
-    waits =
-        subst (λ (ns : List DatanodeInfo). BlockWaits p plan.block.b.block_id known.listed (uuids ns) known.safe known.bytes)
-        (sym reopens.is.nodes) w.block
-
-    abbrev after : (q : Picture) × (b.picture ≡ Some q) × Starts link reopens.setup p q
-    after = told_after (Starts link reopens.setup) a.picture b.picture p reopens.opened.starts told
+  module _ (p : Picture) (known : Known) (told : a.picture ≡ Some p) (w : Waits p plan known) where
+    abbrev after : (q : Picture) × (b.picture ≡ Some q) × Starts link (setup_for plan opening client) p q
+    after = told_after (Starts link (setup_for plan opening client)) a.picture b.picture p opened.starts told
 
     abbrev pub opened_picture : Picture
     opened_picture = after.0
@@ -129,26 +113,25 @@ module _ (plan : BlockPlan) (block : Block) (least : ℕ) (client : List ℕ) (w
 
     pub opened_carries : LinkCarries opened_picture link plan.block.b.block_id (uuids plan.block.locs) known.safe [] known.bytes
     opened_carries =
-        subst (λ (ns : List DatanodeInfo). LinkCarries opened_picture link plan.block.b.block_id (uuids ns) known.safe [] known.bytes)
-        reopens.is.nodes
-        (waits_opens p opened_picture reopens.setup link plan.block.b.block_id setup_id known.listed known.safe known.bytes waits after.2)
+        waits_opens p opened_picture (setup_for plan opening client) link plan.block.b.block_id refl known.listed known.safe known.bytes w.block
+        after.2
 
     pub opened_lists : IsListed opened_picture plan.block.b.block_id known.listed known.bytes
     opened_lists =
-        (waits_holds p opened_picture reopens.setup link plan.block.b.block_id setup_id known.listed known.safe known.bytes waits after.2
-        (omega (arith, to_write.some, many))).lists
+        (waits_holds p opened_picture (setup_for plan opening client) link plan.block.b.block_id refl known.listed known.safe known.bytes w.block
+        after.2 to_write.some).lists
 
     pub opened_only : OnlyBlockOf plan.block.b.block_id p opened_picture
     opened_only =
         only_block_of-only plan.block.b.block_id [] p opened_picture
-        (only_block_from-Starts p opened_picture plan.block.b.block_id [] link reopens.setup after.2 after.2.unused)
+        (only_block_from-Starts p opened_picture plan.block.b.block_id [] link (setup_for plan opening client) after.2 after.2.unused)
 
     pub opened_settles : Settles opened_carries.on.place core 0
     opened_settles =
         subst (λ (place : WritePlace). Settles place core 0)
         (some_is after.2.place opened_carries.on.place (sym after.2.at ∙ opened_carries.on.told))
-        (subst (λ (c : Pipeline). Settles after.2.place c 0) (ap (empty_pipeline window) many ∙ sym empty)
-        (fresh_settles reopens.setup p after.2.place window after.2.fresh))
+        (subst (λ (c : Pipeline). Settles after.2.place c 0) (sym empty)
+        (fresh_settles (setup_for plan opening client) p after.2.place opening.window after.2.fresh))
 
 -- Packets were sent again on a link that carries all that is safe, and nothing else was sent on it.
 module _ (plan : BlockPlan) (link : ℕ) (replay : List Outgoing) (core : Pipeline) (b m : Shown) (sent : SentAgain)
@@ -246,13 +229,12 @@ module _ (plan : BlockPlan) (link : ℕ) (replay : List Outgoing) (core : Pipeli
           all_more awaits)
 
 -- The pipeline is named then.
-module _ (plan : BlockPlan) (block : Block) (same : block.block_id ≡ plan.block.b.block_id) (link : ℕ) (p q : Picture) (known : Known)
-    (names : NamesPipeline block plan.block.b (map (λ node. node.id) plan.block.locs) p q)
+module _ (plan : BlockPlan) (stamp : ℕ) (link : ℕ) (p q : Picture) (known : Known) (names : NamesIt stamp plan p q)
     (c : BlockHolds p plan.block.b.block_id link known.listed (uuids plan.block.locs) known.safe known.bytes) where
   pub named_holds : BlockHolds q plan.block.b.block_id link (uuids plan.block.locs) (uuids plan.block.locs) known.safe known.bytes
   named_holds =
-      holds_named p q plan.block.b.block_id (uuids plan.block.locs) block plan.block.b (map (λ node. node.id) plan.block.locs) names same
-      (names_of_ids plan.block.locs) link known.listed known.safe known.bytes c
+      holds_named p q plan.block.b.block_id (uuids plan.block.locs) (with_stamp_of plan.block.b stamp) plan.block.b
+      (map (λ node. node.id) plan.block.locs) names refl (names_of_ids plan.block.locs) link known.listed known.safe known.bytes c
 
   pub named_carries : (replay : List Outgoing)
       → LinkCarries p link plan.block.b.block_id (uuids plan.block.locs) known.safe replay known.bytes
@@ -263,28 +245,27 @@ module _ (plan : BlockPlan) (block : Block) (same : block.block_id ≡ plan.bloc
       (λ i lt. names.changes.bytes.held (slice_index_or (uuids plan.block.locs) i []) plan.block.b.block_id)
 
 -- The block table has the generation stamp with which a block was named.
-pub named_stamp : (block block' : Block) (nodes : List DatanodeId) (p q : Picture) → NamesPipeline block block' nodes p q → HasStamp q block'
-named_stamp block block' nodes p q names =
-    let entry : BlockEntry = record { length = names.entry.length; stamp = block'.generation_stamp; nodes = names_of nodes } in (
-      entry,
-      names.changes.table block'.block_id
-          ∙ cond-true (block.block_id == block'.block_id) (Some entry) (p.table block'.block_id)
-          (eq-eqb block.block_id block'.block_id (sym names.same_id)),
-      refl,
-    )
+pub named_stamp : (plan : BlockPlan) (stamp : ℕ) (p q : Picture) → NamesIt stamp plan p q → HasStamp q plan.block.b
+named_stamp plan stamp p q names =
+    let id = plan.block.b.block_id in
+    let entry : BlockEntry =
+    record { length = names.entry.length; stamp = plan.block.b.generation_stamp; nodes = names_of (map (λ node. node.id) plan.block.locs) } in
+    (entry, names.changes.table id ∙ cond-true (id == id) (Some entry) (p.table id) (eq-eqb id id refl), refl)
 
 -- An ask to name it changes nothing but the block.
-pub may_be_named_only : (plan : BlockPlan) (block : Block) (p q : Picture) → block.block_id ≡ plan.block.b.block_id
-    → MayBeNamed block plan p q → OnlyBlockOf plan.block.b.block_id p q
-may_be_named_only plan block p q same (inl still) = only_block_of-same plan.block.b.block_id p q still
-may_be_named_only plan block p q same (inr named) =
-    only_block_of-named plan.block.b.block_id block plan.block.b (map (λ node. node.id) plan.block.locs) p q same named
+pub named_only : (plan : BlockPlan) (stamp : ℕ) (p q : Picture) → NamesIt stamp plan p q → OnlyBlockOf plan.block.b.block_id p q
+named_only plan stamp p q named =
+    only_block_of-named plan.block.b.block_id (with_stamp_of plan.block.b stamp) plan.block.b (map (λ node. node.id) plan.block.locs) p q refl named
+
+pub may_be_named_only : (plan : BlockPlan) (stamp : ℕ) (p q : Picture) → MayBeNamed stamp plan p q → OnlyBlockOf plan.block.b.block_id p q
+may_be_named_only plan stamp p q (inl still) = only_block_of-same plan.block.b.block_id p q still
+may_be_named_only plan stamp p q (inr named) = named_only plan stamp p q named
 
 -- and no link
-pub may_be_named_writes : (plan : BlockPlan) (block : Block) (p q : Picture) (link : ℕ) → MayBeNamed block plan p q
+pub may_be_named_writes : (plan : BlockPlan) (stamp : ℕ) (p q : Picture) (link : ℕ) → MayBeNamed stamp plan p q
     → q.writes link ≡ p.writes link
-may_be_named_writes plan block p q link (inl still) = still.writes link
-may_be_named_writes plan block p q link (inr named) = named.changes.bytes.writes link
+may_be_named_writes plan stamp p q link (inl still) = still.writes link
+may_be_named_writes plan stamp p q link (inr named) = named.changes.bytes.writes link
 
 -- A link with a block was ended, whatever it had done: nothing changed but the block.
 pub released_only : (id link : ℕ) (p q : Picture) (place : WritePlace) → p.writes link ≡ Some place → place.block ≡ id → Releases link p q

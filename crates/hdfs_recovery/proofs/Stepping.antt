@@ -143,12 +143,6 @@ module _ (plan plan' : BlockPlan) (a b c : Shown) (same : plan'.block.b.block_id
   pub failed_behind : NamenodeFailed plan' b c → NamenodeFailed plan a c
   failed_behind g p known is w = let x = f p known is w in calls_rose_since a b c c first (later_refl c) (g x.0 known x.1 x.2)
 
-  pub help_failed_behind : HelpFailed plan' b c → HelpFailed plan a c
-  help_failed_behind g = ⊎_elim
-      (λ links. inl (rose_since a.counts.links b.counts.links c.counts.links c.counts.links first.counts.links links (omega arith)))
-      (λ namenode. inr (failed_behind namenode))
-      g
-
 pub touches_by : (plan plan' : BlockPlan) (a b : Shown) → WaitsOn plan a plan' b → Touches plan a b
 touches_by plan plan' a b f p known is w = let x = f p known is w in (x.0, x.1, x.4)
 

@@ -1,24 +1,22 @@
 -- What comes of the steps of one attempt to rebuild a pipeline, by what each step says.
-use Rattle.std.proofs.Common.{◌≡◌, ℕ, ◌+◌, ◌-◌, List, ◌∙◌, ap, subst}
+use Rattle.std.proofs.Common.{◌≡◌, ℕ, List, subst}
 use Rattle.std.specs.Prelude.{Result, Ok, Err, IfOk, IfErr}
 use Rattle.hdfs_wire.specs.Outgoing.{Outgoing}
-use Rattle.hdfs_model.specs.declared.messages.Block.{Block}
 use Rattle.hdfs_model.specs.declared.messages.DatanodeInfo.{DatanodeInfo}
 use Rattle.hdfs_model.specs.Namenode.{IsToWrite}
 use Rattle.hdfs_model.specs.Shown.{Shown}
-use Rattle.hdfs_blocks.specs.Carrying.{total}
 use Rattle.hdfs_recovery.specs.declared.attempts.Attempt.{Attempt}
 use Rattle.hdfs_recovery.specs.declared.block_plan.BlockPlan.{BlockPlan}
 use Rattle.hdfs_recovery.specs.declared.block_plan.WriteFault.{WriteFault}
 use Rattle.hdfs_recovery.specs.declared.block_plan.RebuildSettings.{RebuildSettings}
-use Rattle.hdfs_recovery.specs.Attempts.{Attempted, GaveNone, standing, task_of}
+use Rattle.hdfs_recovery.specs.Attempts.{Attempted, GaveNone, opening_of, standing, task_of}
 use Rattle.hdfs_recovery.specs.Between.{KeepsLinks}
 use Rattle.hdfs_recovery.specs.Plans.{nodes_at}
 use Rattle.hdfs_recovery.specs.Replacing.{Completes, CompletesNot}
 use Rattle.hdfs_recovery.specs.Resuming.{Restamps, RestampsNot}
 use Rattle.hdfs_recovery.specs.Trying.{GivesPlan, LeavesOut, Resumed, ResumedNot, course_of}
 use Rattle.hdfs_recovery.proofs.Leaving.{left_plan}
-use Rattle.hdfs_recovery.proofs.Trying.{attempted, complete_gave_none, next_id, next_to_write, restamp_gave_none, resume_gave_none}
+use Rattle.hdfs_recovery.proofs.Trying.{attempted, complete_gave_none, next_to_write, restamp_gave_none, resume_gave_none}
 
 pub ok_by : {T E : Type 0} (P Q : T → Type 0) (r : Result T E) → ((x : T) → P x → Q x) → IfOk r P → IfOk r Q
 ok_by P Q (Ok x) h is = h x is
@@ -28,17 +26,13 @@ pub err_by : {T E : Type 0} (P Q : E → Type 0) (r : Result T E) → ((e : E) �
 err_by P Q (Ok x) h is = tt
 err_by P Q (Err e) h is = h e is
 
--- A pipeline can be set up by the next plan, to go on with the block.
+-- A pipeline can be opened by the next plan.
 pub to_resume : (plan0 plan3 : BlockPlan) (settings : RebuildSettings) (failed : List ℕ) (a n : Shown)
-    → GivesPlan plan0 settings failed a plan3 n → (block : Block) → block ≡ plan0.block.b
-    → IsToWrite plan3.block × (block.block_id ≡ plan3.block.b.block_id)
-to_resume plan0 plan3 settings failed a n given block same =
+    → GivesPlan plan0 settings failed a plan3 n → IsToWrite plan3.block
+to_resume plan0 plan3 settings failed a n given =
     let completes =
-    subst (λ (p : BlockPlan). Completes p settings (nodes_at plan0.block.locs failed) a given.whole given.between) given.leaves.is given.completes in (
-      next_to_write plan0 given.whole plan3 settings failed a given.between n given.leaves.within given.stays completes given.keeps given.restamps,
-      ap (λ (b : Block). b.block_id) same
-          ∙ next_id plan0 given.whole plan3 settings failed a given.between n given.leaves.within given.stays completes given.keeps given.restamps,
-    )
+    subst (λ (p : BlockPlan). Completes p settings (nodes_at plan0.block.locs failed) a given.whole given.between) given.leaves.is given.completes in
+    next_to_write plan0 given.whole plan3 settings failed a given.between n given.leaves.within given.stays completes given.keeps given.restamps
 
 module _ (plan0 plan1 : BlockPlan) (settings : RebuildSettings) (failed : List ℕ) (client : List ℕ) (replay : List Outgoing) (unsent : ℕ)
     (a m : Shown) (leaves : LeavesOut plan0 settings failed plan1) (stays : KeepsLinks a m) where
@@ -64,14 +58,10 @@ module _ (plan0 plan1 : BlockPlan) (settings : RebuildSettings) (failed : List �
 
       module _ (plan3 : BlockPlan) (restamps : Restamps plan2 m plan3 n) (z : Shown) where
         -- the pipeline stands, or has fallen
-        pub tried : (block : Block) (least : ℕ) → block ≡ plan0.block.b → least ≡ plan0.block.b.num_bytes - (total replay + unsent)
-            → (attempt : Attempt) → Resumed (course_of plan3 block least client settings.window replay) n attempt z
+        pub tried : (attempt : Attempt) → Resumed (course_of plan3 (opening_of (task_of settings client replay unsent) plan0) client replay) n attempt z
             → Attempted (task_of settings client replay unsent) (standing plan0 failed a) attempt z
-        tried block least same few attempt resumed =
-            attempted plan0 plan2 plan3 settings failed a m n leaves.within stays complete_left keeps restamps client replay unsent z attempt
-            (subst (λ (b : Block). Resumed (course_of plan3 b (plan0.block.b.num_bytes - (total replay + unsent)) client settings.window replay) n attempt z)
-            same
-            (subst (λ (k : ℕ). Resumed (course_of plan3 block k client settings.window replay) n attempt z) few resumed))
+        tried attempt resumed =
+            attempted plan0 plan2 plan3 settings failed a m n leaves.within stays complete_left keeps restamps client replay unsent z attempt resumed
 
         -- or none does
         pub untried : (fault : WriteFault) → ResumedNot plan3 n fault z

@@ -1,5 +1,5 @@
 -- One attempt to rebuild a pipeline: what its steps come to together.
-use Rattle.std.proofs.Common.{◌≡◌, ◌⊎◌, inl, inr, ⊎_elim, ℕ, ◌+◌, ◌-◌, ◌<◌, true, List, [], length, Some, refl, sym, ◌∙◌, ap, subst, arith}
+use Rattle.std.proofs.Common.{◌≡◌, ◌⊎◌, inl, inr, ⊎_elim, ℕ, ◌+◌, ◌<◌, true, List, [], length, Some, refl, sym, ◌∙◌, ap, subst, arith}
 use Rattle.std.specs.List.{All, Contains, slice_index_or}
 use Rattle.hdfs_wire.specs.Outgoing.{Outgoing}
 use Rattle.hdfs_model.specs.declared.messages.DatanodeInfo.{DatanodeInfo}
@@ -23,9 +23,10 @@ use Rattle.hdfs_recovery.specs.declared.block_plan.BlockPlan.{BlockPlan}
 use Rattle.hdfs_recovery.specs.declared.block_plan.WriteFault.{WriteFault}
 use Rattle.hdfs_recovery.specs.declared.block_plan.RebuildSettings.{RebuildSettings}
 use Rattle.hdfs_recovery.specs.declared.block_plan.BlockPipeline.{BlockPipeline}
-use Rattle.hdfs_recovery.specs.Attempts.{Attempted, Begins, GaveNone, HasRebuildCause, Missed, Recovered, standing, task_of}
+use Rattle.hdfs_recovery.specs.Attempts.{Attempted, Begins, GaveNone, HasRebuildCause, Missed, Recovered, fallen_at, opening_of, standing, task_of}
 use Rattle.hdfs_recovery.specs.Between.{HelpFailed, KeepsLinks, OnlyBlockOf, WaitsOn}
-use Rattle.hdfs_recovery.specs.Plans.{CanRebuild, HasLeft, HasStamp, IsDue, IsRecovery, IsNextPlan, IsNextPipeline, KeepsPlan, Known, Waits, nodes_at, without}
+use Rattle.hdfs_recovery.specs.Opening.{setup_for}
+use Rattle.hdfs_recovery.specs.Plans.{CanRebuild, HasLeft, HasStamp, IsDue, IsNextPlan, IsNextPipeline, IsReplay, KeepsPlan, Known, Waits, nodes_at, without}
 use Rattle.hdfs_recovery.specs.Replacing.{Completes, CompletesNot, GoesOnWith, with_nodes}
 use Rattle.hdfs_recovery.specs.Resuming.{Restamps, RestampsNot, with_stamp}
 use Rattle.hdfs_recovery.specs.Trying.{FallsAgain, ResumeCause, Resumed, ResumedNot, StandsAgain, course_of}
@@ -95,9 +96,6 @@ module _ (plan0 plan2 plan3 : BlockPlan) (settings : RebuildSettings) (failed : 
   next_to_write =
       subst (λ (x : BlockPlan). IsToWrite x.block) (sym restamps.is)
       (to_write_with_stamp plan2 restamps.stamp restamps.token completes.block)
-
-  pub next_id : plan0.block.b.block_id ≡ plan3.block.b.block_id
-  next_id = sym to_next.id
 
   same_nodes : plan3.block.locs ≡ plan2.block.locs
   same_nodes = ap (λ (x : BlockPlan). x.block.locs) restamps.is
@@ -209,7 +207,7 @@ module _ (plan0 plan2 plan3 : BlockPlan) (settings : RebuildSettings) (failed : 
 
     -- one that stands
     pub recovers : (rebuilt : BlockPipeline)
-        → StandsAgain (course_of plan3 plan0.block.b (plan0.block.b.num_bytes - (total replay + unsent)) client settings.window replay) n rebuilt z
+        → StandsAgain (course_of plan3 (opening_of (task_of settings client replay unsent) plan0) client replay) n rebuilt z
         → Recovered (task_of settings client replay unsent) (standing plan0 failed a) rebuilt z
     recovers rebuilt stands = record {
       begins =
@@ -223,8 +221,7 @@ module _ (plan0 plan2 plan3 : BlockPlan) (settings : RebuildSettings) (failed : 
       opened = (
         stands.opened.0,
         stands.opened.1,
-        subst (λ (x : BlockPlan). IsRecovery plan0.block.b x (plan0.block.b.num_bytes - (total replay + unsent)) client stands.opened.0.setup)
-            (sym stands.plan) stands.opened.2,
+        stands.opened.2 ∙ ap (λ (x : BlockPlan). setup_for x (opening_of (task_of settings client replay unsent) plan0) client) (sym stands.plan),
       );
       going = stands.going;
       window = stands.window;
@@ -245,7 +242,7 @@ module _ (plan0 plan2 plan3 : BlockPlan) (settings : RebuildSettings) (failed : 
 
     -- one that has fallen
     pub misses : (fallen : Fallen)
-        → FallsAgain (course_of plan3 plan0.block.b (plan0.block.b.num_bytes - (total replay + unsent)) client settings.window replay) n fallen z
+        → FallsAgain (course_of plan3 (opening_of (task_of settings client replay unsent) plan0) client replay) n fallen z
         → Missed (task_of settings client replay unsent) (standing plan0 failed a) (standing fallen.plan fallen.failed z) × (fallen.replay ≡ replay)
     misses fallen falls = (
       subst (λ (x : BlockPlan). Missed (task_of settings client replay unsent) (standing plan0 failed a) (standing x fallen.failed z)) (sym falls.plan)
@@ -271,7 +268,7 @@ module _ (plan0 plan2 plan3 : BlockPlan) (settings : RebuildSettings) (failed : 
     )
 
     pub attempted : (attempt : Attempt)
-        → Resumed (course_of plan3 plan0.block.b (plan0.block.b.num_bytes - (total replay + unsent)) client settings.window replay) n attempt z
+        → Resumed (course_of plan3 (opening_of (task_of settings client replay unsent) plan0) client replay) n attempt z
         → Attempted (task_of settings client replay unsent) (standing plan0 failed a) attempt z
     attempted (attempts.Stands rebuilt) stands = recovers rebuilt stands
     attempted (attempts.Fell fallen) falls = misses fallen falls
@@ -348,17 +345,15 @@ complete_gave_none plan0 settings failed a m client replay unsent fault stays no
 }
 
 -- A pipeline that has fallen can be rebuilt again.
-pub can_rebuild_again : (plan0 : BlockPlan) (settings : RebuildSettings) (failed : List ℕ) (a z : Shown) (client : List ℕ)
-    (replay : List Outgoing) (unsent : ℕ) (fallen : Fallen) → CanRebuild plan0 settings failed replay unsent
-    → Missed (task_of settings client replay unsent) (standing plan0 failed a) (standing fallen.plan fallen.failed z) × (fallen.replay ≡ replay)
-    → CanRebuild fallen.plan settings fallen.failed fallen.replay unsent
-can_rebuild_again plan0 settings failed a z client replay unsent fallen can missed =
-    subst (λ (packets : List Outgoing). CanRebuild fallen.plan settings fallen.failed packets unsent) (sym missed.1)
-    (record {
-      block = missed.0.begins.next.block;
-      places = missed.0.places;
-      rebuilds = missed.0.begins.next.within;
-      window = can.window;
-      packets = can.packets;
-      few = omega (arith, can.few, missed.0.begins.next.keeps.length);
-    })
+pub can_rebuild_again : (before : Fallen) (settings : RebuildSettings) (a z : Shown) (client : List ℕ) (unsent : ℕ) (fallen : Fallen)
+    → CanRebuild before settings unsent
+    → Missed (task_of settings client before.replay unsent) (fallen_at before a) (fallen_at fallen z) × (fallen.replay ≡ before.replay)
+    → CanRebuild fallen settings unsent
+can_rebuild_again before settings a z client unsent fallen can missed = record {
+  block = missed.0.begins.next.block;
+  places = missed.0.places;
+  rebuilds = missed.0.begins.next.within;
+  window = can.window;
+  packets = subst (IsReplay settings.window) (sym missed.1) can.packets;
+  few = omega (arith, can.few, missed.0.begins.next.keeps.length, ap total missed.1);
+}

@@ -1,5 +1,5 @@
 -- Wrong ways to leave failed datanodes out of a pipeline of three, which the definition refuses.
-use Rattle.std.specs.Prelude.{◌≡◌, ◌≢◌, ℕ, List, [], ◌∷◌}
+use Rattle.std.specs.Prelude.{◌≡◌, ◌≢◌, ℕ, [], ◌∷◌}
 use Rattle.std.proofs.Common.{refl}
 use Rattle.hdfs_recovery.specs.Plans.{without}
 

@@ -15,14 +15,17 @@ use Rattle.hdfs_pipeline.specs.Driving.{IsGoing}
 use Rattle.hdfs_pipeline.specs.Places.{ArePlaces}
 use Rattle.hdfs_recovery.specs.declared.attempts.Attempt.{Attempt}
 use Rattle.hdfs_recovery.specs.declared.attempts.Attempt.TheVariants as attempts
+use Rattle.hdfs_recovery.specs.declared.attempts.Fallen.{Fallen}
 use Rattle.hdfs_recovery.specs.declared.block_plan.BlockPlan.{BlockPlan}
 use Rattle.hdfs_recovery.specs.declared.block_plan.BlockPipeline.{BlockPipeline}
 use Rattle.hdfs_recovery.specs.declared.block_plan.WriteFault.{WriteFault}
 use Rattle.hdfs_recovery.specs.declared.block_plan.WriteFault.TheVariants as faults
 use Rattle.hdfs_recovery.specs.declared.block_plan.RebuildSettings.{RebuildSettings}
 use Rattle.hdfs_blocks.specs.Carrying.{AreSlices, FollowFrom, LinkCarries, total}
-use Rattle.hdfs_recovery.specs.Plans.{HasStamp, IsDue, IsNextPlan, IsRecovery, Known, Waits, without}
+use Rattle.hdfs_recovery.specs.Plans.{HasStamp, IsDue, IsNextPlan, Known, Waits, without}
 use Rattle.hdfs_blocks.specs.Rebuilding.{IsListed}
+use Rattle.hdfs_recovery.specs.declared.opening.Opening.{Opening}
+use Rattle.hdfs_recovery.specs.Opening.{rebuilt_of, setup_for}
 use Rattle.hdfs_recovery.specs.Trying.{HaveFailed}
 use Rattle.hdfs_namenode.specs.Relaying.{TellsAsk}
 use Rattle.hdfs_recovery.specs.Between.{KeepsLinks, OnlyBlockOf, Touches, HelpFailed, HelpLacks, NamenodeFailed, KeepsEntry}
@@ -48,6 +51,16 @@ pub record Standing : Type 0 where
 -- the same, from its parts
 abbrev pub standing : BlockPlan → List ℕ → Shown → Standing
 standing plan failed shown = record { plan = plan; failed = failed; shown = shown }
+
+-- the same, of a block whose pipeline has fallen
+abbrev pub fallen_at : Fallen → Shown → Standing
+fallen_at fallen shown = standing fallen.plan fallen.failed shown
+
+-- How a pipeline of a block is opened after another has failed: the bytes before those packets and the ones that weren't sent are
+-- acknowledged.
+abbrev pub opening_of : Task → BlockPlan → Opening
+opening_of task plan =
+    rebuilt_of plan.block.b.generation_stamp (plan.block.b.num_bytes - (total task.replay + task.unsent)) task.settings.window
 
 -- the datanodes that are left of a pipeline
 abbrev pub left_of : Standing → List DatanodeInfo
@@ -90,8 +103,8 @@ pub record Recovered (task : Task) (before : Standing) (rebuilt : BlockPipeline)
   pub begins : Begins task before rebuilt.plan new
   pub fresh : IsUnused rebuilt.link before.shown
   pub others : (other : ℕ) → other ≢ rebuilt.link → new.writes other ≡ before.shown.writes other
-  pub opened : (write : OpenWrite) × (new.writes rebuilt.link ≡ Some write) × IsRecovery before.plan.block.b rebuilt.plan
-      (before.plan.block.b.num_bytes - (total task.replay + task.unsent)) task.client write.setup
+  pub opened : (write : OpenWrite) × (new.writes rebuilt.link ≡ Some write)
+      × (write.setup ≡ setup_for rebuilt.plan (opening_of task before.plan) task.client)
   pub going : IsGoing new rebuilt.link rebuilt.core
   pub window : rebuilt.core.window ≡ task.settings.window
   pub pushed : rebuilt.core.pushed ≡ task.replay
@@ -133,7 +146,7 @@ GivesNoPlan settings before fault new =
 abbrev pub Attempted : Task → Standing → Attempt → Shown → Type 0
 Attempted task before (attempts.Stands rebuilt) new = Recovered task before rebuilt new
 Attempted task before (attempts.Fell fallen) new =
-    Missed task before (record { plan = fallen.plan; failed = fallen.failed; shown = new }) × (fallen.replay ≡ task.replay)
+    Missed task before (fallen_at fallen new) × (fallen.replay ≡ task.replay)
 
 -- Some attempts failed, and then one succeeded.
 pub record RebuiltAfter (task : Task) (before : Standing) (rebuilt : BlockPipeline) (new : Shown) : Type 0 where

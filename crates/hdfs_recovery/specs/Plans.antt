@@ -5,8 +5,6 @@ use Rattle.hdfs_wire.specs.Outgoing.{Outgoing}
 use Rattle.hdfs_model.specs.declared.messages.DatanodeInfo.{DatanodeInfo}
 use Rattle.hdfs_model.specs.declared.messages.LocatedBlock.{LocatedBlock}
 use Rattle.hdfs_model.specs.declared.messages.Block.{Block}
-use Rattle.hdfs_model.specs.declared.messages.Setup.{Setup}
-use Rattle.hdfs_model.specs.declared.messages.Stage.TheVariants as stages
 use Rattle.hdfs_model.specs.declared.picture.BlockEntry.{BlockEntry}
 use Rattle.hdfs_model.specs.Effects.{HasOneMore, IsBeingWritten}
 use Rattle.hdfs_model.specs.Namenode.{IsToWrite}
@@ -16,6 +14,7 @@ use Rattle.hdfs_names.specs.Replacements.{ShouldReplace}
 use Rattle.hdfs_names.specs.Shown.{shown as policy_of}
 use Rattle.hdfs_pipeline.specs.Driving.{IsNotLast}
 use Rattle.hdfs_pipeline.specs.Places.{ArePlaces}
+use Rattle.hdfs_recovery.specs.declared.attempts.Fallen.{Fallen}
 use Rattle.hdfs_recovery.specs.declared.block_plan.BlockPlan.{BlockPlan}
 use Rattle.hdfs_recovery.specs.declared.block_plan.RebuildSettings.{RebuildSettings}
 use Rattle.hdfs_blocks.specs.Carrying.{FollowFrom, total}
@@ -58,15 +57,15 @@ pub record IsReplay (window : ℕ) (packets : List Outgoing) : Type 0 where
   pub follow : FollowFrom start packets
   pub ends : NoneEndsBefore packets
 
--- A pipeline can be rebuilt after its datanodes at these places have failed: the packets are to be sent again, and behind them the
--- block has so many bytes that weren't sent.
-pub record CanRebuild (plan : BlockPlan) (settings : RebuildSettings) (failed : List ℕ) (replay : List Outgoing) (unsent : ℕ) : Type 0 where
-  pub block : IsToWrite plan.block
-  pub places : ArePlaces (length plan.block.locs) failed
-  pub rebuilds : plan.rebuilds ≤ settings.rebuild_limit
+-- A pipeline that has fallen can be rebuilt: its packets are to be sent again, and behind them the block has so many bytes that weren't
+-- sent.
+pub record CanRebuild (fallen : Fallen) (settings : RebuildSettings) (unsent : ℕ) : Type 0 where
+  pub block : IsToWrite fallen.plan.block
+  pub places : ArePlaces (length fallen.plan.block.locs) fallen.failed
+  pub rebuilds : fallen.plan.rebuilds ≤ settings.rebuild_limit
   pub window : (1 ≤ settings.window) × (settings.window ≤ 1000)
-  pub packets : IsReplay settings.window replay
-  pub few : total replay + unsent ≤ plan.block.b.num_bytes
+  pub packets : IsReplay settings.window fallen.replay
+  pub few : total fallen.replay + unsent ≤ fallen.plan.block.b.num_bytes
 
 -- what stays of a plan: all but its pipeline, its block's generation stamp, and how often it was rebuilt
 pub record KeepsPlan (plan plan' : BlockPlan) : Type 0 where
@@ -102,21 +101,6 @@ pub record IsNextPlan (plan : BlockPlan) (settings : RebuildSettings) (failed : 
   pub storages : plan'.block.locs ≡ without 0 failed plan.block.locs → HasLeft failed plan.block plan'.block
   pub once : plan'.rebuilds ≡ plan.rebuilds + 1
   pub within : plan'.rebuilds ≤ settings.rebuild_limit
-
--- The set-up of a pipeline that goes on with a block, which has this name so far: its datanodes are those of the plan, the block gets
--- the plan's generation stamp, and has at least so many bytes, and at most those that it has so far.
-pub record IsRecovery (block : Block) (plan : BlockPlan) (safe : ℕ) (client : List ℕ) (setup : Setup) : Type 0 where
-  pub stage : setup.stage ≡ stages.Recovery
-  pub block_name : setup.block ≡ block
-  pub nodes : setup.locs ≡ plan.block.locs
-  pub types : setup.storage_types ≡ plan.block.storage_types
-  pub ids : setup.storage_ids ≡ plan.block.storage_ids
-  pub stamp : setup.stamp ≡ plan.block.b.generation_stamp
-  pub least : setup.min_bytes ≡ safe
-  pub most : setup.max_bytes ≡ plan.block.b.num_bytes
-  pub chunk : setup.chunk ≡ plan.chunk
-  pub token : setup.token ≡ plan.block.block_token
-  pub named_so : setup.client ≡ client
 
 -- what is known of a block while it is written: the datanodes that are listed for it, how many of its bytes are safe, and its bytes
 pub record Known : Type 0 where

@@ -1,17 +1,14 @@
--- A pipeline is set up to go on with a block, and packets are sent again on it.
+-- Packets are sent again on a pipeline that was opened to go on with a block, and namenodes are asked.
 use Rattle.std.specs.Prelude.{◌≡◌, ◌≢◌, ◌⊎◌, ℕ, ◌<◌, List, [], ◌∷◌, ◌++◌, map, Some, None}
 use Rattle.hdfs_wire.specs.Outgoing.{Outgoing}
 use Rattle.hdfs_model.specs.declared.errors.HdfsError.{HdfsError}
 use Rattle.hdfs_model.specs.declared.errors.HdfsError.TheVariants as errors
-use Rattle.hdfs_model.specs.declared.messages.Block.{Block}
-use Rattle.hdfs_model.specs.declared.messages.Setup.{Setup}
 use Rattle.hdfs_model.specs.declared.messages.Token.{Token}
 use Rattle.hdfs_model.specs.declared.picture.BlockEntry.{BlockEntry}
 use Rattle.hdfs_model.specs.Causes.{CallsRose}
-use Rattle.hdfs_model.specs.Counts.{Rose}
 use Rattle.hdfs_model.specs.Effects.{NamesPipeline}
-use Rattle.hdfs_model.specs.Picture.{Picture, SameButActive, SamePicture, Told}
-use Rattle.hdfs_model.specs.Pipes.{FollowsOn, WriteOpened}
+use Rattle.hdfs_model.specs.Picture.{Picture, SameButActive}
+use Rattle.hdfs_model.specs.Pipes.{FollowsOn}
 use Rattle.hdfs_model.specs.Shown.{Shown}
 use Rattle.hdfs_namenode.specs.Relaying.{TellsAsk}
 use Rattle.hdfs_pipeline.specs.Cores.{IsCore}
@@ -20,8 +17,10 @@ use Rattle.hdfs_pipeline.specs.Pipelines.{Pipeline}
 use Rattle.hdfs_recovery.specs.declared.block_plan.BlockPlan.{BlockPlan}
 use Rattle.hdfs_recovery.specs.declared.block_plan.WriteFault.{WriteFault}
 use Rattle.hdfs_recovery.specs.declared.block_plan.WriteFault.TheVariants as faults
+use Rattle.hdfs_recovery.specs.declared.replay.Resending.{Resending}
 use Rattle.hdfs_recovery.specs.declared.replay.SentAgain.{SentAgain}
 use Rattle.hdfs_recovery.specs.Between.{KeepsLinks, NamenodeFailed, WaitsOn}
+use Rattle.hdfs_recovery.specs.Opening.{with_stamp_of}
 use Rattle.hdfs_blocks.specs.Carrying.{FollowFrom}
 
 -- what it is for a rebuild that a namenode gave no answer
@@ -54,19 +53,6 @@ pub record RestampsNot (plan : BlockPlan) (old : Shown) (fault : WriteFault) (ne
   pub cause : AskFails plan old fault new
   pub waits : WaitsOn plan old plan new
 
--- A link was set up to go on with a block, by such a set-up.
-pub record Reopens (IsSo : Setup → Type 0) (old : Shown) (link : ℕ) (new : Shown) : Type 0 where
-  pub setup : Setup
-  pub is : IsSo setup
-  pub opened : WriteOpened old setup link new
-
--- None was, for want of memory, or since the links have failed. Nothing else changed.
-pub record ReopensNot (old : Shown) (fault : WriteFault) (new : Shown) : Type 0 where
-  pub cause : (fault ≡ faults.NoMemory)
-      ⊎ (((fault ≡ faults.Link) ⊎ (fault ≡ faults.Setup)) × Rose old.counts.links new.counts.links)
-  pub links : KeepsLinks old new
-  pub picture : Told SamePicture old.picture new.picture
-
 -- The packets were sent on a fresh link, in order: all of them, or the pipeline has ended at one of them, and the others weren't sent.
 -- No acknowledgement was read.
 pub record SendsAgain (link : ℕ) (replay : List Outgoing) (core : Pipeline) (old : Shown) (sent : SentAgain) (new : Shown) : Type 0 where
@@ -77,44 +63,38 @@ pub record SendsAgain (link : ℕ) (replay : List Outgoing) (core : Pipeline) (o
   pub goes_on : sent.core.end ≡ None → (packet : Outgoing) (start : ℕ) → FollowFrom start (replay ++ packet ∷ [])
       → FollowsOn new link packet
 
--- what an ask to name a pipeline did to a picture, in which the block is listed
-abbrev pub MayBeNamed : Block → BlockPlan → Picture → Picture → Type 0
-MayBeNamed block plan p q =
-    SameButActive p q ⊎ NamesPipeline block plan.block.b (map (λ node. node.id) plan.block.locs) p q
+-- the datanodes of a plan are those of its block's pipeline in the block table, and the block, which had this generation stamp, has that
+-- of the plan there
+abbrev pub NamesIt : ℕ → BlockPlan → Picture → Picture → Type 0
+NamesIt stamp plan =
+    NamesPipeline (with_stamp_of plan.block.b stamp) plan.block.b (map (λ node. node.id) plan.block.locs)
 
--- over a told picture, in which the block is listed, this came of an ask to name its pipeline
-abbrev pub NamesSo : (Picture → Picture → Type 0) → Block → Shown → Shown → Type 0
-NamesSo P block old new = (p : Picture) (entry : BlockEntry) → old.picture ≡ Some p → p.table block.block_id ≡ Some entry
+-- what an ask to name a pipeline did to a picture, in which the block is listed
+abbrev pub MayBeNamed : ℕ → BlockPlan → Picture → Picture → Type 0
+MayBeNamed stamp plan p q = SameButActive p q ⊎ NamesIt stamp plan p q
+
+-- over a told picture, in which the block of a plan is listed, this came of an ask to name its pipeline
+abbrev pub NamesSo : (Picture → Picture → Type 0) → BlockPlan → Shown → Shown → Type 0
+NamesSo P plan old new = (p : Picture) (entry : BlockEntry) → old.picture ≡ Some p → p.table plan.block.b.block_id ≡ Some entry
     → (q : Picture) × (new.picture ≡ Some q) × P p q
 
 -- The datanodes of the plan are those of the block's pipeline in the block table, or that ask was left without an answer.
-pub record NamesNot (block : Block) (plan : BlockPlan) (old : Shown) (fault : WriteFault) (new : Shown) : Type 0 where
-  pub may : NamesSo (MayBeNamed block plan) block old new
+pub record NamesNot (stamp : ℕ) (plan : BlockPlan) (old : Shown) (fault : WriteFault) (new : Shown) : Type 0 where
+  pub may : NamesSo (MayBeNamed stamp plan) plan old new
   pub cause : (fault ≡ faults.NoMemory) ⊎ ((error : HdfsError) × (fault ≡ faults.Namenode error) × (error ≢ errors.NoMemory)
-      × TellsAsk old new error × ((p : Picture) (entry : BlockEntry) → old.picture ≡ Some p → p.table block.block_id ≡ Some entry
-      → CallsRose old.counts new))
+      × TellsAsk old new error × ((p : Picture) (entry : BlockEntry) → old.picture ≡ Some p
+      → p.table plan.block.b.block_id ≡ Some entry → CallsRose old.counts new))
 
--- packets that are to be sent again, on this link, which stands so
-pub record Resending : Type 0 where
-  pub link : ℕ
-  pub replay : List Outgoing
-  pub core : Pipeline
-  pub shown : Shown
-
--- the same, from its parts
-abbrev pub resending : ℕ → List Outgoing → Pipeline → Shown → Resending
-resending link replay core shown = record { link = link; replay = replay; core = core; shown = shown }
-
--- The packets were sent again, and then the pipeline was named.
-pub record SendsAndNames (task : Resending) (block : Block) (plan : BlockPlan) (sent : SentAgain) (new : Shown) : Type 0 where
+-- The packets were sent again, and then the pipeline was named, whose block had this generation stamp.
+pub record SendsAndNames (task : Resending) (stamp : ℕ) (plan : BlockPlan) (old : Shown) (sent : SentAgain) (new : Shown) : Type 0 where
   pub between : Shown
-  pub sends : SendsAgain task.link task.replay task.core task.shown sent between
+  pub sends : SendsAgain task.link task.replay task.core old sent between
   pub links : KeepsLinks between new
-  pub names : NamesSo (NamesPipeline block plan.block.b (map (λ node. node.id) plan.block.locs)) block between new
+  pub names : NamesSo (NamesIt stamp plan) plan between new
 
 -- Memory was wanting while they were sent, or the pipeline wasn't named.
-abbrev pub SendsOrNamesNot : Resending → Block → BlockPlan → WriteFault → Shown → Type 0
-SendsOrNamesNot task block plan fault new =
-    ((fault ≡ faults.NoMemory) × StopsShort task.link task.replay task.core task.shown new)
-    ⊎ ((sent : SentAgain) × (between : Shown) × SendsAgain task.link task.replay task.core task.shown sent between
-    × KeepsLinks between new × NamesNot block plan between fault new)
+abbrev pub SendsOrNamesNot : Resending → ℕ → BlockPlan → Shown → WriteFault → Shown → Type 0
+SendsOrNamesNot task stamp plan old fault new =
+    ((fault ≡ faults.NoMemory) × StopsShort task.link task.replay task.core old new)
+    ⊎ ((sent : SentAgain) × (between : Shown) × SendsAgain task.link task.replay task.core old sent between
+    × KeepsLinks between new × NamesNot stamp plan between fault new)

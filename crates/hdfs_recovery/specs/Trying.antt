@@ -1,7 +1,6 @@
 -- The steps of one attempt to rebuild a pipeline.
 use Rattle.std.specs.Prelude.{◌≡◌, ◌≢◌, ◌⊎◌, ℕ, ℤ, ◌+◌, ◌<◌, List, [], ◌∷◌, ◌++◌, length, slice_index_or, All, Some}
 use Rattle.hdfs_wire.specs.Outgoing.{Outgoing}
-use Rattle.hdfs_model.specs.declared.messages.Block.{Block}
 use Rattle.hdfs_model.specs.declared.picture.OpenWrite.{OpenWrite}
 use Rattle.hdfs_model.specs.Counts.{Rose}
 use Rattle.hdfs_model.specs.Namenode.{IsToWrite}
@@ -23,10 +22,12 @@ use Rattle.hdfs_recovery.specs.declared.block_plan.BlockPipeline.{BlockPipeline}
 use Rattle.hdfs_recovery.specs.declared.block_plan.WriteFault.{WriteFault}
 use Rattle.hdfs_recovery.specs.declared.block_plan.WriteFault.TheVariants as faults
 use Rattle.hdfs_recovery.specs.declared.block_plan.RebuildSettings.{RebuildSettings}
+use Rattle.hdfs_recovery.specs.declared.opening.Opening.{Opening}
 use Rattle.hdfs_recovery.specs.declared.replay.SentAgain.{SentAgain}
 use Rattle.hdfs_recovery.specs.Between.{KeepsLinks, OnlyBlockOf, Touches}
+use Rattle.hdfs_recovery.specs.Opening.{setup_for}
 use Rattle.hdfs_blocks.specs.Carrying.{AreSlices, FollowFrom, LinkCarries}
-use Rattle.hdfs_recovery.specs.Plans.{HasStamp, IsRecovery, Known, Waits, block_without, nodes_at, without}
+use Rattle.hdfs_recovery.specs.Plans.{HasStamp, Known, Waits, block_without, nodes_at, without}
 use Rattle.hdfs_blocks.specs.Rebuilding.{IsListed}
 use Rattle.hdfs_recovery.specs.Replacing.{Completes}
 use Rattle.hdfs_recovery.specs.Resuming.{AskFails, Restamps}
@@ -57,20 +58,17 @@ pub record GivesPlan (plan : BlockPlan) (settings : RebuildSettings) (failed : L
   pub keeps : KeepsLinks between new
   pub restamps : Restamps whole between plan' new
 
--- what is to be done on the next pipeline: the plan has its datanodes and generation stamp, the block has this name so far and at least
--- so many bytes, and these packets are sent again
+-- what is to be done on the next pipeline: the plan has its datanodes and generation stamp, it is opened so in the name of this client,
+-- and these packets are sent again
 pub record Course : Type 0 where
   pub plan : BlockPlan
-  pub block : Block
-  pub least : ℕ
+  pub opening : Opening
   pub client : List ℕ
-  pub window : ℕ
   pub replay : List Outgoing
 
 -- the same, from its parts
-abbrev pub course_of : BlockPlan → Block → ℕ → List ℕ → ℕ → List Outgoing → Course
-course_of plan block least client window replay =
-    record { plan = plan; block = block; least = least; client = client; window = window; replay = replay }
+abbrev pub course_of : BlockPlan → Opening → List ℕ → List Outgoing → Course
+course_of plan opening client replay = record { plan = plan; opening = opening; client = client; replay = replay }
 
 -- the pipeline stands: the packets were sent on its link, and it is named
 pub record StandsAgain (course : Course) (old : Shown) (rebuilt : BlockPipeline) (new : Shown) : Type 0 where
@@ -80,9 +78,9 @@ pub record StandsAgain (course : Course) (old : Shown) (rebuilt : BlockPipeline)
   pub fresh : IsUnused rebuilt.link old
   pub others : (other : ℕ) → other ≢ rebuilt.link → new.writes other ≡ old.writes other
   pub opened : (write : OpenWrite) × (new.writes rebuilt.link ≡ Some write)
-      × IsRecovery course.block course.plan course.least course.client write.setup
+      × (write.setup ≡ setup_for course.plan course.opening course.client)
   pub going : IsGoing new rebuilt.link rebuilt.core
-  pub window : rebuilt.core.window ≡ course.window
+  pub window : rebuilt.core.window ≡ course.opening.window
   pub pushed : rebuilt.core.pushed ≡ course.replay
   pub goes_on : (packet : Outgoing) (start : ℕ) → FollowFrom start (course.replay ++ packet ∷ []) → FollowsOn new rebuilt.link packet
   pub told : (p : Picture) (known : Known) → old.picture ≡ Some p → Waits p course.plan known

@@ -9,30 +9,35 @@ ghost use Rattle.hdfs_pipeline.specs.Driving.{Drives, IsGoing};
 ghost use Rattle.hdfs_pipeline.specs.Pipelines.{Done};
 ghost use Rattle.hdfs_pipeline.specs.Places.{ArePlaces};
 ghost use Rattle.hdfs_blocks.specs.Carrying.{total};
-ghost use Rattle.hdfs_recovery.specs.Attempts.{task_of, standing, Attempted, GaveNone, GivesNoPlan, RebuiltAfter, GaveNoneAfter};
+ghost use Rattle.hdfs_recovery.specs.Attempts.{task_of, standing, fallen_at, Attempted, GaveNone, GivesNoPlan, RebuiltAfter, GaveNoneAfter};
 ghost use Rattle.hdfs_recovery.specs.Between.{KeepsLinks};
 ghost use Rattle.hdfs_recovery.specs.Plans.{CanRebuild, IsReplay};
-ghost use Rattle.hdfs_recovery.specs.Resuming.{SendsAndNames, SendsOrNamesNot, resending};
+ghost use Rattle.hdfs_recovery.specs.Opening.{rebuilt_of};
+ghost use Rattle.hdfs_recovery.specs.Resuming.{SendsAndNames, SendsOrNamesNot};
 ghost use Rattle.hdfs_recovery.specs.Trying.{LeavesOut, LeavesNone, GivesPlan, Resumed, ResumedNot, FallsFrom, Collects, CollectsNot, course_of, with_plan};
 
 use crate::block_plan::{
     BlockPipeline, BlockPlan, RebuildSettings, WriteFault, copy_at, nodes_without,
 };
-use crate::recovery::{name_pipeline, reopen, restamp};
+use crate::opening::{Opening, open_pipeline};
+use crate::recovery::{name_pipeline, restamp};
 use crate::replacing::complete;
-use crate::replay::{SentAgain, send_again};
-use hdfs_model::{Block, Cluster};
+use crate::replay::{Resending, SentAgain, send_again};
+use hdfs_model::Cluster;
 use hdfs_namenode::NamenodeProtocol;
 use hdfs_pipeline::{PipelineCore, PipelineEnd, drive_end};
 use hdfs_wire::{List, NoMemory, WritePacket};
 use std::alloc::Global;
 
-/// A pipeline of which datanodes failed while packets were sent again on it.
+/// A block whose pipeline has failed, and whose link was ended.
 #[derive(Drop)]
-pub(crate) struct Fallen {
-    pub(crate) plan: BlockPlan,
-    pub(crate) failed: List<u32>,
-    pub(crate) replay: List<WritePacket>,
+pub struct Fallen {
+    /// The block with the datanodes of that pipeline.
+    pub plan: BlockPlan,
+    /// The places of those that failed, counted from 0.
+    pub failed: List<u32>,
+    /// The packets that aren't acknowledged, in order.
+    pub replay: List<WritePacket>,
 }
 
 /// The places of the datanodes of a pipeline that failed, and all packets of it, in order.
@@ -97,30 +102,26 @@ fn leave_out(
     })
 }
 
-/// Sends the packets again on a link that was just set up, and names its pipeline.
+/// Sends the packets again on a link that was just opened, and names its pipeline, whose block has this generation stamp so far.
 fn replay_and_name<C: Cluster>(
     alloc: Global,
     cluster: &mut C,
     namenode: &mut NamenodeProtocol,
     plan: &BlockPlan,
-    block: &Block,
-    core: PipelineCore,
-    link: u64,
-    replay: List<WritePacket>,
+    stamp: u64,
+    task: Resending,
 ) -> Result<SentAgain, WriteFault>
     requires reaches { ReachesAll (proxy_of namenode.old) (C.shown cluster.old) }
-    requires same { block.now.block_id ≡ plan.now.block.b.block_id }
-    requires going { IsGoing (C.shown cluster.old) link core }
-    requires packets { (core.pushed ≡ []) × IsReplay core.window replay }
-    requires fresh { (write : OpenWrite) → (C.shown cluster.old).writes link ≡ Some write → write.end ≡ None }
-    ensures ok { IfOk result (λ sent.
-        SendsAndNames (resending link replay core (C.shown cluster.old)) block.now plan.now sent (C.shown cluster.new)) }
-    ensures err { IfErr result (λ fault.
-        SendsOrNamesNot (resending link replay core (C.shown cluster.old)) block.now plan.now fault (C.shown cluster.new)) }
+    requires going { IsGoing (C.shown cluster.old) task.link task.core }
+    requires packets { (task.core.pushed ≡ []) × IsReplay task.core.window task.replay }
+    requires fresh { (write : OpenWrite) → (C.shown cluster.old).writes task.link ≡ Some write → write.end ≡ None }
+    ensures ok { IfOk result (λ sent. SendsAndNames task stamp plan.now (C.shown cluster.old) sent (C.shown cluster.new)) }
+    ensures err { IfErr result (λ fault. SendsOrNamesNot task stamp plan.now (C.shown cluster.old) fault (C.shown cluster.new)) }
     ensures client { SameClient namenode.old namenode.new }
 {
+    let Resending { core, link, replay } = task;
     let sent = send_again(alloc, cluster, core, link, replay)?;
-    name_pipeline(alloc, cluster, namenode, plan, block)?;
+    name_pipeline(alloc, cluster, namenode, plan, stamp)?;
     Ok(sent)
 }
 
@@ -156,29 +157,27 @@ fn collect<C: Cluster>(cluster: &mut C, link: u64, sent: SentAgain) -> Result<Co
     }
 }
 
-/// Sets the pipeline of the plan up, sends the packets again on it, and names it. The block has this name so far, and at least `least`
-/// bytes.
+/// Opens the pipeline of the plan, sends the packets again on it, and names it.
 fn resume_by<C: Cluster>(
     alloc: Global,
     cluster: &mut C,
     namenode: &mut NamenodeProtocol,
     plan: &BlockPlan,
-    block: &Block,
-    window: u32,
-    least: u64,
+    opening: Opening,
     replay: List<WritePacket>,
 ) -> Result<Resumption, WriteFault>
     requires reaches { ReachesAll (proxy_of namenode.old) (C.shown cluster.old) }
-    requires block { IsToWrite plan.now.block × (block.now.block_id ≡ plan.now.block.b.block_id) }
-    requires packets { (1 ≤ window) × (window ≤ 1000) × IsReplay window replay }
-    ensures ok { IfOk result (λ resumed. Resumed (course_of plan.now block.now least (name_of namenode.old) window replay)
+    requires block { IsToWrite plan.now.block }
+    requires packets { (1 ≤ opening.window) × (opening.window ≤ 1000) × IsReplay opening.window replay }
+    ensures ok { IfOk result (λ resumed. Resumed (course_of plan.now opening (name_of namenode.old) replay)
         (C.shown cluster.old) (with_plan plan.now resumed) (C.shown cluster.new)) }
     ensures err { IfErr result (λ fault. ResumedNot plan.now (C.shown cluster.old) fault (C.shown cluster.new)) }
     ensures client { SameClient namenode.old namenode.new }
 {
     let client = namenode.client_name();
-    let (core, link) = reopen(alloc, cluster, plan, block, window, least, client)?;
-    match replay_and_name(alloc, cluster, namenode, plan, block, core, link, replay) {
+    let (core, link) = open_pipeline(alloc, cluster, plan, opening, client)?;
+    let task = Resending { core, link, replay };
+    match replay_and_name(alloc, cluster, namenode, plan, opening.stamp, task) {
         Ok(sent) if sent.core.has_ended() => {
             let collected = collect(cluster, link, sent)?;
             Ok(Resumption::Fell(collected))
@@ -214,22 +213,18 @@ fn resume<C: Cluster>(
     cluster: &mut C,
     namenode: &mut NamenodeProtocol,
     plan: BlockPlan,
-    block: &Block,
-    window: u32,
-    least: u64,
+    opening: Opening,
     replay: List<WritePacket>,
 ) -> Result<Attempt, WriteFault>
     requires reaches { ReachesAll (proxy_of namenode.old) (C.shown cluster.old) }
-    requires block { IsToWrite plan.block × (block.now.block_id ≡ plan.block.b.block_id) }
-    requires packets { (1 ≤ window) × (window ≤ 1000) × IsReplay window replay }
-    ensures ok { IfOk result (λ attempt. Resumed (course_of plan block.now least (name_of namenode.old) window replay)
+    requires block { IsToWrite plan.block }
+    requires packets { (1 ≤ opening.window) × (opening.window ≤ 1000) × IsReplay opening.window replay }
+    ensures ok { IfOk result (λ attempt. Resumed (course_of plan opening (name_of namenode.old) replay)
         (C.shown cluster.old) attempt (C.shown cluster.new)) }
     ensures err { IfErr result (λ fault. ResumedNot plan (C.shown cluster.old) fault (C.shown cluster.new)) }
     ensures client { SameClient namenode.old namenode.new }
 {
-    match resume_by(
-        alloc, cluster, namenode, &plan, block, window, least, replay,
-    ) {
+    match resume_by(alloc, cluster, namenode, &plan, opening, replay) {
         Ok(resumed) => Ok(with_plan(plan, resumed)),
         Err(fault) => {
             drop(plan);
@@ -278,47 +273,33 @@ fn try_once<C: Cluster>(
     alloc: Global,
     cluster: &mut C,
     namenode: &mut NamenodeProtocol,
-    plan: BlockPlan,
     settings: &RebuildSettings,
-    failed: &[u32],
-    replay: List<WritePacket>,
+    fallen: Fallen,
     unsent: u64,
 ) -> Result<Attempt, WriteFault>
     requires reaches { ReachesAll (proxy_of namenode.old) (C.shown cluster.old) }
-    requires can { CanRebuild plan settings.now failed.now replay unsent }
-    ensures ok { IfOk result (λ attempt. Attempted (task_of settings.now (name_of namenode.old) replay unsent)
-        (standing plan failed.now (C.shown cluster.old)) attempt (C.shown cluster.new)) }
-    ensures err { IfErr result (λ fault. GaveNone (task_of settings.now (name_of namenode.old) replay unsent)
-        (standing plan failed.now (C.shown cluster.old)) fault (C.shown cluster.new)) }
+    requires can { CanRebuild fallen settings.now unsent }
+    ensures ok { IfOk result (λ attempt. Attempted (task_of settings.now (name_of namenode.old) fallen.replay unsent)
+        (fallen_at fallen (C.shown cluster.old)) attempt (C.shown cluster.new)) }
+    ensures err { IfErr result (λ fault. GaveNone (task_of settings.now (name_of namenode.old) fallen.replay unsent)
+        (fallen_at fallen (C.shown cluster.old)) fault (C.shown cluster.new)) }
     ensures client { SameClient namenode.old namenode.new }
 {
-    let Ok(block) = plan.block.b.copy(alloc) else {
-        drop(plan);
-        return Err(WriteFault::NoMemory);
-    };
-    let least = block.num_bytes - (total(replay.as_slice()) + unsent);
-    match next_plan(alloc, cluster, namenode, plan, settings, failed) {
-        Ok(plan) => resume(
-            alloc,
-            cluster,
-            namenode,
-            plan,
-            &block,
-            settings.window,
-            least,
-            replay,
-        ),
-        Err(fault) => Err(fault),
-    }
+    let Fallen {
+        plan,
+        failed,
+        replay,
+    } = fallen;
+    let least = plan.block.b.num_bytes - (total(replay.as_slice()) + unsent);
+    let opening = Opening::rebuilt(plan.block.b.generation_stamp, least, settings.window);
+    let plan = next_plan(alloc, cluster, namenode, plan, settings, failed.as_slice())?;
+    resume(alloc, cluster, namenode, plan, opening, replay)
 }
 
-/// Rebuilds the pipeline of a block after the datanodes at some of its places, counted from 0, have failed (upstream's block writer does
-/// where a pipeline fails). They are left out; where one is due, a datanode is asked for and is given the block; the block gets a
-/// greater generation stamp; a pipeline is set up; the packets `replay`, which aren't acknowledged, are sent again in order; and the
-/// pipeline is named. Where datanodes of it fail meanwhile, it is rebuilt again. Behind `replay` the block has `unsent` bytes that
-/// weren't sent.
-///
-/// The link of the failed pipeline has been ended before.
+/// Rebuilds the pipeline of a block that has fallen (upstream's block writer does where a pipeline fails). The datanodes that failed are
+/// left out; where one is due, a datanode is asked for and is given the block; the block gets a greater generation stamp; a pipeline is
+/// opened; the packets that aren't acknowledged are sent again in order; and the pipeline is named. Where datanodes of it fail
+/// meanwhile, it is rebuilt again. Behind those packets the block has `unsent` bytes that weren't sent.
 ///
 /// Errors: `RebuildLimit` where it was rebuilt as often as it may be; `AllNodes` where no datanode is left; `NoReplacement` where one was
 /// due, none came or it wasn't given the block, and writes don't go on with best effort; `Link` and `Setup` where the set-up broke or
@@ -327,41 +308,21 @@ pub fn rebuild<C: Cluster>(
     alloc: Global,
     cluster: &mut C,
     namenode: &mut NamenodeProtocol,
-    plan: BlockPlan,
     settings: &RebuildSettings,
-    failed: List<u32>,
-    replay: List<WritePacket>,
+    fallen: Fallen,
     unsent: u64,
 ) -> Result<BlockPipeline, WriteFault>
     requires reaches { ReachesAll (proxy_of namenode.old) (C.shown cluster.old) }
-    requires can { CanRebuild plan settings.now failed replay unsent }
-    ensures ok { IfOk result (λ rebuilt. RebuiltAfter (task_of settings.now (name_of namenode.old) replay unsent)
-        (standing plan failed (C.shown cluster.old)) rebuilt (C.shown cluster.new)) }
-    ensures err { IfErr result (λ fault. GaveNoneAfter (task_of settings.now (name_of namenode.old) replay unsent)
-        (standing plan failed (C.shown cluster.old)) fault (C.shown cluster.new)) }
+    requires can { CanRebuild fallen settings.now unsent }
+    ensures ok { IfOk result (λ rebuilt. RebuiltAfter (task_of settings.now (name_of namenode.old) fallen.replay unsent)
+        (fallen_at fallen (C.shown cluster.old)) rebuilt (C.shown cluster.new)) }
+    ensures err { IfErr result (λ fault. GaveNoneAfter (task_of settings.now (name_of namenode.old) fallen.replay unsent)
+        (fallen_at fallen (C.shown cluster.old)) fault (C.shown cluster.new)) }
     ensures client { SameClient namenode.old namenode.new }
 {
-    let mut fallen = Fallen {
-        plan,
-        failed,
-        replay,
-    };
-    loop {
-        let Fallen {
-            plan,
-            failed,
-            replay,
-        } = fallen;
-        match try_once(
-            alloc,
-            cluster,
-            namenode,
-            plan,
-            settings,
-            failed.as_slice(),
-            replay,
-            unsent,
-        )? {
+    let mut fallen = fallen;
+    'attempts: loop {
+        match try_once(alloc, cluster, namenode, settings, fallen, unsent)? {
             Attempt::Stands(rebuilt) => return Ok(rebuilt),
             Attempt::Fell(next) => fallen = next,
         }

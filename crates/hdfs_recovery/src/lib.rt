@@ -3,9 +3,11 @@
 
 mod attempts;
 mod block_plan;
+mod opening;
 mod recovery;
 mod replacing;
 mod replay;
 
-pub use attempts::rebuild;
+pub use attempts::{Fallen, rebuild};
 pub use block_plan::{BlockPipeline, BlockPlan, RebuildSettings, WriteFault, nodes_without};
+pub use opening::{Opening, open_pipeline};

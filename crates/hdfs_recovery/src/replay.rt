@@ -11,6 +11,14 @@ use hdfs_pipeline::{PipelineCore, drive_push};
 use hdfs_wire::{List, NoMemory, WritePacket};
 use std::alloc::Global;
 
+/// Packets that are to be sent again on a link that was just opened.
+#[derive(Drop)]
+pub(crate) struct Resending {
+    pub(crate) core: PipelineCore,
+    pub(crate) link: u64,
+    pub(crate) replay: List<WritePacket>,
+}
+
 /// A pipeline on which packets were sent again, and those that weren't sent since it had failed.
 #[derive(Drop)]
 pub(crate) struct SentAgain {

@@ -4,13 +4,11 @@ use Rattle.hdfs_namenode.specs.Clients.{SameClient, name_of}
 use Rattle.hdfs_recovery.proofs.Repeating.{FellSoFar}
 use Rattle.hdfs_recovery.proofs.attempts.rebuild.Given as goal
 
-abbrev pub invariant-loop-failed : goal.invariant-loop-failed
-invariant-loop-failed g l = record {
-  fell :
-      FellSoFar l.fn.plan l.settings (name_of l.fn.namenode) l.fn.failed l.fn.replay l.unsent (g.C.Cluster.shown l.fn.cluster) l.fallen
-      (g.C.Cluster.shown l.cluster);
+abbrev pub invariant-attempts : goal.invariant-attempts
+invariant-attempts g l = record {
+  fell : FellSoFar l.fn.fallen l.settings (name_of l.fn.namenode) l.unsent (g.C.Cluster.shown l.fn.cluster) l.fallen (g.C.Cluster.shown l.cluster);
   client : SameClient l.fn.namenode l.namenode;
 }
 
-abbrev pub decreases-loop-failed : goal.decreases-loop-failed
-decreases-loop-failed g l = l.settings.rebuild_limit - l.fallen.plan.rebuilds
+abbrev pub decreases-attempts : goal.decreases-attempts
+decreases-attempts g l = l.settings.rebuild_limit - l.fallen.plan.rebuilds

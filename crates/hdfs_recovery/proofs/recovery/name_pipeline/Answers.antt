@@ -14,10 +14,12 @@ pub returns-in-Ok-clause-links : goal.returns-in-Ok-clause-links
 returns-in-Ok-clause-links g c = asked_links (c.in-Ok.ensures.came c.requires.reaches)
 
 pub returns-in-Ok-clause-names : goal.returns-in-Ok-clause-names
-returns-in-Ok-clause-names g c = named c.args.plan.now c.requires.same (search rules) (c.in-Ok.ensures.came c.requires.reaches)
+returns-in-Ok-clause-names g c =
+    named c.args.plan.now (search rules) (rw c.in_ok-block.ensures at (c.in-Ok.ensures.came c.requires.reaches))
 
 pub returns-clause-links : goal.returns-clause-links
 returns-clause-links g c = asked_links (c.in-Err.ensures.came c.requires.reaches)
 
 pub returns-clause-err : goal.returns-clause-err
-returns-clause-err g c = named_not c.args.plan.now c.requires.same (search rules) c.fault_of_ask.ensures (c.in-Err.ensures.came c.requires.reaches)
+returns-clause-err g c =
+    named_not c.args.plan.now (search rules) c.fault_of_ask.ensures (rw c.in_ok-block.ensures at (c.in-Err.ensures.came c.requires.reaches))

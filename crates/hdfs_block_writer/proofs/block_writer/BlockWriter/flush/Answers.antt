@@ -1,5 +1,6 @@
 -- The goals of BlockWriter::flush.
 use Rattle.std.proofs.Common.{rules, ◌≡◌, ◌+◌, Some, None, length, arith, ap, refl}
+use Rattle.std.proofs.lemmas.Result.{err_from_is_err_and}
 use Rattle.hdfs_block_writer.specs.Packing.{filling_of}
 use Rattle.hdfs_block_writer.proofs.Sent.{can_push, holds_same, holds_sent, not_pushed, stays_full, wrote_sent}
 use Rattle.hdfs_block_writer.proofs.block_writer.BlockWriter.flush.Goals as goal
@@ -32,48 +33,49 @@ overflow_add-self g c =
     let kept = (c.requires.holds c.in-Some-take.pipe piped).0 in
     omega (arith, kept.counted, kept.within.0, kept.within.1)
 
-pub returns-in-Ok-clause-holds : goal.returns-in-Ok-clause-holds
-returns-in-Ok-clause-holds g c =
+pub returns-clause-holds : goal.returns-clause-holds
+returns-clause-holds g c =
     let w = c.args.self.now in
     let piped : w.pipe ≡ Some c.in-Some-take.pipe = search rules in
     let is : w.packet ≡ Some c.in-Some.packet = search rules in
     let held = c.requires.holds c.in-Some-take.pipe piped in (
-      holds_sent w (record w { pipe = c.replace.new.self; packet = c.take.new.self; seqno = w.seqno + 1 }) c.in-Some-take.pipe c.in-Ok.pipe
-          c.in-Some.packet (g.C.Cluster.shown c.args.cluster.now) (g.C.Cluster.shown c.push.new.cluster) held.0 held.1 is c.in-Ok.ensures.ok
+      holds_sent w (record w { pipe = c.replace.new.self; packet = c.take.new.self; seqno = w.seqno + 1 }) c.in-Some-take.pipe c.in_ok-pipe.pipe
+          c.in-Some.packet (g.C.Cluster.shown c.args.cluster.now) (g.C.Cluster.shown c.push.new.cluster) held.0 held.1 is c.in_ok-pipe.ensures.ok
           (record { settings = refl; block_size = refl; chunk = refl; packet_size = refl }) refl refl c.take.ensures.after c.replace.ensures.after,
       c.take.ensures.after,
     )
 
-pub returns-in-Ok-clause-full : goal.returns-in-Ok-clause-full
-returns-in-Ok-clause-full g c =
+pub returns-clause-full : goal.returns-clause-full
+returns-clause-full g c =
     let w = c.args.self.now in
     let piped : w.pipe ≡ Some c.in-Some-take.pipe = search rules in
     let is : w.packet ≡ Some c.in-Some.packet = search rules in
     let held = c.requires.holds c.in-Some-take.pipe piped in
-    stays_full w (record w { pipe = c.replace.new.self; packet = c.take.new.self; seqno = w.seqno + 1 }) c.in-Some-take.pipe c.in-Ok.pipe
-    c.in-Some.packet (g.C.Cluster.shown c.args.cluster.now) (g.C.Cluster.shown c.push.new.cluster) held.0 held.1 is c.in-Ok.ensures.ok
+    stays_full w (record w { pipe = c.replace.new.self; packet = c.take.new.self; seqno = w.seqno + 1 }) c.in-Some-take.pipe c.in_ok-pipe.pipe
+    c.in-Some.packet (g.C.Cluster.shown c.args.cluster.now) (g.C.Cluster.shown c.push.new.cluster) held.0 held.1 is c.in_ok-pipe.ensures.ok
     (record { settings = refl; block_size = refl; chunk = refl; packet_size = refl }) refl refl c.take.ensures.after c.replace.ensures.after piped
 
-pub returns-in-Ok-clause-wrote : goal.returns-in-Ok-clause-wrote
-returns-in-Ok-clause-wrote g c =
+pub returns-clause-wrote : goal.returns-clause-wrote
+returns-clause-wrote g c =
     let w = c.args.self.now in
     let piped : w.pipe ≡ Some c.in-Some-take.pipe = search rules in
     let is : w.packet ≡ Some c.in-Some.packet = search rules in
     let held = c.requires.holds c.in-Some-take.pipe piped in
-    wrote_sent w (record w { pipe = c.replace.new.self; packet = c.take.new.self; seqno = w.seqno + 1 }) c.in-Some-take.pipe c.in-Ok.pipe
-    c.in-Some.packet (g.C.Cluster.shown c.args.cluster.now) (g.C.Cluster.shown c.push.new.cluster) held.0 held.1 is c.in-Ok.ensures.ok
+    wrote_sent w (record w { pipe = c.replace.new.self; packet = c.take.new.self; seqno = w.seqno + 1 }) c.in-Some-take.pipe c.in_ok-pipe.pipe
+    c.in-Some.packet (g.C.Cluster.shown c.args.cluster.now) (g.C.Cluster.shown c.push.new.cluster) held.0 held.1 is c.in_ok-pipe.ensures.ok
     (record { settings = refl; block_size = refl; chunk = refl; packet_size = refl }) refl refl c.take.ensures.after c.replace.ensures.after piped
 
-pub returns-in-Err-clause-err : goal.returns-in-Err-clause-err
-returns-in-Err-clause-err g c =
+pub returns-in_err-pipe-clause-err : goal.returns-in_err-pipe-clause-err
+returns-in_err-pipe-clause-err g c =
+    let p = err_from_is_err_and c.from_residual.result c.from_residual.ensures.1 in
     let w = c.args.self.now in
     let piped : w.pipe ≡ Some c.in-Some-take.pipe = search rules in
     let is : w.packet ≡ Some c.in-Some.packet = search rules in
     let held = c.requires.holds c.in-Some-take.pipe piped in
-    record {
+    rw (p.1, p.2) (record {
       failed = c.take-2.ensures.after;
       keeps = record { settings = refl; block_size = refl; chunk = refl; packet_size = refl };
       gave_up = not_pushed w c.in-Some-take.pipe c.in-Some.packet piped held.0.filled (omega (arith, held.1.starts))
           (ap filling_of is) (held.0.packet c.in-Some.packet is).next.begins
-          (g.C.Cluster.shown c.args.cluster.now) (g.C.Cluster.shown c.push.new.cluster) c.in-Err.fault c.in-Err.ensures.err;
-    }
+          (g.C.Cluster.shown c.args.cluster.now) (g.C.Cluster.shown c.push.new.cluster) c.in_err-pipe.field-0.0 c.in_err-pipe.ensures.err;
+    })

@@ -1,5 +1,6 @@
 -- The goals of BlockWriter::flush_and_end.
 use Rattle.std.proofs.Common.{[]}
+use Rattle.std.proofs.lemmas.Result.{err_from_is_err_and}
 use Rattle.hdfs_namenode.proofs.Services.{same_client_trans}
 use Rattle.hdfs_block_writer.specs.Written.{Closes, GaveUp, WaitsForLast}
 use Rattle.hdfs_block_writer.proofs.Closed.{closes_after}
@@ -11,32 +12,37 @@ use Rattle.hdfs_block_writer.proofs.block_writer.BlockWriter.flush_and_end.Goals
 pub flush-requires-clause-holds : goal.flush-requires-clause-holds
 flush-requires-clause-holds g c = λ pipe is. let h = c.requires.stands pipe is in (h.0, h.1)
 
-pub returns-in-Ok-clause-closed : goal.returns-in-Ok-clause-closed
-returns-in-Ok-clause-closed g c =
+pub returns-in_err-flush-clause-err : goal.returns-in_err-flush-clause-err
+returns-in_err-flush-clause-err g c =
+    let p = err_from_is_err_and c.from_residual.result c.from_residual.ensures.1 in
+    rw (p.1, p.2) c.in_err-flush.ensures.err.gave_up
+
+pub returns-clause-closed : goal.returns-clause-closed
+returns-clause-closed g c =
     let a = g.C.Cluster.shown c.args.cluster.now in
     let b = g.C.Cluster.shown c.flush.new.cluster in
     let z = g.C.Cluster.shown c.end.new.cluster in
     ok_by (λ block. Closes b c.flush.new.self block z) (λ block. Closes a c.args.self.now block z) c.end.result
-    (λ block closed. closes_after a b z c.args.self.now c.flush.new.self block c.in-Ok.ensures.wrote closed) c.end.ensures.closed
+    (λ block closed. closes_after a b z c.args.self.now c.flush.new.self block c.in_ok-flush.ensures.wrote closed) c.end.ensures.closed
 
-pub returns-in-Ok-clause-last : goal.returns-in-Ok-clause-last
-returns-in-Ok-clause-last g c =
+pub returns-clause-last : goal.returns-clause-last
+returns-clause-last g c =
     on_ok_by (WaitsForLast g.C.Cluster.shown g.C.Cluster.ends c.flush.new.cluster c.flush.new.self c.end.new.cluster)
     (WaitsForLast g.C.Cluster.shown g.C.Cluster.ends c.args.cluster.now c.args.self.now c.end.new.cluster) c.end.result
     (λ last.
     last_after g.C.Cluster.shown g.C.Cluster.ends c.args.cluster.now c.flush.new.cluster c.end.new.cluster c.args.self.now c.flush.new.self
-    c.in-Ok.ensures.wrote last)
+    c.in_ok-flush.ensures.wrote last)
     c.end.ensures.last
 
-pub returns-in-Ok-clause-err : goal.returns-in-Ok-clause-err
-returns-in-Ok-clause-err g c =
+pub returns-clause-err : goal.returns-clause-err
+returns-clause-err g c =
     let a = g.C.Cluster.shown c.args.cluster.now in
     let b = g.C.Cluster.shown c.flush.new.cluster in
     let z = g.C.Cluster.shown c.end.new.cluster in
     err_by (λ fault. GaveUp b c.flush.new.self fault z) (λ fault. GaveUp a c.args.self.now fault z) c.end.result
-    (λ fault gave. gave_up_after a b c.args.self.now c.flush.new.self [] c.in-Ok.ensures.wrote z fault gave) c.end.ensures.err
+    (λ fault gave. gave_up_after a b c.args.self.now c.flush.new.self [] c.in_ok-flush.ensures.wrote z fault gave) c.end.ensures.err
 
-pub returns-in-Ok-clause-client : goal.returns-in-Ok-clause-client
-returns-in-Ok-clause-client g c =
+pub returns-clause-client : goal.returns-clause-client
+returns-clause-client g c =
     same_client_trans c.args.namenode.now c.flush.new.namenode
     c.end.new.namenode c.flush.ensures.client c.end.ensures.client

@@ -18,8 +18,8 @@ returns-clause-stands g c =
       seqno = 0;
     } in
     new_stands c.args.plan c.args.settings.now c.in-Ok.opened.1 c.client_name-client.result.now w c.in-Ok.opened.0
-    (g.C.Cluster.shown c.args.cluster.now) (g.C.Cluster.shown c.open.new.cluster) c.requires.plan.0 c.requires.plan.1
-    (c.requires.sizes.1, c.requires.sizes.2) c.in-Ok.ensures.core c.in-Ok.ensures.opened refl refl refl refl c.requires.sizes.0 refl
+    (g.C.Cluster.shown c.args.cluster.now) (g.C.Cluster.shown c.open_pipeline.new.cluster) c.requires.plan.0 c.requires.plan.1
+    (c.requires.sizes.1, c.requires.sizes.2) (rw c.first-opening.ensures at c.in-Ok.ensures.core) (rw c.first-opening.ensures at c.in-Ok.ensures.opened) refl refl refl refl c.requires.sizes.0 refl
     c.requires.size
 
 pub returns-clause-begins : goal.returns-clause-begins
@@ -36,5 +36,5 @@ returns-clause-begins g c =
       seqno = 0;
     } in
     new_begins c.args.plan c.args.settings.now c.in-Ok.opened.1 c.client_name-client.result.now w c.in-Ok.opened.0
-    (g.C.Cluster.shown c.args.cluster.now) (g.C.Cluster.shown c.open.new.cluster) c.requires.plan.0 c.requires.plan.1
-    (c.requires.sizes.1, c.requires.sizes.2) c.in-Ok.ensures.core c.in-Ok.ensures.opened refl refl refl refl
+    (g.C.Cluster.shown c.args.cluster.now) (g.C.Cluster.shown c.open_pipeline.new.cluster) c.requires.plan.0 c.requires.plan.1
+    (c.requires.sizes.1, c.requires.sizes.2) (rw c.first-opening.ensures at c.in-Ok.ensures.core) (rw c.first-opening.ensures at c.in-Ok.ensures.opened) refl refl refl refl

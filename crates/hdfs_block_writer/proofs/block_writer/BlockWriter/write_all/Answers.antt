@@ -1,5 +1,6 @@
 -- The goals of BlockWriter::write_all.
 use Rattle.std.proofs.Common.{ℕ, List, [], ◌++◌, length, take, refl, sym, ◌∙◌, ap, arith}
+use Rattle.std.proofs.lemmas.Result.{err_from_is_err_and}
 use Rattle.std.proofs.lemmas.List.{length-drop, take_rest, length-take-le}
 use Rattle.hdfs_namenode.specs.Clients.{proxy_of}
 use Rattle.hdfs_namenode.proofs.Services.{reaches_later, same_client_refl, same_client_trans}
@@ -22,10 +23,10 @@ pieces-preserved g c =
     let t = g.C.Cluster.shown c.pieces.cluster in
     let u = g.C.Cluster.shown c.write_piece.new.cluster in
     let before = c.pieces.invariant in
-    let now = c.in-Ok.ensures in
+    let now = c.in_ok-taken.ensures in
     let taken = now.wrote.1 in
     let wrote = now.wrote.2 in
-    let n = c.in-Ok.taken in
+    let n = c.in_ok-taken.taken in
     let rest = c.pieces.rest.now in
     let told = before.told in
     record {
@@ -44,8 +45,10 @@ pieces-preserved g c =
       );
     }
 
-pub returns-in-Err-clause-err : goal.returns-in-Err-clause-err
-returns-in-Err-clause-err g c =
+pub returns-in_err-taken-clause-err : goal.returns-in_err-taken-clause-err
+returns-in_err-taken-clause-err g c =
+    let p = err_from_is_err_and c.from_residual.result c.from_residual.ensures.1 in
     let told = c.pieces.invariant.told in
-    fails_after (g.C.Cluster.shown c.args.cluster.now) (g.C.Cluster.shown c.pieces.cluster) c.args.self.now c.pieces.self told.0 told.2
-    (g.C.Cluster.shown c.write_piece.new.cluster) c.write_piece.new.self c.in-Err.fault c.in-Err.ensures.err
+    rw (p.1, p.2)
+    (fails_after (g.C.Cluster.shown c.args.cluster.now) (g.C.Cluster.shown c.pieces.cluster) c.args.self.now c.pieces.self told.0 told.2
+    (g.C.Cluster.shown c.write_piece.new.cluster) c.write_piece.new.self c.in_err-taken.field-0.0 c.in_err-taken.ensures.err)

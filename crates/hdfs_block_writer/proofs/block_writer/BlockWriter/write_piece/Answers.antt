@@ -1,6 +1,7 @@
 -- The goals of BlockWriter::write_piece.
 use Rattle.std.proofs.Common.{[], take, sym, ◌∙◌, subst}
 use Rattle.std.proofs.lemmas.List.{append-nil}
+use Rattle.std.proofs.lemmas.Result.{err_from_is_err_and}
 use Rattle.std.specs.Prelude.{ℕ, List}
 use Rattle.hdfs_block_writer.specs.Written.{Wrote}
 use Rattle.hdfs_block_writer.proofs.Sent.{pipe_of, holds_filled, is_open}
@@ -16,12 +17,12 @@ fill-requires-clause-space g c = let pipe = pipe_of c.args.self.now c.requires.o
 pub fail-requires : goal.fail-requires
 fail-requires g c = λ pipe is.
     is_open c.args.self.now.settings (g.C.Cluster.shown c.args.cluster.now) pipe []
-    (c.requires.stands pipe (sym c.in-Err.ensures.same.0 ∙ is)).1.standing
+    (c.requires.stands pipe (sym c.fill.ensures.same.0 ∙ is)).1.standing
 
-pub returns-in-Err-clause-err : goal.returns-in-Err-clause-err
-returns-in-Err-clause-err g c =
+pub returns-in_default-clause-err : goal.returns-in_default-clause-err
+returns-in_default-clause-err g c =
     ended_fails c.args.self.now c.fill.new.self c.fail.new.self (g.C.Cluster.shown c.args.cluster.now) (g.C.Cluster.shown c.fail.new.cluster)
-    c.in-Err.ensures.same.0 c.in-Err.ensures.same.1 c.fail.ensures.failed c.fail.ensures.ended
+    c.fill.ensures.same.0 c.fill.ensures.same.1 c.fail.ensures.failed c.fail.ensures.ended
 
 pub flush_full-requires-clause-holds : goal.flush_full-requires-clause-holds
 flush_full-requires-clause-holds g c =
@@ -31,8 +32,8 @@ flush_full-requires-clause-holds g c =
 pub flush_full-requires-clause-full : goal.flush_full-requires-clause-full
 flush_full-requires-clause-full g c = λ pipe is. (c.requires.stands pipe (sym c.in-Ok.ensures.fills.pipe ∙ is)).3
 
-pub returns-in-Ok-flush_full-clause-wrote : goal.returns-in-Ok-flush_full-clause-wrote
-returns-in-Ok-flush_full-clause-wrote g c =
+pub returns-clause-wrote : goal.returns-clause-wrote
+returns-clause-wrote g c =
     let a = g.C.Cluster.shown c.args.cluster.now in
     let b = g.C.Cluster.shown c.flush_full.new.cluster in
     let w = c.args.self.now in
@@ -42,15 +43,17 @@ returns-in-Ok-flush_full-clause-wrote g c =
       c.in-Ok.ensures.count.0,
       c.in-Ok.ensures.count.1,
       subst (λ (bytes : List ℕ). Wrote a w bytes b c.flush_full.new.self) (append-nil more)
-          (wrote_trans a a w c.fill.new.self more filled b c.flush_full.new.self [] c.in-Ok-flush_full.ensures.wrote),
+          (wrote_trans a a w c.fill.new.self more filled b c.flush_full.new.self [] c.in_ok-flush_full.ensures.wrote),
     )
 
-pub returns-in-Err-flush_full-clause-err : goal.returns-in-Err-flush_full-clause-err
-returns-in-Err-flush_full-clause-err g c =
+pub returns-in_err-flush_full-clause-err : goal.returns-in_err-flush_full-clause-err
+returns-in_err-flush_full-clause-err g c =
+    let p = err_from_is_err_and c.from_residual.result c.from_residual.ensures.1 in
     let a = g.C.Cluster.shown c.args.cluster.now in
     let w = c.args.self.now in
     let more = take c.in-Ok.count c.args.bytes.now in
     let pipe = pipe_of w c.requires.open in
     let filled = fill_wrote a w c.fill.new.self more (c.requires.stands pipe.0 pipe.1).0.filled c.in-Ok.ensures.fills in
-    fails_after a a w c.fill.new.self more filled (g.C.Cluster.shown c.flush_full.new.cluster) c.flush_full.new.self
-    c.in-Err-flush_full.fault c.in-Err-flush_full.ensures.err
+    rw (p.1, p.2)
+    (fails_after a a w c.fill.new.self more filled (g.C.Cluster.shown c.flush_full.new.cluster) c.flush_full.new.self
+    c.in_err-flush_full.field-0.0 c.in_err-flush_full.ensures.err)

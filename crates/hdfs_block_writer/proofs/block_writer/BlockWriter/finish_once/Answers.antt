@@ -1,7 +1,8 @@
--- The goals of finish_once.
+-- The goals of BlockWriter::finish_once.
 use Rattle.std.proofs.Common.{◌≡◌, ◌≢◌, [], length, sym, ◌∙◌, ap, subst, arith}
 use Rattle.std.proofs.lemmas.Bool.{eqb-true, eqb-false}
 use Rattle.std.proofs.lemmas.List.{nil_from_length}
+use Rattle.std.proofs.lemmas.Result.{err_from_is_err_and}
 use Rattle.hdfs_namenode.specs.Clients.{name_of, proxy_of}
 use Rattle.hdfs_namenode.proofs.Services.{reaches_same, same_service_refl}
 use Rattle.hdfs_recovery.specs.declared.block_plan.BlockPlan.{BlockPlan}
@@ -10,12 +11,12 @@ use Rattle.hdfs_block_writer.proofs.EndedRebuilt.{bad_is, recovers_is}
 use Rattle.hdfs_block_writer.proofs.Finished.{done_is, finishes, fewer_bytes, once_bad, once_given_up, once_rebuilt, once_stopped}
 use Rattle.hdfs_block_writer.proofs.Received.{receives}
 use Rattle.hdfs_block_writer.proofs.Standing.{can_rebuild_standing, standing_drove}
-use Rattle.hdfs_block_writer.proofs.pushing.finish_once.Goals as goal
+use Rattle.hdfs_block_writer.proofs.block_writer.BlockWriter.finish_once.Goals as goal
 
 pub returns-in-Err-clause-err : goal.returns-in-Err-clause-err
 returns-in-Err-clause-err g c =
     let s = c.in-Err.ensures.err in
-    once_stopped c.args.settings.now c.args.pipe (g.C.Cluster.shown c.args.cluster.now) (g.C.Cluster.shown s.before)
+    once_stopped c.args.self.now.settings c.args.pipe (g.C.Cluster.shown c.args.cluster.now) (g.C.Cluster.shown s.before)
     (g.C.Cluster.shown c.drive_end.new.cluster) c.requires.standing s.stopped
     (g.met.C.Cluster.ends_row s.before c.drive_end.new.cluster c.args.pipe.link s.ended)
 
@@ -28,7 +29,7 @@ returns-then-is_empty-clause-ok g c =
     let e = g.met.C.Cluster.ends_row d.before c.drive_end.new.cluster c.args.pipe.link d.ended in
     let r = recovers_is d.last c.in-Ok-Recover.field-0 c.in-Ok-Recover.failed c.in-Ok-Recover.replay d.is_core d.has_ended d.is c.in-Ok-Recover.field-0-is in
     let none : length c.as_slice.result.now ≡ 0 = eqb-true (length c.as_slice.result.now) 0 (sym c.is_empty.ensures ∙ c.if-is_empty.true) in
-    finishes c.args.settings.now c.args.pipe a z m d.last c.requires.standing c.requires.ending.0 d.drove e d.is_core
+    finishes c.args.self.now.settings c.args.pipe a z m d.last c.requires.standing c.requires.ending.0 d.drove e d.is_core
     (sym r.1 ∙ nil_from_length c.in-Ok-Recover.replay (ap length (sym c.as_slice.ensures) ∙ none))
 
 pub returns-then-is_empty-clause-last : goal.returns-then-is_empty-clause-last
@@ -75,27 +76,29 @@ rebuild-requires-clause-can g c =
     let m = g.C.Cluster.shown c.drive_end.new.cluster in
     let e = g.met.C.Cluster.ends_row d.before c.drive_end.new.cluster c.args.pipe.link d.ended in
     let r = recovers_is d.last c.in-Ok-Recover.field-0 c.in-Ok-Recover.failed c.in-Ok-Recover.replay d.is_core d.has_ended d.is c.in-Ok-Recover.field-0-is in
-    subst (λ (plan : BlockPlan). CanRebuild plan c.args.settings.now c.in-Ok-Recover.failed c.in-Ok-Recover.replay 0)
+    subst (λ (plan : BlockPlan). CanRebuild (record { plan = plan; failed = c.in-Ok-Recover.failed; replay = c.in-Ok-Recover.replay }) c.args.self.now.settings 0)
     (sym c.with_length-plan.ensures)
-    (can_rebuild_standing c.args.settings.now (record { plan = c.args.pipe.plan; core = d.last; link = c.args.pipe.link }) z
-    (standing_drove c.args.settings.now c.args.pipe [] [] d.last a z d.drove d.is_core c.requires.standing)
-    c.in-Ok-Recover.failed r.0 c.args.length 0 c.in-Ok-Recover.replay r.1 (
-      fewer_bytes c.args.settings.now c.args.pipe a z m d.last c.requires.standing c.requires.ending.0 d.drove e d.is_core c.args.length c.requires.few.0,
+    (can_rebuild_standing c.args.self.now.settings (record { plan = c.args.pipe.plan; core = d.last; link = c.args.pipe.link }) z
+    (standing_drove c.args.self.now.settings c.args.pipe [] [] d.last a z d.drove d.is_core c.requires.standing)
+    c.in-Ok-Recover.failed r.0 c.args.self.now.length 0 c.in-Ok-Recover.replay r.1 (
+      fewer_bytes c.args.self.now.settings c.args.pipe a z m d.last c.requires.standing c.requires.ending.0 d.drove e d.is_core c.args.self.now.length c.requires.few.0,
       c.requires.few.1,
     ))
 
-pub returns-in-Err-rebuild-clause-err : goal.returns-in-Err-rebuild-clause-err
-returns-in-Err-rebuild-clause-err g c =
+pub returns-in_err-rebuilt-in-Ok-Recover-clause-err : goal.returns-in_err-rebuilt-in-Ok-Recover-clause-err
+returns-in_err-rebuilt-in-Ok-Recover-clause-err g c =
+    let p = err_from_is_err_and c.from_residual.result c.from_residual.ensures.1 in
     let d = c.in-Ok-Recover.ensures.drove in
     let a = g.C.Cluster.shown c.args.cluster.now in
     let z = g.C.Cluster.shown d.before in
     let m = g.C.Cluster.shown c.drive_end.new.cluster in
     let e = g.met.C.Cluster.ends_row d.before c.drive_end.new.cluster c.args.pipe.link d.ended in
     let r = recovers_is d.last c.in-Ok-Recover.field-0 c.in-Ok-Recover.failed c.in-Ok-Recover.replay d.is_core d.has_ended d.is c.in-Ok-Recover.field-0-is in
-    once_given_up c.args.settings.now c.args.pipe a z m d.last c.requires.standing c.requires.ending.0 d.drove e d.is_core
-    c.in-Ok-Recover.failed r.0 (name_of c.args.namenode.now) c.in-Ok-Recover.replay c.args.length 0 c.requires.few.1 c.with_length-plan.result r.1
-    c.with_length-plan.ensures c.in-Err-rebuild.fault (g.C.Cluster.shown c.rebuild.new.cluster)
-    c.in-Err-rebuild.ensures.err
+    rw (p.1, p.2)
+    (once_given_up c.args.self.now.settings c.args.pipe a z m d.last c.requires.standing c.requires.ending.0 d.drove e d.is_core
+    c.in-Ok-Recover.failed r.0 (name_of c.args.namenode.now) c.in-Ok-Recover.replay c.args.self.now.length 0 c.requires.few.1 c.with_length-plan.result r.1
+    c.with_length-plan.ensures c.in_err-rebuilt-in-Ok-Recover.field-0.0 (g.C.Cluster.shown c.rebuild.new.cluster)
+    c.in_err-rebuilt-in-Ok-Recover.ensures.err)
 
 pub returns-in-Ok-Success-clause-ok : goal.returns-in-Ok-Success-clause-ok
 returns-in-Ok-Success-clause-ok g c =
@@ -104,7 +107,7 @@ returns-in-Ok-Success-clause-ok g c =
     let z = g.C.Cluster.shown d.before in
     let m = g.C.Cluster.shown c.drive_end.new.cluster in
     let e = g.met.C.Cluster.ends_row d.before c.drive_end.new.cluster c.args.pipe.link d.ended in
-    finishes c.args.settings.now c.args.pipe a z m d.last c.requires.standing c.requires.ending.0 d.drove e d.is_core
+    finishes c.args.self.now.settings c.args.pipe a z m d.last c.requires.standing c.requires.ending.0 d.drove e d.is_core
     (d.none_left c.requires.ending.0 (done_is d.last c.in-Ok-Success.field-0 d.has_ended d.is c.in-Ok-Success.field-0-is))
 
 pub returns-in-Ok-Bad-clause-err : goal.returns-in-Ok-Bad-clause-err
@@ -114,11 +117,11 @@ returns-in-Ok-Bad-clause-err g c =
     let z = g.C.Cluster.shown d.before in
     let m = g.C.Cluster.shown c.drive_end.new.cluster in
     let e = g.met.C.Cluster.ends_row d.before c.drive_end.new.cluster c.args.pipe.link d.ended in
-    once_bad c.args.settings.now c.args.pipe a z m d.last c.requires.standing c.requires.ending.0 d.drove e d.is_core c.in-Ok-Bad.seqno _
+    once_bad c.args.self.now.settings c.args.pipe a z m d.last c.requires.standing c.requires.ending.0 d.drove e d.is_core c.in-Ok-Bad.seqno _
     (bad_is d.last c.in-Ok-Bad.field-0 c.in-Ok-Bad.seqno d.has_ended d.is c.in-Ok-Bad.field-0-is)
 
-pub returns-in-Ok-clause-ok : goal.returns-in-Ok-clause-ok
-returns-in-Ok-clause-ok g c =
+pub returns-in_ok-rebuilt-in-Ok-Recover-clause-ok : goal.returns-in_ok-rebuilt-in-Ok-Recover-clause-ok
+returns-in_ok-rebuilt-in-Ok-Recover-clause-ok g c =
     let d = c.in-Ok-Recover.ensures.drove in
     let a = g.C.Cluster.shown c.args.cluster.now in
     let z = g.C.Cluster.shown d.before in
@@ -126,7 +129,7 @@ returns-in-Ok-clause-ok g c =
     let e = g.met.C.Cluster.ends_row d.before c.drive_end.new.cluster c.args.pipe.link d.ended in
     let r = recovers_is d.last c.in-Ok-Recover.field-0 c.in-Ok-Recover.failed c.in-Ok-Recover.replay d.is_core d.has_ended d.is c.in-Ok-Recover.field-0-is in
     let some : length c.as_slice.result.now ≢ 0 = eqb-false (length c.as_slice.result.now) 0 (sym c.is_empty.ensures ∙ c.if-is_empty.false) in
-    once_rebuilt c.args.settings.now c.args.pipe a z m d.last c.requires.standing c.requires.ending.0 d.drove e d.is_core
-    c.in-Ok-Recover.failed r.0 (name_of c.args.namenode.now) c.in-Ok-Recover.replay c.args.length 0 c.requires.few.1 c.with_length-plan.result r.1
-    c.with_length-plan.ensures c.in-Ok.rebuilt (g.C.Cluster.shown c.rebuild.new.cluster)
-    c.in-Ok.ensures.ok (omega (arith, ap length c.as_slice.ensures, some))
+    once_rebuilt c.args.self.now.settings c.args.pipe a z m d.last c.requires.standing c.requires.ending.0 d.drove e d.is_core
+    c.in-Ok-Recover.failed r.0 (name_of c.args.namenode.now) c.in-Ok-Recover.replay c.args.self.now.length 0 c.requires.few.1 c.with_length-plan.result r.1
+    c.with_length-plan.ensures c.in_ok-rebuilt-in-Ok-Recover.rebuilt (g.C.Cluster.shown c.rebuild.new.cluster)
+    c.in_ok-rebuilt-in-Ok-Recover.ensures.ok (omega (arith, ap length c.as_slice.ensures, some))

@@ -1,4 +1,4 @@
--- The goals of push.
+-- The goals of BlockWriter::push.
 use Rattle.std.proofs.Common.{◌<◌, Option, Some, refl, sym, ◌∙◌, ap, subst}
 use Rattle.std.proofs.lemmas.Result.{err_from_is_err_and}
 use Rattle.hdfs_wire.specs.Outgoing.{Outgoing}
@@ -6,19 +6,19 @@ use Rattle.hdfs_namenode.specs.Clients.{SameClient, proxy_of}
 use Rattle.hdfs_namenode.proofs.Services.{reaches_later, same_client_refl, same_client_trans}
 use Rattle.hdfs_block_writer.specs.Pushing.{CanPush, PushesNot, PushesOnce}
 use Rattle.hdfs_block_writer.proofs.PushingOn.{PushedSoFar, first_try, fewer_turns, later_so_far, not_again, still_more, tried_again, turns_left}
-use Rattle.hdfs_block_writer.proofs.pushing.push.Goals as goal
+use Rattle.hdfs_block_writer.proofs.block_writer.BlockWriter.push.Goals as goal
 
 pub loop-packet-init : goal.loop-packet-init
 loop-packet-init g c = record {
   reaches = c.requires.reaches;
   client = same_client_refl c.args.namenode.now;
-  so_far = (refl, first_try c.args.settings.now (g.C.Cluster.shown c.args.cluster.now) c.args.pipe c.args.length c.args.packet c.requires.can);
+  so_far = (refl, first_try c.args.self.now.settings (g.C.Cluster.shown c.args.cluster.now) c.args.pipe c.args.self.now.length c.args.packet c.requires.can);
 }
 
 pub returns-in_default-clause-ok : goal.returns-in_default-clause-ok
 returns-in_default-clause-ok g c =
     subst
-    (λ (back : Option Outgoing). PushedSoFar c.args.settings.now (g.C.Cluster.shown c.args.cluster.now) c.args.pipe c.args.length c.args.packet
+    (λ (back : Option Outgoing). PushedSoFar c.args.self.now.settings (g.C.Cluster.shown c.args.cluster.now) c.args.pipe c.args.self.now.length c.args.packet
     back (g.C.Cluster.shown c.loop-packet.cluster) c.loop-packet.pushed.pipe)
     c.in_default.is c.loop-packet.invariant.so_far
 
@@ -27,22 +27,22 @@ push_once-requires-clause-reaches g c = c.loop-packet.invariant.reaches
 
 pub push_once-requires-clause-can : goal.push_once-requires-clause-can
 push_once-requires-clause-can g c =
-    let t = still_more c.args.settings.now (g.C.Cluster.shown c.args.cluster.now) c.args.pipe c.args.length c.args.packet
+    let t = still_more c.args.self.now.settings (g.C.Cluster.shown c.args.cluster.now) c.args.pipe c.args.self.now.length c.args.packet
     (g.C.Cluster.shown c.loop-packet.cluster) c.loop-packet.pushed.pipe c.loop-packet.pushed.back c.in-Some.packet c.in-Some.is
     c.loop-packet.invariant.so_far in
-    subst (CanPush c.args.settings.now (g.C.Cluster.shown c.loop-packet.cluster) c.loop-packet.pushed.pipe c.args.length) (sym t.0) t.1.can
+    subst (CanPush c.args.self.now.settings (g.C.Cluster.shown c.loop-packet.cluster) c.loop-packet.pushed.pipe c.args.self.now.length) (sym t.0) t.1.can
 
 pub returns-in_err-pushed-clause-err : goal.returns-in_err-pushed-clause-err
 returns-in_err-pushed-clause-err g c =
     let p = err_from_is_err_and c.from_residual.result c.from_residual.ensures.1 in
-    let t = still_more c.args.settings.now (g.C.Cluster.shown c.args.cluster.now) c.args.pipe c.args.length c.args.packet
+    let t = still_more c.args.self.now.settings (g.C.Cluster.shown c.args.cluster.now) c.args.pipe c.args.self.now.length c.args.packet
     (g.C.Cluster.shown c.loop-packet.cluster) c.loop-packet.pushed.pipe c.loop-packet.pushed.back c.in-Some.packet c.in-Some.is
     c.loop-packet.invariant.so_far in
     rw (p.1, p.2)
-    (not_again c.args.settings.now (g.C.Cluster.shown c.args.cluster.now) c.args.pipe c.args.length c.args.packet
+    (not_again c.args.self.now.settings (g.C.Cluster.shown c.args.cluster.now) c.args.pipe c.args.self.now.length c.args.packet
     (g.C.Cluster.shown c.loop-packet.cluster) (g.C.Cluster.shown c.push_once.new.cluster) c.loop-packet.pushed.pipe t.1
     c.in_err-pushed.field-0.0
-    (subst (λ (x : Outgoing). PushesNot c.args.settings.now (g.C.Cluster.shown c.loop-packet.cluster) c.loop-packet.pushed.pipe x
+    (subst (λ (x : Outgoing). PushesNot c.args.self.now.settings (g.C.Cluster.shown c.loop-packet.cluster) c.loop-packet.pushed.pipe x
     c.in_err-pushed.field-0.0 (g.C.Cluster.shown c.push_once.new.cluster)) t.0 c.in_err-pushed.ensures.err))
 
 pub returns-in_err-pushed-clause-client : goal.returns-in_err-pushed-clause-client
@@ -52,36 +52,36 @@ returns-in_err-pushed-clause-client g c =
 
 pub loop-packet-smaller : goal.loop-packet-smaller
 loop-packet-smaller g c =
-    let t = still_more c.args.settings.now (g.C.Cluster.shown c.args.cluster.now) c.args.pipe c.args.length c.args.packet
+    let t = still_more c.args.self.now.settings (g.C.Cluster.shown c.args.cluster.now) c.args.pipe c.args.self.now.length c.args.packet
     (g.C.Cluster.shown c.loop-packet.cluster) c.loop-packet.pushed.pipe c.loop-packet.pushed.back c.in-Some.packet c.in-Some.is
     c.loop-packet.invariant.so_far in
-    subst (λ (back : Option Outgoing). turns_left c.args.settings.now c.in_ok-pushed.pushed.back c.in_ok-pushed.pushed.pipe
-    < turns_left c.args.settings.now back c.loop-packet.pushed.pipe)
+    subst (λ (back : Option Outgoing). turns_left c.args.self.now.settings c.in_ok-pushed.pushed.back c.in_ok-pushed.pushed.pipe
+    < turns_left c.args.self.now.settings back c.loop-packet.pushed.pipe)
     (ap (λ (x : Outgoing). Some x) (sym t.0) ∙ sym c.in-Some.is)
-    (fewer_turns c.args.settings.now (g.C.Cluster.shown c.args.cluster.now) c.args.pipe c.args.length c.args.packet
+    (fewer_turns c.args.self.now.settings (g.C.Cluster.shown c.args.cluster.now) c.args.pipe c.args.self.now.length c.args.packet
     (g.C.Cluster.shown c.loop-packet.cluster) (g.C.Cluster.shown c.push_once.new.cluster) c.loop-packet.pushed.pipe t.1
     c.in_ok-pushed.pushed.back c.in_ok-pushed.pushed.pipe
-    (subst (λ (x : Outgoing). PushesOnce c.args.settings.now (g.C.Cluster.shown c.loop-packet.cluster) c.loop-packet.pushed.pipe x
+    (subst (λ (x : Outgoing). PushesOnce c.args.self.now.settings (g.C.Cluster.shown c.loop-packet.cluster) c.loop-packet.pushed.pipe x
     c.in_ok-pushed.pushed (g.C.Cluster.shown c.push_once.new.cluster)) t.0 c.in_ok-pushed.ensures.ok))
 
 pub loop-packet-preserved : goal.loop-packet-preserved
 loop-packet-preserved g c =
-    let t = still_more c.args.settings.now (g.C.Cluster.shown c.args.cluster.now) c.args.pipe c.args.length c.args.packet
+    let t = still_more c.args.self.now.settings (g.C.Cluster.shown c.args.cluster.now) c.args.pipe c.args.self.now.length c.args.packet
     (g.C.Cluster.shown c.loop-packet.cluster) c.loop-packet.pushed.pipe c.loop-packet.pushed.back c.in-Some.packet c.in-Some.is
     c.loop-packet.invariant.so_far in
     let client : SameClient c.args.namenode.now c.push_once.new.namenode =
     same_client_trans c.args.namenode.now c.loop-packet.namenode c.push_once.new.namenode c.loop-packet.invariant.client
     c.push_once.ensures.client in
-    let next = tried_again c.args.settings.now (g.C.Cluster.shown c.args.cluster.now) c.args.pipe c.args.length c.args.packet
+    let next = tried_again c.args.self.now.settings (g.C.Cluster.shown c.args.cluster.now) c.args.pipe c.args.self.now.length c.args.packet
     (g.C.Cluster.shown c.loop-packet.cluster) (g.C.Cluster.shown c.push_once.new.cluster) c.loop-packet.pushed.pipe t.1
     c.in_ok-pushed.pushed.back c.in_ok-pushed.pushed.pipe
-    (subst (λ (x : Outgoing). PushesOnce c.args.settings.now (g.C.Cluster.shown c.loop-packet.cluster) c.loop-packet.pushed.pipe x
+    (subst (λ (x : Outgoing). PushesOnce c.args.self.now.settings (g.C.Cluster.shown c.loop-packet.cluster) c.loop-packet.pushed.pipe x
     c.in_ok-pushed.pushed (g.C.Cluster.shown c.push_once.new.cluster)) t.0 c.in_ok-pushed.ensures.ok) in
     record {
       reaches =
           reaches_later (proxy_of c.args.namenode.now) (proxy_of c.push_once.new.namenode) (g.C.Cluster.shown c.args.cluster.now)
           (g.C.Cluster.shown c.push_once.new.cluster) client.service
-          (later_so_far c.args.settings.now (g.C.Cluster.shown c.args.cluster.now) c.args.pipe c.args.length c.args.packet
+          (later_so_far c.args.self.now.settings (g.C.Cluster.shown c.args.cluster.now) c.args.pipe c.args.self.now.length c.args.packet
           c.in_ok-pushed.pushed.back (g.C.Cluster.shown c.push_once.new.cluster) c.in_ok-pushed.pushed.pipe next) c.requires.reaches;
       client = client;
       so_far = next;

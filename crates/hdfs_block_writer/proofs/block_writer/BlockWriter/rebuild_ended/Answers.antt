@@ -1,73 +1,84 @@
--- The goals of rebuild_ended.
+-- The goals of BlockWriter::rebuild_ended.
 use Rattle.std.proofs.Common.{◌≡◌, [], sym, ◌∙◌, ap, subst, arith}
 use Rattle.hdfs_namenode.specs.Clients.{name_of, proxy_of}
 use Rattle.hdfs_namenode.proofs.Services.{reaches_same, same_service_refl}
 use Rattle.hdfs_blocks.specs.Carrying.{total}
 use Rattle.hdfs_recovery.specs.declared.block_plan.BlockPlan.{BlockPlan}
+use Rattle.hdfs_recovery.specs.Attempts.{GaveNoneAfter, RebuiltAfter, standing, task_of}
 use Rattle.hdfs_recovery.specs.Plans.{CanRebuild}
+use Rattle.hdfs_recovery.proofs.Tried.{err_by, ok_by}
+use Rattle.hdfs_block_writer.specs.Pushing.{FallsEnded, RebuildsEnded}
 use Rattle.hdfs_block_writer.proofs.EndedRebuilt.{bad_is, ended_bad, ended_given_up, ended_rebuilt, ended_same, ended_stopped, recovers_is}
 use Rattle.hdfs_block_writer.proofs.Standing.{can_rebuild_standing, standing_drove}
-use Rattle.hdfs_block_writer.proofs.pushing.rebuild_ended.Goals as goal
+use Rattle.hdfs_block_writer.proofs.block_writer.BlockWriter.rebuild_ended.Goals as goal
 
 pub returns-in-Err-clause-err : goal.returns-in-Err-clause-err
 returns-in-Err-clause-err g c =
     let s = c.in-Err.ensures.err in
-    ended_stopped c.args.settings.now c.args.pipe (g.C.Cluster.shown c.args.cluster.now) (g.C.Cluster.shown s.before)
+    ended_stopped c.args.self.now.settings c.args.pipe (g.C.Cluster.shown c.args.cluster.now) (g.C.Cluster.shown s.before)
     (g.C.Cluster.shown c.drive_end.new.cluster) s.stopped (g.met.C.Cluster.ends_row s.before c.drive_end.new.cluster c.args.pipe.link s.ended)
 
-pub rebuild-rebuilt-requires-clause-reaches : goal.rebuild-rebuilt-requires-clause-reaches
-rebuild-rebuilt-requires-clause-reaches g c =
+pub rebuild-requires-clause-reaches : goal.rebuild-requires-clause-reaches
+rebuild-requires-clause-reaches g c =
     let d = c.in-Ok-Recover.ensures.drove in
     let e = g.met.C.Cluster.ends_row d.before c.drive_end.new.cluster c.args.pipe.link d.ended in
     reaches_same (proxy_of c.args.namenode.now) (proxy_of c.args.namenode.now) (g.C.Cluster.shown c.args.cluster.now)
     (g.C.Cluster.shown c.drive_end.new.cluster) (same_service_refl (proxy_of c.args.namenode.now))
     (e.writes.only.later.namenodes ∙ d.drove.on.only.later.namenodes) c.requires.reaches
 
-pub rebuild-rebuilt-requires-clause-can : goal.rebuild-rebuilt-requires-clause-can
-rebuild-rebuilt-requires-clause-can g c =
+pub rebuild-requires-clause-can : goal.rebuild-requires-clause-can
+rebuild-requires-clause-can g c =
     let d = c.in-Ok-Recover.ensures.drove in
     let a = g.C.Cluster.shown c.args.cluster.now in
     let z = g.C.Cluster.shown d.before in
     let r = recovers_is d.last c.in-Ok-Recover.field-0 c.in-Ok-Recover.failed c.in-Ok-Recover.replay d.is_core d.has_ended d.is c.in-Ok-Recover.field-0-is in
     let same : d.last.pushed ≡ c.args.pipe.core.pushed = ended_same c.args.pipe a z d.last c.requires.ended.0 d.drove in
-    subst (λ (plan : BlockPlan). CanRebuild plan c.args.settings.now c.in-Ok-Recover.failed c.in-Ok-Recover.replay c.args.unsent)
+    subst (λ (plan : BlockPlan). CanRebuild (record { plan = plan; failed = c.in-Ok-Recover.failed; replay = c.in-Ok-Recover.replay }) c.args.self.now.settings c.args.unsent)
     (sym c.with_length-plan.ensures)
-    (can_rebuild_standing c.args.settings.now (record { plan = c.args.pipe.plan; core = d.last; link = c.args.pipe.link }) z
-    (standing_drove c.args.settings.now c.args.pipe [] [] d.last a z d.drove d.is_core c.requires.standing)
-    c.in-Ok-Recover.failed r.0 c.args.length c.args.unsent c.in-Ok-Recover.replay r.1
+    (can_rebuild_standing c.args.self.now.settings (record { plan = c.args.pipe.plan; core = d.last; link = c.args.pipe.link }) z
+    (standing_drove c.args.self.now.settings c.args.pipe [] [] d.last a z d.drove d.is_core c.requires.standing)
+    c.in-Ok-Recover.failed r.0 c.args.self.now.length c.args.unsent c.in-Ok-Recover.replay r.1
     (omega (arith, c.requires.few.0, ap total same), c.requires.few.1))
 
-pub returns-in-Err-rebuilt-clause-err : goal.returns-in-Err-rebuilt-clause-err
-returns-in-Err-rebuilt-clause-err g c =
+pub returns-in-Ok-Recover-clause-err : goal.returns-in-Ok-Recover-clause-err
+returns-in-Ok-Recover-clause-err g c =
     let d = c.in-Ok-Recover.ensures.drove in
     let a = g.C.Cluster.shown c.args.cluster.now in
     let z = g.C.Cluster.shown d.before in
     let m = g.C.Cluster.shown c.drive_end.new.cluster in
+    let n = g.C.Cluster.shown c.rebuild.new.cluster in
     let e = g.met.C.Cluster.ends_row d.before c.drive_end.new.cluster c.args.pipe.link d.ended in
     let r = recovers_is d.last c.in-Ok-Recover.field-0 c.in-Ok-Recover.failed c.in-Ok-Recover.replay d.is_core d.has_ended d.is c.in-Ok-Recover.field-0-is in
-    ended_given_up c.args.settings.now c.args.pipe a z m d.last c.requires.standing c.requires.ended.0 d.drove e d.is_core
-    (name_of c.args.namenode.now) c.in-Ok-Recover.failed c.in-Ok-Recover.replay c.args.length c.args.unsent c.requires.few.1
-    c.with_length-plan.result r.0 r.1 c.with_length-plan.ensures c.in-Err-rebuilt.fault
-    (g.C.Cluster.shown c.rebuild-rebuilt.new.cluster) c.in-Err-rebuilt.ensures.err
+    let task = task_of c.args.self.now.settings (name_of c.args.namenode.now) c.in-Ok-Recover.replay c.args.unsent in
+    err_by (λ fault. GaveNoneAfter task (standing c.with_length-plan.result c.in-Ok-Recover.failed m) fault n)
+    (λ fault. FallsEnded c.args.self.now.settings a c.args.pipe fault n) c.rebuild.result
+    (λ fault gave. ended_given_up c.args.self.now.settings c.args.pipe a z m d.last c.requires.standing c.requires.ended.0 d.drove e d.is_core
+    (name_of c.args.namenode.now) c.in-Ok-Recover.failed c.in-Ok-Recover.replay c.args.self.now.length c.args.unsent c.requires.few.1
+    c.with_length-plan.result r.0 r.1 c.with_length-plan.ensures fault n gave)
+    c.rebuild.ensures.err
 
-pub returns-in-Ok-clause-ok : goal.returns-in-Ok-clause-ok
-returns-in-Ok-clause-ok g c =
+pub returns-in-Ok-Recover-clause-ok : goal.returns-in-Ok-Recover-clause-ok
+returns-in-Ok-Recover-clause-ok g c =
     let d = c.in-Ok-Recover.ensures.drove in
     let a = g.C.Cluster.shown c.args.cluster.now in
     let z = g.C.Cluster.shown d.before in
     let m = g.C.Cluster.shown c.drive_end.new.cluster in
+    let n = g.C.Cluster.shown c.rebuild.new.cluster in
     let e = g.met.C.Cluster.ends_row d.before c.drive_end.new.cluster c.args.pipe.link d.ended in
     let r = recovers_is d.last c.in-Ok-Recover.field-0 c.in-Ok-Recover.failed c.in-Ok-Recover.replay d.is_core d.has_ended d.is c.in-Ok-Recover.field-0-is in
-    ended_rebuilt c.args.settings.now c.args.pipe a z m d.last c.requires.standing c.requires.ended.0 d.drove e d.is_core
-    (name_of c.args.namenode.now) c.in-Ok-Recover.failed c.in-Ok-Recover.replay c.args.length c.args.unsent c.requires.few.1
-    c.with_length-plan.result r.0 r.1 c.with_length-plan.ensures c.in-Ok.rebuilt
-    (g.C.Cluster.shown c.rebuild-rebuilt.new.cluster) c.in-Ok.ensures.ok
+    let task = task_of c.args.self.now.settings (name_of c.args.namenode.now) c.in-Ok-Recover.replay c.args.unsent in
+    ok_by (λ pipe. RebuiltAfter task (standing c.with_length-plan.result c.in-Ok-Recover.failed m) pipe n)
+    (λ pipe. RebuildsEnded c.args.self.now.settings a c.args.pipe n pipe) c.rebuild.result
+    (λ pipe rebuilt. ended_rebuilt c.args.self.now.settings c.args.pipe a z m d.last c.requires.standing c.requires.ended.0 d.drove e d.is_core
+    (name_of c.args.namenode.now) c.in-Ok-Recover.failed c.in-Ok-Recover.replay c.args.self.now.length c.args.unsent c.requires.few.1
+    c.with_length-plan.result r.0 r.1 c.with_length-plan.ensures pipe n rebuilt)
+    c.rebuild.ensures.ok
 
 pub returns-in-Ok-Bad-clause-err : goal.returns-in-Ok-Bad-clause-err
 returns-in-Ok-Bad-clause-err g c =
     let d = c.in-Ok-Bad.ensures.drove in
     let z = g.C.Cluster.shown d.before in
     let m = g.C.Cluster.shown c.drive_end.new.cluster in
-    ended_bad c.args.settings.now c.args.pipe (g.C.Cluster.shown c.args.cluster.now) z m d.last c.requires.standing c.requires.ended.0
+    ended_bad c.args.self.now.settings c.args.pipe (g.C.Cluster.shown c.args.cluster.now) z m d.last c.requires.standing c.requires.ended.0
     d.drove (g.met.C.Cluster.ends_row d.before c.drive_end.new.cluster c.args.pipe.link d.ended) d.is_core c.in-Ok-Bad.seqno _
     (bad_is d.last c.in-Ok-Bad.field-0 c.in-Ok-Bad.seqno d.has_ended d.is c.in-Ok-Bad.field-0-is)

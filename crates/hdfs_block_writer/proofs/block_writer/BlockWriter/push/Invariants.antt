@@ -2,14 +2,14 @@
 use Rattle.hdfs_namenode.specs.Asked.{ReachesAll}
 use Rattle.hdfs_namenode.specs.Clients.{SameClient, proxy_of}
 use Rattle.hdfs_block_writer.proofs.PushingOn.{PushedSoFar, turns_left}
-use Rattle.hdfs_block_writer.proofs.pushing.push.Given as goal
+use Rattle.hdfs_block_writer.proofs.block_writer.BlockWriter.push.Given as goal
 
 abbrev pub invariant-loop-packet : goal.invariant-loop-packet
 invariant-loop-packet g l = record {
   reaches : ReachesAll (proxy_of l.namenode) (g.C.Cluster.shown l.cluster);
   client : SameClient l.fn.namenode l.namenode;
-  so_far : PushedSoFar l.settings (g.C.Cluster.shown l.fn.cluster) l.fn.pipe l.length l.fn.packet l.pushed.back (g.C.Cluster.shown l.cluster) l.pushed.pipe;
+  so_far : PushedSoFar l.self.settings (g.C.Cluster.shown l.fn.cluster) l.fn.pipe l.self.length l.fn.packet l.pushed.back (g.C.Cluster.shown l.cluster) l.pushed.pipe;
 }
 
 abbrev pub decreases-loop-packet : goal.decreases-loop-packet
-decreases-loop-packet g l = turns_left l.settings l.pushed.back l.pushed.pipe
+decreases-loop-packet g l = turns_left l.self.settings l.pushed.back l.pushed.pipe

@@ -1,0 +1,50 @@
+-- The goals of BlockWriter::push_once.
+use Rattle.std.proofs.Common.{rules, ◌≡◌, None, IsSome}
+use Rattle.std.proofs.lemmas.Result.{err_from_is_err_and}
+use Rattle.hdfs_block_writer.proofs.Pushed.{push_stopped, pushed_or_not}
+use Rattle.hdfs_block_writer.proofs.PushedEnded.{back_few, back_given_up, back_not_done, back_rebuilt, back_standing}
+use Rattle.hdfs_block_writer.proofs.block_writer.BlockWriter.push_once.Goals as goal
+
+pub returns-then-not-has_ended-clause-ok : goal.returns-then-not-has_ended-clause-ok
+returns-then-not-has_ended-clause-ok g c =
+    let going : c.drive_push.new.core.end ≡ None = search rules in
+    pushed_or_not c.args.self.now.settings (g.C.Cluster.shown c.args.cluster.now) (g.C.Cluster.shown c.drive_push.new.cluster) c.args.pipe
+    c.args.self.now.length c.args.packet c.drive_push.new.core c.in-Ok.back c.requires.can c.in-Ok.ensures.drove c.has_ended.ensures.core
+    c.in-Ok.ensures.back going c.in-Ok.ensures.sent
+
+pub rebuild_ended-requires-clause-standing : goal.rebuild_ended-requires-clause-standing
+rebuild_ended-requires-clause-standing g c =
+    back_standing c.args.self.now.settings (g.C.Cluster.shown c.args.cluster.now) (g.C.Cluster.shown c.drive_push.new.cluster) c.args.pipe
+    c.args.self.now.length c.args.packet c.drive_push.new.core c.requires.can c.in-Ok.back c.in-Ok.ensures.drove c.has_ended.ensures.core
+
+pub rebuild_ended-requires-clause-ended : goal.rebuild_ended-requires-clause-ended
+rebuild_ended-requires-clause-ended g c =
+    let has : IsSome c.drive_push.new.core.end = search rules in (
+      has,
+      back_not_done c.args.self.now.settings (g.C.Cluster.shown c.args.cluster.now) (g.C.Cluster.shown c.drive_push.new.cluster) c.args.pipe
+          c.args.self.now.length c.args.packet c.drive_push.new.core c.requires.can c.in-Ok.back c.in-Ok.ensures.drove,
+    )
+
+pub rebuild_ended-requires-clause-few : goal.rebuild_ended-requires-clause-few
+rebuild_ended-requires-clause-few g c = rw c.bytes_of-unsent.ensures
+    (back_few c.args.self.now.settings (g.C.Cluster.shown c.args.cluster.now) (g.C.Cluster.shown c.drive_push.new.cluster) c.args.pipe
+    c.args.self.now.length c.args.packet c.drive_push.new.core c.requires.can c.in-Ok.back c.in-Ok.ensures.drove c.in-Ok.ensures.back)
+
+pub returns-in_err-pipe-in-Ok-clause-err : goal.returns-in_err-pipe-in-Ok-clause-err
+returns-in_err-pipe-in-Ok-clause-err g c =
+    let p = err_from_is_err_and c.from_residual.result c.from_residual.ensures.1 in
+    rw (p.1, p.2)
+    (back_given_up c.args.self.now.settings (g.C.Cluster.shown c.args.cluster.now) (g.C.Cluster.shown c.drive_push.new.cluster) c.args.pipe
+    c.args.self.now.length c.args.packet c.drive_push.new.core c.requires.can (g.C.Cluster.shown c.rebuild_ended.new.cluster) c.in-Ok.back
+    c.in-Ok.ensures.drove c.in_err-pipe-in-Ok.field-0.0 c.in_err-pipe-in-Ok.ensures.err)
+
+pub returns-in_ok-pipe-in-Ok-clause-ok : goal.returns-in_ok-pipe-in-Ok-clause-ok
+returns-in_ok-pipe-in-Ok-clause-ok g c =
+    back_rebuilt c.args.self.now.settings (g.C.Cluster.shown c.args.cluster.now) (g.C.Cluster.shown c.drive_push.new.cluster) c.args.pipe
+    c.args.self.now.length c.args.packet c.drive_push.new.core c.requires.can (g.C.Cluster.shown c.rebuild_ended.new.cluster) c.in-Ok.back
+    c.in-Ok.ensures.drove c.in-Ok.ensures.back c.in_ok-pipe-in-Ok.pipe c.in_ok-pipe-in-Ok.ensures.ok
+
+pub returns-in-Err-clause-err : goal.returns-in-Err-clause-err
+returns-in-Err-clause-err g c =
+    push_stopped c.args.self.now.settings (g.C.Cluster.shown c.args.cluster.now) (g.C.Cluster.shown c.drive_push.new.cluster)
+    (g.C.Cluster.shown c.end_write.new.self) c.args.pipe c.args.packet c.in-Err.ensures.err c.end_write.ensures.ended
