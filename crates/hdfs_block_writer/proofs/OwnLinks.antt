@@ -1,7 +1,8 @@
 -- Calls in the name of one writer, one behind another, and its own link.
 use Rattle.std.proofs.Common.{◌≡◌, ◌≢◌, ◌⊎◌, inl, inr, ⊎_elim, ℕ, ◌==◌, Bool, true, false, Option, Some, None, IsSome, refl, sym, ◌∙◌, ap, subst, arith}
 use Rattle.std.proofs.lemmas.Bool.Decides.{nat_tests}
-use Rattle.hdfs_model.specs.Pipes.{OnlyWrites, WriteEnded}
+use Rattle.hdfs_model.specs.declared.messages.Setup.{Setup}
+use Rattle.hdfs_model.specs.Pipes.{OnlyWrites, WriteEnded, WriteOpened}
 use Rattle.hdfs_model.specs.Shown.{Shown, SameReads}
 use Rattle.hdfs_model.proofs.Frames.{later_refl, later_trans, same_reads_refl, same_reads_trans}
 use Rattle.hdfs_pipeline.specs.Driving.{OnLink}
@@ -85,4 +86,14 @@ own_link_ended a b link gone = record {
       (λ away. ⊎_elim (λ none. gone.writes.others other (other_than link other away) ∙ none) (λ own. absurd (away own)) was)
       (own_cases (Some link) other);
   fresh = λ other mine. absurd (cc mine);
+}
+
+-- a link of its own was opened
+pub own_link_opened : (a b : Shown) (setup : Setup) (link : ℕ) → WriteOpened a setup link b → OnlyOwnLink a None b (Some link)
+own_link_opened a b setup link opened = record {
+  later = opened.only.later;
+  reads = only_writes_reads a b opened.only;
+  others = λ other some apart. opened.others other (λ same. some_none (a.writes other) some (ap a.writes same ∙ opened.fresh.write));
+  none = λ other was apart. ⊎_elim (λ none. opened.others other (other_than link other apart) ∙ none) (λ own. absurd (cc own)) was;
+  fresh = λ other mine. inr (ap a.writes (let same : other ≡ link = cc mine in same) ∙ opened.fresh.write);
 }

@@ -118,7 +118,7 @@ fn fault_of(fault: LinkFault) -> WriteFault
 }
 
 /// Opens a pipeline to the datanodes of a plan, in the name of this client: a link with exactly the set-up that the plan and the opening
-/// say, on which nothing was sent. Otherwise no link is opened, and nothing changes but the count of the links.
+/// say, on which nothing was sent. Otherwise no link is opened, and nothing changes but counts of failures.
 ///
 /// Errors: `Link` and `Setup` where the set-up broke or was refused; `NoMemory`.
 pub fn open_pipeline<C: Cluster>(
