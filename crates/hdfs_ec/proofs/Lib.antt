@@ -13,3 +13,4 @@ pub mod ShareCells
 pub mod SharePlaces
 pub mod Restoring
 pub mod Splitting
+pub mod WrongShards

@@ -5,3 +5,4 @@ pub mod Observers
 pub mod Relayed
 pub mod Renewed
 pub mod Services
+pub mod WrongAsks
