@@ -2,7 +2,8 @@
 ghost use Rattle.std.specs.Prelude.{◌<◌};
 
 use crate::fault::Fault;
-use hdfs_cluster::{Cluster, MemCluster, MemSettings};
+use hdfs_cluster::{Cluster, MemSettings};
+use hdfs_mem_cluster::MemCluster;
 use hdfs_model::{Command, Reply, Settings, WriteOptions};
 use hdfs_names::{Policy, ReplaceDatanodeOnFailure};
 use hdfs_session::run_session;

@@ -2,24 +2,24 @@
 use Rattle.std.proofs.Common.{◌≡◌, ◌⊎◌, ⊎_elim, ℕ, ◌+◌, ◌<◌, ◌≤◌, List, [], ◌∷◌, ◌++◌, length, take, drop, Some, None, refl, sym, ◌∙◌, ap, subst, arith, append_assoc, take-append-drop}
 use Rattle.std.proofs.lemmas.List.{append-nil, drop-take, length-drop, take-append-le, take-take}
 use Rattle.hdfs_wire.specs.Outgoing.{Outgoing}
-use Rattle.hdfs_model.specs.Picture.{Picture}
-use Rattle.hdfs_model.specs.Sending.{WritePlace}
-use Rattle.hdfs_model.specs.Shown.{Shown}
-use Rattle.hdfs_model.specs.Writing.{GoesFurther, OnlyBlock}
+use Rattle.hdfs_cluster.specs.Picture.{Picture}
+use Rattle.hdfs_cluster.specs.Sending.{WritePlace}
+use Rattle.hdfs_cluster.specs.Shown.{Shown}
+use Rattle.hdfs_cluster.specs.Writing.{GoesFurther, OnlyBlock}
 use Rattle.hdfs_pipeline.specs.Driving.{Drove, SentMore, Settles}
 use Rattle.hdfs_pipeline.specs.Pipelines.{Pipeline}
 use Rattle.hdfs_pipeline.proofs.DrivingOn.{none_or_has}
-use Rattle.hdfs_blocks.specs.Carrying.{AreSlices, LinkHolds, total}
-use Rattle.hdfs_blocks.specs.Rebuilding.{IsListed}
-use Rattle.hdfs_blocks.proofs.Links.{each_holds, holds_goes}
-use Rattle.hdfs_blocks.proofs.Listed.{listed_after}
-use Rattle.hdfs_blocks.proofs.OnlyBlocks.{only_block_same}
-use Rattle.hdfs_blocks.proofs.Prefixes.{slices_front, slices_join, total_cut}
-use Rattle.hdfs_recovery.specs.declared.block_plan.BlockPipeline.{BlockPipeline}
-use Rattle.hdfs_recovery.specs.Between.{OnlyBlockOf}
+use Rattle.hdfs_block_reader.specs.Carrying.{AreSlices, LinkHolds, total}
+use Rattle.hdfs_block_reader.specs.Rebuilding.{IsListed}
+use Rattle.hdfs_block_reader.proofs.Links.{each_holds, holds_goes}
+use Rattle.hdfs_block_reader.proofs.Listed.{listed_after}
+use Rattle.hdfs_block_reader.proofs.OnlyBlocks.{only_block_same}
+use Rattle.hdfs_block_reader.proofs.Prefixes.{slices_front, slices_join, total_cut}
+use Rattle.hdfs_rebuild.specs.declared.block_plan.BlockPipeline.{BlockPipeline}
+use Rattle.hdfs_rebuild.specs.Between.{OnlyBlockOf}
 use Rattle.hdfs_block_writer.specs.OpenPipelines.{Has, id_of, nodes_of}
-use Rattle.hdfs_recovery.proofs.Replaying.{nothing_cut}
-use Rattle.hdfs_recovery.proofs.Stepping.{only_block_of-only, written_still}
+use Rattle.hdfs_rebuild.proofs.Replaying.{nothing_cut}
+use Rattle.hdfs_rebuild.proofs.Stepping.{only_block_of-only, written_still}
 
 -- the slices behind the first of some packets
 pub slices_behind : (bytes : List ℕ) (front more : List Outgoing) (at : ℕ) → AreSlices bytes at (front ++ more)

@@ -2,26 +2,26 @@
 use Rattle.std.proofs.Common.{◌≡◌, inr, ℕ, ℤ, ◌^◌, ◌<◌, List, [], drop, Option, Some, None, IsSome, refl, sym, ◌∙◌, ap, subst}
 use Rattle.std.proofs.lemmas.List.{append-nil}
 use Rattle.hdfs_wire.specs.Outgoing.{Outgoing}
-use Rattle.hdfs_model.specs.Pipes.{WriteEnded}
-use Rattle.hdfs_model.specs.Shown.{Shown}
+use Rattle.hdfs_cluster.specs.Pipes.{WriteEnded}
+use Rattle.hdfs_cluster.specs.Shown.{Shown}
 use Rattle.hdfs_pipeline.specs.Cores.{IsCore}
 use Rattle.hdfs_pipeline.specs.Driving.{Drove, StopsShort}
 use Rattle.hdfs_pipeline.specs.Ends.{handed_back, end_of}
 use Rattle.hdfs_pipeline.specs.Pipelines.{Bad, Done, End, Failed, Pipeline}
 use Rattle.hdfs_pipeline.specs.declared.end.PipelineEnd.{PipelineEnd}
 use Rattle.hdfs_pipeline.specs.declared.end.PipelineEnd.TheVariants as ends
-use Rattle.hdfs_recovery.specs.declared.block_plan.BlockPipeline.{BlockPipeline}
-use Rattle.hdfs_recovery.specs.declared.block_plan.BlockPlan.{BlockPlan}
-use Rattle.hdfs_recovery.specs.declared.block_plan.RebuildSettings.{RebuildSettings}
-use Rattle.hdfs_recovery.specs.declared.block_plan.WriteFault.{WriteFault}
-use Rattle.hdfs_recovery.specs.declared.block_plan.WriteFault.TheVariants as faults
-use Rattle.hdfs_recovery.specs.Attempts.{GaveNoneAfter, RebuiltAfter, standing, task_of}
+use Rattle.hdfs_rebuild.specs.declared.block_plan.BlockPipeline.{BlockPipeline}
+use Rattle.hdfs_rebuild.specs.declared.block_plan.BlockPlan.{BlockPlan}
+use Rattle.hdfs_rebuild.specs.declared.block_plan.RebuildSettings.{RebuildSettings}
+use Rattle.hdfs_rebuild.specs.declared.block_plan.WriteFault.{WriteFault}
+use Rattle.hdfs_rebuild.specs.declared.block_plan.WriteFault.TheVariants as faults
+use Rattle.hdfs_rebuild.specs.Attempts.{GaveNoneAfter, RebuiltAfter, standing, task_of}
 use Rattle.hdfs_block_writer.specs.OpenPipelines.{IsStanding}
 use Rattle.hdfs_block_writer.specs.Pushing.{CameFrom, FallsEnded, RebuildsEnded, with_core}
 use Rattle.hdfs_block_writer.proofs.GivenUp.{bad_given_up, given_up_after, stopped_given_up}
 use Rattle.hdfs_block_writer.proofs.LettingGo.{long_plan}
 use Rattle.hdfs_block_writer.proofs.Rebuilt.{FallsOff, have_failed, rebuilt_after}
-use Rattle.hdfs_recovery.proofs.Replaying.{drove_join}
+use Rattle.hdfs_rebuild.proofs.Replaying.{drove_join}
 use Rattle.hdfs_block_writer.proofs.Standing.{failed_places, standing_drove}
 
 -- Where packets come back, datanodes have failed, at these places.

@@ -3,11 +3,11 @@ use Rattle.std.proofs.Common.{◌≡◌, inl, ℕ, ℤ, ◌+◌, ◌^◌, ◌<�
 use Rattle.std.proofs.lemmas.List.{append-nil, length-map}
 use Rattle.std.specs.List.{All, Any, slice_index_or}
 use Rattle.hdfs_wire.specs.Outgoing.{Outgoing}
-use Rattle.hdfs_model.specs.Picture.{Picture}
-use Rattle.hdfs_model.specs.Pipes.{WriteEnded}
-use Rattle.hdfs_model.specs.Sending.{uuids}
-use Rattle.hdfs_model.specs.Shown.{Shown}
-use Rattle.hdfs_model.specs.Stores.{HoldsPrefix}
+use Rattle.hdfs_cluster.specs.Picture.{Picture}
+use Rattle.hdfs_cluster.specs.Pipes.{WriteEnded}
+use Rattle.hdfs_cluster.specs.Sending.{uuids}
+use Rattle.hdfs_cluster.specs.Shown.{Shown}
+use Rattle.hdfs_cluster.specs.Stores.{HoldsPrefix}
 use Rattle.hdfs_pipeline.specs.Cores.{IsCore}
 use Rattle.hdfs_pipeline.specs.Driving.{Drove, StopsShort}
 use Rattle.hdfs_pipeline.specs.Ends.{handed_back, end_of}
@@ -15,24 +15,24 @@ use Rattle.hdfs_pipeline.specs.Pipelines.{Bad, Done, End, Failed, Pipeline}
 use Rattle.hdfs_pipeline.specs.declared.end.PipelineEnd.{PipelineEnd}
 use Rattle.hdfs_pipeline.specs.declared.end.PipelineEnd.TheVariants as ends
 use Rattle.hdfs_pipeline.proofs.DrivingOn.{drove_refl}
-use Rattle.hdfs_blocks.specs.Carrying.{HoldsWhole, total}
-use Rattle.hdfs_blocks.specs.Rebuilding.{BlockWaits}
-use Rattle.hdfs_blocks.proofs.Prefixes.{take_whole, total_cut}
-use Rattle.hdfs_recovery.specs.declared.block_plan.BlockPipeline.{BlockPipeline}
-use Rattle.hdfs_recovery.specs.declared.block_plan.BlockPlan.{BlockPlan}
-use Rattle.hdfs_recovery.specs.declared.block_plan.RebuildSettings.{RebuildSettings}
-use Rattle.hdfs_recovery.specs.declared.block_plan.WriteFault.{WriteFault}
-use Rattle.hdfs_recovery.specs.declared.block_plan.WriteFault.TheVariants as faults
+use Rattle.hdfs_block_reader.specs.Carrying.{HoldsWhole, total}
+use Rattle.hdfs_block_reader.specs.Rebuilding.{BlockWaits}
+use Rattle.hdfs_block_reader.proofs.Prefixes.{take_whole, total_cut}
+use Rattle.hdfs_rebuild.specs.declared.block_plan.BlockPipeline.{BlockPipeline}
+use Rattle.hdfs_rebuild.specs.declared.block_plan.BlockPlan.{BlockPlan}
+use Rattle.hdfs_rebuild.specs.declared.block_plan.RebuildSettings.{RebuildSettings}
+use Rattle.hdfs_rebuild.specs.declared.block_plan.WriteFault.{WriteFault}
+use Rattle.hdfs_rebuild.specs.declared.block_plan.WriteFault.TheVariants as faults
 use Rattle.hdfs_block_writer.specs.declared.pushing.Settled.TheVariants as settled
-use Rattle.hdfs_recovery.specs.Between.{OnlyBlockOf}
-use Rattle.hdfs_recovery.specs.Attempts.{GaveNoneAfter, RebuiltAfter, standing, task_of}
+use Rattle.hdfs_rebuild.specs.Between.{OnlyBlockOf}
+use Rattle.hdfs_rebuild.specs.Attempts.{GaveNoneAfter, RebuiltAfter, standing, task_of}
 use Rattle.hdfs_block_writer.specs.OpenPipelines.{Finishes, Has, IsStanding, KeepsStamp, id_of}
 use Rattle.hdfs_block_writer.specs.Pushing.{FallsFor, Settles}
 use Rattle.hdfs_block_writer.proofs.GivenUp.{bad_given_up, given_up_after, stopped_given_up}
 use Rattle.hdfs_block_writer.proofs.LettingGo.{gone_only, gone_picture, gone_table, gone_told, gone_waits, long_plan, now_safe, own_none, until_gone}
 use Rattle.hdfs_block_writer.proofs.Rebuilt.{FallsOff, have_failed, rebuilt_after}
 use Rattle.hdfs_block_writer.proofs.Standing.{failed_places, standing_drove}
-use Rattle.hdfs_recovery.proofs.Stepping.{keeps_links_refl}
+use Rattle.hdfs_rebuild.proofs.Stepping.{keeps_links_refl}
 
 -- Where a pipeline has ended with success, its last packet was acknowledged.
 done_by : (o : Option End) (pending : List Outgoing) → IsSome o → handed_back o pending ≡ ends.Success → o ≡ Some Done

@@ -5,32 +5,32 @@ use Rattle.std.proofs.lemmas.List.{get_or_default, length-map}
 use Rattle.std.proofs.lemmas.List.Folds.{Any-from_list_any}
 use Rattle.std.specs.List.{All, Any, list_any, slice_index_or}
 use Rattle.hdfs_wire.specs.Outgoing.{Outgoing}
-use Rattle.hdfs_model.specs.declared.messages.DatanodeInfo.{DatanodeInfo}
-use Rattle.hdfs_model.specs.Causes.{SomeNodeRose}
-use Rattle.hdfs_model.specs.Counts.{Rose}
-use Rattle.hdfs_model.specs.Pipes.{WriteEnded}
-use Rattle.hdfs_model.specs.Sending.{uuids}
-use Rattle.hdfs_model.specs.Shown.{Shown}
-use Rattle.hdfs_model.proofs.Frames.{later_refl, rose_since}
+use Rattle.hdfs_cluster.specs.declared.messages.DatanodeInfo.{DatanodeInfo}
+use Rattle.hdfs_cluster.specs.Failures.{SomeNodeRose}
+use Rattle.hdfs_cluster.specs.Counts.{Rose}
+use Rattle.hdfs_cluster.specs.Pipes.{WriteEnded}
+use Rattle.hdfs_cluster.specs.Sending.{uuids}
+use Rattle.hdfs_cluster.specs.Shown.{Shown}
+use Rattle.hdfs_cluster.proofs.Frames.{later_refl, rose_since}
 use Rattle.hdfs_pipeline.specs.Driving.{Drove, StopsShort}
 use Rattle.hdfs_pipeline.specs.Pipelines.{Bad, Pipeline}
 use Rattle.hdfs_names.specs.Replacements.{ShouldReplace}
 use Rattle.hdfs_names.specs.Shown.{shown as policy_of}
-use Rattle.hdfs_recovery.specs.declared.block_plan.BlockPipeline.{BlockPipeline}
-use Rattle.hdfs_recovery.specs.declared.block_plan.RebuildSettings.{RebuildSettings}
-use Rattle.hdfs_recovery.specs.declared.block_plan.WriteFault.{WriteFault}
-use Rattle.hdfs_recovery.specs.declared.block_plan.WriteFault.TheVariants as faults
-use Rattle.hdfs_recovery.specs.Attempts.{GaveNone, GaveNoneAfter, HasRebuildCause, Standing}
-use Rattle.hdfs_recovery.specs.Between.{HasLastError, KeepsEntry, KeepsLinks, NamenodeFailed}
+use Rattle.hdfs_rebuild.specs.declared.block_plan.BlockPipeline.{BlockPipeline}
+use Rattle.hdfs_rebuild.specs.declared.block_plan.RebuildSettings.{RebuildSettings}
+use Rattle.hdfs_rebuild.specs.declared.block_plan.WriteFault.{WriteFault}
+use Rattle.hdfs_rebuild.specs.declared.block_plan.WriteFault.TheVariants as faults
+use Rattle.hdfs_rebuild.specs.Attempts.{GaveNone, GaveNoneAfter, HasRebuildCause, Standing}
+use Rattle.hdfs_rebuild.specs.Between.{HasLastError, KeepsEntry, KeepsLinks, NamenodeFailed}
 use Rattle.hdfs_block_writer.specs.OpenPipelines.{AllListedFail, GivesUp, HasCause, IsOver, ListedFails, MayBeDue, NamenodeFails, NodesFailTimes, id_of}
-use Rattle.hdfs_recovery.specs.Plans.{IsDue, without}
+use Rattle.hdfs_rebuild.specs.Plans.{IsDue, without}
 use Rattle.hdfs_block_writer.specs.Pushing.{FallsFor}
-use Rattle.hdfs_recovery.specs.Trying.{HaveFailed}
+use Rattle.hdfs_rebuild.specs.Trying.{HaveFailed}
 use Rattle.hdfs_block_writer.proofs.Failures.{fails_until}
 use Rattle.hdfs_block_writer.proofs.LettingGo.{gone_only, gone_picture, gone_told, known_of, own_none, stopped_only, until_gone, until_stopped}
 use Rattle.hdfs_block_writer.proofs.Missing.{MissedSince}
 use Rattle.hdfs_block_writer.proofs.Rebuilt.{FallsOff, before, missed_since, only_behind, safe_then, some_rose, task, then_picture, then_told, then_waits, until}
-use Rattle.hdfs_recovery.proofs.Stepping.{calls_rose_since, keeps_links_refl, keeps_links_trans, tells_since}
+use Rattle.hdfs_rebuild.proofs.Stepping.{calls_rose_since, keeps_links_refl, keeps_links_trans, tells_since}
 
 -- where nothing is left of some items, the first was left out
 first_gone : (b : Bool) (xs ys : List DatanodeInfo) (item : DatanodeInfo) → cond b xs (item ∷ ys) ≡ [] → (b ≡ true) × (xs ≡ [])

@@ -4,26 +4,26 @@ use Rattle.std.proofs.lemmas.Bool.{cases_Bool, eqb-true, eqb-false}
 use Rattle.std.proofs.lemmas.List.{get_or_default, length-map}
 use Rattle.std.specs.List.{slice_index_or}
 use Rattle.hdfs_wire.specs.Outgoing.{Outgoing}
-use Rattle.hdfs_model.specs.Picture.{Picture}
-use Rattle.hdfs_model.specs.Pipes.{WriteEnded}
-use Rattle.hdfs_model.specs.Sending.{uuids}
-use Rattle.hdfs_model.specs.Shown.{Shown}
-use Rattle.hdfs_model.specs.Writing.{Releases}
-use Rattle.hdfs_model.proofs.Frames.{later_trans, same_reads_trans, told_after}
+use Rattle.hdfs_cluster.specs.Picture.{Picture}
+use Rattle.hdfs_cluster.specs.Pipes.{WriteEnded}
+use Rattle.hdfs_cluster.specs.Sending.{uuids}
+use Rattle.hdfs_cluster.specs.Shown.{Shown}
+use Rattle.hdfs_cluster.specs.Writing.{Releases}
+use Rattle.hdfs_cluster.proofs.Frames.{later_trans, same_reads_trans, told_after}
 use Rattle.hdfs_pipeline.specs.Driving.{Drove, StopsShort}
 use Rattle.hdfs_pipeline.specs.Pipelines.{Pipeline}
-use Rattle.hdfs_blocks.specs.Carrying.{AreSlices, total}
-use Rattle.hdfs_blocks.specs.Rebuilding.{BlockHolds}
-use Rattle.hdfs_blocks.proofs.Rebuilding.{block_waits}
-use Rattle.hdfs_recovery.specs.declared.block_plan.BlockPipeline.{BlockPipeline}
-use Rattle.hdfs_recovery.specs.declared.block_plan.BlockPlan.{BlockPlan}
-use Rattle.hdfs_recovery.specs.Between.{KeepsLinks, OnlyBlockOf}
+use Rattle.hdfs_block_reader.specs.Carrying.{AreSlices, total}
+use Rattle.hdfs_block_reader.specs.Rebuilding.{BlockHolds}
+use Rattle.hdfs_block_reader.proofs.Rebuilding.{block_waits}
+use Rattle.hdfs_rebuild.specs.declared.block_plan.BlockPipeline.{BlockPipeline}
+use Rattle.hdfs_rebuild.specs.declared.block_plan.BlockPlan.{BlockPlan}
+use Rattle.hdfs_rebuild.specs.Between.{KeepsLinks, OnlyBlockOf}
 use Rattle.hdfs_block_writer.specs.OpenPipelines.{Has, OnlyOwnLink, id_of, nodes_of}
-use Rattle.hdfs_recovery.specs.Plans.{Known, Waits}
+use Rattle.hdfs_rebuild.specs.Plans.{Known, Waits}
 use Rattle.hdfs_block_writer.proofs.Driven.{has_drove}
-use Rattle.hdfs_recovery.proofs.Ending.{LinkOnly, link_only_of-ended, link_only_of-on, link_only_trans}
-use Rattle.hdfs_recovery.proofs.Resuming.{released_only, some_is}
-use Rattle.hdfs_recovery.proofs.Stepping.{only_block_of-only, only_block_of_trans, written_still}
+use Rattle.hdfs_rebuild.proofs.Ending.{LinkOnly, link_only_of-ended, link_only_of-on, link_only_trans}
+use Rattle.hdfs_rebuild.proofs.Resuming.{released_only, some_is}
+use Rattle.hdfs_rebuild.proofs.Stepping.{only_block_of-only, only_block_of_trans, written_still}
 
 -- the plan, whose block has so many bytes
 abbrev pub long_plan : BlockPlan → ℕ → BlockPlan

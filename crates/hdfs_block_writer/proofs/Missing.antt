@@ -1,22 +1,22 @@
 -- Attempts to rebuild a pipeline have failed, one behind another.
 use Rattle.std.proofs.Common.{◌≡◌, ℕ, zero, suc, ◌+◌, List, [], length, Some, refl, sym, ◌∙◌, subst, arith}
 use Rattle.std.specs.List.{slice_index_or}
-use Rattle.hdfs_model.specs.Causes.{SomeNodeRose}
-use Rattle.hdfs_model.specs.Namenode.{IsToWrite}
-use Rattle.hdfs_model.specs.Picture.{Picture}
-use Rattle.hdfs_model.specs.Sending.{uuids}
-use Rattle.hdfs_model.specs.Shown.{Shown, Later}
-use Rattle.hdfs_model.proofs.Frames.{later_refl, later_trans, rose_since}
+use Rattle.hdfs_cluster.specs.Failures.{SomeNodeRose}
+use Rattle.hdfs_cluster.specs.Namenode.{IsToWrite}
+use Rattle.hdfs_cluster.specs.Picture.{Picture}
+use Rattle.hdfs_cluster.specs.Sending.{uuids}
+use Rattle.hdfs_cluster.specs.Shown.{Shown, Later}
+use Rattle.hdfs_cluster.proofs.Frames.{later_refl, later_trans, rose_since}
 use Rattle.hdfs_pipeline.specs.Places.{ArePlaces}
-use Rattle.hdfs_blocks.specs.Carrying.{AreSlices}
-use Rattle.hdfs_recovery.specs.declared.block_plan.BlockPlan.{BlockPlan}
-use Rattle.hdfs_recovery.specs.Attempts.{Missed, MissedTimes, Standing, Task}
-use Rattle.hdfs_recovery.specs.Between.{KeepsLinks, OnlyBlockOf}
-use Rattle.hdfs_recovery.specs.Plans.{KeepsPlan, Waits}
-use Rattle.hdfs_recovery.specs.Trying.{HaveFailed}
+use Rattle.hdfs_block_reader.specs.Carrying.{AreSlices}
+use Rattle.hdfs_rebuild.specs.declared.block_plan.BlockPlan.{BlockPlan}
+use Rattle.hdfs_rebuild.specs.Attempts.{Missed, MissedTimes, Standing, Task}
+use Rattle.hdfs_rebuild.specs.Between.{KeepsLinks, OnlyBlockOf}
+use Rattle.hdfs_rebuild.specs.Plans.{KeepsPlan, Waits}
+use Rattle.hdfs_rebuild.specs.Trying.{HaveFailed}
 use Rattle.hdfs_block_writer.specs.OpenPipelines.{NodesFailTimes}
 use Rattle.hdfs_block_writer.proofs.LettingGo.{known_of}
-use Rattle.hdfs_recovery.proofs.Stepping.{keeps_links_refl, keeps_links_trans, only_block_of_refl, only_block_of_trans}
+use Rattle.hdfs_rebuild.proofs.Stepping.{keeps_links_refl, keeps_links_trans, only_block_of_refl, only_block_of_trans}
 
 pub keeps_plan_refl : (plan : BlockPlan) → KeepsPlan plan plan
 keeps_plan_refl plan = record { src = refl; pool = refl; id = refl; length = refl; replication = refl; created = refl; chunk = refl }

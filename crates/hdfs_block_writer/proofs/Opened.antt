@@ -2,28 +2,28 @@
 use Rattle.std.proofs.Common.{◌≡◌, ℕ, ◌<◌, ◌≤◌, ◌^◌, List, [], length, drop, Option, Some, None, refl, sym, ◌∙◌, ap, subst, arith}
 use Rattle.std.proofs.lemmas.List.{append-nil, drop_all, length-map}
 use Rattle.hdfs_wire.specs.Outgoing.{ArePacketSizes}
-use Rattle.hdfs_model.specs.declared.picture.OpenWrite.{OpenWrite}
-use Rattle.hdfs_model.specs.Namenode.{IsToWrite}
-use Rattle.hdfs_model.specs.Pipes.{WriteEnded, WriteOpened}
-use Rattle.hdfs_model.specs.Sending.{uuids}
-use Rattle.hdfs_model.specs.Shown.{Shown}
-use Rattle.hdfs_model.specs.Writing.{Releases, Starts}
-use Rattle.hdfs_model.proofs.Frames.{told_after}
+use Rattle.hdfs_cluster.specs.declared.picture.OpenWrite.{OpenWrite}
+use Rattle.hdfs_cluster.specs.Namenode.{IsToWrite}
+use Rattle.hdfs_cluster.specs.Pipes.{WriteEnded, WriteOpened}
+use Rattle.hdfs_cluster.specs.Sending.{uuids}
+use Rattle.hdfs_cluster.specs.Shown.{Shown}
+use Rattle.hdfs_cluster.specs.Writing.{Releases, Starts}
+use Rattle.hdfs_cluster.proofs.Frames.{told_after}
 use Rattle.hdfs_pipeline.specs.Pipelines.{Pipeline, empty_pipeline}
 use Rattle.hdfs_block_writer.specs.Packing.{filling_of, setup_of}
-use Rattle.hdfs_blocks.proofs.Beginning.{carries_begins}
-use Rattle.hdfs_blocks.proofs.OnlyBlocks.{only_block_from-Releases, only_block_same}
-use Rattle.hdfs_blocks.proofs.Rebuilding.{holds_of}
-use Rattle.hdfs_recovery.specs.declared.block_plan.BlockPipeline.{BlockPipeline}
-use Rattle.hdfs_recovery.specs.declared.block_plan.BlockPlan.{BlockPlan}
-use Rattle.hdfs_recovery.specs.declared.block_plan.RebuildSettings.{RebuildSettings}
+use Rattle.hdfs_block_reader.proofs.Beginning.{carries_begins}
+use Rattle.hdfs_block_reader.proofs.OnlyBlocks.{only_block_from-Releases, only_block_same}
+use Rattle.hdfs_block_reader.proofs.Rebuilding.{holds_of}
+use Rattle.hdfs_rebuild.specs.declared.block_plan.BlockPipeline.{BlockPipeline}
+use Rattle.hdfs_rebuild.specs.declared.block_plan.BlockPlan.{BlockPlan}
+use Rattle.hdfs_rebuild.specs.declared.block_plan.RebuildSettings.{RebuildSettings}
 use Rattle.hdfs_block_writer.specs.declared.block_writer.BlockWriter.{BlockWriter}
 use Rattle.hdfs_block_writer.specs.BlockWriters.{AreFull, GoesOver, Stands, link_in, link_of, safe_of, start_of}
 use Rattle.hdfs_block_writer.specs.OpenPipelines.{Has, IsStanding, OnlyOwnLink, id_of, nodes_of}
 use Rattle.hdfs_block_writer.specs.Written.{BeginsWhole, LetsGo}
 use Rattle.hdfs_block_writer.proofs.OwnLinks.{own_link_refl}
-use Rattle.hdfs_recovery.proofs.Resuming.{empty_is_core}
-use Rattle.hdfs_recovery.proofs.Stepping.{written_still}
+use Rattle.hdfs_rebuild.proofs.Resuming.{empty_is_core}
+use Rattle.hdfs_rebuild.proofs.Stepping.{written_still}
 use Rattle.hdfs_block_writer.proofs.Wrote.{gave_up_ended, pipe_is}
 
 module _ (plan : BlockPlan) (settings : RebuildSettings) (link : ℕ) (client : List ℕ) (w : BlockWriter) (core : Pipeline) (a b : Shown)

@@ -1,10 +1,10 @@
 -- Calls in the name of one writer, one behind another, and its own link.
 use Rattle.std.proofs.Common.{◌≡◌, ◌≢◌, ◌⊎◌, inl, inr, ⊎_elim, ℕ, ◌==◌, Bool, true, false, Option, Some, None, IsSome, refl, sym, ◌∙◌, ap, subst, arith}
 use Rattle.std.proofs.lemmas.Bool.Decides.{nat_tests}
-use Rattle.hdfs_model.specs.declared.messages.Setup.{Setup}
-use Rattle.hdfs_model.specs.Pipes.{OnlyWrites, WriteEnded, WriteOpened}
-use Rattle.hdfs_model.specs.Shown.{Shown, SameReads}
-use Rattle.hdfs_model.proofs.Frames.{later_refl, later_trans, same_reads_refl, same_reads_trans}
+use Rattle.hdfs_cluster.specs.declared.messages.Setup.{Setup}
+use Rattle.hdfs_cluster.specs.Pipes.{OnlyWrites, WriteEnded, WriteOpened}
+use Rattle.hdfs_cluster.specs.Shown.{Shown, SameReads}
+use Rattle.hdfs_cluster.proofs.Frames.{later_refl, later_trans, same_reads_refl, same_reads_trans}
 use Rattle.hdfs_pipeline.specs.Driving.{OnLink}
 use Rattle.hdfs_block_writer.specs.OpenPipelines.{OnlyOwnLink}
 

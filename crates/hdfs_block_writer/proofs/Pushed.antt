@@ -2,21 +2,21 @@
 use Rattle.std.proofs.Common.{◌≡◌, inl, inr, ℕ, pos, ◌+◌, List, [], ◌∷◌, ◌++◌, length, take, drop, Option, Some, None, refl, sym, ◌∙◌, ap, subst, arith, append_assoc}
 use Rattle.std.proofs.lemmas.List.{append-nil, drop-drop, length-drop}
 use Rattle.hdfs_wire.specs.Outgoing.{Outgoing}
-use Rattle.hdfs_model.specs.Pipes.{BeginsAt, WriteEnded}
-use Rattle.hdfs_model.specs.Sending.{offset_of, end_of as packet_end}
-use Rattle.hdfs_model.specs.Shown.{Shown}
-use Rattle.hdfs_model.specs.Writing.{Releases}
-use Rattle.hdfs_model.proofs.Frames.{told_after}
+use Rattle.hdfs_cluster.specs.Pipes.{BeginsAt, WriteEnded}
+use Rattle.hdfs_cluster.specs.Sending.{offset_of, end_of as packet_end}
+use Rattle.hdfs_cluster.specs.Shown.{Shown}
+use Rattle.hdfs_cluster.specs.Writing.{Releases}
+use Rattle.hdfs_cluster.proofs.Frames.{told_after}
 use Rattle.hdfs_pipeline.specs.Cores.{IsCore}
 use Rattle.hdfs_pipeline.specs.Driving.{Drove, EndsWith, IsGivenBack, StopsShort, taken_in}
 use Rattle.hdfs_pipeline.specs.Pipelines.{Pipeline}
-use Rattle.hdfs_blocks.specs.Carrying.{FollowFrom, total}
-use Rattle.hdfs_recovery.specs.declared.block_plan.BlockPipeline.{BlockPipeline}
-use Rattle.hdfs_recovery.specs.declared.block_plan.RebuildSettings.{RebuildSettings}
-use Rattle.hdfs_recovery.specs.declared.block_plan.WriteFault.TheVariants as faults
-use Rattle.hdfs_recovery.specs.Between.{OnlyBlockOf}
-use Rattle.hdfs_recovery.proofs.Resuming.{released_only}
-use Rattle.hdfs_recovery.proofs.Stepping.{only_block_of-only, only_block_of_trans}
+use Rattle.hdfs_block_reader.specs.Carrying.{FollowFrom, total}
+use Rattle.hdfs_rebuild.specs.declared.block_plan.BlockPipeline.{BlockPipeline}
+use Rattle.hdfs_rebuild.specs.declared.block_plan.RebuildSettings.{RebuildSettings}
+use Rattle.hdfs_rebuild.specs.declared.block_plan.WriteFault.TheVariants as faults
+use Rattle.hdfs_rebuild.specs.Between.{OnlyBlockOf}
+use Rattle.hdfs_rebuild.proofs.Resuming.{released_only}
+use Rattle.hdfs_rebuild.proofs.Stepping.{only_block_of-only, only_block_of_trans}
 use Rattle.hdfs_block_writer.specs.OpenPipelines.{Continues, Has, id_of, traffic}
 use Rattle.hdfs_block_writer.specs.Pushing.{CanPush, GoesOnBehind, Pushes, PushesNot, PushesOnce, with_core}
 use Rattle.hdfs_block_writer.proofs.Driven.{has_drove, total_take}

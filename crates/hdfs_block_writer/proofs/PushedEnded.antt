@@ -4,17 +4,17 @@ use Rattle.std.specs.List.{All, slice_index_or}
 use Rattle.std.proofs.lemmas.List.{append-nil, length-append}
 use Rattle.std.proofs.lemmas.List.Elements.{All-take}
 use Rattle.hdfs_wire.specs.Outgoing.{Outgoing}
-use Rattle.hdfs_model.specs.Shown.{Shown}
+use Rattle.hdfs_cluster.specs.Shown.{Shown}
 use Rattle.hdfs_pipeline.specs.Cores.{IsCore}
 use Rattle.hdfs_pipeline.specs.Driving.{Drove, IsGivenBack, IsNotLast, taken_in}
 use Rattle.hdfs_pipeline.specs.Pipelines.{Done, Pipeline}
-use Rattle.hdfs_blocks.specs.Carrying.{FollowFrom, total}
-use Rattle.hdfs_blocks.proofs.Prefixes.{total_cut, total_join}
-use Rattle.hdfs_recovery.specs.declared.block_plan.BlockPipeline.{BlockPipeline}
-use Rattle.hdfs_recovery.specs.declared.block_plan.RebuildSettings.{RebuildSettings}
-use Rattle.hdfs_recovery.specs.declared.block_plan.WriteFault.{WriteFault}
+use Rattle.hdfs_block_reader.specs.Carrying.{FollowFrom, total}
+use Rattle.hdfs_block_reader.proofs.Prefixes.{total_cut, total_join}
+use Rattle.hdfs_rebuild.specs.declared.block_plan.BlockPipeline.{BlockPipeline}
+use Rattle.hdfs_rebuild.specs.declared.block_plan.RebuildSettings.{RebuildSettings}
+use Rattle.hdfs_rebuild.specs.declared.block_plan.WriteFault.{WriteFault}
 use Rattle.hdfs_block_writer.specs.OpenPipelines.{IsStanding}
-use Rattle.hdfs_recovery.specs.Plans.{NoneEndsBefore}
+use Rattle.hdfs_rebuild.specs.Plans.{NoneEndsBefore}
 use Rattle.hdfs_block_writer.specs.Pushing.{CameFrom, CanPush, FallsEnded, PushesNot, PushesOnce, RebuildsEnded, bytes_in, with_core}
 use Rattle.hdfs_block_writer.proofs.Standing.{standing_drove}
 

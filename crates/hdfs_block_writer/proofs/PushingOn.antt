@@ -4,17 +4,17 @@ use Rattle.std.specs.List.{All}
 use Rattle.std.proofs.lemmas.List.{append-nil, drop-append-le, length-append, length-drop}
 use Rattle.std.proofs.lemmas.List.Elements.{All-drop}
 use Rattle.hdfs_wire.specs.Outgoing.{Outgoing}
-use Rattle.hdfs_model.specs.Shown.{Shown, Later}
+use Rattle.hdfs_cluster.specs.Shown.{Shown, Later}
 use Rattle.hdfs_pipeline.specs.Driving.{EndsInLast, IsNotLast}
-use Rattle.hdfs_blocks.specs.Carrying.{HoldsWhole, total}
-use Rattle.hdfs_blocks.proofs.Prefixes.{total_cut}
-use Rattle.hdfs_recovery.specs.declared.block_plan.BlockPipeline.{BlockPipeline}
-use Rattle.hdfs_recovery.specs.declared.block_plan.BlockPlan.{BlockPlan}
-use Rattle.hdfs_recovery.specs.declared.block_plan.RebuildSettings.{RebuildSettings}
-use Rattle.hdfs_recovery.specs.declared.block_plan.WriteFault.{WriteFault}
-use Rattle.hdfs_model.specs.Sending.{uuids}
-use Rattle.hdfs_recovery.specs.Between.{OnlyBlockOf}
-use Rattle.hdfs_recovery.proofs.Stepping.{only_block_of_refl, only_block_of_trans}
+use Rattle.hdfs_block_reader.specs.Carrying.{HoldsWhole, total}
+use Rattle.hdfs_block_reader.proofs.Prefixes.{total_cut}
+use Rattle.hdfs_rebuild.specs.declared.block_plan.BlockPipeline.{BlockPipeline}
+use Rattle.hdfs_rebuild.specs.declared.block_plan.BlockPlan.{BlockPlan}
+use Rattle.hdfs_rebuild.specs.declared.block_plan.RebuildSettings.{RebuildSettings}
+use Rattle.hdfs_rebuild.specs.declared.block_plan.WriteFault.{WriteFault}
+use Rattle.hdfs_cluster.specs.Sending.{uuids}
+use Rattle.hdfs_rebuild.specs.Between.{OnlyBlockOf}
+use Rattle.hdfs_rebuild.proofs.Stepping.{only_block_of_refl, only_block_of_trans}
 use Rattle.hdfs_block_writer.specs.OpenPipelines.{Continues, Finishes, GivesUp, Has, IsOver, IsStanding, IsSteady, id_of, traffic}
 use Rattle.hdfs_block_writer.specs.Pushing.{CanPush, FinishesNot, IsEnding, IsRebuilt, Pushes, PushesNot, PushesOnce}
 use Rattle.hdfs_block_writer.proofs.GoingOn.{gives_up_since, keeps_block_refl, keeps_block_trans, since_steady, steady_end}

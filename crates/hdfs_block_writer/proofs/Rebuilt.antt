@@ -3,40 +3,40 @@ use Rattle.std.proofs.Common.{◌≡◌, inr, ℕ, suc, ◌+◌, ◌^◌, ◌<�
 use Rattle.std.proofs.lemmas.List.{append-nil, length-map}
 use Rattle.std.specs.List.{slice_index_or}
 use Rattle.hdfs_wire.specs.Outgoing.{Outgoing}
-use Rattle.hdfs_model.specs.declared.messages.DatanodeInfo.{DatanodeInfo}
-use Rattle.hdfs_model.specs.declared.messages.Setup.{Setup}
-use Rattle.hdfs_model.specs.declared.picture.OpenWrite.{OpenWrite}
-use Rattle.hdfs_model.specs.Causes.{SomeNodeRose}
-use Rattle.hdfs_model.specs.Counts.{Rose}
-use Rattle.hdfs_model.specs.Effects.{IsBeingWritten}
-use Rattle.hdfs_model.specs.Namenode.{IsToWrite}
-use Rattle.hdfs_model.specs.Picture.{Picture}
-use Rattle.hdfs_model.specs.Pipes.{WriteEnded}
-use Rattle.hdfs_model.specs.Sending.{uuids}
-use Rattle.hdfs_model.specs.Shown.{Shown, Later}
-use Rattle.hdfs_model.proofs.Frames.{rose_since}
+use Rattle.hdfs_cluster.specs.declared.messages.DatanodeInfo.{DatanodeInfo}
+use Rattle.hdfs_cluster.specs.declared.messages.Setup.{Setup}
+use Rattle.hdfs_cluster.specs.declared.picture.OpenWrite.{OpenWrite}
+use Rattle.hdfs_cluster.specs.Failures.{SomeNodeRose}
+use Rattle.hdfs_cluster.specs.Counts.{Rose}
+use Rattle.hdfs_cluster.specs.Effects.{IsBeingWritten}
+use Rattle.hdfs_cluster.specs.Namenode.{IsToWrite}
+use Rattle.hdfs_cluster.specs.Picture.{Picture}
+use Rattle.hdfs_cluster.specs.Pipes.{WriteEnded}
+use Rattle.hdfs_cluster.specs.Sending.{uuids}
+use Rattle.hdfs_cluster.specs.Shown.{Shown, Later}
+use Rattle.hdfs_cluster.proofs.Frames.{rose_since}
 use Rattle.hdfs_pipeline.specs.Driving.{Drives, Drove, Settles}
 use Rattle.hdfs_pipeline.specs.Pipelines.{Failed, Pipeline}
 use Rattle.hdfs_pipeline.specs.Places.{ArePlaces}
-use Rattle.hdfs_blocks.specs.Carrying.{AreSlices, FollowFrom, LinkCarries, total}
-use Rattle.hdfs_blocks.specs.Rebuilding.{IsListed}
-use Rattle.hdfs_blocks.proofs.Prefixes.{slices_front}
-use Rattle.hdfs_recovery.specs.declared.block_plan.BlockPipeline.{BlockPipeline}
-use Rattle.hdfs_recovery.specs.declared.block_plan.BlockPlan.{BlockPlan}
-use Rattle.hdfs_recovery.specs.declared.block_plan.RebuildSettings.{RebuildSettings}
-use Rattle.hdfs_recovery.specs.Attempts.{MissedTimes, RebuiltAfter, Recovered, Standing, Task, standing, task_of}
-use Rattle.hdfs_recovery.specs.Between.{OnlyBlockOf}
+use Rattle.hdfs_block_reader.specs.Carrying.{AreSlices, FollowFrom, LinkCarries, total}
+use Rattle.hdfs_block_reader.specs.Rebuilding.{IsListed}
+use Rattle.hdfs_block_reader.proofs.Prefixes.{slices_front}
+use Rattle.hdfs_rebuild.specs.declared.block_plan.BlockPipeline.{BlockPipeline}
+use Rattle.hdfs_rebuild.specs.declared.block_plan.BlockPlan.{BlockPlan}
+use Rattle.hdfs_rebuild.specs.declared.block_plan.RebuildSettings.{RebuildSettings}
+use Rattle.hdfs_rebuild.specs.Attempts.{MissedTimes, RebuiltAfter, Recovered, Standing, Task, standing, task_of}
+use Rattle.hdfs_rebuild.specs.Between.{OnlyBlockOf}
 use Rattle.hdfs_block_writer.specs.OpenPipelines.{Has, IsStanding, KeepsBlock, KeepsStamp, OnlyOwnLink, id_of}
-use Rattle.hdfs_recovery.specs.Plans.{HasStamp, KeepsPlan, Waits}
+use Rattle.hdfs_rebuild.specs.Plans.{HasStamp, KeepsPlan, Waits}
 use Rattle.hdfs_block_writer.specs.Pushing.{IsRebuilt}
-use Rattle.hdfs_recovery.specs.Trying.{HaveFailed}
-use Rattle.hdfs_recovery.proofs.Ending.{LinkOnly}
+use Rattle.hdfs_rebuild.specs.Trying.{HaveFailed}
+use Rattle.hdfs_rebuild.proofs.Ending.{LinkOnly}
 use Rattle.hdfs_block_writer.proofs.Failures.{fails_until}
 use Rattle.hdfs_block_writer.proofs.LettingGo.{gone_only, gone_picture, gone_slices, gone_told, gone_waits, known_of, long_plan, now_safe, own_fresh, until_gone}
 use Rattle.hdfs_block_writer.proofs.Missing.{MissedSince, keeps_plan_trans, none_missed, times_missed}
-use Rattle.hdfs_recovery.proofs.Resuming.{some_is}
+use Rattle.hdfs_rebuild.proofs.Resuming.{some_is}
 use Rattle.hdfs_block_writer.proofs.Standing.{ends_left, follow_left, long_to_write}
-use Rattle.hdfs_recovery.proofs.Stepping.{only_block_of_trans, written_still}
+use Rattle.hdfs_rebuild.proofs.Stepping.{only_block_of_trans, written_still}
 
 -- Datanodes of a pipeline have failed while it was driven on, and its link is ended.
 pub record FallsOff (a : Shown) (pipe : BlockPipeline) (came : List Outgoing) (last : Pipeline) (z m : Shown) (failed : List ℕ) : Type 0 where

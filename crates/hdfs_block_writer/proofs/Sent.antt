@@ -4,20 +4,20 @@ use Rattle.std.specs.Prelude.{All}
 use Rattle.std.proofs.lemmas.List.{append-nil, length-append, length-drop}
 use Rattle.std.proofs.lemmas.List.Elements.{All-append, All-from_recursion, All-drop}
 use Rattle.hdfs_wire.specs.Outgoing.{Outgoing, ArePacketSizes}
-use Rattle.hdfs_model.specs.Picture.{Picture}
-use Rattle.hdfs_model.specs.Shown.{Shown}
+use Rattle.hdfs_cluster.specs.Picture.{Picture}
+use Rattle.hdfs_cluster.specs.Shown.{Shown}
 use Rattle.hdfs_pipeline.specs.Driving.{IsNotLast}
-use Rattle.hdfs_blocks.specs.Carrying.{AreSlices, FollowFrom, joined, total}
+use Rattle.hdfs_block_reader.specs.Carrying.{AreSlices, FollowFrom, joined, total}
 use Rattle.hdfs_block_writer.specs.Packing.{AreNext, IsNext, filling_of}
-use Rattle.hdfs_blocks.proofs.Prefixes.{joined_behind, joined_join, slices_from-joined, slices_join, total_cut, total_join}
-use Rattle.hdfs_recovery.specs.declared.block_plan.BlockPipeline.{BlockPipeline}
-use Rattle.hdfs_recovery.specs.declared.block_plan.RebuildSettings.{RebuildSettings}
-use Rattle.hdfs_recovery.specs.declared.block_plan.WriteFault.{WriteFault}
+use Rattle.hdfs_block_reader.proofs.Prefixes.{joined_behind, joined_join, slices_from-joined, slices_join, total_cut, total_join}
+use Rattle.hdfs_rebuild.specs.declared.block_plan.BlockPipeline.{BlockPipeline}
+use Rattle.hdfs_rebuild.specs.declared.block_plan.RebuildSettings.{RebuildSettings}
+use Rattle.hdfs_rebuild.specs.declared.block_plan.WriteFault.{WriteFault}
 use Rattle.hdfs_block_writer.specs.declared.block_writer.BlockWriter.{BlockWriter}
 use Rattle.hdfs_block_writer.specs.BlockWriters.{AreFull, Carries, GoesOver, Holds, IsFilling, IsKept, SendsFull, Stands, link_in, link_of, safe_of, start_of}
-use Rattle.hdfs_recovery.specs.Between.{OnlyBlockOf}
+use Rattle.hdfs_rebuild.specs.Between.{OnlyBlockOf}
 use Rattle.hdfs_block_writer.specs.OpenPipelines.{GivesUp, Has, IsOver, IsStanding, IsSteady, KeepsBlock, KeepsStamp, OnlyOwnLink, id_of}
-use Rattle.hdfs_recovery.specs.Plans.{HasStamp, NoneEndsBefore}
+use Rattle.hdfs_rebuild.specs.Plans.{HasStamp, NoneEndsBefore}
 use Rattle.hdfs_block_writer.specs.Pushing.{CanPush, Pushes, PushesNot}
 use Rattle.hdfs_block_writer.specs.Written.{Fills, GaveUp, IsCarrying, Keeps, StaysFull, Wrote}
 use Rattle.hdfs_block_writer.proofs.GoingOn.{gives_up_by}

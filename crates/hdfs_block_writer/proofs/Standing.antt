@@ -2,23 +2,23 @@
 use Rattle.std.proofs.Common.{◌≡◌, ℕ, zero, suc, ◌+◌, ◌^◌, ◌<◌, ◌≤◌, List, [], ◌∷◌, ◌++◌, length, take, drop, Some, sym, ◌∙◌, ap, subst, arith, append_assoc}
 use Rattle.std.proofs.lemmas.List.{append-nil, drop-append-le}
 use Rattle.hdfs_wire.specs.Outgoing.{Outgoing}
-use Rattle.hdfs_model.specs.declared.messages.Setup.{Setup}
-use Rattle.hdfs_model.specs.declared.picture.OpenWrite.{OpenWrite}
-use Rattle.hdfs_model.specs.Namenode.{IsToWrite}
-use Rattle.hdfs_model.specs.Shown.{Shown}
+use Rattle.hdfs_cluster.specs.declared.messages.Setup.{Setup}
+use Rattle.hdfs_cluster.specs.declared.picture.OpenWrite.{OpenWrite}
+use Rattle.hdfs_cluster.specs.Namenode.{IsToWrite}
+use Rattle.hdfs_cluster.specs.Shown.{Shown}
 use Rattle.hdfs_pipeline.specs.Cores.{IsCore}
 use Rattle.hdfs_pipeline.specs.Driving.{Drove}
 use Rattle.hdfs_pipeline.specs.Pipelines.{Failed, Pipeline}
 use Rattle.hdfs_pipeline.specs.Places.{ArePlaces}
-use Rattle.hdfs_blocks.specs.Carrying.{FollowFrom, total}
-use Rattle.hdfs_blocks.proofs.Recovering.{follow_drop}
-use Rattle.hdfs_recovery.specs.declared.block_plan.BlockPipeline.{BlockPipeline}
-use Rattle.hdfs_recovery.specs.declared.block_plan.BlockPlan.{BlockPlan}
-use Rattle.hdfs_recovery.specs.declared.block_plan.RebuildSettings.{RebuildSettings}
+use Rattle.hdfs_block_reader.specs.Carrying.{FollowFrom, total}
+use Rattle.hdfs_block_reader.proofs.Recovering.{follow_drop}
+use Rattle.hdfs_rebuild.specs.declared.block_plan.BlockPipeline.{BlockPipeline}
+use Rattle.hdfs_rebuild.specs.declared.block_plan.BlockPlan.{BlockPlan}
+use Rattle.hdfs_rebuild.specs.declared.block_plan.RebuildSettings.{RebuildSettings}
 use Rattle.hdfs_block_writer.specs.OpenPipelines.{IsStanding}
-use Rattle.hdfs_recovery.specs.Plans.{CanRebuild, NoneEndsBefore}
+use Rattle.hdfs_rebuild.specs.Plans.{CanRebuild, NoneEndsBefore}
 use Rattle.hdfs_block_writer.proofs.LettingGo.{long_plan}
-use Rattle.hdfs_recovery.proofs.Resuming.{some_is}
+use Rattle.hdfs_rebuild.proofs.Resuming.{some_is}
 
 -- of packets of which none but the last ends the block, the same is so of those behind the first
 ends_drop : (packets : List Outgoing) (k : ℕ) → NoneEndsBefore packets → NoneEndsBefore (drop k packets)

@@ -2,29 +2,29 @@
 use Rattle.std.proofs.Common.{◌≡◌, ℕ, ◌-◌, ◌≤◌, List, [], ◌++◌, length, take, drop, Option, Some, None, IsSome, inl, refl, sym, ◌∙◌, ap, subst, arith, append_assoc, take-append-drop}
 use Rattle.std.proofs.lemmas.List.{append-nil, drop-append-le, length-append}
 use Rattle.std.specs.List.{slice_index_or}
-use Rattle.hdfs_model.specs.Picture.{Picture}
-use Rattle.hdfs_model.specs.Pipes.{WriteEnded}
-use Rattle.hdfs_model.specs.Shown.{Shown}
-use Rattle.hdfs_model.specs.Writing.{Releases}
-use Rattle.hdfs_model.proofs.Frames.{told_after}
-use Rattle.hdfs_blocks.specs.Carrying.{joined, total}
+use Rattle.hdfs_cluster.specs.Picture.{Picture}
+use Rattle.hdfs_cluster.specs.Pipes.{WriteEnded}
+use Rattle.hdfs_cluster.specs.Shown.{Shown}
+use Rattle.hdfs_cluster.specs.Writing.{Releases}
+use Rattle.hdfs_cluster.proofs.Frames.{told_after}
+use Rattle.hdfs_block_reader.specs.Carrying.{joined, total}
 use Rattle.hdfs_block_writer.specs.Packing.{filling_of}
-use Rattle.hdfs_blocks.proofs.Links.{holds_longer}
-use Rattle.hdfs_blocks.proofs.Prefixes.{prefix_longer, prefix_short, slices_longer}
-use Rattle.hdfs_recovery.specs.declared.block_plan.BlockPipeline.{BlockPipeline}
-use Rattle.hdfs_recovery.specs.declared.block_plan.RebuildSettings.{RebuildSettings}
-use Rattle.hdfs_recovery.specs.declared.block_plan.WriteFault.{WriteFault}
-use Rattle.hdfs_recovery.specs.declared.block_plan.WriteFault.TheVariants as faults
+use Rattle.hdfs_block_reader.proofs.Links.{holds_longer}
+use Rattle.hdfs_block_reader.proofs.Prefixes.{prefix_longer, prefix_short, slices_longer}
+use Rattle.hdfs_rebuild.specs.declared.block_plan.BlockPipeline.{BlockPipeline}
+use Rattle.hdfs_rebuild.specs.declared.block_plan.RebuildSettings.{RebuildSettings}
+use Rattle.hdfs_rebuild.specs.declared.block_plan.WriteFault.{WriteFault}
+use Rattle.hdfs_rebuild.specs.declared.block_plan.WriteFault.TheVariants as faults
 use Rattle.hdfs_block_writer.specs.declared.block_writer.BlockWriter.{BlockWriter}
 use Rattle.hdfs_block_writer.specs.BlockWriters.{Carries, link_in, link_of, safe_of, start_of}
-use Rattle.hdfs_recovery.specs.Between.{OnlyBlockOf}
-use Rattle.hdfs_recovery.proofs.Stepping.{only_block_of_refl, only_block_of_trans}
+use Rattle.hdfs_rebuild.specs.Between.{OnlyBlockOf}
+use Rattle.hdfs_rebuild.proofs.Stepping.{only_block_of_refl, only_block_of_trans}
 use Rattle.hdfs_block_writer.specs.OpenPipelines.{GivesUp, Has, OnlyOwnLink, id_of, nodes_of}
 use Rattle.hdfs_block_writer.specs.Written.{Fails, Fills, GaveUp, IsCarrying, Keeps, Wrote}
 use Rattle.hdfs_block_writer.proofs.GoingOn.{gives_up_since, keeps_block_refl, keeps_block_trans, since_steady, steady_trans}
 use Rattle.hdfs_block_writer.proofs.OwnLinks.{own_link_ended, own_link_refl, own_link_trans}
-use Rattle.hdfs_recovery.specs.Plans.{HasStamp}
-use Rattle.hdfs_recovery.proofs.Resuming.{released_only}
+use Rattle.hdfs_rebuild.specs.Plans.{HasStamp}
+use Rattle.hdfs_rebuild.proofs.Resuming.{released_only}
 
 pub keeps_refl : (w : BlockWriter) → Keeps w w
 keeps_refl w = record { settings = refl; block_size = refl; chunk = refl; packet_size = refl }

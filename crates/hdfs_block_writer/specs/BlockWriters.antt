@@ -1,13 +1,13 @@
 -- A writer of one block, as its callers see it.
 use Rattle.std.specs.Prelude.{◌≡◌, ℕ, pos, ◌+◌, ◌-◌, ◌^◌, ◌<◌, ◌≤◌, List, [], ◌++◌, length, drop, All, Option, Some, None}
 use Rattle.hdfs_wire.specs.Outgoing.{Outgoing, ArePacketSizes, empty_packet}
-use Rattle.hdfs_model.specs.Picture.{Picture}
-use Rattle.hdfs_model.specs.Pipes.{FollowsOn}
-use Rattle.hdfs_model.specs.Shown.{Shown}
+use Rattle.hdfs_cluster.specs.Picture.{Picture}
+use Rattle.hdfs_cluster.specs.Pipes.{FollowsOn}
+use Rattle.hdfs_cluster.specs.Shown.{Shown}
 use Rattle.hdfs_pipeline.specs.Driving.{IsNotLast}
-use Rattle.hdfs_blocks.specs.Carrying.{joined, total}
+use Rattle.hdfs_block_reader.specs.Carrying.{joined, total}
 use Rattle.hdfs_block_writer.specs.Packing.{AreNext, IsNext, chunk_from, filling_of, size_from}
-use Rattle.hdfs_recovery.specs.declared.block_plan.BlockPipeline.{BlockPipeline}
+use Rattle.hdfs_rebuild.specs.declared.block_plan.BlockPipeline.{BlockPipeline}
 use Rattle.hdfs_block_writer.specs.declared.block_writer.BlockWriter.{BlockWriter}
 use Rattle.hdfs_block_writer.specs.OpenPipelines.{Has, IsStanding}
 

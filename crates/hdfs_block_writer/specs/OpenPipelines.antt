@@ -1,30 +1,30 @@
 -- An open pipeline of a block, which goes on as it was, or is rebuilt where datanodes of it fail.
 use Rattle.std.specs.Prelude.{◌≡◌, ◌≢◌, ◌⊎◌, ℕ, zero, suc, ◌+◌, ◌-◌, ◌<◌, ◌≤◌, false, not, List, [], ◌∷◌, ◌++◌, length as len, take, drop, All, Any, Option, Some, None, IsSome}
 use Rattle.hdfs_wire.specs.Outgoing.{Outgoing}
-use Rattle.hdfs_model.specs.declared.errors.HdfsError.TheVariants as errors
-use Rattle.hdfs_model.specs.declared.picture.BlockEntry.{BlockEntry}
-use Rattle.hdfs_model.specs.declared.picture.OpenWrite.{OpenWrite}
-use Rattle.hdfs_model.specs.Causes.{CallsRose, SomeNodeRose}
-use Rattle.hdfs_model.specs.Counts.{Rose}
-use Rattle.hdfs_model.specs.Effects.{IsBeingWritten}
-use Rattle.hdfs_model.specs.Namenode.{IsToWrite}
-use Rattle.hdfs_model.specs.Picture.{Picture}
-use Rattle.hdfs_model.specs.Sending.{WritePlace, uuids}
-use Rattle.hdfs_model.specs.Shown.{Shown, Later, SameReads}
+use Rattle.hdfs_cluster.specs.declared.errors.HdfsError.TheVariants as errors
+use Rattle.hdfs_cluster.specs.declared.picture.BlockEntry.{BlockEntry}
+use Rattle.hdfs_cluster.specs.declared.picture.OpenWrite.{OpenWrite}
+use Rattle.hdfs_cluster.specs.Failures.{CallsRose, SomeNodeRose}
+use Rattle.hdfs_cluster.specs.Counts.{Rose}
+use Rattle.hdfs_cluster.specs.Effects.{IsBeingWritten}
+use Rattle.hdfs_cluster.specs.Namenode.{IsToWrite}
+use Rattle.hdfs_cluster.specs.Picture.{Picture}
+use Rattle.hdfs_cluster.specs.Sending.{WritePlace, uuids}
+use Rattle.hdfs_cluster.specs.Shown.{Shown, Later, SameReads}
 use Rattle.hdfs_names.specs.Replacements.{ShouldReplace}
 use Rattle.hdfs_names.specs.Shown.{shown as policy_of}
 use Rattle.hdfs_pipeline.specs.Cores.{IsCore}
 use Rattle.hdfs_pipeline.specs.Driving.{Drives, Settles}
-use Rattle.hdfs_blocks.specs.Carrying.{AreSlices, FollowFrom, HoldsWhole, LinkHolds, total}
-use Rattle.hdfs_blocks.specs.Rebuilding.{IsListed}
-use Rattle.hdfs_recovery.specs.declared.block_plan.BlockPipeline.{BlockPipeline}
-use Rattle.hdfs_recovery.specs.declared.block_plan.BlockPlan.{BlockPlan}
-use Rattle.hdfs_recovery.specs.declared.block_plan.RebuildSettings.{RebuildSettings}
-use Rattle.hdfs_recovery.specs.declared.block_plan.WriteFault.{WriteFault}
-use Rattle.hdfs_recovery.specs.declared.block_plan.WriteFault.TheVariants as faults
-use Rattle.hdfs_recovery.specs.Between.{HasLastError, OnlyBlockOf}
+use Rattle.hdfs_block_reader.specs.Carrying.{AreSlices, FollowFrom, HoldsWhole, LinkHolds, total}
+use Rattle.hdfs_block_reader.specs.Rebuilding.{IsListed}
+use Rattle.hdfs_rebuild.specs.declared.block_plan.BlockPipeline.{BlockPipeline}
+use Rattle.hdfs_rebuild.specs.declared.block_plan.BlockPlan.{BlockPlan}
+use Rattle.hdfs_rebuild.specs.declared.block_plan.RebuildSettings.{RebuildSettings}
+use Rattle.hdfs_rebuild.specs.declared.block_plan.WriteFault.{WriteFault}
+use Rattle.hdfs_rebuild.specs.declared.block_plan.WriteFault.TheVariants as faults
+use Rattle.hdfs_rebuild.specs.Between.{HasLastError, OnlyBlockOf}
 use Rattle.hdfs_namenode.specs.Relaying.{TellsAsk}
-use Rattle.hdfs_recovery.specs.Plans.{HasStamp, NoneEndsBefore}
+use Rattle.hdfs_rebuild.specs.Plans.{HasStamp, NoneEndsBefore}
 
 -- the id of a pipeline's block
 abbrev pub id_of : BlockPipeline → ℕ

@@ -1,9 +1,9 @@
 -- How a writer packs the bytes of a block, and what it asks a pipeline for.
 use Rattle.std.specs.Prelude.{◌≡◌, ℕ, pos, ◌+◌, ◌-◌, ◌%◌, ◌==◌, false, List, [], ◌∷◌, length, Option, Some, None, if◌then◌else◌}
 use Rattle.hdfs_wire.specs.Outgoing.{Outgoing, limit_of}
-use Rattle.hdfs_model.specs.declared.messages.LocatedBlock.{LocatedBlock}
-use Rattle.hdfs_model.specs.declared.messages.Setup.{Setup}
-use Rattle.hdfs_model.specs.declared.messages.Stage.TheVariants as stages
+use Rattle.hdfs_cluster.specs.declared.messages.LocatedBlock.{LocatedBlock}
+use Rattle.hdfs_cluster.specs.declared.messages.Setup.{Setup}
+use Rattle.hdfs_cluster.specs.declared.messages.Stage.TheVariants as stages
 
 -- the bytes in the packet that is being filled
 abbrev pub filling_of : Option Outgoing → List ℕ

@@ -1,24 +1,24 @@
 -- What the calls of a writer of one block do.
 use Rattle.std.specs.Prelude.{◌≡◌, ◌⊎◌, ℕ, pos, ◌+◌, ◌≤◌, true, List, [], ◌++◌, length, Some, None}
 use Rattle.hdfs_wire.specs.Outgoing.{Outgoing}
-use Rattle.hdfs_model.specs.declared.messages.Block.{Block}
-use Rattle.hdfs_model.specs.declared.messages.Setup.{Setup}
-use Rattle.hdfs_model.specs.Effects.{IsBeingWritten}
-use Rattle.hdfs_model.specs.Picture.{Picture}
-use Rattle.hdfs_model.specs.Pipes.{WriteEnded, WriteOpened}
-use Rattle.hdfs_model.specs.Sending.{uuids}
-use Rattle.hdfs_model.specs.Shown.{Shown}
-use Rattle.hdfs_model.specs.Writing.{OnlyBlock}
-use Rattle.hdfs_blocks.specs.Carrying.{HoldsWhole}
+use Rattle.hdfs_cluster.specs.declared.messages.Block.{Block}
+use Rattle.hdfs_cluster.specs.declared.messages.Setup.{Setup}
+use Rattle.hdfs_cluster.specs.Effects.{IsBeingWritten}
+use Rattle.hdfs_cluster.specs.Picture.{Picture}
+use Rattle.hdfs_cluster.specs.Pipes.{WriteEnded, WriteOpened}
+use Rattle.hdfs_cluster.specs.Sending.{uuids}
+use Rattle.hdfs_cluster.specs.Shown.{Shown}
+use Rattle.hdfs_cluster.specs.Writing.{OnlyBlock}
+use Rattle.hdfs_block_reader.specs.Carrying.{HoldsWhole}
 use Rattle.hdfs_block_writer.specs.Packing.{filling_of}
-use Rattle.hdfs_recovery.specs.declared.block_plan.BlockPipeline.{BlockPipeline}
-use Rattle.hdfs_recovery.specs.declared.block_plan.BlockPlan.{BlockPlan}
-use Rattle.hdfs_recovery.specs.declared.block_plan.RebuildSettings.{RebuildSettings}
-use Rattle.hdfs_recovery.specs.declared.block_plan.WriteFault.{WriteFault}
+use Rattle.hdfs_rebuild.specs.declared.block_plan.BlockPipeline.{BlockPipeline}
+use Rattle.hdfs_rebuild.specs.declared.block_plan.BlockPlan.{BlockPlan}
+use Rattle.hdfs_rebuild.specs.declared.block_plan.RebuildSettings.{RebuildSettings}
+use Rattle.hdfs_rebuild.specs.declared.block_plan.WriteFault.{WriteFault}
 use Rattle.hdfs_block_writer.specs.declared.block_writer.BlockWriter.{BlockWriter}
 use Rattle.hdfs_block_writer.specs.BlockWriters.{AreFull, Carries, HasFailed, length_of, link_of, size_of, start_of}
-use Rattle.hdfs_recovery.specs.Between.{OnlyBlockOf}
-pub use Rattle.hdfs_recovery.specs.Opening.{OpensNone, fault_of}
+use Rattle.hdfs_rebuild.specs.Between.{OnlyBlockOf}
+pub use Rattle.hdfs_rebuild.specs.Opening.{OpensNone, fault_of}
 use Rattle.hdfs_block_writer.specs.OpenPipelines.{EndsReceived, GivesUp, IsSteady, KeepsBlock, KeepsStamp, OnlyOwnLink, RebuiltOnFailures, id_of, nodes_of}
 
 -- A new writer of this block, whose first packet has the seqno 0, with what it was asked to write with.

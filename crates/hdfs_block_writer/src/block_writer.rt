@@ -1,13 +1,11 @@
 //! Writes a block, packet by packet.
 
 ghost use Rattle.std.specs.Prelude.{◌≡◌, ◌<◌, ◌≤◌, ◌+◌, ◌-◌, ◌^◌, ◌↔◌, [], length, take, min, None, Some, Err, IsSome, IsTrue, IfOk, IfErr, OnOk};
-ghost use Rattle.hdfs_recovery.specs.declared.block_plan.WriteFault.TheVariants as faults;
+ghost use Rattle.hdfs_rebuild.specs.declared.block_plan.WriteFault.TheVariants as faults;
 
-use hdfs_model::{Block, Cluster};
+use hdfs_cluster::{Block, Cluster};
 use hdfs_namenode::NamenodeProtocol;
-use hdfs_recovery::{
-    BlockPipeline, BlockPlan, Opening, RebuildSettings, WriteFault, open_pipeline,
-};
+use hdfs_rebuild::{BlockPipeline, BlockPlan, Opening, RebuildSettings, WriteFault, open_pipeline};
 use hdfs_wire::WritePacket;
 use std::alloc::Global;
 
@@ -40,12 +38,12 @@ fn named(plan: BlockPlan, length: u64) -> Block
 }
 
 impl BlockWriter {
-    ghost use Rattle.hdfs_model.specs.Namenode.{IsToWrite};
-    ghost use Rattle.hdfs_model.specs.Pipes.{WriteEnded};
+    ghost use Rattle.hdfs_cluster.specs.Namenode.{IsToWrite};
+    ghost use Rattle.hdfs_cluster.specs.Pipes.{WriteEnded};
     ghost use Rattle.hdfs_namenode.specs.Asked.{ReachesAll};
     ghost use Rattle.hdfs_namenode.specs.Clients.{SameClient, name_of, proxy_of};
     ghost use Rattle.hdfs_block_writer.specs.Packing.{setup_of};
-    ghost use Rattle.hdfs_recovery.specs.declared.block_plan.BlockPipeline.{BlockPipeline};
+    ghost use Rattle.hdfs_rebuild.specs.declared.block_plan.BlockPipeline.{BlockPipeline};
     ghost use Rattle.hdfs_wire.specs.Outgoing.{ArePacketSizes};
     ghost use Rattle.hdfs_block_writer.specs.BlockWriters.{length_of, size_of, HasFailed, SendsFull, Holds, Stands};
     ghost use Rattle.hdfs_block_writer.specs.Written.{IsNew, OpensLink, OpensNone, BeginsWhole, Wrote, StaysFull, GaveUp, Fails, Ends, Closes, WaitsForLast, LetsGo};

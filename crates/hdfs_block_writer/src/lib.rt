@@ -6,4 +6,3 @@ mod packing;
 mod pushing;
 
 pub use block_writer::BlockWriter;
-pub use hdfs_recovery::{BlockPlan, RebuildSettings, WriteFault};

@@ -4,10 +4,10 @@ ghost use Rattle.std.specs.Prelude.{◌≡◌, ◌<◌, ◌≤◌, ◌+◌, ◌^
 ghost use Rattle.hdfs_block_writer.specs.Pushing.{bytes_in};
 
 use crate::block_writer::BlockWriter;
-use hdfs_model::Cluster;
+use hdfs_cluster::Cluster;
 use hdfs_namenode::NamenodeProtocol;
 use hdfs_pipeline::{PipelineEnd, drive_end, drive_push};
-use hdfs_recovery::{BlockPipeline, BlockPlan, Fallen, WriteFault, rebuild};
+use hdfs_rebuild::{BlockPipeline, BlockPlan, Fallen, WriteFault, rebuild};
 use hdfs_wire::{NoMemory, WritePacket};
 
 /// What came of driving a pipeline to its end.
@@ -50,7 +50,7 @@ impl BlockWriter {
     ghost use Rattle.hdfs_namenode.specs.Asked.{ReachesAll};
     ghost use Rattle.hdfs_namenode.specs.Clients.{SameClient, proxy_of};
     ghost use Rattle.hdfs_pipeline.specs.Pipelines.{Done};
-    ghost use Rattle.hdfs_blocks.specs.Carrying.{total};
+    ghost use Rattle.hdfs_block_reader.specs.Carrying.{total};
     ghost use Rattle.hdfs_block_writer.specs.OpenPipelines.{Finishes, IsStanding};
     ghost use Rattle.hdfs_block_writer.specs.Pushing.{CanPush, FallsEnded, FallsFor, FinishesNot, IsEnding, Pushes, PushesNot, PushesOnce, ReceivesAll, ReceivesOnce, RebuildsEnded, Settles};
 

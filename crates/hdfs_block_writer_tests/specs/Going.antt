@@ -1,11 +1,11 @@
 -- What a test keeps between its calls. Each is a record, so that a proof takes it as one fact.
 use Rattle.std.specs.Prelude.{◌≡◌, ◌≤◌}
-use Rattle.hdfs_model.specs.Namenode.{IsToWrite}
-use Rattle.hdfs_recovery.specs.declared.block_plan.BlockPlan.{BlockPlan}
+use Rattle.hdfs_cluster.specs.Namenode.{IsToWrite}
+use Rattle.hdfs_rebuild.specs.declared.block_plan.BlockPlan.{BlockPlan}
 use Rattle.hdfs_block_writer.specs.BlockWriters.{Stands}
 use Rattle.hdfs_block_writer.specs.declared.block_writer.BlockWriter.{BlockWriter}
-use Rattle.hdfs_cluster.specs.MemShown.{shown_of}
-use Rattle.hdfs_cluster.specs.declared.mem_cluster.MemCluster.{MemCluster}
+use Rattle.hdfs_mem_cluster.specs.MemShown.{shown_of}
+use Rattle.hdfs_mem_cluster.specs.declared.mem_cluster.MemCluster.{MemCluster}
 
 -- the writer can be called once more, over this cluster
 pub record GoesOn (cluster : MemCluster) (writer : BlockWriter) : Type 0 where

@@ -1,6 +1,6 @@
 //! A block that has bytes is gone on with, or given up.
 ghost use Rattle.std.specs.Prelude.{◌≤◌, IfSome};
-ghost use Rattle.hdfs_model.specs.Namenode.{IsToWrite};
+ghost use Rattle.hdfs_cluster.specs.Namenode.{IsToWrite};
 ghost use Rattle.hdfs_block_writer_tests.specs.Going.{GoesOn, IsPlanned};
 
 use crate::looking::{completes, next_link, on};
@@ -8,8 +8,10 @@ use crate::messages::{plan, plan_of};
 use crate::scenes::{BYTES, Ran, Scene};
 use crate::steps::{open, three_hold};
 use crate::ways::{Failure, Way, failures, never, way_of};
-use hdfs_block_writer::{BlockPlan, BlockWriter};
-use hdfs_cluster::{Appended, LocatedBlock, MemCluster};
+use hdfs_block_writer::BlockWriter;
+use hdfs_rebuild::BlockPlan;
+use hdfs_cluster::{Appended, LocatedBlock};
+use hdfs_mem_cluster::MemCluster;
 use hdfs_namenode::NamenodeProtocol;
 use std::alloc::Global;
 

@@ -1,12 +1,13 @@
 //! What is seen of block 256 once it was written.
 ghost use Rattle.std.specs.Prelude.{IfSome, IsSome};
-ghost use Rattle.hdfs_cluster.specs.MemShown.{shown_of};
+ghost use Rattle.hdfs_mem_cluster.specs.MemShown.{shown_of};
 
 use crate::messages::read_ask;
 use crate::scenes::{BYTES, Outcome, Ran, Scene};
 use bytes::Bytes;
-use hdfs_block_writer::WriteFault;
-use hdfs_cluster::{Block, Cluster, Counts, HdfsError, LocatedBlock, LocatedBlocks, MemCluster};
+use hdfs_rebuild::WriteFault;
+use hdfs_cluster::{Block, Cluster, HdfsError, LocatedBlock, LocatedBlocks};
+use hdfs_mem_cluster::{Counts, MemCluster};
 use std::alloc::Global;
 
 /// How a call has ended: `done`, or why it failed.

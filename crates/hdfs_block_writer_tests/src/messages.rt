@@ -1,9 +1,9 @@
 //! The messages of the tests: block 256 of `/f`, its datanodes, and how it is written.
 ghost use Rattle.std.specs.Prelude.{◌≡◌, ◌≤◌, IfSome, length};
-ghost use Rattle.hdfs_model.specs.Namenode.{IsToWrite};
+ghost use Rattle.hdfs_cluster.specs.Namenode.{IsToWrite};
 ghost use Rattle.hdfs_block_writer_tests.specs.Going.{IsPlanned};
 
-use hdfs_block_writer::BlockPlan;
+use hdfs_rebuild::BlockPlan;
 use hdfs_cluster::{Block, DatanodeId, DatanodeInfo, LocatedBlock, ReadAsk, Token};
 use hdfs_wire::{Blob, List, Text};
 use std::alloc::Global;

@@ -1,14 +1,16 @@
 //! Block 256 of `/f` is written over a cluster whose calls fail.
 ghost use Rattle.std.specs.Prelude.{◌<◌, ◌≤◌, IfOk, IfSome, OnOk};
 ghost use Rattle.hdfs_block_writer_tests.specs.Going.{GoesOn, IsPlanned};
-ghost use Rattle.hdfs_cluster.specs.MemShown.{shown_of};
+ghost use Rattle.hdfs_mem_cluster.specs.MemShown.{shown_of};
 ghost use Rattle.hdfs_namenode.specs.Asked.{ReachesAll};
 ghost use Rattle.hdfs_namenode.specs.Clients.{proxy_of};
 
 use crate::messages::plan;
 use crate::ways::{Failure, Way};
-use hdfs_block_writer::{BlockPlan, BlockWriter, RebuildSettings, WriteFault};
-use hdfs_cluster::{Block, Cluster, HdfsError, LocatedBlock, MemCluster, MemSettings, Store};
+use hdfs_block_writer::BlockWriter;
+use hdfs_rebuild::{BlockPlan, RebuildSettings, WriteFault};
+use hdfs_cluster::{Block, Cluster, HdfsError, LocatedBlock, MemSettings, Store};
+use hdfs_mem_cluster::MemCluster;
 use hdfs_namenode::{NameServiceProxy, NamenodeProtocol};
 use hdfs_names::ReplaceDatanodeOnFailure;
 use std::alloc::Global;

@@ -6,8 +6,10 @@ use crate::looking::{ending, held, next_link};
 use crate::messages::plan;
 use crate::scenes::{BYTES, Scene, close_writer, open_writer, settings};
 use crate::ways::{Way, failures, never};
-use hdfs_block_writer::{BlockPlan, BlockWriter, WriteFault};
-use hdfs_cluster::{Block, MemCluster};
+use hdfs_block_writer::BlockWriter;
+use hdfs_rebuild::{BlockPlan, WriteFault};
+use hdfs_cluster::Block;
+use hdfs_mem_cluster::MemCluster;
 use hdfs_namenode::NamenodeProtocol;
 use std::alloc::Global;
 

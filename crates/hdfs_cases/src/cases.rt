@@ -3,7 +3,7 @@
 use crate::checks::told;
 use crate::escapes::bytes_of;
 use hdfs_checking::{noted, store_of};
-use hdfs_cluster::MemCluster;
+use hdfs_mem_cluster::MemCluster;
 use std::alloc::Global;
 use std::fs;
 use std::test::Fail;

@@ -2,7 +2,7 @@
 
 use crate::cases::Run;
 use hdfs_checking::{Ending, answer, listed, plain_answer};
-use hdfs_cluster::MemCluster;
+use hdfs_mem_cluster::MemCluster;
 use std::alloc::Global;
 use std::test::Fail;
 

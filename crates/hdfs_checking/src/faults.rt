@@ -1,6 +1,6 @@
 //! What the loops over sessions with faults share: pairs of faults, and where a session stopped.
 
-use hdfs_cluster::Counts;
+use hdfs_mem_cluster::Counts;
 use std::alloc::Global;
 use std::test::Fail;
 

@@ -7,9 +7,12 @@ mod outages;
 mod pipelines;
 mod reads;
 
-use hdfs_cluster::{Cluster, MemCluster};
+use hdfs_cluster::Cluster;
+
+use hdfs_mem_cluster::MemCluster;
 use hdfs_fakes::{cluster, held};
-use hdfs_model::{Line, MemSettings, Reply};
+use hdfs_cluster::{Line, MemSettings};
+use hdfs_model::Reply;
 use hdfs_plain::{PlainFiles, PlainFold, PlainRefusal, PlainWorld};
 use hdfs_script::{ScriptSettings, parse, session_settings};
 use hdfs_streams::{MemSink, MemSource};

@@ -1,8 +1,8 @@
 //! Scripts over a cluster that can be looked at afterwards.
 
 use crate::{Ending, answer_on, store_of};
-use hdfs_cluster::{Cluster, MemCluster};
-use hdfs_model::LocatedBlocks;
+use hdfs_cluster::{Cluster, LocatedBlocks};
+use hdfs_mem_cluster::MemCluster;
 use hdfs_namenode::{NameServiceProxy, NamenodeProtocol};
 use hdfs_top::{Note, failed_names};
 use std::alloc::{AllocError, Global};

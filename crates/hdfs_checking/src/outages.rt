@@ -3,7 +3,7 @@
 
 use crate::faults::{none_failed, pair_of, stops_behind};
 use crate::{Ending, noted, plain_answer, store_of};
-use hdfs_cluster::Counts;
+use hdfs_mem_cluster::Counts;
 use std::alloc::Global;
 use std::test::Fail;
 

@@ -3,7 +3,7 @@
 
 use crate::faults::{none_failed, pair_of, stops_behind};
 use crate::{Ending, listed, noted, plain_answer, store_of};
-use hdfs_cluster::{Counts, MemCluster};
+use hdfs_mem_cluster::{Counts, MemCluster};
 use std::alloc::Global;
 use std::test::Fail;
 

@@ -1,14 +1,15 @@
 //! Sessions over a cluster in memory that holds a file of four bytes, by their values.
 ghost use Rattle.std.specs.Prelude.{◌<◌};
-ghost use Rattle.hdfs_client.specs.Session.{Stands};
-ghost use Rattle.hdfs_cluster.specs.MemShown.{shown_of};
+ghost use Rattle.hdfs_commands.specs.Session.{Stands};
+ghost use Rattle.hdfs_mem_cluster.specs.MemShown.{shown_of};
 
 use crate::replies;
 use crate::words::{number, push};
-use hdfs_client::Session;
-use hdfs_cluster::MemCluster;
+use hdfs_commands::Session;
+use hdfs_mem_cluster::MemCluster;
 use hdfs_fakes::{holding, settings};
-use hdfs_model::{Cluster, Command};
+use hdfs_cluster::Cluster;
+use hdfs_model::Command;
 use hdfs_session::run_session;
 use hdfs_wire::Text;
 use std::alloc::Global;

@@ -5,10 +5,10 @@ ghost use Rattle.hdfs_fakes.specs.Fakes.{shown_of};
 use crate::asking::{read, run_one};
 use crate::words::{listed, number};
 use bytes::Bytes;
-use hdfs_blocks::BlockRead;
+use hdfs_block_reader::BlockRead;
 use hdfs_connections::ConnectionCache;
 use hdfs_fakes::{FakeCluster, Look, Step, block};
-use hdfs_model::HdfsError;
+use hdfs_cluster::HdfsError;
 use std::alloc::Global;
 
 /// The bytes of packets, by what they are in hex.

@@ -1,16 +1,16 @@
 //! Files are written block by block in memory, and read back.
 ghost use Rattle.std.specs.Prelude.{◌≡◌, ◌<◌, ◌≤◌, ◌^◌, true, IfSome};
 ghost use Rattle.hdfs_client_tests.specs.Going.{GoesOn, IsFresh};
-ghost use Rattle.hdfs_files.specs.Writers.{AreSizes};
-ghost use Rattle.hdfs_model.specs.Namenode.{IsToWrite};
+ghost use Rattle.hdfs_file_writer.specs.Writers.{AreSizes};
+ghost use Rattle.hdfs_cluster.specs.Namenode.{IsToWrite};
 
 use crate::asking::{read, run_one};
 use crate::words::{number, push, text};
-use hdfs_block_writer::RebuildSettings;
-use hdfs_cluster::MemCluster;
+use hdfs_rebuild::RebuildSettings;
+use hdfs_mem_cluster::MemCluster;
 use hdfs_fakes::cluster;
-use hdfs_files::{FileWriter, WriteSizes};
-use hdfs_model::{Appended, Cluster, FileStatusMsg, HdfsError};
+use hdfs_file_writer::{FileWriter, WriteSizes};
+use hdfs_cluster::{Appended, Cluster, FileStatusMsg, HdfsError};
 use hdfs_namenode::{NameServiceProxy, NamenodeProtocol};
 use hdfs_names::{Policy, ReplaceDatanodeOnFailure};
 use hdfs_wire::Text;

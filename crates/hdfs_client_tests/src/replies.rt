@@ -1,6 +1,7 @@
 //! What a session answers, as it is printed.
 use crate::words::{listed, text};
-use hdfs_model::{Fault, HdfsError, Reply};
+use hdfs_cluster::HdfsError;
+use hdfs_model::{Fault, Reply};
 use std::alloc::Global;
 
 /// A reply: the bytes that were read, or that it is the one to an append.

@@ -1,295 +1,70 @@
--- Which calls on write links are counted, and which of them fail.
-use Rattle.std.proofs.Common.{◌≡◌, ◌≢◌, ℕ, ℤ, ◌+◌, ◌^◌, ◌<◌, ◌≤◌, zero, suc, Bool, true, false, ◌&&◌, ◌||◌, not, eqb, List, [], ◌∷◌, length, get_or, map, take, drop, Option, Some, None, is_some, IsSome, IfSome, Result, Ok, Err, refl, sym, ◌∙◌, ap, subst, arith, add-one}
-use Rattle.std.proofs.lemmas.Bool.{false≢true}
-use Rattle.std.proofs.lemmas.Bool.Decides.{nat_tests}
-use Rattle.std.proofs.lemmas.List.Sums.{sum_by-cons}
-use Rattle.std.proofs.lemmas.Slice.Eq.{bytes_eq-Decides}
-use Rattle.std.specs.Result.{IfOk, OnErr}
-use Rattle.std.specs.Str.{bytes_eq}
-use Rattle.slab.specs.Slab as slab
-use Rattle.slab.specs.Slab.{Slab, with_value}
-use Rattle.hdfs_wire.specs.declared.ack.Ack.{Ack}
-use Rattle.hdfs_wire.specs.declared.values.NoMemory.{NoMemory}
-use Rattle.hdfs_wire.specs.Outgoing.{Outgoing}
-use Rattle.hdfs_model.specs.declared.asks.LinkFault.{LinkFault}
-use Rattle.hdfs_model.specs.declared.asks.LinkFault.TheVariants as link_faults
-use Rattle.hdfs_model.specs.declared.picture.OpenWrite.{OpenWrite}
-use Rattle.hdfs_model.specs.declared.store.Line.{Line}
-use Rattle.hdfs_model.specs.declared.store.LinkKind.{LinkKind}
-use Rattle.hdfs_model.specs.declared.store.LinkKind.TheVariants as kinds
-use Rattle.hdfs_model.specs.Sending.{seqno_of, uuids}
-use Rattle.hdfs_faults.specs.declared.fault_plan.FaultPlan.{FaultPlan}
-use Rattle.hdfs_faults.specs.declared.node_plan.NodeCall.TheVariants as calls
-use Rattle.hdfs_faults.specs.Calls.{is_at_once, is_bad_ack, one_if}
-use Rattle.hdfs_faults.specs.Following.{Follows}
-use Rattle.hdfs_faults.specs.Plans.{Counts, Forgets, SamePlan, SetsUp, calls_of, fails_at, has_node, has_series, is_bad, link_faults_of, node_faults_of}
-use Rattle.hdfs_faults.specs.Series.{Series, SetUps, acks_of, kind_of, plans, sends_to}
-use Rattle.hdfs_faults.proofs.Following.{ack_follows, counts_follows, end_follows, next_kind_follows}
-use Rattle.hdfs_replicas.specs.declared.datanodes.Datanodes.{Datanodes}
-use Rattle.hdfs_cluster.specs.declared.mem_cluster.MemCluster.{MemCluster}
-use Rattle.hdfs_cluster.specs.declared.mem_link.MemLink.{MemLink}
-use Rattle.hdfs_cluster.specs.declared.mem_link.MemLink.TheVariants as links
-use Rattle.hdfs_cluster.specs.declared.write_link.MemWrite.{MemWrite}
-use Rattle.hdfs_cluster.specs.Counting.{AsksAck, AsksSend, AsksSetUp, CanCount, CountsNothing, first_of}
-use Rattle.hdfs_cluster.specs.Failures.{failure_of, is_broken, is_counted, planned_failure}
-use Rattle.hdfs_cluster.specs.Links.{write_told, OnWrites, AckedOn, AreEarlier, SendsOn, among, first_uuid}
-use Rattle.hdfs_cluster.specs.Lines.{line_of}
-use Rattle.hdfs_replicas.specs.Nodes.{SameNodes, node_at}
-use Rattle.hdfs_cluster.specs.Telling.{TellsAll, times}
-use Rattle.hdfs_cluster.specs.Writes.{told_of}
-use Rattle.hdfs_cluster.proofs.Acknowledging.{acked_falls, acked_links, acked_nodes, acked_replies, one_of, rest_due}
-use Rattle.hdfs_cluster.proofs.Counting.{NoneFalls, SameCalls, at_once, calls_node, calls_nothing, falls_counts, falls_same, nodes_stay, one_more}
-use Rattle.hdfs_cluster.proofs.Earlier.{written_earlier}
+-- What an ask leaves as it was, whatever is answered.
+use Rattle.std.proofs.Common.{inl, inr, ⊎_elim, ℕ, Bool, true, false, List, Option, Some, None, Result, Ok, Err}
+use Rattle.hdfs_cluster.specs.declared.asks.Ask.{Ask}
+use Rattle.hdfs_cluster.specs.declared.asks.Ask.TheVariants as asks
+use Rattle.hdfs_cluster.specs.declared.asks.Answer.{Answer}
+use Rattle.hdfs_cluster.specs.declared.asks.Answer.TheVariants as answers
+use Rattle.hdfs_cluster.specs.declared.asks.AskFault.{AskFault}
+use Rattle.hdfs_cluster.specs.declared.asks.AskFault.TheVariants as faults
+use Rattle.hdfs_cluster.specs.declared.messages.Block.{Block}
+use Rattle.hdfs_cluster.specs.declared.messages.LocatedBlock.{LocatedBlock}
+use Rattle.hdfs_cluster.specs.declared.picture.FileEntry.{FileEntry}
+use Rattle.hdfs_cluster.specs.Effects.{KeepsBytes, Opens, AddsBlock, ClosesIf}
+use Rattle.hdfs_cluster.specs.Picture.{Picture, SameButActive}
+use Rattle.hdfs_cluster.specs.Namenode.{Row, IsOwnOf, MayBeDone, OwnKeeps, ServesTold, src_of}
 
--- what a packet that was sent counts, whether it broke or not
-pub sends_counts : (link : ℕ) (packet : Outgoing) (broke : Bool) (nodes nodes' : Datanodes) (faults faults' : FaultPlan) (v w : MemWrite)
-    → SendsOn link packet broke (among nodes faults v) (among nodes' faults' w) → Counts faults (sends_to (first_uuid v)) broke faults'
-sends_counts link packet true nodes nodes' faults faults' v w h = h.1
-sends_counts link packet false nodes nodes' faults faults' v w h = h.1
+keeps_same : (p q : Picture) → SameButActive p q → KeepsBytes p q
+keeps_same p q same = record { held = same.files.held; defaults = same.files.defaults; reads = same.reads; writes = same.writes }
 
--- what a link that was sent on asks for
-pub asks_send : (m m' : MemCluster) (link : ℕ) (packet : Outgoing) (broke : Bool) (result : Result (Unit {0}) LinkFault) (o o' : MemLink) → slab.get m.links link ≡ Some o
-    → OnWrites (λ v w. SendsOn link packet broke (among m.nodes m.faults v) (among m'.nodes m'.faults w)) o o' → SameNodes m.nodes m'.nodes → is_counted result ≡ true → broke ≡ is_broken result
-    → IfSome (write_told (slab.get m.links link)) (λ write. AsksSend m write result m')
-asks_send m m' link packet broke result (links.Write v) (links.Write w) was h rest counted is =
-    subst (λ (o : Option OpenWrite). IfSome o (λ write. AsksSend m write result m')) (sym (ap write_told was))
-    (calls_node m m' calls.Send (first_uuid v) (is_counted result) (is_broken result) rest
-    (subst (λ (b : Bool). Counts m.faults (sends_to (first_uuid v)) b m'.faults) is (sends_counts link packet broke m.nodes m'.nodes m.faults m'.faults v w h)) counted)
-asks_send m m' link packet broke result (links.Write v) (links.Read w) was h rest counted is = absurd h
-asks_send m m' link packet broke result (links.Read v) (links.Read w) was h rest counted is = absurd h
-asks_send m m' link packet broke result (links.Read v) (links.Write w) was h rest counted is = absurd h
+own_keeps : (src : Option (List ℕ)) (p q : Picture) → OwnKeeps src p q → KeepsBytes p q
+own_keeps (Some path) p q keeps = record { held = keeps.held; defaults = keeps.defaults; reads = keeps.reads; writes = keeps.writes }
+own_keeps None p q keeps = keeps
 
--- the same where there was no memory
-pub asks_no_send : (m m' : MemCluster) (link : ℕ) (o : Option OpenWrite) (result : Result (Unit {0}) LinkFault) → SameNodes m.nodes m'.nodes → m'.faults ≡ m.faults
-    → is_counted result ≡ false → is_broken result ≡ false → IfSome o (λ write. AsksSend m write result m')
-asks_no_send m m' link None result rest same uncounted good = tt
-asks_no_send m m' link (Some write) result rest same uncounted good = calls_nothing m m' calls.Send (first_of write) (is_counted result) (is_broken result) rest same uncounted good
+keeps_own : (ask : Ask) (p q : Picture) → IsOwnOf ask p q → KeepsBytes p q
+keeps_own ask p q own = own_keeps (src_of ask) p q own.1
 
-pub never_memory : (kind : Option LinkKind) → planned_failure kind ≡ Some link_faults.NoMemory → ⊥
-never_memory None is = cc
-never_memory (Some kinds.Broken) is = cc
-never_memory (Some kinds.Refused) is = cc
-never_memory (Some kinds.BadAck) is = cc
+opens_keeps : (src : List ℕ) (file : FileEntry) (block : Option LocatedBlock) (p q : Picture) → Opens src file block p q → KeepsBytes p q
+opens_keeps src file None p q opens = opens.1.bytes
+opens_keeps src file (Some block) p q opens = opens.6.bytes
 
-and_false : (a : Bool) → (a && false) ≡ false
-and_false true = refl
-and_false false = refl
+adds_keeps : (src : List ℕ) (file : FileEntry) (previous : Option Block) (block : LocatedBlock) (p q : Picture) → AddsBlock src file previous block p q → KeepsBytes p q
+adds_keeps src file previous block p q (inl again) = again.changes.bytes
+adds_keeps src file previous block p q (inr added) = added.changes.bytes
 
-or_false : (a : Bool) → (a || false) ≡ a
-or_false true = refl
-or_false false = refl
+closes_keeps : (b : Bool) (src : List ℕ) (file : FileEntry) (last : Option Block) (p q : Picture) → ClosesIf b src file last p q → KeepsBytes p q
+closes_keeps true src file last p q changes = changes.bytes
+closes_keeps false src file last p q changes = changes.bytes
 
-and_true : (a : Bool) → (a && true) ≡ a
-and_true true = refl
-and_true false = refl
+-- the effect of a row
+pub row_keeps : (p q : Picture) (ask : Ask) (answer : Answer) → Row p ask answer q → KeepsBytes p q
+row_keeps p q (asks.GetBlockLocations src offset length) (answers.GetBlockLocations None) row = keeps_same p q row.1
+row_keeps p q (asks.GetBlockLocations src offset length) (answers.GetBlockLocations (Some found)) row = keeps_same p q row.2
+row_keeps p q asks.GetServerDefaults (answers.GetServerDefaults defaults) row = keeps_same p q row.1
+row_keeps p q (asks.Create src masked client flag parents replication block_size) (answers.Create status) row = row.2.changes.bytes
+row_keeps p q (asks.Append src client flag) (answers.Append appended) row = opens_keeps src row.1.0 appended.block p q row.1.3
+row_keeps p q (asks.AddBlock src client previous excludes file_id) (answers.AddBlock block) row = adds_keeps src row.0 previous block p q row.2
+row_keeps p q (asks.Complete src client last file_id) (answers.Complete true) row = closes_keeps row.0.is_open src row.0 last p q row.2.1
+row_keeps p q (asks.UpdateBlockForPipeline block client) (answers.UpdateBlockForPipeline located) row = keeps_same p q row.1
+row_keeps p q (asks.GetAdditionalDatanode src block existing excludes count client ids) (answers.GetAdditionalDatanode located) row = keeps_same p q row.2
+row_keeps p q (asks.UpdatePipeline client block block' nodes ids) answers.UpdatePipeline row = row.changes.bytes
+row_keeps p q (asks.RenewLease client namespaces) answers.RenewLease row = keeps_same p q row
+row_keeps p q asks.Msync answers.Msync row = keeps_same p q row
+row_keeps p q asks.GetHaServiceState (answers.GetHaServiceState state) row = keeps_same p q row
+row_keeps p q ask answer row = absurd row
 
-same_link : (l : ℕ) → eqb l l ≡ true
-same_link l = grind (arith, nat_tests)
+-- a missing answer
+pub may_be_done_keeps : (ask : Ask) (p q : Picture) → MayBeDone ask p q → KeepsBytes p q
+may_be_done_keeps ask p q (inl same) = keeps_same p q same
+may_be_done_keeps ask p q (inr (inl row)) = row_keeps p q ask row.0 row.2
+may_be_done_keeps ask p q (inr (inr own)) = keeps_own ask p q own
 
-other_link : (link l : ℕ) → l ≢ link → eqb link l ≡ false
-other_link link l apart = grind (arith, nat_tests)
-
--- a link that was forgotten isn't bad, and the others are as before
-forgotten : (b t u : Bool) → u ≡ (b && not t) → t ≡ true → u ≡ false
-forgotten b t u is own = is ∙ ap (λ (x : Bool). b && not x) own ∙ and_false b
-
-still_bad : (b t u : Bool) → u ≡ (b && not t) → t ≡ false → u ≡ b
-still_bad b t u is own = is ∙ ap (λ (x : Bool). b && not x) own ∙ and_true b
-
--- the set-up of a pipeline was counted
-module _ (m m' : MemCluster) (mid : FaultPlan) (link : ℕ) (kind : Option LinkKind) (rest : SameNodes m.nodes m'.nodes) (forgets : Forgets m.faults link mid) (sets : SetsUp mid link kind m'.faults) where
-  kind_is : calls_of m.faults SetUps + 1 < 2 ^ 64 → kind ≡ kind_of (map line_of m.loaded.items) (calls_of m.faults SetUps + 1)
-  kind_is room =
-      let loaded = map line_of m.loaded.items in
-      let same = forgets.calls SetUps in
-      sets.as_planned
-      ∙ next_kind_follows mid loaded (end_follows m.faults mid loaded link forgets m.follows) (omega (arith, same, room))
-      ∙ ap (λ (n : ℕ). kind_of loaded (n + 1)) same
-
-  own_bad : is_bad m'.faults link ≡ is_bad_ack kind
-  own_bad =
-      sets.bad link ∙ ap (λ (t : Bool). is_bad mid link || (is_bad_ack kind && t)) (same_link link) ∙ ap (λ (t : Bool). is_bad mid link || t) (and_true (is_bad_ack kind))
-      ∙ ap (λ (t : Bool). t || is_bad_ack kind) (forgotten (is_bad m.faults link) (eqb link link) (is_bad mid link) (forgets.left link) (same_link link))
-
-  other_bad : (l : ℕ) → l ≢ link → is_bad m'.faults l ≡ is_bad m.faults l
-  other_bad l apart =
-      sets.bad l ∙ ap (λ (t : Bool). is_bad mid l || (is_bad_ack kind && t)) (other_link link l apart) ∙ ap (λ (t : Bool). is_bad mid l || t) (and_false (is_bad_ack kind)) ∙ or_false (is_bad mid l)
-      ∙ still_bad (is_bad m.faults l) (eqb link l) (is_bad mid l) (forgets.left l) (other_link link l apart)
-
-  opened_bad : (result : Result ℕ LinkFault) → IfOk result (λ l. l ≡ link) → IfOk result (λ l. CanCount m SetUps → is_bad m'.faults l ≡ is_bad_ack (kind_of (map line_of m.loaded.items) (calls_of m.faults SetUps + 1)))
-  opened_bad (Ok l) is = λ can. ap (is_bad m'.faults) is ∙ own_bad ∙ ap is_bad_ack (kind_is can.room)
-  opened_bad (Err fault) is = tt
-
-  pub asks_set_up : (result : Result ℕ LinkFault) → is_counted result ≡ true → failure_of result ≡ planned_failure kind → IfOk result (λ l. l ≡ link) → write_told (slab.get m.links link) ≡ None → AsksSetUp m result m'
-  asks_set_up result counted fails opened vacant = record {
-    call = record {
-      own = λ can.
-          (let one : one_if (is_counted result) ≡ 1 = ap one_if counted in
-          let same = forgets.calls SetUps in
-          let more = one_more (calls_of mid SetUps) (calls_of m'.faults SetUps) (sets.call.own refl) (omega (arith, can.room, same)) in
-          omega (arith, more, same, one));
-      others = λ s apart. sets.call.others s apart ∙ forgets.calls s;
-      there = nodes_stay m m' rest (λ d. sets.call.plans.there d ∙ forgets.plans.there d);
-    };
-    exact = λ can sure. fails ∙ ap planned_failure (kind_is can.room);
-    bad = opened_bad result opened;
-    others = λ l shown. other_bad l (λ same. false≢true (sym (ap is_some (ap (λ (k : ℕ). write_told (slab.get m.links k)) same ∙ vacant)) ∙ shown));
-    links = sets.faults ∙ ap (λ (n : ℕ). n + one_if (is_at_once kind)) forgets.faults
-        ∙ ap (λ (b : Bool). link_faults_of m.faults + one_if b) (sym (ap (λ (b : Bool). b && is_some (failure_of result)) counted ∙ ap is_some fails ∙ at_once kind));
-    nodes = λ d. sets.nodes d ∙ forgets.nodes d;
-  }
-
--- it was not, for want of memory
-pub asks_no_set_up : (m m' : MemCluster) → SameNodes m.nodes m'.nodes → ((s : Series) → calls_of m'.faults s ≡ calls_of m.faults s) → ((d : List ℕ) → has_node m'.faults d ≡ has_node m.faults d)
-    → ((l : ℕ) → IsSome (write_told (slab.get m.links l)) → is_bad m'.faults l ≡ is_bad m.faults l) → link_faults_of m'.faults ≡ link_faults_of m.faults → ((d : List ℕ) → node_faults_of m'.faults d ≡ node_faults_of m.faults d)
-    → AsksSetUp m (Err link_faults.NoMemory) m'
-asks_no_set_up m m' rest calls there bad links nodes = record {
-  call = record { own = λ can. omega (arith, calls SetUps); others = λ s apart. calls s; there = nodes_stay m m' rest there };
-  exact = λ can counted. absurd (false≢true counted);
-  bad = tt;
-  others = bad;
-  links = omega (arith, links);
-  nodes = nodes;
-}
-
--- nor where memory was wanted once the link was forgotten
-pub asks_forgotten : (m m' : MemCluster) (mid : FaultPlan) (link : ℕ) → SameNodes m.nodes m'.nodes → Forgets m.faults link mid → SamePlan mid m'.faults → write_told (slab.get m.links link) ≡ None → AsksSetUp m (Err link_faults.NoMemory) m'
-asks_forgotten m m' mid link rest forgets same vacant =
-    asks_no_set_up m m' rest (λ s. same.calls s ∙ forgets.calls s) (λ d. same.plans.there d ∙ forgets.plans.there d)
-    (λ l shown. same.links.bad l ∙ still_bad (is_bad m.faults l) (eqb link l) (is_bad mid l) (forgets.left l)
-    (other_link link l (λ equal. false≢true (sym (ap is_some (ap (λ (k : ℕ). write_told (slab.get m.links k)) equal ∙ vacant)) ∙ shown))))
-    (same.links.faults ∙ forgets.faults) (λ d. same.nodes d ∙ forgets.nodes d)
-
--- among the first so many datanodes is the last of them
-times_some : (d : List ℕ) (uuids : List (List ℕ)) (i : ℕ) → i < length uuids → get_or uuids i [] ≡ d → 1 ≤ times d (take (suc i) uuids)
-times_some d [] i within is = absurd (omega (arith, within))
-times_some d (u ∷ uuids) zero within is =
-    let own : one_if (bytes_eq d u) ≡ 1 = ap one_if ((bytes_eq-Decides d u).1 (sym is)) in
-    omega (arith, own, sum_by-cons (λ x. one_if (bytes_eq d x)) u (take zero uuids))
-times_some d (u ∷ uuids) (suc i) within is =
-    omega (arith, times_some d uuids i (omega (arith, within)) is, sum_by-cons (λ x. one_if (bytes_eq d x)) u (take (suc i) uuids))
-
-alike : (a b : Bool) → (a ≡ true → b ≡ true) → (b ≡ true → a ≡ true) → a ≡ b
-alike true b to from = sym (to refl)
-alike false true to from = from refl
-alike false false to from = refl
-
--- an acknowledgement of a link was counted
-module _ (m m' : MemCluster) (link : ℕ) (ack : Ack) (v w : MemWrite) (h : AckedOn link ack m.faults m'.faults v w) (rest : SameNodes m.nodes m'.nodes) (due : v.acknowledged < length v.sent.items) where
-  abbrev all_lines : List Line
-  all_lines = map line_of m.loaded.items
-
-  as_lines : (s : Series) (n : ℕ) → has_series m.faults s ≡ true → calls_of m.faults s < n → fails_at m.faults s n ≡ plans all_lines s n
-  as_lines s n there later = alike (fails_at m.faults s n) (plans all_lines s n) (m.follows.planned s n) (m.follows.acts s n there later)
-
-  is_bad_as : h.bad ≡ is_bad m.faults link
-  is_bad_as = h.takes.was ∙ h.links.bad link
-
-  told : TellsAll (plans all_lines) m.faults (uuids v.setup.locs) ack.replies m'.faults
-  told = record {
-    len = h.tells.len;
-    calls = λ d there room. h.takes.calls (acks_of d) ∙ h.tells.calls d there room;
-    exact = λ i d within is there room.
-        (let some = times_some d (uuids v.setup.locs) i within is in
-        let n = calls_of m.faults (acks_of d) + times d (take (i + 1) (uuids v.setup.locs)) in
-        let next : i + 1 ≡ suc i = add-one i in
-        let later : calls_of m.faults (acks_of d) < n = omega (arith, some, ap (λ (k : ℕ). times d (take k (uuids v.setup.locs))) next) in
-        h.tells.exact i d within is there room ∙ ap one_if (as_lines (acks_of d) n there later));
-    others = λ s apart. h.takes.calls s ∙ h.tells.others s apart;
-    nodes = acked_nodes link ack m.faults m'.faults v w h;
-    asks = λ i. h.takes.asks i ∙ h.tells.asks i;
-    there = λ d. h.takes.plans.there d ∙ h.tells.there d;
-  }
-
-  abbrev d : Outgoing
-  d = one_of v.sent.items (omega arith)
-
-  waiting : map seqno_of (drop v.acknowledged v.sent.items) ≡ seqno_of (get_or v.sent.items v.acknowledged d) ∷ map seqno_of (drop (v.acknowledged + 1) v.sent.items)
-  waiting = ap (map seqno_of) (rest_due v.sent.items v.acknowledged d due)
-
-  pub asks_ack : AsksAck m link (told_of v) ack m'
-  asks_ack = record {
-    tells = told;
-    good = λ good.
-        (let taken = h.seqno.taken (is_bad_as ∙ good) in
-        (map seqno_of (drop (v.acknowledged + 1) v.sent.items), waiting ∙ ap (λ (n : ℤ). n ∷ map seqno_of (drop (v.acknowledged + 1) v.sent.items)) (sym (taken.0 d)), acked_replies link ack m.faults m'.faults v w h));
-    bad = λ bad first others is same.
-        (let left = h.seqno.left (is_bad_as ∙ bad) in
-        let both : seqno_of (get_or v.sent.items v.acknowledged d) ∷ map seqno_of (drop (v.acknowledged + 1) v.sent.items) ≡ first ∷ others = sym waiting ∙ is in
-        let one : seqno_of (get_or v.sent.items v.acknowledged d) ≡ first = cc in
-        left.0 d (same ∙ sym one));
-    left = λ l. h.takes.left l ∙ ap (λ (b : Bool). b && not (eqb link l)) (h.links.bad l);
-    links = acked_links link ack m.faults m'.faults v w h ∙ ap (λ (b : Bool). link_faults_of m.faults + one_if b) is_bad_as;
-    there = nodes_stay m m' rest (λ d. h.takes.plans.there d ∙ h.tells.there d);
-  }
-
--- the same of a slot
-pub asks_ack_on : (m m' : MemCluster) (link : ℕ) (ack : Ack) (o o' : MemLink) → slab.get m.links link ≡ Some o → OnWrites (AckedOn link ack m.faults m'.faults) o o' → SameNodes m.nodes m'.nodes
-    → ((v : MemWrite) → o ≡ links.Write v → v.acknowledged < length v.sent.items) → IfSome (write_told (slab.get m.links link)) (λ write. AsksAck m link write ack m')
-asks_ack_on m m' link ack (links.Write v) (links.Write w) was h rest waits =
-    subst (λ (o : Option OpenWrite). IfSome o (λ write. AsksAck m link write ack m')) (sym (ap write_told was)) (asks_ack m m' link ack v w h rest (waits v refl))
-asks_ack_on m m' link ack (links.Write v) (links.Read w) was h rest waits = absurd h
-asks_ack_on m m' link ack (links.Read v) (links.Read w) was h rest waits = absurd h
-asks_ack_on m m' link ack (links.Read v) (links.Write w) was h rest waits = absurd h
-
--- a link was ended
-pub counts_end : (m m' : MemCluster) (link : ℕ) → Forgets m.faults link m'.faults → slab.Updates m.links m'.links link None → m'.nodes ≡ m.nodes → SameCalls m m' → CountsNothing m m'
-counts_end m m' link forgets updates same asked = record {
-  counts = record { calls = asked; links = forgets.faults; nodes = forgets.nodes };
-  calls = forgets.calls;
-  bad = λ l shown. still_bad (is_bad m.faults l) (eqb link l) (is_bad m'.faults l) (forgets.left l)
-      (other_link link l (λ equal. false≢true (sym (ap is_some (ap (λ (k : ℕ). write_told (slab.get m'.links k)) equal ∙ ap write_told updates.changed)) ∙ shown)));
-  there = λ d has. record { there = ap (λ (ns : Datanodes). is_some (node_at ns d)) same ∙ has.there; counted = forgets.plans.there d ∙ has.counted };
-}
-
--- a plan goes on following where a packet was sent
-pub sends_follow : (link : ℕ) (packet : Outgoing) (broke : Bool) (nodes nodes' : Datanodes) (faults faults' : FaultPlan) (loaded : List Line) (o o' : MemLink) → OnWrites (λ v w. SendsOn link packet broke (among nodes faults v) (among nodes' faults' w)) o o' → Follows faults loaded → Follows faults' loaded
-sends_follow link packet broke nodes nodes' faults faults' loaded (links.Write v) (links.Write w) h was =
-    counts_follows faults faults' loaded (sends_to (first_uuid v)) broke (sends_counts link packet broke nodes nodes' faults faults' v w h) was
-sends_follow link packet broke nodes nodes' faults faults' loaded (links.Write v) (links.Read w) h was = absurd h
-sends_follow link packet broke nodes nodes' faults faults' loaded (links.Read v) (links.Read w) h was = absurd h
-sends_follow link packet broke nodes nodes' faults faults' loaded (links.Read v) (links.Write w) h was = absurd h
-
--- and where an acknowledgement came
-pub acks_follow : (link : ℕ) (ack : Ack) (faults faults' : FaultPlan) (loaded : List Line) (o o' : MemLink) → OnWrites (AckedOn link ack faults faults') o o' → Follows faults loaded → Follows faults' loaded
-acks_follow link ack faults faults' loaded (links.Write v) (links.Write w) h was = ack_follows h.told faults' loaded link h.bad h.takes (h.goes_on loaded was)
-acks_follow link ack faults faults' loaded (links.Write v) (links.Read w) h was = absurd h
-acks_follow link ack faults faults' loaded (links.Read v) (links.Read w) h was = absurd h
-acks_follow link ack faults faults' loaded (links.Read v) (links.Write w) h was = absurd h
-
--- the same of the results of calls
-pub sends_follow_on : (P : Type 0) (link : ℕ) (packet : Outgoing) (result : Result Bool NoMemory) (nodes nodes' : Datanodes) (faults faults' : FaultPlan) (loaded : List Line) (o o' : MemLink)
-    → IfOk result (λ broke. OnWrites (λ v w. SendsOn link packet broke (among nodes faults v) (among nodes' faults' w)) o o') → OnErr result (P × (faults' ≡ faults)) → Follows faults loaded → Follows faults' loaded
-sends_follow_on P link packet (Ok broke) nodes nodes' faults faults' loaded o o' ok err was = sends_follow link packet broke nodes nodes' faults faults' loaded o o' ok was
-sends_follow_on P link packet (Err e) nodes nodes' faults faults' loaded o o' ok err was = subst (λ (p : FaultPlan). Follows p loaded) (sym err.1) was
-
-pub acks_follow_on : (P : Type 0) (link : ℕ) (result : Result Ack NoMemory) (faults faults' : FaultPlan) (loaded : List Line) (o o' : MemLink)
-    → IfOk result (λ ack. OnWrites (AckedOn link ack faults faults') o o') → OnErr result (P × (faults' ≡ faults)) → Follows faults loaded → Follows faults' loaded
-acks_follow_on P link (Ok ack) faults faults' loaded o o' ok err was = acks_follow link ack faults faults' loaded o o' ok was
-acks_follow_on P link (Err e) faults faults' loaded o o' ok err was = subst (λ (p : FaultPlan). Follows p loaded) (sym err.1) was
-
--- no count falls where a packet was sent
-sends_fall : (link : ℕ) (packet : Outgoing) (broke : Bool) (nodes nodes' : Datanodes) (faults faults' : FaultPlan) (o o' : MemLink) → OnWrites (λ v w. SendsOn link packet broke (among nodes faults v) (among nodes' faults' w)) o o' → NoneFalls faults faults'
-sends_fall link packet broke nodes nodes' faults faults' (links.Write v) (links.Write w) h = falls_counts faults faults' (sends_to (first_uuid v)) broke (sends_counts link packet broke nodes nodes' faults faults' v w h)
-sends_fall link packet broke nodes nodes' faults faults' (links.Write v) (links.Read w) h = absurd h
-sends_fall link packet broke nodes nodes' faults faults' (links.Read v) (links.Read w) h = absurd h
-sends_fall link packet broke nodes nodes' faults faults' (links.Read v) (links.Write w) h = absurd h
-
-acks_fall : (link : ℕ) (ack : Ack) (faults faults' : FaultPlan) (o o' : MemLink) → OnWrites (AckedOn link ack faults faults') o o' → NoneFalls faults faults'
-acks_fall link ack faults faults' (links.Write v) (links.Write w) h = acked_falls link ack faults faults' v w h
-acks_fall link ack faults faults' (links.Write v) (links.Read w) h = absurd h
-acks_fall link ack faults faults' (links.Read v) (links.Read w) h = absurd h
-acks_fall link ack faults faults' (links.Read v) (links.Write w) h = absurd h
-
--- and the reads stay opened earlier
-pub sends_earlier : (P : MemWrite → MemWrite → Type 0) (s : Slab MemLink) (link : ℕ) (packet : Outgoing) (result : Result Bool NoMemory) (nodes nodes' : Datanodes) (faults faults' : FaultPlan) (o o' : MemLink)
-    → IfOk result (λ broke. OnWrites (λ v w. SendsOn link packet broke (among nodes faults v) (among nodes' faults' w)) o o') → OnErr result (OnWrites P o o' × (faults' ≡ faults)) → slab.get s link ≡ Some o
-    → AreEarlier s faults → AreEarlier (with_value s link o') faults'
-sends_earlier P s link packet (Ok broke) nodes nodes' faults faults' o o' ok err was =
-    written_earlier (λ v w. SendsOn link packet broke (among nodes faults v) (among nodes' faults' w)) s faults faults' link o o' was ok (sends_fall link packet broke nodes nodes' faults faults' o o' ok)
-sends_earlier P s link packet (Err e) nodes nodes' faults faults' o o' ok err was = written_earlier P s faults faults' link o o' was err.0 (falls_same faults faults' err.1)
-
-pub acks_earlier : (P : MemWrite → MemWrite → Type 0) (s : Slab MemLink) (link : ℕ) (result : Result Ack NoMemory) (faults faults' : FaultPlan) (o o' : MemLink)
-    → IfOk result (λ ack. OnWrites (AckedOn link ack faults faults') o o') → OnErr result (OnWrites P o o' × (faults' ≡ faults)) → slab.get s link ≡ Some o → AreEarlier s faults → AreEarlier (with_value s link o') faults'
-acks_earlier P s link (Ok ack) faults faults' o o' ok err was = written_earlier (AckedOn link ack faults faults') s faults faults' link o o' was ok (acks_fall link ack faults faults' o o' ok)
-acks_earlier P s link (Err e) faults faults' o o' ok err was = written_earlier P s faults faults' link o o' was err.0 (falls_same faults faults' err.1)
+-- an ask changes neither what datanodes hold, nor the defaults, nor the links
+pub served_keeps : (risen : Type 0) (p q : Picture) (i : ℕ) (ask : Ask) (result : Result Answer AskFault) → ServesTold risen p i ask result q → KeepsBytes p q
+served_keeps risen p q i ask (Ok answer) h =
+    ⊎_elim (λ given. ⊎_elim (row_keeps p q ask answer) (keeps_own ask p q) given.2) (λ no. may_be_done_keeps ask p q no.2) h
+served_keeps risen p q i ask (Err faults.NoMemory) h = may_be_done_keeps ask p q h.1
+served_keeps risen p q i ask (Err (faults.Exception class message)) h =
+    ⊎_elim (λ standby. keeps_same p q standby.2.rest) (λ rest. ⊎_elim (λ refused. keeps_same p q refused.2.rest) (λ more. ⊎_elim (λ own. keeps_own ask p q own.2) (λ rose. may_be_done_keeps ask p q rose.1) more) rest) h
+served_keeps risen p q i ask (Err faults.Broken) h = may_be_done_keeps ask p q h.1
+served_keeps risen p q i ask (Err (faults.BadReply fault)) h = may_be_done_keeps ask p q h.1
+served_keeps risen p q i ask (Err (faults.Fatal class message)) h = may_be_done_keeps ask p q h.1

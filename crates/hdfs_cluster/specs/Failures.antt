@@ -1,46 +1,94 @@
--- How calls on links fail.
-use Rattle.std.specs.Prelude.{Bool, true, false, Option, Some, None, Result, Ok, Err}
-use Rattle.hdfs_model.specs.declared.asks.LinkFault.{LinkFault}
-use Rattle.hdfs_model.specs.declared.asks.LinkFault.TheVariants as link_faults
-use Rattle.hdfs_model.specs.declared.store.LinkKind.{LinkKind}
-use Rattle.hdfs_model.specs.declared.store.LinkKind.TheVariants as link_kinds
+-- What an error says has failed, and what a namenode has answered last: over any cluster, whoever answers it.
+use Rattle.std.specs.Prelude.{◌≡◌, ℕ, ◌<◌, true, false, List, All, Any}
+use Rattle.hdfs_cluster.specs.declared.errors.HdfsError.{HdfsError}
+use Rattle.hdfs_cluster.specs.declared.errors.HdfsError.TheVariants as errors
+use Rattle.hdfs_cluster.specs.declared.errors.IoFault.TheVariants as io_faults
+use Rattle.hdfs_cluster.specs.declared.errors.TransferFault.TheVariants as transfer
+use Rattle.hdfs_cluster.specs.declared.picture.LastAnswer.{LastAnswer}
+use Rattle.hdfs_cluster.specs.declared.picture.LastAnswer.TheVariants as last_answers
+use Rattle.hdfs_cluster.specs.Counts.{CallsRoseTimes, FaultCounts, Rose, RoseTwice}
+use Rattle.hdfs_cluster.specs.Namenode.{is_taken}
+use Rattle.hdfs_cluster.specs.Shown.{Shown}
 
--- the connection broke
-abbrev pub is_broken : {X : Type 0} → Result X LinkFault → Bool
-is_broken (Ok value) = false
-is_broken (Err link_faults.NoMemory) = false
-is_broken (Err link_faults.Broken) = true
-is_broken (Err link_faults.Refused) = false
+-- a namenode has failed
+abbrev pub CallsRose : FaultCounts → Shown → Type 0
+CallsRose old new = (i : ℕ) × (i < new.namenodes) × Rose (old.calls i) (new.counts.calls i)
 
--- the datanode refused
-abbrev pub is_refused : {X : Type 0} → Result X LinkFault → Bool
-is_refused (Ok value) = false
-is_refused (Err link_faults.NoMemory) = false
-is_refused (Err link_faults.Broken) = false
-is_refused (Err link_faults.Refused) = true
+-- some datanode has failed
+abbrev pub SomeNodeRose : FaultCounts → Shown → Type 0
+SomeNodeRose old new = (node : List ℕ) × Rose (old.nodes node) (new.counts.nodes node)
 
--- the call is counted: there was memory for it
-abbrev pub is_counted : {X : Type 0} → Result X LinkFault → Bool
-is_counted (Ok value) = true
-is_counted (Err link_faults.NoMemory) = false
-is_counted (Err link_faults.Broken) = true
-is_counted (Err link_faults.Refused) = true
+-- one of these datanodes has failed
+abbrev pub OneRose : FaultCounts → FaultCounts → List (List ℕ) → Type 0
+OneRose old new nodes = Any (λ node. Rose (old.nodes node) (new.nodes node)) nodes
 
--- how a set-up failed
-abbrev pub failure_of : {X : Type 0} → Result X LinkFault → Option LinkFault
-failure_of (Ok value) = None
-failure_of (Err fault) = Some fault
+-- each of them has
+abbrev pub EachRose : FaultCounts → FaultCounts → List (List ℕ) → Type 0
+EachRose old new nodes = All (λ node. Rose (old.nodes node) (new.nodes node)) nodes
 
--- how a set-up fails that is planned so; one with a bad acknowledgement to come doesn't
-abbrev pub planned_failure : Option LinkKind → Option LinkFault
-planned_failure None = None
-planned_failure (Some link_kinds.Broken) = Some link_faults.Broken
-planned_failure (Some link_kinds.Refused) = Some link_faults.Refused
-planned_failure (Some link_kinds.BadAck) = None
+-- what has failed
+pub data Failure : Type 0 where
+  -- nothing that it says: it is a refusal, an exception, or want of memory
+  Nothing : Failure
+  -- a namenode
+  ANamenode : Failure
+  -- this namenode, twice
+  Twice : ℕ → Failure
+  -- namenodes, so many times
+  Times : ℕ → Failure
+  -- the links
+  TheLinks : Failure
+  -- a datanode
+  ADatanode : Failure
 
--- how a transfer fails that is planned so; no acknowledgement of it comes to be bad, and where that is planned the connection breaks
-abbrev pub planned_transfer_failure : Option LinkKind → Option LinkFault
-planned_transfer_failure None = None
-planned_transfer_failure (Some link_kinds.Broken) = Some link_faults.Broken
-planned_transfer_failure (Some link_kinds.Refused) = Some link_faults.Refused
-planned_transfer_failure (Some link_kinds.BadAck) = Some link_faults.Broken
+-- what an error says has failed
+abbrev pub failure_of : HdfsError → Failure
+failure_of (errors.IOError (io_faults.Namenode last)) = Twice last
+failure_of (errors.IOError io_faults.Link) = TheLinks
+failure_of (errors.DataTransferError transfer.Setup) = TheLinks
+failure_of (errors.DataTransferError (transfer.BadAck seqno)) = TheLinks
+failure_of (errors.DataTransferError transfer.AllNodes) = ADatanode
+failure_of (errors.DataTransferError transfer.NoReplacement) = ADatanode
+failure_of (errors.DataTransferError (transfer.RebuildLimit rebuilds)) = ADatanode
+failure_of (errors.OperationFailed name) = Times 5
+failure_of (errors.InvalidRPCResponse fault) = ANamenode
+failure_of (errors.FatalRPCError class message) = ANamenode
+failure_of error = Nothing
+
+-- it has, from one moment to another
+abbrev pub HasFailed : Failure → Shown → Shown → Type 0
+HasFailed Nothing old new = Unit {0}
+HasFailed ANamenode old new = CallsRose old.counts new
+HasFailed (Twice i) old new = (i < new.namenodes) × RoseTwice (old.counts.calls i) (new.counts.calls i)
+HasFailed (Times n) old new = CallsRoseTimes new.namenodes n old.counts new.counts
+HasFailed TheLinks old new = Rose old.counts.links new.counts.links
+HasFailed ADatanode old new = SomeNodeRose old.counts new
+
+-- the last answer of a namenode was an exception that says that something stands at the path, with this message
+abbrev pub IsTakenBy : List ℕ → LastAnswer → Type 0
+IsTakenBy message last = (class : List ℕ) × (is_taken class ≡ true) × (last ≡ last_answers.Exception class message)
+
+-- what an error says of the last answer of a namenode
+abbrev pub SaysLast : LastAnswer → HdfsError → Type 0
+SaysLast last (errors.IOError (io_faults.Namenode i)) = last ≡ last_answers.Broken
+SaysLast last (errors.AlreadyExists message) = IsTakenBy message last
+SaysLast last (errors.OperationFailed name) = last ≡ last_answers.Fine
+SaysLast last (errors.FileNotFound path) = last ≡ last_answers.Fine
+SaysLast last (errors.RPCError class message) = (is_taken class ≡ false) × (last ≡ last_answers.Exception class message)
+SaysLast last (errors.InvalidRPCResponse fault) = last ≡ last_answers.BadReply fault
+SaysLast last (errors.FatalRPCError class message) = last ≡ last_answers.Fatal class message
+SaysLast last error = Unit {0}
+
+-- what an error means, from one moment to another
+abbrev pub Means : Shown → Shown → HdfsError → Type 0
+Means old new error = SaysLast new.last error × HasFailed (failure_of error) old new
+
+-- the error is one of an ask of namenodes
+abbrev pub IsOfAsk : HdfsError → Type 0
+IsOfAsk errors.NoMemory = Unit {0}
+IsOfAsk (errors.IOError (io_faults.Namenode last)) = Unit {0}
+IsOfAsk (errors.AlreadyExists message) = Unit {0}
+IsOfAsk (errors.RPCError class message) = Unit {0}
+IsOfAsk (errors.InvalidRPCResponse fault) = Unit {0}
+IsOfAsk (errors.FatalRPCError class message) = Unit {0}
+IsOfAsk error = ⊥

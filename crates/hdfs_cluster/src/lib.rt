@@ -1,29 +1,28 @@
-//! A cluster in memory: namenodes and datanodes that hold the files and faults that were loaded into them.
+//! The outside as a client sees it: the messages of namenodes and datanodes, their calls, and what these do.
 #![tactic(auto)]
 
-mod as_cluster;
-mod as_store;
-mod config;
-mod counts;
-mod known;
-mod loaded;
-mod loading;
-mod mem_cluster;
-mod mem_link;
-mod planned_asks;
-mod read_link;
-mod responding;
-mod set_up;
-mod shortening;
-mod storing;
-mod write_link;
+mod asks;
+mod attributes;
+mod cluster;
+mod copies;
+mod errors;
+mod limits;
+mod mem_settings;
+mod messages;
+mod picture;
+mod store;
 
-pub use counts::Counts;
-pub use hdfs_model::{
-    AddFault, Answer, Appended, ArgFault, Ask, AskFault, AskKind, Attributes, Block, BlockEntry,
-    Cluster, Command, DatanodeId, DatanodeInfo, Entry, Fault, FaultLine, FileEntry, FileStatusMsg,
-    HdfsError, LastAnswer, Line, LinkFault, LinkKind, LocatedBlock, LocatedBlocks, MemSettings,
-    OpenRead, OpenWrite, ReadAsk, ReadKind, ReadPlace, Reply, ServerDefaults, Settings, Setup,
-    Stage, Store, Token, Transfer, TransferFault, is_path, nearest_ancestor, parent_of,
+pub use asks::{Answer, Ask, AskFault, LinkFault};
+pub use attributes::Attributes;
+pub use cluster::Cluster;
+pub use copies::{copy_acl_entries, copy_ids, copy_nodes, copy_optional_text, copy_texts};
+pub use errors::{ArgFault, Feature, HdfsError, IoFault, TransferFault};
+pub use limits::{MAX_CHUNK, MAX_PACKET, is_block_size, is_permission, is_replication};
+pub use mem_settings::{MAX_NODES, MemSettings};
+pub use messages::{
+    AclEntryMsg, AclStatusMsg, Appended, Block, DatanodeId, DatanodeInfo, DirList, EncryptionKey,
+    FileStatusMsg, LocatedBlock, LocatedBlocks, ReadAsk, ServerDefaults, Setup, Stage, Summary,
+    Token, Transfer,
 };
-pub use mem_cluster::MemCluster;
+pub use picture::{BlockEntry, Entry, FileEntry, LastAnswer, OpenRead, OpenWrite, ReadPlace};
+pub use store::{AddFault, AskKind, FaultLine, Line, LinkKind, ReadKind, Store};

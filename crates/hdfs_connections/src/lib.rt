@@ -4,4 +4,3 @@
 mod connection_cache;
 
 pub use connection_cache::ConnectionCache;
-pub use hdfs_wire::NoMemory;

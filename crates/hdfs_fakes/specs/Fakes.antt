@@ -1,13 +1,13 @@
 -- What the cluster that gives what it is told to give shows.
 use Rattle.std.specs.Prelude.{◌≡◌, ◌<◌, [], Bool, true, false, Some, None}
 use Rattle.std.proofs.lemmas.Option.{none-some}
-use Rattle.hdfs_model.specs.Picture.{Picture}
-use Rattle.hdfs_model.specs.declared.picture.LastAnswer.{LastAnswer}
-use Rattle.hdfs_model.specs.declared.picture.LastAnswer.TheVariants as last_answers
+use Rattle.hdfs_cluster.specs.Picture.{Picture}
+use Rattle.hdfs_cluster.specs.declared.picture.LastAnswer.{LastAnswer}
+use Rattle.hdfs_cluster.specs.declared.picture.LastAnswer.TheVariants as last_answers
 use Rattle.slab.specs.Slab as slab
-use Rattle.hdfs_model.specs.Pipes.{ShowsWrites}
-use Rattle.hdfs_model.specs.Shown.{Shown}
-use Rattle.hdfs_model.specs.Sound.{IsSound}
+use Rattle.hdfs_cluster.specs.Pipes.{ShowsWrites}
+use Rattle.hdfs_cluster.specs.Shown.{Shown}
+use Rattle.hdfs_cluster.specs.Sound.{IsSound}
 use Rattle.hdfs_fakes.specs.declared.fake_cluster.FakeCluster.{FakeCluster}
 
 -- how the last ask ended

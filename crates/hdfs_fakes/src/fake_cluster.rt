@@ -4,14 +4,8 @@ ghost use Rattle.hdfs_wire.specs.Outgoing.{checksums};
 ghost use Rattle.hdfs_fakes.specs.Blocks.{IsPair};
 
 use bytes::Bytes;
-use hdfs_model::{
-    Answer, Ask, AskFault, Block, Cluster, DatanodeId, DatanodeInfo, LinkFault, LocatedBlock,
-    LocatedBlocks, OpenRead, OpenWrite, ReadAsk, ServerDefaults, Setup, Token, Transfer,
-};
-use hdfs_wire::{
-    Ack, Blob, ChecksumInfo, List, NoMemory, PacketHeader, ReadPacket, Text, WritePacket,
-    put_checksums,
-};
+use hdfs_cluster::{Answer, Ask, AskFault, Block, Cluster, DatanodeId, DatanodeInfo, LinkFault, LocatedBlock, LocatedBlocks, OpenRead, OpenWrite, ReadAsk, ServerDefaults, Setup, Token, Transfer};
+use hdfs_wire::{Ack, Blob, ChecksumInfo, List, NoMemory, PacketHeader, ReadPacket, Text, WritePacket, put_checksums};
 use slab::Slab;
 use std::alloc::Global;
 use std::collections::VecDeque;
@@ -220,8 +214,8 @@ fn packet(
 }
 
 impl Cluster for FakeCluster {
-    ghost use Rattle.hdfs_model.specs.Pipes.{WriteEnded};
-    ghost use Rattle.hdfs_model.specs.Shown.{Served};
+    ghost use Rattle.hdfs_cluster.specs.Pipes.{WriteEnded};
+    ghost use Rattle.hdfs_cluster.specs.Shown.{Served};
     ghost use Rattle.hdfs_fakes.specs.Fakes.{shown_of, no_picture, no_writes, nothing_shown};
 
     ghost shown = { shown_of };

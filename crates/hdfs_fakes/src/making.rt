@@ -1,9 +1,12 @@
 //! What tests are made of: a cluster in memory, one that holds a file, and the settings of a session.
 ghost use Rattle.std.specs.Prelude.{◌≡◌, ◌<◌, IfOk};
-ghost use Rattle.hdfs_cluster.specs.MemShown.{shown_of};
+ghost use Rattle.hdfs_mem_cluster.specs.MemShown.{shown_of};
 
-use hdfs_cluster::{MemCluster, MemSettings};
-use hdfs_model::{AddFault, Attributes, Line, Settings, Store};
+use hdfs_cluster::MemSettings;
+
+use hdfs_mem_cluster::MemCluster;
+use hdfs_cluster::{AddFault, Attributes, Line, Store};
+use hdfs_model::Settings;
 use hdfs_names::{Policy, ReplaceDatanodeOnFailure};
 use hdfs_wire::{Blob, NoMemory, Text};
 use std::alloc::Global;

@@ -1,12 +1,10 @@
 -- What the operations on vectors of 32 bytes hold at each lane.
 use Rattle.std.proofs.Common.{[], map, Bor, ◌≡◌, ℕ, ◌+◌, ◌*◌, ◌/◌, ◌%◌, ◌^◌, ◌<◌, ◌≤◌, List, length, get_or, replicate, inl, inr, subst, ◌-◌, refl, sym, ap, ◌∙◌, arith, w8, Fits}
 use Rattle.std.specs.Prelude.{bit_and, bit_xor}
-use Rattle.std.specs.Simd.Lanes.{zip2, Each1}
+use Rattle.std.specs.Simd.Lanes.{zip2, Each1, put_chunk}
 use Rattle.std.proofs.lemmas.Nat.{and_mask}
-use Rattle.std.proofs.lemmas.Simd.{length-zip2, get_or-zip2, get_or-replicate, length-swz_l, get_or-swz_l_below, swz_l, SwzOk, SwzOk-from_below, Each1-from_get_or, Each1-get_or}
+use Rattle.std.proofs.lemmas.Simd.{length-zip2, get_or-zip2, get_or-replicate, length-swz_l, get_or-swz_l_below, swz_l, SwzOk, SwzOk-from_below, Each1-from_get_or, Each1-get_or, length-put_chunk, get_or-put_chunk_below, get_or-put_chunk_at, get_or-put_chunk_above}
 use Rattle.std.proofs.lemmas.Bool.{cases_lt}
-use Rattle.std.proofs.lemmas.Simd.{length-put_chunk, get_or-put_chunk_below, get_or-put_chunk_at, get_or-put_chunk_above}
-use Rattle.std.specs.Simd.Lanes.{put_chunk}
 use Rattle.std.proofs.Math.Nat.{mod-eq_of_lt}
 use Rattle.hdfs_field.specs.declared.gf256.GF256.{GF256}
 use Rattle.hdfs_field.specs.Elements.{element, gf256, product}

@@ -1,6 +1,5 @@
 -- The laws of a commutative ring, and of the sums in it.
-use Rattle.std.proofs.Common.{◌≡◌, ◌≢◌, ℕ, zero, suc, ◌<◌, Bool, cond, refl, sym, ap, ◌∙◌, eq-eqb, arith}
-use Rattle.std.proofs.Common.{inl, inr}
+use Rattle.std.proofs.Common.{◌≡◌, ◌≢◌, ℕ, zero, suc, ◌<◌, Bool, cond, refl, sym, ap, ◌∙◌, eq-eqb, arith, inl, inr}
 use Rattle.std.proofs.lemmas.Bool.{ne_eqb, cases_eq}
 use Rattle.hdfs_field.specs.Rings.{Operations, IsCommutativeRing}
 use Rattle.hdfs_field.specs.Matrices.{total, unit_at}

@@ -6,4 +6,3 @@ mod files;
 mod namespaces;
 
 pub use file_leases::{FileLeases, LeaseNeed};
-pub use hdfs_wire::{List, NoMemory, Text};

@@ -3,21 +3,22 @@ use Rattle.std.proofs.Common.{◌≡◌, ⊎_elim, inl, inr, ℕ, Bool, true, fa
 use Rattle.std.proofs.lemmas.Bool.{false≢true}
 use Rattle.hdfs_model.specs.declared.commands.Command.{Command}
 use Rattle.hdfs_model.specs.declared.commands.Command.TheVariants as commands
-use Rattle.hdfs_model.specs.declared.errors.ArgFault.TheVariants as args
-use Rattle.hdfs_model.specs.declared.errors.Feature.TheVariants as features
-use Rattle.hdfs_model.specs.declared.errors.HdfsError.{HdfsError}
-use Rattle.hdfs_model.specs.declared.errors.HdfsError.TheVariants as errors
-use Rattle.hdfs_model.specs.declared.errors.IoFault.TheVariants as io_faults
-use Rattle.hdfs_model.specs.declared.errors.TransferFault.TheVariants as transfer
+use Rattle.hdfs_cluster.specs.declared.errors.ArgFault.TheVariants as args
+use Rattle.hdfs_cluster.specs.declared.errors.Feature.TheVariants as features
+use Rattle.hdfs_cluster.specs.declared.errors.HdfsError.{HdfsError}
+use Rattle.hdfs_cluster.specs.declared.errors.HdfsError.TheVariants as errors
+use Rattle.hdfs_cluster.specs.declared.errors.IoFault.TheVariants as io_faults
+use Rattle.hdfs_cluster.specs.declared.errors.TransferFault.TheVariants as transfer
 use Rattle.hdfs_model.specs.Causes.{Because, Cause, CommandLost, OptionsOut, UsesDefaults}
-use Rattle.hdfs_model.specs.Counts.{NoneRose}
-use Rattle.hdfs_model.specs.Failures.{ANamenode, failure_of}
-use Rattle.hdfs_model.specs.Files.{State}
-use Rattle.hdfs_model.specs.Limits.{are_numbers, are_options, are_defaults}
+use Rattle.hdfs_cluster.specs.Counts.{NoneRose}
+use Rattle.hdfs_cluster.specs.Failures.{ANamenode, failure_of}
+use Rattle.hdfs_cluster.specs.Files.{State}
+use Rattle.hdfs_cluster.specs.Limits.{are_defaults}
+use Rattle.hdfs_model.specs.Limits.{are_numbers, are_options}
 use Rattle.hdfs_model.specs.Sessions.{Answers, IsLimited, WritesInLimits}
-use Rattle.hdfs_model.specs.Shown.{Shown}
+use Rattle.hdfs_cluster.specs.Shown.{Shown}
 use Rattle.hdfs_model.specs.Steps.{World, Outcome, Refused, Done, Refusal, BadPath, WrongState, Exists, Lacks, BadRange, step, target_of}
-use Rattle.hdfs_model.proofs.Failures.{IsQuiet, none_failed}
+use Rattle.hdfs_cluster.proofs.Failures.{IsQuiet, none_failed}
 
 both_true : (a b : Bool) → (a && b) ≡ true → (a ≡ true) × (b ≡ true)
 both_true true b both = (refl, both)

@@ -1,11 +1,3 @@
-pub mod Asking
 pub mod Completing
-pub mod Failures
 pub mod Folding
-pub mod Frames
-pub mod Framing
-pub mod Loads
-pub mod Ordering
-pub mod Relaying
-pub mod Repeating
-pub mod Trees
+pub mod Telling

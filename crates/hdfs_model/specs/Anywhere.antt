@@ -5,9 +5,9 @@ use Rattle.hdfs_model.specs.declared.commands.Command.{Command}
 use Rattle.hdfs_model.specs.declared.commands.Command.TheVariants as commands
 use Rattle.hdfs_model.specs.declared.commands.Reply.{Reply}
 use Rattle.hdfs_model.specs.declared.commands.Reply.TheVariants as replies
-use Rattle.hdfs_model.specs.declared.errors.Fault.{Fault}
-use Rattle.hdfs_model.specs.declared.errors.HdfsError.{HdfsError}
-use Rattle.hdfs_model.specs.Shown.{Shown, Later, SameReads, SameNodes}
+use Rattle.hdfs_model.specs.declared.commands.Fault.{Fault}
+use Rattle.hdfs_cluster.specs.declared.errors.HdfsError.{HdfsError}
+use Rattle.hdfs_cluster.specs.Shown.{Shown, Later, SameReads, SameNodes}
 use Rattle.hdfs_model.specs.Causes.{Tells, IsEarly, TouchesNothing}
 
 -- The reply is one to the command, and a write has taken all of its bytes. (Which bytes a read gives a told picture says.)

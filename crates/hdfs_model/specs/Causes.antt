@@ -1,85 +1,28 @@
 -- Why a command fails: for each error what holds where it is answered.
-use Rattle.std.specs.Prelude.{◌≡◌, ◌≢◌, ◌⊎◌, ℕ, ◌+◌, ◌<◌, ◌≤◌, true, false, List, [], ◌∷◌, ◌++◌, length, Option, Some, slice_index_or}
-use Rattle.hdfs_model.specs.declared.picture.BlockEntry.{BlockEntry}
-use Rattle.hdfs_model.specs.declared.picture.Entry.TheVariants as entries
-use Rattle.hdfs_model.specs.declared.picture.FileEntry.{FileEntry}
+use Rattle.std.specs.Prelude.{◌≡◌, ◌≢◌, ◌⊎◌, ℕ, ◌+◌, ◌<◌, true, false, List, [], length, Some}
 use Rattle.hdfs_model.specs.declared.commands.Command.{Command}
 use Rattle.hdfs_model.specs.declared.commands.Command.TheVariants as commands
 use Rattle.hdfs_model.specs.declared.commands.Reply.{Reply}
-use Rattle.hdfs_model.specs.declared.errors.HdfsError.{HdfsError}
-use Rattle.hdfs_model.specs.declared.errors.HdfsError.TheVariants as errors
-use Rattle.hdfs_model.specs.declared.errors.IoFault.TheVariants as io_faults
-use Rattle.hdfs_model.specs.declared.errors.TransferFault.TheVariants as transfer
-use Rattle.hdfs_model.specs.declared.errors.ArgFault.TheVariants as args
-use Rattle.hdfs_model.specs.declared.errors.Feature.TheVariants as features
-use Rattle.hdfs_model.specs.Counts.{FaultCounts, Rose}
-pub use Rattle.hdfs_model.specs.Failures.{CallsRose, SomeNodeRose}
-use Rattle.hdfs_model.specs.Failures.{EachRose, HasFailed, IsOfAsk, Means, OneRose, failure_of}
-use Rattle.hdfs_model.specs.Files.{State, Content, NoFile, File, Writing}
-use Rattle.hdfs_model.specs.Limits.{are_options, are_defaults, are_attributes}
+use Rattle.hdfs_cluster.specs.declared.errors.HdfsError.{HdfsError}
+use Rattle.hdfs_cluster.specs.declared.errors.HdfsError.TheVariants as errors
+use Rattle.hdfs_cluster.specs.declared.errors.IoFault.TheVariants as io_faults
+use Rattle.hdfs_cluster.specs.declared.errors.TransferFault.TheVariants as transfer
+use Rattle.hdfs_cluster.specs.declared.errors.ArgFault.TheVariants as args
+use Rattle.hdfs_cluster.specs.declared.errors.Feature.TheVariants as features
+use Rattle.hdfs_cluster.specs.Counts.{FaultCounts, Rose}
+use Rattle.hdfs_cluster.specs.Failures.{CallsRose, HasFailed, IsOfAsk, Means, failure_of}
+use Rattle.hdfs_cluster.specs.Files.{State, Content, NoFile, File, Writing}
+use Rattle.hdfs_cluster.specs.Limits.{are_defaults, are_attributes}
+use Rattle.hdfs_model.specs.Limits.{are_options}
 use Rattle.hdfs_model.specs.Steps.{World, Outcome, Refused, Done, Refusal, BadPath, WrongState, Exists, Lacks, BadRange, content_of, step, path_of, target_of}
-use Rattle.hdfs_model.specs.Picture.{Picture}
-use Rattle.hdfs_model.specs.Namenode.{class_for}
-use Rattle.hdfs_model.specs.Shown.{Shown}
-
--- the block with this id begins at this offset of a file with these blocks, the first of which begins at `from`
-abbrev pub LiesAt : (ℕ → Option BlockEntry) → ℕ → List ℕ → ℕ → ℕ → Type 0
-LiesAt table from [] id at = ⊥
-LiesAt table from (first ∷ ids) id at =
-    ((first ≡ id) × (from ≡ at)) ⊎ ((entry : BlockEntry) × (table first ≡ Some entry) × LiesAt table (from + entry.length) ids id at)
-
--- each listed datanode that holds the block whole has failed
-abbrev pub AllFailed : FaultCounts → FaultCounts → Picture → ℕ → BlockEntry → Type 0
-AllFailed old new p id entry =
-    (k : ℕ) → k < length entry.nodes → length (p.held (slice_index_or entry.nodes k []) id) ≡ entry.length
-    → Rose (old.nodes (slice_index_or entry.nodes k [])) (new.nodes (slice_index_or entry.nodes k []))
-
--- The byte at this offset of some block of a file lies in a range of the file, and each listed datanode that holds the
--- block whole has failed. The file has these blocks, in order.
-pub record ByteLost (p : Picture) (ids : List ℕ) (from end : ℕ) (failed : ℕ → BlockEntry → Type 0) (byte : ℕ) : Type 0 where
-  pub id : ℕ
-  pub at : ℕ
-  pub lies : LiesAt p.table 0 ids id at
-  pub entry : BlockEntry
-  pub is : p.table id ≡ Some entry
-  pub behind : from ≤ at + byte
-  pub before : at + byte < end
-  pub inside : byte < entry.length
-  pub all_failed : failed id entry
-
--- the same of the file at a path and of a range of it, in a picture that is told
-pub record FileLost (old : FaultCounts) (new : Shown) (path : List ℕ) (from end byte : ℕ) : Type 0 where
-  pub picture : Picture
-  pub told : new.picture ≡ Some picture
-  pub file : FileEntry
-  pub named : picture.names path ≡ Some (entries.File file)
-  pub lost : ByteLost picture file.blocks from end (AllFailed old new.counts picture) byte
+use Rattle.hdfs_cluster.specs.Namenode.{class_for}
+use Rattle.hdfs_cluster.specs.Shown.{Shown}
+use Rattle.hdfs_cluster.specs.Lost.{FileLost, SomeListedFailed, PipelineFailed}
 
 -- the same of a command's range
 abbrev pub CommandLost : FaultCounts → Shown → List ℕ → Command → ℕ → Type 0
 CommandLost old new path (commands.Read text offset len) byte = FileLost old new path offset (offset + len) byte
 CommandLost old new path command byte = ⊥
-
--- the last block of the file at a path, in a picture that is told
-pub record LastBlockAt (new : Shown) (path : List ℕ) : Type 0 where
-  pub picture : Picture
-  pub told : new.picture ≡ Some picture
-  pub file : FileEntry
-  pub named : picture.names path ≡ Some (entries.File file)
-  pub front : List ℕ
-  pub id : ℕ
-  pub last : file.blocks ≡ front ++ id ∷ []
-  pub entry : BlockEntry
-  pub is : picture.table id ≡ Some entry
-
--- a datanode that is listed for that block has failed
-abbrev pub SomeListedFailed : FaultCounts → Shown → List ℕ → Type 0
-SomeListedFailed old new path = (block : LastBlockAt new path) × OneRose old new.counts block.entry.nodes
-
--- each datanode that is listed for it has failed, and there is one
-abbrev pub PipelineFailed : FaultCounts → Shown → List ℕ → Type 0
-PipelineFailed old new path =
-    (block : LastBlockAt new path) × (0 < length block.entry.nodes) × EachRose old new.counts block.entry.nodes
 
 -- the step does what the command asks
 abbrev pub IsDone : Outcome → Type 0

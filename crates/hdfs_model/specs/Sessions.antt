@@ -6,19 +6,19 @@ use Rattle.hdfs_model.specs.declared.commands.Command.{Command}
 use Rattle.hdfs_model.specs.declared.commands.Command.TheVariants as commands
 use Rattle.hdfs_model.specs.declared.commands.Reply.{Reply}
 use Rattle.hdfs_model.specs.declared.commands.Settings.{Settings}
-use Rattle.hdfs_model.specs.declared.errors.Fault.{Fault}
-use Rattle.hdfs_model.specs.declared.errors.HdfsError.{HdfsError}
-use Rattle.hdfs_model.specs.declared.errors.HdfsError.TheVariants as errors
-use Rattle.hdfs_model.specs.declared.messages.ServerDefaults.{ServerDefaults}
-use Rattle.hdfs_model.specs.Paths.{ancestors}
-use Rattle.hdfs_model.specs.Files.{State, IsState, Writing, Content}
-use Rattle.hdfs_model.specs.Limits.{are_numbers, are_attributes}
-use Rattle.hdfs_model.specs.Picture.{Picture}
+use Rattle.hdfs_model.specs.declared.commands.Fault.{Fault}
+use Rattle.hdfs_cluster.specs.declared.errors.HdfsError.{HdfsError}
+use Rattle.hdfs_cluster.specs.declared.errors.HdfsError.TheVariants as errors
+use Rattle.hdfs_cluster.specs.declared.messages.ServerDefaults.{ServerDefaults}
+use Rattle.hdfs_names.specs.Paths.{ancestors}
+use Rattle.hdfs_cluster.specs.Files.{State, Writing, Content}
+use Rattle.hdfs_cluster.specs.Limits.{are_attributes}
+use Rattle.hdfs_model.specs.Limits.{are_numbers}
+use Rattle.hdfs_cluster.specs.Picture.{Picture}
 use Rattle.hdfs_model.specs.Steps.{World, Outcome, Refused, Done, target_of, is_opened, step}
 use Rattle.hdfs_model.specs.Folds.{Folded, Ends, Stops}
-use Rattle.hdfs_model.specs.Shown.{Shown}
+use Rattle.hdfs_cluster.specs.Shown.{Shown}
 use Rattle.hdfs_model.specs.Causes.{IsKind, MovesEncrypted, OpensEncrypted}
-use Rattle.hdfs_model.specs.Stores.{Agrees}
 
 -- the defaults of a cluster that tells them
 abbrev pub defaults_of : Option Picture → ServerDefaults
@@ -37,11 +37,6 @@ world_with settings defaults = record {
 -- the same over a cluster that shows this
 abbrev pub world_of : Settings → Shown → World
 world_of settings shown = world_with settings (defaults_of shown.picture)
-
--- The cluster tells its picture, which agrees with the files of the state.
-pub record Fits (shown : Shown) (state : State) : Type 0 where
-  pub is_state : IsState state
-  pub agrees : Agrees shown.picture state.files
 
 -- no path is open
 abbrev pub none_open : List ℕ → Bool

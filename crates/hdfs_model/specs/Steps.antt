@@ -1,16 +1,17 @@
 -- What one command does to the state of the files, and what it is answered.
-use Rattle.std.specs.Prelude.{ℕ, ◌+◌, nat_lt, Bool, false, not, List, [], ◌∷◌, ◌++◌, take, drop, length, filter, Option, Some, None, unwrap_or, if◌then◌else◌}
+use Rattle.std.specs.Prelude.{ℕ, ◌+◌, nat_lt, Bool, false, not, List, [], ◌∷◌, ◌++◌, length, filter, Option, Some, None, unwrap_or, if◌then◌else◌}
 use Rattle.std.specs.List.{list_any}
 use Rattle.std.specs.Str.{bytes_eq}
-use Rattle.hdfs_model.specs.declared.messages.ServerDefaults.{ServerDefaults}
+use Rattle.hdfs_cluster.specs.declared.messages.ServerDefaults.{ServerDefaults}
 use Rattle.hdfs_model.specs.declared.commands.Command.{Command}
 use Rattle.hdfs_model.specs.declared.commands.Command.TheVariants as commands
 use Rattle.hdfs_model.specs.declared.commands.Reply.{Reply}
 use Rattle.hdfs_model.specs.declared.commands.Reply.TheVariants as replies
 use Rattle.hdfs_model.specs.declared.commands.WriteOptions.{WriteOptions}
-use Rattle.hdfs_model.specs.Paths.{is_path, absolute, ancestors}
-use Rattle.hdfs_model.specs.Files.{State, Node, Dir, File, Writing, Content, NoFile, Missing, no_file, kinds_of}
-pub use Rattle.hdfs_model.specs.Refusals.{Refusal, BadPath, WrongState, Exists, Lacks, BadRange, create_refusal, append_refusal, with_parents}
+use Rattle.hdfs_names.specs.Paths.{is_path, absolute, ancestors}
+use Rattle.hdfs_cluster.specs.Files.{State, Node, Dir, File, Writing, Content, NoFile, Missing, no_file, kinds_of}
+use Rattle.hdfs_cluster.specs.Reading.{range_of}
+pub use Rattle.hdfs_cluster.specs.Refusals.{Refusal, BadPath, WrongState, Exists, Lacks, BadRange, create_refusal, append_refusal, with_parents}
 
 -- what a step comes to: a refusal, or a reply and the next state
 pub data Outcome : Type 0 where
@@ -31,10 +32,6 @@ content_of None = None
 content_of (Some Dir) = None
 content_of (Some (File content)) = Some content
 content_of (Some (Writing content)) = Some content
-
--- the bytes of a range
-abbrev pub range_of : List ℕ → ℕ → ℕ → List ℕ
-range_of bytes offset len = take len (drop offset bytes)
 
 -- whether the session of a state has a path open
 abbrev pub is_opened : State → List ℕ → Bool

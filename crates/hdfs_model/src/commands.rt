@@ -1,10 +1,11 @@
-//! Commands of a session, and their replies.
+//! Commands of a session, their replies, and where a session stops.
 ghost use Rattle.std.specs.Prelude.{◌≡◌, Some, None, true, false};
 ghost use Rattle.hdfs_model.specs.Limits.{are_options, are_settings};
 
-use crate::limits::{is_block_size, is_permission, is_replication};
+use hdfs_cluster::{HdfsError, is_block_size, is_permission, is_replication};
 use hdfs_names::ReplaceDatanodeOnFailure;
-use hdfs_wire::{Blob, Text};
+use hdfs_wire::{Blob, List, Text};
+use thiserror::Error;
 
 /// What a session is run with. `home` is the directory under which relative paths stand, and `client` are the sixteen bytes of the
 /// client's name. `replace` says when a datanode is added to a pipeline in the place of one that failed. The pipeline of a block is
@@ -163,4 +164,14 @@ pub enum Reply {
     Written { bytes: u64 },
     Closed,
     Bytes { bytes: Blob },
+}
+
+/// Where a session stopped: at which command, counted from 1, or at 0 before the first; with which error; and with which
+/// replies to the commands before it.
+#[derive(Debug, Drop, Error)]
+#[error("command {at}: {error}")]
+pub struct Fault {
+    pub at: u64,
+    pub error: HdfsError,
+    pub done: List<Reply>,
 }

@@ -1,31 +1,6 @@
-//! The cluster as a client sees it: its messages, its calls, and what they mean.
+//! What a session is to do: its commands, what they mean, and why they fail.
 #![tactic(auto)]
 
-mod asks;
-mod attributes;
-mod cluster;
 mod commands;
-mod copies;
-mod errors;
-mod limits;
-mod mem_settings;
-mod messages;
-mod picture;
-mod store;
 
-pub use asks::{Answer, Ask, AskFault, LinkFault};
-pub use attributes::Attributes;
-pub use cluster::Cluster;
-pub use commands::{Command, Reply, Settings, WriteOptions};
-pub use copies::{copy_acl_entries, copy_ids, copy_nodes, copy_optional_text, copy_texts};
-pub use errors::{ArgFault, Fault, Feature, HdfsError, IoFault, TransferFault};
-pub use hdfs_names::{absolute_path, is_path, nearest_ancestor, parent_of};
-pub use limits::{MAX_CHUNK, MAX_PACKET, is_block_size, is_permission, is_replication};
-pub use mem_settings::{MAX_NODES, MemSettings};
-pub use messages::{
-    AclEntryMsg, AclStatusMsg, Appended, Block, DatanodeId, DatanodeInfo, DirList, EncryptionKey,
-    FileStatusMsg, LocatedBlock, LocatedBlocks, ReadAsk, ServerDefaults, Setup, Stage, Summary,
-    Token, Transfer,
-};
-pub use picture::{BlockEntry, Entry, FileEntry, LastAnswer, OpenRead, OpenWrite, ReadPlace};
-pub use store::{AddFault, AskKind, FaultLine, Line, LinkKind, ReadKind, Store};
+pub use commands::{Command, Fault, Reply, Settings, WriteOptions};

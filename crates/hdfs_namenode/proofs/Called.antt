@@ -4,16 +4,16 @@ use Rattle.std.specs.Prelude.{Result, Ok, Err, IfErr}
 use Rattle.std.proofs.lemmas.Bool.{false≢true}
 use Rattle.std.proofs.lemmas.List.Elements.{All-nil, All-cons, All-push, Contains-push}
 use Rattle.std.proofs.lemmas.List.Quantifiers.{Any-push}
-use Rattle.hdfs_model.specs.declared.asks.Ask.{Ask}
-use Rattle.hdfs_model.specs.declared.asks.Answer.{Answer}
-use Rattle.hdfs_model.specs.declared.asks.AskFault.{AskFault}
-use Rattle.hdfs_model.specs.declared.asks.AskFault.TheVariants as faults
-use Rattle.hdfs_model.specs.declared.errors.HdfsError.TheVariants as errors
-use Rattle.hdfs_model.specs.Failover.{AsksInOrder, AsksOne, PassedOn, passes_on}
-use Rattle.hdfs_model.specs.Namenode.{IsFailure, is_taken}
-use Rattle.hdfs_model.specs.Shown.{Shown, Served, Later}
-use Rattle.hdfs_model.proofs.Frames.{later_refl, later_trans, rose_since}
-use Rattle.hdfs_model.proofs.Framing.{asked_leaves, broken_rose, failure_rose}
+use Rattle.hdfs_cluster.specs.declared.asks.Ask.{Ask}
+use Rattle.hdfs_cluster.specs.declared.asks.Answer.{Answer}
+use Rattle.hdfs_cluster.specs.declared.asks.AskFault.{AskFault}
+use Rattle.hdfs_cluster.specs.declared.asks.AskFault.TheVariants as faults
+use Rattle.hdfs_cluster.specs.declared.errors.HdfsError.TheVariants as errors
+use Rattle.hdfs_cluster.specs.Failover.{AsksInOrder, AsksOne, PassedOn, passes_on}
+use Rattle.hdfs_cluster.specs.Namenode.{IsFailure, is_taken}
+use Rattle.hdfs_cluster.specs.Shown.{Shown, Served, Later}
+use Rattle.hdfs_cluster.proofs.Frames.{later_refl, later_trans, rose_since}
+use Rattle.hdfs_cluster.proofs.Framing.{asked_leaves, broken_rose, failure_rose}
 use Rattle.hdfs_namenode.specs.Asked.{outcome_of}
 use Rattle.hdfs_namenode.specs.Relaying.{RoseAt, HasGivenUp, HasNoAnswer, HasPassedOn}
 

@@ -1,15 +1,15 @@
 -- That a client gives its key by the server defaults that it has, or has asked for.
 use Rattle.std.proofs.Common.{◌≡◌, ◌⊎◌, ℕ, Bool, true, false, Option, Some, None, Result, Ok, refl, sym, ◌∙◌, ap, subst}
 use Rattle.std.specs.Prelude.{IfSome}
-use Rattle.hdfs_model.specs.declared.asks.Ask.{Ask}
-use Rattle.hdfs_model.specs.declared.asks.Ask.TheVariants as asks
-use Rattle.hdfs_model.specs.declared.asks.Answer.{Answer}
-use Rattle.hdfs_model.specs.declared.asks.Answer.TheVariants as answers
-use Rattle.hdfs_model.specs.declared.asks.AskFault.{AskFault}
-use Rattle.hdfs_model.specs.declared.errors.HdfsError.{HdfsError}
-use Rattle.hdfs_model.specs.declared.messages.EncryptionKey.{EncryptionKey}
-use Rattle.hdfs_model.specs.declared.messages.ServerDefaults.{ServerDefaults}
-use Rattle.hdfs_model.specs.Shown.{Shown, Served}
+use Rattle.hdfs_cluster.specs.declared.asks.Ask.{Ask}
+use Rattle.hdfs_cluster.specs.declared.asks.Ask.TheVariants as asks
+use Rattle.hdfs_cluster.specs.declared.asks.Answer.{Answer}
+use Rattle.hdfs_cluster.specs.declared.asks.Answer.TheVariants as answers
+use Rattle.hdfs_cluster.specs.declared.asks.AskFault.{AskFault}
+use Rattle.hdfs_cluster.specs.declared.errors.HdfsError.{HdfsError}
+use Rattle.hdfs_cluster.specs.declared.messages.EncryptionKey.{EncryptionKey}
+use Rattle.hdfs_cluster.specs.declared.messages.ServerDefaults.{ServerDefaults}
+use Rattle.hdfs_cluster.specs.Shown.{Shown, Served}
 use Rattle.hdfs_namenode.specs.Asked.{Asked, IsServiceOf, SameService, Through, as_answer}
 use Rattle.hdfs_namenode.specs.Clients.{key_of, proxy_of, through}
 use Rattle.hdfs_namenode.specs.Keys.{AsksForKey, GivesCopy, GivesKey, IsDue, IsLasting}

@@ -3,18 +3,18 @@ use Rattle.std.proofs.Common.{◌≡◌, ◌≢◌, ◌⊎◌, inl, inr, ℕ, ze
 use Rattle.std.proofs.lemmas.Bool.Decides.{nat_tests}
 use Rattle.std.proofs.lemmas.Bool.{false≢true}
 use Rattle.std.specs.Prelude.{◌&&◌, not, Result, Ok, Err, IfErr, IfOk, Option, Some, None}
-use Rattle.hdfs_model.specs.declared.asks.Ask.{Ask}
-use Rattle.hdfs_model.specs.declared.asks.Ask.TheVariants as asks
-use Rattle.hdfs_model.specs.declared.asks.Answer.{Answer}
-use Rattle.hdfs_model.specs.declared.asks.Answer.TheVariants as answers
-use Rattle.hdfs_model.specs.declared.asks.AskFault.{AskFault}
-use Rattle.hdfs_model.specs.declared.asks.AskFault.TheVariants as faults
-use Rattle.hdfs_model.specs.declared.errors.HdfsError.{HdfsError}
-use Rattle.hdfs_model.specs.declared.errors.HdfsError.TheVariants as errors
-use Rattle.hdfs_model.specs.Shown.{Shown, Later, Served}
-use Rattle.hdfs_model.specs.Namenode.{IsShaped}
-use Rattle.hdfs_model.proofs.Frames.{later_refl, later_trans}
-use Rattle.hdfs_model.proofs.Framing.{asked_leaves}
+use Rattle.hdfs_cluster.specs.declared.asks.Ask.{Ask}
+use Rattle.hdfs_cluster.specs.declared.asks.Ask.TheVariants as asks
+use Rattle.hdfs_cluster.specs.declared.asks.Answer.{Answer}
+use Rattle.hdfs_cluster.specs.declared.asks.Answer.TheVariants as answers
+use Rattle.hdfs_cluster.specs.declared.asks.AskFault.{AskFault}
+use Rattle.hdfs_cluster.specs.declared.asks.AskFault.TheVariants as faults
+use Rattle.hdfs_cluster.specs.declared.errors.HdfsError.{HdfsError}
+use Rattle.hdfs_cluster.specs.declared.errors.HdfsError.TheVariants as errors
+use Rattle.hdfs_cluster.specs.Shown.{Shown, Later, Served}
+use Rattle.hdfs_cluster.specs.Namenode.{IsShaped}
+use Rattle.hdfs_cluster.proofs.Frames.{later_refl, later_trans}
+use Rattle.hdfs_cluster.proofs.Framing.{asked_leaves}
 use Rattle.hdfs_namenode.specs.Asked.{Asked, AskedInOrder, AskedInStep, AskedObserved, AskedSynced, AskedUntil, GoesOnBehind, GoesOnWith, LooksFor, NoneObserves, Observes, SyncRefused, SameService, Through, forgets, is_observed, is_observer, lacks_memory, needs_sync, numbers_from, order_of}
 use Rattle.hdfs_namenode.specs.Observing.{ByObserver, InStep, SyncsFirst, by_observer, is_unanswered, said_by}
 use Rattle.hdfs_namenode.specs.Relaying.{HasNoAnswer, LacksAnswer}

@@ -1,23 +1,23 @@
 -- What an ask of a service comes to for its caller: over any cluster, and over a told picture.
 use Rattle.std.proofs.Common.{◌≡◌, inl, inr, ℕ, ◌<◌, Bool, true, false, cond, List, Some, refl, sym, ap, subst, arith}
 use Rattle.std.specs.Prelude.{Result, Ok, Err, IfOk, IfErr}
-use Rattle.hdfs_model.specs.declared.asks.Ask.{Ask}
-use Rattle.hdfs_model.specs.declared.asks.Answer.{Answer}
-use Rattle.hdfs_model.specs.declared.asks.AskFault.{AskFault}
-use Rattle.hdfs_model.specs.declared.asks.AskFault.TheVariants as faults
-use Rattle.hdfs_model.specs.declared.errors.HdfsError.{HdfsError}
-use Rattle.hdfs_model.specs.declared.errors.HdfsError.TheVariants as errors
-use Rattle.hdfs_model.specs.declared.picture.LastAnswer.TheVariants as last_answers
-use Rattle.hdfs_model.specs.Causes.{CallsRose}
-use Rattle.hdfs_model.specs.Counts.{Rose, RoseTwice}
-use Rattle.hdfs_model.specs.Namenode.{Row, IsFailure, IsShaped, IsFalse, is_taken, last_of}
-use Rattle.hdfs_model.specs.Picture.{Picture}
-use Rattle.hdfs_model.specs.Repeating.{DoneOrNot, Leaves, Repeats}
-use Rattle.hdfs_model.specs.Shown.{Shown, Served}
-use Rattle.hdfs_model.proofs.Frames.{same_picture_refl}
-use Rattle.hdfs_model.specs.Failover.{AsksInOrder}
-use Rattle.hdfs_model.proofs.Framing.{asked_leaves, broken_rose, failure_rose, leaves_refl}
-use Rattle.hdfs_model.proofs.Relaying.{Comes, asked_told}
+use Rattle.hdfs_cluster.specs.declared.asks.Ask.{Ask}
+use Rattle.hdfs_cluster.specs.declared.asks.Answer.{Answer}
+use Rattle.hdfs_cluster.specs.declared.asks.AskFault.{AskFault}
+use Rattle.hdfs_cluster.specs.declared.asks.AskFault.TheVariants as faults
+use Rattle.hdfs_cluster.specs.declared.errors.HdfsError.{HdfsError}
+use Rattle.hdfs_cluster.specs.declared.errors.HdfsError.TheVariants as errors
+use Rattle.hdfs_cluster.specs.declared.picture.LastAnswer.TheVariants as last_answers
+use Rattle.hdfs_cluster.specs.Failures.{CallsRose}
+use Rattle.hdfs_cluster.specs.Counts.{Rose, RoseTwice}
+use Rattle.hdfs_cluster.specs.Namenode.{Row, IsFailure, IsShaped, IsFalse, is_taken, last_of}
+use Rattle.hdfs_cluster.specs.Picture.{Picture}
+use Rattle.hdfs_cluster.specs.Repeating.{DoneOrNot, Leaves, Repeats}
+use Rattle.hdfs_cluster.specs.Shown.{Shown, Served}
+use Rattle.hdfs_cluster.proofs.Frames.{same_picture_refl}
+use Rattle.hdfs_cluster.specs.Failover.{AsksInOrder}
+use Rattle.hdfs_cluster.proofs.Framing.{asked_leaves, broken_rose, failure_rose, leaves_refl}
+use Rattle.hdfs_cluster.proofs.Relaying.{Comes, asked_told}
 use Rattle.hdfs_namenode.specs.Asked.{Asked, AskedInOrder, IsServiceOf, ReachesAll, Through, error_of, order_of, outcome_of}
 use Rattle.hdfs_namenode.specs.Relaying.{Came, RefusedBy, Relays, RelaysTold, TellsAsk}
 use Rattle.hdfs_namenode.proofs.Services.{asked_plain, last_below, reaches_has, reaches_service, service_below}

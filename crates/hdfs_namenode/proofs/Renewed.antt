@@ -2,12 +2,12 @@
 use Rattle.std.proofs.Common.{◌≡◌, ◌⊎◌, inl, inr, ℕ, ◌<◌, true, List, Some, Option, Result, sym, subst}
 use Rattle.hdfs_leases.specs.Leases.{HoldsSame, held}
 use Rattle.hdfs_leases.specs.declared.file_leases.FileLeases.{FileLeases}
-use Rattle.hdfs_model.specs.declared.asks.Ask.{Ask}
-use Rattle.hdfs_model.specs.declared.asks.Ask.TheVariants as asks
-use Rattle.hdfs_model.specs.declared.asks.Answer.{Answer}
-use Rattle.hdfs_model.specs.declared.asks.Answer.TheVariants as answers
-use Rattle.hdfs_model.specs.declared.asks.AskFault.{AskFault}
-use Rattle.hdfs_model.specs.declared.errors.HdfsError.{HdfsError}
+use Rattle.hdfs_cluster.specs.declared.asks.Ask.{Ask}
+use Rattle.hdfs_cluster.specs.declared.asks.Ask.TheVariants as asks
+use Rattle.hdfs_cluster.specs.declared.asks.Answer.{Answer}
+use Rattle.hdfs_cluster.specs.declared.asks.Answer.TheVariants as answers
+use Rattle.hdfs_cluster.specs.declared.asks.AskFault.{AskFault}
+use Rattle.hdfs_cluster.specs.declared.errors.HdfsError.{HdfsError}
 use Rattle.hdfs_namenode.specs.Asked.{AskedOnce, Through, as_answer}
 use Rattle.hdfs_namenode.specs.Renewing.{AreNamespaces, EndsTurn, Renews, turn_of}
 use Rattle.hdfs_namenode.specs.declared.leases.LeaseTurn.{LeaseTurn}

@@ -1,13 +1,13 @@
 -- Services of namenodes: what is kept of them from call to call, and that one that has all namenodes asks each of them.
 use Rattle.std.proofs.Common.{◌≡◌, ℕ, ◌+◌, ◌<◌, Bool, true, false, List, [], ◌∷◌, ◌++◌, Option, refl, sym, ◌∙◌, ap, subst, arith}
 use Rattle.std.specs.Prelude.{IfSome, Result, ◌&&◌, ◌||◌, not}
-use Rattle.hdfs_model.specs.declared.asks.Ask.{Ask}
-use Rattle.hdfs_model.specs.declared.asks.Answer.{Answer}
-use Rattle.hdfs_model.specs.declared.asks.AskFault.{AskFault}
-use Rattle.hdfs_model.specs.declared.errors.HdfsError.{HdfsError}
-use Rattle.hdfs_model.specs.Shown.{Shown, Later}
-use Rattle.hdfs_model.proofs.Ordering.{order_below, order_has}
-use Rattle.hdfs_model.proofs.Relaying.{Below, Has}
+use Rattle.hdfs_cluster.specs.declared.asks.Ask.{Ask}
+use Rattle.hdfs_cluster.specs.declared.asks.Answer.{Answer}
+use Rattle.hdfs_cluster.specs.declared.asks.AskFault.{AskFault}
+use Rattle.hdfs_cluster.specs.declared.errors.HdfsError.{HdfsError}
+use Rattle.hdfs_cluster.specs.Shown.{Shown, Later}
+use Rattle.hdfs_cluster.proofs.Ordering.{order_below, order_has}
+use Rattle.hdfs_cluster.proofs.Relaying.{Below, Has}
 use Rattle.hdfs_namenode.specs.Asked.{Asked, AskedInOrder, IsNew, IsPlain, IsServiceOf, ReachesAll, SameService, Through, is_observed, needs_sync, order_of}
 use Rattle.hdfs_namenode.specs.Clients.{SameClient, proxy_of}
 use Rattle.hdfs_namenode.specs.declared.protocol.NamenodeProtocol.{NamenodeProtocol}

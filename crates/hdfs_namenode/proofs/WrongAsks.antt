@@ -2,12 +2,12 @@
 use Rattle.std.specs.Prelude.{◌≡◌, ◌≢◌, ◌+◌, ℕ, true, false, List, [], ◌∷◌, ◌++◌, Result, Ok, Err}
 use Rattle.std.proofs.Common.{inl, inr, refl, sym, ap, arith}
 use Rattle.std.proofs.lemmas.Bool.{false≢true}
-use Rattle.hdfs_model.specs.declared.asks.Ask.{Ask}
-use Rattle.hdfs_model.specs.declared.asks.Ask.TheVariants as asks
-use Rattle.hdfs_model.specs.declared.asks.Answer.{Answer}
-use Rattle.hdfs_model.specs.declared.asks.AskFault.{AskFault}
-use Rattle.hdfs_model.specs.declared.asks.AskFault.TheVariants as faults
-use Rattle.hdfs_model.specs.Failover.{AsksInOrder, AsksOne}
+use Rattle.hdfs_cluster.specs.declared.asks.Ask.{Ask}
+use Rattle.hdfs_cluster.specs.declared.asks.Ask.TheVariants as asks
+use Rattle.hdfs_cluster.specs.declared.asks.Answer.{Answer}
+use Rattle.hdfs_cluster.specs.declared.asks.AskFault.{AskFault}
+use Rattle.hdfs_cluster.specs.declared.asks.AskFault.TheVariants as faults
+use Rattle.hdfs_cluster.specs.Failover.{AsksInOrder, AsksOne}
 use Rattle.hdfs_namenode.specs.Asked.{remembers}
 use Rattle.hdfs_namenode.specs.declared.proxy.NameServiceProxy.{NameServiceProxy}
 

@@ -1,8 +1,8 @@
 -- The name of a client, the service that it asks, and what it knows.
 use Rattle.std.specs.Prelude.{◌≡◌, ℕ, List, ◌++◌, codes, Option}
 use Rattle.hdfs_leases.specs.declared.file_leases.FileLeases.{FileLeases}
-use Rattle.hdfs_model.specs.declared.messages.EncryptionKey.{EncryptionKey}
-use Rattle.hdfs_model.specs.declared.messages.ServerDefaults.{ServerDefaults}
+use Rattle.hdfs_cluster.specs.declared.messages.EncryptionKey.{EncryptionKey}
+use Rattle.hdfs_cluster.specs.declared.messages.ServerDefaults.{ServerDefaults}
 use Rattle.hdfs_namenode.specs.Asked.{SameService, Through}
 use Rattle.hdfs_namenode.specs.declared.protocol.NamenodeProtocol.{NamenodeProtocol}
 use Rattle.hdfs_namenode.specs.declared.proxy.NameServiceProxy.{NameServiceProxy}

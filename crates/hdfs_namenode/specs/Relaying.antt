@@ -1,22 +1,22 @@
 -- What an ask that goes from namenode to namenode comes to, for the caller.
 use Rattle.std.specs.Prelude.{◌≡◌, ◌⊎◌, ◌<◌, true, false, List, All, Any, Contains, ℕ, Option, Some, None, Result, Ok, Err, IfOk, IfErr}
-use Rattle.hdfs_model.specs.declared.asks.Ask.{Ask}
-use Rattle.hdfs_model.specs.declared.asks.Ask.TheVariants as asks
-use Rattle.hdfs_model.specs.declared.asks.Answer.{Answer}
-use Rattle.hdfs_model.specs.declared.asks.Answer.TheVariants as answers
-use Rattle.hdfs_model.specs.declared.asks.AskFault.{AskFault}
-use Rattle.hdfs_model.specs.declared.asks.AskFault.TheVariants as faults
-use Rattle.hdfs_model.specs.declared.errors.HdfsError.{HdfsError}
-use Rattle.hdfs_model.specs.declared.errors.HdfsError.TheVariants as errors
-use Rattle.hdfs_model.specs.declared.errors.IoFault.TheVariants as io_faults
-use Rattle.hdfs_model.specs.declared.messages.ServerDefaults.{ServerDefaults}
-use Rattle.hdfs_model.specs.declared.picture.LastAnswer.TheVariants as last_answers
-use Rattle.hdfs_model.specs.Counts.{Rose, RoseTwice}
-use Rattle.hdfs_model.specs.Failures.{CallsRose, IsOfAsk, Means}
-use Rattle.hdfs_model.specs.Namenode.{Row, IsShaped, IsRefusal, IsFalse, is_retriable}
-use Rattle.hdfs_model.specs.Picture.{Picture, SameButActive}
-use Rattle.hdfs_model.specs.Repeating.{DoneOrNot, Leaves, Repeats}
-use Rattle.hdfs_model.specs.Shown.{Shown, Later}
+use Rattle.hdfs_cluster.specs.declared.asks.Ask.{Ask}
+use Rattle.hdfs_cluster.specs.declared.asks.Ask.TheVariants as asks
+use Rattle.hdfs_cluster.specs.declared.asks.Answer.{Answer}
+use Rattle.hdfs_cluster.specs.declared.asks.Answer.TheVariants as answers
+use Rattle.hdfs_cluster.specs.declared.asks.AskFault.{AskFault}
+use Rattle.hdfs_cluster.specs.declared.asks.AskFault.TheVariants as faults
+use Rattle.hdfs_cluster.specs.declared.errors.HdfsError.{HdfsError}
+use Rattle.hdfs_cluster.specs.declared.errors.HdfsError.TheVariants as errors
+use Rattle.hdfs_cluster.specs.declared.errors.IoFault.TheVariants as io_faults
+use Rattle.hdfs_cluster.specs.declared.messages.ServerDefaults.{ServerDefaults}
+use Rattle.hdfs_cluster.specs.declared.picture.LastAnswer.TheVariants as last_answers
+use Rattle.hdfs_cluster.specs.Counts.{Rose, RoseTwice}
+use Rattle.hdfs_cluster.specs.Failures.{CallsRose, IsOfAsk, Means}
+use Rattle.hdfs_cluster.specs.Namenode.{Row, IsShaped, IsRefusal, IsFalse, is_retriable}
+use Rattle.hdfs_cluster.specs.Picture.{Picture, SameButActive}
+use Rattle.hdfs_cluster.specs.Repeating.{DoneOrNot, Leaves, Repeats}
+use Rattle.hdfs_cluster.specs.Shown.{Shown, Later}
 use Rattle.hdfs_namenode.specs.Asked.{SameService, Through, as_answer, exception_error, order_of}
 
 -- What an error of an ask tells over any cluster: the last answer of a namenode was that for which it stands, and where that was none

@@ -1,14 +1,11 @@
 //! The calls about times, owners, permissions, replication and access control lists.
 ghost use Rattle.std.specs.Prelude.{◌≡◌, true, false, option_copied};
-ghost use Rattle.hdfs_model.specs.declared.asks.Ask.TheVariants as asks;
-ghost use Rattle.hdfs_model.specs.declared.asks.Answer.TheVariants as answers;
+ghost use Rattle.hdfs_cluster.specs.declared.asks.Ask.TheVariants as asks;
+ghost use Rattle.hdfs_cluster.specs.declared.asks.Answer.TheVariants as answers;
 ghost use Rattle.hdfs_namenode.specs.Asked.{AskedOnce, IsServiceOf, as_answer};
 
 use crate::protocol::NamenodeProtocol;
-use hdfs_model::{
-    AclEntryMsg, AclStatusMsg, Answer, Ask, Cluster, HdfsError, copy_acl_entries,
-    copy_optional_text,
-};
+use hdfs_cluster::{AclEntryMsg, AclStatusMsg, Answer, Ask, Cluster, HdfsError, copy_acl_entries, copy_optional_text};
 use hdfs_wire::Text;
 
 impl NamenodeProtocol {

@@ -1,7 +1,7 @@
 //! Copies for an ask.
 ghost use Rattle.std.specs.Prelude.{◌≡◌, IfOk, option_copied};
 
-use hdfs_model::Block;
+use hdfs_cluster::Block;
 use hdfs_wire::NoMemory;
 use std::alloc::Global;
 

@@ -1,10 +1,10 @@
 //! What an answer and a fault of a namenode are for a caller.
 ghost use Rattle.std.specs.Prelude.{◌≡◌};
-ghost use Rattle.hdfs_model.specs.Failover.{is_broken, passes_on};
-ghost use Rattle.hdfs_model.specs.Namenode.{is_retriable, is_taken};
+ghost use Rattle.hdfs_cluster.specs.Failover.{is_broken, passes_on};
+ghost use Rattle.hdfs_cluster.specs.Namenode.{is_retriable, is_taken};
 ghost use Rattle.hdfs_namenode.specs.Asked.{outcome_of, error_of};
 
-use hdfs_model::{Answer, AskFault, HdfsError, IoFault};
+use hdfs_cluster::{Answer, AskFault, HdfsError, IoFault};
 
 /// The exceptions that say that something stands at the path.
 const TAKEN: [&str; 2] = [

@@ -1,12 +1,12 @@
 //! The key by which a client encrypts data on its way to datanodes.
 ghost use Rattle.std.specs.Prelude.{◌≡◌, ◌+◌, ◌<◌, ◌↔◌, ℕ, true, false, Some, None, Ok, IfSome, IsTrue};
-ghost use Rattle.hdfs_model.specs.declared.asks.Ask.TheVariants as asks;
-ghost use Rattle.hdfs_model.specs.declared.asks.Answer.TheVariants as answers;
+ghost use Rattle.hdfs_cluster.specs.declared.asks.Ask.TheVariants as asks;
+ghost use Rattle.hdfs_cluster.specs.declared.asks.Answer.TheVariants as answers;
 ghost use Rattle.hdfs_namenode.specs.Asked.{Asked, IsServiceOf, as_answer};
 ghost use Rattle.hdfs_namenode.specs.Keys.{AsksForKey, AsksForBoth, GivesCopy, IsDue, IsLasting, Lasts};
 
 use crate::protocol::NamenodeProtocol;
-use hdfs_model::{Answer, Ask, Cluster, EncryptionKey, HdfsError, ServerDefaults};
+use hdfs_cluster::{Answer, Ask, Cluster, EncryptionKey, HdfsError, ServerDefaults};
 
 /// A key is given as long as it expires more milliseconds later than these.
 const MARGIN_MILLIS: u64 = 10_000;

@@ -1,15 +1,15 @@
 //! The leases of the files that a client is writing, and their renewal.
 ghost use Rattle.std.specs.Prelude.{◌≡◌, ◌≢◌, ℕ, ◌+◌, ◌-◌, ◌/◌, ◌<◌, ◌≤◌, true, Some, None, Ok, OnOk, OnErr};
 ghost use Rattle.hdfs_leases.specs.Leases.{held, last_of, IsIdle, HoldsSame, HoldsSameBut};
-ghost use Rattle.hdfs_model.specs.declared.asks.Ask.TheVariants as asks;
-ghost use Rattle.hdfs_model.specs.declared.asks.Answer.TheVariants as answers;
+ghost use Rattle.hdfs_cluster.specs.declared.asks.Ask.TheVariants as asks;
+ghost use Rattle.hdfs_cluster.specs.declared.asks.Answer.TheVariants as answers;
 ghost use Rattle.hdfs_namenode.specs.Asked.{AskedOnce, IsServiceOf, as_answer};
 ghost use Rattle.hdfs_namenode.specs.Renewing.{Renews, turn_of};
 ghost use Rattle.hdfs_namenode.specs.declared.leases.LeaseTurn.TheVariants.{Idle, Waiting};
 
 use crate::protocol::NamenodeProtocol;
 use hdfs_leases::LeaseNeed;
-use hdfs_model::{Ask, Cluster, HdfsError, copy_texts};
+use hdfs_cluster::{Ask, Cluster, HdfsError, copy_texts};
 use hdfs_wire::{NoMemory, Text};
 
 /// What was done with the leases at a moment.

@@ -1,15 +1,15 @@
 //! Namenodes that are brought into step, and observers, which answer reads.
 ghost use Rattle.std.specs.Prelude.{◌≡◌, ◌+◌, ◌<◌, true, IfErr, IfOk, IfSome};
-ghost use Rattle.hdfs_model.specs.Namenode.{IsShaped};
-ghost use Rattle.hdfs_model.specs.Shown.{Later};
-ghost use Rattle.hdfs_model.specs.declared.asks.Ask.TheVariants as asks;
-ghost use Rattle.hdfs_model.specs.declared.errors.HdfsError.TheVariants as errors;
+ghost use Rattle.hdfs_cluster.specs.Namenode.{IsShaped};
+ghost use Rattle.hdfs_cluster.specs.Shown.{Later};
+ghost use Rattle.hdfs_cluster.specs.declared.asks.Ask.TheVariants as asks;
+ghost use Rattle.hdfs_cluster.specs.declared.errors.HdfsError.TheVariants as errors;
 ghost use Rattle.hdfs_namenode.specs.Asked.{IsServiceOf, LooksFor, Observes, SameService, is_observed, needs_sync, numbers_from, order_of};
 ghost use Rattle.hdfs_namenode.specs.Observing.{ByObserver, InStep, SaysState, SyncsFirst, by_observer, is_unanswered, said_by};
 ghost use Rattle.hdfs_namenode.specs.Relaying.{HasNoAnswer};
 
 use crate::proxy::NameServiceProxy;
-use hdfs_model::{Answer, Ask, AskFault, Cluster, HdfsError};
+use hdfs_cluster::{Answer, Ask, AskFault, Cluster, HdfsError};
 
 /// The state of an observer.
 const OBSERVER: u32 = 3;

@@ -1,12 +1,12 @@
 //! The calls about what stands at paths: look-ups, and changes of names.
 ghost use Rattle.std.specs.Prelude.{◌≡◌, true, false};
-ghost use Rattle.hdfs_model.specs.declared.asks.Ask.TheVariants as asks;
-ghost use Rattle.hdfs_model.specs.declared.asks.Answer.TheVariants as answers;
+ghost use Rattle.hdfs_cluster.specs.declared.asks.Ask.TheVariants as asks;
+ghost use Rattle.hdfs_cluster.specs.declared.asks.Answer.TheVariants as answers;
 ghost use Rattle.hdfs_namenode.specs.Asked.{AskedOnce, IsServiceOf, ReachesAll, as_answer};
 ghost use Rattle.hdfs_namenode.specs.Relaying.{Came};
 
 use crate::protocol::NamenodeProtocol;
-use hdfs_model::{Answer, Ask, Cluster, DirList, FileStatusMsg, HdfsError, LocatedBlocks, Summary};
+use hdfs_cluster::{Answer, Ask, Cluster, DirList, FileStatusMsg, HdfsError, LocatedBlocks, Summary};
 use hdfs_wire::{Blob, Text};
 
 impl NamenodeProtocol {

@@ -1,15 +1,15 @@
 //! What is asked of namenodes in the name of one client, and what is asked for once.
 ghost use Rattle.std.specs.Prelude.{◌≡◌, ◌↔◌, false, Some, None, Ok, IfOk, IfSome, IsTrue, OnErr};
 ghost use Rattle.hdfs_leases.specs.Leases.{IsIdle, last_of};
-ghost use Rattle.hdfs_model.specs.Namenode.{IsShaped};
-ghost use Rattle.hdfs_model.specs.declared.asks.Ask.TheVariants as asks;
-ghost use Rattle.hdfs_model.specs.declared.asks.Answer.TheVariants as answers;
+ghost use Rattle.hdfs_cluster.specs.Namenode.{IsShaped};
+ghost use Rattle.hdfs_cluster.specs.declared.asks.Ask.TheVariants as asks;
+ghost use Rattle.hdfs_cluster.specs.declared.asks.Answer.TheVariants as answers;
 ghost use Rattle.hdfs_namenode.specs.Asked.{Asked, IsServiceOf, ReachesAll, SameService, as_answer};
 ghost use Rattle.hdfs_namenode.specs.Relaying.{Came, CameCached};
 
 use crate::proxy::NameServiceProxy;
 use hdfs_leases::FileLeases;
-use hdfs_model::{Answer, Ask, Cluster, EncryptionKey, HdfsError, ServerDefaults};
+use hdfs_cluster::{Answer, Ask, Cluster, EncryptionKey, HdfsError, ServerDefaults};
 use hdfs_wire::{NoMemory, Text};
 use std::alloc::Global;
 use uuid::Uuid;

@@ -1,13 +1,13 @@
 //! A name service: several namenodes, one of which is active.
 ghost use Rattle.std.specs.Prelude.{◌≡◌, ◌+◌, ◌≤◌, ◌<◌, ◌↔◌, IfErr, IfOk, IfSome, IsTrue};
-ghost use Rattle.hdfs_model.specs.Failover.{AsksInOrder, AsksOne};
-ghost use Rattle.hdfs_model.specs.Namenode.{IsShaped};
-ghost use Rattle.hdfs_model.specs.Shown.{Later};
+ghost use Rattle.hdfs_cluster.specs.Failover.{AsksInOrder, AsksOne};
+ghost use Rattle.hdfs_cluster.specs.Namenode.{IsShaped};
+ghost use Rattle.hdfs_cluster.specs.Shown.{Later};
 ghost use Rattle.hdfs_namenode.specs.Asked.{Asked, AskedInOrder, IsNew, IsServiceOf, ReachesAll, SameService, order_of, remembers};
 ghost use Rattle.hdfs_namenode.specs.Relaying.{HasNoAnswer, LacksAnswer};
 
 use crate::faults::{is_broken, outcome_of, passes_on};
-use hdfs_model::{Answer, Ask, AskFault, Cluster, HdfsError};
+use hdfs_cluster::{Answer, Ask, AskFault, Cluster, HdfsError};
 
 /// The namenodes of one service. The one that answered the last write is asked first (upstream's `NameServiceProxy`).
 #[derive(Drop)]

@@ -1,18 +1,15 @@
 //! The calls by which a file is written.
 ghost use Rattle.std.specs.Prelude.{◌≡◌, true, IfOk, IfSome, option_copied};
-ghost use Rattle.hdfs_model.specs.Effects.{HasOneMore};
-ghost use Rattle.hdfs_model.specs.Namenode.{IsToWrite};
-ghost use Rattle.hdfs_model.specs.declared.asks.Ask.TheVariants as asks;
-ghost use Rattle.hdfs_model.specs.declared.asks.Answer.TheVariants as answers;
+ghost use Rattle.hdfs_cluster.specs.Effects.{HasOneMore};
+ghost use Rattle.hdfs_cluster.specs.Namenode.{IsToWrite};
+ghost use Rattle.hdfs_cluster.specs.declared.asks.Ask.TheVariants as asks;
+ghost use Rattle.hdfs_cluster.specs.declared.asks.Answer.TheVariants as answers;
 ghost use Rattle.hdfs_namenode.specs.Asked.{AskedOnce, IsServiceOf, ReachesAll, as_answer};
 ghost use Rattle.hdfs_namenode.specs.Relaying.{Came};
 
 use crate::copies::copy_block;
 use crate::protocol::NamenodeProtocol;
-use hdfs_model::{
-    Answer, Appended, Ask, Block, Cluster, DatanodeId, DatanodeInfo, FileStatusMsg, HdfsError,
-    LocatedBlock, copy_ids, copy_nodes, copy_texts,
-};
+use hdfs_cluster::{Answer, Appended, Ask, Block, Cluster, DatanodeId, DatanodeInfo, FileStatusMsg, HdfsError, LocatedBlock, copy_ids, copy_nodes, copy_texts};
 use hdfs_wire::{NoMemory, Text};
 
 impl NamenodeProtocol {

@@ -1,11 +1,11 @@
 -- An ask that was answered.
 use Rattle.std.proofs.Common.{ℕ, Ok, refl}
-use Rattle.hdfs_model.specs.declared.asks.Answer.{Answer}
-use Rattle.hdfs_model.specs.declared.asks.Ask.{Ask}
-use Rattle.hdfs_model.specs.declared.picture.LastAnswer.TheVariants as last_answers
-use Rattle.hdfs_model.specs.Namenode.{IsFalse}
-use Rattle.hdfs_model.specs.Shown.{Served}
-use Rattle.hdfs_model.proofs.Frames.{later_refl}
+use Rattle.hdfs_cluster.specs.declared.asks.Answer.{Answer}
+use Rattle.hdfs_cluster.specs.declared.asks.Ask.{Ask}
+use Rattle.hdfs_cluster.specs.declared.picture.LastAnswer.TheVariants as last_answers
+use Rattle.hdfs_cluster.specs.Namenode.{IsFalse}
+use Rattle.hdfs_cluster.specs.Shown.{Served}
+use Rattle.hdfs_cluster.proofs.Frames.{later_refl}
 use Rattle.hdfs_namenode_tests.specs.Namenodes.{shown_of}
 use Rattle.hdfs_namenode_tests.specs.declared.fake_namenodes.FakeNamenodes.{FakeNamenodes}
 

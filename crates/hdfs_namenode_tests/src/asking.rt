@@ -4,7 +4,7 @@ ghost use Rattle.hdfs_namenode_tests.specs.Namenodes.{shown_of};
 
 use crate::fake_namenodes::{FakeNamenodes, Gives};
 use crate::telling::{tell_asked, tell_error};
-use hdfs_model::Ask;
+use hdfs_cluster::Ask;
 use hdfs_namenode::NameServiceProxy;
 use hdfs_steps::{Said, Words};
 use hdfs_wire::Text;

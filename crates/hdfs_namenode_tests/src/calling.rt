@@ -6,7 +6,7 @@ ghost use Rattle.hdfs_namenode_tests.specs.Namenodes.{shown_of};
 use crate::changing;
 use crate::fake_namenodes::FakeNamenodes;
 use crate::telling::tell_error;
-use hdfs_model::{AclStatusMsg, HdfsError};
+use hdfs_cluster::{AclStatusMsg, HdfsError};
 use hdfs_namenode::NamenodeProtocol;
 use hdfs_steps::{Said, Words};
 

@@ -5,7 +5,7 @@ ghost use Rattle.hdfs_namenode_tests.specs.Namenodes.{shown_of};
 
 use crate::fake_namenodes::FakeNamenodes;
 use crate::telling::tell_error;
-use hdfs_model::AclEntryMsg;
+use hdfs_cluster::AclEntryMsg;
 use hdfs_namenode::NamenodeProtocol;
 use hdfs_steps::{Said, Words};
 

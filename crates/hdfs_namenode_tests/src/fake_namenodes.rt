@@ -1,15 +1,10 @@
 //! Three namenodes that give what they are told to give, and no datanode. They tell no picture.
 ghost use Rattle.std.specs.Prelude.{◌≡◌, ◌<◌, Err, IfOk, IfSome};
-ghost use Rattle.hdfs_model.specs.Namenode.{IsFailure, IsFalse, IsShaped, last_of};
+ghost use Rattle.hdfs_cluster.specs.Namenode.{IsFailure, IsFalse, IsShaped, last_of};
 ghost use Rattle.hdfs_namenode_tests.specs.Namenodes.{GivesNone};
 
-use hdfs_model::{
-    AclStatusMsg, Answer, Ask, AskFault, Cluster, EncryptionKey, LastAnswer, LinkFault, OpenRead,
-    OpenWrite, ReadAsk, ServerDefaults, Setup, Summary, Transfer,
-};
-use hdfs_wire::{
-    Ack, Blob, ChecksumInfo, List, NoMemory, ReadPacket, Text, WireFault, WritePacket,
-};
+use hdfs_cluster::{AclStatusMsg, Answer, Ask, AskFault, Cluster, EncryptionKey, LastAnswer, LinkFault, OpenRead, OpenWrite, ReadAsk, ServerDefaults, Setup, Summary, Transfer};
+use hdfs_wire::{Ack, Blob, ChecksumInfo, List, NoMemory, ReadPacket, Text, WireFault, WritePacket};
 use slab::Slab;
 use std::alloc::Global;
 
@@ -268,8 +263,8 @@ impl FakeNamenodes {
 }
 
 impl Cluster for FakeNamenodes {
-    ghost use Rattle.hdfs_model.specs.Pipes.{WriteEnded};
-    ghost use Rattle.hdfs_model.specs.Shown.{Served};
+    ghost use Rattle.hdfs_cluster.specs.Pipes.{WriteEnded};
+    ghost use Rattle.hdfs_cluster.specs.Shown.{Served};
     ghost use Rattle.hdfs_namenode_tests.specs.Namenodes.{shown_of, no_picture, no_writes, nothing_shown};
 
     ghost shown = { shown_of };

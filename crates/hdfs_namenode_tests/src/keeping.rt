@@ -5,7 +5,7 @@ ghost use Rattle.hdfs_namenode_tests.specs.Namenodes.{shown_of};
 
 use crate::fake_namenodes::FakeNamenodes;
 use crate::telling::tell_error;
-use hdfs_model::{EncryptionKey, HdfsError};
+use hdfs_cluster::{EncryptionKey, HdfsError};
 use hdfs_namenode::{LeaseTurn, NamenodeProtocol};
 use hdfs_steps::{Said, Words, number};
 

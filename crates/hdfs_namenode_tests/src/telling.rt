@@ -1,6 +1,6 @@
 //! Answers and errors in words.
 use crate::fake_namenodes::name_of;
-use hdfs_model::{HdfsError, IoFault};
+use hdfs_cluster::{HdfsError, IoFault};
 use hdfs_steps::Said;
 
 /// The numbers by which asks are told.

@@ -8,13 +8,13 @@ use Rattle.std.proofs.lemmas.Bool.Decides.{nat_tests}
 use Rattle.std.proofs.lemmas.List.{map-append, append-nil, length-append}
 use Rattle.hdfs_wire.specs.Outgoing.{Outgoing}
 use Rattle.hdfs_wire.specs.declared.ack.Ack.{Ack}
-use Rattle.hdfs_model.specs.declared.asks.LinkFault.TheVariants as faults
-use Rattle.hdfs_model.specs.declared.picture.OpenWrite.{OpenWrite}
-use Rattle.hdfs_model.specs.Counts.{Rose}
-use Rattle.hdfs_model.specs.Pipes.{Sent, NotSent, Acknowledged, NotAcknowledged, nodes_of, Waits}
-use Rattle.hdfs_model.specs.Sending.{Came, Broke, seqno_of, end_of}
-use Rattle.hdfs_model.specs.Shown.{Shown}
-use Rattle.hdfs_model.specs.Writing.{IsBehind, MayBeBehind}
+use Rattle.hdfs_cluster.specs.declared.asks.LinkFault.TheVariants as faults
+use Rattle.hdfs_cluster.specs.declared.picture.OpenWrite.{OpenWrite}
+use Rattle.hdfs_cluster.specs.Counts.{Rose}
+use Rattle.hdfs_cluster.specs.Pipes.{Sent, NotSent, Acknowledged, NotAcknowledged, nodes_of, Waits}
+use Rattle.hdfs_cluster.specs.Sending.{Came, Broke, seqno_of, end_of}
+use Rattle.hdfs_cluster.specs.Shown.{Shown}
+use Rattle.hdfs_cluster.specs.Writing.{IsBehind, MayBeBehind}
 use Rattle.hdfs_pipeline.specs.Pipelines.{Pipeline, End, Done, Failed, Bad, ended}
 use Rattle.hdfs_pipeline.specs.Places.{are_fine, failed_from}
 use Rattle.hdfs_pipeline.proofs.Acknowledging.{Acks, Misshapen, Nodes, First, Other, without_first}

@@ -7,15 +7,15 @@ use Rattle.std.proofs.lemmas.Bool.Decides.{nat_tests}
 use Rattle.std.proofs.Math.Seq.{take-add}
 use Rattle.std.proofs.lemmas.List.{append-nil, drop-append-le, drop-drop, drop_all, length-append, length-drop, take-append-le, take_all}
 use Rattle.hdfs_wire.specs.Outgoing.{Outgoing}
-use Rattle.hdfs_model.specs.declared.asks.LinkFault.TheVariants as faults
-use Rattle.hdfs_model.specs.declared.picture.OpenWrite.{OpenWrite}
-use Rattle.hdfs_model.specs.Counts.{Rose}
-use Rattle.hdfs_model.specs.Picture.{Picture, SamePicture}
-use Rattle.hdfs_model.specs.Pipes.{NotAcknowledged, NotSent, nodes_of}
-use Rattle.hdfs_model.specs.Sending.{uuids, WritePlace}
-use Rattle.hdfs_model.specs.Shown.{Shown}
-use Rattle.hdfs_model.specs.Writing.{OnlyBlock, GoesFurther, Sends, MayBeBehind}
-use Rattle.hdfs_model.proofs.Frames.{told_after, rose_since, same_picture_refl, only_writes_refl, only_writes_trans}
+use Rattle.hdfs_cluster.specs.declared.asks.LinkFault.TheVariants as faults
+use Rattle.hdfs_cluster.specs.declared.picture.OpenWrite.{OpenWrite}
+use Rattle.hdfs_cluster.specs.Counts.{Rose}
+use Rattle.hdfs_cluster.specs.Picture.{Picture, SamePicture}
+use Rattle.hdfs_cluster.specs.Pipes.{NotAcknowledged, NotSent, nodes_of}
+use Rattle.hdfs_cluster.specs.Sending.{uuids, WritePlace}
+use Rattle.hdfs_cluster.specs.Shown.{Shown}
+use Rattle.hdfs_cluster.specs.Writing.{OnlyBlock, GoesFurther, Sends, MayBeBehind}
+use Rattle.hdfs_cluster.proofs.Frames.{told_after, rose_since, same_picture_refl, only_writes_refl, only_writes_trans}
 use Rattle.hdfs_pipeline.specs.declared.event.Event.TheVariants.{Push, Take, Wrote, WriteFailed}
 use Rattle.hdfs_pipeline.specs.Cores.{Follows, CanTake, next_of}
 use Rattle.hdfs_pipeline.proofs.Rows.{pushes, takes, writes, fails_to_write}

@@ -3,13 +3,13 @@ use Rattle.std.proofs.Common.{◌≡◌, ℕ, List, [], ◌∷◌, ◌++◌, ref
 use Rattle.std.proofs.lemmas.List.{append-nil}
 use Rattle.hdfs_wire.specs.Outgoing.{Outgoing}
 use Rattle.hdfs_wire.specs.declared.ack.Ack.{Ack}
-use Rattle.hdfs_model.specs.declared.asks.LinkFault.TheVariants as faults
-use Rattle.hdfs_model.specs.Picture.{Told}
-use Rattle.hdfs_model.specs.Pipes.{Sent, NotSent, Acknowledged, NotAcknowledged}
-use Rattle.hdfs_model.specs.Sending.{Response, Came, Broke}
-use Rattle.hdfs_model.specs.Shown.{Shown}
-use Rattle.hdfs_model.specs.Writing.{Sends, IsBehind, MayBeBehind, Responds}
-use Rattle.hdfs_model.proofs.Frames.{told_after}
+use Rattle.hdfs_cluster.specs.declared.asks.LinkFault.TheVariants as faults
+use Rattle.hdfs_cluster.specs.Picture.{Told}
+use Rattle.hdfs_cluster.specs.Pipes.{Sent, NotSent, Acknowledged, NotAcknowledged}
+use Rattle.hdfs_cluster.specs.Sending.{Response, Came, Broke}
+use Rattle.hdfs_cluster.specs.Shown.{Shown}
+use Rattle.hdfs_cluster.specs.Writing.{Sends, IsBehind, MayBeBehind, Responds}
+use Rattle.hdfs_cluster.proofs.Frames.{told_after}
 use Rattle.hdfs_pipeline.specs.declared.event.Event.{Event}
 use Rattle.hdfs_pipeline.specs.declared.event.Event.TheVariants.{Push, Take, Wrote, WriteFailed, Acked, AckFailed, Heartbeat}
 use Rattle.hdfs_pipeline.specs.Pipelines.{Pipeline}

@@ -5,12 +5,12 @@ use Rattle.std.proofs.lemmas.Bool.Decides.{nat_tests}
 use Rattle.std.proofs.lemmas.List.{length-take-le, append-nil, drop_more, length-append, drop-append-le}
 use Rattle.hdfs_wire.specs.Outgoing.{Outgoing}
 use Rattle.hdfs_wire.specs.declared.ack.Ack.{Ack}
-use Rattle.hdfs_model.specs.Picture.{Picture, SamePicture, Told}
-use Rattle.hdfs_model.specs.Pipes.{WritesLink, IsStillOpen}
-use Rattle.hdfs_model.specs.Sending.{WritePlace, Response, Came, MovesOn, node_at, IsDue, Acknowledges}
-use Rattle.hdfs_model.specs.Shown.{Shown}
-use Rattle.hdfs_model.specs.Writing.{OnlyBlock, GoesFurther, WritesAt, Sends, Responds}
-use Rattle.hdfs_model.proofs.Frames.{told_after}
+use Rattle.hdfs_cluster.specs.Picture.{Picture, SamePicture, Told}
+use Rattle.hdfs_cluster.specs.Pipes.{WritesLink, IsStillOpen}
+use Rattle.hdfs_cluster.specs.Sending.{WritePlace, Response, Came, MovesOn, node_at, IsDue, Acknowledges}
+use Rattle.hdfs_cluster.specs.Shown.{Shown}
+use Rattle.hdfs_cluster.specs.Writing.{OnlyBlock, GoesFurther, WritesAt, Sends, Responds}
+use Rattle.hdfs_cluster.proofs.Frames.{told_after}
 use Rattle.hdfs_pipeline.proofs.Rows.{writes}
 use Rattle.hdfs_pipeline.specs.Pipelines.{Pipeline}
 use Rattle.hdfs_pipeline.specs.Places.{are_fine}

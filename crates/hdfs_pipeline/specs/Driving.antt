@@ -1,13 +1,13 @@
 -- What driving a pipeline over a write link does.
 use Rattle.std.specs.Prelude.{◌≡◌, ◌≢◌, ℕ, ℤ, ◌+◌, ◌<◌, ◌≤◌, true, false, List, [], ◌∷◌, ◌++◌, length, take, drop, map, slice_index_or, All, Option, Some, None, IsSome}
 use Rattle.hdfs_wire.specs.Outgoing.{Outgoing}
-use Rattle.hdfs_model.specs.declared.picture.OpenWrite.{OpenWrite}
-use Rattle.hdfs_model.specs.Counts.{Rose}
-use Rattle.hdfs_model.specs.Picture.{Picture}
-use Rattle.hdfs_model.specs.Pipes.{OnlyWrites, FollowsOn, nodes_of}
-use Rattle.hdfs_model.specs.Sending.{Response, Came, Broke, WritePlace, seqno_of, end_of as packet_end}
-use Rattle.hdfs_model.specs.Shown.{Shown}
-use Rattle.hdfs_model.specs.Writing.{GoesFurther}
+use Rattle.hdfs_cluster.specs.declared.picture.OpenWrite.{OpenWrite}
+use Rattle.hdfs_cluster.specs.Counts.{Rose}
+use Rattle.hdfs_cluster.specs.Picture.{Picture}
+use Rattle.hdfs_cluster.specs.Pipes.{OnlyWrites, FollowsOn, nodes_of}
+use Rattle.hdfs_cluster.specs.Sending.{Response, Came, Broke, WritePlace, seqno_of, end_of as packet_end}
+use Rattle.hdfs_cluster.specs.Shown.{Shown}
+use Rattle.hdfs_cluster.specs.Writing.{GoesFurther}
 use Rattle.hdfs_pipeline.specs.Cores.{IsCore, Stands}
 use Rattle.hdfs_pipeline.specs.Ends.{end_of}
 use Rattle.hdfs_pipeline.specs.Pipelines.{Pipeline, Done, Failed, Bad}

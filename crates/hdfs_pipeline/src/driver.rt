@@ -2,14 +2,14 @@
 
 ghost use Rattle.std.specs.Prelude.{◌≡◌, ◌<◌, ◌≤◌, ◌+◌, ◌⊎◌, ◌∷◌, ◌++◌, ℕ, [], length, None, Some, IsSome, IfOk, OnOk, OnErr, IsTrue, ◌↔◌};
 ghost use Rattle.hdfs_wire.specs.Outgoing.{Outgoing};
-ghost use Rattle.hdfs_model.specs.Pipes.{FollowsOn};
+ghost use Rattle.hdfs_cluster.specs.Pipes.{FollowsOn};
 ghost use Rattle.hdfs_pipeline.specs.Pipelines.{has_room};
 ghost use Rattle.hdfs_pipeline.specs.Cores.{IsCore};
 ghost use Rattle.hdfs_pipeline.specs.Driving.{Happened, IsGoing, Drives, Drove, StopsShort, IsNext, EndsWith, taken_in, IsGivenBack, EndsInLast, DroveToEnd, StoppedShort};
 
 use crate::end::PipelineEnd;
 use crate::pipeline_core::PipelineCore;
-use hdfs_model::{Cluster, LinkFault};
+use hdfs_cluster::{Cluster, LinkFault};
 use hdfs_wire::{NoMemory, WritePacket};
 
 /// Reads the acknowledgement of the oldest packet. It is acknowledged then, or the pipeline has ended.

@@ -8,11 +8,11 @@ use Rattle.std.specs.List.{list_any}
 use Rattle.std.specs.Option.{option_map}
 use Rattle.std.specs.Str.{bytes_eq}
 use Rattle.hdfs_model.specs.declared.commands.Reply.TheVariants as replies
-use Rattle.hdfs_model.specs.Files.{Files, Node, Dir, File, Writing, Content, State, NoFile, no_file, kind_of, kinds_of}
-use Rattle.hdfs_model.specs.Paths.{ancestors}
-use Rattle.hdfs_model.specs.Refusals.{create_refusal, append_refusal, open_refusal}
+use Rattle.hdfs_cluster.specs.Files.{Files, Node, Dir, File, Writing, Content, State, NoFile, no_file, kind_of, kinds_of}
+use Rattle.hdfs_names.specs.Paths.{ancestors}
+use Rattle.hdfs_cluster.specs.Refusals.{create_refusal, append_refusal, open_refusal}
 use Rattle.hdfs_model.specs.Steps.{Done, is_opened, with_writing, with_node, without, content_of, read_content, read_file, open_node, append_file, create_file}
-use Rattle.hdfs_model.specs.Loading.{with_new}
+use Rattle.hdfs_cluster.specs.Loading.{with_new}
 use Rattle.hdfs_plain.specs.declared.files.PlainFiles.{PlainFiles}
 use Rattle.hdfs_plain.specs.declared.files.PlainNode.{PlainNode}
 use Rattle.hdfs_plain.specs.declared.files.PlainNode.TheVariants as nodes

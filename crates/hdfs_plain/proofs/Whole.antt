@@ -1,8 +1,8 @@
 -- Replicas that lines leave whole.
 use Rattle.std.proofs.Common.{◌≡◌, ◌≢◌, ◌⊎◌, inl, inr, ⊎_elim, ℕ, zero, suc, ◌<◌, ◌&&◌, ◌||◌, not, eqb, nat_lt, Bool, true, false, List, refl, sym, subst, arith}
 use Rattle.std.proofs.lemmas.Bool.Decides.{nat_tests}
-use Rattle.hdfs_model.specs.declared.store.Line.{Line}
-use Rattle.hdfs_model.specs.Replicas.{any_below, left_of, other_whole}
+use Rattle.hdfs_cluster.specs.declared.store.Line.{Line}
+use Rattle.hdfs_cluster.specs.Replicas.{any_below, left_of, other_whole}
 
 -- one of two is true where the first is, or where the second is
 or_either : (a b : Bool) → (a ≡ true) ⊎ (b ≡ true) → (a || b) ≡ true

@@ -1,7 +1,7 @@
 -- What the plain program answers, in the words of the fold.
 use Rattle.std.specs.Prelude.{◌≡◌, false, List, Option, Some, None}
 use Rattle.hdfs_model.specs.declared.commands.Reply.{Reply}
-use Rattle.hdfs_model.specs.Files.{State, NotDirectory, Missing, NotFile}
+use Rattle.hdfs_cluster.specs.Files.{State, NotDirectory, Missing, NotFile}
 use Rattle.hdfs_model.specs.Steps.{World, Refusal, BadPath, WrongState, Exists, Lacks, BadRange, Outcome, Refused, Done}
 use Rattle.hdfs_model.specs.Folds.{Folded, Ends, Stops}
 use Rattle.hdfs_plain.specs.declared.files.PlainFiles.{PlainFiles}

@@ -8,8 +8,8 @@ use Rattle.hdfs_plain.specs.declared.files.PlainFile.{PlainFile}
 use Rattle.hdfs_plain.specs.declared.files.PlainFiles.{PlainFiles}
 use Rattle.hdfs_plain.specs.declared.files.PlainNode.{PlainNode}
 use Rattle.hdfs_plain.specs.declared.files.PlainNode.TheVariants as nodes
-use Rattle.hdfs_model.specs.Files.{Files, Node, Dir, File, Writing, Content, State}
-use Rattle.hdfs_model.specs.Paths.{ancestors}
+use Rattle.hdfs_cluster.specs.Files.{Files, Node, Dir, File, Writing, Content, State}
+use Rattle.hdfs_names.specs.Paths.{ancestors}
 use Rattle.hdfs_model.specs.Steps.{is_opened}
 
 -- the bytes and the attributes of a plain file

@@ -1,10 +1,10 @@
 //! The files as a map, and the paths that are open.
 ghost use Rattle.std.specs.Prelude.{◌≡◌, ◌++◌, ℕ, Some, None, true, false, ◌↔◌, IfOk, ◌&&◌, is_none};
 ghost use Rattle.std.specs.List.{list_any};
-ghost use Rattle.hdfs_model.specs.Files as spec;
-ghost use Rattle.hdfs_model.specs.Loading.{takes, is_directory, is_free, with_line};
-ghost use Rattle.hdfs_model.specs.Paths.{ancestors, parent_of};
-ghost use Rattle.hdfs_model.specs.Replicas.{takes_short};
+ghost use Rattle.hdfs_cluster.specs.Files as spec;
+ghost use Rattle.hdfs_cluster.specs.Loading.{takes, is_directory, is_free, with_line};
+ghost use Rattle.hdfs_names.specs.Paths.{ancestors, parent_of};
+ghost use Rattle.hdfs_cluster.specs.Replicas.{takes_short};
 ghost use Rattle.hdfs_model.specs.Steps.{read_content};
 ghost use Rattle.hdfs_plain.specs.declared.files.PlainFiles.{PlainFiles};
 ghost use Rattle.hdfs_plain.specs.Answers.{Comes};
@@ -12,7 +12,9 @@ ghost use Rattle.hdfs_plain.specs.Plain.{Holds, content_in, files_of, has_open};
 
 use crate::outcome::{PlainOutcome, PlainRefusal};
 use crate::replicas::{block_length, can_cut};
-use hdfs_model::{Attributes, Line, MemSettings, Reply, is_path, nearest_ancestor, parent_of};
+use hdfs_cluster::{Attributes, Line, MemSettings};
+use hdfs_model::Reply;
+use hdfs_names::{is_path, nearest_ancestor, parent_of};
 use hdfs_wire::{Blob, NoMemory};
 use std::alloc::Global;
 use std::collections::{BTreeMap, BTreeSet};

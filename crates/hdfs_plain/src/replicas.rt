@@ -1,10 +1,10 @@
 //! The replicas of a file's blocks behind loaded lines.
 ghost use Rattle.std.specs.Prelude.{◌≡◌, length};
-ghost use Rattle.hdfs_model.specs.Replicas as spec;
+ghost use Rattle.hdfs_cluster.specs.Replicas as spec;
 ghost use Rattle.hdfs_plain.specs.Plain.{content_in};
 
 use crate::files::PlainFile;
-use hdfs_model::Line;
+use hdfs_cluster::Line;
 
 // How many bytes a line leaves of a replica of which so many were left.
 fn left_by(line: &Line, path: &str, block: u32, node: u32, whole: u64, left: u64) -> u64

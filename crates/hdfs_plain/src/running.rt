@@ -1,6 +1,6 @@
 //! Commands one after another.
 ghost use Rattle.std.specs.Prelude.{◌≡◌, ◌++◌, ◌∷◌, [], ℕ, take, Option, Some, None, IfOk};
-ghost use Rattle.hdfs_model.specs.Files.{State};
+ghost use Rattle.hdfs_cluster.specs.Files.{State};
 ghost use Rattle.hdfs_model.specs.Folds.{fold};
 ghost use Rattle.hdfs_model.specs.Owing as owing;
 ghost use Rattle.hdfs_model.specs.Steps as spec;
@@ -10,7 +10,9 @@ ghost use Rattle.hdfs_plain.specs.Answers.{Comes, folded_of, world_of};
 
 use crate::files::PlainFiles;
 use crate::outcome::{PlainOutcome, PlainRefusal};
-use hdfs_model::{Command, Reply, ServerDefaults, absolute_path, is_path};
+use hdfs_cluster::ServerDefaults;
+use hdfs_model::{Command, Reply};
+use hdfs_names::{absolute_path, is_path};
 use hdfs_wire::{List, NoMemory, Text};
 
 /// What commands take beside the files: the directory under which relative paths stand, and the cluster's defaults.

@@ -1,7 +1,7 @@
 //! Commands over the files, each at its path.
 ghost use Rattle.std.specs.Prelude.{◌≡◌, ◌&&◌, ℕ, Option, Some, None, OnOk, IfOk, option_map};
-ghost use Rattle.hdfs_model.specs.Files.{State, kinds_of, no_file};
-ghost use Rattle.hdfs_model.specs.Refusals as refusals;
+ghost use Rattle.hdfs_cluster.specs.Files.{State, kinds_of, no_file};
+ghost use Rattle.hdfs_cluster.specs.Refusals as refusals;
 ghost use Rattle.hdfs_model.specs.Steps as spec;
 ghost use Rattle.hdfs_plain.specs.Answers.{Comes, refusal_of, world_of};
 ghost use Rattle.hdfs_plain.specs.Plain.{Holds, MakesParents, Puts, content_in, files_of};
@@ -9,7 +9,9 @@ ghost use Rattle.hdfs_plain.specs.Plain.{Holds, MakesParents, Puts, content_in, 
 use crate::files::{PlainFile, PlainFiles, PlainNode};
 use crate::outcome::{PlainOutcome, PlainRefusal};
 use crate::running::PlainWorld;
-use hdfs_model::{Attributes, Reply, WriteOptions, nearest_ancestor, parent_of};
+use hdfs_cluster::Attributes;
+use hdfs_model::{Reply, WriteOptions};
+use hdfs_names::{nearest_ancestor, parent_of};
 use hdfs_wire::{Blob, NoMemory};
 
 impl PlainFiles {

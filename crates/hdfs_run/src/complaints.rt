@@ -1,5 +1,5 @@
 //! The lines on standard error that say what a status leaves unsaid. Where they can't be written nothing else changes.
-use hdfs_in_memory::{EXPLANATIONS, Note};
+use hdfs_top::{EXPLANATIONS, Note};
 use std::io;
 
 // Says what a status says by itself.

@@ -6,7 +6,8 @@ mod help;
 
 use complaints::complain;
 use hdfs_edge::{StdSink, StdSource, WordsFault, words};
-use hdfs_in_memory::{Note, explain, run_words};
+use hdfs_program::run_words;
+use hdfs_top::{Note, explain};
 use hdfs_script::write_refusal;
 use hdfs_streams::{IoFailed, Sink, write_all};
 use hdfs_wire::NoMemory;

@@ -1,11 +1,11 @@
 -- Which line is bad, from its two halves: what a parser has read, and what a store takes of it.
 use Rattle.std.proofs.Common.{◌≡◌, ℕ, ◌+◌, ◌<◌, nat_le, Bool, true, false, ◌&&◌, ◌||◌, List, [], ◌∷◌, Option, Some, None, Ok, Err, if◌then◌else◌, refl, sym, ◌∙◌, ap, arith, lit<}
 use Rattle.std.proofs.lemmas.Bool.Decides.{nat_tests}
-use Rattle.hdfs_model.specs.declared.store.Line.{Line}
-use Rattle.hdfs_model.specs.declared.store.Line.TheVariants as lines
-use Rattle.hdfs_model.specs.Files.{State}
-use Rattle.hdfs_model.specs.Loading.{takes, with_line, with_loaded}
-use Rattle.hdfs_model.specs.Shown.{Loaded}
+use Rattle.hdfs_cluster.specs.declared.store.Line.{Line}
+use Rattle.hdfs_cluster.specs.declared.store.Line.TheVariants as lines
+use Rattle.hdfs_cluster.specs.Files.{State}
+use Rattle.hdfs_cluster.specs.Loading.{takes, with_line, with_loaded}
+use Rattle.hdfs_cluster.specs.Shown.{Loaded}
 use Rattle.hdfs_script.specs.declared.entry.Entry.{Entry}
 use Rattle.hdfs_script.specs.declared.entry.Entry.TheVariants.{Blank, Sets, Loads, Runs, Bad}
 use Rattle.hdfs_script.specs.declared.entry.NumberedLine.{NumberedLine}

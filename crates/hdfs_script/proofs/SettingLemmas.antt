@@ -3,16 +3,17 @@ use Rattle.std.proofs.Common.{◌≡◌, ℕ, ◌+◌, ◌^◌, ◌<◌, ◌≤�
 use Rattle.std.specs.List.{list_all, slice_split}
 use Rattle.std.specs.Str.{bytes_eq}
 use Rattle.std.proofs.lemmas.Bool.Decides.{nat_tests}
-use Rattle.hdfs_model.specs.declared.attributes.Attributes.{Attributes}
+use Rattle.hdfs_cluster.specs.declared.attributes.Attributes.{Attributes}
 use Rattle.hdfs_model.specs.declared.commands.WriteOptions.{WriteOptions}
-use Rattle.hdfs_model.specs.declared.store.AskKind.{AskKind}
-use Rattle.hdfs_model.specs.declared.store.AskKind.TheVariants as ask_kinds
-use Rattle.hdfs_model.specs.declared.store.FaultLine.{FaultLine}
-use Rattle.hdfs_model.specs.declared.store.FaultLine.TheVariants as faults
-use Rattle.hdfs_model.specs.declared.store.LinkKind.{LinkKind}
-use Rattle.hdfs_model.specs.declared.store.ReadKind.{ReadKind}
-use Rattle.hdfs_model.specs.Limits.{are_settings, is_block_size, is_replication, is_small}
-use Rattle.hdfs_model.specs.Loading.{AreValid}
+use Rattle.hdfs_cluster.specs.declared.store.AskKind.{AskKind}
+use Rattle.hdfs_cluster.specs.declared.store.AskKind.TheVariants as ask_kinds
+use Rattle.hdfs_cluster.specs.declared.store.FaultLine.{FaultLine}
+use Rattle.hdfs_cluster.specs.declared.store.FaultLine.TheVariants as faults
+use Rattle.hdfs_cluster.specs.declared.store.LinkKind.{LinkKind}
+use Rattle.hdfs_cluster.specs.declared.store.ReadKind.{ReadKind}
+use Rattle.hdfs_cluster.specs.Limits.{is_block_size, is_replication}
+use Rattle.hdfs_model.specs.Limits.{are_settings, is_small}
+use Rattle.hdfs_cluster.specs.Loading.{AreValid}
 use Rattle.hdfs_names.specs.declared.replacement.Policy.{Policy}
 use Rattle.hdfs_script.specs.declared.entry.Entry.{Entry}
 use Rattle.hdfs_script.specs.declared.entry.Entry.TheVariants.{Blank, Sets, Loads, Runs, Bad}

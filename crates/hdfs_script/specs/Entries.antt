@@ -2,16 +2,16 @@
 use Rattle.std.specs.Prelude.{ℕ, ◌^◌, ◌+◌, nat_le, nat_lt, Bool, false, ◌&&◌, ◌||◌, ◌==◌, List, [], ◌∷◌, length, Option, Some, None, if◌then◌else◌, codes}
 use Rattle.std.specs.List.{list_all, slice_split}
 use Rattle.std.specs.Str.{bytes_eq}
-use Rattle.hdfs_model.specs.declared.attributes.Attributes.{Attributes}
-use Rattle.hdfs_model.specs.declared.store.Line.TheVariants as lines
-use Rattle.hdfs_model.specs.declared.store.AskKind.{AskKind}
-use Rattle.hdfs_model.specs.declared.store.AskKind.TheVariants as ask_kinds
-use Rattle.hdfs_model.specs.declared.store.FaultLine.{FaultLine}
-use Rattle.hdfs_model.specs.declared.store.FaultLine.TheVariants as faults
-use Rattle.hdfs_model.specs.declared.store.LinkKind.{LinkKind}
-use Rattle.hdfs_model.specs.declared.store.LinkKind.TheVariants as link_kinds
-use Rattle.hdfs_model.specs.declared.store.ReadKind.{ReadKind}
-use Rattle.hdfs_model.specs.declared.store.ReadKind.TheVariants as read_kinds
+use Rattle.hdfs_cluster.specs.declared.attributes.Attributes.{Attributes}
+use Rattle.hdfs_cluster.specs.declared.store.Line.TheVariants as lines
+use Rattle.hdfs_cluster.specs.declared.store.AskKind.{AskKind}
+use Rattle.hdfs_cluster.specs.declared.store.AskKind.TheVariants as ask_kinds
+use Rattle.hdfs_cluster.specs.declared.store.FaultLine.{FaultLine}
+use Rattle.hdfs_cluster.specs.declared.store.FaultLine.TheVariants as faults
+use Rattle.hdfs_cluster.specs.declared.store.LinkKind.{LinkKind}
+use Rattle.hdfs_cluster.specs.declared.store.LinkKind.TheVariants as link_kinds
+use Rattle.hdfs_cluster.specs.declared.store.ReadKind.{ReadKind}
+use Rattle.hdfs_cluster.specs.declared.store.ReadKind.TheVariants as read_kinds
 use Rattle.hdfs_names.specs.declared.replacement.Policy.{Policy}
 use Rattle.hdfs_names.specs.declared.replacement.Policy.TheVariants as policies
 use Rattle.hdfs_script.specs.declared.entry.Entry.{Entry}

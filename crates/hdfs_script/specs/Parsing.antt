@@ -1,11 +1,11 @@
 -- The two halves of which line is bad: by its text and its place, as a parser tells it, and over a store. The program's
 -- contract needs neither.
 use Rattle.std.specs.Prelude.{◌≡◌, ℕ, ◌+◌, Bool, true, false, ◌&&◌, ◌||◌, ◌==◌, List, [], ◌∷◌, ◌++◌, map, Option, Some, None, if◌then◌else◌}
-use Rattle.hdfs_model.specs.declared.store.Line.{Line}
-use Rattle.hdfs_model.specs.Files.{State}
+use Rattle.hdfs_cluster.specs.declared.store.Line.{Line}
+use Rattle.hdfs_cluster.specs.Files.{State}
 use Rattle.hdfs_model.specs.Limits.{are_settings}
-use Rattle.hdfs_model.specs.Loading.{AreValid, takes, with_line, with_loaded}
-use Rattle.hdfs_model.specs.Shown.{Loaded}
+use Rattle.hdfs_cluster.specs.Loading.{AreValid, takes, with_line, with_loaded}
+use Rattle.hdfs_cluster.specs.Shown.{Loaded}
 use Rattle.hdfs_script.specs.declared.entry.Entry.{Entry}
 use Rattle.hdfs_script.specs.declared.entry.Entry.TheVariants.{Sets, Loads, Bad}
 use Rattle.hdfs_script.specs.declared.entry.NumberedLine.{NumberedLine}

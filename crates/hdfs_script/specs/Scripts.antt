@@ -2,15 +2,15 @@
 -- these before lines with faults, and these before the commands. Or else which of its lines is the first bad one, counted from 1.
 use Rattle.std.specs.Prelude.{ℕ, ◌+◌, nat_le, nat_lt, Bool, true, false, ◌&&◌, ◌||◌, ◌==◌, List, [], ◌∷◌, ◌++◌, length, take, map, replicate, codes, Option, Some, None, Result, Ok, Err, if◌then◌else◌}
 use Rattle.std.specs.List.{slice_split}
-use Rattle.hdfs_model.specs.declared.store.Line.{Line}
-use Rattle.hdfs_model.specs.declared.store.Line.TheVariants as lines
+use Rattle.hdfs_cluster.specs.declared.store.Line.{Line}
+use Rattle.hdfs_cluster.specs.declared.store.Line.TheVariants as lines
 use Rattle.hdfs_model.specs.declared.commands.Command.{Command}
 use Rattle.hdfs_model.specs.declared.commands.Settings.{Settings}
-use Rattle.hdfs_model.specs.declared.messages.ServerDefaults.{ServerDefaults}
-use Rattle.hdfs_model.specs.Files.{State}
-use Rattle.hdfs_model.specs.Loading.{script_defaults, takes, with_line}
+use Rattle.hdfs_cluster.specs.declared.messages.ServerDefaults.{ServerDefaults}
+use Rattle.hdfs_cluster.specs.Files.{State}
+use Rattle.hdfs_cluster.specs.Loading.{script_defaults, takes, with_line}
 use Rattle.hdfs_model.specs.Sessions.{defaults_of, world_with}
-use Rattle.hdfs_model.specs.Shown.{Loaded, Shown}
+use Rattle.hdfs_cluster.specs.Shown.{Loaded, Shown}
 use Rattle.hdfs_model.specs.Steps.{World}
 use Rattle.hdfs_names.specs.declared.replacement.Policy.TheVariants as policies
 use Rattle.hdfs_script.specs.declared.entry.Entry.{Entry}

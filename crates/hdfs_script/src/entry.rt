@@ -3,7 +3,8 @@ ghost use Rattle.std.specs.Prelude.{◌≡◌, None};
 ghost use Rattle.std.specs.Result.{result_ok};
 
 use crate::wrong::{Why, Wrong};
-use hdfs_model::{Command, Line, MemSettings};
+use hdfs_cluster::{Line, MemSettings};
+use hdfs_model::Command;
 use hdfs_names::{Policy, ReplaceDatanodeOnFailure};
 use hdfs_wire::{List, Text};
 

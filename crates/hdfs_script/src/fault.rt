@@ -1,7 +1,7 @@
 //! The lines of a script that plan a fault.
 ghost use Rattle.std.specs.Prelude.{◌≡◌, ◌^◌, ℕ, IfOk, MatchResult};
 ghost use Rattle.std.specs.Result.{result_ok};
-ghost use Rattle.hdfs_model.specs.declared.store.FaultLine.{FaultLine as Fault};
+ghost use Rattle.hdfs_cluster.specs.declared.store.FaultLine.{FaultLine as Fault};
 ghost use Rattle.hdfs_script.specs.Entries as spec;
 ghost use Rattle.hdfs_script.specs.Entries.{good};
 ghost use Rattle.hdfs_script.specs.Numbers.{number as number_of};
@@ -11,7 +11,7 @@ use crate::forms::no_line;
 use crate::numbers::number;
 use crate::words::{U32_MOST, U64_MOST, is_text, word};
 use crate::wrong::{Why, Wrong};
-use hdfs_model::{AskKind, FaultLine, Line, LinkKind, ReadKind};
+use hdfs_cluster::{AskKind, FaultLine, Line, LinkKind, ReadKind};
 use hdfs_wire::{NoMemory, Text};
 use std::alloc::Global;
 

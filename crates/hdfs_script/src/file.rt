@@ -9,7 +9,7 @@ use crate::entry::{Entry, Reading, bad};
 use crate::numbers::{hex_bytes, number};
 use crate::words::{U32_MOST, U64_MOST, word};
 use crate::wrong::{Why, Wrong};
-use hdfs_model::{Attributes, Line};
+use hdfs_cluster::{Attributes, Line};
 use hdfs_wire::{NoMemory, Text};
 use std::alloc::Global;
 

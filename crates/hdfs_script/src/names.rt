@@ -2,7 +2,7 @@
 ghost use Rattle.std.specs.Prelude.{◌≡◌};
 ghost use Rattle.hdfs_script.specs.Texts as spec;
 
-use hdfs_model::HdfsError;
+use hdfs_cluster::HdfsError;
 
 /// The name of an error's variant.
 pub fn variant_name(error: &HdfsError) -> &'static str

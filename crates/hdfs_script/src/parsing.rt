@@ -9,7 +9,7 @@ ghost use Rattle.hdfs_script.specs.Scripts.{part_of, entries_in, first_place, li
 use crate::entry::{Entry, NumberedLine, Parsed, Place, Setting};
 use crate::line::entry;
 use crate::settings::{no_settings, set};
-use hdfs_model::Line;
+use hdfs_cluster::Line;
 use hdfs_wire::{List, NoMemory};
 use std::alloc::Global;
 

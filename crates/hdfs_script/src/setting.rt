@@ -14,7 +14,7 @@ use crate::words::{
     BLOCK_SIZE_MOST, NAMENODE_MOST, NAMENODES_MOST, REPLICATION_MOST, SMALL_MOST, is_text, word,
 };
 use crate::wrong::Why;
-use hdfs_model::{MAX_CHUNK, MAX_NODES, MAX_PACKET};
+use hdfs_cluster::{MAX_CHUNK, MAX_NODES, MAX_PACKET};
 use hdfs_names::Policy;
 use hdfs_wire::{NoMemory, Text};
 use std::alloc::Global;

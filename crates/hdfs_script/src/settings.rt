@@ -3,7 +3,8 @@ ghost use Rattle.std.specs.Prelude.{◌≡◌, IfOk};
 ghost use Rattle.hdfs_script.specs.Scripts as spec;
 
 use crate::entry::{ScriptSettings, Setting};
-use hdfs_model::{MemSettings, Settings};
+use hdfs_cluster::MemSettings;
+use hdfs_model::Settings;
 use hdfs_names::{Policy, ReplaceDatanodeOnFailure};
 use hdfs_wire::{NoMemory, Text};
 use std::alloc::Global;

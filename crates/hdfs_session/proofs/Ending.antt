@@ -5,14 +5,14 @@ use Rattle.std.proofs.lemmas.List.{take_more}
 use Rattle.std.proofs.lemmas.Option.{slice_get_read}
 use Rattle.hdfs_model.specs.declared.commands.Command.{Command}
 use Rattle.hdfs_model.specs.declared.commands.Reply.{Reply}
-use Rattle.hdfs_model.specs.declared.errors.Fault.{Fault}
+use Rattle.hdfs_model.specs.declared.commands.Fault.{Fault}
 use Rattle.hdfs_model.specs.Anywhere.{AreReplies, IsReply, Runs}
-use Rattle.hdfs_model.specs.Shown.{Shown, Later, SameReads}
-use Rattle.hdfs_model.proofs.Frames.{later_refl, later_trans, same_reads_refl, same_reads_trans}
-use Rattle.hdfs_model.proofs.Failures.{tells_on, tells_since}
-use Rattle.hdfs_client.specs.Acting.{Acts}
-use Rattle.hdfs_client.specs.Session.{HasLink}
-use Rattle.hdfs_client.specs.declared.session.Session.{Session}
+use Rattle.hdfs_cluster.specs.Shown.{Shown, Later, SameReads}
+use Rattle.hdfs_cluster.proofs.Frames.{later_refl, later_trans, same_reads_refl, same_reads_trans}
+use Rattle.hdfs_model.proofs.Telling.{tells_on, tells_since}
+use Rattle.hdfs_commands.specs.Acting.{Acts}
+use Rattle.hdfs_commands.specs.Session.{HasLink}
+use Rattle.hdfs_commands.specs.declared.session.Session.{Session}
 use Rattle.hdfs_session.proofs.Owning.{OwnLinks, own_end, own_next}
 
 -- one more command has its reply

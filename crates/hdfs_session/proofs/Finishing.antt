@@ -4,13 +4,14 @@ use Rattle.std.proofs.lemmas.List.{take-append-drop, length-take}
 use Rattle.std.proofs.Math.Seq.{drop-cons}
 use Rattle.hdfs_model.specs.declared.commands.Command.{Command}
 use Rattle.hdfs_model.specs.declared.commands.Reply.{Reply}
-use Rattle.hdfs_model.specs.declared.errors.Fault.{Fault}
-use Rattle.hdfs_model.specs.declared.errors.HdfsError.TheVariants as errors
-use Rattle.hdfs_model.specs.Files.{State}
+use Rattle.hdfs_model.specs.declared.commands.Fault.{Fault}
+use Rattle.hdfs_cluster.specs.declared.errors.HdfsError.TheVariants as errors
+use Rattle.hdfs_cluster.specs.Files.{State}
 use Rattle.hdfs_model.specs.Folds.{Folded, Ends, Stops, fold, and_then, behind}
 use Rattle.hdfs_model.specs.Headline.{Stopped}
-use Rattle.hdfs_model.specs.Sessions.{Answers, Complete, Fits, IsLimited, AreLimited}
-use Rattle.hdfs_model.specs.Shown.{Shown}
+use Rattle.hdfs_cluster.specs.Fitting.{Fits}
+use Rattle.hdfs_model.specs.Sessions.{Answers, Complete, IsLimited, AreLimited}
+use Rattle.hdfs_cluster.specs.Shown.{Shown}
 use Rattle.hdfs_model.specs.Steps.{World, Outcome, Refused, Done, step}
 use Rattle.hdfs_model.proofs.Folding.{fold-stop, stops_behind, length-fold}
 

@@ -7,24 +7,25 @@ use Rattle.std.proofs.lemmas.List.Elements.{All-cons, All-nil}
 use Rattle.std.proofs.lemmas.Option.{slice_get_read}
 use Rattle.hdfs_model.specs.declared.commands.Command.{Command}
 use Rattle.hdfs_model.specs.declared.commands.Reply.{Reply}
-use Rattle.hdfs_model.specs.declared.errors.Fault.{Fault}
-use Rattle.hdfs_model.specs.Counts.{NoneRose}
-use Rattle.hdfs_model.specs.Files.{State}
+use Rattle.hdfs_model.specs.declared.commands.Fault.{Fault}
+use Rattle.hdfs_cluster.specs.Counts.{NoneRose}
+use Rattle.hdfs_cluster.specs.Files.{State}
 use Rattle.hdfs_model.specs.Folds.{Ends, fold}
 use Rattle.hdfs_model.specs.Headline.{Applied, Stopped}
-use Rattle.hdfs_model.specs.Sessions.{Fits, SameOpened, Avoids, AreLimited, Complete, none_open, spared}
-use Rattle.hdfs_model.specs.Shown.{Shown, Later, SameReads}
+use Rattle.hdfs_cluster.specs.Fitting.{Fits}
+use Rattle.hdfs_model.specs.Sessions.{SameOpened, Avoids, AreLimited, Complete, none_open, spared}
+use Rattle.hdfs_cluster.specs.Shown.{Shown, Later, SameReads}
 use Rattle.hdfs_model.specs.Steps.{World, Done, step}
 use Rattle.hdfs_model.proofs.Folding.{fold-push}
-use Rattle.hdfs_model.proofs.Failures.{tells_on, tells_since}
-use Rattle.hdfs_client.specs.Acting.{Acts, IsReady, world_at}
-use Rattle.hdfs_client.specs.Session.{Carried, CarriesOpen, LeavesFiles, opened_of, scene_of}
-use Rattle.hdfs_client.specs.declared.session.Session.{Session}
-use Rattle.hdfs_client.proofs.Agreeing.{agrees_but, agrees_from-AgreesBut}
-use Rattle.hdfs_client.proofs.Onward.{cause_on, none_rose_earlier}
-use Rattle.hdfs_client.proofs.Avoiding.{avoids_next}
+use Rattle.hdfs_model.proofs.Telling.{tells_on, tells_since}
+use Rattle.hdfs_commands.specs.Acting.{Acts, IsReady, world_at}
+use Rattle.hdfs_commands.specs.Session.{Carried, CarriesOpen, LeavesFiles, opened_of, scene_of}
+use Rattle.hdfs_commands.specs.declared.session.Session.{Session}
+use Rattle.hdfs_commands.proofs.Agreeing.{agrees_but, agrees_from-AgreesBut}
+use Rattle.hdfs_commands.proofs.Onward.{cause_on, none_rose_earlier}
+use Rattle.hdfs_commands.proofs.Avoiding.{avoids_next}
 use Rattle.hdfs_session.proofs.Finishing.{are_limited_push, is_limited_at, complete_stopped}
-use Rattle.hdfs_client.proofs.Since.{cause_since, none_rose_later}
+use Rattle.hdfs_commands.proofs.Since.{cause_since, none_rose_later}
 
 -- So many commands were done as the fold does them, and the session carries the state that they leave.
 pub record GoneOn (w : World) (state : State) (commands : List Command) (n : ℕ) (replies : List Reply) (now : Shown) (session : Session) : Type 0 where

@@ -1,8 +1,8 @@
 -- The write links of a session that began with none.
 use Rattle.std.proofs.Common.{◌≡◌, ◌⊎◌, inl, inr, ⊎_elim, ℕ, List, Option, Some, None, IsSome, refl, sym, ◌∙◌, subst}
-use Rattle.hdfs_model.specs.Shown.{Shown}
-use Rattle.hdfs_client.specs.Session.{HasLink, OnlyOwnLinks, writer_of}
-use Rattle.hdfs_client.specs.declared.session.Session.{Session}
+use Rattle.hdfs_cluster.specs.Shown.{Shown}
+use Rattle.hdfs_commands.specs.Session.{HasLink, OnlyOwnLinks, writer_of}
+use Rattle.hdfs_commands.specs.declared.session.Session.{Session}
 
 some_none : {X : Type 0} (o : Option X) → IsSome o → o ≡ None → ⊥
 some_none (Some x) is none = absurd (cc)

@@ -11,28 +11,29 @@ use Rattle.hdfs_model.specs.declared.commands.Command.{Command}
 use Rattle.hdfs_model.specs.declared.commands.Command.TheVariants as variants
 use Rattle.hdfs_model.specs.declared.commands.Reply.{Reply}
 use Rattle.hdfs_model.specs.declared.commands.WriteOptions.{WriteOptions}
-use Rattle.hdfs_model.specs.declared.errors.Fault.{Fault}
-use Rattle.hdfs_model.specs.declared.picture.FileEntry.{FileEntry}
-use Rattle.hdfs_model.specs.Effects.{blocks_at}
-use Rattle.hdfs_model.specs.Files.{State, File, Content}
+use Rattle.hdfs_model.specs.declared.commands.Fault.{Fault}
+use Rattle.hdfs_cluster.specs.declared.picture.FileEntry.{FileEntry}
+use Rattle.hdfs_cluster.specs.Effects.{blocks_at}
+use Rattle.hdfs_cluster.specs.Files.{State, File, Content}
 use Rattle.hdfs_model.specs.Folds.{Ends, fold}
-use Rattle.hdfs_model.specs.Paths.{absolute}
-use Rattle.hdfs_model.specs.Picture.{Picture}
+use Rattle.hdfs_names.specs.Paths.{absolute}
+use Rattle.hdfs_cluster.specs.Picture.{Picture}
 use Rattle.hdfs_model.specs.Sessions.{none_open}
-use Rattle.hdfs_model.specs.Shown.{Shown, SameReads, SameReadPlaces}
-use Rattle.hdfs_model.specs.Sound.{IsFileAt}
+use Rattle.hdfs_cluster.specs.Shown.{Shown, SameReads, SameReadPlaces}
+use Rattle.hdfs_cluster.specs.Sound.{IsFileAt}
 use Rattle.hdfs_model.specs.Steps.{World, target_of}
-use Rattle.hdfs_model.proofs.Frames.{told_before}
-use Rattle.hdfs_model.specs.Stored.{IsWhole, AllBehind, Creates, HasAdded, IsWellDone, AreWellDone, LeavesWhole}
-use Rattle.hdfs_files.specs.declared.file_writer.FileWriter.{FileWriter}
-use Rattle.hdfs_client.specs.Acting.{Acts, world_at}
-use Rattle.hdfs_client.specs.Session.{Carried, CarriesOpen, LeavesFiles, writer_of}
-use Rattle.hdfs_client.specs.Whole.{AreWhole, AreFilled, KeepsWhole, KeepsBlocksWhole}
-use Rattle.hdfs_client.specs.declared.session.Session.{Session}
-use Rattle.hdfs_client.proofs.Agreeing.{is_told}
+use Rattle.hdfs_cluster.proofs.Frames.{told_before}
+use Rattle.hdfs_cluster.specs.WholeBlocks.{IsWhole, AllBehind}
+use Rattle.hdfs_model.specs.Stored.{Creates, HasAdded, IsWellDone, AreWellDone, LeavesWhole}
+use Rattle.hdfs_file_writer.specs.declared.file_writer.FileWriter.{FileWriter}
+use Rattle.hdfs_commands.specs.Acting.{Acts, world_at}
+use Rattle.hdfs_commands.specs.Session.{Carried, CarriesOpen, LeavesFiles, writer_of}
+use Rattle.hdfs_commands.specs.Whole.{AreWhole, AreFilled, KeepsWhole, KeepsBlocksWhole}
+use Rattle.hdfs_commands.specs.declared.session.Session.{Session}
+use Rattle.hdfs_commands.proofs.Agreeing.{is_told}
 use Rattle.hdfs_session.proofs.Going.{GoneOn, is_ready, open_carried}
-use Rattle.hdfs_client.proofs.OneFile.{apart_by_test}
-use Rattle.hdfs_client.proofs.WholeBeside.{StaysAt, stays_named, whole_behind_at, full_at}
+use Rattle.hdfs_commands.proofs.OneFile.{apart_by_test}
+use Rattle.hdfs_commands.proofs.WholeBeside.{StaysAt, stays_named, whole_behind_at, full_at}
 
 -- What so many commands have made of the blocks of files: those that they added are whole, and those of the files that they created full.
 pub record WholeSoFar (w : World) (commands : List Command) (start now : Shown) (session : Session) : Type 0 where

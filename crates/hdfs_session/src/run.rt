@@ -4,10 +4,11 @@ ghost use Rattle.hdfs_model.specs.Anywhere.{Runs};
 ghost use Rattle.hdfs_model.specs.Headline.{LeavesWhole, WhereReady, Ran};
 ghost use Rattle.hdfs_model.specs.Sessions.{world_of, none_open};
 ghost use Rattle.hdfs_model.specs.Limits.{are_settings};
-ghost use Rattle.hdfs_client.specs.Session.{IsNotBegun, StopsAtOnce};
+ghost use Rattle.hdfs_commands.specs.Session.{IsNotBegun, StopsAtOnce};
 
-use hdfs_client::Session;
-use hdfs_model::{Cluster, Command, Fault, HdfsError, Reply, Settings};
+use hdfs_commands::Session;
+use hdfs_cluster::{Cluster, HdfsError};
+use hdfs_model::{Command, Fault, Reply, Settings};
 use hdfs_wire::List;
 use std::alloc::Global;
 

@@ -2,7 +2,7 @@
 use Rattle.std.proofs.Common.{suc, zero, ◌≡◌, ℕ, ◌+◌, ◌≤◌, List, [], ◌∷◌, ◌++◌, length, take, Option, Some, None, Result, Ok, Err, refl, sym, ◌∙◌, ap, subst, arith, append_assoc}
 use Rattle.std.proofs.lemmas.List.{append-nil}
 use Rattle.std.proofs.Math.Seq.{take-append-add}
-use Rattle.hdfs_model.specs.Counts.{Rose}
+use Rattle.hdfs_cluster.specs.Counts.{Rose}
 use Rattle.hdfs_streams.specs.declared.streams.IoFailed.{IoFailed}
 use Rattle.std.specs.Io.KnownBytes.{Appends, Keeps}
 use Rattle.hdfs_streams.specs.Streams.{SinkShown, Wrote, WrotePart, Prints}

@@ -1,6 +1,6 @@
 -- What a read of a source up to so many bytes has done.
 use Rattle.std.specs.Prelude.{◌≡◌, ◌≤◌, Result, IfErr, OnOk}
-use Rattle.hdfs_model.specs.Counts.{Rose}
+use Rattle.hdfs_cluster.specs.Counts.{Rose}
 use Rattle.hdfs_streams.specs.declared.read_source.ReadFault.{ReadFault}
 use Rattle.hdfs_streams.specs.declared.read_source.ReadFault.TheVariants as faults
 use Rattle.hdfs_streams.specs.Streams.{SourceShown}

@@ -2,7 +2,7 @@
 -- from the front, and a call that writes puts them behind.
 use Rattle.std.specs.Prelude.{◌≡◌, ℕ, ◌≤◌, List, length, take, Option, Some, Result, OnErr, OnOk}
 use Rattle.std.specs.Io.KnownBytes.{Appends, Consumes, IsAtEnd}
-use Rattle.hdfs_model.specs.Counts.{Rose}
+use Rattle.hdfs_cluster.specs.Counts.{Rose}
 use Rattle.hdfs_streams.specs.declared.streams.IoFailed.{IoFailed}
 
 -- what a source shows of itself

@@ -16,7 +16,7 @@ struct Failing {
 impl Failing {
     ghost use Rattle.std.specs.Prelude.{◌≡◌, ◌≤◌, ◌==◌, ◌+◌, ◌-◌, ◌^◌, min, IsErr, true, OnOk, ◌↔◌};
     ghost use Rattle.std.specs.List.{list_any};
-    ghost use Rattle.hdfs_model.specs.Counts.{Rose};
+    ghost use Rattle.hdfs_cluster.specs.Counts.{Rose};
     ghost use Rattle.hdfs_streams.specs.Streams.{HasCause};
 
     fn new(fails: List<u64>) -> Failing
@@ -158,7 +158,7 @@ impl MemSink {
 
 impl Sink for MemSink {
     ghost use Rattle.std.specs.Prelude.{◌≡◌, ◌≤◌, ◌<◌, length, min, true, IsErr, IfOk, OnOk};
-    ghost use Rattle.hdfs_model.specs.Counts.{Rose};
+    ghost use Rattle.hdfs_cluster.specs.Counts.{Rose};
     ghost use Rattle.hdfs_streams.specs.MemStreams.{sink_shown, sink_calls, sink_step, called, fails_next};
     ghost use Rattle.std.specs.Io.KnownBytes.{WriteAppends};
     ghost use Rattle.hdfs_streams.specs.Streams.{HasCause};

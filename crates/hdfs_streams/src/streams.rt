@@ -1,6 +1,6 @@
 //! Where bytes come from, and where they go.
 ghost use Rattle.std.specs.Prelude.{◌≡◌, ◌<◌, ◌≤◌, ℕ, length, IfOk, OnOk};
-ghost use Rattle.hdfs_model.specs.Counts.{Rose};
+ghost use Rattle.hdfs_cluster.specs.Counts.{Rose};
 ghost use Rattle.std.specs.Io.KnownBytes.{ReadConsumes, WriteAppends};
 ghost use Rattle.hdfs_streams.specs.Streams.{SourceShown, SinkShown, HasCause};
 

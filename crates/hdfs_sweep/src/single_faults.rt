@@ -3,7 +3,7 @@
 use crate::comparing::{COUNTS, calls_of};
 use crate::scripts::{PATHS, script_of};
 use hdfs_checking::{Ending, answer_on, plain_answer, store_of};
-use hdfs_cluster::MemCluster;
+use hdfs_mem_cluster::MemCluster;
 use hdfs_top::Note;
 use std::alloc::Global;
 use std::test::Fail;

@@ -1,6 +1,6 @@
 //! What is told of an error by its name, and in a note.
 
-use hdfs_model::{ArgFault, Feature, HdfsError, IoFault, TransferFault};
+use hdfs_cluster::{ArgFault, Feature, HdfsError, IoFault, TransferFault};
 use hdfs_top::{EXPLANATIONS, Stop, explain};
 use hdfs_wire::{NoMemory, Text};
 use std::alloc::Global;

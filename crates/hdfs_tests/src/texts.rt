@@ -1,8 +1,8 @@
 //! The texts of errors.
 
-use hdfs_model::{
-    AddFault, ArgFault, AskFault, Fault, Feature, HdfsError, IoFault, LinkFault, TransferFault,
-};
+use hdfs_cluster::{AddFault, ArgFault, AskFault, Feature, HdfsError, IoFault, LinkFault, TransferFault};
+
+use hdfs_model::Fault;
 use hdfs_plain::PlainRefusal;
 use hdfs_streams::{IoFailed, ReadFault};
 use hdfs_wire::{List, NoMemory, Text, WireFault};

@@ -2,18 +2,19 @@
 use Rattle.std.proofs.Common.{◌≡◌, ℕ, ◌+◌, ◌<◌, Bool, true, false, List, [], ◌∷◌, ◌++◌, length, get_or, take, drop, map, Option, Some, None, if◌then◌else◌, refl, sym, ◌∙◌, ap, subst, append_assoc}
 use Rattle.std.specs.Str.{bytes_eq}
 use Rattle.std.proofs.lemmas.List.{append-nil, take-append-drop, at_drop_more}
-use Rattle.hdfs_model.specs.declared.store.Line.{Line}
-use Rattle.hdfs_model.specs.Counts.{FaultCounts, SameCounts}
-use Rattle.hdfs_model.specs.declared.store.Line.TheVariants as lines
-use Rattle.hdfs_model.specs.Files.{Files, State, Content, Node, Dir, File, Writing}
-use Rattle.hdfs_model.specs.Stores.{Agrees}
-use Rattle.hdfs_model.specs.Loading.{AreLoaded, IsDecided, Loads, LoadsLine, Prepares, SameShown, takes, with_line, with_lines, with_loaded}
-use Rattle.hdfs_model.specs.Shown.{Loaded, Shown}
-use Rattle.hdfs_model.specs.declared.mem_settings.MemSettings.{MemSettings}
-use Rattle.hdfs_model.specs.Sessions.{Fits, defaults_of}
-use Rattle.hdfs_model.specs.Picture.{Picture, Told}
-use Rattle.hdfs_model.proofs.Frames.{same_counts_trans}
-use Rattle.hdfs_model.proofs.Loads.{fits_line}
+use Rattle.hdfs_cluster.specs.declared.store.Line.{Line}
+use Rattle.hdfs_cluster.specs.Counts.{FaultCounts, SameCounts}
+use Rattle.hdfs_cluster.specs.declared.store.Line.TheVariants as lines
+use Rattle.hdfs_cluster.specs.Files.{Files, State, Content, Node, Dir, File, Writing}
+use Rattle.hdfs_cluster.specs.Stores.{Agrees}
+use Rattle.hdfs_cluster.specs.Loading.{AreLoaded, IsDecided, Loads, LoadsLine, Prepares, SameShown, takes, with_line, with_lines, with_loaded}
+use Rattle.hdfs_cluster.specs.Shown.{Loaded, Shown}
+use Rattle.hdfs_cluster.specs.declared.mem_settings.MemSettings.{MemSettings}
+use Rattle.hdfs_cluster.specs.Fitting.{Fits}
+use Rattle.hdfs_model.specs.Sessions.{defaults_of}
+use Rattle.hdfs_cluster.specs.Picture.{Picture, Told}
+use Rattle.hdfs_cluster.proofs.Frames.{same_counts_trans}
+use Rattle.hdfs_cluster.proofs.Loads.{fits_line}
 use Rattle.hdfs_script.specs.declared.entry.NumberedLine.{NumberedLine}
 use Rattle.hdfs_script.specs.declared.entry.Parsed.{Parsed}
 use Rattle.hdfs_script.specs.Scripts.{is_fault}

@@ -2,19 +2,20 @@
 use Rattle.std.proofs.Common.{◌≡◌, ℕ, ◌<◌, Bool, true, false, List, [], ◌∷◌, take, drop, Option, Some, None, if◌then◌else◌, refl, sym, ◌∙◌, ap, subst, arith}
 use Rattle.std.proofs.lemmas.Bool.{false≢true}
 use Rattle.std.proofs.lemmas.List.Elements.{All-weaker}
-use Rattle.hdfs_model.specs.declared.mem_settings.MemSettings.{MemSettings}
-use Rattle.hdfs_model.specs.declared.picture.BlockEntry.{BlockEntry}
-use Rattle.hdfs_model.specs.declared.picture.Entry.{Entry}
-use Rattle.hdfs_model.specs.declared.picture.Entry.TheVariants as entries
-use Rattle.hdfs_model.specs.Counts.{SameCounts}
-use Rattle.hdfs_model.specs.Files.{Files, Content, Node, Dir, File, Writing, State, only_root}
-use Rattle.hdfs_model.specs.Loading.{AreLoaded, AreValid, Prepares, PreparesAt}
-use Rattle.hdfs_model.specs.Paths as paths
-use Rattle.hdfs_model.specs.Picture.{Picture, Told}
+use Rattle.hdfs_cluster.specs.declared.mem_settings.MemSettings.{MemSettings}
+use Rattle.hdfs_cluster.specs.declared.picture.BlockEntry.{BlockEntry}
+use Rattle.hdfs_cluster.specs.declared.picture.Entry.{Entry}
+use Rattle.hdfs_cluster.specs.declared.picture.Entry.TheVariants as entries
+use Rattle.hdfs_cluster.specs.Counts.{SameCounts}
+use Rattle.hdfs_cluster.specs.Files.{Files, Content, Node, Dir, File, Writing, State, only_root}
+use Rattle.hdfs_cluster.specs.Loading.{AreLoaded, AreValid, Prepares, PreparesAt}
+use Rattle.hdfs_names.specs.Paths as paths
+use Rattle.hdfs_cluster.specs.Picture.{Picture, Told}
 use Rattle.std.specs.Str.{bytes_eq}
-use Rattle.hdfs_model.specs.Sessions.{Fits, defaults_of}
-use Rattle.hdfs_model.specs.Shown.{Shown}
-use Rattle.hdfs_model.specs.Stores.{Agrees, AgreesAt, HoldsPrefix, StoresBlock, StoresBlocks}
+use Rattle.hdfs_cluster.specs.Fitting.{Fits}
+use Rattle.hdfs_model.specs.Sessions.{defaults_of}
+use Rattle.hdfs_cluster.specs.Shown.{Shown}
+use Rattle.hdfs_cluster.specs.Stores.{Agrees, AgreesAt, HoldsPrefix, StoresBlock, StoresBlocks}
 use Rattle.hdfs_script.specs.declared.entry.ScriptSettings.{ScriptSettings}
 use Rattle.hdfs_script.specs.Scripts.{defaults_in}
 use Rattle.hdfs_top.specs.Inside.{IsBare, Readies}

@@ -4,18 +4,19 @@ use Rattle.std.proofs.lemmas.List.{take_all, length-take-le, take-take}
 use Rattle.std.proofs.lemmas.Bool.{cases_lt}
 use Rattle.std.proofs.lemmas.Bool.Decides.{nat_tests}
 use Rattle.hdfs_model.specs.declared.commands.Command.{Command}
-use Rattle.hdfs_model.specs.declared.errors.Fault.{Fault}
-use Rattle.hdfs_model.specs.Counts.{FaultCounts, NeverFall, NoneRose, SameCounts}
-use Rattle.hdfs_model.specs.Files.{State}
+use Rattle.hdfs_model.specs.declared.commands.Fault.{Fault}
+use Rattle.hdfs_cluster.specs.Counts.{FaultCounts, NeverFall, NoneRose, SameCounts}
+use Rattle.hdfs_cluster.specs.Files.{State}
 use Rattle.hdfs_model.specs.Folds.{fold}
 use Rattle.hdfs_model.specs.Headline.{Stopped}
-use Rattle.hdfs_model.specs.Loading.{AreValid, SameShown, with_lines}
-use Rattle.hdfs_model.specs.Picture.{SamePicture}
-use Rattle.hdfs_model.specs.Sessions.{Fits, AreLimited, world_with}
-use Rattle.hdfs_model.specs.Shown.{Shown, Later}
+use Rattle.hdfs_cluster.specs.Loading.{AreValid, SameShown, with_lines}
+use Rattle.hdfs_cluster.specs.Picture.{SamePicture}
+use Rattle.hdfs_cluster.specs.Fitting.{Fits}
+use Rattle.hdfs_model.specs.Sessions.{AreLimited, world_with}
+use Rattle.hdfs_cluster.specs.Shown.{Shown, Later}
 use Rattle.hdfs_model.specs.Steps.{World}
-use Rattle.hdfs_model.proofs.Frames.{told_refl, same_picture_refl, never_fall_trans, never_fall_from-SameCounts, same_counts_trans}
-use Rattle.hdfs_model.proofs.Failures.{tells_since}
+use Rattle.hdfs_cluster.proofs.Frames.{told_refl, same_picture_refl, never_fall_trans, never_fall_from-SameCounts, same_counts_trans}
+use Rattle.hdfs_model.proofs.Telling.{tells_since}
 use Rattle.hdfs_script.specs.declared.entry.Parsed.{Parsed}
 use Rattle.hdfs_script.specs.Parsing.{Parses, plain_lines}
 use Rattle.hdfs_script.specs.Scripts.{Script, script, begins, ends_bad, entries_in, first_bad, first_place, line_entries, script_limit, session_settings, unless_bad}
@@ -26,7 +27,7 @@ use Rattle.hdfs_streams.proofs.PrintLemmas.{wrote_none}
 use Rattle.hdfs_top.specs.declared.note.Note.{Note}
 use Rattle.hdfs_top.specs.Top.{IsSession, Outside, outside, IsKnown, Loaded, Finishes, Halts, NotesFault, RefusedScript, StatusOf, ScriptDecides, world_over}
 use Rattle.hdfs_top.specs.Inside.{RanSession, Gave, IsKnownStore, LoadsScript, RefusesScript, PrintsWhole, Concludes, ToEnd, ToFault, NotesStop, RanCommands, stage, world_ready}
-use Rattle.hdfs_client.proofs.Since.{cause_since}
+use Rattle.hdfs_commands.proofs.Since.{cause_since}
 use Rattle.hdfs_top.proofs.LoadLemmas.{closed_lines}
 use Rattle.hdfs_top.proofs.ReadyLemmas.{readies_counts, readies_defaults, readies_fits, readies_lines, readies_settings, readies_some}
 use Rattle.hdfs_top.proofs.SessionLemmas.{whole_at_2}

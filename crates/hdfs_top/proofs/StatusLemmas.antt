@@ -1,9 +1,9 @@
 -- A run of the program, a lemma a status.
 use Rattle.std.proofs.Common.{inl, inr, ◌≡◌, ℕ, ◌+◌, List, [], Ok, sym, subst, arith}
-use Rattle.hdfs_model.specs.Counts.{NeverFall}
-use Rattle.hdfs_model.specs.Files.{State}
+use Rattle.hdfs_cluster.specs.Counts.{NeverFall}
+use Rattle.hdfs_cluster.specs.Files.{State}
 use Rattle.hdfs_model.specs.Folds.{Folded, Ends, Stops, fold}
-use Rattle.hdfs_model.specs.Loading.{with_lines}
+use Rattle.hdfs_cluster.specs.Loading.{with_lines}
 use Rattle.hdfs_script.specs.Scripts.{Script, script, script_limit}
 use Rattle.hdfs_script.specs.Texts.{refusal_text}
 use Rattle.hdfs_streams.specs.Streams.{TookAtMost}

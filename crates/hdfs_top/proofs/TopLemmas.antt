@@ -1,9 +1,9 @@
 -- What the program makes of its words and its source.
 use Rattle.std.proofs.Common.{inl, inr, ◌≡◌, ℕ, ◌+◌, Bool, List, [], ◌∷◌, length, get_or, map, refl, sym, ap, arith}
 use Rattle.std.proofs.lemmas.List.{take_all}
-use Rattle.hdfs_model.specs.Counts.{Rose}
-use Rattle.hdfs_model.specs.Shown.{Shown}
-use Rattle.hdfs_model.proofs.Frames.{never_fall_refl}
+use Rattle.hdfs_cluster.specs.Counts.{Rose}
+use Rattle.hdfs_cluster.specs.Shown.{Shown}
+use Rattle.hdfs_cluster.proofs.Frames.{never_fall_refl}
 use Rattle.hdfs_script.specs.Scripts.{script_limit}
 use Rattle.hdfs_script.specs.Texts.{refusal_text}
 use Rattle.hdfs_streams.specs.Streams.{SourceShown, SinkShown, TookAtMost, Wrote, WrotePart}

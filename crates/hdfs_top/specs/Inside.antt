@@ -2,18 +2,19 @@
 use Rattle.std.specs.Prelude.{◌≡◌, ◌≢◌, ◌⊎◌, ℕ, ◌+◌, Bool, true, false, List, [], ◌++◌, Option, Some, None}
 use Rattle.hdfs_model.specs.declared.commands.Command.{Command}
 use Rattle.hdfs_model.specs.declared.commands.Reply.{Reply}
-use Rattle.hdfs_model.specs.declared.errors.Fault.{Fault}
-use Rattle.hdfs_model.specs.declared.errors.HdfsError.TheVariants as errors
-use Rattle.hdfs_model.specs.Counts.{NoneRose, Rose, SameCounts}
-use Rattle.hdfs_model.specs.Files.{State, only_root}
+use Rattle.hdfs_model.specs.declared.commands.Fault.{Fault}
+use Rattle.hdfs_cluster.specs.declared.errors.HdfsError.TheVariants as errors
+use Rattle.hdfs_cluster.specs.Counts.{NoneRose, Rose, SameCounts}
+use Rattle.hdfs_cluster.specs.Files.{State, only_root}
 use Rattle.hdfs_model.specs.Folds.{Ends, fold}
 use Rattle.hdfs_model.specs.Headline.{Stopped}
-use Rattle.hdfs_model.specs.declared.mem_settings.MemSettings.{MemSettings}
-use Rattle.hdfs_model.specs.Loading.{AreLoaded, Prepares, SameShown, with_lines}
-use Rattle.hdfs_model.specs.Picture.{Picture}
-use Rattle.hdfs_model.specs.Stores.{Agrees}
-use Rattle.hdfs_model.specs.Sessions.{Fits, AreLimited, defaults_of, world_of}
-use Rattle.hdfs_model.specs.Shown.{Shown, Later}
+use Rattle.hdfs_cluster.specs.declared.mem_settings.MemSettings.{MemSettings}
+use Rattle.hdfs_cluster.specs.Loading.{AreLoaded, Prepares, SameShown, with_lines}
+use Rattle.hdfs_cluster.specs.Picture.{Picture}
+use Rattle.hdfs_cluster.specs.Stores.{Agrees}
+use Rattle.hdfs_cluster.specs.Fitting.{Fits}
+use Rattle.hdfs_model.specs.Sessions.{AreLimited, defaults_of, world_of}
+use Rattle.hdfs_cluster.specs.Shown.{Shown, Later}
 use Rattle.hdfs_model.specs.Steps.{World}
 use Rattle.hdfs_script.specs.declared.entry.NumberedLine.{NumberedLine}
 use Rattle.hdfs_script.specs.declared.entry.Parsed.{Parsed}

@@ -1,6 +1,6 @@
 -- What a note tells of a session that stopped.
 use Rattle.std.specs.Prelude.{◌≡◌, ℕ, Option, Some, None}
-use Rattle.hdfs_model.specs.declared.errors.HdfsError.{HdfsError}
+use Rattle.hdfs_cluster.specs.declared.errors.HdfsError.{HdfsError}
 use Rattle.hdfs_top.specs.declared.note.Note.{Note}
 use Rattle.hdfs_top.specs.declared.note.Note.TheVariants as notes
 

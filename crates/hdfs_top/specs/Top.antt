@@ -1,15 +1,16 @@
 -- What the program does, from the bytes of a script to the bytes of its replies: the main theorem, for bytes in and bytes out.
 use Rattle.std.specs.Prelude.{◌≡◌, ◌≢◌, ◌⊎◌, ◌≤◌, ◌+◌, ℕ, Bool, true, false, List, [], ◌∷◌, ◌++◌, Some, Ok, Err, codes}
 use Rattle.hdfs_model.specs.declared.commands.Reply.{Reply}
-use Rattle.hdfs_model.specs.declared.errors.Fault.{Fault}
-use Rattle.hdfs_model.specs.declared.errors.HdfsError.TheVariants as errors
-use Rattle.hdfs_model.specs.Counts.{NeverFall, NoneRose, Rose}
-use Rattle.hdfs_model.specs.Files.{State, Content, Writing}
+use Rattle.hdfs_model.specs.declared.commands.Fault.{Fault}
+use Rattle.hdfs_cluster.specs.declared.errors.HdfsError.TheVariants as errors
+use Rattle.hdfs_cluster.specs.Counts.{NeverFall, NoneRose, Rose}
+use Rattle.hdfs_cluster.specs.Files.{State, Content, Writing}
 use Rattle.hdfs_model.specs.Folds.{Folded, Ends, Stops, fold}
 use Rattle.hdfs_model.specs.Headline.{Stopped}
-use Rattle.hdfs_model.specs.Loading.{SameShown, with_lines}
-use Rattle.hdfs_model.specs.Sessions.{Fits, SameOpened, AreLimited, none_open}
-use Rattle.hdfs_model.specs.Shown.{Shown}
+use Rattle.hdfs_cluster.specs.Loading.{SameShown, with_lines}
+use Rattle.hdfs_cluster.specs.Fitting.{Fits}
+use Rattle.hdfs_model.specs.Sessions.{SameOpened, AreLimited, none_open}
+use Rattle.hdfs_cluster.specs.Shown.{Shown}
 use Rattle.hdfs_model.specs.Steps.{World}
 use Rattle.hdfs_script.specs.Scripts.{Script, script, script_limit, script_world}
 use Rattle.hdfs_script.specs.Texts.{replies_text, fault_text, refusal_text}

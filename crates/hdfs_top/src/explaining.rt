@@ -1,6 +1,6 @@
 //! What each error means: when it comes, what is so after it, and what to do next. These are the rows of docs/WHEN-A-CALL-FAILS.md in
 //! the words of a script, whose commands say no offsets and no paths but their own.
-use hdfs_model::{ArgFault, HdfsError, IoFault, TransferFault};
+use hdfs_cluster::{ArgFault, HdfsError, IoFault, TransferFault};
 use hdfs_script::variant_name;
 use hdfs_wire::NoMemory;
 use std::alloc::Global;

@@ -9,6 +9,5 @@ mod run_script;
 mod status;
 
 pub use explaining::{EXPLANATIONS, Explanation, explain};
-pub use hdfs_streams::{MemSink, MemSource, Sink, Source};
 pub use note::{Note, Stop, failed_names};
 pub use program::top;

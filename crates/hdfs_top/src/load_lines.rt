@@ -1,15 +1,17 @@
 //! Loading a script's lines.
 ghost use Rattle.std.specs.Prelude.{◌≡◌, ◌||◌, ℕ, None, Err, false, true, IfOk, OnOk};
-ghost use Rattle.hdfs_model.specs.Counts.{SameCounts};
-ghost use Rattle.hdfs_model.specs.Files.{State};
-ghost use Rattle.hdfs_model.specs.Loading.{AreLoaded, AreValid, IsDecided, Loads, takes};
-ghost use Rattle.hdfs_model.specs.Stores.{Agrees};
-ghost use Rattle.hdfs_model.specs.Sessions.{Fits};
+ghost use Rattle.hdfs_cluster.specs.Counts.{SameCounts};
+ghost use Rattle.hdfs_cluster.specs.Files.{State};
+ghost use Rattle.hdfs_cluster.specs.Loading.{AreLoaded, AreValid, IsDecided, Loads, takes};
+ghost use Rattle.hdfs_cluster.specs.Stores.{Agrees};
+ghost use Rattle.hdfs_cluster.specs.Fitting.{Fits};
 ghost use Rattle.hdfs_script.specs.Parsing.{first_untaken, or_else};
 ghost use Rattle.hdfs_script.specs.Parsing as spec;
 ghost use Rattle.hdfs_top.specs.Inside.{LoadsAll, LoadsScript, Readies, RefusesScript};
 
-use hdfs_model::{AddFault, Command, MemSettings, Store};
+use hdfs_cluster::{AddFault, MemSettings, Store};
+
+use hdfs_model::Command;
 use hdfs_script::{NumberedLine, Parsed, is_fault};
 use hdfs_wire::{List, NoMemory};
 

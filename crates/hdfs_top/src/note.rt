@@ -3,7 +3,8 @@ ghost use Rattle.std.specs.Prelude.{◌≡◌};
 ghost use Rattle.hdfs_top.specs.Notes.{TellsStop, stop_of};
 
 use crate::explaining::next_step;
-use hdfs_model::{Command, Fault, HdfsError};
+use hdfs_cluster::HdfsError;
+use hdfs_model::{Command, Fault};
 use hdfs_script::Complaint;
 use hdfs_wire::{NoMemory, Text};
 use std::alloc::Global;

@@ -6,7 +6,7 @@ ghost use Rattle.hdfs_top.specs.Inside.{RanSession};
 use crate::note::Note;
 use crate::run_script::run_script;
 use crate::status::refuse;
-use hdfs_model::Store;
+use hdfs_cluster::Store;
 use hdfs_script::SCRIPT_LIMIT;
 use hdfs_streams::{ReadFault, Sink, Source, read_at_most};
 use std::alloc::Global;

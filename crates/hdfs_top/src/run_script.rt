@@ -1,8 +1,8 @@
 //! Running a script over a store.
 ghost use Rattle.std.specs.Prelude.{◌≡◌, ◌≢◌, ◌⊎◌, ◌<◌, ℕ, true, List, []};
-ghost use Rattle.hdfs_model.specs.declared.errors.HdfsError.TheVariants as errors;
+ghost use Rattle.hdfs_cluster.specs.declared.errors.HdfsError.TheVariants as errors;
 ghost use Rattle.hdfs_model.specs.Limits.{are_settings};
-ghost use Rattle.hdfs_model.specs.Loading.{AreValid};
+ghost use Rattle.hdfs_cluster.specs.Loading.{AreValid};
 ghost use Rattle.hdfs_script.specs.declared.entry.ScriptSettings.{ScriptSettings};
 ghost use Rattle.hdfs_script.specs.Parsing.{Parses};
 ghost use Rattle.hdfs_script.specs.Scripts.{session_settings};
@@ -14,7 +14,8 @@ ghost use Rattle.hdfs_top.specs.Inside.{PrintsWhole, Concludes, RanCommands, Ran
 use crate::load_lines::{LoadFault, load_script};
 use crate::note::{Note, note_of_commands, note_of_fault, note_of_script};
 use crate::status::{refuse, tell_fault, tell_replies};
-use hdfs_model::{Command, Fault, HdfsError, Settings, Store};
+use hdfs_cluster::{HdfsError, Store};
+use hdfs_model::{Command, Fault, Settings};
 use hdfs_script::{Parsed, complaint_at, parse, session_settings};
 use hdfs_session::run_session;
 use hdfs_streams::Sink;

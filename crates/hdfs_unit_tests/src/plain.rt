@@ -1,6 +1,7 @@
 //! The plain program: commands over the root alone, and replicas that are cut.
 use crate::arguments::{first, no_such_word, number, put_bytes, put_flag, put_number, small};
-use hdfs_model::{Attributes, Command, Line, MemSettings, Reply, ServerDefaults, WriteOptions};
+use hdfs_cluster::{Attributes, Line, MemSettings, ServerDefaults};
+use hdfs_model::{Command, Reply, WriteOptions};
 use hdfs_plain::*;
 use hdfs_wire::{Blob, NoMemory, Text};
 use std::alloc::Global;

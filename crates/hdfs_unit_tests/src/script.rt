@@ -1,6 +1,7 @@
 //! Scripts. In an argument `|` ends a line, and `~` stands for the byte 127.
 use crate::arguments::{behind, first, flag, no_such_word, nth, number, put, put_flag, put_number};
-use hdfs_model::{Command, HdfsError, TransferFault};
+use hdfs_cluster::{HdfsError, TransferFault};
+use hdfs_model::Command;
 use hdfs_script::*;
 use hdfs_wire::NoMemory;
 use std::alloc::Global;

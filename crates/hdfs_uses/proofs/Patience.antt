@@ -6,18 +6,19 @@ use Rattle.hdfs_model.specs.declared.commands.Command.{Command}
 use Rattle.hdfs_model.specs.declared.commands.Command.TheVariants as commands
 use Rattle.hdfs_model.specs.declared.commands.Reply.{Reply}
 use Rattle.hdfs_model.specs.declared.commands.Settings.{Settings}
-use Rattle.hdfs_model.specs.declared.errors.HdfsError.{HdfsError}
-use Rattle.hdfs_model.specs.declared.messages.ServerDefaults.{ServerDefaults}
-use Rattle.hdfs_model.specs.Files.{State, kinds_of, no_file}
+use Rattle.hdfs_cluster.specs.declared.errors.HdfsError.{HdfsError}
+use Rattle.hdfs_cluster.specs.declared.messages.ServerDefaults.{ServerDefaults}
+use Rattle.hdfs_cluster.specs.Files.{State, kinds_of, no_file}
 use Rattle.hdfs_model.specs.Headline.{Ready, Scene}
-use Rattle.hdfs_model.specs.Paths.{is_path, absolute}
-use Rattle.hdfs_model.specs.Sessions.{Avoids, Fits, IsStrange, defaults_of, does, is_before_asking, none_open, spared, world_of}
-use Rattle.hdfs_model.specs.Shown.{Shown}
+use Rattle.hdfs_names.specs.Paths.{is_path, absolute}
+use Rattle.hdfs_cluster.specs.Fitting.{Fits}
+use Rattle.hdfs_model.specs.Sessions.{Avoids, IsStrange, defaults_of, does, is_before_asking, none_open, spared, world_of}
+use Rattle.hdfs_cluster.specs.Shown.{Shown}
 use Rattle.hdfs_model.specs.Steps.{World, Outcome, Refused, BadPath, WrongState, is_opened, read_file, step}
-use Rattle.hdfs_client.specs.Acting.{Acts, IsReady, world_at}
-use Rattle.hdfs_client.specs.Session.{defaults_known, settings_of, writer_of}
-use Rattle.hdfs_client.specs.declared.session.Session.{Session}
-use Rattle.hdfs_client.proofs.Agreeing.{agrees_from-AgreesBut}
+use Rattle.hdfs_commands.specs.Acting.{Acts, IsReady, world_at}
+use Rattle.hdfs_commands.specs.Session.{defaults_known, settings_of, writer_of}
+use Rattle.hdfs_commands.specs.declared.session.Session.{Session}
+use Rattle.hdfs_commands.proofs.Agreeing.{agrees_from-AgreesBut}
 use Rattle.hdfs_uses.specs.Trying.{Answered, IsRead}
 
 nothing_known : (p : ServerDefaults) (o : Option ServerDefaults) → o ≡ None → IfSome o (λ known. known ≡ p)

@@ -3,11 +3,12 @@ use Rattle.std.specs.Prelude.{◌≡◌, [], ◌∷◌, Result, IfOk, IfErr}
 use Rattle.hdfs_model.specs.declared.commands.Command.{Command}
 use Rattle.hdfs_model.specs.declared.commands.Command.TheVariants as commands
 use Rattle.hdfs_model.specs.declared.commands.Reply.{Reply}
-use Rattle.hdfs_model.specs.declared.errors.HdfsError.{HdfsError}
-use Rattle.hdfs_model.specs.Files.{State}
+use Rattle.hdfs_cluster.specs.declared.errors.HdfsError.{HdfsError}
+use Rattle.hdfs_cluster.specs.Files.{State}
 use Rattle.hdfs_model.specs.Headline.{WhereReady}
-use Rattle.hdfs_model.specs.Sessions.{Fits, none_open}
-use Rattle.hdfs_model.specs.Shown.{Shown}
+use Rattle.hdfs_cluster.specs.Fitting.{Fits}
+use Rattle.hdfs_model.specs.Sessions.{none_open}
+use Rattle.hdfs_cluster.specs.Shown.{Shown}
 use Rattle.hdfs_model.specs.Steps.{World, Done, step}
 
 -- the command reads

@@ -1,5 +1,5 @@
 //! What an error means for the one who asked.
-use hdfs_model::HdfsError;
+use hdfs_cluster::HdfsError;
 
 /// What to do after an error.
 #[derive(Clone, Copy, Debug, PartialEq, Eq)]

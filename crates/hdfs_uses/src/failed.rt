@@ -1,5 +1,5 @@
 //! Why the program stopped.
-use hdfs_model::AddFault;
+use hdfs_cluster::AddFault;
 use hdfs_wire::NoMemory;
 use std::alloc::{AllocError, AllocFailed};
 use std::io;

@@ -9,7 +9,8 @@ mod patient;
 
 use advice::advice_on;
 use failed::Failed;
-use hdfs_model::{HdfsError, Reply};
+use hdfs_cluster::HdfsError;
+use hdfs_model::Reply;
 use making::{cluster, read, settings, standby};
 use patient::apply_patiently;
 use std::alloc::Global;

@@ -1,11 +1,12 @@
 //! Values of the library, made from plain ones.
 ghost use Rattle.std.specs.Prelude.{◌<◌, IfOk};
-ghost use Rattle.hdfs_cluster.specs.MemShown.{shown_of};
+ghost use Rattle.hdfs_mem_cluster.specs.MemShown.{shown_of};
 ghost use Rattle.hdfs_uses.specs.Trying.{IsRead};
 
 use crate::failed::Failed;
-use hdfs_cluster::{MemCluster, MemSettings};
-use hdfs_model::{Attributes, Command, FaultLine, HdfsError, Line, ReadKind, Settings, Store};
+use hdfs_cluster::{MemSettings, Attributes, FaultLine, HdfsError, Line, ReadKind, Store};
+use hdfs_mem_cluster::MemCluster;
+use hdfs_model::{Command, Settings};
 use hdfs_names::{Policy, ReplaceDatanodeOnFailure};
 use hdfs_wire::{Blob, Text};
 use std::alloc::Global;

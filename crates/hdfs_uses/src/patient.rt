@@ -4,8 +4,9 @@ ghost use Rattle.hdfs_model.specs.Sessions.{world_of};
 ghost use Rattle.hdfs_uses.specs.Trying.{AnsweredWhereReady, IsRead};
 
 use crate::advice::{Advice, advice_on};
-use hdfs_client::Session;
-use hdfs_model::{Cluster, Command, HdfsError, Reply, Settings};
+use hdfs_commands::Session;
+use hdfs_cluster::{Cluster, HdfsError};
+use hdfs_model::{Command, Reply, Settings};
 use std::alloc::Global;
 
 /// Runs one read, in a session of its own, and again while it may be answered later, `tries` times at most and once at

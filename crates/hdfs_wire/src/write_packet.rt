@@ -1,7 +1,6 @@
 //! Packets that are written.
 
-ghost use Rattle.std.specs.Prelude.{◌≡◌, ℕ, ◌+◌, ◌-◌, ◌*◌, ◌^◌, ◌<◌, ◌≤◌, ◌++◌, ◌↔◌, List, length, take, min, pos, true, Some, IsTrue, IfOk, OnOk};
-ghost use Rattle.std.specs.Prelude.{FitsSigned};
+ghost use Rattle.std.specs.Prelude.{◌≡◌, ℕ, ◌+◌, ◌-◌, ◌*◌, ◌^◌, ◌<◌, ◌≤◌, ◌++◌, ◌↔◌, List, length, take, min, pos, true, Some, IsTrue, IfOk, OnOk, FitsSigned};
 ghost use Rattle.std.specs.Int.{w32, w64, to_be_bytes};
 ghost use Rattle.hdfs_wire.specs.Outgoing.{Outgoing, chunk_count, checksums, outgoing_spelling, ArePacketSizes, limit_of, empty_packet, IsOutgoing, written};
 ghost use Rattle.hdfs_wire.specs.Headers.{header_spelling};

@@ -1,6 +1,6 @@
 -- The writer goes on between its calls, and the client reaches the namenodes still.
 use Rattle.hdfs_block_writer.specs.BlockWriters.{Stands}
-use Rattle.hdfs_cluster.specs.MemShown.{shown_of}
+use Rattle.hdfs_mem_cluster.specs.MemShown.{shown_of}
 use Rattle.hdfs_namenode.specs.Asked.{ReachesAll}
 use Rattle.hdfs_namenode.specs.Clients.{proxy_of}
 use Rattle.hdfs_block_writer_tests.proofs.scenes.put_pieces.Given as goal

@@ -1,5 +1,5 @@
 -- A writer that was just made goes on over any cluster.
-use Rattle.hdfs_cluster.specs.MemShown.{shown_of}
+use Rattle.hdfs_mem_cluster.specs.MemShown.{shown_of}
 use Rattle.hdfs_client_tests.proofs.file_writing.write_first.Goals as goal
 
 pub write-requires : goal.write-requires

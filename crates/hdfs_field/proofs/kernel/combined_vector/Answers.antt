@@ -1,8 +1,7 @@
 use Rattle.std.proofs.Common.{◌≡◌, ℕ, ◌+◌, ◌≤◌, List, [], length, get_or, map, sym, ap, subst, ◌∙◌, arith}
-use Rattle.hdfs_field.specs.Elements.{product}
+use Rattle.hdfs_field.specs.Elements.{product, gf256}
 use Rattle.hdfs_field.specs.Lanes.{HasLanes}
 use Rattle.hdfs_field.specs.Matrices.{entry}
-use Rattle.hdfs_field.specs.Elements.{gf256}
 use Rattle.hdfs_field.specs.Slices.{combined_below}
 use Rattle.hdfs_field.proofs.LaneLemmas.{combined_lanes_none, combined_lanes_more, slice_at}
 use Rattle.hdfs_field.proofs.kernel.combined_vector.Goals as goal

@@ -1,7 +1,7 @@
 -- The goals of read_ack.
 use Rattle.std.proofs.Common.{[], sym, ◌∙◌, subst, arith}
-use Rattle.hdfs_model.specs.declared.asks.LinkFault.{LinkFault}
-use Rattle.hdfs_model.specs.Pipes.{NotAcknowledged}
+use Rattle.hdfs_cluster.specs.declared.asks.LinkFault.{LinkFault}
+use Rattle.hdfs_cluster.specs.Pipes.{NotAcknowledged}
 use Rattle.hdfs_pipeline.specs.declared.event.Event.TheVariants.{Acked}
 use Rattle.hdfs_pipeline.specs.Pipelines.{Pipeline}
 use Rattle.hdfs_pipeline.specs.Cores.{next_of}

@@ -2,10 +2,10 @@
 use Rattle.std.proofs.Common.{◌∷◌, ◌++◌, [], Some, sym, ◌∙◌, ap, subst, refl}
 use Rattle.std.specs.Option.{option_copied}
 use Rattle.hdfs_wire.specs.Outgoing.{Outgoing}
-use Rattle.hdfs_model.specs.declared.asks.LinkFault.{LinkFault}
-use Rattle.hdfs_model.specs.declared.asks.LinkFault.TheVariants as faults
-use Rattle.hdfs_model.specs.Pipes.{Sent, NotSent}
-use Rattle.hdfs_model.specs.Sending.{end_of, seqno_of}
+use Rattle.hdfs_cluster.specs.declared.asks.LinkFault.{LinkFault}
+use Rattle.hdfs_cluster.specs.declared.asks.LinkFault.TheVariants as faults
+use Rattle.hdfs_cluster.specs.Pipes.{Sent, NotSent}
+use Rattle.hdfs_cluster.specs.Sending.{end_of, seqno_of}
 use Rattle.hdfs_pipeline.specs.Pipelines.{Pipeline}
 use Rattle.hdfs_pipeline.specs.Driving.{Drove}
 use Rattle.hdfs_pipeline.proofs.Driving.{sent_drove, unsent_drove}

@@ -1,5 +1,5 @@
 use Rattle.std.proofs.Common.{◌≡◌, drop}
-use Rattle.hdfs_model.specs.Replicas.{left_behind, left_of}
+use Rattle.hdfs_cluster.specs.Replicas.{left_behind, left_of}
 use Rattle.hdfs_plain.proofs.replicas.left_of.Given as goal
 
 -- the lines that are left leave as many bytes as all do

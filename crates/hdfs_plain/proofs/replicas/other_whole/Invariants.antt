@@ -1,5 +1,5 @@
 use Rattle.std.proofs.Common.{◌≡◌, false}
-use Rattle.hdfs_model.specs.Replicas.{other_whole}
+use Rattle.hdfs_cluster.specs.Replicas.{other_whole}
 use Rattle.hdfs_plain.proofs.replicas.other_whole.Given as goal
 
 -- no datanode so far has a whole replica

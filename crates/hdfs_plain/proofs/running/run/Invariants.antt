@@ -1,5 +1,5 @@
 use Rattle.std.proofs.Common.{◌≡◌, take}
-use Rattle.hdfs_model.specs.Files.{State}
+use Rattle.hdfs_cluster.specs.Files.{State}
 use Rattle.hdfs_model.specs.Folds.{Ends, fold}
 use Rattle.hdfs_plain.specs.Answers.{world_of}
 use Rattle.hdfs_plain.specs.Plain.{Holds}

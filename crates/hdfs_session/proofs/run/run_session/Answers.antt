@@ -4,19 +4,19 @@ use Rattle.std.specs.declared.alloc.Global.{Global}
 use Rattle.std.proofs.lemmas.List.{take_all, length_push}
 use Rattle.hdfs_model.specs.declared.commands.Reply.{Reply}
 use Rattle.hdfs_model.specs.declared.commands.Settings.{Settings}
-use Rattle.hdfs_files.specs.declared.file_writer.FileWriter.{FileWriter}
+use Rattle.hdfs_file_writer.specs.declared.file_writer.FileWriter.{FileWriter}
 use Rattle.hdfs_model.specs.Anywhere.{AreReplies}
 use Rattle.hdfs_model.specs.Steps.{World}
 use Rattle.hdfs_model.specs.Sessions.{world_of}
-use Rattle.hdfs_model.proofs.Frames.{later_refl, later_trans, same_reads_refl, same_reads_trans}
-use Rattle.hdfs_model.specs.declared.errors.HdfsError.{HdfsError}
+use Rattle.hdfs_cluster.proofs.Frames.{later_refl, later_trans, same_reads_refl, same_reads_trans}
+use Rattle.hdfs_cluster.specs.declared.errors.HdfsError.{HdfsError}
 use Rattle.hdfs_model.specs.Folds.{fold}
-use Rattle.hdfs_client.specs.Acting.{Acts}
+use Rattle.hdfs_commands.specs.Acting.{Acts}
 use Rattle.hdfs_session.proofs.Ending.{replies_next, runs_failed}
 use Rattle.hdfs_session.proofs.Finishing.{complete_done}
 use Rattle.hdfs_session.proofs.Going.{GoneOn, gone_none, goes_on, stops_there, complete_there, ends_there}
 use Rattle.hdfs_session.proofs.WholeGoing.{leaves_end, leaves_stopped, whole_goes_on, whole_none}
-use Rattle.hdfs_client.specs.Whole.{KeepsBlocksWhole}
+use Rattle.hdfs_commands.specs.Whole.{KeepsBlocksWhole}
 use Rattle.hdfs_session.proofs.Owning.{own_end, own_next, own_start}
 use Rattle.hdfs_session.proofs.run.run_session.Goals as goal
 

@@ -1,10 +1,10 @@
 use Rattle.std.proofs.Common.{◌≡◌, ◌≤◌, length, take, false, vec_capacity}
 use Rattle.hdfs_model.specs.Anywhere.{AreReplies}
-use Rattle.hdfs_model.specs.Files.{State}
+use Rattle.hdfs_cluster.specs.Files.{State}
 use Rattle.hdfs_model.specs.Headline.{Ready}
 use Rattle.hdfs_model.specs.Sessions.{none_open, world_of}
-use Rattle.hdfs_model.specs.Shown.{Later, SameReads}
-use Rattle.hdfs_client.specs.Session.{Stands, settings_of, has_failed}
+use Rattle.hdfs_cluster.specs.Shown.{Later, SameReads}
+use Rattle.hdfs_commands.specs.Session.{Stands, settings_of, has_failed}
 use Rattle.hdfs_session.proofs.Going.{GoneOn}
 use Rattle.hdfs_session.proofs.WholeGoing.{WholeSoFar}
 use Rattle.hdfs_session.proofs.Owning.{OwnLinks}

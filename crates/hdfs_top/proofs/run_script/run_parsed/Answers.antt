@@ -1,5 +1,5 @@
 use Rattle.std.proofs.Common.{arith, Err, refl, ap, ◌∙◌}
-use Rattle.hdfs_model.proofs.Frames.{never_fall_from-SameCounts, never_fall_refl}
+use Rattle.hdfs_cluster.proofs.Frames.{never_fall_from-SameCounts, never_fall_refl}
 use Rattle.hdfs_top.proofs.SessionLemmas.{limited_settings, not_status_2}
 use Rattle.hdfs_top.proofs.ScriptLemmas.{starved_script, refused_script, ran_loaded, notes_loaded}
 use Rattle.hdfs_top.proofs.run_script.run_parsed.Goals as goal

@@ -1,5 +1,5 @@
 use Rattle.std.proofs.Common.{refl, arith}
-use Rattle.hdfs_model.proofs.Frames.{never_fall_refl}
+use Rattle.hdfs_cluster.proofs.Frames.{never_fall_refl}
 use Rattle.hdfs_top.proofs.ScriptLemmas.{starved_script}
 use Rattle.hdfs_top.proofs.run_script.run_script.Goals as goal
 

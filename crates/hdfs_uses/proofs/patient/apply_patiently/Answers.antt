@@ -1,5 +1,5 @@
 -- A read that is tried again.
-use Rattle.hdfs_model.proofs.Frames.{later_trans}
+use Rattle.hdfs_cluster.proofs.Frames.{later_trans}
 use Rattle.hdfs_uses.proofs.Patience.{answers_reply, answers_error, leaves_files}
 use Rattle.hdfs_uses.proofs.patient.apply_patiently.Goals as goal
 

@@ -1,7 +1,8 @@
 use Rattle.std.proofs.Common.{◌∷◌, []}
 use Rattle.hdfs_model.specs.Headline.{WhereReady}
-use Rattle.hdfs_model.specs.Sessions.{Fits, world_of, none_open}
-use Rattle.hdfs_model.specs.Shown.{Later}
+use Rattle.hdfs_cluster.specs.Fitting.{Fits}
+use Rattle.hdfs_model.specs.Sessions.{world_of, none_open}
+use Rattle.hdfs_cluster.specs.Shown.{Later}
 use Rattle.hdfs_uses.proofs.patient.apply_patiently.Given as goal
 
 -- the cluster agrees with the state, as it did

@@ -5,8 +5,8 @@ use Rattle.std.proofs.lemmas.List.{nil_from_length}
 use Rattle.std.proofs.lemmas.Result.{err_from_is_err_and}
 use Rattle.hdfs_namenode.specs.Clients.{name_of, proxy_of}
 use Rattle.hdfs_namenode.proofs.Services.{reaches_same, same_service_refl}
-use Rattle.hdfs_recovery.specs.declared.block_plan.BlockPlan.{BlockPlan}
-use Rattle.hdfs_recovery.specs.Plans.{CanRebuild}
+use Rattle.hdfs_rebuild.specs.declared.block_plan.BlockPlan.{BlockPlan}
+use Rattle.hdfs_rebuild.specs.Plans.{CanRebuild}
 use Rattle.hdfs_block_writer.proofs.EndedRebuilt.{bad_is, recovers_is}
 use Rattle.hdfs_block_writer.proofs.Finished.{done_is, finishes, fewer_bytes, once_bad, once_given_up, once_rebuilt, once_stopped}
 use Rattle.hdfs_block_writer.proofs.Received.{receives}

@@ -5,7 +5,7 @@ use Rattle.hdfs_namenode.proofs.Services.{same_client_trans}
 use Rattle.hdfs_block_writer.specs.Written.{Closes, GaveUp, WaitsForLast}
 use Rattle.hdfs_block_writer.proofs.Closed.{closes_after}
 use Rattle.hdfs_block_writer.proofs.Received.{last_after, on_ok_by}
-use Rattle.hdfs_recovery.proofs.Tried.{err_by, ok_by}
+use Rattle.hdfs_rebuild.proofs.Tried.{err_by, ok_by}
 use Rattle.hdfs_block_writer.proofs.Wrote.{gave_up_after}
 use Rattle.hdfs_block_writer.proofs.block_writer.BlockWriter.flush_and_end.Goals as goal
 

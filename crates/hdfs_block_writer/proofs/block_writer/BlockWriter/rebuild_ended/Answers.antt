@@ -2,11 +2,11 @@
 use Rattle.std.proofs.Common.{◌≡◌, [], sym, ◌∙◌, ap, subst, arith}
 use Rattle.hdfs_namenode.specs.Clients.{name_of, proxy_of}
 use Rattle.hdfs_namenode.proofs.Services.{reaches_same, same_service_refl}
-use Rattle.hdfs_blocks.specs.Carrying.{total}
-use Rattle.hdfs_recovery.specs.declared.block_plan.BlockPlan.{BlockPlan}
-use Rattle.hdfs_recovery.specs.Attempts.{GaveNoneAfter, RebuiltAfter, standing, task_of}
-use Rattle.hdfs_recovery.specs.Plans.{CanRebuild}
-use Rattle.hdfs_recovery.proofs.Tried.{err_by, ok_by}
+use Rattle.hdfs_block_reader.specs.Carrying.{total}
+use Rattle.hdfs_rebuild.specs.declared.block_plan.BlockPlan.{BlockPlan}
+use Rattle.hdfs_rebuild.specs.Attempts.{GaveNoneAfter, RebuiltAfter, standing, task_of}
+use Rattle.hdfs_rebuild.specs.Plans.{CanRebuild}
+use Rattle.hdfs_rebuild.proofs.Tried.{err_by, ok_by}
 use Rattle.hdfs_block_writer.specs.Pushing.{FallsEnded, RebuildsEnded}
 use Rattle.hdfs_block_writer.proofs.EndedRebuilt.{bad_is, ended_bad, ended_given_up, ended_rebuilt, ended_same, ended_stopped, recovers_is}
 use Rattle.hdfs_block_writer.proofs.Standing.{can_rebuild_standing, standing_drove}

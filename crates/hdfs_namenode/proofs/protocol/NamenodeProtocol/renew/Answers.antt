@@ -1,7 +1,7 @@
 -- The leases are renewed by the names of their namespaces, and the turn ends as the renewal says.
 use Rattle.std.proofs.Common.{◌≡◌, Some, None, Option, refl, sym, ◌∙◌, ap}
 use Rattle.hdfs_leases.specs.Leases.{last_of}
-use Rattle.hdfs_model.specs.declared.errors.HdfsError.TheVariants as errors
+use Rattle.hdfs_cluster.specs.declared.errors.HdfsError.TheVariants as errors
 use Rattle.std.specs.Prelude.{Ok, Err}
 use Rattle.hdfs_namenode.specs.Clients.{leases_of, name_of, through}
 use Rattle.hdfs_namenode.specs.Renewing.{turn_of}

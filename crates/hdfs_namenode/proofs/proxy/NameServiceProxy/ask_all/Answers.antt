@@ -1,9 +1,9 @@
 -- The goals of NameServiceProxy::ask_all.
 use Rattle.std.proofs.Common.{sym, subst}
 use Rattle.std.specs.Prelude.{IfErr, Result}
-use Rattle.hdfs_model.specs.declared.asks.Answer.{Answer}
-use Rattle.hdfs_model.specs.declared.errors.HdfsError.{HdfsError}
-use Rattle.hdfs_model.proofs.Framing.{asked_leaves}
+use Rattle.hdfs_cluster.specs.declared.asks.Answer.{Answer}
+use Rattle.hdfs_cluster.specs.declared.errors.HdfsError.{HdfsError}
+use Rattle.hdfs_cluster.proofs.Framing.{asked_leaves}
 use Rattle.hdfs_namenode.specs.Asked.{order_of}
 use Rattle.hdfs_namenode.specs.Relaying.{HasNoAnswer}
 use Rattle.hdfs_namenode.proofs.Called.{no_answer}

@@ -1,6 +1,6 @@
 -- The goals of NameServiceProxy::ask_in_order.
 use Rattle.std.proofs.Common.{◌∷◌, ◌+◌, ◌-◌, sym, ◌∙◌, arith}
-use Rattle.hdfs_model.specs.Failover.{numbers_but}
+use Rattle.hdfs_cluster.specs.Failover.{numbers_but}
 use Rattle.hdfs_namenode.specs.Asked.{order_of}
 use Rattle.hdfs_namenode.proofs.Going.{going_next, going_same, numbers_skip, numbers_take}
 use Rattle.hdfs_namenode.proofs.proxy.NameServiceProxy.ask_in_order.Goals as goal

@@ -1,8 +1,8 @@
 -- What asking has come to so far.
 use Rattle.std.proofs.Common.{◌≡◌, ◌+◌, ◌-◌, ◌<◌, ◌≤◌}
 use Rattle.std.specs.Prelude.{IfOk}
-use Rattle.hdfs_model.specs.Failover.{numbers_but}
-use Rattle.hdfs_model.specs.Namenode.{IsShaped}
+use Rattle.hdfs_cluster.specs.Failover.{numbers_but}
+use Rattle.hdfs_cluster.specs.Namenode.{IsShaped}
 use Rattle.hdfs_namenode.specs.Asked.{order_of}
 use Rattle.hdfs_namenode.proofs.Going.{Going}
 use Rattle.hdfs_namenode.proofs.proxy.NameServiceProxy.ask_in_order.Given as goal

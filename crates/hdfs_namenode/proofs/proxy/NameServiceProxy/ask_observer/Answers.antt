@@ -2,7 +2,7 @@
 use Rattle.std.proofs.Common.{◌≡◌, true, false, ℕ, Some, None, Option, Ok, refl, sym, ◌∙◌, ap, subst}
 use Rattle.std.proofs.lemmas.Result.{err_from_is_err_and}
 use Rattle.std.specs.Prelude.{Result}
-use Rattle.hdfs_model.specs.declared.errors.HdfsError.{HdfsError}
+use Rattle.hdfs_cluster.specs.declared.errors.HdfsError.{HdfsError}
 use Rattle.hdfs_namenode.specs.Asked.{Observes, Through}
 use Rattle.hdfs_namenode.proofs.Observers.{gave_answer, gave_none, looking_fails, none_observes}
 use Rattle.hdfs_namenode.proofs.proxy.NameServiceProxy.ask_observer.Goals as goal

@@ -2,10 +2,10 @@
 use Rattle.std.proofs.Common.{◌≡◌, Ok, Option, sym, subst}
 use Rattle.std.proofs.lemmas.Result.{err_from_is_err_and}
 use Rattle.std.specs.Prelude.{Err, IfErr, Result, Some, None}
-use Rattle.hdfs_model.proofs.Frames.{later_trans}
-use Rattle.hdfs_model.specs.declared.asks.Answer.{Answer}
-use Rattle.hdfs_model.specs.declared.errors.HdfsError.{HdfsError}
-use Rattle.hdfs_model.specs.Shown.{Later, Shown}
+use Rattle.hdfs_cluster.proofs.Frames.{later_trans}
+use Rattle.hdfs_cluster.specs.declared.asks.Answer.{Answer}
+use Rattle.hdfs_cluster.specs.declared.errors.HdfsError.{HdfsError}
+use Rattle.hdfs_cluster.specs.Shown.{Later, Shown}
 use Rattle.hdfs_namenode.specs.Asked.{SameService, Through}
 use Rattle.hdfs_namenode.specs.Observing.{InStep}
 use Rattle.hdfs_namenode.proofs.Observers.{asked_behind, lacks_behind, lacks_for_memory, lacks_sync}

@@ -1,9 +1,9 @@
 -- The goals of NameServiceProxy::look_for_observer.
 use Rattle.std.proofs.Common.{◌≡◌, ◌+◌, ◌-◌, ◌<◌, ◌≤◌, false, true, List, ℕ, Ok, sym, ◌∙◌, ap, subst, arith}
 use Rattle.std.proofs.lemmas.Result.{err_from_is_err_and}
-use Rattle.hdfs_model.proofs.Frames.{later_trans}
-use Rattle.hdfs_model.specs.declared.asks.Answer.TheVariants as answers
-use Rattle.hdfs_model.specs.declared.asks.AskFault.TheVariants as faults
+use Rattle.hdfs_cluster.proofs.Frames.{later_trans}
+use Rattle.hdfs_cluster.specs.declared.asks.Answer.TheVariants as answers
+use Rattle.hdfs_cluster.specs.declared.asks.AskFault.TheVariants as faults
 use Rattle.std.specs.Prelude.{Err}
 use Rattle.hdfs_namenode.specs.Asked.{NoneObserves, numbers_from}
 use Rattle.hdfs_namenode.proofs.Observers.{none_push, numbers_next, said_memory, said_observer, said_other, until}

@@ -1,6 +1,6 @@
 -- No namenode so far is an observer.
 use Rattle.std.proofs.Common.{◌-◌}
-use Rattle.hdfs_model.specs.Shown.{Later}
+use Rattle.hdfs_cluster.specs.Shown.{Later}
 use Rattle.hdfs_namenode.specs.Asked.{NoneObserves, numbers_from}
 use Rattle.hdfs_namenode.proofs.proxy.NameServiceProxy.look_for_observer.Given as goal
 

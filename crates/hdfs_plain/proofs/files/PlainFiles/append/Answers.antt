@@ -1,7 +1,7 @@
 -- A closed file stands there, and is opened with its own bytes.
 use Rattle.std.proofs.Common.{◌≡◌, Some, option_map, sym, ap, ◌∙◌, subst}
-use Rattle.hdfs_model.specs.Files.{Content}
-use Rattle.hdfs_model.specs.Refusals.{Lacks}
+use Rattle.hdfs_cluster.specs.Files.{Content}
+use Rattle.hdfs_cluster.specs.Refusals.{Lacks}
 use Rattle.hdfs_model.specs.Steps.{with_writing}
 use Rattle.hdfs_plain.specs.declared.files.PlainFiles.{PlainFiles}
 use Rattle.hdfs_plain.specs.declared.files.PlainNode.TheVariants as nodes

@@ -1,7 +1,7 @@
 -- The file is put as a closed one, and its path is taken out of those that are open.
 use Rattle.std.proofs.Common.{◌≡◌, Some, option_map, false, refl, sym, ap, ◌∙◌, subst}
 use Rattle.std.proofs.lemmas.Map.Text.{btree_set_updates_text}
-use Rattle.hdfs_model.specs.Files.{File, Content}
+use Rattle.hdfs_cluster.specs.Files.{File, Content}
 use Rattle.hdfs_model.specs.Steps.{close_node, with_node, without}
 use Rattle.hdfs_plain.specs.declared.files.PlainFiles.{PlainFiles}
 use Rattle.hdfs_plain.specs.declared.files.PlainNode.TheVariants as nodes

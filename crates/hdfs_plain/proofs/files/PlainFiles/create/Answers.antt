@@ -1,6 +1,6 @@
 -- Nothing refuses the file, and it is opened without bytes.
 use Rattle.std.proofs.Common.{◌≡◌, false, sym, subst}
-use Rattle.hdfs_model.specs.Files.{Content}
+use Rattle.hdfs_cluster.specs.Files.{Content}
 use Rattle.hdfs_model.specs.Steps.{created, with_writing}
 use Rattle.hdfs_plain.specs.declared.files.PlainFiles.{PlainFiles}
 use Rattle.hdfs_plain.specs.Answers.{world_of}

@@ -1,8 +1,8 @@
 use Rattle.std.proofs.Common.{◌≡◌, length}
 use Rattle.std.specs.List.{list_any}
 use Rattle.std.specs.Str.{IsUtf8}
-use Rattle.hdfs_model.specs.Files.{is_file, kinds_of}
-use Rattle.hdfs_model.specs.Paths.{ancestors}
+use Rattle.hdfs_cluster.specs.Files.{is_file, kinds_of}
+use Rattle.hdfs_names.specs.Paths.{ancestors}
 use Rattle.hdfs_plain.specs.Plain.{files_of}
 use Rattle.hdfs_plain.proofs.files.PlainFiles.has_file_above.Given as goal
 

@@ -1,6 +1,6 @@
 -- A file stands there, closed or open, and its range is read.
 use Rattle.std.proofs.Common.{◌≡◌, Some, option_map, sym, ap, ◌∙◌, subst}
-use Rattle.hdfs_model.specs.Refusals.{Lacks}
+use Rattle.hdfs_cluster.specs.Refusals.{Lacks}
 use Rattle.hdfs_model.specs.Steps.{Outcome, content_of}
 use Rattle.hdfs_plain.specs.declared.files.PlainFiles.{PlainFiles}
 use Rattle.hdfs_plain.specs.declared.files.PlainNode.TheVariants as nodes

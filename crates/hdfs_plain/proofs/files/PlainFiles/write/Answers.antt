@@ -1,6 +1,6 @@
 -- The file is put with its new bytes.
 use Rattle.std.proofs.Common.{◌≡◌, ◌++◌, Some, option_map, sym, ap, ◌∙◌, subst}
-use Rattle.hdfs_model.specs.Files.{Writing, Content}
+use Rattle.hdfs_cluster.specs.Files.{Writing, Content}
 use Rattle.hdfs_model.specs.Steps.{write_node, with_node}
 use Rattle.hdfs_plain.specs.declared.files.PlainFiles.{PlainFiles}
 use Rattle.hdfs_plain.specs.declared.files.PlainNode.TheVariants as nodes

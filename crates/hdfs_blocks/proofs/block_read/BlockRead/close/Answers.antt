@@ -1,6 +1,0 @@
-use Rattle.hdfs_blocks.proofs.Joining.{reads_from-Goes}
-use Rattle.hdfs_blocks.proofs.block_read.BlockRead.close.Goals as goal
-
-pub returns-clause-reads : goal.returns-clause-reads
-returns-clause-reads g c =
-    reads_from-Goes (g.C.Cluster.shown c.args.cluster.now) (g.C.Cluster.shown c.stop.new.cluster) c.args.self.now c.stop.new.self c.stop.ensures.goes

@@ -1,0 +1,106 @@
+-- A session stands and carries its files over a cluster whose write links and files are the same.
+use Rattle.std.proofs.Common.{◌≡◌, inl, inr, ⊎_elim, ℕ, List, Some, Result, Ok, Err, IfSome, sym, ◌∙◌, ap, subst}
+use Rattle.hdfs_cluster.specs.declared.errors.HdfsError.{HdfsError}
+use Rattle.hdfs_cluster.specs.declared.messages.ServerDefaults.{ServerDefaults}
+use Rattle.hdfs_cluster.specs.Files.{State}
+use Rattle.hdfs_cluster.specs.Picture.{Picture, SameFiles}
+use Rattle.hdfs_model.specs.Sessions.{defaults_of}
+use Rattle.hdfs_cluster.specs.Shown.{Shown, SameWrites}
+use Rattle.hdfs_namenode.specs.Clients.{proxy_of}
+use Rattle.hdfs_namenode.proofs.Services.{reaches_same, same_service_refl}
+use Rattle.hdfs_file_writer.proofs.Beside.{still_stands}
+use Rattle.hdfs_file_writer.specs.Tails.{Tail, FileCarries}
+use Rattle.hdfs_file_writer.specs.Writers as files
+use Rattle.hdfs_file_writer.specs.declared.file_writer.FileWriter.{FileWriter}
+use Rattle.hdfs_file_writer.proofs.Others.{tail_stays}
+use Rattle.hdfs_commands.specs.Session.{Stands, HasLink, OnlyOwnLinks, CarriesFile, Carried, after, defaults_known}
+use Rattle.hdfs_commands.specs.declared.session.Session.{Session}
+use Rattle.hdfs_commands.proofs.Early.{failed_stands}
+
+-- The writer of a file stands still where its link stayed.
+pub writer_stands : (a b : Shown) (w : FileWriter) → ((link : ℕ) → files.link_of w ≡ Some link → b.writes link ≡ a.writes link) → files.Stands a w → files.Stands b w
+writer_stands a b w stays s = record {
+  packets = s.packets;
+  going = λ block is.
+      let g = s.going block is in
+      record {
+        limited = g.limited;
+        stands = still_stands a b block (λ link has. stays link (ap files.link_by is ∙ has)) g.stands;
+        size = g.size;
+        chunk = g.chunk;
+        packet_size = g.packet_size;
+        settings = g.settings;
+        plain = g.plain;
+      };
+  is_open = s.is_open;
+  idle = s.idle;
+  reopened = s.reopened;
+  apart = s.apart;
+  done = s.done;
+}
+
+-- So does a session whose links stayed.
+pub session_stands : (a b : Shown) (s : Session) → b.namenodes ≡ a.namenodes → ((link : ℕ) → HasLink s link → b.writes link ≡ a.writes link) → Stands a s → Stands b s
+session_stands a b s count stays h = record {
+  limited = h.limited;
+  each = λ path writer is.
+      let e = h.each path writer is in
+      (writer_stands a b writer (λ link has. stays link (path, writer, is, has)) e.0, e.1);
+  fine = h.fine;
+  apart = h.apart;
+  reaches = reaches_same (proxy_of s.namenode) (proxy_of s.namenode) a b (same_service_refl (proxy_of s.namenode)) count h.reaches;
+  name = h.name;
+  sized = h.sized;
+}
+
+-- It stands once it has failed, too.
+pub after_stands : {T : Type 0} (shown : Shown) (s : Session) (result : Result T HdfsError) → Stands shown s → Stands shown (after s result)
+after_stands shown s (Ok value) h = h
+after_stands shown s (Err error) h = failed_stands shown s h
+
+-- A call that leaves the write links leaves those of the session.
+links_stay : (a b : Shown) (s : Session) → ((link : ℕ) → b.writes link ≡ a.writes link) → OnlyOwnLinks a s b s
+links_stay a b s same = record {
+  others = λ link is has. same link;
+  none = λ link h. ⊎_elim (λ none. inl (same link ∙ none)) (λ has. inr has) h;
+  fresh = λ link has. inl has;
+}
+
+pub after_links_stay : {T : Type 0} (a b : Shown) (s : Session) (result : Result T HdfsError) → ((link : ℕ) → b.writes link ≡ a.writes link) → OnlyOwnLinks a s b (after s result)
+after_links_stay a b s (Ok value) same = links_stay a b s same
+after_links_stay a b s (Err error) same = (let stay = links_stay a b s same in record { others = stay.others; none = stay.none; fresh = stay.fresh })
+
+-- What a writer carries it carries where the files and the write links are the same.
+module _ (p q : Picture) (same : SameFiles p q) (writes : SameWrites p q) where
+  pub file_stays : (path : List ℕ) (tail : Tail) (bytes : List ℕ) → FileCarries p path tail bytes → FileCarries q path tail bytes
+  file_stays path tail bytes c = record {
+    file = c.file;
+    named = same.names path ∙ c.named;
+    being_written = c.being_written;
+    carries = tail_stays p q path c.file (same.names path) (λ id there. (same.table id, λ node. same.held node id)) (λ link place is there. writes link ∙ is) tail bytes c.carries;
+  }
+
+  pub carries_stays : (state : State) (path : List ℕ) (writer : FileWriter) → CarriesFile p state path writer → CarriesFile q state path writer
+  carries_stays state path writer c = record {
+    content = c.content;
+    named = c.named;
+    carries = file_stays path (files.tail_of writer) c.content.bytes c.carries;
+    replication = c.replication;
+    block_size = c.block_size;
+  }
+
+  -- so does the session
+  pub session_carries : (a b : Shown) → a.picture ≡ Some p → b.picture ≡ Some q → (s : Session) (state : State) → Carried a s state → Carried b s state
+  session_carries a b was is s state h =
+      let defaults : defaults_of a.picture ≡ defaults_of b.picture = ap defaults_of was ∙ sym same.defaults ∙ sym (ap defaults_of is) in
+      record {
+        each = λ q' told path writer has.
+            let other : q ≡ q' = cc in
+            subst (λ (x : Picture). CarriesFile x state path writer) other (carries_stays state path writer (h.each p was path writer has));
+        defaults = subst (λ (d : ServerDefaults). IfSome (defaults_known s) (λ known. known ≡ d)) defaults h.defaults;
+      }
+
+-- and once it has failed, too
+pub after_carries : {T : Type 0} (shown : Shown) (s : Session) (result : Result T HdfsError) (state : State) → Carried shown s state → Carried shown (after s result) state
+after_carries shown s (Ok value) state h = h
+after_carries shown s (Err error) state h = record { each = h.each; defaults = h.defaults }

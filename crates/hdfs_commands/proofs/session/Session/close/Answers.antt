@@ -1,0 +1,86 @@
+-- A close of a session.
+use Rattle.std.proofs.Common.{true, None, refl, sym}
+use Rattle.std.proofs.lemmas.Map.Text.{btree_map_updates_text}
+use Rattle.hdfs_model.specs.declared.commands.Command.TheVariants as commands
+use Rattle.hdfs_commands.proofs.WholeWriting.{close_keeps, sending_keeps}
+use Rattle.hdfs_commands.proofs.WriteEnds.{close_acts, close_fails, close_not_owed}
+use Rattle.hdfs_commands.proofs.session.Session.close.Goals as goal
+
+pub close-requires-clause-stands : goal.close-requires-clause-stands
+close-requires-clause-stands g c = (c.requires.stands.each c.args.path.now c.in-Some.writer (sym c.in-Some.ensures.value)).0
+
+pub returns-in-Ok-clause-acts : goal.returns-in-Ok-clause-acts
+returns-in-Ok-clause-acts g c = λ name is.
+    let session = c.args.self.now in
+    let path = c.args.path.now in
+    close_acts (g.C.Cluster.shown c.args.cluster.now) (g.C.Cluster.shown c.close.new.cluster) session (record session { writers = c.remove.new.self; namenode = c.close.new.namenode }) name path c.in-Some.writer
+    (record {
+      here = sym c.in-Some.ensures.value;
+      writers = btree_map_updates_text path session.writers c.remove.new.self None c.remove.ensures.updates;
+      before = c.requires.stands;
+      sound = g.met.C.Cluster.sound c.args.cluster.now;
+      called = is;
+      named = c.requires.path;
+      settings = refl;
+      namenode = c.close.ensures.client;
+    })
+    (λ fine. fine) c.in-Ok.ensures.closed
+
+pub returns-in-Err-clause-acts : goal.returns-in-Err-clause-acts
+returns-in-Err-clause-acts g c = λ name is.
+    let session = c.args.self.now in
+    let path = c.args.path.now in
+    let here = sym c.in-Some.ensures.value in
+    close_fails (g.C.Cluster.shown c.args.cluster.now) (g.C.Cluster.shown c.close.new.cluster) session (record session { writers = c.remove.new.self; namenode = c.close.new.namenode; failed = true }) name path c.in-Some.writer
+    (record {
+      here = here;
+      writers = btree_map_updates_text path session.writers c.remove.new.self None c.remove.ensures.updates;
+      before = c.requires.stands;
+      sound = g.met.C.Cluster.sound c.args.cluster.now;
+      called = is;
+      named = c.requires.path;
+      settings = refl;
+      namenode = c.close.ensures.client;
+    })
+    refl c.in-Err.error (c.in-Err.ensures.err (c.requires.stands.fine c.requires.fine path c.in-Some.writer here))
+
+pub returns-in-Err-clause-owed : goal.returns-in-Err-clause-owed
+returns-in-Err-clause-owed g c =
+    close_not_owed (g.C.Cluster.shown c.args.cluster.now) (g.C.Cluster.shown c.close.new.cluster) c.in-Some.writer c.in-Err.error
+    (c.in-Err.ensures.err (c.requires.stands.fine c.requires.fine c.args.path.now c.in-Some.writer (sym c.in-Some.ensures.value)))
+
+pub returns-in-Ok-clause-whole : goal.returns-in-Ok-clause-whole
+returns-in-Ok-clause-whole g c = λ name is.
+    let session = c.args.self.now in
+    let path = c.args.path.now in
+    close_keeps (g.C.Cluster.shown c.args.cluster.now) (g.C.Cluster.shown c.close.new.cluster) session (record session { writers = c.remove.new.self; namenode = c.close.new.namenode }) name path c.in-Some.writer
+    (record {
+      here = sym c.in-Some.ensures.value;
+      writers = btree_map_updates_text path session.writers c.remove.new.self None c.remove.ensures.updates;
+      before = c.requires.stands;
+      sound = g.met.C.Cluster.sound c.args.cluster.now;
+      called = is;
+      named = c.requires.path;
+      settings = refl;
+      namenode = c.close.ensures.client;
+    })
+    c.in-Ok.ensures.closed.closes
+
+pub returns-in-Err-clause-whole : goal.returns-in-Err-clause-whole
+returns-in-Err-clause-whole g c = λ name is.
+    let session = c.args.self.now in
+    let path = c.args.path.now in
+    let here = sym c.in-Some.ensures.value in
+    sending_keeps (g.C.Cluster.shown c.args.cluster.now) (g.C.Cluster.shown c.close.new.cluster) session (record session { writers = c.remove.new.self; namenode = c.close.new.namenode }) name path c.in-Some.writer
+    (commands.Close name) None
+    (record {
+      here = here;
+      writers = btree_map_updates_text path session.writers c.remove.new.self None c.remove.ensures.updates;
+      before = c.requires.stands;
+      sound = g.met.C.Cluster.sound c.args.cluster.now;
+      called = is;
+      named = c.requires.path;
+      settings = refl;
+      namenode = c.close.ensures.client;
+    })
+    is c.in-Err.error (c.in-Err.ensures.err (c.requires.stands.fine c.requires.fine path c.in-Some.writer here)).touches

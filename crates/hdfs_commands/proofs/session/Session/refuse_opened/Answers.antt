@@ -1,0 +1,13 @@
+-- The goals of Session::refuse_opened.
+use Rattle.std.proofs.Common.{refl}
+use Rattle.hdfs_commands.proofs.Encrypting.{only_touches}
+use Rattle.hdfs_commands.proofs.Sized.{remembers_asked}
+use Rattle.hdfs_commands.proofs.session.Session.refuse_opened.Goals as goal
+
+pub returns-clause-touches : goal.returns-clause-touches
+returns-clause-touches g c =
+    only_touches (g.C.Cluster.shown c.args.cluster.now) (g.C.Cluster.shown c.close.new.cluster) c.args.writer c.close.result c.requires.fresh.0 c.requires.fresh.1
+    c.close.ensures.closed c.close.ensures.err c.close.ensures.idle
+
+pub returns-clause-asked : goal.returns-clause-asked
+returns-clause-asked g c = record { remembers = remembers_asked c.args.self.now c.close.new.namenode c.close.ensures.client; writers = refl; failed = refl }

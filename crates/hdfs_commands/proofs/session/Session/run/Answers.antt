@@ -1,0 +1,90 @@
+-- A command that is refused before anything is asked, and a read.
+use Rattle.std.proofs.Common.{◌≡◌, ◌∙◌, ap, refl, sym, subst, rules, true, false, List, ℕ}
+use Rattle.std.proofs.lemmas.Result.{err_from_is_err_and}
+use Rattle.hdfs_model.specs.declared.commands.Command.TheVariants as commands
+use Rattle.hdfs_cluster.specs.declared.errors.ArgFault.TheVariants as args
+use Rattle.hdfs_cluster.specs.declared.errors.HdfsError.TheVariants as errors
+use Rattle.hdfs_names.specs.Paths.{is_path}
+use Rattle.hdfs_model.specs.Owing.{is_misplaced}
+use Rattle.hdfs_commands.specs.Acting.{world_at}
+use Rattle.hdfs_commands.specs.Session.{opened_of}
+use Rattle.hdfs_commands.proofs.Early.{fact_true, owed_result, state_acts, target_acts}
+use Rattle.hdfs_commands.proofs.Connected.{connected_acts}
+use Rattle.hdfs_commands.proofs.ReadActs.{read_command, read_knows}
+use Rattle.hdfs_commands.proofs.WholeStarting.{as_called, early_whole, read_whole}
+use Rattle.hdfs_commands.proofs.session.Session.run.Goals as goal
+
+pub returns-in_err-path-clause-acts : goal.returns-in_err-path-clause-acts
+returns-in_err-path-clause-acts g c =
+    let p = err_from_is_err_and c.from_residual.result c.from_residual.ensures.1 in
+    rw (p.1, p.2) (target_acts (g.C.Cluster.shown c.args.cluster.now) c.args.self.now c.args.command.now c.in_err-path.field-0.0 c.requires.stands c.in_err-path.ensures.err)
+
+pub returns-then-not-is_placed-clause-acts : goal.returns-then-not-is_placed-clause-acts
+returns-then-not-is_placed-clause-acts g c =
+    let ok = c.in_ok-path.ensures.ok in
+    let session = c.args.self.now in
+    let command = c.args.command.now in
+    state_acts (g.C.Cluster.shown c.args.cluster.now) session command c.requires.stands (ap is_path (sym ok.0) ∙ ok.1)
+    (subst (λ (p : List ℕ). is_misplaced command (opened_of session p) ≡ true) (c.as_str.ensures ∙ ok.0)
+    (fact_true c.is_placed.result (is_misplaced command (opened_of session c.as_str.result.now)) c.if-not-is_placed.true c.is_placed.ensures.1))
+
+pub returns-in-Read-clause-acts : goal.returns-in-Read-clause-acts
+returns-in-Read-clause-acts g c =
+    let ok = c.in_ok-path.ensures.ok in
+    let session = c.args.self.now in
+    let command = c.args.command.now in
+    let placed = c.is_placed.ensures.0 c.if-not-is_placed.false in
+    let called = c.as_str-in-Read.ensures ∙ ok.0 in
+    connected_acts command (g.C.Cluster.shown c.args.cluster.now) session (g.C.Cluster.shown c.read_file.new.cluster) session c.read_file.new.connections c.read_file.new.namenode c.read_file.ensures.client.same
+    (read_knows (g.C.Cluster.shown c.args.cluster.now) (g.C.Cluster.shown c.read_file.new.cluster) session command c.in-Read.name c.as_str-in-Read.result.now c.in-Read.offset c.in-Read.len (sym c.in-Read.is) (ap is_path c.as_str-in-Read.ensures ∙ ok.1) called
+    (subst (λ (p : List ℕ). is_misplaced command (opened_of session p) ≡ false) (c.as_str.ensures ∙ sym c.as_str-in-Read.ensures) placed) c.read_file.new.namenode c.read_file.ensures.client)
+    c.read_file.result
+    (read_command (g.C.Cluster.shown c.args.cluster.now) (g.C.Cluster.shown c.read_file.new.cluster) session command _ c.as_str-in-Read.result.now _ _ (search rules) (ap is_path c.as_str-in-Read.ensures ∙ ok.1) called
+    (subst (λ (p : List ℕ). is_misplaced command (opened_of session p) ≡ false) (c.as_str.ensures ∙ sym c.as_str-in-Read.ensures) placed)
+    c.read_file.result c.requires.stands c.read_file.ensures.anywhere c.read_file.ensures.links c.read_file.ensures.files c.read_file.ensures.ok c.read_file.ensures.err)
+
+pub returns-in-Read-clause-owed : goal.returns-in-Read-clause-owed
+returns-in-Read-clause-owed g c =
+    let ok = c.in_ok-path.ensures.ok in
+    let session = c.args.self.now in
+    let command = c.args.command.now in
+    let placed = c.is_placed.ensures.0 c.if-not-is_placed.false in
+    owed_result (world_at session (g.C.Cluster.shown c.args.cluster.now)) (opened_of session) command c.read_file.result (ap is_path (sym ok.0) ∙ ok.1)
+    (subst (λ (p : List ℕ). is_misplaced command (opened_of session p) ≡ false) (c.as_str.ensures ∙ ok.0) placed) c.read_file.ensures.owed
+
+pub returns-in_err-path-clause-whole : goal.returns-in_err-path-clause-whole
+returns-in_err-path-clause-whole g c =
+    let p = err_from_is_err_and c.from_residual.result c.from_residual.ensures.1 in
+    rw p.1 (λ state ready. early_whole c.args.command.now (g.C.Cluster.shown c.args.cluster.now) c.args.self.now p.0)
+
+pub returns-then-not-is_placed-clause-whole : goal.returns-then-not-is_placed-clause-whole
+returns-then-not-is_placed-clause-whole g c = λ state ready.
+    early_whole c.args.command.now (g.C.Cluster.shown c.args.cluster.now) c.args.self.now (errors.InvalidArgument args.State)
+
+pub returns-in-Read-clause-whole : goal.returns-in-Read-clause-whole
+returns-in-Read-clause-whole g c =
+    let ok = c.in_ok-path.ensures.ok in
+    let session = c.args.self.now in
+    let command = c.args.command.now in
+    let placed = c.is_placed.ensures.0 c.if-not-is_placed.false in
+    let called = c.as_str-in-Read.ensures ∙ ok.0 in
+    read_whole (g.C.Cluster.shown c.args.cluster.now) (g.C.Cluster.shown c.read_file.new.cluster) session (record session { connections = c.read_file.new.connections; namenode = c.read_file.new.namenode }) command c.in-Read.name c.as_str-in-Read.result.now c.in-Read.offset c.in-Read.len (sym c.in-Read.is)
+    (ap is_path c.as_str-in-Read.ensures ∙ ok.1) called
+    (subst (λ (p : List ℕ). is_misplaced command (opened_of session p) ≡ false) (c.as_str.ensures ∙ sym c.as_str-in-Read.ensures) placed)
+    (λ r. refl) c.read_file.ensures.files c.read_file.result
+
+pub returns-in-Create-clause-whole : goal.returns-in-Create-clause-whole
+returns-in-Create-clause-whole g c =
+    as_called (g.C.Cluster.shown c.args.cluster.now) (g.C.Cluster.shown c.create.new.cluster) c.args.self.now c.create.new.self c.args.command.now (commands.Create c.in-Create.path c.in-Create.options) c.in_ok-path.path
+    c.create.result c.in-Create.is c.in_ok-path.ensures.ok.0 (λ called. c.create.ensures.whole c.in-Create.path called)
+
+pub returns-in-Write-clause-whole : goal.returns-in-Write-clause-whole
+returns-in-Write-clause-whole g c =
+    as_called (g.C.Cluster.shown c.args.cluster.now) (g.C.Cluster.shown c.write.new.cluster) c.args.self.now c.write.new.self c.args.command.now (commands.Write c.in-Write.path c.as_slice.result.now) c.as_str-in-Write.result.now
+    c.write.result (c.in-Write.is ∙ ap (λ (bytes : List ℕ). commands.Write c.in-Write.path bytes) (sym c.as_slice.ensures)) (c.as_str-in-Write.ensures ∙ c.in_ok-path.ensures.ok.0)
+    (λ called. c.write.ensures.whole c.in-Write.path called)
+
+pub returns-in-Close-clause-whole : goal.returns-in-Close-clause-whole
+returns-in-Close-clause-whole g c =
+    as_called (g.C.Cluster.shown c.args.cluster.now) (g.C.Cluster.shown c.close.new.cluster) c.args.self.now c.close.new.self c.args.command.now (commands.Close c.in-Close.path) c.as_str-in-Close.result.now
+    c.close.result c.in-Close.is (c.as_str-in-Close.ensures ∙ c.in_ok-path.ensures.ok.0) (λ called. c.close.ensures.whole c.in-Close.path called)

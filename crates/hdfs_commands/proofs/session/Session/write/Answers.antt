@@ -1,0 +1,99 @@
+-- A write of a session.
+use Rattle.std.proofs.Common.{true, Some, refl, sym, ap, rules}
+use Rattle.std.proofs.lemmas.Map.Text.{btree_map_updates_text}
+use Rattle.hdfs_model.specs.declared.commands.Command.TheVariants as commands
+use Rattle.hdfs_commands.proofs.WholeWriting.{write_keeps, write_fails_keeps}
+use Rattle.hdfs_commands.proofs.WriteEnds.{write_acts, write_fails, write_not_owed}
+use Rattle.hdfs_commands.proofs.session.Session.write.Goals as goal
+
+pub write-requires-clause-stands : goal.write-requires-clause-stands
+write-requires-clause-stands g c = (c.requires.stands.each c.args.path.now c.in-Some.writer.now (sym c.in-Some.ensures.value)).0
+
+pub returns-in-Ok-clause-acts : goal.returns-in-Ok-clause-acts
+returns-in-Ok-clause-acts g c = λ name is.
+    let session = c.args.self.now in
+    let path = c.args.path.now in
+    let w = c.write.new.self in
+    write_acts (g.C.Cluster.shown c.args.cluster.now) (g.C.Cluster.shown c.write.new.cluster) session (record session { writers = c.get_mut.follows.lender w; namenode = c.write.new.namenode }) name path c.in-Some.writer.now w
+    (record {
+      here = sym c.in-Some.ensures.value;
+      writers = btree_map_updates_text path session.writers (c.get_mut.follows.lender w) (Some w) ((c.get_mut.follows.holds w).3 (search rules));
+      before = c.requires.stands;
+      sound = g.met.C.Cluster.sound c.args.cluster.now;
+      called = is;
+      named = c.requires.path;
+      settings = refl;
+      namenode = c.write.ensures.stands.2;
+    })
+    (c.write.ensures.stands.0, c.write.ensures.stands.1) c.args.bytes.now
+    (λ none d. ap (λ x. (g.C.Cluster.shown x).counts.nodes d) (c.write.ensures.idle.none none))
+    (λ fine. fine) c.in-Ok.ensures.fails.0 c.in-Ok.ensures.wrote c.in-Ok.ensures.count.1 c.in-Ok.ensures.count.2 c.in-Ok.count c.in-Ok.ensures.count.0
+
+pub returns-in-Err-clause-acts : goal.returns-in-Err-clause-acts
+returns-in-Err-clause-acts g c = λ name is.
+    let session = c.args.self.now in
+    let path = c.args.path.now in
+    let w = c.write.new.self in
+    let here = sym c.in-Some.ensures.value in
+    let fine = c.requires.stands.fine c.requires.fine path c.in-Some.writer.now here in
+    write_fails (g.C.Cluster.shown c.args.cluster.now) (g.C.Cluster.shown c.write.new.cluster) session (record session { writers = c.get_mut.follows.lender w; namenode = c.write.new.namenode; failed = true }) name path c.in-Some.writer.now w
+    (record {
+      here = here;
+      writers = btree_map_updates_text path session.writers (c.get_mut.follows.lender w) (Some w) ((c.get_mut.follows.holds w).3 (search rules));
+      before = c.requires.stands;
+      sound = g.met.C.Cluster.sound c.args.cluster.now;
+      called = is;
+      named = c.requires.path;
+      settings = refl;
+      namenode = c.write.ensures.stands.2;
+    })
+    (c.write.ensures.stands.0, c.write.ensures.stands.1) c.args.bytes.now
+    (λ none d. ap (λ x. (g.C.Cluster.shown x).counts.nodes d) (c.write.ensures.idle.none none))
+    refl c.in-Err.ensures.fails.1 c.in-Err.error (λ limited un none. absurd (cc (c.in-Err.ensures.idle.empty fine limited none))) (c.in-Err.ensures.err fine)
+    (λ out. (let o = c.in-Err.ensures.idle.options fine out in (cc o.0, o.1, ap (λ x. g.C.Cluster.shown x) o.2)))
+
+pub returns-in-Err-clause-owed : goal.returns-in-Err-clause-owed
+returns-in-Err-clause-owed g c =
+    let fine = c.requires.stands.fine c.requires.fine c.args.path.now c.in-Some.writer.now (sym c.in-Some.ensures.value) in
+    write_not_owed (g.C.Cluster.shown c.args.cluster.now) (g.C.Cluster.shown c.write.new.cluster) c.in-Some.writer.now c.in-Err.error
+    (c.in-Err.ensures.err fine) (λ out. cc (c.in-Err.ensures.idle.options fine out).0)
+
+pub returns-in-Ok-clause-whole : goal.returns-in-Ok-clause-whole
+returns-in-Ok-clause-whole g c = λ name is.
+    let session = c.args.self.now in
+    let path = c.args.path.now in
+    let w = c.write.new.self in
+    write_keeps (g.C.Cluster.shown c.args.cluster.now) (g.C.Cluster.shown c.write.new.cluster) session (record session { writers = c.get_mut.follows.lender w; namenode = c.write.new.namenode }) name path c.in-Some.writer.now
+    c.args.bytes.now w
+    (record {
+      here = sym c.in-Some.ensures.value;
+      writers = btree_map_updates_text path session.writers (c.get_mut.follows.lender w) (Some w) ((c.get_mut.follows.holds w).3 (search rules));
+      before = c.requires.stands;
+      sound = g.met.C.Cluster.sound c.args.cluster.now;
+      called = is;
+      named = c.requires.path;
+      settings = refl;
+      namenode = c.write.ensures.stands.2;
+    })
+    c.write.ensures.stands.1 c.in-Ok.ensures.wrote.carries c.in-Ok.count
+
+pub returns-in-Err-clause-whole : goal.returns-in-Err-clause-whole
+returns-in-Err-clause-whole g c = λ name is.
+    let session = c.args.self.now in
+    let path = c.args.path.now in
+    let w = c.write.new.self in
+    let here = sym c.in-Some.ensures.value in
+    let fine = c.requires.stands.fine c.requires.fine path c.in-Some.writer.now here in
+    write_fails_keeps (g.C.Cluster.shown c.args.cluster.now) (g.C.Cluster.shown c.write.new.cluster) session (record session { writers = c.get_mut.follows.lender w; namenode = c.write.new.namenode }) name path c.in-Some.writer.now
+    (commands.Write name c.args.bytes.now) (Some w)
+    (record {
+      here = here;
+      writers = btree_map_updates_text path session.writers (c.get_mut.follows.lender w) (Some w) ((c.get_mut.follows.holds w).3 (search rules));
+      before = c.requires.stands;
+      sound = g.met.C.Cluster.sound c.args.cluster.now;
+      called = is;
+      named = c.requires.path;
+      settings = refl;
+      namenode = c.write.ensures.stands.2;
+    })
+    is c.in-Err.error (c.in-Err.ensures.err fine) (λ out. ap (λ x. g.C.Cluster.shown x) (c.in-Err.ensures.idle.options fine out).2)

@@ -1,0 +1,174 @@
+-- What the asks of a writer of a file do to what it carries.
+use Rattle.std.proofs.Common.{◌≡◌, ◌≢◌, ⊎_elim, ℕ, ◌+◌, ◌<◌, Bool, true, false, List, [], ◌∷◌, ◌++◌, length, take, Option, Some, None, refl, sym, ◌∙◌, ap, subst, arith}
+use Rattle.std.proofs.lemmas.List.{append-nil, length-append, get_or-append-add, get_or_append_left, get_or_default}
+use Rattle.std.specs.Prelude.{Contains, slice_index_or, IsSome, option_map}
+use Rattle.hdfs_cluster.specs.declared.messages.Block.{Block}
+use Rattle.hdfs_cluster.specs.declared.messages.LocatedBlock.{LocatedBlock}
+use Rattle.hdfs_cluster.specs.declared.picture.BlockEntry.{BlockEntry}
+use Rattle.hdfs_cluster.specs.declared.picture.Entry.{Entry}
+use Rattle.hdfs_cluster.specs.declared.picture.Entry.TheVariants as entries
+use Rattle.hdfs_cluster.specs.declared.picture.FileEntry.{FileEntry}
+use Rattle.hdfs_cluster.specs.Effects.{Changes, of_length, with_length, with_block, with_entry, IsLast, IsRetried, AddsNew, AddsBlock, ClosesIf, Completes}
+use Rattle.hdfs_cluster.specs.Files.{File, Content}
+use Rattle.hdfs_cluster.specs.Picture.{Picture}
+use Rattle.hdfs_cluster.specs.Sending.{uuids}
+use Rattle.hdfs_cluster.specs.Sound.{IsSound, IsFileAt, IsBlockAt}
+use Rattle.hdfs_cluster.specs.Stores.{AgreesAt, StoresBlocks}
+use Rattle.hdfs_block_reader.specs.Carrying.{HoldsWhole}
+use Rattle.hdfs_file_writer.specs.Tails.{Finished, StoresFront, TailCarries}
+use Rattle.hdfs_file_writer.proofs.Others.{is_listed}
+use Rattle.hdfs_file_writer.proofs.Placing.{at_path, at_id, some_none, push_same, contains_last, contains_left}
+use Rattle.hdfs_file_writer.proofs.Storing.{block_stays, stores_keeps, stores_push}
+
+-- no block stands before itself in a file
+pub not_twice : (p : Picture) → IsSound p → (path : List ℕ) (file : FileEntry) → IsFileAt p path file → (front : List ℕ) (id : ℕ) → file.blocks ≡ front ++ id ∷ [] → (other : ℕ) → Contains front other → other ≢ id
+not_twice p sound path file is front id ends other there same =
+    let long : length file.blocks ≡ length front + 1 = ap length ends ∙ length-append front (id ∷ []) in
+    let early : IsBlockAt p path there.0 id = record {
+      file = file;
+      named = is;
+      below = omega (arith, there.1, long);
+      is = ap (λ (l : List ℕ). slice_index_or l there.0 0) ends ∙ get_or_append_left front (id ∷ []) 0 there.0 there.1 ∙ get_or_default front there.0 0 other there.1 ∙ there.2 ∙ same;
+    } in
+    let late : IsBlockAt p path (length front) id = record {
+      file = file;
+      named = is;
+      below = omega (arith, long);
+      is = ap (λ (l : List ℕ). slice_index_or l (length front) 0) ends ∙ ap (λ (i : ℕ). slice_index_or (front ++ id ∷ []) i 0) (omega arith) ∙ get_or-append-add front (id ∷ []) 0 0;
+    } in
+    absurd (omega (arith, there.1, (sound.once path path there.0 (length front) id early late).1))
+
+-- the file as it is named in a picture with an entry at its path
+pub named_after : (p q : Picture) (path : List ℕ) (file : FileEntry) (table : ℕ → Option BlockEntry) → Changes p q (with_entry p.names path file) table → IsFileAt q path file
+named_after p q path file table changes =
+    changes.names path ∙ ⊎_elim (λ here. here.1) (λ away. absurd (away.0 refl)) (at_path path path (Some (entries.File file)) (p.names path))
+
+-- a file whose blocks store its bytes has a new one behind them, which stores none
+module _ (p q : Picture) (sound : IsSound p) (path : List ℕ) (file : FileEntry) (is : IsFileAt p path file) (previous : Option Block) (bytes : List ℕ) (found : LocatedBlock) (added : AddsNew path file previous found p q)
+    (stored : ((other : ℕ) → Contains file.blocks other → q.table other ≡ with_length p.table previous other) → StoresBlocks q file.blocks bytes) where
+  abbrev pub grown_file : FileEntry
+  grown_file = record file { blocks = file.blocks ++ added.id ∷ [] }
+
+  -- a block that is listed isn't the new one
+  pub not_new : (other : ℕ) → IsSome (p.table other) → added.id ≢ other
+  not_new other listed same = some_none (p.table added.id) (subst (λ (i : ℕ). IsSome (p.table i)) (sym same) listed) added.fresh.absent
+
+  old_table : (other : ℕ) → IsSome (p.table other) → q.table other ≡ with_length p.table previous other
+  old_table other listed = added.changes.table other ∙ ⊎_elim (λ here. absurd (not_new other listed here.0)) (λ away. away.1) (at_id added.id other (Some added.entry) (with_length p.table previous other))
+
+  new_held : (k : ℕ) (d : List ℕ) → k < length added.entry.nodes → q.held (slice_index_or added.entry.nodes k d) added.id ≡ []
+  new_held k d lt = added.changes.bytes.held (slice_index_or added.entry.nodes k d) added.id ∙ added.fresh.bare k d lt
+
+  new_whole : HoldsWhole q added.id 0 added.entry.nodes []
+  new_whole = record {
+    entry = added.entry;
+    is = added.changes.table added.id ∙ ⊎_elim (λ here. here.1) (λ away. absurd (away.0 refl)) (at_id added.id added.id (Some added.entry) (with_length p.table previous added.id));
+    stores = record {
+      length = refl;
+      prefixes = λ k d lt. new_held k d lt ∙ ap (λ (b : List ℕ). take (length b) []) (sym (new_held k d lt));
+      whole = (0, slice_index_or added.entry.nodes 0 [], added.fresh.some, get_or_default added.entry.nodes 0 (slice_index_or added.entry.nodes 0 []) [] added.fresh.some, new_held 0 [] added.fresh.some);
+    };
+    whole = new_held;
+    some = added.fresh.some;
+    same_listed = refl;
+  }
+
+  pub grown_named : IsFileAt q path grown_file
+  grown_named = named_after p q path grown_file (with_block (with_length p.table previous) added.id added.entry) added.changes
+
+  pub grown_front : StoresFront q grown_file.blocks added.id bytes []
+  grown_front = record {
+    front = file.blocks;
+    ends = refl;
+    before = bytes;
+    cut = sym (append-nil bytes);
+    stored = stored (λ other there. old_table other (is_listed p sound path file other is there));
+  }
+
+  -- what its writer carries, by the block that was answered
+  pub grown_carries : TailCarries q path grown_file.blocks (Finished found.b.block_id 0) bytes
+  grown_carries = subst (λ (i : ℕ). TailCarries q path grown_file.blocks (Finished i 0) bytes) (sym added.answered.same_id) ([], grown_front, (added.entry.nodes, new_whole))
+
+  -- the datanodes that are answered hold the new block, which is listed on them
+  pub new_located : HoldsWhole q found.b.block_id 0 (uuids found.locs) []
+  new_located = subst (λ (i : ℕ). HoldsWhole q i 0 (uuids found.locs) []) (sym added.answered.same_id) (subst (λ (ns : List (List ℕ)). HoldsWhole q added.id 0 ns []) (sym added.answered.nodes) new_whole)
+
+  pub new_front : StoresFront q grown_file.blocks found.b.block_id bytes []
+  new_front = subst (λ (i : ℕ). StoresFront q grown_file.blocks i bytes []) (sym added.answered.same_id) grown_front
+
+-- the first block of a file
+module _ (p q : Picture) (sound : IsSound p) (path : List ℕ) (file : FileEntry) (is : IsFileAt p path file) (none : file.blocks ≡ []) where
+  pub first_retried : (last : ℕ) → IsRetried p.table file.blocks None last → ⊥
+  first_retried last again = absurd (omega (arith, ap length (sym again.last ∙ none), length-append again.front (last ∷ [])))
+
+  -- is a new one
+  pub first_new : (found : LocatedBlock) → AddsBlock path file None found p q → AddsNew path file None found p q
+  first_new found adds = ⊎_elim (λ again. absurd (first_retried again.id again.retried)) (λ added. added) adds
+
+  pub first_stored : (bytes : List ℕ) → bytes ≡ [] → ((other : ℕ) → Contains file.blocks other → q.table other ≡ with_length p.table None other) → StoresBlocks q file.blocks bytes
+  first_stored bytes empty table = subst (λ (ids : List ℕ). StoresBlocks q ids bytes) (sym none) empty
+
+-- a block behind the last one, and the end of a file
+module _ (p q : Picture) (sound : IsSound p) (path : List ℕ) (file : FileEntry) (is : IsFileAt p path file) (id n : ℕ) (bytes : List ℕ) (block : Block) (named : block.block_id ≡ id) (length_named : block.num_bytes ≡ n)
+    (tail : TailCarries p path file.blocks (Finished id n) bytes) where
+  abbrev whole : HoldsWhole p id n tail.2.0 tail.0
+  whole = tail.2.1
+
+  apart_front : (other : ℕ) → Contains tail.1.front other → other ≢ id
+  apart_front other there = not_twice p sound path file is tail.1.front id tail.1.ends other there
+
+  pub length_other : (other : ℕ) → other ≢ id → with_length p.table (Some block) other ≡ p.table other
+  length_other other apart = ⊎_elim (λ here. absurd (apart (sym here.0 ∙ named))) (λ away. away.1) (at_id block.block_id other (option_map (of_length block.num_bytes) (p.table other)) (p.table other))
+
+  pub length_own : with_length p.table (Some block) id ≡ Some (of_length n whole.entry)
+  length_own = ⊎_elim
+      (λ here. here.1 ∙ ap (option_map (of_length block.num_bytes)) whole.is ∙ ap (λ (k : ℕ). Some (of_length k whole.entry)) length_named)
+      (λ away. absurd (away.0 named))
+      (at_id block.block_id id (option_map (of_length block.num_bytes) (p.table id)) (p.table id))
+
+  is_last : Contains file.blocks id
+  is_last = subst (λ (l : List ℕ). Contains l id) (sym tail.1.ends) (contains_last tail.1.front id)
+
+  -- with the length set, all blocks so far store all bytes so far
+  pub all_stored : ((other : ℕ) → Contains file.blocks other → q.table other ≡ with_length p.table (Some block) other) → ((node : List ℕ) (other : ℕ) → q.held node other ≡ p.held node other) → StoresBlocks q file.blocks bytes
+  all_stored table held =
+      let stored : StoresBlocks q tail.1.front tail.1.before = stores_keeps p q tail.1.front tail.1.before
+      (λ other there. (
+        table other (subst (λ (l : List ℕ). Contains l other) (sym tail.1.ends) (contains_left tail.1.front (id ∷ []) other there)) ∙ length_other other (apart_front other there),
+        λ node. held node other,
+      )) tail.1.stored in
+      subst (λ (l : List ℕ). StoresBlocks q l bytes) (sym tail.1.ends)
+      (subst (StoresBlocks q (tail.1.front ++ id ∷ [])) (sym tail.1.cut)
+      (stores_push q tail.1.front tail.1.before id (of_length n whole.entry) tail.0 stored (table id is_last ∙ length_own)
+      (block_stays p q id (of_length n whole.entry) tail.0 (λ node. held node id) whole.stores)))
+
+  -- the length of no other file's block is set
+  pub length_away : (other : ℕ) → (Contains file.blocks other → ⊥) → with_length p.table (Some block) other ≡ p.table other
+  length_away other away = length_other other (λ same. away (subst (Contains file.blocks) (sym same) is_last))
+
+  -- the named block is one of the file's, and its last one
+  pub has_last : Contains file.blocks block.block_id
+  has_last = subst (Contains file.blocks) (sym named) is_last
+
+  pub ends_in_last : IsLast file.blocks (Some block)
+  ends_in_last = (tail.1.front, tail.1.ends ∙ ap (λ (i : ℕ). tail.1.front ++ i ∷ []) (sym named))
+
+  -- the closed file agrees with what its writer carried
+  pub completes_agrees : (content : Content) → content.bytes ≡ bytes → file.attributes ≡ content.attributes → file.is_open ≡ true → Completes path file (Some block) p q → AgreesAt q (q.names path) (Some (File content))
+  completes_agrees content same attributes still done =
+      let changes : Changes p q (with_entry p.names path (record file { is_open = false })) (with_length p.table (Some block)) = subst (λ (b : Bool). ClosesIf b path file (Some block) p q) still done.1 in
+      subst (λ (e : Option Entry). AgreesAt q e (Some (File content))) (sym (named_after p q path (record file { is_open = false }) (with_length p.table (Some block)) changes)) (
+        refl,
+        attributes,
+        subst (StoresBlocks q file.blocks) (sym same) (all_stored (λ other there. changes.table other) changes.bytes.held),
+      )
+
+  -- the last block isn't given again: what is named is the last one itself
+  pub never_again : (last : ℕ) → IsRetried p.table file.blocks (Some block) last → ⊥
+  never_again last again =
+      let same : last ≡ id = push_same file.blocks again.front tail.1.front last id again.last tail.1.ends in
+      let there : Contains again.front block.block_id = subst (λ (l : List ℕ). Contains l block.block_id) (sym again.behind.1) (contains_last again.behind.0 block.block_id) in
+      not_twice p sound path file is again.front last again.last block.block_id there (named ∙ sym same)
+
+  pub behind_new : (found : LocatedBlock) → AddsBlock path file (Some block) found p q → AddsNew path file (Some block) found p q
+  behind_new found adds = ⊎_elim (λ again. absurd (never_again again.id again.retried)) (λ added. added) adds

@@ -1,0 +1,289 @@
+-- How a writer of a file stands behind each step, and what the step has done.
+use Rattle.std.proofs.Common.{◌≡◌, ⊎_elim, ℕ, ◌<◌, ◌≤◌, min, Bool, true, false, List, [], Option, Some, None, IsSome, refl, sym, ◌∙◌, ap, subst, arith}
+use Rattle.std.proofs.lemmas.Bool.{cases_lt, false≢true}
+use Rattle.std.specs.Prelude.{Ok, Err, IfSome}
+use Rattle.hdfs_cluster.specs.declared.asks.Answer.TheVariants as answers
+use Rattle.hdfs_cluster.specs.declared.asks.Ask.TheVariants as asks
+use Rattle.hdfs_cluster.specs.declared.asks.LinkFault.{LinkFault}
+use Rattle.hdfs_cluster.specs.declared.errors.HdfsError.{HdfsError}
+use Rattle.hdfs_cluster.specs.declared.errors.HdfsError.TheVariants as errors
+use Rattle.hdfs_cluster.specs.declared.messages.Block.{Block}
+use Rattle.hdfs_cluster.specs.declared.messages.LocatedBlock.{LocatedBlock}
+use Rattle.hdfs_cluster.specs.declared.messages.Setup.{Setup}
+use Rattle.hdfs_cluster.specs.Namenode.{IsToWrite}
+use Rattle.hdfs_cluster.specs.Pipes.{WriteNotOpened}
+use Rattle.hdfs_cluster.specs.Shown.{SameNodes, Shown}
+use Rattle.hdfs_cluster.specs.Sound.{IsSound}
+use Rattle.hdfs_rebuild.specs.declared.block_plan.BlockPipeline.{BlockPipeline}
+use Rattle.hdfs_rebuild.specs.declared.block_plan.RebuildSettings.{RebuildSettings}
+use Rattle.hdfs_rebuild.specs.declared.block_plan.WriteFault.{WriteFault}
+use Rattle.hdfs_block_writer.specs.declared.block_writer.BlockWriter.{BlockWriter}
+use Rattle.hdfs_block_writer.specs.BlockWriters.{length_of, size_of, link_of as block_link, link_in, Stands as StandsItself}
+use Rattle.hdfs_block_writer.specs.Written.{Closes, GaveUp, IsCarrying, LetsGo, OpensNone, Wrote as BlockWrote, IsNew, OpensLink, BeginsWhole, fault_of}
+use Rattle.hdfs_file_writer.specs.declared.file_writer.FileWriter.{FileWriter}
+use Rattle.hdfs_file_writer.specs.declared.sizes.WriteSizes.{WriteSizes}
+use Rattle.hdfs_file_writer.specs.Faults.{error_of}
+use Rattle.hdfs_file_writer.specs.Tails.{IsFull}
+use Rattle.hdfs_file_writer.specs.Writers.{AreLimited, ArePackets, AreSizes, plan_of, link_of, link_by, tail_by, tail_of, Keeps, Stands, IsBetweenBlocks, HasRoom, BlockStands, OnlyOwnLink, Wrote, Adds, FailsOtherwise}
+use Rattle.hdfs_namenode.specs.Relaying.{Came}
+use Rattle.hdfs_file_writer.proofs.Moving.{own_link_refl, own_link_left, own_link_opened, own_link_unopened, only_file_refl}
+use Rattle.hdfs_file_writer.proofs.Placing.{some_none}
+use Rattle.hdfs_file_writer.proofs.Steps.{Shows, ended_carries, gave_up_touches, gave_up_cause, unopened_cause, wrote_carries, added_carries, opened_carries, settled_carries, unopened_touches, unopened_tells, unopened_apart, unanswered_touches, unanswered_rose}
+use Rattle.hdfs_file_writer.proofs.Telling.{tells_asked, apart_asked, tells_fault, apart_fault, asked_cause}
+
+-- there was no memory before anything was done
+pub starved_fails : (a : Shown) (w : FileWriter) → link_of w ≡ None → FailsOtherwise a w errors.NoMemory a
+starved_fails a w idle = record {
+  fails = record {
+    own = subst (λ (x : Option ℕ). OnlyOwnLink a x a None) (sym idle) (own_link_refl a None);
+    tells = (tt, (tt, tt));
+    refused = λ refusal. absurd refusal;
+    touches = λ p bytes told c. (p, told, only_file_refl w.path p);
+    cause = λ p bytes told c. tt;
+  };
+  apart = λ refusal. refusal;
+}
+
+-- the writer of a block that hasn't failed has a pipeline
+has_pipe : (block : BlockWriter) → IsSome (block_link block) → (pipe : BlockPipeline) × (block.pipe ≡ Some pipe)
+has_pipe block some = by_pipe block.pipe refl some
+  where
+    by_pipe : (o : Option BlockPipeline) → block.pipe ≡ o → IsSome (link_in o) → (pipe : BlockPipeline) × (block.pipe ≡ Some pipe)
+    by_pipe None is there = absurd (false≢true there)
+    by_pipe (Some pipe) is there = (pipe, is)
+
+-- a block has no more bytes than it may have
+pub within_size : (shown : Shown) (block : BlockWriter) → StandsItself shown block → IsSome (block_link block) → length_of block ≤ size_of block
+within_size shown block stands some = (let pipe = has_pipe block some in (stands pipe.0 pipe.1).0.within.0)
+
+-- the writer of a block that took bytes has a pipeline still
+still_open : (a b : Shown) (block block' : BlockWriter) (more : List ℕ) → BlockWrote a block more b block' → IsSome (block_link block) → IsSome (block_link block')
+still_open a b block block' more wrote some =
+    let pipe = has_pipe block some in
+    subst IsSome (sym (ap link_in (wrote.stays pipe.0 pipe.1).1)) refl
+
+module _ (a b : Shown) (sound : Shows IsSound a) (sound' : Shows IsSound b) (w : FileWriter) (block : BlockWriter) (going : w.going ≡ Some block) where
+  own_from : (x : Option ℕ) → OnlyOwnLink a (block_link block) b x → OnlyOwnLink a (link_of w) b x
+  own_from x own = subst (λ (g : Option BlockWriter). OnlyOwnLink a (link_by g) b x) (sym going) own
+
+  -- its block was ended
+  pub ended_wrote : (w' : FileWriter) → Keeps w w' → IsBetweenBlocks w' → (named : Block) → w'.last ≡ Some named → Closes a block named b → Wrote a w [] b w'
+  ended_wrote w' keeps between named last closes = record {
+    keeps = keeps;
+    own = subst (λ (g : Option BlockWriter). OnlyOwnLink a (link_of w) b (link_by g)) (sym between.none) (own_from None closes.2.own);
+    carries = ended_carries a b sound sound' w block going w' between named last closes;
+  }
+
+  -- its block was given up
+  pub gave_up_fails : IsSome (block_link block) → block.settings ≡ w.sizes.rebuilding
+      → (fault : WriteFault) → GaveUp a block fault b → FailsOtherwise a w (error_of fault) b
+  gave_up_fails some same fault gave =
+      let pipe = has_pipe block some in
+      let gives = gave pipe.0 pipe.1 in
+      record {
+        fails = record {
+          own = own_from None (subst (λ (x : Option ℕ). OnlyOwnLink a x b None) (sym (ap link_in pipe.1)) gives.own);
+          tells = tells_fault a b block.settings pipe.0.plan (IsCarrying block) fault gives.cause;
+          refused = λ refusal. absurd (apart_fault a b block.settings pipe.0.plan (IsCarrying block) fault gives.cause refusal);
+          touches = gave_up_touches a b sound sound' w block going fault gave;
+          cause = λ p bytes told c. gave_up_cause a b sound sound' w block going same fault gave p bytes told c;
+        };
+        apart = apart_fault a b block.settings pipe.0.plan (IsCarrying block) fault gives.cause;
+      }
+
+  -- its block is no longer than a block of the file
+  more_within : (block' : BlockWriter) (more : List ℕ) → Stands a w → w.failed ≡ false → BlockWrote a block more b block'
+      → StandsItself b block' → length_of block' ≤ w.sizes.block_size
+  more_within block' more stands fine wrote itself =
+      let within = within_size b block' itself (still_open a b block block' more wrote (stands.is_open fine block going)) in
+      omega (arith, within, wrote.keeps.block_size, (stands.going block going).size)
+
+  -- more bytes went into its block
+  pub more_wrote : (w' : FileWriter) (block' : BlockWriter) (more : List ℕ) → Stands a w → w.failed ≡ false → Keeps w w'
+      → w'.going ≡ Some block' → BlockWrote a block more b block' → StandsItself b block' → Wrote a w more b w'
+  more_wrote w' block' more stands fine keeps going' wrote itself = record {
+    keeps = keeps;
+    own = own_from (link_of w') (subst (λ (g : Option BlockWriter). OnlyOwnLink a (block_link block) b (link_by g)) (sym going') wrote.own);
+    carries = wrote_carries a b sound sound' w block going w' block' more going' (more_within block' more stands fine wrote itself) wrote;
+  }
+
+  pub more_stands : (w' : FileWriter) (block' : BlockWriter) (more : List ℕ) → Stands a w → w.failed ≡ false → w'.failed ≡ false → Keeps w w' → w'.going ≡ Some block' → w'.reopened ≡ w.reopened → BlockWrote a block more b block' → StandsItself b block' → Stands b w'
+  more_stands w' block' more stands fine fine' keeps going' rest wrote itself = record {
+    packets = subst (λ (s : WriteSizes). ArePackets s) (sym keeps.sizes) stands.packets;
+    going = λ other is.
+        (let same : block' ≡ other = cc (going', is) in
+        subst (λ (x : BlockWriter). BlockStands b w'.sizes x) same (record {
+          limited = subst (λ (s : WriteSizes). AreLimited s) (sym keeps.sizes) (stands.going block going).limited;
+          stands = itself;
+          size = wrote.keeps.block_size ∙ (stands.going block going).size ∙ ap (λ (s : WriteSizes). s.block_size) (sym keeps.sizes);
+          chunk = wrote.keeps.chunk ∙ (stands.going block going).chunk ∙ ap (λ (s : WriteSizes). s.chunk) (sym keeps.sizes);
+          packet_size = wrote.keeps.packet_size ∙ (stands.going block going).packet_size ∙ ap (λ (s : WriteSizes). s.packet_size) (sym keeps.sizes);
+          settings = wrote.keeps.settings ∙ (stands.going block going).settings ∙ ap (λ (s : WriteSizes). s.rebuilding) (sym keeps.sizes);
+          plain = ap (λ (s : WriteSizes). s.encrypted) keeps.sizes ∙ (stands.going block going).plain;
+        }));
+    is_open = λ fine'' other is.
+        (let same : block' ≡ other = cc (going', is) in
+        subst (λ (x : BlockWriter). IsSome (block_link x)) same (still_open a b block block' more wrote (stands.is_open fine block going)));
+    idle = λ failed. absurd (false≢true (sym fine' ∙ failed));
+    reopened = subst (λ (o : Option LocatedBlock). IfSome o IsToWrite) (sym rest) stands.reopened;
+    apart = λ some. (let none : w.going ≡ None = stands.apart (subst IsSome rest some) in absurd (cc (none, going)));
+    done = λ fine'' none. absurd (cc (none, going'));
+  }
+
+  -- it was let go
+  pub let_go_own : LetsGo a block b → OnlyOwnLink a (link_of w) b None
+  let_go_own gone = own_from None gone.own
+
+idle_own : (a x : Shown) (w : FileWriter) (y : Option ℕ) → w.going ≡ None → OnlyOwnLink a None x y → OnlyOwnLink a (link_of w) x y
+idle_own a x w y none own = subst (λ (g : Option BlockWriter). OnlyOwnLink a (link_by g) x y) (sym none) own
+
+-- a writer of a file that asks for a block
+module _ (a m : Shown) (sound : Shows IsSound a) (w : FileWriter) (between : IsBetweenBlocks w) (client : List ℕ) where
+  added_wrote : (found : LocatedBlock) → found.b.num_bytes ≡ 0 → IsFull w.sizes.block_size (tail_of w) → Came a (asks.AddBlock w.path client w.last [] w.file_id) (Ok (answers.AddBlock found)) m → Wrote a w [] m (record w { going = None; reopened = Some found })
+  added_wrote found empty full came = record {
+    keeps = record { path = refl; file_id = refl; sizes = refl };
+    own = idle_own a m w None between.none (own_link_left a m None came.relays.leaves);
+    carries = added_carries a m sound w between client found empty full came;
+  }
+
+  -- it has one more
+  pub answered_adds : (found : LocatedBlock) → IsFull w.sizes.block_size (tail_of w) → Came a (asks.AddBlock w.path client w.last [] w.file_id) (Ok (answers.AddBlock found)) m → Adds a w found m
+  answered_adds found full came = record {
+    block = came.relays.shaped.0;
+    empty = came.relays.shaped.1;
+    nodes = came.relays.leaves.nodes;
+    wrote = subst (λ (g : Option BlockWriter). Wrote a w [] m (record w { going = g; reopened = Some found })) (sym between.none)
+        (added_wrote found came.relays.shaped.1 full came);
+  }
+
+  -- or there was no answer
+  pub unanswered_fails : (error : HdfsError) → Came a (asks.AddBlock w.path client w.last [] w.file_id) (Err error) m → FailsOtherwise a w error m
+  unanswered_fails error came = record {
+    fails = record {
+      own = idle_own a m w None between.none (own_link_left a m None came.relays.leaves);
+      tells = tells_asked a m error came.relays.tells;
+      refused = λ refusal. absurd (apart_asked error came.relays.tells.0 refusal);
+      touches = unanswered_touches a m sound w between client error came;
+      cause = λ p bytes told c.
+          asked_cause w.sizes w.path a a m error came.relays.tells (λ some. unanswered_rose a m sound w between client error some came p bytes told c);
+    };
+    apart = apart_asked error came.relays.tells.0;
+  }
+
+-- a writer of a file that opens the pipeline of a block
+module _ (m b : Shown) (w : FileWriter) (found : LocatedBlock) (none : w.going ≡ None) (reopened : w.reopened ≡ Some found) where
+  pub opened_wrote : (w' : FileWriter) (block : BlockWriter) (created : Bool) (settings : RebuildSettings) (size packet : ℕ) (setup : Setup) → Keeps w w' → w'.going ≡ Some block → IsNew (plan_of w found created) settings size packet block
+      → OpensLink m setup block b → BeginsWhole m (plan_of w found created) block b → Wrote m w [] b w'
+  opened_wrote w' block created settings size packet setup keeps going' new opens begins = record {
+    keeps = keeps;
+    own = idle_own m b w (link_of w') none
+        (subst (λ (g : Option BlockWriter). OnlyOwnLink m None b (link_by g)) (sym going')
+        (own_link_opened m b setup opens.0 (block_link block) opens.1 opens.2));
+    carries = opened_carries m b w found none reopened w' block created settings size packet setup going' new opens begins;
+  }
+
+  not_opened_fails : (setup : Setup) (fault : LinkFault) → WriteNotOpened m setup fault b → FailsOtherwise m w (error_of (fault_of fault)) b
+  not_opened_fails setup fault not_opened = record {
+    fails = record {
+      own = idle_own m b w None none (own_link_unopened m b setup fault None not_opened);
+      tells = unopened_tells m b w found none reopened setup fault not_opened;
+      refused = λ refusal. absurd (unopened_apart fault refusal);
+      touches = unopened_touches m b w found none reopened setup fault not_opened;
+      cause = λ p bytes told c. unopened_cause w.sizes w.path m b fault;
+    };
+    apart = unopened_apart fault;
+  }
+
+  pub unopened_fails : (setup : Setup) (fault : WriteFault) → OpensNone m setup fault b → FailsOtherwise m w (error_of fault) b
+  unopened_fails setup fault opens = ⊎_elim
+      (λ starved.
+      subst (λ (f : WriteFault). FailsOtherwise m w (error_of f) b) (sym starved.0)
+      (subst (λ (x : Shown). FailsOtherwise m w errors.NoMemory x) (sym starved.1) (starved_fails m w (ap link_by none))))
+      (λ n. subst (λ (f : WriteFault). FailsOtherwise m w (error_of f) b) (sym n.1) (not_opened_fails setup n.0 n.2))
+      opens
+
+-- a block that isn't gone on with is done
+pub settled_wrote : (a : Shown) (w w' : FileWriter) (found : LocatedBlock) → Keeps w w' → w.going ≡ None → w.reopened ≡ Some found → IsBetweenBlocks w' → w'.last ≡ Some found.b → Wrote a w [] a w'
+settled_wrote a w w' found keeps none reopened between last = record {
+  keeps = keeps;
+  own = idle_own a a w (link_of w') none (subst (λ (g : Option BlockWriter). OnlyOwnLink a None a (link_by g)) (sym between.none) (own_link_refl a None));
+  carries = settled_carries a w w' found none reopened between last;
+}
+
+-- a writer of a file whose block was begun
+pub begun_stands : (b m : Shown) (w w' : FileWriter) (block : BlockWriter) (found : LocatedBlock) (created : Bool) (setup : Setup) → AreSizes w.sizes → w.sizes.encrypted ≡ false → w'.failed ≡ false → w'.sizes ≡ w.sizes → w'.going ≡ Some block → w'.reopened ≡ None
+    → StandsItself b block → IsNew (plan_of w found created) w.sizes.rebuilding w.sizes.block_size w.sizes.packet_size block → OpensLink m setup block b → Stands b w'
+begun_stands b m w w' block found created setup sizes plain fine same going done itself new opens = record {
+  packets = subst (λ (s : WriteSizes). ArePackets s) (sym same) sizes.packets;
+  going = λ other is.
+      (let one : block ≡ other = cc (going, is) in
+      subst (λ (x : BlockWriter). BlockStands b w'.sizes x) one (record {
+        limited = subst (λ (s : WriteSizes). AreLimited s) (sym same) sizes.limited;
+        stands = itself;
+        size = new.block_size ∙ ap (λ (s : WriteSizes). s.block_size) (sym same);
+        chunk = new.chunk ∙ ap (λ (s : WriteSizes). s.chunk) (sym same);
+        packet_size = new.packet_size ∙ ap (λ (s : WriteSizes). s.packet_size) (sym same);
+        settings = new.with ∙ ap (λ (s : WriteSizes). s.rebuilding) (sym same);
+        plain = ap (λ (s : WriteSizes). s.encrypted) same ∙ plain;
+      }));
+  is_open = λ fine' other is.
+      (let one : block ≡ other = cc (going, is) in
+      subst (λ (x : BlockWriter). IsSome (block_link x)) one (subst IsSome (sym opens.1) refl));
+  idle = λ failed. absurd (false≢true (sym fine ∙ failed));
+  reopened = subst (λ (o : Option LocatedBlock). IfSome o IsToWrite) (sym done) tt;
+  apart = λ some. absurd (some_none w'.reopened some done);
+  done = λ fine' none. absurd (cc (none, going));
+}
+
+-- A writer that stands has filled its last block where it has no room in it, and none is to be gone on with that has room.
+pub full_without_room : (shown : Shown) (w : FileWriter) → Stands shown w → w.failed ≡ false → (HasRoom w → ⊥)
+    → IfSome w.reopened (λ located. w.sizes.block_size ≤ located.b.num_bytes) → IsFull w.sizes.block_size (tail_of w)
+full_without_room shown w stands fine never long = by_parts w.going w.reopened w.last refl refl refl
+  where
+    by_parts : (g : Option BlockWriter) (o : Option LocatedBlock) (l : Option Block) → w.going ≡ g → w.reopened ≡ o → w.last ≡ l
+        → IsFull w.sizes.block_size (tail_by g o l)
+    by_parts (Some block) o l going reopened last =
+        ⊎_elim
+        (λ less. absurd (never (block, going, λ same. absurd (omega (arith, less, same)))))
+        (λ full. omega (arith, full, (stands.going block going).size))
+        (cases_lt (length_of block) (size_of block))
+    by_parts None (Some located) l going reopened last =
+        subst (λ (x : Option LocatedBlock). IfSome x (λ found. w.sizes.block_size ≤ found.b.num_bytes)) reopened long
+    by_parts None None (Some block) going reopened last = absurd (let none : w.last ≡ None = stands.done fine going in cc (none, last))
+    by_parts None None None going reopened last = tt
+
+-- no datanode has failed where nothing was done
+pub same_nodes : (a b : Shown) → b ≡ a → SameNodes a b
+same_nodes a b same d = ap (λ (x : Shown). x.counts.nodes d) same
+
+-- no block is being written where data is to be encrypted
+pub encrypted_none : (shown : Shown) (w : FileWriter) → Stands shown w → w.sizes.encrypted ≡ true → w.going ≡ None
+encrypted_none shown w stands encrypted = by_going w.going refl
+  where
+    by_going : (g : Option BlockWriter) → w.going ≡ g → g ≡ None
+    by_going None is = refl
+    by_going (Some block) is = absurd (false≢true (sym (stands.going block is).plain ∙ encrypted))
+
+-- and none by a writer that hasn't failed and keeps no link
+pub idle_none : (shown : Shown) (w : FileWriter) → Stands shown w → w.failed ≡ false → link_of w ≡ None → w.going ≡ None
+idle_none shown w stands fine idle = by_going w.going refl idle
+  where
+    by_going : (g : Option BlockWriter) → w.going ≡ g → link_by g ≡ None → g ≡ None
+    by_going None is none = refl
+    by_going (Some block) is none = absurd (some_none (block_link block) (stands.is_open fine block is) none)
+
+-- the least of two that are some is some
+pub min_some : (n a b : ℕ) → n ≡ min a b → 0 < a → 0 < b → (0 < n) × (n ≤ a)
+min_some n a b is one two = (omega (arith, is, one, two), omega (arith, is))
+
+-- a writer that has failed keeps no link
+pub failed_stands : (shown shown' : Shown) (w w' : FileWriter) → Stands shown w → Keeps w w' → IsBetweenBlocks w' → w'.failed ≡ true → Stands shown' w'
+failed_stands shown shown' w w' stands keeps between failed = record {
+  packets = subst (λ (s : WriteSizes). ArePackets s) (sym keeps.sizes) stands.packets;
+  going = λ block is. absurd (let none : w'.going ≡ None = between.none in cc (none, is));
+  is_open = λ fine block is. absurd (let none : w'.going ≡ None = between.none in cc (none, is));
+  idle = λ is. ap link_by between.none;
+  reopened = subst (λ (o : Option LocatedBlock). IfSome o IsToWrite) (sym between.done) tt;
+  apart = λ some. between.none;
+  done = λ fine none. absurd (false≢true (sym fine ∙ failed));
+}

@@ -1,0 +1,117 @@
+-- What the faults of a writer of a block and of an ask tell for a writer of a file, and their causes.
+use Rattle.std.proofs.Common.{◌≡◌, ◌⊎◌, inl, inr, ℕ, ◌-◌, ◌<◌, List, [], ◌∷◌, ◌++◌, length, Some, subst}
+use Rattle.hdfs_cluster.specs.declared.errors.HdfsError.{HdfsError}
+use Rattle.hdfs_cluster.specs.declared.errors.HdfsError.TheVariants as errors
+use Rattle.hdfs_cluster.specs.declared.errors.IoFault.TheVariants as io_faults
+use Rattle.hdfs_cluster.specs.declared.picture.BlockEntry.{BlockEntry}
+use Rattle.hdfs_cluster.specs.declared.picture.FileEntry.{FileEntry}
+use Rattle.hdfs_cluster.specs.Failures.{CallsRose, IsOfAsk}
+use Rattle.hdfs_cluster.specs.Lost.{LastBlockAt, PipelineFailed, SomeListedFailed}
+use Rattle.hdfs_cluster.specs.Counts.{Rose}
+use Rattle.hdfs_cluster.specs.Picture.{Picture}
+use Rattle.hdfs_cluster.specs.Shown.{Shown}
+use Rattle.hdfs_cluster.specs.Sound.{IsFileAt}
+use Rattle.hdfs_namenode.specs.Relaying.{TellsAsk}
+use Rattle.hdfs_rebuild.specs.declared.block_plan.BlockPlan.{BlockPlan}
+use Rattle.hdfs_rebuild.specs.declared.block_plan.RebuildSettings.{RebuildSettings}
+use Rattle.hdfs_rebuild.specs.declared.block_plan.WriteFault.{WriteFault}
+use Rattle.hdfs_rebuild.specs.declared.block_plan.WriteFault.TheVariants as faults
+use Rattle.hdfs_rebuild.specs.Between.{HasLastError}
+use Rattle.hdfs_block_writer.specs.OpenPipelines.{AllListedFail, HasCause, ListedFails, NamenodeFails}
+use Rattle.hdfs_block_writer.proofs.Failures.{some_fails}
+use Rattle.hdfs_file_writer.specs.declared.sizes.WriteSizes.{WriteSizes}
+use Rattle.hdfs_file_writer.specs.Failing.{TellsWrite, CauseOfWrite, IsNoRefusal, IsOfWrite}
+use Rattle.hdfs_file_writer.specs.Faults.{error_of}
+
+-- an error of an ask is one of a writer
+of_ask : (error : HdfsError) → IsOfAsk error → IsOfWrite error
+of_ask (errors.IOError io_faults.Link) of = absurd of
+of_ask (errors.DataTransferError fault) of = absurd of
+of_ask (errors.UnsupportedFeature feature) of = absurd of
+of_ask error of = of
+
+-- as it is told
+pub tells_asked : (a b : Shown) (error : HdfsError) → TellsAsk a b error → TellsWrite a b error
+tells_asked a b error tells = (of_ask error tells.0, tells.1)
+
+-- it is none for encryption
+pub apart_asked : (error : HdfsError) → IsOfAsk error → IsNoRefusal error
+apart_asked (errors.UnsupportedFeature feature) of refusal = of
+apart_asked error of refusal = refusal
+
+-- and where it has its cause, from an earlier call on
+pub asked_cause : (sizes : WriteSizes) (path : List ℕ) (a b c : Shown) (error : HdfsError) → TellsAsk b c error
+    → ((error ≡ errors.NoMemory → ⊥) → CallsRose a.counts c) → CauseOfWrite sizes path a c error
+asked_cause sizes path a b c errors.NoMemory tells rose = tt
+asked_cause sizes path a b c (errors.AlreadyExists message) tells rose = rose (λ same. absurd (cc same))
+asked_cause sizes path a b c (errors.RPCError class message) tells rose = rose (λ same. absurd (cc same))
+asked_cause sizes path a b c (errors.IOError fault) tells rose = tt
+asked_cause sizes path a b c (errors.InvalidRPCResponse fault) tells rose = tt
+asked_cause sizes path a b c (errors.FatalRPCError class message) tells rose = tt
+asked_cause sizes path a b c error tells rose = absurd tells.0
+
+-- what a fault tells by its cause
+pub tells_fault : (a b : Shown) (settings : RebuildSettings) (plan : BlockPlan) (W : Picture → Type 0) (fault : WriteFault)
+    → HasCause settings plan W a fault b → TellsWrite a b (error_of fault)
+tells_fault a b settings plan W faults.NoMemory cause = (tt, (tt, tt))
+tells_fault a b settings plan W faults.Failed cause = absurd cause
+tells_fault a b settings plan W faults.Link cause = (tt, (tt, cause.1))
+tells_fault a b settings plan W faults.Setup cause = (tt, (tt, cause.1))
+tells_fault a b settings plan W (faults.BadAck seqno) cause = (tt, (tt, cause))
+tells_fault a b settings plan W faults.AllNodes cause = (tt, (tt, cause.0))
+tells_fault a b settings plan W faults.NoReplacement cause = (tt, (tt, cause.1))
+tells_fault a b settings plan W (faults.RebuildLimit rebuilds) cause = (tt, (tt, some_fails (settings.rebuild_limit - plan.rebuilds) a b cause.1))
+tells_fault a b settings plan W (faults.Namenode error) cause = tells_asked a b error cause.1
+
+-- and none is for encryption
+pub apart_fault : (a b : Shown) (settings : RebuildSettings) (plan : BlockPlan) (W : Picture → Type 0) (fault : WriteFault)
+    → HasCause settings plan W a fault b → IsNoRefusal (error_of fault)
+apart_fault a b settings plan W (faults.Namenode error) cause = apart_asked error cause.1.0
+apart_fault a b settings plan W fault cause = λ refusal. refusal
+
+-- A block was given up over a picture, and is the last one of the file at a path still.
+module _ (a b : Shown) (path : List ℕ) (file : FileEntry) (front : List ℕ) (plan : BlockPlan) (ends : file.blocks ≡ front ++ plan.block.b.block_id ∷ []) (q : Picture)
+    (told' : b.picture ≡ Some q) (named : IsFileAt q path file) (W : Picture → Type 0) (p : Picture) (told : a.picture ≡ Some p) (w : W p) where
+  -- the file's last block, by its entry in the same picture
+  of_last : (r : Picture) (entry : BlockEntry) → b.picture ≡ Some r → r.table plan.block.b.block_id ≡ Some entry → LastBlockAt b path
+  of_last r entry is at =
+      let same : r ≡ q = cc (is, told') in
+      record {
+        picture = q;
+        told = told';
+        file = file;
+        named = named;
+        front = front;
+        id = plan.block.b.block_id;
+        last = ends;
+        entry = entry;
+        is = subst (λ (x : Picture). x.table plan.block.b.block_id ≡ Some entry) same at;
+      }
+
+  -- a datanode has failed that is listed for it
+  listed_failed : ListedFails W plan.block.b.block_id a b → SomeListedFailed a.counts b path
+  unfolding of_last
+  listed_failed fails = let f = fails p told w in (of_last f.0 f.1 f.2 f.3, f.4)
+
+  -- all have
+  all_failed : AllListedFail W plan.block.b.block_id a b → PipelineFailed a.counts b path
+  unfolding of_last
+  all_failed fails = let f = fails p told w in (of_last f.0 f.1 f.2 f.3, f.4, f.5)
+
+  -- the links have failed, or a namenode
+  help_failed : Rose a.counts.links b.counts.links ⊎ (NamenodeFails W a b × HasLastError a b) → Rose a.counts.links b.counts.links ⊎ CallsRose a.counts b
+  help_failed (inl links) = inl links
+  help_failed (inr namenode) = inr (namenode.0 p told w)
+
+  -- it was for this cause
+  pub fault_cause : (sizes : WriteSizes) (fault : WriteFault) → HasCause sizes.rebuilding plan W a fault b → CauseOfWrite sizes path a b (error_of fault)
+  fault_cause sizes faults.NoMemory cause = tt
+  fault_cause sizes faults.Failed cause = tt
+  fault_cause sizes faults.Link cause = tt
+  fault_cause sizes faults.Setup cause = tt
+  fault_cause sizes (faults.BadAck seqno) cause = tt
+  fault_cause sizes faults.AllNodes cause = all_failed cause.1
+  fault_cause sizes faults.NoReplacement cause = (cause.0, help_failed cause.2, listed_failed cause.3)
+  fault_cause sizes (faults.RebuildLimit rebuilds) cause = (cause.0, listed_failed cause.2)
+  fault_cause sizes (faults.Namenode error) cause =
+      asked_cause sizes path a a b error cause.1 (λ some. cause.3 p told w)

@@ -1,0 +1,42 @@
+-- The goals of FileWriter::end.
+use Rattle.std.proofs.Common.{[], ap, subst}
+use Rattle.hdfs_cluster.specs.Shown.{SameNodes, Shown}
+use Rattle.hdfs_namenode.specs.Clients.{proxy_of}
+use Rattle.hdfs_namenode.proofs.Services.{reaches_later}
+use Rattle.hdfs_file_writer.proofs.Joining.{closed_after, fails_to_close, fails_to_close_after}
+use Rattle.hdfs_file_writer.proofs.Standing.{idle_none, same_nodes}
+use Rattle.hdfs_file_writer.proofs.file_writer.FileWriter.end.Goals as goal
+
+pub returns-in-Err-clause-err : goal.returns-in-Err-clause-err
+returns-in-Err-clause-err g c = λ fine.
+    fails_to_close (g.C.Cluster.shown c.args.cluster.now) (g.C.Cluster.shown c.finish_block.new.cluster) c.args.self.now c.in-Err.error c.in-Err.ensures.err
+
+pub returns-in-Err-clause-idle : goal.returns-in-Err-clause-idle
+returns-in-Err-clause-idle g c = λ idle.
+    let none = idle_none (g.C.Cluster.shown c.args.cluster.now) c.args.self.now c.requires.stands c.if-self.false idle in
+    same_nodes (g.C.Cluster.shown c.args.cluster.now) (g.C.Cluster.shown c.finish_block.new.cluster) (ap g.C.Cluster.shown (c.finish_block.ensures.idle none))
+
+pub returns-in-Ok-complete-clause-idle : goal.returns-in-Ok-complete-clause-idle
+returns-in-Ok-complete-clause-idle g c = λ idle.
+    let none = idle_none (g.C.Cluster.shown c.args.cluster.now) c.args.self.now c.requires.stands c.if-self.false idle in
+    subst (λ (s : Shown). SameNodes s (g.C.Cluster.shown c.complete.new.cluster)) (ap g.C.Cluster.shown (c.finish_block.ensures.idle none)) c.complete.ensures.nodes
+
+pub returns-in-Err-complete-clause-idle : goal.returns-in-Err-complete-clause-idle
+returns-in-Err-complete-clause-idle g c = λ idle.
+    let none = idle_none (g.C.Cluster.shown c.args.cluster.now) c.args.self.now c.requires.stands c.if-self.false idle in
+    subst (λ (s : Shown). SameNodes s (g.C.Cluster.shown c.complete.new.cluster)) (ap g.C.Cluster.shown (c.finish_block.ensures.idle none)) c.complete.ensures.nodes
+
+pub complete-requires-clause-reaches : goal.complete-requires-clause-reaches
+complete-requires-clause-reaches g c =
+    reaches_later (proxy_of c.args.namenode.now) (proxy_of c.finish_block.new.namenode) (g.C.Cluster.shown c.args.cluster.now) (g.C.Cluster.shown c.finish_block.new.cluster)
+    c.finish_block.ensures.keeps.2.service c.in-Ok.ensures.wrote.own.later c.requires.reaches
+
+pub returns-in-Ok-complete-clause-closed : goal.returns-in-Ok-complete-clause-closed
+returns-in-Ok-complete-clause-closed g c =
+    closed_after (g.C.Cluster.shown c.args.cluster.now) (g.C.Cluster.shown c.finish_block.new.cluster) (g.C.Cluster.shown c.complete.new.cluster)
+    c.args.self.now c.finish_block.new.self c.in-Ok.ensures.wrote c.in-Ok-complete.ensures.closed
+
+pub returns-in-Err-complete-clause-err : goal.returns-in-Err-complete-clause-err
+returns-in-Err-complete-clause-err g c = λ fine.
+    fails_to_close_after (g.C.Cluster.shown c.args.cluster.now) (g.C.Cluster.shown c.finish_block.new.cluster) (g.C.Cluster.shown c.complete.new.cluster)
+    c.args.self.now c.finish_block.new.self [] c.in-Err-complete.error c.in-Ok.ensures.wrote c.in-Err-complete.ensures.err

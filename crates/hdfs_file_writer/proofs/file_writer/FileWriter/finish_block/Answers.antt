@@ -1,0 +1,88 @@
+-- The goals of FileWriter::finish_block.
+use Rattle.std.proofs.Common.{◌≡◌, [], Option, None, Some, IsSome, sym, subst, refl, ◌∙◌, ap}
+use Rattle.hdfs_block_writer.specs.declared.block_writer.BlockWriter.{BlockWriter}
+use Rattle.hdfs_cluster.specs.declared.errors.HdfsError.{HdfsError}
+use Rattle.hdfs_cluster.specs.declared.messages.Block.{Block}
+use Rattle.hdfs_cluster.specs.declared.messages.LocatedBlock.{LocatedBlock}
+use Rattle.hdfs_file_writer.specs.Tails.{IsFull}
+use Rattle.hdfs_file_writer.specs.Writers.{tail_by, tail_of, IsBetweenBlocks, Wrote, FailsOtherwise}
+use Rattle.hdfs_file_writer.proofs.Filling.{settled_full, ended_full}
+use Rattle.hdfs_file_writer.proofs.Joining.{wrote_nothing}
+use Rattle.hdfs_file_writer.proofs.Standing.{ended_wrote, gave_up_fails, settled_wrote}
+use Rattle.hdfs_file_writer.proofs.file_writer.FileWriter.finish_block.Goals as goal
+
+pub returns-in-Some-clause-wrote : goal.returns-in-Some-clause-wrote
+returns-in-Some-clause-wrote g c =
+    let w = c.args.self.now in
+    let reopened : w.reopened ≡ Some c.in-Some.located = sym c.take.ensures.value ∙ c.in-Some.is in
+    let none : w.going ≡ None = c.requires.stands.apart (subst IsSome (sym reopened) refl) in
+    settled_wrote (g.C.Cluster.shown c.args.cluster.now) w (record w { last = Some c.in-Some.located.b; reopened = c.take.new.self }) c.in-Some.located
+    (record { path = refl; file_id = refl; sizes = refl }) none reopened (record { none = none; done = c.take.ensures.after }) refl
+
+pub returns-in-Some-clause-between : goal.returns-in-Some-clause-between
+returns-in-Some-clause-between g c =
+    let w = c.args.self.now in
+    let reopened : w.reopened ≡ Some c.in-Some.located = sym c.take.ensures.value ∙ c.in-Some.is in
+    let none : w.going ≡ None = c.requires.stands.apart (subst IsSome (sym reopened) refl) in
+    let between : IsBetweenBlocks (record w { last = Some c.in-Some.located.b; reopened = c.take.new.self }) =
+    record { none = none; done = c.take.ensures.after } in (
+      between,
+      settled_full w.sizes.block_size w (record w { last = Some c.in-Some.located.b; reopened = c.take.new.self }) c.in-Some.located
+          none reopened between refl,
+    )
+
+pub returns-in-None-take-clause-between : goal.returns-in-None-take-clause-between
+returns-in-None-take-clause-between g c =
+    let w = c.args.self.now in
+    let going : w.going ≡ c.take-2.new.self = sym c.take-2.ensures.value ∙ c.in-None-take.is ∙ sym c.take-2.ensures.after in
+    let reopened : w.reopened ≡ c.take.new.self = sym c.take.ensures.value ∙ c.in-None.is ∙ sym c.take.ensures.after in
+    let size = w.sizes.block_size in (
+      record { none = c.take-2.ensures.after; done = c.take.ensures.after },
+      subst (λ (o : Option LocatedBlock). IsFull size (tail_of w) → IsFull size (tail_by c.take-2.new.self o w.last)) reopened
+          (subst (λ (o : Option BlockWriter). IsFull size (tail_of w) → IsFull size (tail_by o w.reopened w.last)) going (λ full. full)),
+    )
+
+pub returns-in-None-take-clause-wrote : goal.returns-in-None-take-clause-wrote
+returns-in-None-take-clause-wrote g c =
+    let s = g.C.Cluster.shown c.args.cluster.now in
+    let w = c.args.self.now in
+    let going : w.going ≡ c.take-2.new.self = sym c.take-2.ensures.value ∙ c.in-None-take.is ∙ sym c.take-2.ensures.after in
+    let reopened : w.reopened ≡ c.take.new.self = sym c.take.ensures.value ∙ c.in-None.is ∙ sym c.take.ensures.after in
+    subst (λ (o : Option LocatedBlock). Wrote s w [] s (record w { going = c.take-2.new.self; reopened = o })) reopened
+    (subst (λ (o : Option BlockWriter). Wrote s w [] s (record w { going = o })) going (wrote_nothing s w))
+
+pub close-requires-clause-stands : goal.close-requires-clause-stands
+close-requires-clause-stands g c =
+    let going : c.args.self.now.going ≡ Some c.in-Some-take.block = sym c.take-2.ensures.value ∙ c.in-Some-take.is in
+    (c.requires.stands.going c.in-Some-take.block going).stands
+
+pub returns-in-Ok-clause-between : goal.returns-in-Ok-clause-between
+returns-in-Ok-clause-between g c =
+    let w = c.args.self.now in
+    let going : w.going ≡ Some c.in-Some-take.block = sym c.take-2.ensures.value ∙ c.in-Some-take.is in
+    let between : IsBetweenBlocks (record w { last = Some c.in-Ok.block; going = c.take-2.new.self; reopened = c.take.new.self }) =
+    record { none = c.take-2.ensures.after; done = c.take.ensures.after } in (
+      between,
+      ended_full w.sizes.block_size w (record w { last = Some c.in-Ok.block; going = c.take-2.new.self; reopened = c.take.new.self })
+          c.in-Some-take.block c.in-Ok.block going between refl
+          (ap (λ (b : Block). b.num_bytes) c.in-Ok.ensures.closed.1),
+    )
+
+pub returns-in-Ok-clause-wrote : goal.returns-in-Ok-clause-wrote
+returns-in-Ok-clause-wrote g c =
+    let w = c.args.self.now in
+    let going : w.going ≡ Some c.in-Some-take.block = sym c.take-2.ensures.value ∙ c.in-Some-take.is in
+    ended_wrote (g.C.Cluster.shown c.args.cluster.now) (g.C.Cluster.shown c.close.new.cluster) (g.met.C.Cluster.sound c.args.cluster.now) (g.met.C.Cluster.sound c.close.new.cluster) w c.in-Some-take.block going
+    (record w { last = Some c.in-Ok.block; going = c.take-2.new.self; reopened = c.take.new.self })
+    (record { path = refl; file_id = refl; sizes = refl }) (record { none = c.take-2.ensures.after; done = c.take.ensures.after }) c.in-Ok.block refl c.in-Ok.ensures.closed
+
+pub returns-in-Err-clause-err : goal.returns-in-Err-clause-err
+returns-in-Err-clause-err g c =
+    let s = g.C.Cluster.shown c.args.cluster.now in
+    let t = g.C.Cluster.shown c.close.new.cluster in
+    let w = c.args.self.now in
+    let block = c.in-Some-take.block in
+    let going : w.going ≡ Some block = sym c.take-2.ensures.value ∙ c.in-Some-take.is in
+    subst (λ (e : HdfsError). FailsOtherwise s w e t) (sym c.error_of.ensures)
+    (gave_up_fails s t (g.met.C.Cluster.sound c.args.cluster.now) (g.met.C.Cluster.sound c.close.new.cluster) w block going (c.requires.stands.is_open c.requires.fine block going)
+    (c.requires.stands.going block going).settings c.in-Err.fault c.in-Err.ensures.err)

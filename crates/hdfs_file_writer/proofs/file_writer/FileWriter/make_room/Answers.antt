@@ -1,0 +1,46 @@
+-- The goals of FileWriter::make_room.
+use Rattle.std.proofs.Common.{[], sym, ◌∙◌, subst}
+use Rattle.std.proofs.lemmas.Bool.{false≢true}
+use Rattle.hdfs_namenode.specs.Clients.{proxy_of}
+use Rattle.hdfs_namenode.proofs.Services.{reaches_later}
+use Rattle.hdfs_file_writer.specs.declared.file_writer.FileWriter.{FileWriter}
+use Rattle.hdfs_file_writer.specs.declared.sizes.WriteSizes.{WriteSizes}
+use Rattle.hdfs_file_writer.specs.Tails.{IsFull}
+use Rattle.hdfs_file_writer.specs.Writers.{HasRoom, tail_of, Wrote}
+use Rattle.hdfs_file_writer.proofs.Joining.{wrote_nothing, wrote_trans, fails_after}
+use Rattle.hdfs_file_writer.proofs.Standing.{full_without_room}
+use Rattle.hdfs_file_writer.proofs.file_writer.FileWriter.make_room.Goals as goal
+
+pub returns-then-has_room-clause-wrote : goal.returns-then-has_room-clause-wrote
+returns-then-has_room-clause-wrote g c = wrote_nothing (g.C.Cluster.shown c.args.cluster.now) c.args.self.now
+
+pub begin_block-requires-clause-full : goal.begin_block-requires-clause-full
+begin_block-requires-clause-full g c =
+    let s = g.C.Cluster.shown c.args.cluster.now in
+    let w = c.args.self.now in
+    let same = c.take_reopened.ensures.none c.in-None.is in
+    let none : HasRoom w → ⊥ = λ room. false≢true (sym c.if-has_room.false ∙ c.has_room.ensures.1 room) in
+    let full = full_without_room s w c.requires.works.stands c.requires.works.fine none (c.take_reopened.ensures.full c.in-None.is) in
+    subst (λ (z : WriteSizes). IsFull z.block_size (tail_of c.finish_block.new.self)) (sym c.finish_block.ensures.keeps.0.sizes)
+    (c.in-Ok-finish_block.ensures.between.1 (subst (λ (x : FileWriter). IsFull x.sizes.block_size (tail_of x)) (sym same) full))
+
+pub begin_block-requires-clause-reaches : goal.begin_block-requires-clause-reaches
+begin_block-requires-clause-reaches g c =
+    reaches_later (proxy_of c.args.namenode.now) (proxy_of c.finish_block.new.namenode) (g.C.Cluster.shown c.args.cluster.now) (g.C.Cluster.shown c.finish_block.new.cluster)
+    c.finish_block.ensures.keeps.2.service c.in-Ok-finish_block.ensures.wrote.own.later c.requires.reaches
+
+pub returns-in-Ok-begin_block-clause-wrote : goal.returns-in-Ok-begin_block-clause-wrote
+returns-in-Ok-begin_block-clause-wrote g c =
+    let s = g.C.Cluster.shown c.args.cluster.now in
+    let m = g.C.Cluster.shown c.finish_block.new.cluster in
+    let same = c.take_reopened.ensures.none c.in-None.is in
+    wrote_trans s m (g.C.Cluster.shown c.begin_block.new.cluster) c.args.self.now c.finish_block.new.self c.begin_block.new.self [] []
+    (subst (λ (w : FileWriter). Wrote s w [] m c.finish_block.new.self) same c.in-Ok-finish_block.ensures.wrote) c.in-Ok-begin_block.ensures.wrote
+
+pub returns-in-Err-begin_block-clause-err : goal.returns-in-Err-begin_block-clause-err
+returns-in-Err-begin_block-clause-err g c =
+    let s = g.C.Cluster.shown c.args.cluster.now in
+    let m = g.C.Cluster.shown c.finish_block.new.cluster in
+    let same = c.take_reopened.ensures.none c.in-None.is in
+    fails_after s m (g.C.Cluster.shown c.begin_block.new.cluster) c.args.self.now c.finish_block.new.self [] c.in-Err-begin_block.error
+    (subst (λ (w : FileWriter). Wrote s w [] m c.finish_block.new.self) same c.in-Ok-finish_block.ensures.wrote) c.in-Err-begin_block.ensures.err

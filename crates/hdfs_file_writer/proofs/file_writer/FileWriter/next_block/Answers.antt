@@ -1,0 +1,22 @@
+-- The goals of FileWriter::next_block.
+use Rattle.std.proofs.Common.{refl}
+use Rattle.hdfs_namenode.specs.Clients.{name_of, proxy_of}
+use Rattle.hdfs_namenode.proofs.Relayed.{came_as}
+use Rattle.hdfs_namenode.proofs.Services.{reaches_service}
+use Rattle.hdfs_file_writer.proofs.Standing.{answered_adds, unanswered_fails}
+use Rattle.hdfs_file_writer.proofs.file_writer.FileWriter.next_block.Goals as goal
+
+pub add_block-requires : goal.add_block-requires
+add_block-requires g c = reaches_service (proxy_of c.args.namenode.now) (g.C.Cluster.shown c.args.cluster.now) c.requires.reaches
+
+pub returns-in-Err-clause-err : goal.returns-in-Err-clause-err
+returns-in-Err-clause-err g c =
+    unanswered_fails (g.C.Cluster.shown c.args.cluster.now) (g.C.Cluster.shown c.add_block.new.cluster) (g.met.C.Cluster.sound c.args.cluster.now)
+    c.args.self.now c.requires.between (name_of c.args.namenode.now) c.in-Err.error
+    (came_as (cc (c.as_str.ensures, c.as_ref.ensures.value)) refl (c.in-Err.ensures.came c.requires.reaches))
+
+pub returns-in-Ok-clause-adds : goal.returns-in-Ok-clause-adds
+returns-in-Ok-clause-adds g c =
+    answered_adds (g.C.Cluster.shown c.args.cluster.now) (g.C.Cluster.shown c.add_block.new.cluster) (g.met.C.Cluster.sound c.args.cluster.now)
+    c.args.self.now c.requires.between (name_of c.args.namenode.now) c.in-Ok.located c.requires.full
+    (came_as (cc (c.as_str.ensures, c.as_ref.ensures.value)) refl (c.in-Ok.ensures.came c.requires.reaches))

@@ -1,0 +1,50 @@
+-- The goals of FileWriter::open_block.
+use Rattle.std.proofs.Common.{Some, refl, sym, subst, arith}
+use Rattle.hdfs_cluster.specs.declared.errors.HdfsError.{HdfsError}
+use Rattle.hdfs_namenode.specs.Clients.{name_of}
+use Rattle.hdfs_block_writer.specs.Packing.{setup_of}
+use Rattle.hdfs_rebuild.specs.declared.block_plan.BlockPlan.{BlockPlan}
+use Rattle.hdfs_block_writer.specs.Written.{BeginsWhole, IsNew}
+use Rattle.hdfs_file_writer.specs.Writers.{FailsOtherwise, plan_of}
+use Rattle.hdfs_file_writer.proofs.Standing.{begun_stands, opened_wrote, unopened_fails}
+use Rattle.hdfs_file_writer.proofs.file_writer.FileWriter.open_block.Goals as goal
+
+pub returns-in-Ok-replicated-clause-stands : goal.returns-in-Ok-replicated-clause-stands
+returns-in-Ok-replicated-clause-stands g c =
+    let w = c.args.self.now in
+    let plan = c.in-Ok.plan in
+    let block = c.in-Ok-replicated.block in
+    let created = c.args.created in
+    let new : IsNew (plan_of w c.args.located created) w.sizes.rebuilding w.sizes.block_size w.sizes.packet_size block =
+    subst (λ (x : BlockPlan). IsNew x w.sizes.rebuilding w.sizes.block_size w.sizes.packet_size block) c.in-Ok.ensures c.in-Ok-replicated.ensures.new in
+    let room = c.requires.room in (
+      begun_stands (g.C.Cluster.shown c.replicated.new.cluster) (g.C.Cluster.shown c.args.cluster.now) w (record w { going = Some block }) block c.args.located created
+          (setup_of plan.block plan.chunk (name_of c.args.namenode.now)) c.requires.begins.sizes c.requires.begins.plain c.requires.begins.fine refl refl
+          c.requires.begins.between.done c.in-Ok-replicated.ensures.stands new c.in-Ok-replicated.ensures.opened,
+      (block, refl, λ full. absurd (omega (arith, full, new.length, new.block_size, room))),
+    )
+
+pub returns-in-Ok-replicated-clause-wrote : goal.returns-in-Ok-replicated-clause-wrote
+returns-in-Ok-replicated-clause-wrote g c =
+    let s = g.C.Cluster.shown c.args.cluster.now in
+    let t = g.C.Cluster.shown c.replicated.new.cluster in
+    let w = c.args.self.now in
+    let plan = c.in-Ok.plan in
+    let block = c.in-Ok-replicated.block in
+    let created = c.args.created in
+    opened_wrote s t (record w { reopened = Some c.args.located }) c.args.located c.requires.begins.between.none refl (record w { going = Some block }) block created
+    w.sizes.rebuilding w.sizes.block_size w.sizes.packet_size (setup_of plan.block plan.chunk (name_of c.args.namenode.now))
+    (record { path = refl; file_id = refl; sizes = refl }) refl
+    (subst (λ (x : BlockPlan). IsNew x w.sizes.rebuilding w.sizes.block_size w.sizes.packet_size block) c.in-Ok.ensures c.in-Ok-replicated.ensures.new)
+    c.in-Ok-replicated.ensures.opened
+    (subst (λ (x : BlockPlan). BeginsWhole s x block t) c.in-Ok.ensures c.in-Ok-replicated.ensures.begins)
+
+pub returns-in-Err-replicated-clause-err : goal.returns-in-Err-replicated-clause-err
+returns-in-Err-replicated-clause-err g c =
+    let s = g.C.Cluster.shown c.args.cluster.now in
+    let t = g.C.Cluster.shown c.replicated.new.cluster in
+    let w = c.args.self.now in
+    let plan = c.in-Ok.plan in
+    subst (λ (e : HdfsError). FailsOtherwise s (record w { reopened = Some c.args.located }) e t) (sym c.error_of.ensures)
+    (unopened_fails s t (record w { reopened = Some c.args.located }) c.args.located c.requires.begins.between.none refl
+    (setup_of plan.block plan.chunk (name_of c.args.namenode.now)) c.in-Err-replicated.fault c.in-Err-replicated.ensures.err)

@@ -1,0 +1,71 @@
+-- The goals of FileWriter::refuse: no block is being written, so that no call touches a datanode.
+use Rattle.std.proofs.Common.{[], Some, refl, sym, ap, subst, ◌∙◌}
+use Rattle.hdfs_cluster.specs.Shown.{SameNodes, Shown}
+use Rattle.hdfs_namenode.specs.Clients.{proxy_of}
+use Rattle.hdfs_namenode.proofs.Services.{reaches_later, same_client_trans}
+use Rattle.hdfs_file_writer.specs.declared.file_writer.FileWriter.{FileWriter}
+use Rattle.hdfs_file_writer.specs.declared.sizes.WriteSizes.{WriteSizes}
+use Rattle.hdfs_file_writer.specs.Tails.{IsFull}
+use Rattle.hdfs_file_writer.specs.Writers.{HasRoom, Keeps, link_by, tail_of, FailsOtherwise, Wrote}
+use Rattle.hdfs_file_writer.proofs.Joining.{wrote_nothing, wrote_trans, fails_after, refused}
+use Rattle.hdfs_file_writer.proofs.Standing.{encrypted_none, full_without_room}
+use Rattle.hdfs_file_writer.proofs.file_writer.FileWriter.refuse.Goals as goal
+
+pub returns-in-Some-clause-fails : goal.returns-in-Some-clause-fails
+returns-in-Some-clause-fails g c =
+    let s = g.C.Cluster.shown c.args.cluster.now in
+    let w = c.args.self.now in
+    refused s s w w (wrote_nothing s w) (ap link_by (encrypted_none s w c.requires.stands c.requires.encrypted)) (λ d. refl) c.requires.encrypted
+
+pub returns-in-Err-clause-fails : goal.returns-in-Err-clause-fails
+returns-in-Err-clause-fails g c =
+    let s = g.C.Cluster.shown c.args.cluster.now in
+    let m = g.C.Cluster.shown c.finish_block.new.cluster in
+    (subst (λ (w : FileWriter). FailsOtherwise s w c.in-Err.error m) (c.take_reopened.ensures.none c.in-None.is) c.in-Err.ensures.err).fails
+
+pub next_block-requires-clause-reaches : goal.next_block-requires-clause-reaches
+next_block-requires-clause-reaches g c =
+    reaches_later (proxy_of c.args.namenode.now) (proxy_of c.finish_block.new.namenode) (g.C.Cluster.shown c.args.cluster.now) (g.C.Cluster.shown c.finish_block.new.cluster)
+    c.finish_block.ensures.keeps.2.service c.in-Ok.ensures.wrote.own.later c.requires.reaches
+
+pub next_block-requires-clause-full : goal.next_block-requires-clause-full
+next_block-requires-clause-full g c =
+    let s = g.C.Cluster.shown c.args.cluster.now in
+    let w = c.args.self.now in
+    let same = c.take_reopened.ensures.none c.in-None.is in
+    let idle = encrypted_none s w c.requires.stands c.requires.encrypted in
+    let none : HasRoom w → ⊥ = λ room. cc (room.1, idle) in
+    let full = full_without_room s w c.requires.stands c.requires.fine none (c.take_reopened.ensures.full c.in-None.is) in
+    subst (λ (z : WriteSizes). IsFull z.block_size (tail_of c.finish_block.new.self)) (sym c.finish_block.ensures.keeps.0.sizes)
+    (c.in-Ok.ensures.between.1 (subst (λ (x : FileWriter). IsFull x.sizes.block_size (tail_of x)) (sym same) full))
+
+pub returns-in-Ok-next_block-clause-fails : goal.returns-in-Ok-next_block-clause-fails
+returns-in-Ok-next_block-clause-fails g c =
+    let s = g.C.Cluster.shown c.args.cluster.now in
+    let m = g.C.Cluster.shown c.finish_block.new.cluster in
+    let t = g.C.Cluster.shown c.next_block.new.cluster in
+    let w = c.args.self.now in
+    let x = c.finish_block.new.self in
+    let y = record x { reopened = Some c.in-Ok-next_block.located } in
+    let same = c.take_reopened.ensures.none c.in-None.is in
+    let idle = encrypted_none s w c.requires.stands c.requires.encrypted in
+    let unchanged = c.finish_block.ensures.idle (ap (λ (v : FileWriter). v.going) same ∙ idle) in
+    let adds = c.in-Ok-next_block.ensures.adds in
+    refused s t w y
+    (wrote_trans s m t w x y [] [] (subst (λ (v : FileWriter). Wrote s v [] m x) same c.in-Ok.ensures.wrote) adds.wrote)
+    (ap link_by c.in-Ok.ensures.between.0.none)
+    (subst (λ (a : Shown). SameNodes a t) (ap g.C.Cluster.shown unchanged) adds.nodes) c.requires.encrypted
+
+pub returns-in-Ok-next_block-clause-keeps : goal.returns-in-Ok-next_block-clause-keeps
+returns-in-Ok-next_block-clause-keeps g c = (
+  subst (λ (w : FileWriter). Keeps w c.finish_block.new.self) (c.take_reopened.ensures.none c.in-None.is) c.finish_block.ensures.keeps.0,
+  same_client_trans c.args.namenode.now c.finish_block.new.namenode c.next_block.new.namenode c.finish_block.ensures.keeps.2 c.next_block.ensures.client,
+)
+
+pub returns-in-Err-next_block-clause-fails : goal.returns-in-Err-next_block-clause-fails
+returns-in-Err-next_block-clause-fails g c =
+    let s = g.C.Cluster.shown c.args.cluster.now in
+    let m = g.C.Cluster.shown c.finish_block.new.cluster in
+    let x = c.finish_block.new.self in
+    (fails_after s m (g.C.Cluster.shown c.next_block.new.cluster) c.args.self.now x [] c.in-Err-next_block.error
+    (subst (λ (v : FileWriter). Wrote s v [] m x) (c.take_reopened.ensures.none c.in-None.is) c.in-Ok.ensures.wrote) c.in-Err-next_block.ensures.err).fails

@@ -1,0 +1,39 @@
+-- The goals of FileWriter::write_all.
+use Rattle.std.proofs.Common.{[], List, ℕ, ◌++◌, take, sym, ◌∙◌, ap, refl}
+use Rattle.std.proofs.lemmas.List.{take_rest}
+use Rattle.hdfs_namenode.specs.Clients.{proxy_of}
+use Rattle.hdfs_namenode.proofs.Services.{reaches_later, same_client_refl, same_client_trans}
+use Rattle.hdfs_block_writer.proofs.Wrote.{pieces_join}
+use Rattle.hdfs_file_writer.proofs.Joining.{wrote_nothing, wrote_trans, fails_after}
+use Rattle.hdfs_file_writer.proofs.file_writer.FileWriter.write_all.Goals as goal
+
+pub blocks-2-init : goal.blocks-2-init
+blocks-2-init g c = record { stands = c.requires.works.stands; fine = c.requires.works.fine; told = ([], refl, wrote_nothing (g.C.Cluster.shown c.args.cluster.now) c.args.self.now); client = same_client_refl c.args.namenode.now }
+
+pub blocks-2-preserved : goal.blocks-2-preserved
+blocks-2-preserved g c =
+    let before = c.blocks-2.invariant in
+    let now = c.in-Ok.ensures in
+    let n = c.in-Ok.taken in
+    let rest = c.blocks-2.rest.now in
+    let told = before.told in
+    record {
+      stands = now.stands;
+      fine = now.keeps.1;
+      told = (
+        told.0 ++ take n rest,
+        pieces_join c.args.bytes.now rest told.0 n told.1 ∙ ap (λ (l : List ℕ). told.0 ++ take n rest ++ l) (sym (take_rest rest n)),
+        wrote_trans (g.C.Cluster.shown c.args.cluster.now) (g.C.Cluster.shown c.blocks-2.cluster) (g.C.Cluster.shown c.write_piece.new.cluster) c.args.self.now c.blocks-2.self c.write_piece.new.self told.0 (take n rest) told.2 now.wrote,
+      );
+      client = same_client_trans c.args.namenode.now c.blocks-2.namenode c.write_piece.new.namenode before.client now.keeps.2;
+    }
+
+pub write_piece-requires-clause-reaches : goal.write_piece-requires-clause-reaches
+write_piece-requires-clause-reaches g c =
+    reaches_later (proxy_of c.args.namenode.now) (proxy_of c.blocks-2.namenode) (g.C.Cluster.shown c.args.cluster.now) (g.C.Cluster.shown c.blocks-2.cluster)
+    c.blocks-2.invariant.client.service c.blocks-2.invariant.told.2.own.later c.requires.reaches
+
+pub returns-in-Err-clause-err : goal.returns-in-Err-clause-err
+returns-in-Err-clause-err g c =
+    let told = c.blocks-2.invariant.told in
+    fails_after (g.C.Cluster.shown c.args.cluster.now) (g.C.Cluster.shown c.blocks-2.cluster) (g.C.Cluster.shown c.write_piece.new.cluster) c.args.self.now c.blocks-2.self told.0 c.in-Err.error told.2 c.in-Err.ensures.err

@@ -1,0 +1,59 @@
+-- The goals of FileWriter::write_piece.
+use Rattle.std.proofs.Common.{◌≡◌, [], ◌-◌, length, take, Some, refl, sym, subst, arith}
+use Rattle.hdfs_cluster.specs.declared.errors.HdfsError.{HdfsError}
+use Rattle.hdfs_namenode.specs.Clients.{proxy_of}
+use Rattle.hdfs_namenode.proofs.Services.{reaches_later}
+use Rattle.hdfs_block_writer.specs.BlockWriters.{length_of, size_of}
+use Rattle.hdfs_block_writer.specs.declared.block_writer.BlockWriter.{BlockWriter}
+use Rattle.hdfs_file_writer.specs.Faults.{error_of}
+use Rattle.hdfs_file_writer.specs.Writers.{FailsOtherwise}
+use Rattle.hdfs_file_writer.proofs.Joining.{wrote_trans, fails_after}
+use Rattle.hdfs_file_writer.proofs.Standing.{more_stands, more_wrote, gave_up_fails, within_size, min_some}
+use Rattle.hdfs_file_writer.proofs.file_writer.FileWriter.write_piece.Goals as goal
+
+pub write-requires-clause-reaches : goal.write-requires-clause-reaches
+write-requires-clause-reaches g c =
+    reaches_later (proxy_of c.args.namenode.now) (proxy_of c.make_room.new.namenode) (g.C.Cluster.shown c.args.cluster.now) (g.C.Cluster.shown c.make_room.new.cluster)
+    c.make_room.ensures.client.service c.in-Ok.ensures.wrote.own.later c.requires.reaches
+
+pub write-requires-clause-stands : goal.write-requires-clause-stands
+write-requires-clause-stands g c = (c.in-Ok.ensures.stands.0.going c.in-Some.block c.in-Some.is).stands
+
+pub returns-in-Ok-write-clause-stands : goal.returns-in-Ok-write-clause-stands
+returns-in-Ok-write-clause-stands g c =
+    more_stands (g.C.Cluster.shown c.make_room.new.cluster) (g.C.Cluster.shown c.write.new.cluster) (g.met.C.Cluster.sound c.make_room.new.cluster) (g.met.C.Cluster.sound c.write.new.cluster) c.make_room.new.self c.in-Some.block c.in-Some.is
+    (record c.make_room.new.self { going = Some c.write.new.self }) c.write.new.self (take c.in-Ok-write.taken c.args.bytes.now)
+    c.in-Ok.ensures.stands.0 c.in-Ok.ensures.fine c.in-Ok.ensures.fine (record { path = refl; file_id = refl; sizes = refl }) refl refl c.in-Ok-write.ensures.wrote c.in-Ok-write.ensures.stands
+
+pub returns-in-Ok-write-clause-count : goal.returns-in-Ok-write-clause-count
+returns-in-Ok-write-clause-count g c =
+    let block = c.in-Some.block in
+    let room = c.in-Ok.ensures.stands.1 in
+    let same : room.0 ≡ block = cc (room.1, c.in-Some.is) in
+    let within = within_size (g.C.Cluster.shown c.make_room.new.cluster) block (c.in-Ok.ensures.stands.0.going block c.in-Some.is).stands (c.in-Ok.ensures.stands.0.is_open c.in-Ok.ensures.fine block c.in-Some.is) in
+    let apart : (length_of block ≡ size_of block) → ⊥ = subst (λ (x : BlockWriter). (length_of x ≡ size_of x) → ⊥) same room.2 in
+    min_some c.in-Ok-write.taken (length c.args.bytes.now) (size_of block - length_of block) c.in-Ok-write.ensures.count c.requires.bytes (omega (arith, within, apart))
+
+pub returns-in-Ok-write-clause-wrote : goal.returns-in-Ok-write-clause-wrote
+returns-in-Ok-write-clause-wrote g c =
+    let s = g.C.Cluster.shown c.args.cluster.now in
+    let m = g.C.Cluster.shown c.make_room.new.cluster in
+    let t = g.C.Cluster.shown c.write.new.cluster in
+    let w' = record c.make_room.new.self { going = Some c.write.new.self } in
+    let more = take c.in-Ok-write.taken c.args.bytes.now in
+    wrote_trans s m t c.args.self.now c.make_room.new.self w' [] more c.in-Ok.ensures.wrote
+    (more_wrote m t (g.met.C.Cluster.sound c.make_room.new.cluster) (g.met.C.Cluster.sound c.write.new.cluster) c.make_room.new.self c.in-Some.block c.in-Some.is w' c.write.new.self more c.in-Ok.ensures.stands.0 c.in-Ok.ensures.fine
+    (record { path = refl; file_id = refl; sizes = refl }) refl c.in-Ok-write.ensures.wrote c.in-Ok-write.ensures.stands)
+
+pub returns-in-Err-write-clause-err : goal.returns-in-Err-write-clause-err
+returns-in-Err-write-clause-err g c =
+    let s = g.C.Cluster.shown c.args.cluster.now in
+    let m = g.C.Cluster.shown c.make_room.new.cluster in
+    let t = g.C.Cluster.shown c.write.new.cluster in
+    let w1 = c.make_room.new.self in
+    let block = c.in-Some.block in
+    let stands = c.in-Ok.ensures.stands.0 in
+    subst (λ (e : HdfsError). FailsOtherwise s c.args.self.now e t) (sym c.error_of.ensures)
+    (fails_after s m t c.args.self.now w1 [] (error_of c.in-Err-write.fault) c.in-Ok.ensures.wrote
+    (gave_up_fails m t (g.met.C.Cluster.sound c.make_room.new.cluster) (g.met.C.Cluster.sound c.write.new.cluster) w1 block c.in-Some.is (stands.is_open c.in-Ok.ensures.fine block c.in-Some.is)
+    (stands.going block c.in-Some.is).settings c.in-Err-write.fault c.in-Err-write.ensures.err.gave_up))

@@ -1,0 +1,243 @@
+-- A writer of one file, as its callers see it.
+use Rattle.std.specs.Prelude.{◌≡◌, ◌≢◌, ℕ, ◌^◌, ◌<◌, ◌≤◌, true, false, Bool, List, [], ◌++◌, Option, Some, None, IsSome, IfSome, Result, Ok, Err}
+use Rattle.hdfs_wire.specs.Outgoing.{ArePacketSizes}
+use Rattle.hdfs_cluster.specs.declared.messages.Block.{Block}
+use Rattle.hdfs_cluster.specs.declared.messages.LocatedBlock.{LocatedBlock}
+use Rattle.hdfs_cluster.specs.declared.errors.ArgFault.TheVariants as args
+use Rattle.hdfs_cluster.specs.declared.errors.HdfsError.{HdfsError}
+use Rattle.hdfs_cluster.specs.declared.errors.HdfsError.TheVariants as errors
+use Rattle.hdfs_cluster.specs.Effects.{blocks_at}
+use Rattle.hdfs_cluster.specs.Files.{File}
+use Rattle.hdfs_cluster.specs.Namenode.{IsToWrite}
+use Rattle.hdfs_cluster.specs.Picture.{Picture}
+use Rattle.hdfs_cluster.specs.Shown.{SameNodes, Shown}
+use Rattle.hdfs_cluster.specs.Stores.{AgreesAt}
+use Rattle.hdfs_cluster.specs.Writing.{SameRecords}
+use Rattle.hdfs_block_writer.specs.BlockWriters as blocks
+use Rattle.hdfs_block_writer.specs.OpenPipelines as pipelines
+use Rattle.hdfs_block_writer.specs.declared.block_writer.BlockWriter.{BlockWriter}
+use Rattle.hdfs_rebuild.specs.declared.block_plan.BlockPlan.{BlockPlan}
+use Rattle.hdfs_file_writer.specs.Failing.{TellsWrite, TellsClose, CauseOfWrite, IsNoRefusal, IsRefusal}
+use Rattle.hdfs_file_writer.specs.OnlyFiles.{OnlyFile, SameFile}
+use Rattle.hdfs_file_writer.specs.Tails.{Tail, Bare, Finished, Reopened, Going, FillsBlocks, FileCarries}
+use Rattle.hdfs_file_writer.specs.WholeBlocks.{StaysWhole, ClosesWhole}
+use Rattle.hdfs_file_writer.specs.declared.file_writer.FileWriter.{FileWriter}
+use Rattle.hdfs_file_writer.specs.declared.sizes.WriteSizes.{WriteSizes}
+
+-- a replication from 1 to 65,535, and a block size from 1 to 2^63 - 1
+pub record AreLimited (sizes : WriteSizes) : Type 0 where
+  pub block : 0 < sizes.block_size
+  pub below : sizes.block_size < 2 ^ 63
+  pub replication : (1 ≤ sizes.replication) × (sizes.replication ≤ 65535)
+
+-- the sizes of packets, and a window of pipelines from 1 to 1,000
+pub record ArePackets (sizes : WriteSizes) : Type 0 where
+  pub packet : ArePacketSizes sizes.chunk sizes.packet_size
+  pub window : (1 ≤ sizes.rebuilding.window) × (sizes.rebuilding.window ≤ 1000)
+
+-- all of them
+pub record AreSizes (sizes : WriteSizes) : Type 0 where
+  pub limited : AreLimited sizes
+  pub packets : ArePackets sizes
+
+-- the path of its file
+abbrev pub path_of : FileWriter → List ℕ
+path_of writer = writer.path
+
+-- the id of its file, where the namenode told it
+abbrev pub file_id_of : FileWriter → Option ℕ
+file_id_of writer = writer.file_id
+
+-- with what its file is written
+abbrev pub sizes_of : FileWriter → WriteSizes
+sizes_of writer = writer.sizes
+
+-- whether a call has failed
+abbrev pub has_failed : FileWriter → Bool
+has_failed writer = writer.failed
+
+-- how the last block stands, by the block that is done
+abbrev pub tail_done : Option Block → Tail
+tail_done None = Bare
+tail_done (Some block) = Finished block.block_id block.num_bytes
+
+-- the same by the block that is to be gone on with
+abbrev pub tail_opened : Option LocatedBlock → Option Block → Tail
+tail_opened None last = tail_done last
+tail_opened (Some located) last = Reopened located
+
+-- the same by the writer of a block that is being written
+abbrev pub tail_by : Option BlockWriter → Option LocatedBlock → Option Block → Tail
+tail_by None reopened last = tail_opened reopened last
+tail_by (Some writer) reopened last = Going writer
+
+-- how the last block of its file stands
+abbrev pub tail_of : FileWriter → Tail
+tail_of writer = tail_by writer.going writer.reopened writer.last
+
+-- what a writer of a block of its file keeps of that: whether the block was new
+abbrev pub plan_of : FileWriter → LocatedBlock → Bool → BlockPlan
+plan_of writer block new = record {
+  src = writer.path;
+  block = block;
+  replication = writer.sizes.replication;
+  created = new;
+  rebuilds = 0;
+  chunk = writer.sizes.chunk;
+}
+
+-- the blocks of its file
+abbrev pub blocks_in : Picture → FileWriter → List ℕ
+blocks_in p writer = blocks_at (p.names writer.path)
+
+-- the link of a block that is being written
+abbrev pub link_by : Option BlockWriter → Option ℕ
+link_by None = None
+link_by (Some writer) = blocks.link_of writer
+
+-- the write link that it keeps
+abbrev pub link_of : FileWriter → Option ℕ
+link_of writer = link_by writer.going
+
+-- The writer of a block stands as its last call left it. Its block has the size of the file's blocks, which is in its limits, its
+-- packets have the file's sizes of packets, its pipeline is rebuilt as the file's are, and its data isn't to be encrypted.
+pub record BlockStands (shown : Shown) (sizes : WriteSizes) (writer : BlockWriter) : Type 0 where
+  pub limited : AreLimited sizes
+  pub stands : blocks.Stands shown writer
+  pub size : blocks.size_of writer ≡ sizes.block_size
+  pub chunk : writer.chunk ≡ sizes.chunk
+  pub packet_size : writer.packet_size ≡ sizes.packet_size
+  pub settings : writer.settings ≡ sizes.rebuilding
+  pub plain : sizes.encrypted ≡ false
+
+-- What a writer of a file is between calls. Once it has failed it keeps no link. Until then a block of it is done only where the one
+-- behind it is being written.
+pub record Stands (shown : Shown) (writer : FileWriter) : Type 0 where
+  pub packets : ArePackets writer.sizes
+  pub going : (block : BlockWriter) → writer.going ≡ Some block → BlockStands shown writer.sizes block
+  pub is_open : writer.failed ≡ false → (block : BlockWriter) → writer.going ≡ Some block → IsSome (blocks.link_of block)
+  pub idle : writer.failed ≡ true → link_of writer ≡ None
+  pub reopened : IfSome writer.reopened IsToWrite
+  pub apart : IsSome writer.reopened → writer.going ≡ None
+  pub done : writer.failed ≡ false → writer.going ≡ None → writer.last ≡ None
+
+-- A writer at work: it stands, hasn't failed, its file's numbers are in their limits, and its data isn't to be encrypted.
+pub record IsAtWork (shown : Shown) (writer : FileWriter) : Type 0 where
+  pub limited : AreLimited writer.sizes
+  pub stands : Stands shown writer
+  pub fine : writer.failed ≡ false
+  pub plain : writer.sizes.encrypted ≡ false
+
+-- a block is being written that has room for a byte
+abbrev pub HasRoom : FileWriter → Type 0
+HasRoom writer = (block : BlockWriter) × (writer.going ≡ Some block) × (blocks.length_of block ≢ blocks.size_of block)
+
+-- no block is being written, and none is to be gone on with
+pub record IsBetweenBlocks (writer : FileWriter) : Type 0 where
+  pub none : writer.going ≡ None
+  pub done : writer.reopened ≡ None
+
+-- A writer that may begin a block: it hasn't failed, is between blocks, all its sizes are in their limits, and its data isn't to be
+-- encrypted.
+pub record MayBegin (writer : FileWriter) : Type 0 where
+  pub sizes : AreSizes writer.sizes
+  pub fine : writer.failed ≡ false
+  pub between : IsBetweenBlocks writer
+  pub plain : writer.sizes.encrypted ≡ false
+
+-- what every call keeps of a writer
+pub record Keeps (writer writer' : FileWriter) : Type 0 where
+  pub path : writer'.path ≡ writer.path
+  pub file_id : writer'.file_id ≡ writer.file_id
+  pub sizes : writer'.sizes ≡ writer.sizes
+
+-- When a write does nothing to the cluster: of no bytes, which are taken; by a writer that has failed; and by one whose file's
+-- replication or block size is out of its limits, which has failed then.
+pub record IsIdle {C : Type 0} (writer : FileWriter) (bytes : List ℕ) (old : C) (result : Result ℕ HdfsError) (writer' : FileWriter) (new : C)
+    : Type 0 where
+  pub none : bytes ≡ [] → new ≡ old
+  pub empty : writer.failed ≡ false → AreLimited writer.sizes → bytes ≡ [] → result ≡ Ok 0
+  pub failed : writer.failed ≡ true → (result ≡ Err errors.Failed) × (writer' ≡ writer) × (new ≡ old)
+  pub options : writer.failed ≡ false → (AreLimited writer.sizes → ⊥)
+      → (result ≡ Err (errors.InvalidArgument args.Options)) × (link_of writer ≡ None) × (new ≡ old)
+
+-- calls on the cluster in the writer's name, as those of a writer of a block
+abbrev pub OnlyOwnLink : Shown → Option ℕ → Shown → Option ℕ → Type 0
+OnlyOwnLink old before new after = pipelines.OnlyOwnLink old before new after
+
+-- Over a told picture: these bytes more are carried, nothing changed but the file, and no block was begun before the one before it
+-- was full. Blocks that are done stay whole and full, and each that was ended meanwhile is so.
+abbrev pub CarriesMore : Shown → FileWriter → List ℕ → Shown → FileWriter → Type 0
+CarriesMore old writer more new writer' =
+    (p : Picture) (bytes : List ℕ) → old.picture ≡ Some p → FileCarries p writer.path (tail_of writer) bytes
+    → (q : Picture) × (new.picture ≡ Some q) × FileCarries q writer.path (tail_of writer') (bytes ++ more)
+    × OnlyFile writer.path p q × SameFile writer.path p q
+    × FillsBlocks writer.sizes.block_size (blocks_in p writer) (tail_of writer) more (blocks_in q writer) (tail_of writer')
+    × StaysWhole writer.sizes.block_size p (blocks_in p writer) (tail_of writer) q (blocks_in q writer)
+
+-- over a told picture: whatever came of it, nothing changed but the file
+abbrev pub TouchesFile : Shown → FileWriter → Shown → Type 0
+TouchesFile old writer new =
+    (p : Picture) (bytes : List ℕ) → old.picture ≡ Some p → FileCarries p writer.path (tail_of writer) bytes
+    → (q : Picture) × (new.picture ≡ Some q) × OnlyFile writer.path p q
+
+-- over a told picture: nothing changed but what datanodes hold of the file's blocks
+abbrev pub LeavesFile : Shown → FileWriter → Shown → Type 0
+LeavesFile old writer new =
+    (p : Picture) (bytes : List ℕ) → old.picture ≡ Some p → FileCarries p writer.path (tail_of writer) bytes
+    → (q : Picture) × (new.picture ≡ Some q) × OnlyFile writer.path p q × SameRecords p q
+
+-- over a told picture, for a writer that carries its file: an error has its cause
+abbrev pub HasCause : Shown → FileWriter → HdfsError → Shown → Type 0
+HasCause old writer error new =
+    (p : Picture) (bytes : List ℕ) → old.picture ≡ Some p → FileCarries p writer.path (tail_of writer) bytes
+    → CauseOfWrite writer.sizes writer.path old new error
+
+-- Over a told picture: a closed file stands at the path with the attributes and the bytes, and nothing changed but the file. Its blocks
+-- are whole, the last one too, where those that were done before are.
+abbrev pub Closes : Shown → FileWriter → Shown → Type 0
+Closes old writer new =
+    (p : Picture) (bytes : List ℕ) → old.picture ≡ Some p → (carries : FileCarries p writer.path (tail_of writer) bytes)
+    → (q : Picture) × (new.picture ≡ Some q) × OnlyFile writer.path p q
+    × AgreesAt q (q.names writer.path) (Some (File (record { bytes = bytes; attributes = carries.file.attributes })))
+    × ClosesWhole writer.sizes.block_size p (blocks_in p writer) (tail_of writer) q (blocks_in q writer)
+
+-- These bytes were taken.
+pub record Wrote (old : Shown) (writer : FileWriter) (more : List ℕ) (new : Shown) (writer' : FileWriter) : Type 0 where
+  pub keeps : Keeps writer writer'
+  pub own : OnlyOwnLink old (link_of writer) new (link_of writer')
+  pub carries : CarriesMore old writer more new writer'
+
+-- A call has failed: no link is left, the error tells what it stands for, and no datanode has failed where bytes are refused for encryption.
+-- Over a told picture nothing changed but the file, and an exception of a namenode has its cause.
+pub record Fails (old : Shown) (writer : FileWriter) (error : HdfsError) (new : Shown) : Type 0 where
+  pub own : OnlyOwnLink old (link_of writer) new None
+  pub tells : TellsWrite old new error
+  pub refused : IsRefusal error → SameNodes old new
+  pub touches : TouchesFile old writer new
+  pub cause : HasCause old writer error new
+
+-- the same, for another reason than encryption
+pub record FailsOtherwise (old : Shown) (writer : FileWriter) (error : HdfsError) (new : Shown) : Type 0 where
+  pub fails : Fails old writer error new
+  pub apart : IsNoRefusal error
+
+-- A namenode has answered this block, which stands behind those that are done: it has no bytes, and is to be written. No datanode
+-- has failed.
+pub record Adds (old : Shown) (writer : FileWriter) (located : LocatedBlock) (new : Shown) : Type 0 where
+  pub block : IsToWrite located
+  pub empty : located.b.num_bytes ≡ 0
+  pub nodes : SameNodes old new
+  pub wrote : Wrote old writer [] new (record writer { reopened = Some located })
+
+-- a close has failed, as a call does
+pub record FailsToClose (old : Shown) (writer : FileWriter) (error : HdfsError) (new : Shown) : Type 0 where
+  pub own : OnlyOwnLink old (link_of writer) new None
+  pub tells : TellsClose writer.path old new error
+  pub touches : TouchesFile old writer new
+  pub cause : HasCause old writer error new
+
+-- the file was closed
+pub record Closed (old : Shown) (writer : FileWriter) (new : Shown) : Type 0 where
+  pub own : OnlyOwnLink old (link_of writer) new None
+  pub closes : Closes old writer new

@@ -1,0 +1,351 @@
+//! Writes a file, block by block.
+ghost use Rattle.std.specs.Prelude.{◌≡◌, ◌≢◌, ◌<◌, ◌≤◌, [], true, false, length, take, None, Some, Err, IfOk, IfErr, IfSome, OnOk, OnErr};
+ghost use Rattle.hdfs_cluster.specs.Shown.{SameNodes, Shown};
+ghost use Rattle.hdfs_cluster.specs.declared.errors.HdfsError.TheVariants as errors;
+
+use crate::faults::error_of;
+use crate::sizes::WriteSizes;
+use hdfs_block_writer::BlockWriter;
+use hdfs_cluster::{ArgFault, Block, Cluster, Feature, HdfsError, LocatedBlock};
+use hdfs_namenode::NamenodeProtocol;
+use hdfs_wire::Text;
+use std::alloc::Global;
+
+/// How often a namenode is asked whether a file is closed (upstream's number).
+const COMPLETE_RETRIES: u32 = 5;
+
+/// Writes a file: its bytes go into blocks, one behind another. A writer that is let go leaves its file open, and its link too;
+/// `abandon` ends the link.
+#[derive(Drop)]
+pub struct FileWriter {
+    pub(crate) alloc: Global,
+    pub(crate) path: Text,
+    pub(crate) file_id: Option<u64>,
+    pub(crate) sizes: WriteSizes,
+    // the last block that is done
+    pub(crate) last: Option<Block>,
+    // the writer of the block behind it
+    pub(crate) going: Option<BlockWriter>,
+    // the last block of an appended file, which is to be gone on with
+    pub(crate) reopened: Option<LocatedBlock>,
+    pub(crate) failed: bool,
+}
+
+impl FileWriter {
+    ghost use Rattle.hdfs_namenode.specs.Asked.{ReachesAll};
+    ghost use Rattle.hdfs_namenode.specs.Clients.{SameClient, proxy_of};
+    ghost use Rattle.hdfs_file_writer.specs.Tails.{Bare};
+    ghost use Rattle.hdfs_cluster.specs.Namenode.{IsToWrite};
+    ghost use Rattle.hdfs_file_writer.specs.Writers.{AreLimited, ArePackets, AreSizes, path_of, file_id_of, sizes_of, has_failed, link_of, tail_of, tail_opened, IsAtWork, IsIdle, Stands, Keeps, IsBetweenBlocks, OnlyOwnLink, LeavesFile, Wrote, Closed, Fails, FailsOtherwise, FailsToClose};
+
+    /// A writer of a file that was just created at `path`, which has the size of blocks that `sizes` says. `file_id` is the id that
+    /// the namenode told.
+    pub fn new(alloc: Global, path: Text, file_id: Option<u64>, sizes: WriteSizes) -> FileWriter
+        requires { AreSizes sizes }
+        ensures path { (path_of result ≡ path) × (sizes_of result ≡ sizes) × (file_id_of result ≡ file_id) }
+        ensures tail { tail_of result ≡ Bare }
+        ensures idle { (link_of result ≡ None) × (has_failed result ≡ false) }
+        ensures stands { (shown : Shown) → Stands shown result }
+    {
+        FileWriter {
+            alloc,
+            path,
+            file_id,
+            sizes,
+            last: None,
+            going: None,
+            reopened: None,
+            failed: false,
+        }
+    }
+
+    /// A writer of a file that was just opened to be gone on with: `block` is its last block, if it has one, with the datanodes that
+    /// the namenode named for it. The first write goes on in that block where it isn't full, or is refused where the file's replication
+    /// or block size is out of its limits.
+    pub fn appended(
+        alloc: Global,
+        path: Text,
+        file_id: Option<u64>,
+        sizes: WriteSizes,
+        block: Option<LocatedBlock>,
+    ) -> FileWriter
+        requires packets { ArePackets sizes }
+        requires block { IfSome block IsToWrite }
+        ensures path { (path_of result ≡ path) × (sizes_of result ≡ sizes) × (file_id_of result ≡ file_id) }
+        ensures tail { tail_of result ≡ tail_opened block None }
+        ensures idle { (link_of result ≡ None) × (has_failed result ≡ false) }
+        ensures stands { (shown : Shown) → Stands shown result }
+    {
+        FileWriter {
+            alloc,
+            path,
+            file_id,
+            sizes,
+            last: None,
+            going: None,
+            reopened: block,
+            failed: false,
+        }
+    }
+
+    /// Takes some of the bytes, at least one, and says how many.
+    fn write_piece<C: Cluster>(
+        &mut self,
+        cluster: &mut C,
+        namenode: &mut NamenodeProtocol,
+        bytes: &[u8],
+    ) -> Result<usize, HdfsError>
+        requires reaches { ReachesAll (proxy_of namenode.old) (C.shown cluster.old) }
+        requires works { IsAtWork (C.shown cluster.old) self.old }
+        requires bytes { 0 < length bytes.now }
+        ensures stands { OnOk result (Stands (C.shown cluster.new) self.new) }
+        ensures count { IfOk result (λ n. (0 < n) × (n ≤ length bytes.now)) }
+        ensures wrote { IfOk result (λ n. Wrote (C.shown cluster.old) self.old (take n bytes.now) (C.shown cluster.new) self.new) }
+        ensures err { IfErr result (λ error. FailsOtherwise (C.shown cluster.old) self.old error (C.shown cluster.new)) }
+        ensures keeps { Keeps self.old self.new × (self.new.failed ≡ false) × SameClient namenode.old namenode.new }
+    {
+        match self.make_room(cluster, namenode) {
+            Ok(()) => {}
+            Err(error) => return Err(error),
+        }
+        let Some(block) = &mut self.going else {
+            unreachable!();
+        };
+        match block.write(cluster, namenode, bytes) {
+            Ok(taken) => Ok(taken),
+            Err(fault) => Err(error_of(fault)),
+        }
+    }
+
+    /// Takes the bytes, and answers how many they are. A block that is full is ended, and the next one begun, once a byte comes
+    /// that it has no room for. No bytes touch nothing of the cluster.
+    ///
+    /// Errors: `NoMemory`; `Failed` after an earlier error; `InvalidArgument(Options)` where the file's replication or block size is
+    /// out of its limits; `IOError(Link)` and `DataTransferError(Setup)` where a pipeline wasn't set up, a rebuilt one too;
+    /// `DataTransferError(AllNodes)` where each datanode of a pipeline has failed; `DataTransferError(NoReplacement)` where a datanode
+    /// was to be added in the place of one that failed, none could be, and the settings don't let a write go on without it;
+    /// `DataTransferError(RebuildLimit)` where a pipeline has failed that was rebuilt as often as the settings say;
+    /// `DataTransferError(BadAck)` where an acknowledgement wasn't due; `RPCError` and `AlreadyExists` with a namenode's exception;
+    /// `IOError(Namenode)`, `InvalidRPCResponse` and `FatalRPCError` where no namenode gave an answer; `UnsupportedFeature(Encryption)` for
+    /// any byte where the cluster wants data encrypted on its way, behind the ask for its block.
+    /// After an error the writer has failed, and its link is ended.
+    pub fn write<C: Cluster>(
+        &mut self,
+        cluster: &mut C,
+        namenode: &mut NamenodeProtocol,
+        bytes: &[u8],
+    ) -> Result<usize, HdfsError>
+        requires reaches { ReachesAll (proxy_of namenode.old) (C.shown cluster.old) }
+        requires stands { Stands (C.shown cluster.old) self.old }
+
+        ensures stands { Stands (C.shown cluster.new) self.new × Keeps self.old self.new × SameClient namenode.old namenode.new }
+        ensures count { IfOk result (λ n. (n ≡ length bytes.now) × AreLimited (sizes_of self.old)
+            × (bytes.now ≢ [] → (sizes_of self.old).encrypted ≡ false)) }
+        ensures idle { IsIdle self.old bytes.now cluster.old result self.new cluster.new }
+        ensures fails { (OnOk result (has_failed self.new ≡ false)) × (OnErr result (has_failed self.new ≡ true)) }
+
+        // Over a told picture these bytes are carried too, nothing but the file changes, and no block is begun before the one before it
+        // is full. Blocks that are done are whole on each datanode that is listed for them.
+        ensures wrote { OnOk result (Wrote (C.shown cluster.old) self.old bytes.now (C.shown cluster.new) self.new) }
+        ensures err { IfErr result (λ error. has_failed self.old ≡ false → AreLimited (sizes_of self.old)
+            → Fails (C.shown cluster.old) self.old error (C.shown cluster.new)) }
+    {
+        if self.failed {
+            return Err(HdfsError::Failed);
+        }
+        if !self.sizes.are_limited() {
+            self.let_go();
+            return Err(HdfsError::InvalidArgument(ArgFault::Options));
+        }
+        if bytes.is_empty() {
+            return Ok(0);
+        }
+        if self.sizes.encrypted {
+            let error = self.refuse(cluster, namenode);
+            self.let_go();
+            return Err(error);
+        }
+        match self.write_all(cluster, namenode, bytes) {
+            Ok(()) => Ok(bytes.len()),
+            Err(error) => {
+                self.let_go();
+                Err(error)
+            }
+        }
+    }
+
+    /// Has failed from now on, and keeps no block.
+    fn let_go(&mut self)
+        ensures { self.new ≡ record self.old { failed = true; reopened = None; going = None } }
+    {
+        self.failed = true;
+        drop(self.reopened.take());
+        drop(self.going.take());
+    }
+
+    /// Why no byte is taken where data is to be encrypted. A block that has room for a byte is asked for first, where none is to be gone
+    /// on with that has.
+    fn refuse<C: Cluster>(&mut self, cluster: &mut C, namenode: &mut NamenodeProtocol) -> HdfsError
+        requires reaches { ReachesAll (proxy_of namenode.old) (C.shown cluster.old) }
+        requires stands { Stands (C.shown cluster.old) self.old }
+        requires fine { self.old.failed ≡ false }
+        requires encrypted { self.old.sizes.encrypted ≡ true }
+        ensures keeps { Keeps self.old self.new × SameClient namenode.old namenode.new }
+        ensures fails { Fails (C.shown cluster.old) self.old result (C.shown cluster.new) }
+    {
+        match self.take_reopened() {
+            Some(located) => {
+                drop(located);
+                return HdfsError::UnsupportedFeature(Feature::Encryption);
+            }
+            None => {}
+        }
+        match self.finish_block(cluster, namenode) {
+            Ok(()) => {}
+            Err(error) => return error,
+        }
+        match self.next_block(cluster, namenode) {
+            Ok(located) => {
+                drop(located);
+                HdfsError::UnsupportedFeature(Feature::Encryption)
+            }
+            Err(error) => error,
+        }
+    }
+
+    /// Takes the bytes.
+    fn write_all<C: Cluster>(
+        &mut self,
+        cluster: &mut C,
+        namenode: &mut NamenodeProtocol,
+        bytes: &[u8],
+    ) -> Result<(), HdfsError>
+        requires reaches { ReachesAll (proxy_of namenode.old) (C.shown cluster.old) }
+        requires works { IsAtWork (C.shown cluster.old) self.old }
+        ensures fine { self.new.failed ≡ false }
+        ensures stands { OnOk result (Stands (C.shown cluster.new) self.new) }
+        ensures wrote { OnOk result (Wrote (C.shown cluster.old) self.old bytes.now (C.shown cluster.new) self.new) }
+        ensures err { IfErr result (λ error. FailsOtherwise (C.shown cluster.old) self.old error (C.shown cluster.new)) }
+        ensures keeps { Keeps self.old self.new × SameClient namenode.old namenode.new }
+    {
+        let mut rest = bytes;
+        'blocks: while !rest.is_empty() {
+            match self.write_piece(cluster, namenode, rest) {
+                Ok(taken) => rest = &rest[taken..],
+                Err(error) => return Err(error),
+            }
+        }
+        Ok(())
+    }
+
+    /// Asks until the namenode says that the file is closed.
+    fn complete<C: Cluster>(
+        &self,
+        cluster: &mut C,
+        namenode: &mut NamenodeProtocol,
+    ) -> Result<(), HdfsError>
+        requires reaches { ReachesAll (proxy_of namenode.old) (C.shown cluster.old) }
+        requires between { IsBetweenBlocks self.now }
+        ensures closed { OnOk result (Closed (C.shown cluster.old) self.now (C.shown cluster.new)) }
+        ensures err { IfErr result (λ error. FailsToClose (C.shown cluster.old) self.now error (C.shown cluster.new)) }
+        ensures nodes { SameNodes (C.shown cluster.old) (C.shown cluster.new) }
+        ensures client { SameClient namenode.old namenode.new }
+    {
+        for _ in 0..COMPLETE_RETRIES {
+            match namenode.complete(
+                cluster,
+                self.path.as_str(),
+                self.last.as_ref(),
+                self.file_id,
+            ) {
+                Ok(true) => return Ok(()),
+                Ok(false) => {}
+                Err(error) => return Err(error),
+            }
+        }
+        match self.path.copy(self.alloc) {
+            Ok(path) => Err(HdfsError::OperationFailed(path)),
+            Err(_) => Err(HdfsError::NoMemory),
+        }
+    }
+
+    /// Ends the block that is being written, and closes the file.
+    ///
+    /// Errors: those of `write`, and `OperationFailed` with the path where it is answered five times that the file isn't closed.
+    /// Whatever comes of it, the writer's link is ended.
+    pub fn close<C: Cluster>(
+        mut self,
+        cluster: &mut C,
+        namenode: &mut NamenodeProtocol,
+    ) -> Result<(), HdfsError>
+        requires reaches { ReachesAll (proxy_of namenode.old) (C.shown cluster.old) }
+        requires stands { Stands (C.shown cluster.old) self }
+
+        ensures failed { has_failed self ≡ true → (result ≡ Err errors.Failed) × (cluster.new ≡ cluster.old) }
+
+        // Over a told picture the closed file has the bytes, its blocks are whole on each datanode that is listed for them, and nothing but
+        // the file changes.
+        ensures closed { OnOk result (Closed (C.shown cluster.old) self (C.shown cluster.new)) }
+        ensures err { IfErr result (λ error. has_failed self ≡ false
+            → FailsToClose (C.shown cluster.old) self error (C.shown cluster.new)) }
+        ensures idle { link_of self ≡ None → SameNodes (C.shown cluster.old) (C.shown cluster.new) }
+        ensures client { SameClient namenode.old namenode.new }
+    {
+        let ended = self.end(cluster, namenode);
+        drop(self);
+        ended
+    }
+
+    /// Ends the block that is being written, and closes the file.
+    fn end<C: Cluster>(
+        &mut self,
+        cluster: &mut C,
+        namenode: &mut NamenodeProtocol,
+    ) -> Result<(), HdfsError>
+        requires reaches { ReachesAll (proxy_of namenode.old) (C.shown cluster.old) }
+        requires stands { Stands (C.shown cluster.old) self.old }
+        ensures failed { self.old.failed ≡ true → (result ≡ Err errors.Failed) × (cluster.new ≡ cluster.old) }
+        ensures closed { OnOk result (Closed (C.shown cluster.old) self.old (C.shown cluster.new)) }
+        ensures err { IfErr result (λ error. self.old.failed ≡ false
+            → FailsToClose (C.shown cluster.old) self.old error (C.shown cluster.new)) }
+        ensures idle { link_of self.old ≡ None → SameNodes (C.shown cluster.old) (C.shown cluster.new) }
+        ensures client { SameClient namenode.old namenode.new }
+    {
+        if self.failed {
+            return Err(HdfsError::Failed);
+        }
+        match self.finish_block(cluster, namenode) {
+            Ok(()) => {}
+            Err(error) => return Err(error),
+        }
+        match self.complete(cluster, namenode) {
+            Ok(()) => Ok(()),
+            Err(error) => Err(error),
+        }
+    }
+
+    /// Gives the writer up: its link is ended, and nothing else is done. The file stays open.
+    pub fn abandon<C: Cluster>(mut self, cluster: &mut C)
+        requires stands { Stands (C.shown cluster.old) self }
+        ensures own { OnlyOwnLink (C.shown cluster.old) (link_of self) (C.shown cluster.new) None }
+        ensures idle { link_of self ≡ None → cluster.new ≡ cluster.old }
+        ensures last { (C.shown cluster.new).last ≡ (C.shown cluster.old).last }
+        ensures touches { LeavesFile (C.shown cluster.old) self (C.shown cluster.new) }
+    {
+        self.leave(cluster);
+        drop(self);
+    }
+
+    /// Ends the link of the block that is being written, if one is.
+    fn leave<C: Cluster>(&mut self, cluster: &mut C)
+        requires stands { Stands (C.shown cluster.old) self.old }
+        ensures own { OnlyOwnLink (C.shown cluster.old) (link_of self.old) (C.shown cluster.new) None }
+        ensures idle { link_of self.old ≡ None → cluster.new ≡ cluster.old }
+        ensures last { (C.shown cluster.new).last ≡ (C.shown cluster.old).last }
+        ensures touches { LeavesFile (C.shown cluster.old) self.old (C.shown cluster.new) }
+    {
+        if let Some(block) = self.going.take() {
+            block.abandon(cluster);
+        }
+    }
+}

@@ -1,0 +1,220 @@
+//! A writer's next block: the one before it is ended, and one that has room for a byte is begun.
+ghost use Rattle.std.specs.Prelude.{◌≡◌, ◌<◌, ◌≤◌, [], false, None, Some, IsTrue, ◌↔◌, IfOk, IfErr, IfSome, OnOk};
+
+use crate::faults::error_of;
+use crate::file_writer::FileWriter;
+use hdfs_block_writer::BlockWriter;
+use hdfs_rebuild::BlockPlan;
+use hdfs_cluster::{Cluster, HdfsError, LocatedBlock};
+use hdfs_namenode::NamenodeProtocol;
+use hdfs_wire::NoMemory;
+
+impl FileWriter {
+    ghost use Rattle.hdfs_namenode.specs.Asked.{ReachesAll};
+    ghost use Rattle.hdfs_namenode.specs.Clients.{SameClient, proxy_of};
+    ghost use Rattle.hdfs_file_writer.specs.Tails.{IsFull};
+    ghost use Rattle.hdfs_cluster.specs.Namenode.{IsToWrite};
+    ghost use Rattle.hdfs_file_writer.specs.Writers.{plan_of, tail_of, IsAtWork, MayBegin, Stands, Keeps, IsBetweenBlocks, HasRoom, Wrote, Adds, FailsOtherwise};
+
+    /// Ends the block that is being written, or leaves the one that was to be gone on with.
+    pub(crate) fn finish_block<C: Cluster>(
+        &mut self,
+        cluster: &mut C,
+        namenode: &mut NamenodeProtocol,
+    ) -> Result<(), HdfsError>
+        requires reaches { ReachesAll (proxy_of namenode.old) (C.shown cluster.old) }
+        requires stands { Stands (C.shown cluster.old) self.old }
+        requires fine { self.old.failed ≡ false }
+        ensures keeps { Keeps self.old self.new × (self.new.failed ≡ false) × SameClient namenode.old namenode.new }
+        ensures between { OnOk result (IsBetweenBlocks self.new × (IsFull self.old.sizes.block_size (tail_of self.old)
+            → IsFull self.old.sizes.block_size (tail_of self.new))) }
+        ensures idle { self.old.going ≡ None → cluster.new ≡ cluster.old }
+        ensures wrote { OnOk result (Wrote (C.shown cluster.old) self.old [] (C.shown cluster.new) self.new) }
+        ensures err { IfErr result (λ error. FailsOtherwise (C.shown cluster.old) self.old error (C.shown cluster.new)) }
+    {
+        match self.reopened.take() {
+            Some(located) => {
+                self.last = Some(located.b);
+                return Ok(());
+            }
+            None => {}
+        }
+        match self.going.take() {
+            Some(block) => match block.close(cluster, namenode) {
+                Ok(block) => {
+                    self.last = Some(block);
+                    Ok(())
+                }
+                Err(fault) => Err(error_of(fault)),
+            },
+            None => Ok(()),
+        }
+    }
+
+    /// What a writer of a block keeps of it: `created` where it is new.
+    fn plan(&self, block: LocatedBlock, created: bool) -> Result<BlockPlan, NoMemory>
+        ensures { IfOk result (λ plan. plan ≡ plan_of self.now block created) }
+    {
+        Ok(BlockPlan {
+            src: self.path.copy(self.alloc)?,
+            block,
+            replication: self.sizes.replication,
+            created,
+            rebuilds: 0,
+            chunk: self.sizes.chunk,
+        })
+    }
+
+    /// Opens the pipeline of a block that has room for a byte: `created` where it is new.
+    fn open_block<C: Cluster>(
+        &mut self,
+        cluster: &mut C,
+        namenode: &NamenodeProtocol,
+        located: LocatedBlock,
+        created: bool,
+    ) -> Result<(), HdfsError>
+        requires begins { MayBegin self.old }
+        requires block { IsToWrite located }
+        requires room { located.b.num_bytes < self.old.sizes.block_size }
+        ensures fine { self.new.failed ≡ false }
+        ensures keeps { Keeps self.old self.new }
+        ensures stands { OnOk result (Stands (C.shown cluster.new) self.new × HasRoom self.new) }
+        ensures wrote { OnOk result (Wrote (C.shown cluster.old) (record self.old { reopened = Some located }) []
+            (C.shown cluster.new) self.new) }
+        ensures err { IfErr result (λ error. FailsOtherwise (C.shown cluster.old) (record self.old { reopened = Some located }) error
+            (C.shown cluster.new)) }
+    {
+        let plan = match self.plan(located, created) {
+            Ok(plan) => plan,
+            Err(_) => return Err(HdfsError::NoMemory),
+        };
+        match BlockWriter::replicated(
+            self.alloc,
+            cluster,
+            namenode,
+            plan,
+            &self.sizes.rebuilding,
+            self.sizes.block_size,
+            self.sizes.packet_size,
+        ) {
+            Ok(block) => {
+                self.going = Some(block);
+                Ok(())
+            }
+            Err(fault) => Err(error_of(fault)),
+        }
+    }
+
+    /// Asks for a block behind those that are done, the last of which is full.
+    pub(crate) fn next_block<C: Cluster>(
+        &self,
+        cluster: &mut C,
+        namenode: &mut NamenodeProtocol,
+    ) -> Result<LocatedBlock, HdfsError>
+        requires reaches { ReachesAll (proxy_of namenode.old) (C.shown cluster.old) }
+        requires between { IsBetweenBlocks self.now }
+        requires full { IsFull self.now.sizes.block_size (tail_of self.now) }
+        ensures adds { IfOk result (λ located. Adds (C.shown cluster.old) self.now located (C.shown cluster.new)) }
+        ensures err { IfErr result (λ error. FailsOtherwise (C.shown cluster.old) self.now error (C.shown cluster.new)) }
+        ensures client { SameClient namenode.old namenode.new }
+    {
+        match namenode.add_block(
+            cluster,
+            self.path.as_str(),
+            self.last.as_ref(),
+            &[],
+            self.file_id,
+        ) {
+            Ok(located) => Ok(located),
+            Err(error) => Err(error),
+        }
+    }
+
+    /// Begins a block behind those that are done, the last of which is full.
+    fn begin_block<C: Cluster>(
+        &mut self,
+        cluster: &mut C,
+        namenode: &mut NamenodeProtocol,
+    ) -> Result<(), HdfsError>
+        requires reaches { ReachesAll (proxy_of namenode.old) (C.shown cluster.old) }
+        requires begins { MayBegin self.old }
+        requires full { IsFull self.old.sizes.block_size (tail_of self.old) }
+        ensures fine { self.new.failed ≡ false }
+        ensures keeps { Keeps self.old self.new × SameClient namenode.old namenode.new }
+        ensures stands { OnOk result (Stands (C.shown cluster.new) self.new × HasRoom self.new) }
+        ensures wrote { OnOk result (Wrote (C.shown cluster.old) self.old [] (C.shown cluster.new) self.new) }
+        ensures err { IfErr result (λ error. FailsOtherwise (C.shown cluster.old) self.old error (C.shown cluster.new)) }
+    {
+        let located = match self.next_block(cluster, namenode) {
+            Ok(located) => located,
+            Err(error) => return Err(error),
+        };
+        match self.open_block(cluster, namenode, located, true) {
+            Ok(()) => Ok(()),
+            Err(error) => Err(error),
+        }
+    }
+
+    /// The block that is to be gone on with, where it has room for a byte.
+    pub(crate) fn take_reopened(&mut self) -> Option<LocatedBlock>
+        ensures some { IfSome result (λ located. (self.old.reopened ≡ Some located)
+            × (located.b.num_bytes < self.old.sizes.block_size) × (self.new ≡ record self.old { reopened = None })) }
+        ensures none { result ≡ None → self.new ≡ self.old }
+        ensures full { result ≡ None → IfSome self.old.reopened (λ located. self.old.sizes.block_size ≤ located.b.num_bytes) }
+    {
+        match self.reopened.take() {
+            Some(located) if located.b.num_bytes < self.sizes.block_size => Some(located),
+            other => {
+                self.reopened = other;
+                None
+            }
+        }
+    }
+
+    /// Sees to it that a block is being written that has room for a byte.
+    pub(crate) fn make_room<C: Cluster>(
+        &mut self,
+        cluster: &mut C,
+        namenode: &mut NamenodeProtocol,
+    ) -> Result<(), HdfsError>
+        requires reaches { ReachesAll (proxy_of namenode.old) (C.shown cluster.old) }
+        requires works { IsAtWork (C.shown cluster.old) self.old }
+        ensures fine { self.new.failed ≡ false }
+        ensures keeps { Keeps self.old self.new }
+        ensures stands { OnOk result (Stands (C.shown cluster.new) self.new × HasRoom self.new) }
+        ensures wrote { OnOk result (Wrote (C.shown cluster.old) self.old [] (C.shown cluster.new) self.new) }
+        ensures err { IfErr result (λ error. FailsOtherwise (C.shown cluster.old) self.old error (C.shown cluster.new)) }
+        ensures client { SameClient namenode.old namenode.new }
+    {
+        if self.has_room() {
+            return Ok(());
+        }
+        match self.take_reopened() {
+            Some(located) => {
+                return match self.open_block(cluster, namenode, located, false) {
+                    Ok(()) => Ok(()),
+                    Err(error) => Err(error),
+                };
+            }
+            None => {}
+        }
+        match self.finish_block(cluster, namenode) {
+            Ok(()) => {}
+            Err(error) => return Err(error),
+        }
+        match self.begin_block(cluster, namenode) {
+            Ok(()) => Ok(()),
+            Err(error) => Err(error),
+        }
+    }
+
+    /// Whether a block is being written that has room for a byte.
+    fn has_room(&self) -> bool
+        ensures { IsTrue result ↔ HasRoom self.now }
+    {
+        match &self.going {
+            Some(block) => !block.is_full(),
+            None => false,
+        }
+    }
+}

@@ -1,0 +1,34 @@
+//! With what a file is written.
+ghost use Rattle.std.specs.Prelude.{◌↔◌, IsTrue};
+
+use hdfs_rebuild::RebuildSettings;
+
+/// The replication of a file; the size of its blocks, of the chunks that have a checksum together, and of packets, in bytes (a
+/// packet size of 0 stands for one chunk); and how the pipelines of its blocks are rebuilt, with how many packets may wait in them for
+/// their acknowledgement. `encrypted` says that the cluster wants data encrypted on its way to datanodes, so that no byte can be written.
+#[derive(Clone, Copy, Debug)]
+pub struct WriteSizes {
+    pub replication: u32,
+    pub block_size: u64,
+    pub chunk: u32,
+    pub packet_size: u32,
+    pub rebuilding: RebuildSettings,
+    pub encrypted: bool,
+}
+
+/// The greatest replication that a file is written with.
+const MAX_REPLICATION: u32 = 65_535;
+
+impl WriteSizes {
+    ghost use Rattle.hdfs_file_writer.specs.Writers.{AreLimited};
+
+    /// Whether a file can be written that has these: a replication from 1 to 65,535, and a block size from 1 to 2^63 - 1.
+    pub fn are_limited(&self) -> bool
+        ensures { IsTrue result ↔ AreLimited self.now }
+    {
+        self.replication >= 1
+            && self.replication <= MAX_REPLICATION
+            && self.block_size >= 1
+            && self.block_size <= i64::MAX as u64
+    }
+}

@@ -1,0 +1,15 @@
+pub mod Coming
+pub mod Counting
+pub mod Cutting
+pub mod Failures
+pub mod Laws
+pub mod Lines
+pub mod Links
+pub mod MemShown
+pub mod Responding
+pub mod SettingUp
+pub mod Shortening
+pub mod Slices
+pub mod Starting
+pub mod Telling
+pub mod Writes

@@ -1,0 +1,57 @@
+//! How a pipeline is set up in a cluster in memory.
+ghost use Rattle.std.specs.Prelude.{◌≡◌, ℕ, List, true, map, IfOk, OnOk};
+ghost use Rattle.slab.specs.Slab.{HasRoomFor};
+ghost use Rattle.hdfs_mem_cluster.specs.Failures.{failure_of, planned_failure};
+ghost use Rattle.hdfs_mem_cluster.specs.SettingUp.{CountsSetUp};
+ghost use Rattle.hdfs_mem_datanodes.specs.Nodes.{held_in, undisturbed_in, is_named, SameNodes};
+
+use crate::mem_link::MemLink;
+use hdfs_mem_faults::FaultPlan;
+use hdfs_cluster::{LinkFault, LinkKind, Setup};
+use hdfs_mem_datanodes::{Datanodes, Held};
+use slab::Slab;
+use std::alloc::Global;
+
+/// How a set-up fails that is planned so. One with a bad acknowledgement to come doesn't.
+fn failure(kind: Option<LinkKind>) -> Option<LinkFault>
+    ensures { result ≡ planned_failure kind }
+{
+    match kind {
+        Some(LinkKind::Broken) => Some(LinkFault::Broken),
+        Some(LinkKind::Refused) => Some(LinkFault::Refused),
+        Some(LinkKind::BadAck) => None,
+        None => None,
+    }
+}
+
+/// Sees to it that there is room for a pipeline, and answers what each of its datanodes holds of its block. They note its link, and
+/// its set-up is counted and fails as it is planned to.
+pub(crate) fn enter(
+    alloc: Global,
+    links: &mut Slab<MemLink>,
+    nodes: &mut Datanodes,
+    faults: &mut FaultPlan,
+    setup: &Setup,
+    link: u64,
+) -> Result<Vec<Held>, LinkFault>
+    ensures room { OnOk result (HasRoomFor links.new 1) }
+    ensures slots { links.new ≡ record links.old { capacity = links.new.capacity } }
+    ensures base { IfOk result (λ base. base.items
+        ≡ map (λ node. held_in nodes.old node.id.datanode_uuid setup.now.block.block_id) setup.now.locs) }
+    ensures entered { OnOk result ((d : List ℕ) → is_named setup.now.locs d ≡ true
+        → undisturbed_in nodes.new d setup.now.block.block_id link ≡ true) }
+    ensures others { (d : List ℕ) (b other : ℕ) → (link ≡ other → ⊥)
+        → undisturbed_in nodes.new d b other ≡ undisturbed_in nodes.old d b other }
+    ensures bytes { (d : List ℕ) (b : ℕ) → held_in nodes.new d b ≡ held_in nodes.old d b }
+    ensures counts { CountsSetUp faults.old link (failure_of result) faults.new }
+    ensures rest { SameNodes nodes.old nodes.new }
+{
+    faults.end(link);
+    links.reserve(1)?;
+    let locs = setup.locs.as_slice();
+    let base = nodes.enter_all(alloc, locs, setup.block.block_id, link)?;
+    match failure(faults.set_up(link)?) {
+        None => Ok(base),
+        Some(fault) => Err(fault),
+    }
+}

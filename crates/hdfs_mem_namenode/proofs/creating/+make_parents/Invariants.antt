@@ -1,0 +1,6 @@
+use Rattle.std.proofs.Common.{length}
+use Rattle.hdfs_names.specs.Paths.{ancestors}
+use Rattle.hdfs_mem_namenode.proofs.creating.+make_parents.Given as goal
+
+abbrev pub decreases-make_parents : goal.decreases-make_parents
+decreases-make_parents l = length (ancestors l.path.now)

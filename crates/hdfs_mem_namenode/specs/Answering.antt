@@ -1,0 +1,91 @@
+-- What a namenode of a cluster in memory answers.
+use Rattle.std.specs.Prelude.{◌≡◌, ◌≢◌, ◌⊎◌, ℕ, List, [], Option, Some, None, is_some, Result, Ok, Err, codes}
+use Rattle.hdfs_cluster.specs.declared.asks.Ask.{Ask}
+use Rattle.hdfs_cluster.specs.declared.asks.Ask.TheVariants as asks
+use Rattle.hdfs_cluster.specs.declared.asks.Answer.{Answer}
+use Rattle.hdfs_cluster.specs.declared.asks.Answer.TheVariants as answers
+use Rattle.hdfs_cluster.specs.declared.asks.AskFault.{AskFault}
+use Rattle.hdfs_cluster.specs.declared.asks.AskFault.TheVariants as faults
+use Rattle.hdfs_cluster.specs.declared.messages.LocatedBlocks.{LocatedBlocks}
+use Rattle.hdfs_cluster.specs.declared.picture.BlockEntry.{BlockEntry}
+use Rattle.hdfs_cluster.specs.declared.picture.Entry.{Entry}
+use Rattle.hdfs_cluster.specs.declared.picture.Entry.TheVariants as entries
+use Rattle.hdfs_cluster.specs.declared.picture.FileEntry.{FileEntry}
+use Rattle.hdfs_cluster.specs.Files.{Kind, NoFile, no_file}
+use Rattle.hdfs_cluster.specs.Namenode.{LocatesBlocks, IsOwn, IsRefusal, Row, StandsForAny, class_for, not_found, standby}
+use Rattle.hdfs_cluster.specs.Picture.{Picture, SamePicture}
+use Rattle.hdfs_cluster.specs.Refusals.{Refusal}
+
+-- the answer has the length and the blocks of the file at the path, and encryption information where it is encrypted
+pub record LocatesFile (names : List ℕ → Option Entry) (table : ℕ → Option BlockEntry) (src : List ℕ) (found : LocatedBlocks) : Type 0 where
+  pub file : FileEntry
+  pub named : names src ≡ Some (entries.File file)
+  pub encryption : is_some found.encryption ≡ file.attributes.encrypted
+  pub blocks : LocatesBlocks table 0 found.file_length file.blocks found.blocks
+
+-- the exception stands for the refusal that holds, and has no message
+abbrev pub StandsForRefusal : (List ℕ → Option Kind) → List ℕ → AskFault → Type 0
+StandsForRefusal kinds src faults.NoMemory = Unit {0}
+StandsForRefusal kinds src (faults.Exception class message) = (why : NoFile) × (no_file kinds src ≡ Some why) × (class ≡ class_for why) × (message ≡ [])
+StandsForRefusal kinds src fault = ⊥
+
+-- the same of a refusal of a writer, at a path at which this stands
+abbrev pub StandsForWritten : Option Kind → Option Refusal → AskFault → Type 0
+StandsForWritten kind refusal faults.NoMemory = Unit {0}
+StandsForWritten kind refusal (faults.Exception class message) = StandsForAny kind refusal class × (message ≡ [])
+StandsForWritten kind refusal fault = ⊥
+
+-- want of memory, or a file that isn't found, where a writer strays
+abbrev pub StandsForStray : Type 0 → AskFault → Type 0
+StandsForStray strays faults.NoMemory = Unit {0}
+StandsForStray strays (faults.Exception class message) = strays × (class ≡ not_found) × (message ≡ [])
+StandsForStray strays fault = ⊥
+
+-- a namenode looks up every file, also one that is being written, and answers never that there is none
+abbrev pub IsLocated : Answer → Type 0
+IsLocated (answers.GetBlockLocations None) = ⊥
+IsLocated answer = Unit {0}
+
+-- a block is named that isn't listed, or that no open file has, or none where there is one
+abbrev pub IsStray : Picture → Ask → Type 0
+IsStray p (asks.AddBlock src client previous excludes file_id) = IsOwn p (asks.AddBlock src client previous excludes file_id)
+IsStray p (asks.Complete src client last file_id) = IsOwn p (asks.Complete src client last file_id)
+IsStray p (asks.UpdateBlockForPipeline block client) = IsOwn p (asks.UpdateBlockForPipeline block client)
+IsStray p (asks.GetAdditionalDatanode src block existing excludes count client ids) =
+    IsOwn p (asks.GetAdditionalDatanode src block existing excludes count client ids)
+IsStray p (asks.UpdatePipeline client block block' nodes ids) = IsOwn p (asks.UpdatePipeline client block block' nodes ids)
+IsStray p ask = ⊥
+
+-- an ask that a cluster in memory has no answer to
+abbrev pub IsUnknown : Ask → Type 0
+IsUnknown (asks.GetBlockLocations src offset length) = ⊥
+IsUnknown asks.GetServerDefaults = ⊥
+IsUnknown (asks.Create src masked client flag parents replication block_size) = ⊥
+IsUnknown (asks.Append src client flag) = ⊥
+IsUnknown (asks.AddBlock src client previous excludes file_id) = ⊥
+IsUnknown (asks.Complete src client last file_id) = ⊥
+IsUnknown (asks.UpdateBlockForPipeline block client) = ⊥
+IsUnknown (asks.GetAdditionalDatanode src block existing excludes count client ids) = ⊥
+IsUnknown (asks.UpdatePipeline client block block' nodes ids) = ⊥
+IsUnknown (asks.RenewLease client namespaces) = ⊥
+IsUnknown asks.Msync = ⊥
+IsUnknown asks.GetHaServiceState = ⊥
+IsUnknown ask = Unit {0}
+
+-- the exception that says so
+abbrev pub no_such_method : List ℕ
+no_such_method = codes "org.apache.hadoop.ipc.RpcNoSuchMethodException"
+
+-- An active namenode's exception stands for a refusal, or is a file that isn't found where a writer strays, or says that it has no answer to
+-- the ask.
+abbrev pub IsExcused : Picture → Ask → List ℕ → Type 0
+IsExcused p ask class = IsRefusal p ask class ⊎ (IsStray p ask × (class ≡ not_found)) ⊎ (IsUnknown ask × (class ≡ no_such_method))
+
+-- The active namenode answers by the row of the ask, or with an exception. Another one answers with the exception of a
+-- standby. Beside that only want of memory comes. Where no answer comes, nothing changes.
+abbrev pub Answers : Picture → ℕ → Ask → Result Answer AskFault → Picture → Type 0
+Answers p i ask (Ok answer) q = (i ≡ p.active) × (q.active ≡ p.active) × IsLocated answer × Row p ask answer q
+Answers p i ask (Err faults.NoMemory) q = SamePicture p q
+Answers p i ask (Err (faults.Exception class message)) q =
+    (message ≡ []) × SamePicture p q × (((i ≢ p.active) × (class ≡ standby)) ⊎ ((i ≡ p.active) × IsExcused p ask class))
+Answers p i ask (Err fault) q = ⊥

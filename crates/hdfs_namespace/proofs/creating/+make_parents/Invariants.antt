@@ -1,6 +1,0 @@
-use Rattle.std.proofs.Common.{length}
-use Rattle.hdfs_model.specs.Paths.{ancestors}
-use Rattle.hdfs_namespace.proofs.creating.+make_parents.Given as goal
-
-abbrev pub decreases-make_parents : goal.decreases-make_parents
-decreases-make_parents l = length (ancestors l.path.now)

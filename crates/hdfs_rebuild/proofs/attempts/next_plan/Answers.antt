@@ -1,0 +1,74 @@
+-- The goals of next_plan.
+use Rattle.std.proofs.Common.{◌≡◌, List, subst}
+use Rattle.std.proofs.lemmas.Result.{err_from_is_err_and}
+use Rattle.hdfs_cluster.specs.declared.messages.DatanodeInfo.{DatanodeInfo}
+use Rattle.hdfs_namenode.specs.Clients.{proxy_of}
+use Rattle.hdfs_namenode.proofs.Services.{reaches_later, same_client_trans}
+use Rattle.hdfs_rebuild.specs.Attempts.{GivesNoPlan, standing}
+use Rattle.hdfs_rebuild.specs.Plans.{nodes_at}
+use Rattle.hdfs_rebuild.specs.Replacing.{Completes}
+use Rattle.hdfs_rebuild.specs.Resuming.{Restamps, RestampsNot}
+use Rattle.hdfs_rebuild.specs.Trying.{GivesPlan}
+use Rattle.hdfs_rebuild.proofs.Stepping.{keeps_links_trans}
+use Rattle.hdfs_rebuild.proofs.Tried.{ok_by, err_by, incomplete, unstamped}
+use Rattle.hdfs_rebuild.proofs.attempts.next_plan.Goals as goal
+
+pub restamp-requires : goal.restamp-requires
+restamp-requires g c = record {
+  reaches =
+      reaches_later (proxy_of c.args.namenode.now) (proxy_of c.complete.new.namenode) (g.C.Cluster.shown c.args.cluster.now)
+      (g.C.Cluster.shown c.complete.new.cluster) c.in_ok-plan-2.ensures.client.service c.in_ok-plan-2.ensures.links.later c.requires.reaches;
+}
+
+pub returns-in_err-plan-2-clause-err : goal.returns-in_err-plan-2-clause-err
+returns-in_err-plan-2-clause-err g c =
+    let p = err_from_is_err_and c.from_residual-in_err-plan-2.result c.from_residual-in_err-plan-2.ensures.1 in
+    rw (p.1, p.2)
+    (λ client replay unsent. incomplete c.args.plan c.in_ok-plan.plan c.args.settings.now c.args.failed.now client replay unsent
+    (g.C.Cluster.shown c.args.cluster.now) (g.C.Cluster.shown c.complete.new.cluster) c.in_ok-plan.ensures.ok c.in_err-plan-2.ensures.links
+    c.in_err-plan-2.field-0.0 c.in_err-plan-2.ensures.err)
+
+pub returns-clause-links : goal.returns-clause-links
+returns-clause-links g c =
+    keeps_links_trans (g.C.Cluster.shown c.args.cluster.now) (g.C.Cluster.shown c.complete.new.cluster) (g.C.Cluster.shown c.restamp.new.cluster)
+    c.in_ok-plan-2.ensures.links c.restamp.ensures.links
+
+pub returns-clause-client : goal.returns-clause-client
+returns-clause-client g c =
+    same_client_trans c.args.namenode.now c.complete.new.namenode c.restamp.new.namenode c.in_ok-plan-2.ensures.client c.restamp.ensures.client
+
+pub returns-clause-ok : goal.returns-clause-ok
+returns-clause-ok g c =
+    let a = g.C.Cluster.shown c.args.cluster.now in
+    let m = g.C.Cluster.shown c.complete.new.cluster in
+    let n = g.C.Cluster.shown c.restamp.new.cluster in
+    let those : c.as_slice-2.result.now ≡ nodes_at c.args.plan.block.locs c.args.failed.now = cc (c.as_slice-2.ensures, c.in-Ok.ensures, c.as_slice.ensures) in
+    ok_by (λ next. Restamps c.in_ok-plan-2.plan m next n)
+    (λ next. GivesPlan c.args.plan c.args.settings.now c.args.failed.now a next n) c.restamp.result
+    (λ next restamps. record {
+      left = c.in_ok-plan.plan;
+      whole = c.in_ok-plan-2.plan;
+      between = m;
+      leaves = c.in_ok-plan.ensures.ok;
+      stays = c.in_ok-plan-2.ensures.links;
+      completes =
+          subst (λ (nodes : List DatanodeInfo). Completes c.in_ok-plan.plan c.args.settings.now nodes a c.in_ok-plan-2.plan m) those
+          c.in_ok-plan-2.ensures.completes;
+      keeps = c.restamp.ensures.links;
+      restamps = restamps;
+    })
+    c.restamp.ensures.restamps
+
+pub returns-clause-err : goal.returns-clause-err
+returns-clause-err g c =
+    let a = g.C.Cluster.shown c.args.cluster.now in
+    let m = g.C.Cluster.shown c.complete.new.cluster in
+    let n = g.C.Cluster.shown c.restamp.new.cluster in
+    let those : c.as_slice-2.result.now ≡ nodes_at c.args.plan.block.locs c.args.failed.now = cc (c.as_slice-2.ensures, c.in-Ok.ensures, c.as_slice.ensures) in
+    err_by (λ fault. RestampsNot c.in_ok-plan-2.plan m fault n)
+    (λ fault. GivesNoPlan c.args.settings.now (standing c.args.plan c.args.failed.now a) fault n) c.restamp.result
+    (λ fault not client replay unsent. unstamped c.args.plan c.in_ok-plan.plan c.args.settings.now c.args.failed.now client replay unsent
+    a m c.in_ok-plan.ensures.ok c.in_ok-plan-2.ensures.links
+    c.in_ok-plan-2.plan c.as_slice-2.result.now those c.in_ok-plan-2.ensures.completes n
+    c.restamp.ensures.links fault not)
+    c.restamp.ensures.err

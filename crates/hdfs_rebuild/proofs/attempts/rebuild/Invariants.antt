@@ -1,0 +1,14 @@
+-- Attempts have failed so far, fewer than there may be.
+use Rattle.std.proofs.Common.{◌-◌}
+use Rattle.hdfs_namenode.specs.Clients.{SameClient, name_of}
+use Rattle.hdfs_rebuild.proofs.Repeating.{FellSoFar}
+use Rattle.hdfs_rebuild.proofs.attempts.rebuild.Given as goal
+
+abbrev pub invariant-attempts : goal.invariant-attempts
+invariant-attempts g l = record {
+  fell : FellSoFar l.fn.fallen l.settings (name_of l.fn.namenode) l.unsent (g.C.Cluster.shown l.fn.cluster) l.fallen (g.C.Cluster.shown l.cluster);
+  client : SameClient l.fn.namenode l.namenode;
+}
+
+abbrev pub decreases-attempts : goal.decreases-attempts
+decreases-attempts g l = l.settings.rebuild_limit - l.fallen.plan.rebuilds

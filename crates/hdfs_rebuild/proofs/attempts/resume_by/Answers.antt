@@ -1,0 +1,85 @@
+-- The goals of resume_by.
+use Rattle.std.proofs.Common.{rules, ◌≡◌, ◌≤◌, ℕ, List, None, IsSome, subst}
+use Rattle.std.proofs.lemmas.Result.{err_from_is_err_and}
+use Rattle.hdfs_cluster.specs.Pipes.{WriteOpened}
+use Rattle.hdfs_namenode.specs.Clients.{name_of, proxy_of}
+use Rattle.hdfs_namenode.proofs.Services.{reaches_later, same_service_refl}
+use Rattle.hdfs_rebuild.specs.Opening.{setup_for}
+use Rattle.hdfs_rebuild.proofs.Attempting.{opens_none}
+use Rattle.hdfs_rebuild.proofs.Ending.{falls}
+use Rattle.hdfs_rebuild.proofs.Replaying.{never_done}
+use Rattle.hdfs_rebuild.proofs.Resumed.{resumed_stands, resumed_fell, resumed_none, resumed_unsent}
+use Rattle.hdfs_rebuild.proofs.Resuming.{opened_goes, opened_empty}
+use Rattle.hdfs_rebuild.proofs.attempts.resume_by.Goals as goal
+
+pub returns-in_err-core-clause-err : goal.returns-in_err-core-clause-err
+returns-in_err-core-clause-err g c =
+    let p = err_from_is_err_and c.from_residual.result c.from_residual.ensures.1 in
+    rw (p.1, p.2)
+    (opens_none c.args.plan.now (setup_for c.args.plan.now c.args.opening c.client_name-client.result.now) (g.C.Cluster.shown c.args.cluster.now)
+    c.in_err-core.field-0.0 (g.C.Cluster.shown c.open_pipeline.new.cluster) c.in_err-core.ensures.err)
+
+pub replay_and_name-requires-clause-reaches : goal.replay_and_name-requires-clause-reaches
+replay_and_name-requires-clause-reaches g c =
+    reaches_later (proxy_of c.args.namenode.now) (proxy_of c.args.namenode.now) (g.C.Cluster.shown c.args.cluster.now)
+    (g.C.Cluster.shown c.open_pipeline.new.cluster) (same_service_refl (proxy_of c.args.namenode.now)) c.in_ok-core.ensures.opened.only.later
+    c.requires.reaches
+
+pub collect-requires-clause-ended : goal.collect-requires-clause-ended
+collect-requires-clause-ended g c =
+    let a = g.C.Cluster.shown c.args.cluster.now in
+    let b = g.C.Cluster.shown c.open_pipeline.new.cluster in
+    let sent = c.in-Ok.ensures.ok in
+    let name = c.client_name-client.result.now in
+    let windows : (1 ≤ c.args.opening.window) × (c.args.opening.window ≤ 1000) = (c.requires.packets.0, c.requires.packets.1) in
+    let has : IsSome c.in-Ok.sent.core.end = search rules in (
+      has,
+      never_done c.in_ok-core.link c.in-Ok.sent.core.pushed c.in_ok-core.core c.in-Ok.sent.core b sent.between sent.sends.drove
+          (opened_goes c.args.plan.now c.args.opening name c.in_ok-core.link c.in_ok-core.core a b c.requires.block windows c.in_ok-core.ensures.core
+          c.in_ok-core.ensures.opened).going
+          (opened_empty c.args.plan.now c.args.opening name c.in_ok-core.link c.in_ok-core.core a b c.requires.block windows
+          c.in_ok-core.ensures.core c.in_ok-core.ensures.opened),
+    )
+
+pub returns-in_err-collected-in-Ok-clause-err : goal.returns-in_err-collected-in-Ok-clause-err
+returns-in_err-collected-in-Ok-clause-err g c =
+    let p = err_from_is_err_and c.from_residual-in_err-collected-in-Ok.result c.from_residual-in_err-collected-in-Ok.ensures.1 in
+    let n = g.C.Cluster.shown c.replay_and_name.new.cluster in
+    let f = falls g.C.Cluster.shown g.C.Cluster.ends g.met.C.Cluster.ends_row c.in_ok-core.link c.in-Ok.sent.core c.replay_and_name.new.cluster
+    c.collect.new.cluster c.collect.ensures.ended in
+    rw (p.1, p.2)
+    (resumed_none c.args.plan.now c.args.opening c.client_name-client.result.now c.args.replay c.in_ok-core.link
+    c.in_ok-core.core (g.C.Cluster.shown c.args.cluster.now) (g.C.Cluster.shown c.open_pipeline.new.cluster) c.requires.block
+    (c.requires.packets.0, c.requires.packets.1) c.in_ok-core.ensures.core c.in_ok-core.ensures.opened c.in-Ok.sent n c.in-Ok.ensures.ok
+    c.has_ended.ensures.core (g.C.Cluster.shown c.collect.new.cluster) f.0 f.1 f.2 c.in_err-collected-in-Ok.field-0.0
+    c.in_err-collected-in-Ok.ensures.err)
+
+pub returns-in_ok-collected-in-Ok-clause-ok : goal.returns-in_ok-collected-in-Ok-clause-ok
+returns-in_ok-collected-in-Ok-clause-ok g c =
+    let n = g.C.Cluster.shown c.replay_and_name.new.cluster in
+    let f = falls g.C.Cluster.shown g.C.Cluster.ends g.met.C.Cluster.ends_row c.in_ok-core.link c.in-Ok.sent.core c.replay_and_name.new.cluster
+    c.collect.new.cluster c.collect.ensures.ended in
+    rw (← c.client_name-client.ensures)
+    (resumed_fell c.args.plan.now c.args.opening c.client_name-client.result.now c.args.replay c.in_ok-core.link
+    c.in_ok-core.core (g.C.Cluster.shown c.args.cluster.now) (g.C.Cluster.shown c.open_pipeline.new.cluster) c.requires.block
+    (c.requires.packets.0, c.requires.packets.1) c.in_ok-core.ensures.core c.in_ok-core.ensures.opened c.in-Ok.sent n c.in-Ok.ensures.ok
+    c.has_ended.ensures.core (g.C.Cluster.shown c.collect.new.cluster) f.0 f.1 f.2 c.in_ok-collected-in-Ok.collected
+    c.in_ok-collected-in-Ok.ensures.collected)
+
+pub returns-in-Ok-2-clause-ok : goal.returns-in-Ok-2-clause-ok
+returns-in-Ok-2-clause-ok g c =
+    let going : c.in-Ok.sent.core.end ≡ None = search rules in
+    let opened = subst (λ (name : List ℕ). WriteOpened (g.C.Cluster.shown c.args.cluster.now) (setup_for c.args.plan.now c.args.opening name)
+    c.in_ok-core.link (g.C.Cluster.shown c.open_pipeline.new.cluster)) c.client_name-client.ensures c.in_ok-core.ensures.opened in
+    resumed_stands c.args.plan.now c.args.opening (name_of c.args.namenode.now) c.args.replay c.in_ok-core.link
+    c.in_ok-core.core (g.C.Cluster.shown c.args.cluster.now) (g.C.Cluster.shown c.open_pipeline.new.cluster) c.requires.block
+    (c.requires.packets.0, c.requires.packets.1) c.in_ok-core.ensures.core opened c.in-Ok.sent
+    (g.C.Cluster.shown c.replay_and_name.new.cluster) c.in-Ok.ensures.ok c.in-Ok.ensures.ok.sends.is_core going
+
+pub returns-in-Err-clause-err : goal.returns-in-Err-clause-err
+returns-in-Err-clause-err g c =
+    resumed_unsent c.args.plan.now c.args.opening c.client_name-client.result.now c.args.replay c.in_ok-core.link
+    c.in_ok-core.core (g.C.Cluster.shown c.args.cluster.now) (g.C.Cluster.shown c.open_pipeline.new.cluster) c.requires.block
+    (c.requires.packets.0, c.requires.packets.1) c.in_ok-core.ensures.core c.in_ok-core.ensures.opened c.in-Err.fault
+    (g.C.Cluster.shown c.replay_and_name.new.cluster) _ c.in-Err.ensures.err
+    (search rules)

@@ -1,0 +1,22 @@
+-- The goals of restamp.
+use Rattle.hdfs_namenode.specs.Clients.{proxy_of}
+use Rattle.hdfs_namenode.proofs.Services.{reaches_service}
+use Rattle.hdfs_rebuild.proofs.Asks.{asked_links}
+use Rattle.hdfs_rebuild.proofs.Restamping.{restamped, restamped_not}
+use Rattle.hdfs_rebuild.proofs.recovery.restamp.Goals as goal
+
+pub update_block_for_pipeline-requires : goal.update_block_for_pipeline-requires
+update_block_for_pipeline-requires g c =
+    reaches_service (proxy_of c.args.namenode.now) (g.C.Cluster.shown c.args.cluster.now) c.requires.reaches
+
+pub returns-in-Ok-clause-links : goal.returns-in-Ok-clause-links
+returns-in-Ok-clause-links g c = asked_links (c.in-Ok.ensures.came c.requires.reaches)
+
+pub returns-in-Ok-clause-restamps : goal.returns-in-Ok-clause-restamps
+returns-in-Ok-clause-restamps g c = restamped c.args.plan c.with_stamp.ensures (c.in-Ok.ensures.came c.requires.reaches)
+
+pub returns-in-Err-clause-links : goal.returns-in-Err-clause-links
+returns-in-Err-clause-links g c = asked_links (c.in-Err.ensures.came c.requires.reaches)
+
+pub returns-in-Err-clause-err : goal.returns-in-Err-clause-err
+returns-in-Err-clause-err g c = restamped_not c.args.plan c.fault_of_ask.ensures (c.in-Err.ensures.came c.requires.reaches)

@@ -1,0 +1,32 @@
+-- By whether a datanode is due, and whether one was added.
+use Rattle.std.proofs.Common.{List, refl, rules, subst, sym}
+use Rattle.std.proofs.lemmas.Bool.{false≢true}
+use Rattle.hdfs_cluster.specs.declared.messages.DatanodeInfo.{DatanodeInfo}
+use Rattle.hdfs_rebuild.specs.declared.block_plan.BlockPlan.{BlockPlan}
+use Rattle.hdfs_rebuild.specs.Plans.{IsDue}
+use Rattle.hdfs_rebuild.specs.Replacing.{Completes}
+use Rattle.hdfs_rebuild.proofs.Added.{completes_as_is, completes_with, completes_without}
+use Rattle.hdfs_rebuild.proofs.replacing.complete.Goals as goal
+
+pub returns-then-not-should_replace-clause-completes : goal.returns-then-not-should_replace-clause-completes
+returns-then-not-should_replace-clause-completes g c =
+    completes_as_is c.args.plan c.args.settings.now c.args.excluded.now c.requires.block (g.C.Cluster.shown c.args.cluster.now)
+    (λ due. false≢true (c.if-not-should_replace.ensures.1
+    (subst (λ (nodes : List DatanodeInfo). IsDue c.args.plan c.args.settings.now nodes) (sym c.as_slice-left.ensures) due)))
+
+pub returns-in-Ok-clause-completes : goal.returns-in-Ok-clause-completes
+returns-in-Ok-clause-completes g c =
+    let due = subst (λ (nodes : List DatanodeInfo). IsDue c.args.plan c.args.settings.now nodes) c.as_slice-left.ensures
+    (c.if-not-should_replace.ensures.0 refl) in
+    subst (λ (plan : BlockPlan). Completes c.args.plan c.args.settings.now c.args.excluded.now (g.C.Cluster.shown c.args.cluster.now) plan (g.C.Cluster.shown c.add_datanode.new.cluster))
+    (sym c.with_nodes.ensures)
+    (completes_with c.args.plan c.args.settings.now c.args.excluded.now c.requires.block (g.C.Cluster.shown c.args.cluster.now)
+    c.in-Ok.located (g.C.Cluster.shown c.add_datanode.new.cluster) due c.in-Ok.ensures.adds)
+
+pub returns-in-Err-NoReplacement-clause-completes : goal.returns-in-Err-NoReplacement-clause-completes
+returns-in-Err-NoReplacement-clause-completes g c =
+    let due = subst (λ (nodes : List DatanodeInfo). IsDue c.args.plan c.args.settings.now nodes) c.as_slice-left.ensures
+    (c.if-not-should_replace.ensures.0 refl) in
+    let none = rw c.in-Err-NoReplacement.field-0-is at c.in-Err-NoReplacement.ensures.err in
+    completes_without c.args.plan c.args.settings.now c.args.excluded.now c.requires.block (g.C.Cluster.shown c.args.cluster.now)
+    (g.C.Cluster.shown c.add_datanode.new.cluster) due (search rules) none

@@ -1,0 +1,95 @@
+//! What namenodes are asked for while a block gets another pipeline: its generation stamp, and its datanodes in the block table.
+
+ghost use Rattle.std.specs.Prelude.{◌≡◌, IfOk, IfErr, OnOk, map};
+ghost use Rattle.hdfs_namenode.specs.Asked.{ReachesAll};
+ghost use Rattle.hdfs_namenode.specs.Clients.{SameClient, proxy_of};
+ghost use Rattle.hdfs_rebuild.specs.Between.{KeepsLinks};
+ghost use Rattle.hdfs_rebuild.specs.Resuming.{fault_of_ask, with_stamp, Restamps, RestampsNot, NamesIt, NamesSo, NamesNot};
+
+use crate::block_plan::{BlockPlan, WriteFault};
+use crate::opening::with_stamp_of;
+use hdfs_cluster::{Cluster, DatanodeId, DatanodeInfo, HdfsError, LocatedBlock};
+use hdfs_namenode::NamenodeProtocol;
+use hdfs_wire::{List, NoMemory};
+use std::alloc::Global;
+
+/// What it is for a rebuild that a namenode gave no answer.
+fn fault_of_ask(error: HdfsError) -> WriteFault
+    ensures { result ≡ fault_of_ask error }
+{
+    match error {
+        HdfsError::NoMemory => WriteFault::NoMemory,
+        error => WriteFault::Namenode(error),
+    }
+}
+
+/// Asks for a greater generation stamp for the block of the plan.
+pub(crate) fn restamp<C: Cluster>(
+    cluster: &mut C,
+    namenode: &mut NamenodeProtocol,
+    plan: BlockPlan,
+) -> Result<BlockPlan, WriteFault>
+    requires reaches { ReachesAll (proxy_of namenode.old) (C.shown cluster.old) }
+    ensures links { KeepsLinks (C.shown cluster.old) (C.shown cluster.new) }
+    ensures restamps { IfOk result (λ plan'. Restamps plan (C.shown cluster.old) plan' (C.shown cluster.new)) }
+    ensures err { IfErr result (λ fault. RestampsNot plan (C.shown cluster.old) fault (C.shown cluster.new)) }
+    ensures client { SameClient namenode.old namenode.new }
+{
+    match namenode.update_block_for_pipeline(cluster, &plan.block.b) {
+        Ok(located) => Ok(with_stamp(plan, located)),
+        Err(error) => {
+            drop(plan);
+            Err(fault_of_ask(error))
+        }
+    }
+}
+
+/// The plan with the generation stamp and the token of an answer.
+fn with_stamp(plan: BlockPlan, located: LocatedBlock) -> BlockPlan
+    ensures { result ≡ with_stamp plan located.b.generation_stamp located.block_token }
+{
+    let mut block = plan.block;
+    block.b.generation_stamp = located.b.generation_stamp;
+    block.block_token = located.block_token;
+    BlockPlan { block, ..plan }
+}
+
+/// Who the datanodes are, in memory of their own.
+fn ids_of(alloc: Global, nodes: &[DatanodeInfo]) -> Result<List<DatanodeId>, NoMemory>
+    ensures { IfOk result (λ ids. ids ≡ map (λ node. node.id) nodes.now) }
+{
+    let mut ids = List::new(alloc);
+    for node in nodes {
+        ids.push(node.id.copy(alloc)?)?;
+    }
+    Ok(ids)
+}
+
+/// Names the datanodes of the plan as the pipeline of its block, which has this generation stamp so far, and that of the plan from now
+/// on.
+pub(crate) fn name_pipeline<C: Cluster>(
+    alloc: Global,
+    cluster: &mut C,
+    namenode: &mut NamenodeProtocol,
+    plan: &BlockPlan,
+    stamp: u64,
+) -> Result<(), WriteFault>
+    requires reaches { ReachesAll (proxy_of namenode.old) (C.shown cluster.old) }
+    ensures links { KeepsLinks (C.shown cluster.old) (C.shown cluster.new) }
+    ensures names { OnOk result (NamesSo (NamesIt stamp plan.now) plan.now (C.shown cluster.old) (C.shown cluster.new)) }
+    ensures err { IfErr result (λ fault. NamesNot stamp plan.now (C.shown cluster.old) fault (C.shown cluster.new)) }
+    ensures client { SameClient namenode.old namenode.new }
+{
+    let ids = ids_of(alloc, plan.block.locs.as_slice())?;
+    let block = with_stamp_of(alloc, &plan.block.b, stamp)?;
+    match namenode.update_pipeline(
+        cluster,
+        &block,
+        &plan.block.b,
+        ids.as_slice(),
+        plan.block.storage_ids.as_slice(),
+    ) {
+        Ok(()) => Ok(()),
+        Err(error) => Err(fault_of_ask(error)),
+    }
+}

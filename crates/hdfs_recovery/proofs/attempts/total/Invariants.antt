@@ -1,6 +1,0 @@
-use Rattle.std.proofs.Common.{◌≡◌, ◌+◌, drop}
-use Rattle.hdfs_blocks.specs.Carrying.{total}
-use Rattle.hdfs_recovery.proofs.attempts.total.Given as goal
-
-abbrev pub invariant-loop-packet : goal.invariant-loop-packet
-invariant-loop-packet l = l.sum + total (drop l.packet-index l.packets) ≡ total l.packets
