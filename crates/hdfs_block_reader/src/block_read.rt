@@ -7,8 +7,8 @@ use crate::connecting::{address, connect, ends_well};
 use crate::given_up::GivenUp;
 use crate::packets::{Step, read_ask, span_of};
 use bytes::Bytes;
-use hdfs_connections::ConnectionCache;
 use hdfs_cluster::{Cluster, HdfsError, LinkFault, LocatedBlock, ReadAsk, TransferFault};
+use hdfs_connections::ConnectionCache;
 use hdfs_wire::{List, NoMemory, Text};
 use std::alloc::Global;
 

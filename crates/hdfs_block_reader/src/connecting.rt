@@ -5,8 +5,8 @@ ghost use Rattle.hdfs_block_reader.specs.Blocks.{address_of_node};
 ghost use Rattle.hdfs_block_reader.specs.Connecting.{OpensBehind, WasAsked};
 ghost use Rattle.hdfs_cluster.specs.Shown.{NotOpened};
 
-use hdfs_connections::ConnectionCache;
 use hdfs_cluster::{Cluster, DatanodeId, LinkFault, ReadAsk};
+use hdfs_connections::ConnectionCache;
 use hdfs_wire::NoMemory;
 use std::alloc::Global;
 

@@ -9,10 +9,10 @@ use crate::scenes::{BYTES, Ran, Scene};
 use crate::steps::{open, three_hold};
 use crate::ways::{Failure, Way, failures, never, way_of};
 use hdfs_block_writer::BlockWriter;
-use hdfs_rebuild::BlockPlan;
 use hdfs_cluster::{Appended, LocatedBlock};
 use hdfs_mem_cluster::MemCluster;
 use hdfs_namenode::NamenodeProtocol;
+use hdfs_rebuild::BlockPlan;
 use std::alloc::Global;
 
 /// Whether the first six bytes are written, and the file is closed then.

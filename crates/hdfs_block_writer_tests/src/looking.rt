@@ -5,9 +5,9 @@ ghost use Rattle.hdfs_mem_cluster.specs.MemShown.{shown_of};
 use crate::messages::read_ask;
 use crate::scenes::{BYTES, Outcome, Ran, Scene};
 use bytes::Bytes;
-use hdfs_rebuild::WriteFault;
 use hdfs_cluster::{Block, Cluster, HdfsError, LocatedBlock, LocatedBlocks};
 use hdfs_mem_cluster::{Counts, MemCluster};
+use hdfs_rebuild::WriteFault;
 use std::alloc::Global;
 
 /// How a call has ended: `done`, or why it failed.

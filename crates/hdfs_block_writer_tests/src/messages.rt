@@ -3,8 +3,8 @@ ghost use Rattle.std.specs.Prelude.{◌≡◌, ◌≤◌, IfSome, length};
 ghost use Rattle.hdfs_cluster.specs.Namenode.{IsToWrite};
 ghost use Rattle.hdfs_block_writer_tests.specs.Going.{IsPlanned};
 
-use hdfs_rebuild::BlockPlan;
 use hdfs_cluster::{Block, DatanodeId, DatanodeInfo, LocatedBlock, ReadAsk, Token};
+use hdfs_rebuild::BlockPlan;
 use hdfs_wire::{Blob, List, Text};
 use std::alloc::Global;
 

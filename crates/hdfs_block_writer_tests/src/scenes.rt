@@ -8,11 +8,11 @@ ghost use Rattle.hdfs_namenode.specs.Clients.{proxy_of};
 use crate::messages::plan;
 use crate::ways::{Failure, Way};
 use hdfs_block_writer::BlockWriter;
-use hdfs_rebuild::{BlockPlan, RebuildSettings, WriteFault};
 use hdfs_cluster::{Block, Cluster, HdfsError, LocatedBlock, MemSettings, Store};
 use hdfs_mem_cluster::MemCluster;
 use hdfs_namenode::{NameServiceProxy, NamenodeProtocol};
 use hdfs_names::ReplaceDatanodeOnFailure;
+use hdfs_rebuild::{BlockPlan, RebuildSettings, WriteFault};
 use std::alloc::Global;
 
 /// The bytes that are written: two chunks, and one byte more.

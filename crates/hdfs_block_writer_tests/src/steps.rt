@@ -7,10 +7,10 @@ use crate::messages::plan;
 use crate::scenes::{BYTES, Scene, close_writer, open_writer, settings};
 use crate::ways::{Way, failures, never};
 use hdfs_block_writer::BlockWriter;
-use hdfs_rebuild::{BlockPlan, WriteFault};
 use hdfs_cluster::Block;
 use hdfs_mem_cluster::MemCluster;
 use hdfs_namenode::NamenodeProtocol;
+use hdfs_rebuild::{BlockPlan, WriteFault};
 use std::alloc::Global;
 
 /// The datanodes of the first pipeline.

@@ -7,11 +7,9 @@ mod outages;
 mod pipelines;
 mod reads;
 
-use hdfs_cluster::Cluster;
-
-use hdfs_mem_cluster::MemCluster;
+use hdfs_cluster::{Cluster, Line, MemSettings};
 use hdfs_fakes::{cluster, held};
-use hdfs_cluster::{Line, MemSettings};
+use hdfs_mem_cluster::MemCluster;
 use hdfs_model::Reply;
 use hdfs_plain::{PlainFiles, PlainFold, PlainRefusal, PlainWorld};
 use hdfs_script::{ScriptSettings, parse, session_settings};

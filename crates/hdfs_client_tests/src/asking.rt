@@ -5,10 +5,10 @@ ghost use Rattle.hdfs_mem_cluster.specs.MemShown.{shown_of};
 
 use crate::replies;
 use crate::words::{number, push};
-use hdfs_commands::Session;
-use hdfs_mem_cluster::MemCluster;
-use hdfs_fakes::{holding, settings};
 use hdfs_cluster::Cluster;
+use hdfs_commands::Session;
+use hdfs_fakes::{holding, settings};
+use hdfs_mem_cluster::MemCluster;
 use hdfs_model::Command;
 use hdfs_session::run_session;
 use hdfs_wire::Text;

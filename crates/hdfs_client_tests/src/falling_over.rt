@@ -6,9 +6,9 @@ use crate::asking::{read, run_one};
 use crate::words::{listed, number};
 use bytes::Bytes;
 use hdfs_block_reader::BlockRead;
+use hdfs_cluster::HdfsError;
 use hdfs_connections::ConnectionCache;
 use hdfs_fakes::{FakeCluster, Look, Step, block};
-use hdfs_cluster::HdfsError;
 use std::alloc::Global;
 
 /// The bytes of packets, by what they are in hex.

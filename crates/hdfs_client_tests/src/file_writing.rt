@@ -6,13 +6,13 @@ ghost use Rattle.hdfs_cluster.specs.Namenode.{IsToWrite};
 
 use crate::asking::{read, run_one};
 use crate::words::{number, push, text};
-use hdfs_rebuild::RebuildSettings;
-use hdfs_mem_cluster::MemCluster;
+use hdfs_cluster::{Appended, Cluster, FileStatusMsg, HdfsError};
 use hdfs_fakes::cluster;
 use hdfs_file_writer::{FileWriter, WriteSizes};
-use hdfs_cluster::{Appended, Cluster, FileStatusMsg, HdfsError};
+use hdfs_mem_cluster::MemCluster;
 use hdfs_namenode::{NameServiceProxy, NamenodeProtocol};
 use hdfs_names::{Policy, ReplaceDatanodeOnFailure};
+use hdfs_rebuild::RebuildSettings;
 use hdfs_wire::Text;
 use std::alloc::Global;
 

@@ -5,8 +5,8 @@ ghost use Rattle.hdfs_cluster.specs.declared.errors.Feature.TheVariants as featu
 ghost use Rattle.hdfs_cluster.specs.declared.errors.HdfsError.TheVariants as errors;
 
 use crate::session::Session;
-use hdfs_file_writer::FileWriter;
 use hdfs_cluster::{Cluster, Feature, FileStatusMsg, HdfsError};
+use hdfs_file_writer::FileWriter;
 
 /// Whether a status tells encryption information.
 pub(crate) fn tells_encryption(status: &Option<FileStatusMsg>) -> bool

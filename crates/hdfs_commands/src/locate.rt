@@ -12,7 +12,6 @@ ghost use Rattle.hdfs_namenode.specs.Clients.{SameClient, proxy_of};
 ghost use Rattle.hdfs_commands.specs.Meeting.{IsClosed, Meets};
 
 use hdfs_cluster::{Cluster, HdfsError, LocatedBlocks};
-
 use hdfs_model::Command;
 use hdfs_namenode::NamenodeProtocol;
 use hdfs_wire::Text;

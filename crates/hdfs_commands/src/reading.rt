@@ -20,8 +20,8 @@ ghost use Rattle.hdfs_commands.specs.Ranges.{Stored, HoldsBlock, GoesOn, FailsAt
 
 use crate::finding::find_range;
 use hdfs_block_reader::BlockRead;
-use hdfs_connections::ConnectionCache;
 use hdfs_cluster::{Cluster, HdfsError, LocatedBlock};
+use hdfs_connections::ConnectionCache;
 use hdfs_model::{Command, Reply};
 use hdfs_namenode::NamenodeProtocol;
 use hdfs_wire::{Blob, Text};

@@ -10,12 +10,12 @@ ghost use Rattle.hdfs_model.specs.Steps.{path_of};
 ghost use Rattle.hdfs_cluster.specs.declared.errors.HdfsError.TheVariants as errors;
 
 use crate::reading::read_file;
+use hdfs_cluster::{ArgFault, Cluster, HdfsError};
 use hdfs_connections::ConnectionCache;
 use hdfs_file_writer::FileWriter;
-use hdfs_cluster::{ArgFault, Cluster, HdfsError};
 use hdfs_model::{Command, Reply, Settings};
-use hdfs_names::{absolute_path, is_path};
 use hdfs_namenode::{NameServiceProxy, NamenodeProtocol};
+use hdfs_names::{absolute_path, is_path};
 use hdfs_wire::Text;
 use std::alloc::Global;
 use std::collections::BTreeMap;

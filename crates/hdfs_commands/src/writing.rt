@@ -15,8 +15,8 @@ ghost use Rattle.hdfs_namenode.specs.Relaying.{Came};
 
 use crate::encrypted::tells_encryption;
 use crate::session::Session;
-use hdfs_file_writer::{FileWriter, WriteSizes};
 use hdfs_cluster::{Appended, ArgFault, Cluster, FileStatusMsg, HdfsError, ServerDefaults};
+use hdfs_file_writer::{FileWriter, WriteSizes};
 use hdfs_model::{Reply, WriteOptions};
 use hdfs_rebuild::RebuildSettings;
 use hdfs_wire::{NoMemory, Text};

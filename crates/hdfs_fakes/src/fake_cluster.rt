@@ -4,8 +4,14 @@ ghost use Rattle.hdfs_wire.specs.Outgoing.{checksums};
 ghost use Rattle.hdfs_fakes.specs.Blocks.{IsPair};
 
 use bytes::Bytes;
-use hdfs_cluster::{Answer, Ask, AskFault, Block, Cluster, DatanodeId, DatanodeInfo, LinkFault, LocatedBlock, LocatedBlocks, OpenRead, OpenWrite, ReadAsk, ServerDefaults, Setup, Token, Transfer};
-use hdfs_wire::{Ack, Blob, ChecksumInfo, List, NoMemory, PacketHeader, ReadPacket, Text, WritePacket, put_checksums};
+use hdfs_cluster::{
+    Answer, Ask, AskFault, Block, Cluster, DatanodeId, DatanodeInfo, LinkFault, LocatedBlock,
+    LocatedBlocks, OpenRead, OpenWrite, ReadAsk, ServerDefaults, Setup, Token, Transfer,
+};
+use hdfs_wire::{
+    Ack, Blob, ChecksumInfo, List, NoMemory, PacketHeader, ReadPacket, Text, WritePacket,
+    put_checksums,
+};
 use slab::Slab;
 use std::alloc::Global;
 use std::collections::VecDeque;

@@ -2,10 +2,8 @@
 ghost use Rattle.std.specs.Prelude.{◌≡◌, ◌<◌, IfOk};
 ghost use Rattle.hdfs_mem_cluster.specs.MemShown.{shown_of};
 
-use hdfs_cluster::MemSettings;
-
+use hdfs_cluster::{AddFault, Attributes, Line, MemSettings, Store};
 use hdfs_mem_cluster::MemCluster;
-use hdfs_cluster::{AddFault, Attributes, Line, Store};
 use hdfs_model::Settings;
 use hdfs_names::{Policy, ReplaceDatanodeOnFailure};
 use hdfs_wire::{Blob, NoMemory, Text};

@@ -2,8 +2,8 @@
 ghost use Rattle.std.specs.Prelude.{◌≡◌};
 ghost use Rattle.hdfs_file_writer.specs.Faults.{error_of};
 
-use hdfs_rebuild::WriteFault;
 use hdfs_cluster::{HdfsError, IoFault, TransferFault};
+use hdfs_rebuild::WriteFault;
 
 /// The error that stands for a fault.
 pub(crate) fn error_of(fault: WriteFault) -> HdfsError

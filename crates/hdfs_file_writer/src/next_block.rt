@@ -4,9 +4,9 @@ ghost use Rattle.std.specs.Prelude.{◌≡◌, ◌<◌, ◌≤◌, [], false, No
 use crate::faults::error_of;
 use crate::file_writer::FileWriter;
 use hdfs_block_writer::BlockWriter;
-use hdfs_rebuild::BlockPlan;
 use hdfs_cluster::{Cluster, HdfsError, LocatedBlock};
 use hdfs_namenode::NamenodeProtocol;
+use hdfs_rebuild::BlockPlan;
 use hdfs_wire::NoMemory;
 
 impl FileWriter {

@@ -151,18 +151,21 @@ module _ (space : Namespace) (settings : MemSettings) (last : LastAnswer) (failu
   given_over link None place is = absurd (cc)
   given_over link (Some (links.Read read)) place is = absurd (cc)
   given_over link (Some (links.Write write)) place is =
-      let same : place_of nodes link write ≡ place = ap (λ (o : Option WritePlace). unwrap_or o (place_of nodes link write)) is in
-      (place_of nodes' link write, refl, subst (λ (place : WritePlace). IsGivenOver (uuids transfer.targets) place (place_of nodes' link write)) same (record {
-        block = refl;
-        nodes = refl;
-        base = λ i within. refl;
-        sent = refl;
-        responses = refl;
-        acknowledged = refl;
-        received = λ i within. refl;
-        disturbed = λ i within apart.
-            ap not ((apart_stays (node_at (place_of nodes link write) i) write.setup.block.block_id (λ equal named. apart named)).links link);
-      }))
+      let same : place_of nodes link write ≡ place = ap (λ (o : Option WritePlace). unwrap_or o (place_of nodes link write)) is in (
+        place_of nodes' link write,
+        refl,
+        subst (λ (place : WritePlace). IsGivenOver (uuids transfer.targets) place (place_of nodes' link write)) same (record {
+          block = refl;
+          nodes = refl;
+          base = λ i within. refl;
+          sent = refl;
+          responses = refl;
+          acknowledged = refl;
+          received = λ i within. refl;
+          disturbed = λ i within apart.
+              ap not ((apart_stays (node_at (place_of nodes link write) i) write.setup.block.block_id (λ equal named. apart named)).links link);
+        }),
+      )
 
   links_given_over : LinksAreGivenOver (uuids transfer.targets) p q
   links_given_over = λ link place is. given_over link (slab.get s link) place is

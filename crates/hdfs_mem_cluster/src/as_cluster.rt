@@ -14,7 +14,9 @@ use crate::planned_asks::{answer, failures_after};
 use crate::read_link::MemRead;
 use crate::set_up::enter;
 use crate::write_link::MemWrite;
-use hdfs_cluster::{Answer, Ask, AskFault, Cluster, LastAnswer, LinkFault, LinkKind, ReadAsk, Setup, Transfer};
+use hdfs_cluster::{
+    Answer, Ask, AskFault, Cluster, LastAnswer, LinkFault, LinkKind, ReadAsk, Setup, Transfer,
+};
 use hdfs_wire::{Ack, ChecksumInfo, NoMemory, ReadPacket, WritePacket};
 
 /// How a transfer fails that is planned so. No acknowledgement of it comes to be bad: the connection breaks.

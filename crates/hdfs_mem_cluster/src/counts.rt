@@ -6,8 +6,8 @@ ghost use Rattle.hdfs_mem_cluster.specs.MemShown.{failed_calls, namenode_faults}
 
 use crate::config::Config;
 use crate::mem_cluster::MemCluster;
-use hdfs_mem_faults::FaultPlan;
 use hdfs_mem_datanodes::uuid;
+use hdfs_mem_faults::FaultPlan;
 use hdfs_wire::{List, NoMemory};
 use std::alloc::Global;
 

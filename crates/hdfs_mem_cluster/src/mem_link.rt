@@ -3,9 +3,9 @@ ghost use Rattle.std.specs.Prelude.{◌≡◌, ◌<◌, ◌^◌, IfOk, OnErr};
 
 use crate::read_link::MemRead;
 use crate::write_link::MemWrite;
-use hdfs_mem_faults::FaultPlan;
 use hdfs_cluster::LinkFault;
 use hdfs_mem_datanodes::Datanodes;
+use hdfs_mem_faults::FaultPlan;
 use hdfs_wire::{Ack, NoMemory, ReadPacket, WritePacket};
 use std::alloc::Global;
 

@@ -13,8 +13,8 @@ ghost use Rattle.hdfs_mem_datanodes.specs.Nodes.{SameNodes};
 use crate::known::Known;
 use crate::responding::{is_failure_of, respond};
 use hdfs_cluster::{Answer, Ask, AskFault, AskKind, LastAnswer};
-use hdfs_mem_namenode::{Namespace, exception, last_answer};
 use hdfs_mem_datanodes::Datanodes;
+use hdfs_mem_namenode::{Namespace, exception, last_answer};
 use hdfs_wire::{NoMemory, Text};
 use std::alloc::Global;
 

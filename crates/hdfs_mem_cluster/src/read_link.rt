@@ -7,8 +7,8 @@ ghost use Rattle.hdfs_mem_cluster.specs.Coming.{LeavesOneOut, first_turned};
 ghost use Rattle.hdfs_mem_cluster.specs.Slices.{ComesUnlessBroken, IsNext, StandsIn, TurnsFirst, crc32c_for, place_for, told_for};
 
 use bytes::Bytes;
-use hdfs_mem_faults::FaultPlan;
 use hdfs_cluster::{LinkFault, OpenRead, ReadAsk, ReadKind, ReadPlace, ServerDefaults};
+use hdfs_mem_faults::FaultPlan;
 use hdfs_wire::{ChecksumInfo, NoMemory, PacketHeader, ReadPacket, put_checksums};
 use std::alloc::Global;
 

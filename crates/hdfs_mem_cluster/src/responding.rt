@@ -14,8 +14,8 @@ ghost use Rattle.hdfs_mem_datanodes.specs.Nodes.{SameNodes};
 use crate::known::Known;
 use crate::loaded::Kept;
 use hdfs_cluster::{Answer, Ask, AskFault, Attributes};
-use hdfs_mem_namenode::{Namespace, STANDBY, exception};
 use hdfs_mem_datanodes::Datanodes;
+use hdfs_mem_namenode::{Namespace, STANDBY, exception};
 use hdfs_wire::NoMemory;
 use std::alloc::Global;
 

@@ -6,9 +6,9 @@ ghost use Rattle.hdfs_mem_cluster.specs.SettingUp.{CountsSetUp};
 ghost use Rattle.hdfs_mem_datanodes.specs.Nodes.{held_in, undisturbed_in, is_named, SameNodes};
 
 use crate::mem_link::MemLink;
-use hdfs_mem_faults::FaultPlan;
 use hdfs_cluster::{LinkFault, LinkKind, Setup};
 use hdfs_mem_datanodes::{Datanodes, Held};
+use hdfs_mem_faults::FaultPlan;
 use slab::Slab;
 use std::alloc::Global;
 

@@ -12,8 +12,8 @@ ghost use Rattle.hdfs_mem_cluster.specs.Shortening.{left_on, leaves_whole, CanCu
 use crate::loaded::Kept;
 use crate::mem_cluster::MemCluster;
 use hdfs_cluster::{AddFault, BlockEntry};
-use hdfs_mem_namenode::Namespace;
 use hdfs_mem_datanodes::Datanodes;
+use hdfs_mem_namenode::Namespace;
 use hdfs_wire::{NoMemory, Text};
 use std::alloc::Global;
 use std::collections::BTreeMap;

@@ -18,8 +18,8 @@ ghost use Rattle.hdfs_mem_datanodes.specs.Nodes.{held_in, undisturbed_in, SameNo
 
 use bytes::Bytes;
 use hdfs_cluster::{Attributes, FileEntry};
-use hdfs_mem_namenode::Namespace;
 use hdfs_mem_datanodes::Datanodes;
+use hdfs_mem_namenode::Namespace;
 use hdfs_wire::{List, NoMemory};
 use std::alloc::Global;
 

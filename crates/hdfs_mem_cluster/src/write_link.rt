@@ -6,9 +6,9 @@ ghost use Rattle.hdfs_cluster.specs.Sending.{offset_of, uuids};
 ghost use Rattle.hdfs_mem_cluster.specs.Telling.{GoesOn, TellsAll};
 
 use bytes::Bytes;
-use hdfs_mem_faults::FaultPlan;
 use hdfs_cluster::{DatanodeInfo, Setup};
 use hdfs_mem_datanodes::{Datanodes, Held};
+use hdfs_mem_faults::FaultPlan;
 use hdfs_wire::{Ack, List, NoMemory, PacketHeader, WritePacket};
 use std::alloc::Global;
 

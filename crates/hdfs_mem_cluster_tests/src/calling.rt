@@ -6,7 +6,10 @@ ghost use Rattle.hdfs_namenode.specs.Clients.{proxy_of};
 use crate::making::{info, named, node};
 use crate::reading::read_located;
 use crate::telling::{tell_block, tell_error, tell_located, tell_nodes};
-use hdfs_cluster::{Appended, Block, DatanodeId, DatanodeInfo, FileStatusMsg, HdfsError, LocatedBlock, LocatedBlocks};
+use hdfs_cluster::{
+    Appended, Block, DatanodeId, DatanodeInfo, FileStatusMsg, HdfsError, LocatedBlock,
+    LocatedBlocks,
+};
 use hdfs_mem_cluster::MemCluster;
 use hdfs_namenode::NamenodeProtocol;
 use hdfs_steps::{Said, Words, is_true, number, small};

@@ -1,5 +1,7 @@
 //! Answers and errors in words.
-use hdfs_cluster::{Answer, AskFault, DatanodeInfo, HdfsError, LinkFault, LocatedBlock, LocatedBlocks};
+use hdfs_cluster::{
+    Answer, AskFault, DatanodeInfo, HdfsError, LinkFault, LocatedBlock, LocatedBlocks,
+};
 use hdfs_steps::Said;
 
 /// A client's error, by its name, and of a namenode's exception its class.

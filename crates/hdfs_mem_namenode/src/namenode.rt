@@ -14,7 +14,10 @@ ghost use Rattle.hdfs_mem_namenode.specs.Memory.{table_of, total, is_length};
 
 use crate::blocks::kth_id;
 use crate::namespace::Namespace;
-use hdfs_cluster::{Answer, AskFault, Attributes, Block, BlockEntry, DatanodeId, DatanodeInfo, Entry, FileEntry, LastAnswer, LocatedBlock, LocatedBlocks, Token};
+use hdfs_cluster::{
+    Answer, AskFault, Attributes, Block, BlockEntry, DatanodeId, DatanodeInfo, Entry, FileEntry,
+    LastAnswer, LocatedBlock, LocatedBlocks, Token,
+};
 use hdfs_names::nearest_ancestor;
 use hdfs_wire::{Blob, List, NoMemory, Text};
 use std::alloc::Global;

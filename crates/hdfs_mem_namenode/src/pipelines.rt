@@ -50,7 +50,11 @@ fn bar(alloc: Global, barred: &mut BTreeSet<String>, nodes: &[DatanodeInfo]) -> 
 }
 
 /// Puts the hosts of datanodes into a set.
-fn bar_hosts(alloc: Global, barred: &mut BTreeSet<String>, nodes: &[DatanodeInfo]) -> Result<(), NoMemory>
+fn bar_hosts(
+    alloc: Global,
+    barred: &mut BTreeSet<String>,
+    nodes: &[DatanodeInfo],
+) -> Result<(), NoMemory>
     ensures { OnOk result ((uuid : List ℕ) → contains_text barred.new uuid ≡ (is_addressed nodes.now uuid || contains_text barred.old uuid)) }
 {
     for node in nodes {

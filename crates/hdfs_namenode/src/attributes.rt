@@ -5,7 +5,10 @@ ghost use Rattle.hdfs_cluster.specs.declared.asks.Answer.TheVariants as answers;
 ghost use Rattle.hdfs_namenode.specs.Asked.{AskedOnce, IsServiceOf, as_answer};
 
 use crate::protocol::NamenodeProtocol;
-use hdfs_cluster::{AclEntryMsg, AclStatusMsg, Answer, Ask, Cluster, HdfsError, copy_acl_entries, copy_optional_text};
+use hdfs_cluster::{
+    AclEntryMsg, AclStatusMsg, Answer, Ask, Cluster, HdfsError, copy_acl_entries,
+    copy_optional_text,
+};
 use hdfs_wire::Text;
 
 impl NamenodeProtocol {

@@ -8,8 +8,8 @@ ghost use Rattle.hdfs_namenode.specs.Renewing.{Renews, turn_of};
 ghost use Rattle.hdfs_namenode.specs.declared.leases.LeaseTurn.TheVariants.{Idle, Waiting};
 
 use crate::protocol::NamenodeProtocol;
-use hdfs_leases::LeaseNeed;
 use hdfs_cluster::{Ask, Cluster, HdfsError, copy_texts};
+use hdfs_leases::LeaseNeed;
 use hdfs_wire::{NoMemory, Text};
 
 /// What was done with the leases at a moment.

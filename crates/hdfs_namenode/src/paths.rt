@@ -6,7 +6,9 @@ ghost use Rattle.hdfs_namenode.specs.Asked.{AskedOnce, IsServiceOf, ReachesAll, 
 ghost use Rattle.hdfs_namenode.specs.Relaying.{Came};
 
 use crate::protocol::NamenodeProtocol;
-use hdfs_cluster::{Answer, Ask, Cluster, DirList, FileStatusMsg, HdfsError, LocatedBlocks, Summary};
+use hdfs_cluster::{
+    Answer, Ask, Cluster, DirList, FileStatusMsg, HdfsError, LocatedBlocks, Summary,
+};
 use hdfs_wire::{Blob, Text};
 
 impl NamenodeProtocol {

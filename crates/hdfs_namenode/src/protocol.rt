@@ -8,8 +8,8 @@ ghost use Rattle.hdfs_namenode.specs.Asked.{Asked, IsServiceOf, ReachesAll, Same
 ghost use Rattle.hdfs_namenode.specs.Relaying.{Came, CameCached};
 
 use crate::proxy::NameServiceProxy;
-use hdfs_leases::FileLeases;
 use hdfs_cluster::{Answer, Ask, Cluster, EncryptionKey, HdfsError, ServerDefaults};
+use hdfs_leases::FileLeases;
 use hdfs_wire::{NoMemory, Text};
 use std::alloc::Global;
 use uuid::Uuid;

@@ -9,7 +9,10 @@ ghost use Rattle.hdfs_namenode.specs.Relaying.{Came};
 
 use crate::copies::copy_block;
 use crate::protocol::NamenodeProtocol;
-use hdfs_cluster::{Answer, Appended, Ask, Block, Cluster, DatanodeId, DatanodeInfo, FileStatusMsg, HdfsError, LocatedBlock, copy_ids, copy_nodes, copy_texts};
+use hdfs_cluster::{
+    Answer, Appended, Ask, Block, Cluster, DatanodeId, DatanodeInfo, FileStatusMsg, HdfsError,
+    LocatedBlock, copy_ids, copy_nodes, copy_texts,
+};
 use hdfs_wire::{NoMemory, Text};
 
 impl NamenodeProtocol {

@@ -3,8 +3,13 @@ ghost use Rattle.std.specs.Prelude.{◌≡◌, ◌<◌, Err, IfOk, IfSome};
 ghost use Rattle.hdfs_cluster.specs.Namenode.{IsFailure, IsFalse, IsShaped, last_of};
 ghost use Rattle.hdfs_namenode_tests.specs.Namenodes.{GivesNone};
 
-use hdfs_cluster::{AclStatusMsg, Answer, Ask, AskFault, Cluster, EncryptionKey, LastAnswer, LinkFault, OpenRead, OpenWrite, ReadAsk, ServerDefaults, Setup, Summary, Transfer};
-use hdfs_wire::{Ack, Blob, ChecksumInfo, List, NoMemory, ReadPacket, Text, WireFault, WritePacket};
+use hdfs_cluster::{
+    AclStatusMsg, Answer, Ask, AskFault, Cluster, EncryptionKey, LastAnswer, LinkFault, OpenRead,
+    OpenWrite, ReadAsk, ServerDefaults, Setup, Summary, Transfer,
+};
+use hdfs_wire::{
+    Ack, Blob, ChecksumInfo, List, NoMemory, ReadPacket, Text, WireFault, WritePacket,
+};
 use slab::Slab;
 use std::alloc::Global;
 

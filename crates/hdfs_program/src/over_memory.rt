@@ -5,7 +5,6 @@ ghost use Rattle.hdfs_top.specs.Top.{IsSession};
 ghost use Rattle.hdfs_program.specs.Program.{RanNew, PrintsRefusal, PrintsReplies, PrintsFault, NotesPrinted, FaultlessDecides};
 
 use hdfs_cluster::MemSettings;
-
 use hdfs_mem_cluster::MemCluster;
 use hdfs_streams::{Sink, Source};
 use hdfs_top::{Note, failed_names, top};

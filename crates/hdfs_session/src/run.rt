@@ -6,8 +6,8 @@ ghost use Rattle.hdfs_model.specs.Sessions.{world_of, none_open};
 ghost use Rattle.hdfs_model.specs.Limits.{are_settings};
 ghost use Rattle.hdfs_commands.specs.Session.{IsNotBegun, StopsAtOnce};
 
-use hdfs_commands::Session;
 use hdfs_cluster::{Cluster, HdfsError};
+use hdfs_commands::Session;
 use hdfs_model::{Command, Fault, Reply, Settings};
 use hdfs_wire::List;
 use std::alloc::Global;

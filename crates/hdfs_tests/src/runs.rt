@@ -1,8 +1,8 @@
 //! Words that are refused, and sources and sinks that fail.
 
 use hdfs_checking::{answer_words, failing_sink, failing_source, sink, source, store_of};
-use hdfs_mem_cluster::MemCluster;
 use hdfs_cluster::Store;
+use hdfs_mem_cluster::MemCluster;
 use hdfs_streams::{MemSink, MemSource};
 use std::alloc::Global;
 use std::test::Fail;

@@ -1,7 +1,8 @@
 //! The texts of errors.
 
-use hdfs_cluster::{AddFault, ArgFault, AskFault, Feature, HdfsError, IoFault, LinkFault, TransferFault};
-
+use hdfs_cluster::{
+    AddFault, ArgFault, AskFault, Feature, HdfsError, IoFault, LinkFault, TransferFault,
+};
 use hdfs_model::Fault;
 use hdfs_plain::PlainRefusal;
 use hdfs_streams::{IoFailed, ReadFault};

@@ -10,7 +10,6 @@ ghost use Rattle.hdfs_script.specs.Parsing as spec;
 ghost use Rattle.hdfs_top.specs.Inside.{LoadsAll, LoadsScript, Readies, RefusesScript};
 
 use hdfs_cluster::{AddFault, MemSettings, Store};
-
 use hdfs_model::Command;
 use hdfs_script::{NumberedLine, Parsed, is_fault};
 use hdfs_wire::{List, NoMemory};

@@ -4,7 +4,7 @@ ghost use Rattle.hdfs_mem_cluster.specs.MemShown.{shown_of};
 ghost use Rattle.hdfs_uses.specs.Trying.{IsRead};
 
 use crate::failed::Failed;
-use hdfs_cluster::{MemSettings, Attributes, FaultLine, HdfsError, Line, ReadKind, Store};
+use hdfs_cluster::{Attributes, FaultLine, HdfsError, Line, MemSettings, ReadKind, Store};
 use hdfs_mem_cluster::MemCluster;
 use hdfs_model::{Command, Settings};
 use hdfs_names::{Policy, ReplaceDatanodeOnFailure};

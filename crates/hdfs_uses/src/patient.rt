@@ -4,8 +4,8 @@ ghost use Rattle.hdfs_model.specs.Sessions.{world_of};
 ghost use Rattle.hdfs_uses.specs.Trying.{AnsweredWhereReady, IsRead};
 
 use crate::advice::{Advice, advice_on};
-use hdfs_commands::Session;
 use hdfs_cluster::{Cluster, HdfsError};
+use hdfs_commands::Session;
 use hdfs_model::{Command, Reply, Settings};
 use std::alloc::Global;
 
