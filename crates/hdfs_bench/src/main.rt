@@ -30,59 +30,59 @@ use writes::write_files;
 
 /// What the words name, over two numbers.
 fn measure(alloc: Global, name: &str, first: usize, second: usize) -> Result<u64, Fault> {
-    if name == "crc32c" {
-        return Ok(u64::from(folded_sum(alloc, Kind::Crc32c, first, second)?));
-    }
-    if name == "crc32" {
-        return Ok(u64::from(folded_sum(alloc, Kind::Crc32, first, second)?));
-    }
-    if name == "frames" && second > 0 {
-        return count_frames(alloc, &stream(alloc, first)?, second);
-    }
-    if name == "packets" {
-        return payload_bytes(alloc, first, second);
-    }
-    if name == "checks" {
-        return checked_bytes(alloc, first, second);
-    }
     if let Some(code) = name.strip_prefix("encode") {
         return encode(alloc, code_of(code)?, first, second);
     }
     if let Some(code) = name.strip_prefix("decode") {
         return decode(alloc, code_of(code)?, first, second);
     }
-    if name == "products" {
-        return Ok(products(first, second));
-    }
-    if name == "quotients" {
-        return Ok(quotients(first, second));
-    }
-    if name == "stars" {
-        return match_stars(alloc, first, second);
-    }
-    if name == "pipeline" {
-        return count_events(alloc, first, second);
-    }
     if let Some(replication) = name.strip_prefix("files_") {
         return write_files(alloc, replication.parse()?, first, second);
     }
-    Err(Fault::Words)
+    match name {
+        "products" => Ok(products(first, second)),
+        "quotients" => Ok(quotients(first, second)),
+        "stars" => match_stars(alloc, first, second),
+        "pipeline" => count_events(alloc, first, second),
+        _ => measure_wire(alloc, name, first, second),
+    }
+}
+
+/// What the words name of what is sent, over two numbers.
+fn measure_wire(alloc: Global, name: &str, first: usize, second: usize) -> Result<u64, Fault> {
+    match name {
+        "crc32c" => Ok(u64::from(folded_sum(alloc, Kind::Crc32c, first, second)?)),
+        "crc32" => Ok(u64::from(folded_sum(alloc, Kind::Crc32, first, second)?)),
+        "frames" if second > 0 => count_frames(alloc, &stream(alloc, first)?, second),
+        "packets" => payload_bytes(alloc, first, second),
+        "checks" => checked_bytes(alloc, first, second),
+        _ => Err(Fault::Words),
+    }
+}
+
+/// The words of the command line.
+fn words_of(rt: &HostRuntime) -> Result<Vec<String>, Fault> {
+    let mut words = Vec::new(rt.alloc());
+    for word in env::args(rt)?.skip(1) {
+        words.push(word)?;
+    }
+    Ok(words)
+}
+
+/// What words name, over the two numbers behind it.
+fn measure_words(alloc: Global, words: &[String]) -> Result<u64, Fault> {
+    let [name, first, second] = words else {
+        return Err(Fault::Words);
+    };
+    let first = first.as_str().parse()?;
+    let second = second.as_str().parse()?;
+    measure(alloc, name.as_str(), first, second)
 }
 
 fn main(rt: HostRuntime) -> Result<(), Fault> {
-    let mut words = Vec::new(rt.alloc());
-    for word in env::args(&rt)?.skip(1) {
-        words.push(word)?;
-    }
-    let [name, first, second] = words.as_slice() else {
-        return Err(Fault::Words);
-    };
-    let number = measure(
-        rt.alloc(),
-        name.as_str(),
-        first.as_str().parse()?,
-        second.as_str().parse()?,
-    )?;
-    println!(rt; "{number}")?;
+    let words = words_of(&rt)?;
+    let number = measure_words(rt.alloc(), words.as_slice());
+    drop(words);
+    println!(rt; "{}", number?)?;
     Ok(())
 }

@@ -34,16 +34,26 @@ pub(crate) fn payload_bytes(alloc: Global, size: usize, times: usize) -> Result<
     Ok(bytes)
 }
 
-/// The payload bytes of one packet with this many bytes, or as many as it has room for, which is read and checked so many times.
-pub(crate) fn checked_bytes(alloc: Global, size: usize, times: usize) -> Result<u64, Fault> {
+/// The text of a packet with this many bytes, or as many as it has room for.
+fn packet_text(alloc: Global, size: usize) -> Result<Bytes, Fault> {
     let payload = vec![in alloc; 7u8; size]?;
     let mut packet = WritePacket::empty(alloc, 0, 0, 512, 65536)?;
     packet.write(payload.as_slice());
-    let text = Bytes::from_vec(packet.encode(alloc)?)?;
+    Ok(Bytes::from_vec(packet.encode(alloc)?)?)
+}
+
+/// Reads and checks a packet, and counts its payload bytes.
+fn checked(alloc: Global, text: &Bytes) -> Result<u64, Fault> {
+    let data = ReadPacket::parse(alloc, text.clone()?)?.get_data(Some(&SUMS))?;
+    Ok(data.len() as u64)
+}
+
+/// The payload bytes of one packet with this many bytes, or as many as it has room for, which is read and checked so many times.
+pub(crate) fn checked_bytes(alloc: Global, size: usize, times: usize) -> Result<u64, Fault> {
+    let text = packet_text(alloc, size)?;
     let mut bytes: u64 = 0;
     for _ in 0..times {
-        let data = ReadPacket::parse(alloc, text.clone()?)?.get_data(Some(&SUMS))?;
-        bytes = bytes.saturating_add(data.len() as u64);
+        bytes = bytes.saturating_add(checked(alloc, &text)?);
     }
     Ok(bytes)
 }

@@ -43,6 +43,45 @@ fn make_packets(alloc: Global, rounds: usize) -> Result<u64, Fault> {
     Ok(made)
 }
 
+/// Fills the window of a pipeline with the packets below this number.
+fn fill(alloc: Global, core: &mut PipelineCore, end: i64) -> Result<(), Fault> {
+    for seqno in 0..end {
+        send(alloc, core, seqno)?;
+    }
+    Ok(())
+}
+
+/// So many times lets the oldest packet be acknowledged, and another one come in, be taken and be sent. Counts these four events of each time.
+fn turn(
+    alloc: Global,
+    core: &mut PipelineCore,
+    ack: &mut Ack,
+    first: i64,
+    rounds: usize,
+) -> Result<u64, Fault> {
+    let mut next = first;
+    let mut events: u64 = 0;
+    for _ in 0..rounds {
+        acknowledge(core, ack)?;
+        send(alloc, core, next)?;
+        ack.seqno = ack.seqno.wrapping_add(1);
+        next = next.wrapping_add(1);
+        events = events.saturating_add(4);
+    }
+    Ok(events)
+}
+
+/// Fills the window of a pipeline, and then lets so many packets through it.
+fn run(alloc: Global, core: &mut PipelineCore, window: u32, rounds: usize) -> Result<u64, Fault> {
+    let first = i64::from(window);
+    fill(alloc, core, first)?;
+    let mut ack = Ack {
+        seqno: 0,
+        replies: List::from_vec(vec![in alloc; 0u32; NODES as usize]?),
+    };
+    turn(alloc, core, &mut ack, first, rounds)
+}
+
 /// Fills the window of a pipeline, and then so many times lets the oldest packet be acknowledged, and another one come in, be
 /// taken and be sent. Counts these four events of each time. With a window of 0 there is no pipeline, and the packets alone
 /// are made.
@@ -53,23 +92,7 @@ pub(crate) fn count_events(alloc: Global, window: usize, rounds: usize) -> Resul
     if window > 1000 {
         return Err(Fault::Words);
     }
-    let mut core = PipelineCore::with_room(alloc, window as u32, NODES)?;
-    let mut next = 0i64;
-    for _ in 0..window {
-        send(alloc, &mut core, next)?;
-        next = next.wrapping_add(1);
-    }
-    let mut ack = Ack {
-        seqno: 0,
-        replies: List::from_vec(vec![in alloc; 0u32; NODES as usize]?),
-    };
-    let mut events: u64 = 0;
-    for _ in 0..rounds {
-        acknowledge(&mut core, &ack)?;
-        send(alloc, &mut core, next)?;
-        ack.seqno = ack.seqno.wrapping_add(1);
-        next = next.wrapping_add(1);
-        events = events.saturating_add(4);
-    }
-    Ok(events)
+    let window = window as u32;
+    let mut core = PipelineCore::with_room(alloc, window, NODES)?;
+    run(alloc, &mut core, window, rounds)
 }

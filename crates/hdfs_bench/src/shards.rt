@@ -49,17 +49,34 @@ fn encoded(alloc: Global, coder: &Coder, shards: &[Bytes]) -> Result<Vec<Bytes>,
     Ok(coder.encode(alloc, shards)?)
 }
 
+/// Encodes shards, and counts the bytes of parity.
+fn encode_once(alloc: Global, coder: &Coder, shards: &[Bytes]) -> Result<u64, Fault> {
+    let mut bytes = 0u64;
+    for shard in encoded(alloc, coder, shards)?.as_slice() {
+        bytes = bytes.saturating_add(shard.len() as u64);
+    }
+    Ok(bytes)
+}
+
+/// Encodes shards so many times, and counts the bytes of parity.
+fn encode_often(
+    alloc: Global,
+    coder: &Coder,
+    shards: &[Bytes],
+    times: usize,
+) -> Result<u64, Fault> {
+    let mut bytes = 0u64;
+    for _ in 0..times {
+        bytes = bytes.saturating_add(encode_once(alloc, coder, shards)?);
+    }
+    Ok(bytes)
+}
+
 /// Encodes shards of this size so many times, and counts the bytes of parity.
 pub(crate) fn encode(alloc: Global, code: Code, size: usize, times: usize) -> Result<u64, Fault> {
     let coder = coder_of(alloc, code)?;
     let shards = data_shards(alloc, code, size)?;
-    let mut bytes = 0u64;
-    for _ in 0..times {
-        for shard in encoded(alloc, &coder, &shards)? {
-            bytes = bytes.saturating_add(shard.len() as u64);
-        }
-    }
-    Ok(bytes)
+    encode_often(alloc, &coder, &shards, times)
 }
 
 /// The places in which the first data shards are missing, as many as there are parity shards.
@@ -87,15 +104,31 @@ fn decoded(alloc: Global, coder: &Coder, mut places: Vec<Option<Bytes>>) -> Resu
     }
 }
 
+/// Decodes lost data shards so many times, and counts the bytes of the first.
+fn decode_often(
+    alloc: Global,
+    coder: &Coder,
+    shards: &[Bytes],
+    parity: &[Bytes],
+    times: usize,
+) -> Result<u64, Fault> {
+    let mut bytes = 0u64;
+    for _ in 0..times {
+        let places = left(alloc, shards, parity)?;
+        bytes = bytes.saturating_add(decoded(alloc, coder, places)?);
+    }
+    Ok(bytes)
+}
+
+/// Encodes shards, and then decodes as many lost ones as there are parity shards so many times.
+fn decode_all(alloc: Global, coder: &Coder, shards: &[Bytes], times: usize) -> Result<u64, Fault> {
+    let parity = encoded(alloc, coder, shards)?;
+    decode_often(alloc, coder, shards, parity.as_slice(), times)
+}
+
 /// Decodes as many lost data shards as there are parity shards, of this size, so many times, and counts the bytes of the first.
 pub(crate) fn decode(alloc: Global, code: Code, size: usize, times: usize) -> Result<u64, Fault> {
     let coder = coder_of(alloc, code)?;
     let shards = data_shards(alloc, code, size)?;
-    let parity = encoded(alloc, &coder, &shards)?;
-    let mut bytes = 0u64;
-    for _ in 0..times {
-        let places = left(alloc, &shards, &parity)?;
-        bytes = bytes.saturating_add(decoded(alloc, &coder, places)?);
-    }
-    Ok(bytes)
+    decode_all(alloc, &coder, &shards, times)
 }

@@ -2,8 +2,8 @@
 
 use crate::checks::told;
 use crate::escapes::bytes_of;
-use hdfs_checking::{noted, store_of};
-use hdfs_mem_cluster::MemCluster;
+use hdfs_checking::{Ending, noted, store_of};
+use hdfs_mem_cluster::{MemCluster, let_go};
 use std::alloc::Global;
 use std::fs;
 use std::test::Fail;
@@ -16,11 +16,14 @@ pub(crate) struct Run<'a> {
     checks: Vec<&'a str>,
 }
 
+/// What the lines begin with that say what is to be so behind a script.
+const CHECKS: [&str; 8] = [
+    "= ", "note ", "counts ", "listed ", "stamps ", "open ", "plain", "active ",
+];
+
 /// Whether a line says what is to be so behind a script.
 fn is_check(line: &str) -> bool {
-    ["= ", "note ", "counts ", "listed ", "plain", "active "]
-        .iter()
-        .any(|word| line.starts_with(*word))
+    CHECKS.iter().any(|word| line.starts_with(*word))
 }
 
 /// The lines of a file.
@@ -54,16 +57,23 @@ impl<'a> Run<'a> {
     /// to be written; a reply; or what else is to be so.
     fn take(&mut self, rt: &HostRuntime, line: &'a str) -> Result<(), Fail> {
         if is_check(line) {
-            self.checks.push(line)?;
-        } else if let Some(reply) = line.strip_prefix("> ") {
-            self.write(reply)?;
-        } else if let Some(names) = line.strip_prefix("from ") {
-            self.take_files(rt, names)?;
-        } else if let Some(script) = line.strip_prefix("script ") {
-            self.script = bytes_of(rt.alloc(), script)?;
-        } else {
-            self.take_line(line)?;
+            return Ok(self.checks.push(line)?);
         }
+        if let Some(reply) = line.strip_prefix("> ") {
+            return self.write(reply);
+        }
+        if let Some(names) = line.strip_prefix("from ") {
+            return self.take_files(rt, names);
+        }
+        match line.strip_prefix("script ") {
+            Some(script) => self.take_script(rt.alloc(), script),
+            None => self.take_line(line),
+        }
+    }
+
+    /// A script in one line.
+    fn take_script(&mut self, alloc: Global, script: &str) -> Result<(), Fail> {
+        self.script = bytes_of(alloc, script)?;
         Ok(())
     }
 
@@ -86,56 +96,120 @@ impl<'a> Run<'a> {
         Ok(())
     }
 
+    /// Two files, or one: with the script, and with what is to be written.
     fn take_files(&mut self, rt: &HostRuntime, names: &str) -> Result<(), Fail> {
         let (script, written) = names.split_once(' ').unwrap_or((names, names));
-        let script = lines_of(rt, script)?;
-        self.script.extend_from_slice(script.as_bytes())?;
-        let written = lines_of(rt, written)?;
-        self.written.push_str(written.as_str())?;
+        self.take_script_of(rt, script)?;
+        self.take_written_of(rt, written)
+    }
+
+    fn take_script_of(&mut self, rt: &HostRuntime, name: &str) -> Result<(), Fail> {
+        let lines = lines_of(rt, name)?;
+        self.script.extend_from_slice(lines.as_bytes())?;
+        Ok(())
+    }
+
+    fn take_written_of(&mut self, rt: &HostRuntime, name: &str) -> Result<(), Fail> {
+        let lines = lines_of(rt, name)?;
+        self.written.push_str(lines.as_str())?;
+        Ok(())
+    }
+
+    /// Tells what was written for the script, if that differs from what is to be so.
+    fn compare_text(&self, text: &str, differences: &mut String) -> Result<(), Fail> {
+        if text != self.written.as_str() {
+            writeln!(differences, "writes\n{text}and not\n{}", self.written)?;
+        }
+        Ok(())
+    }
+
+    /// Tells what differs, of what was written for the script and noted, from what is to be so.
+    fn compare(
+        &self,
+        alloc: Global,
+        store: &mut MemCluster,
+        given: &Ending,
+        note: &str,
+        differences: &mut String,
+    ) -> Result<(), Fail> {
+        self.compare_text(given.text.as_str(), differences)?;
+        for check in self.checks.as_slice() {
+            let found = told(alloc, check, self, given, note, store)?;
+            push_difference(differences, check, found.as_str())?;
+        }
         Ok(())
     }
 
     /// Runs the script over a store, and tells what differs from what is to be so.
-    fn check(&self, alloc: Global, store: &mut MemCluster) -> Result<String, Fail> {
-        let mut differences = String::new(alloc);
+    fn check(
+        &self,
+        alloc: Global,
+        store: &mut MemCluster,
+        differences: &mut String,
+    ) -> Result<(), Fail> {
         let (given, note) = noted(alloc, self.script.as_slice(), store)?;
-        if given.text != self.written {
-            let text = given.text.as_str();
-            writeln!(differences, "writes\n{text}and not\n{}", self.written)?;
-        }
-        for check in self.checks.as_slice() {
-            let found = told(alloc, check, self, &given, note.as_str(), store)?;
-            if found.as_str() != *check {
-                writeln!(differences, "{check}, but {found}")?;
-            }
-        }
-        Ok(differences)
+        self.compare(alloc, store, &given, note.as_str(), differences)
     }
 }
 
-/// Runs the scripts of a case in turn over one cluster, and tells what differs.
-fn check_case(rt: &HostRuntime, lines: &str) -> Result<String, Fail> {
-    let alloc = rt.alloc();
-    let behind = lines.strip_prefix("held\n");
-    let mut store = store_of(alloc, behind.is_some())?;
-    let mut differences = String::new(alloc);
-    for part in behind.unwrap_or(lines).split("\nthen\n") {
-        let run = Run::read(rt, part)?;
-        differences.push_str(run.check(alloc, &mut store)?.as_str())?;
+/// Tells what was found in the place of what is to be so, if it is another.
+fn push_difference(differences: &mut String, check: &str, found: &str) -> Result<(), Fail> {
+    if found != check {
+        writeln!(differences, "{check}, but {found}")?;
     }
-    Ok(differences)
+    Ok(())
+}
+
+/// Runs a script of a case over a cluster, and tells what differs.
+fn check_part(
+    rt: &HostRuntime,
+    part: &str,
+    store: &mut MemCluster,
+    differences: &mut String,
+) -> Result<(), Fail> {
+    let run = Run::read(rt, part)?;
+    run.check(rt.alloc(), store, differences)
+}
+
+/// Runs the scripts of a case in turn over one cluster, and tells what differs.
+fn check_parts(
+    rt: &HostRuntime,
+    lines: &str,
+    store: &mut MemCluster,
+    differences: &mut String,
+) -> Result<(), Fail> {
+    for part in lines.split("\nthen\n") {
+        check_part(rt, part, store, differences)?;
+    }
+    Ok(())
+}
+
+/// Runs the scripts of a case in turn over one new cluster, and tells what differs.
+fn check_case(rt: &HostRuntime, lines: &str, differences: &mut String) -> Result<(), Fail> {
+    let behind = lines.strip_prefix("held\n");
+    let mut store = store_of(rt.alloc(), behind.is_some())?;
+    let checked = check_parts(rt, behind.unwrap_or(lines), &mut store, differences);
+    let_go(store);
+    checked
+}
+
+/// Whether a case holds. It is printed if it doesn't, with what differs.
+fn holds(rt: &HostRuntime, case: &str) -> Result<bool, Fail> {
+    let (name, lines) = case.split_once('\n').unwrap_or((case, ""));
+    let mut differences = String::new(rt.alloc());
+    check_case(rt, lines, &mut differences)?;
+    if !differences.is_empty() {
+        println!(rt; "{name}:\n{}", differences.as_str())?;
+    }
+    Ok(differences.is_empty())
 }
 
 /// How many cases hold. Each other one is printed, with what differs.
 pub(crate) fn check_cases(rt: &HostRuntime, text: &str) -> Result<u64, Fail> {
     let mut holding = 0u64;
     for case in text.split("\n== ").skip(1) {
-        let (name, lines) = case.split_once('\n').unwrap_or((case, ""));
-        let differences = check_case(rt, lines)?;
-        if differences.is_empty() {
+        if holds(rt, case)? {
             holding = holding.saturating_add(1);
-        } else {
-            println!(rt; "{name}:\n{}", differences.as_str())?;
         }
     }
     Ok(holding)

@@ -25,19 +25,19 @@ pub(crate) fn bytes_of(alloc: Global, line: &str) -> Result<Vec<u8>, AllocError>
     Ok(bytes)
 }
 
-/// Adds the bytes of a piece behind a backslash.
-fn push_piece(bytes: &mut Vec<u8>, piece: &str) -> Result<(), AllocError> {
+/// The byte that a piece behind a backslash begins with, and what stands behind it.
+fn split_piece(piece: &str) -> (u8, &str) {
     let letter = piece.chars().next().unwrap_or('\\');
     let digits = piece.get(1..3).unwrap_or("");
     match u8::from_str_radix(digits, 16) {
-        Ok(byte) if letter == 'x' => {
-            bytes.push(byte)?;
-            bytes.extend_from_slice(piece.get(3..).unwrap_or("").as_bytes())?;
-        }
-        _ => {
-            bytes.push(escaped(letter))?;
-            bytes.extend_from_slice(piece.get(1..).unwrap_or("").as_bytes())?;
-        }
+        Ok(byte) if letter == 'x' => (byte, piece.get(3..).unwrap_or("")),
+        _ => (escaped(letter), piece.get(1..).unwrap_or("")),
     }
-    Ok(())
+}
+
+/// Adds the bytes of a piece behind a backslash.
+fn push_piece(bytes: &mut Vec<u8>, piece: &str) -> Result<(), AllocError> {
+    let (byte, rest) = split_piece(piece);
+    bytes.push(byte)?;
+    bytes.extend_from_slice(rest.as_bytes())
 }

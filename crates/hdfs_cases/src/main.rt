@@ -22,11 +22,17 @@ fn check_file(rt: &HostRuntime, name: &str) -> Result<u64, Fail> {
     }
 }
 
-fn main(rt: HostRuntime) -> Result<(), Fail> {
+/// How many cases hold of the files that the words name.
+fn check_files(rt: &HostRuntime) -> Result<u64, Fail> {
     let mut holding = 0u64;
-    for name in env::args(&rt)?.skip(1) {
-        holding = holding.saturating_add(check_file(&rt, name.as_str())?);
+    for name in env::args(rt)?.skip(1) {
+        holding = holding.saturating_add(check_file(rt, name.as_str())?);
     }
+    Ok(holding)
+}
+
+fn main(rt: HostRuntime) -> Result<(), Fail> {
+    let holding = check_files(&rt)?;
     println!(rt; "{holding} cases hold")?;
     Ok(())
 }

@@ -2,7 +2,7 @@
 //! line, and the characters below which it has marks.
 
 use crate::escapes::bytes_of;
-use hdfs_checking::{noted_of_new, plain_answer, refused};
+use hdfs_checking::{Ending, noted_of_new, plain_answer, refused};
 use std::alloc::Global;
 use std::test::Fail;
 
@@ -20,14 +20,16 @@ fn is_noted(noted: &str, wanted: &str) -> bool {
     line.is_empty() || noted.lines().next() == Some(line) && marked(noted) == characters
 }
 
+/// Whether the program answers so to a script, and notes what is told.
+fn is_answered(alloc: Global, script: &[u8], wanted: &Ending, note: &str) -> Result<bool, Fail> {
+    let (given, noted) = noted_of_new(alloc, script)?;
+    Ok(given == *wanted && is_noted(noted.as_str(), note))
+}
+
 /// Whether a script is refused for this line by the program, which notes what is told, and by the plain program.
 fn is_refused(alloc: Global, number: &str, script: &[u8], note: &str) -> Result<bool, Fail> {
     let wanted = refused(alloc, number.parse()?)?;
-    let (given, noted) = noted_of_new(alloc, script)?;
-    if given != wanted || !is_noted(noted.as_str(), note) {
-        return Ok(false);
-    }
-    Ok(plain_answer(alloc, script)? == wanted)
+    Ok(is_answered(alloc, script, &wanted, note)? && plain_answer(alloc, script)? == wanted)
 }
 
 /// Whether the script of a line is refused as it says.

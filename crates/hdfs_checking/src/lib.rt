@@ -7,20 +7,22 @@ mod outages;
 mod pipelines;
 mod reads;
 
+pub use faults::stopped_behind;
 use hdfs_cluster::{Cluster, Line, MemSettings};
 use hdfs_fakes::{cluster, held};
-use hdfs_mem_cluster::MemCluster;
+use hdfs_mem_cluster::{MemCluster, let_go};
 use hdfs_model::Reply;
 use hdfs_plain::{PlainFiles, PlainFold, PlainRefusal, PlainWorld};
-use hdfs_script::{ScriptSettings, parse, session_settings};
+use hdfs_script::{NumberedLine, Parsed, ScriptSettings, parse, session_settings};
 use hdfs_streams::{MemSink, MemSource};
 use hdfs_top::{Note, top};
 use hdfs_wire::{Blob, List};
-pub use noting::{listed, noted, noted_of_new};
+pub use noting::{listed, noted, noted_of_new, stamps};
 pub use outages::{Outages, check_outages};
 pub use pipelines::{Tally, check_pipelines};
 pub use reads::check_reads;
 use std::alloc::Global;
+use std::mem;
 use std::test::Fail;
 
 /// A status and what was written.
@@ -56,14 +58,13 @@ pub fn words(alloc: Global, texts: &[&str]) -> Result<Vec<String>, Fail> {
     Ok(words)
 }
 
-/// A new cluster in memory, or one that holds a file. It is in a box, so that whoever owns it lets go of it in one step.
-pub fn store_of(alloc: Global, is_held: bool) -> Result<Box<MemCluster>, Fail> {
-    let store = if is_held {
-        held(alloc)?
+/// A new cluster in memory, or one that holds a file.
+pub fn store_of(alloc: Global, is_held: bool) -> Result<MemCluster, Fail> {
+    if is_held {
+        Ok(held(alloc)?)
     } else {
-        cluster(alloc)?
-    };
-    Ok(Box::new(alloc, store)?)
+        Ok(cluster(alloc)?)
+    }
 }
 
 /// Runs the program, and answers its status. A store without a namenode isn't run over.
@@ -133,11 +134,18 @@ pub fn answer_on(
     given
 }
 
+/// What the program answers over a store, whatever it notes.
+pub fn answer_in(alloc: Global, script: &[u8], store: &mut MemCluster) -> Result<Ending, Fail> {
+    let mut note = Box::new(alloc, Note::Nothing)?;
+    answer_on(alloc, script, store, &mut note)
+}
+
 /// What the program answers over a new cluster in memory.
 pub fn answer(alloc: Global, script: &[u8]) -> Result<Ending, Fail> {
     let mut store = store_of(alloc, false)?;
-    let mut note = Box::new(alloc, Note::Nothing)?;
-    answer_on(alloc, script, &mut store, &mut note)
+    let given = answer_in(alloc, script, &mut store);
+    let_go(store);
+    given
 }
 
 /// A status and a text.
@@ -166,69 +174,130 @@ fn world(alloc: Global, given: &ScriptSettings) -> Result<PlainWorld, Fail> {
 
 /// What the plain program answers to a script without faults.
 pub fn plain_answer(alloc: Global, script: &[u8]) -> Result<Ending, Fail> {
-    let read = parse(alloc, script)?;
-    let world = world(alloc, &read.settings)?;
-    let settings = read.settings.cluster;
     let mut files = PlainFiles::new(alloc)?;
-    let mut before = Vec::new(alloc);
-    for numbered in read.lines.into_vec() {
-        if !load(&mut files, &settings, &mut before, numbered.line)? {
-            return refused(alloc, numbered.number);
-        }
-    }
-    if let Some(line) = read.bad {
-        return refused(alloc, line);
-    }
-    let fold = hdfs_plain::run(&world, &mut files, read.commands.as_slice())?;
-    print(alloc, &fold)
+    answer_over(alloc, script, &mut files)
 }
 
-/// Loads a line behind those before it, where the plain program takes it.
-fn load(
+/// What the plain program answers to a script over these files.
+fn answer_over(alloc: Global, script: &[u8], files: &mut PlainFiles) -> Result<Ending, Fail> {
+    let mut read = Box::new(alloc, parse(alloc, script)?)?;
+    answer_parsed(alloc, files, &mut read)
+}
+
+/// What the plain program answers to what was read of a script, whose lines are taken.
+fn answer_parsed(alloc: Global, files: &mut PlainFiles, read: &mut Parsed) -> Result<Ending, Fail> {
+    let lines = mem::replace(&mut read.lines, List::new(alloc));
+    match load_all(alloc, files, &read.settings.cluster, lines)?.or(read.bad) {
+        Some(line) => refused(alloc, line),
+        None => answer_commands(alloc, files, read),
+    }
+}
+
+/// What the plain program answers to the commands of a script.
+fn answer_commands(alloc: Global, files: &mut PlainFiles, read: &Parsed) -> Result<Ending, Fail> {
+    let world = world(alloc, &read.settings)?;
+    let fold = hdfs_plain::run(&world, files, read.commands.as_slice());
+    drop(world);
+    print(alloc, &fold?)
+}
+
+/// Loads lines, and answers the number of the first one that the plain program doesn't take.
+fn load_all(
+    alloc: Global,
     files: &mut PlainFiles,
     settings: &MemSettings,
-    before: &mut Vec<Line>,
-    line: Line,
-) -> Result<bool, Fail> {
-    if !files.takes(settings, before.as_slice(), &line) {
+    lines: List<NumberedLine>,
+) -> Result<Option<u64>, Fail> {
+    let mut before = Vec::new(alloc);
+    for numbered in lines.into_vec() {
+        let number = numbered.number;
+        before.push(numbered.line)?;
+        if !load_last(files, settings, before.as_slice())? {
+            return Ok(Some(number));
+        }
+    }
+    Ok(None)
+}
+
+/// Loads the last of these lines behind those before it, where the plain program takes it.
+fn load_last(files: &mut PlainFiles, settings: &MemSettings, lines: &[Line]) -> Result<bool, Fail> {
+    let Some((line, before)) = lines.split_last() else {
+        return Ok(false);
+    };
+    if !files.takes(settings, before, line) {
         return Ok(false);
     }
-    files.load(&line)?;
-    before.push(line)?;
+    files.load(line)?;
     Ok(true)
 }
 
-/// The line of a reply.
-fn reply_line(alloc: Global, reply: &Reply) -> Result<String, Fail> {
-    match reply {
-        Reply::Created => Ok(String::from_str(alloc, "ok created\n")?),
-        Reply::Appended => Ok(String::from_str(alloc, "ok appended\n")?),
-        Reply::Written { bytes } => Ok(format!(in alloc; "ok written {bytes}\n")?),
-        Reply::Closed => Ok(String::from_str(alloc, "ok closed\n")?),
-        Reply::Bytes { bytes } => {
-            let digits = match bytes.as_slice() {
-                [] => String::from_str(alloc, "-")?,
-                bytes => hex::encode(alloc, bytes)?,
-            };
-            Ok(format!(in alloc; "ok bytes {digits}\n")?)
-        }
+/// Adds bytes as digits, or `-` where there are none.
+fn push_digits(alloc: Global, text: &mut String, bytes: &[u8]) -> Result<(), Fail> {
+    if bytes.is_empty() {
+        text.push('-')?;
+        return Ok(());
     }
+    let digits = hex::encode(alloc, bytes)?;
+    text.push_str(digits.as_str())?;
+    Ok(())
+}
+
+/// What the line of a reply begins with.
+fn front_of(reply: &Reply) -> &'static str {
+    match reply {
+        Reply::Created => "ok created",
+        Reply::Appended => "ok appended",
+        Reply::Written { .. } => "ok written ",
+        Reply::Closed => "ok closed",
+        Reply::Bytes { .. } => "ok bytes ",
+    }
+}
+
+/// Adds the number or the bytes of a reply, if it has some.
+fn push_rest(alloc: Global, text: &mut String, reply: &Reply) -> Result<(), Fail> {
+    match reply {
+        Reply::Written { bytes } => Ok(write!(text, "{bytes}")?),
+        Reply::Bytes { bytes } => push_digits(alloc, text, bytes.as_slice()),
+        _ => Ok(()),
+    }
+}
+
+/// Adds the line of a reply.
+fn push_reply(alloc: Global, text: &mut String, reply: &Reply) -> Result<(), Fail> {
+    text.push_str(front_of(reply))?;
+    push_rest(alloc, text, reply)?;
+    text.push('\n')?;
+    Ok(())
+}
+
+/// Adds the lines of a fold's replies, and answers how many there are.
+fn push_replies(alloc: Global, text: &mut String, replies: &[Reply]) -> Result<usize, Fail> {
+    for reply in replies {
+        push_reply(alloc, text, reply)?;
+    }
+    Ok(replies.len())
+}
+
+/// Adds the lines that a fold is printed as, and answers the status.
+fn push_fold(alloc: Global, text: &mut String, fold: &PlainFold) -> Result<u8, Fail> {
+    let done = push_replies(alloc, text, fold.replies.as_slice())?;
+    let Some(why) = fold.refused else {
+        return Ok(0);
+    };
+    write!(
+        text,
+        "fault {} {}\n",
+        done.saturating_add(1),
+        error_name(why)
+    )?;
+    Ok(2)
 }
 
 /// What a fold is printed as.
 fn print(alloc: Global, fold: &PlainFold) -> Result<Ending, Fail> {
     let mut text = String::new(alloc);
-    let mut number = 1u64;
-    for reply in fold.replies.as_slice() {
-        text.push_str(reply_line(alloc, reply)?.as_str())?;
-        number = number.saturating_add(1);
-    }
-    let Some(why) = fold.refused else {
-        return Ok(Ending { status: 0, text });
-    };
-    let name = error_name(why);
-    text.push_str(format!(in alloc; "fault {number} {name}\n")?.as_str())?;
-    Ok(Ending { status: 2, text })
+    let status = push_fold(alloc, &mut text, fold)?;
+    Ok(Ending { status, text })
 }
 
 /// The error by which the cluster in memory and the session answer a refusal.

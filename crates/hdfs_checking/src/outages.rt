@@ -1,9 +1,9 @@
 //! Sessions over one namenode or several that fail once, or twice: each is answered as by the plain program, or stops behind a part of its
 //! replies for a cause that the counts show.
 
-use crate::faults::{none_failed, pair_of, stops_behind};
+use crate::faults::{Ran, none_failed, pair_of, stops, told};
 use crate::{Ending, noted, plain_answer, store_of};
-use hdfs_mem_cluster::Counts;
+use hdfs_mem_cluster::{Counts, MemCluster, let_go};
 use std::alloc::Global;
 use std::test::Fail;
 
@@ -76,40 +76,112 @@ const FAULTS: u64 = 168;
 /// How many pairs of faults there are, where a fault with itself is that one alone.
 const PAIRS: u64 = 14_196;
 
-/// The line of a fault, by its number.
-fn fault_line(alloc: Global, number: u64) -> Result<String, Fail> {
+/// Adds the line of a fault, by its number.
+fn push_fault(script: &mut String, number: u64) -> Result<(), Fail> {
     let kind = KINDS[(number % 7) as usize];
     let nth = number / 7 % 8 + 1;
     let namenode = number / 56 % 3;
-    Ok(format!(in alloc; "fault ask {namenode} {nth} {kind}\n")?)
+    write!(script, "fault ask {namenode} {nth} {kind}\n")?;
+    Ok(())
+}
+
+/// Adds the lines of these faults.
+fn push_faults(script: &mut String, faults: &[u64]) -> Result<(), Fail> {
+    for fault in faults {
+        push_fault(script, *fault)?;
+    }
+    Ok(())
+}
+
+/// Adds the lines of the settings of a way to run a session.
+fn push_service(script: &mut String, way: u64) -> Result<(), Fail> {
+    let (namenodes, active) = SERVICES[(way % 6) as usize];
+    write!(script, "set namenodes {namenodes}\nset active {active}\n")?;
+    Ok(())
+}
+
+/// The file of a way to run a session, and what is done then.
+fn session_of(way: u64) -> (&'static str, &'static str) {
+    SESSIONS[(way / 6 % 4) as usize]
+}
+
+/// Adds the script of a way to run a session, with the lines of these faults.
+fn push_session(script: &mut String, way: u64, faults: &[u64]) -> Result<(), Fail> {
+    let (file, commands) = session_of(way);
+    push_service(script, way)?;
+    script.push_str(file)?;
+    push_faults(script, faults)?;
+    script.push_str(commands)?;
+    Ok(())
+}
+
+/// The script of a way to run a session, with the lines of these faults.
+fn script_of(alloc: Global, way: u64, faults: &[u64]) -> Result<String, Fail> {
+    let mut script = String::new(alloc);
+    push_session(&mut script, way, faults)?;
+    Ok(script)
+}
+
+/// What the plain program answers to a way to run a session, over one namenode.
+fn plain_of(alloc: Global, way: u64) -> Result<Ending, Fail> {
+    let (file, commands) = session_of(way);
+    let script = format!(in alloc; "{file}{commands}")?;
+    plain_answer(alloc, script.as_bytes())
+}
+
+/// Whether a script has a line that ends so.
+fn has_line(alloc: Global, script: &str, end: &str) -> Result<bool, Fail> {
+    let line = format!(in alloc; " {end}\n")?;
+    Ok(script.contains(line.as_str()))
+}
+
+/// Whether a note tells the exception of this kind, and a line of the script plans it.
+fn tells_planned(alloc: Global, script: &str, note: &str, kind: &str) -> Result<bool, Fail> {
+    match kind.strip_prefix("exception ") {
+        Some(class) => Ok(note.contains(class) && has_line(alloc, script, kind)?),
+        None => Ok(false),
+    }
 }
 
 /// Whether a line plans an exception which a note tells behind these words.
 fn is_planned(alloc: Global, script: &str, note: &str) -> Result<bool, Fail> {
     for kind in &KINDS {
-        let line = format!(in alloc; " {kind}\n")?;
-        let Some(class) = kind.strip_prefix("exception ") else {
-            continue;
-        };
-        if note.contains(class) && script.contains(line.as_str()) {
+        if tells_planned(alloc, script, note, kind)? {
             return Ok(true);
         }
     }
     Ok(false)
 }
 
+/// Whether a note tells of a namenode that isn't active, or of an exception that a line plans.
+fn is_excepted(alloc: Global, script: &str, note: &str) -> Result<bool, Fail> {
+    if note.contains(STANDBY) {
+        return Ok(true);
+    }
+    is_planned(alloc, script, note)
+}
+
+/// Whether a script plans that a file is there already, or an answer that comes late.
+fn plans_taken(script: &str) -> bool {
+    script.contains(" late\n") || script.contains("FileAlreadyExists")
+}
+
+/// How often the namenode has failed that has failed most.
+fn most_calls(counts: &Counts) -> u64 {
+    counts.calls.as_slice().iter().copied().max().unwrap_or(0)
+}
+
 /// Counts a session that stopped at this error, if its faults show its cause.
 fn note_error(
     alloc: Global,
     outages: &mut Outages,
-    note: &str,
-    script: &str,
+    ran: Ran<'_>,
     counts: &Counts,
 ) -> Result<bool, Fail> {
-    let most = counts.calls.as_slice().iter().copied().max().unwrap_or(0);
+    let (note, script) = (ran.note, ran.script);
     if note.contains(": Namenode; ") {
         outages.broken = outages.broken.saturating_add(1);
-        return Ok(most >= 2);
+        return Ok(most_calls(counts) >= 2);
     }
     if note.contains(": fatal RPC error: ") {
         outages.fatal = outages.fatal.saturating_add(1);
@@ -117,13 +189,63 @@ fn note_error(
     }
     if note.contains(": RPC error: ") {
         outages.exceptions = outages.exceptions.saturating_add(1);
-        return Ok(note.contains(STANDBY) || is_planned(alloc, script, note)?);
+        return is_excepted(alloc, script, note);
     }
     if note.contains(": file already exists: ") {
         outages.taken = outages.taken.saturating_add(1);
-        return Ok(script.contains(" late\n") || script.contains("FileAlreadyExists"));
+        return Ok(plans_taken(script));
     }
     Ok(false)
+}
+
+/// Counts a session that stopped, if something failed and the counts show its cause.
+fn has_cause(
+    alloc: Global,
+    outages: &mut Outages,
+    ran: Ran<'_>,
+    store: &MemCluster,
+) -> Result<bool, Fail> {
+    let counts = store.seen()?;
+    let holds = note_error(alloc, outages, ran, &counts);
+    let failed = !none_failed(&counts);
+    drop(counts);
+    Ok(holds? && failed)
+}
+
+/// Counts how a session ended. Answers whether it ended as it should.
+fn judge(
+    alloc: Global,
+    outages: &mut Outages,
+    ran: Ran<'_>,
+    plain: &Ending,
+    store: &MemCluster,
+) -> Result<bool, Fail> {
+    outages.sessions = outages.sessions.saturating_add(1);
+    if *ran.given == *plain {
+        outages.done = outages.done.saturating_add(1);
+        return Ok(true);
+    }
+    if !stops(ran.given, plain, &ERRORS) {
+        return Ok(false);
+    }
+    has_cause(alloc, outages, ran, store)
+}
+
+/// Runs a session over a cluster, and counts how it ended. Answers whether it ended as it should.
+fn check_over(
+    alloc: Global,
+    outages: &mut Outages,
+    script: &str,
+    plain: &Ending,
+    store: &mut MemCluster,
+) -> Result<bool, Fail> {
+    let (given, note) = noted(alloc, script.as_bytes(), store)?;
+    let ran = Ran {
+        script,
+        given: &given,
+        note: note.as_str(),
+    };
+    judge(alloc, outages, ran, plain, store)
 }
 
 /// Runs a session over a new cluster, and counts how it ended. Answers whether it ended as it should.
@@ -134,41 +256,29 @@ fn check_session(
     plain: &Ending,
 ) -> Result<bool, Fail> {
     let mut store = store_of(alloc, false)?;
-    let (given, note) = noted(alloc, script.as_bytes(), &mut store)?;
-    outages.sessions = outages.sessions.saturating_add(1);
-    if given == *plain {
-        outages.done = outages.done.saturating_add(1);
-        return Ok(true);
-    }
-    let counts = store.seen()?;
-    Ok(
-        !none_failed(&counts)
-            && given.status == 2
-            && stops_behind(alloc, given.text.as_str(), plain.text.as_str(), &ERRORS)?
-            && note_error(alloc, outages, note.as_str(), script, &counts)?,
-    )
+    let ended = check_over(alloc, outages, script, plain, &mut store);
+    let_go(store);
+    ended
+}
+
+/// Runs a session with a pair of faults in a way, beside the plain program's answer.
+fn check_beside(
+    alloc: Global,
+    outages: &mut Outages,
+    way: u64,
+    pair: u64,
+    plain: &Ending,
+) -> Result<(), Fail> {
+    let (first, second) = pair_of(FAULTS, pair);
+    let script = script_of(alloc, way, &[first, second])?;
+    let ended = check_session(alloc, outages, script.as_str(), plain);
+    told(ended, script.as_str())
 }
 
 /// Runs a session with a pair of faults in a way.
 fn check_pair(alloc: Global, outages: &mut Outages, way: u64, pair: u64) -> Result<(), Fail> {
-    let (namenodes, active) = SERVICES[(way % 6) as usize];
-    let (file, commands) = SESSIONS[(way / 6 % 4) as usize];
-    let plain = plain_answer(
-        alloc,
-        format!(in alloc; "{file}{commands}")?.as_str().as_bytes(),
-    )?;
-    let (first, second) = pair_of(FAULTS, pair);
-    let first = fault_line(alloc, first)?;
-    let second = fault_line(alloc, second)?;
-    let script = format!(in alloc;
-        "set namenodes {namenodes}\nset active {active}\n{file}{}{}{commands}",
-        first.as_str(),
-        second.as_str()
-    )?;
-    if !check_session(alloc, outages, script.as_str(), &plain)? {
-        return Err(Fail::new(format_args!("{script}\nends without a cause")));
-    }
-    Ok(())
+    let plain = plain_of(alloc, way)?;
+    check_beside(alloc, outages, way, pair, &plain)
 }
 
 /// Runs of the sessions, each with a pair of faults in a way, those with the numbers `first`, `first + step` and so on.

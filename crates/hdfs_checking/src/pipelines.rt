@@ -1,9 +1,9 @@
-//! Sessions that write a file of three replicas while one call fails, or two: each is answered as by the plain program, or stops behind a
-//! part of its replies for a cause that the counts show.
+//! Sessions that write a file of three replicas, or of one, while one call fails, or two: each is answered as by the plain program, or
+//! stops behind a part of its replies for a cause that the counts show.
 
-use crate::faults::{none_failed, pair_of, stops_behind};
+use crate::faults::{Ran, none_failed, pair_of, stops, told};
 use crate::{Ending, listed, noted, plain_answer, store_of};
-use hdfs_mem_cluster::{Counts, MemCluster};
+use hdfs_mem_cluster::{Counts, MemCluster, let_go};
 use std::alloc::Global;
 use std::test::Fail;
 
@@ -34,14 +34,26 @@ const OPENINGS: [(&str, &str); 2] = [
     ("file /f 644 3 64 0001020304\n", "do append /f\n"),
 ];
 
+/// The same with a file of one replica, which has no other datanode to go on with.
+const SINGLE_OPENINGS: [(&str, &str); 2] = [
+    ("", "do create /f 644 1 64 false true\n"),
+    ("file /f 644 1 64 0001020304\n", "do append /f\n"),
+];
+
 /// What is done with it then.
 const COMMANDS: &str = "do write /f 0506070809\n\
     do write /f 0a0b0c\n\
     do close /f\n\
     do read /f 1 7\n";
 
-/// How many ways there are to run a session: openings, policies, best effort or not, datanodes, and windows.
-const WAYS: u64 = 72;
+/// How a link fails.
+const LINK_KINDS: [&str; 3] = ["broken", "refused", "badack"];
+
+/// How many ways there are to run a session with three replicas: openings, policies, best effort or not, datanodes, and windows.
+const WAYS_OF_THREE: u64 = 72;
+
+/// How many ways there are in all: six more with one replica, by openings and policies.
+const WAYS: u64 = 78;
 
 /// How many faults there are: of four datanodes six acknowledgements each and six packets, and of the first six links three kinds.
 const FAULTS: u64 = 66;
@@ -52,58 +64,139 @@ const PAIRS: u64 = 2211;
 /// The errors at which a session may stop.
 const ERRORS: [&str; 2] = ["IOError", "DataTransferError"];
 
-/// A way to run a session, by its number: the lines of its settings, that of its file, and the command that opens it.
-fn way_of(alloc: Global, number: u64) -> Result<(String, &'static str), Fail> {
-    let (file, opening) = OPENINGS[(number % 2) as usize];
-    let policy = POLICIES[(number / 2 % 3) as usize];
-    let best_effort = BEST_EFFORT[(number / 6 % 2) as usize];
-    let nodes = NODES[(number / 12 % 2) as usize];
-    let window = WINDOWS[(number / 24 % 3) as usize];
-    let lines = format!(in alloc;
-        "set nodes {nodes}\nset chunk 4\nset packet 41\nset window {window}\nset policy {policy}\n\
-        set besteffort {best_effort}\n{file}"
+/// Adds the lines of the datanodes and the packets of a way to run a session.
+fn push_sizes(script: &mut String, way: u64) -> Result<(), Fail> {
+    let nodes = NODES[(way / 12 % 2) as usize];
+    let window = WINDOWS[(way / 24 % 3) as usize];
+    write!(
+        script,
+        "set nodes {nodes}\nset chunk 4\nset packet 41\nset window {window}\n"
     )?;
-    Ok((lines, opening))
+    Ok(())
 }
 
-/// The line of a fault, by its number.
-fn fault_line(alloc: Global, number: u64) -> Result<String, Fail> {
+/// Adds the lines that say when a datanode is added in a way to run a session.
+fn push_policy(script: &mut String, way: u64) -> Result<(), Fail> {
+    let policy = POLICIES[(way / 2 % 3) as usize];
+    let best_effort = BEST_EFFORT[(way / 6 % 2) as usize];
+    write!(
+        script,
+        "set policy {policy}\nset besteffort {best_effort}\n"
+    )?;
+    Ok(())
+}
+
+/// Adds the line of a fault of a datanode.
+fn push_node_fault(script: &mut String, what: &str, node: u64, nth: u64) -> Result<(), Fail> {
+    write!(script, "fault {what} {node} {nth}\n")?;
+    Ok(())
+}
+
+/// Adds the line of a fault of a link.
+fn push_link_fault(script: &mut String, nth: u64, kind: &str) -> Result<(), Fail> {
+    write!(script, "fault link {nth} {kind}\n")?;
+    Ok(())
+}
+
+/// Adds the line of a fault, by its number.
+fn push_fault(script: &mut String, number: u64) -> Result<(), Fail> {
     let nth = number % 6 + 1;
     let place = number / 6 % 11;
     if place < 4 {
-        return Ok(format!(in alloc; "fault ack {place} {nth}\n")?);
+        push_node_fault(script, "ack", place, nth)
+    } else if place < 8 {
+        push_node_fault(script, "send", place - 4, nth)
+    } else {
+        push_link_fault(script, nth, LINK_KINDS[(place - 8) as usize % 3])
     }
-    if place < 8 {
-        return Ok(format!(in alloc; "fault send {} {nth}\n", place - 4)?);
+}
+
+/// Adds the lines of these faults.
+fn push_faults(script: &mut String, faults: &[u64]) -> Result<(), Fail> {
+    for fault in faults {
+        push_fault(script, *fault)?;
     }
-    let kind = ["broken", "refused", "badack"][(place - 8) as usize % 3];
-    Ok(format!(in alloc; "fault link {nth} {kind}\n")?)
+    Ok(())
+}
+
+/// The file of a way to run a session, and the command that opens it.
+fn opening_of(way: u64) -> (&'static str, &'static str) {
+    if way < WAYS_OF_THREE {
+        OPENINGS[(way % 2) as usize]
+    } else {
+        SINGLE_OPENINGS[(way % 2) as usize]
+    }
+}
+
+/// Adds the script of a way to run a session, with the lines of these faults.
+fn push_session(script: &mut String, way: u64, faults: &[u64]) -> Result<(), Fail> {
+    let (file, opening) = opening_of(way);
+    push_sizes(script, way)?;
+    push_policy(script, way)?;
+    script.push_str(file)?;
+    push_faults(script, faults)?;
+    script.push_str(opening)?;
+    script.push_str(COMMANDS)?;
+    Ok(())
+}
+
+/// The script of a way to run a session, with the lines of these faults.
+fn script_of(alloc: Global, way: u64, faults: &[u64]) -> Result<String, Fail> {
+    let mut script = String::new(alloc);
+    push_session(&mut script, way, faults)?;
+    Ok(script)
+}
+
+/// What the plain program answers to a way to run a session.
+fn plain_of(alloc: Global, way: u64) -> Result<Ending, Fail> {
+    let script = script_of(alloc, way, &[])?;
+    plain_answer(alloc, script.as_bytes())
+}
+
+/// Whether the datanode with this number is among those that are listed.
+fn is_listed(alloc: Global, uuids: &str, number: usize) -> Result<bool, Fail> {
+    let uuid = format!(in alloc; " dn{number}")?;
+    Ok(uuids.contains(uuid.as_str()))
+}
+
+/// Whether no datanode is listed that hasn't failed.
+fn no_other_listed(alloc: Global, uuids: &str, counts: &Counts) -> Result<bool, Fail> {
+    for (number, count) in counts.nodes.as_slice().iter().enumerate() {
+        if *count == 0 && is_listed(alloc, uuids, number)? {
+            return Ok(false);
+        }
+    }
+    Ok(true)
 }
 
 /// Whether each datanode has failed that is listed for the blocks of the file, and one is.
 fn all_listed_failed(alloc: Global, store: &mut MemCluster, counts: &Counts) -> Result<bool, Fail> {
     let uuids = listed(alloc, "/f", store)?;
-    let mut number = 0u64;
-    for count in counts.nodes.as_slice() {
-        let uuid = format!(in alloc; " dn{number}")?;
-        if *count == 0 && uuids.as_str().contains(uuid.as_str()) {
-            return Ok(false);
-        }
-        number = number.saturating_add(1);
-    }
-    Ok(!uuids.as_str().is_empty())
+    let apart = no_other_listed(alloc, uuids.as_str(), counts);
+    let some = !uuids.as_str().is_empty();
+    drop(uuids);
+    Ok(apart? && some)
+}
+
+/// Whether the counts and the settings show why there was no other datanode.
+fn lacks_replacement(script: &str, counts: &Counts) -> bool {
+    let some_node = counts.nodes.as_slice().iter().any(|count| *count > 0);
+    let called = counts.calls.as_slice().iter().any(|count| *count > 0);
+    some_node
+        && (called || counts.links > 0)
+        && script.contains("set besteffort false\n")
+        && !script.contains("set policy NEVER\n")
 }
 
 /// Counts a session that stopped at this error, if the counts show its cause.
 fn note_error(
     alloc: Global,
     tally: &mut Tally,
-    error: &str,
-    script: &str,
+    ran: Ran<'_>,
     store: &mut MemCluster,
     counts: &Counts,
 ) -> Result<bool, Fail> {
-    let some_node = counts.nodes.as_slice().iter().any(|count| *count > 0);
+    let error = ran.note;
     if error.contains(": Link; ") || error.contains(": Setup; ") {
         tally.set_up = tally.set_up.saturating_add(1);
         return Ok(counts.links > 0);
@@ -118,15 +211,59 @@ fn note_error(
     }
     if error.contains(": NoReplacement; ") {
         tally.no_replacement = tally.no_replacement.saturating_add(1);
-        let called = counts.calls.as_slice().iter().any(|count| *count > 0);
-        return Ok(
-            some_node
-                && (called || counts.links > 0)
-                && script.contains("set besteffort false\n")
-                && !script.contains("set policy NEVER\n"),
-        );
+        return Ok(lacks_replacement(ran.script, counts));
     }
     Ok(false)
+}
+
+/// Counts a session that stopped, if something failed and the counts show its cause.
+fn has_cause(
+    alloc: Global,
+    tally: &mut Tally,
+    ran: Ran<'_>,
+    store: &mut MemCluster,
+) -> Result<bool, Fail> {
+    let counts = store.seen()?;
+    let holds = note_error(alloc, tally, ran, store, &counts);
+    let failed = !none_failed(&counts);
+    drop(counts);
+    Ok(holds? && failed)
+}
+
+/// Counts how a session ended. Answers whether it ended as it should.
+fn judge(
+    alloc: Global,
+    tally: &mut Tally,
+    ran: Ran<'_>,
+    plain: &Ending,
+    store: &mut MemCluster,
+) -> Result<bool, Fail> {
+    tally.sessions = tally.sessions.saturating_add(1);
+    if *ran.given == *plain {
+        tally.done = tally.done.saturating_add(1);
+        return Ok(true);
+    }
+    if !stops(ran.given, plain, &ERRORS) {
+        return Ok(false);
+    }
+    has_cause(alloc, tally, ran, store)
+}
+
+/// Runs a session over a cluster, and counts how it ended. Answers whether it ended as it should.
+fn check_over(
+    alloc: Global,
+    tally: &mut Tally,
+    script: &str,
+    plain: &Ending,
+    store: &mut MemCluster,
+) -> Result<bool, Fail> {
+    let (given, note) = noted(alloc, script.as_bytes(), store)?;
+    let ran = Ran {
+        script,
+        given: &given,
+        note: note.as_str(),
+    };
+    judge(alloc, tally, ran, plain, store)
 }
 
 /// Runs a session over a new cluster, and counts how it ended. Answers whether it ended as it should.
@@ -137,39 +274,29 @@ fn check_session(
     plain: &Ending,
 ) -> Result<bool, Fail> {
     let mut store = store_of(alloc, false)?;
-    let (given, note) = noted(alloc, script.as_bytes(), &mut store)?;
-    tally.sessions = tally.sessions.saturating_add(1);
-    if given == *plain {
-        tally.done = tally.done.saturating_add(1);
-        return Ok(true);
-    }
-    let counts = store.seen()?;
-    Ok(
-        !none_failed(&counts)
-            && given.status == 2
-            && stops_behind(alloc, given.text.as_str(), plain.text.as_str(), &ERRORS)?
-            && note_error(alloc, tally, note.as_str(), script, &mut store, &counts)?,
-    )
+    let ended = check_over(alloc, tally, script, plain, &mut store);
+    let_go(store);
+    ended
+}
+
+/// Runs a session with a pair of faults in a way, beside the plain program's answer.
+fn check_beside(
+    alloc: Global,
+    tally: &mut Tally,
+    way: u64,
+    pair: u64,
+    plain: &Ending,
+) -> Result<(), Fail> {
+    let (first, second) = pair_of(FAULTS, pair);
+    let script = script_of(alloc, way, &[first, second])?;
+    let ended = check_session(alloc, tally, script.as_str(), plain);
+    told(ended, script.as_str())
 }
 
 /// Runs a session with a pair of faults in a way.
 fn check_pair(alloc: Global, tally: &mut Tally, way: u64, pair: u64) -> Result<(), Fail> {
-    let (lines, opening) = way_of(alloc, way)?;
-    let without = format!(in alloc; "{}{opening}{COMMANDS}", lines.as_str())?;
-    let plain = plain_answer(alloc, without.as_bytes())?;
-    let (first, second) = pair_of(FAULTS, pair);
-    let first = fault_line(alloc, first)?;
-    let second = fault_line(alloc, second)?;
-    let script = format!(in alloc;
-        "{}{}{}{opening}{COMMANDS}",
-        lines.as_str(),
-        first.as_str(),
-        second.as_str()
-    )?;
-    if !check_session(alloc, tally, script.as_str(), &plain)? {
-        return Err(Fail::new(format_args!("{script}\nends without a cause")));
-    }
-    Ok(())
+    let plain = plain_of(alloc, way)?;
+    check_beside(alloc, tally, way, pair, &plain)
 }
 
 /// Runs of the sessions, each with a pair of faults in a way, those with the numbers `first`, `first + step` and so on.

@@ -3,7 +3,7 @@ ghost use Rattle.std.specs.Prelude.{◌≡◌, ◌<◌, IfOk};
 ghost use Rattle.hdfs_mem_cluster.specs.MemShown.{shown_of};
 
 use hdfs_cluster::{AddFault, Attributes, Line, MemSettings, Store};
-use hdfs_mem_cluster::MemCluster;
+use hdfs_mem_cluster::{MemCluster, let_go};
 use hdfs_model::Settings;
 use hdfs_names::{Policy, ReplaceDatanodeOnFailure};
 use hdfs_wire::{Blob, NoMemory, Text};
@@ -59,7 +59,10 @@ pub fn holding(alloc: Global, encrypted: bool) -> Result<MemCluster, AddFault>
     match cluster(alloc) {
         Ok(mut store) => match load_file(alloc, &mut store, encrypted) {
             Ok(()) => Ok(store),
-            Err(fault) => Err(fault),
+            Err(fault) => {
+                let_go(store);
+                Err(fault)
+            }
         },
         Err(NoMemory) => Err(AddFault::NoMemory),
     }

@@ -19,4 +19,4 @@ mod storing;
 mod write_link;
 
 pub use counts::Counts;
-pub use mem_cluster::MemCluster;
+pub use mem_cluster::{MemCluster, let_go};

@@ -63,4 +63,14 @@ impl MemCluster {
             loaded: Vec::new(alloc),
         })
     }
+
+    /// How many links are open: those of readers, and those of pipelines. A test asks for it to see that a client has left none.
+    pub fn open_links(&self) -> usize {
+        self.links.len()
+    }
+}
+
+/// Lets go of a cluster. Who hands one in here has no code of its own that lets go of each of its parts, which each crate would prove anew.
+pub fn let_go(cluster: MemCluster) {
+    drop(cluster);
 }

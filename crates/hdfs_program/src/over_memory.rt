@@ -5,7 +5,7 @@ ghost use Rattle.hdfs_top.specs.Top.{IsSession};
 ghost use Rattle.hdfs_program.specs.Program.{RanNew, PrintsRefusal, PrintsReplies, PrintsFault, NotesPrinted, FaultlessDecides};
 
 use hdfs_cluster::MemSettings;
-use hdfs_mem_cluster::MemCluster;
+use hdfs_mem_cluster::{MemCluster, let_go};
 use hdfs_streams::{Sink, Source};
 use hdfs_top::{Note, failed_names, top};
 use hdfs_wire::{NoMemory, Text};
@@ -47,6 +47,7 @@ pub fn run_words<S: Source, K: Sink>(
     };
     let status = top(alloc, words, source, sink, &mut store, note);
     tell_failed(alloc, &store, note);
+    let_go(store);
     status
 }
 

@@ -1,12 +1,12 @@
 //! Runs all short sessions over the cluster in memory: each is to be answered as by the plain program; and with a single fault it is to
 //! end behind the plain program's replies, with every path that the failed command doesn't name as those left it.
 //!
-//! Then it runs sessions that write a file of three replicas while a call fails, or two, and sessions over namenodes that fail once, or
+//! Then it runs sessions that write a file of three replicas, or of one, while a call fails, or two, and sessions over namenodes that fail once, or
 //! twice: each is answered as by the plain program, or stops for a cause that the counts show. Last it reads a file of one replica to three
 //! with each single fault of a datanode.
 //!
 //! Words: a number to begin with, a step for sessions, one for pairs of a session and a fault, one for sessions over pipelines, and one for
-//! those over namenodes: of the 168,420 sessions, the 2,526,300 pairs, the 159,192 sessions over pipelines and the 340,704 over namenodes
+//! those over namenodes: of the 168,420 sessions, the 2,526,300 pairs, the 172,458 sessions over pipelines and the 340,704 over namenodes
 //! those are run with the numbers FIRST, FIRST + STEP and so on, counted for each length of sessions. All are run by `0 1 1 1 1`.
 #![tactic(auto)]
 
@@ -20,27 +20,97 @@ use single_faults::check_all;
 use std::env;
 use std::test::Fail;
 
-fn main(rt: HostRuntime) -> Result<(), Fail> {
+/// The words of the command line.
+fn words_of(rt: &HostRuntime) -> Result<Vec<String>, Fail> {
     let mut words = Vec::new(rt.alloc());
-    for word in env::args(&rt)?.skip(1) {
+    for word in env::args(rt)?.skip(1) {
         words.push(word)?;
     }
-    let [first, step, pairs, pipelines, outages] = words.as_slice() else {
-        return Err(Fail::from("the words are a first number and four steps"));
+    Ok(words)
+}
+
+/// The number of the first session that is run of each kind, and the steps from one to the next: of those without a fault,
+/// of those with a single one, and of those over pipelines and over namenodes.
+#[derive(Clone, Copy)]
+struct Steps {
+    first: usize,
+    alone: usize,
+    pairs: usize,
+    pipelines: usize,
+    outages: usize,
+}
+
+/// The number that a word says.
+fn number_of(word: &String) -> Option<usize> {
+    word.as_str().parse().ok()
+}
+
+/// The first number and the four steps that words say.
+fn steps_of(words: &[String]) -> Option<Steps> {
+    let [first, alone, pairs, pipelines, outages] = words else {
+        return None;
     };
-    let first = first.as_str().parse()?;
-    let compared = compare_all(rt.alloc(), first, step.as_str().parse()?)?;
+    Some(Steps {
+        first: number_of(first)?,
+        alone: number_of(alone)?,
+        pairs: number_of(pairs)?,
+        pipelines: number_of(pipelines)?,
+        outages: number_of(outages)?,
+    })
+}
+
+/// Runs the sessions without a fault.
+fn run_alone(rt: &HostRuntime, steps: Steps) -> Result<(), Fail> {
+    let compared = compare_all(rt.alloc(), steps.first, steps.alone)?;
     println!(rt; "{compared} sessions are answered as by the plain program")?;
-    let (checked, failed) = check_all(rt.alloc(), first, pairs.as_str().parse()?)?;
+    Ok(())
+}
+
+/// Runs those with a single fault.
+fn run_pairs(rt: &HostRuntime, steps: Steps) -> Result<(), Fail> {
+    let (checked, failed) = check_all(rt.alloc(), steps.first, steps.pairs)?;
     println!(rt; "{checked} sessions with a fault, of which {failed} fail, leave the other path")?;
-    let tally = check_pipelines(rt.alloc(), first, pipelines.as_str().parse()?)?;
+    Ok(())
+}
+
+/// Runs those over pipelines.
+fn run_pipelines(rt: &HostRuntime, steps: Steps) -> Result<(), Fail> {
+    let tally = check_pipelines(rt.alloc(), steps.first, steps.pipelines)?;
     println!(rt; "sessions over pipelines: {tally:?}")?;
-    let outages = check_outages(rt.alloc(), first, outages.as_str().parse()?)?;
+    Ok(())
+}
+
+/// Runs those over namenodes.
+fn run_outages(rt: &HostRuntime, steps: Steps) -> Result<(), Fail> {
+    let sessions = check_outages(rt.alloc(), steps.first, steps.outages)?.sessions;
     println!(rt;
-        "{} sessions over namenodes are done, or stop for a cause that the counts show",
-        outages.sessions
+        "{sessions} sessions over namenodes are done, or stop for a cause that the counts show"
     )?;
+    Ok(())
+}
+
+/// Runs the reads.
+fn run_reads(rt: &HostRuntime) -> Result<(), Fail> {
     let reads = check_reads(rt.alloc())?;
     println!(rt; "{reads} reads with a fault end as the replicas allow")?;
     Ok(())
+}
+
+/// Runs all of them.
+fn run_all(rt: &HostRuntime, steps: Steps) -> Result<(), Fail> {
+    run_alone(rt, steps)?;
+    run_pairs(rt, steps)?;
+    run_pipelines(rt, steps)?;
+    run_outages(rt, steps)?;
+    run_reads(rt)
+}
+
+fn main(rt: HostRuntime) -> Result<(), Fail> {
+    let words = words_of(&rt)?;
+    let steps = steps_of(words.as_slice());
+    drop(words);
+    match steps {
+        Some(steps) => run_all(&rt, steps),
+        None => Err(Fail::from("the words are a first number and four steps")),
+    }
 }

@@ -25,12 +25,27 @@ pub(crate) const KINDS: usize = 20;
 /// A stored file, which each session finds.
 const FILE: &str = "file /a 644 1 4 10111213\n";
 
+/// The halves of the line of a call, by its number.
+fn halves_of(number: usize) -> (&'static str, &'static str) {
+    CALLS[number % 10]
+}
+
 /// A call on a path, by its number: the calls in order on the first path, and then on the second.
 fn push_call(script: &mut String, number: usize) -> Result<(), Fail> {
-    let (before, behind) = CALLS[number % 10];
-    script.push_str(before)?;
-    script.push_str(PATHS[number / 10 % 2])?;
-    script.push_str(behind)?;
+    let (before, behind) = halves_of(number);
+    let path = PATHS[number / 10 % 2];
+    write!(script, "{before}{path}{behind}")?;
+    Ok(())
+}
+
+/// Adds the line of a fault, if there is one, and those of calls.
+fn push_lines(script: &mut String, fault: Option<&str>, calls: &[usize]) -> Result<(), Fail> {
+    if let Some(fault) = fault {
+        write!(script, "fault {fault}\n")?;
+    }
+    for call in calls {
+        push_call(script, *call)?;
+    }
     Ok(())
 }
 
@@ -41,13 +56,6 @@ pub(crate) fn script_of(
     calls: &[usize],
 ) -> Result<String, Fail> {
     let mut script = String::from_str(alloc, FILE)?;
-    if let Some(fault) = fault {
-        script.push_str("fault ")?;
-        script.push_str(fault)?;
-        script.push('\n')?;
-    }
-    for call in calls {
-        push_call(&mut script, *call)?;
-    }
+    push_lines(&mut script, fault, calls)?;
     Ok(script)
 }

@@ -1,10 +1,9 @@
 //! Sessions with a single fault: what they answer, and what then stands at the other path.
 
-use crate::comparing::{COUNTS, calls_of};
+use crate::comparing::{COUNTS, calls_of, compare_to, wrong_answer};
 use crate::scripts::{PATHS, script_of};
-use hdfs_checking::{Ending, answer_on, plain_answer, store_of};
-use hdfs_mem_cluster::MemCluster;
-use hdfs_top::Note;
+use hdfs_checking::{Ending, answer_in, plain_answer, stopped_behind, store_of};
+use hdfs_mem_cluster::{MemCluster, let_go};
 use std::alloc::Global;
 use std::test::Fail;
 
@@ -28,26 +27,11 @@ const FAULTS: [&str; 15] = [
     "send 0 3",
 ];
 
-/// How many replies stand before the fault of a link or a datanode, where each is that of the plain program.
-fn done_before(alloc: Global, given: &str, plain: &str) -> Result<Option<usize>, Fail> {
-    let mut rest = plain;
-    let mut front = String::new(alloc);
-    for done in 0..4usize {
-        for name in ["IOError", "DataTransferError"] {
-            let wanted = format!(in alloc; "{}fault {} {name}\n", front.as_str(), done + 1)?;
-            if given == wanted.as_str() {
-                return Ok(Some(done));
-            }
-        }
-        let Some((line, behind)) = rest.split_once('\n') else {
-            return Ok(None);
-        };
-        front.push_str(line)?;
-        front.push('\n')?;
-        rest = behind;
-    }
-    Ok(None)
-}
+/// The errors at which such a session may stop.
+const ERRORS: [&str; 2] = ["IOError", "DataTransferError"];
+
+/// How many bytes are read of the other path, from its first one on.
+const LENGTHS: [u64; 5] = [0, 1, 4, 5, 13];
 
 /// Whether a path is open behind these calls, each of which was done.
 fn is_open(path: usize, calls: &[usize]) -> bool {
@@ -67,36 +51,67 @@ fn is_open(path: usize, calls: &[usize]) -> bool {
 /// The text of a reply, or the name of an error without the number of its command.
 fn unnumbered(alloc: Global, text: &str, number: usize) -> Result<String, Fail> {
     let front = format!(in alloc; "fault {number} ")?;
-    match text.strip_prefix(front.as_str()) {
-        Some(name) => Ok(String::from_str(alloc, name)?),
-        None => Ok(String::from_str(alloc, text)?),
-    }
+    let name = text.strip_prefix(front.as_str()).unwrap_or(text);
+    Ok(String::from_str(alloc, name)?)
+}
+
+/// What the plain program answers to these calls, and then to this line, if it isn't empty.
+fn plain_of(alloc: Global, calls: &[usize], line: &str) -> Result<Ending, Fail> {
+    let mut script = script_of(alloc, None, calls)?;
+    script.push_str(line)?;
+    plain_answer(alloc, script.as_bytes())
 }
 
 /// What the plain program reads of a path behind these calls, each of which is done.
 fn plain_read(alloc: Global, calls: &[usize], read: &str) -> Result<String, Fail> {
-    let mut script = script_of(alloc, None, calls)?;
-    let front = plain_answer(alloc, script.as_bytes())?.text;
-    script.push_str(read)?;
-    let whole = plain_answer(alloc, script.as_bytes())?.text;
+    let front = plain_of(alloc, calls, "")?.text;
+    let whole = plain_of(alloc, calls, read)?.text;
     let last = whole.as_str().strip_prefix(front.as_str()).unwrap_or("");
     unnumbered(alloc, last, calls.len() + 1)
 }
 
-/// How often links and datanodes have failed.
-fn failures(store: &MemCluster) -> Result<u64, Fail> {
+/// Whether a link or a datanode has failed.
+fn has_failed(store: &MemCluster) -> Result<bool, Fail> {
     let counts = store.seen()?;
-    let mut all = counts.links;
-    for count in counts.nodes.as_slice() {
-        all = all.saturating_add(*count);
-    }
-    Ok(all)
+    Ok(counts.links > 0 || counts.nodes.as_slice().iter().any(|count| *count > 0))
 }
 
-/// Runs a script over a store.
-fn run_over(alloc: Global, script: &str, store: &mut MemCluster) -> Result<Ending, Fail> {
-    let mut note = Box::new(alloc, Note::Nothing)?;
-    answer_on(alloc, script.as_bytes(), store, &mut note)
+/// What a new session reads of a path by this line.
+fn read_of(alloc: Global, read: &str, store: &mut MemCluster) -> Result<String, Fail> {
+    let given = answer_in(alloc, read.as_bytes(), store)?.text;
+    unnumbered(alloc, given.as_str(), 1)
+}
+
+/// Fails where what this line reads behind the calls that were done isn't what is wanted.
+fn compare_reads(read: &str, done: &[usize], given: &str, wanted: &str) -> Result<(), Fail> {
+    if given == wanted {
+        return Ok(());
+    }
+    Err(Fail::new(format_args!("behind {done:?} {read} gives {given}, not {wanted}")))
+}
+
+/// What a new session reads by this line is what the plain program reads behind the calls that were done.
+fn check_read(
+    alloc: Global,
+    read: &str,
+    done: &[usize],
+    store: &mut MemCluster,
+) -> Result<(), Fail> {
+    let given = read_of(alloc, read, store)?;
+    let wanted = plain_read(alloc, done, read)?;
+    compare_reads(read, done, given.as_str(), wanted.as_str())
+}
+
+/// What a new session reads of so many bytes of a path is what the plain program reads behind the calls that were done.
+fn check_length(
+    alloc: Global,
+    path: &str,
+    len: u64,
+    done: &[usize],
+    store: &mut MemCluster,
+) -> Result<(), Fail> {
+    let read = format!(in alloc; "do read {path} 0 {len}\n")?;
+    check_read(alloc, read.as_str(), done, store)
 }
 
 /// What a new session reads of a path is what the plain program reads behind the calls that were done.
@@ -107,51 +122,110 @@ fn check_path(
     store: &mut MemCluster,
 ) -> Result<(), Fail> {
     let path = PATHS[path % 2];
-    for len in [0u64, 1, 4, 5, 13] {
-        let read = format!(in alloc; "do read {path} 0 {len}\n")?;
-        let given = run_over(alloc, read.as_str(), store)?.text;
-        let given = unnumbered(alloc, given.as_str(), 1)?;
-        let wanted = plain_read(alloc, done, read.as_str())?;
-        if given != wanted {
-            return Err(Fail::new(format_args!(
-                "behind {done:?} {read} gives {given}, not {wanted}"
-            )));
-        }
+    for len in &LENGTHS {
+        check_length(alloc, path, *len, done, store)?;
     }
     Ok(())
 }
 
-/// Runs a session with a fault. Where nothing fails, it is answered as by the plain program; else it ends at a fault, behind the
-/// plain program's replies, and the other path stands as these commands left it. Answers whether something failed.
-fn check_session(alloc: Global, fault: &str, calls: &[usize]) -> Result<bool, Fail> {
-    let plain = plain_answer(alloc, script_of(alloc, None, calls)?.as_bytes())?;
-    let script = script_of(alloc, Some(fault), calls)?;
-    let mut store = store_of(alloc, false)?;
-    let given = run_over(alloc, script.as_str(), &mut store)?;
-    if failures(&store)? == 0 {
-        if given != plain {
-            return Err(Fail::new(format_args!(
-                "{script}\nis answered by\n{given:?}\nand not by\n{plain:?}"
-            )));
-        }
-        return Ok(false);
-    }
-    if given.status != 2 {
-        return Err(Fail::new(format_args!("{script}\nends with status {}", given.status)));
-    }
-    let Some(done) = done_before(alloc, given.text.as_str(), plain.text.as_str())? else {
-        return Err(Fail::new(format_args!(
-            "{script}\nis answered by\n{given:?}\nand not by a part of\n{plain:?}"
-        )));
-    };
+/// Where a command of these failed behind `done` others, the path that it doesn't name stands as those left it.
+fn check_other(
+    alloc: Global,
+    calls: &[usize],
+    done: usize,
+    store: &mut MemCluster,
+) -> Result<(), Fail> {
     let (Some(done), Some(failed)) = (calls.get(..done), calls.get(done)) else {
-        return Err(Fail::new(format_args!("{script}\nends behind its last command")));
+        return Err(Fail::from("a session ends behind its last command"));
     };
     let other = 1 - failed / 10 % 2;
-    if !is_open(other, done) {
-        check_path(alloc, other, done, &mut store)?;
+    if is_open(other, done) {
+        return Ok(());
     }
-    Ok(true)
+    check_path(alloc, other, done, store)
+}
+
+/// How many commands were done of a script that was answered so, where a fault behind them ends it.
+fn done_of(script: &str, given: &Ending, plain: &Ending) -> Result<usize, Fail> {
+    if given.status != 2 {
+        return Err(wrong_answer(script, given, plain));
+    }
+    match stopped_behind(given.text.as_str(), plain.text.as_str(), &ERRORS) {
+        Some(done) => Ok(done),
+        None => Err(wrong_answer(script, given, plain)),
+    }
+}
+
+/// A script that failed ended at a fault, behind the plain program's replies, and the other path stands as these commands
+/// left it.
+fn check_failed(
+    alloc: Global,
+    script: &str,
+    calls: &[usize],
+    given: &Ending,
+    plain: &Ending,
+    store: &mut MemCluster,
+) -> Result<(), Fail> {
+    let done = done_of(script, given, plain)?;
+    check_other(alloc, calls, done, store)
+}
+
+/// Where nothing failed over a cluster, a script was answered as by the plain program; else it failed as it should. Answers
+/// whether something failed.
+fn judge(
+    alloc: Global,
+    script: &str,
+    calls: &[usize],
+    given: &Ending,
+    plain: &Ending,
+    store: &mut MemCluster,
+) -> Result<bool, Fail> {
+    let failed = has_failed(store)?;
+    if failed {
+        check_failed(alloc, script, calls, given, plain, store)?;
+    } else {
+        compare_to(script, given, plain)?;
+    }
+    Ok(failed)
+}
+
+/// Runs a script with a fault over a cluster. Where nothing fails, it is answered as by the plain program; else it ends at a fault, behind
+/// the plain program's replies, and the other path stands as these commands left it. Answers whether something failed.
+fn check_over(
+    alloc: Global,
+    script: &str,
+    calls: &[usize],
+    plain: &Ending,
+    store: &mut MemCluster,
+) -> Result<bool, Fail> {
+    let given = answer_in(alloc, script.as_bytes(), store)?;
+    judge(alloc, script, calls, &given, plain, store)
+}
+
+/// The same over a new cluster.
+fn check_script(
+    alloc: Global,
+    script: &str,
+    calls: &[usize],
+    plain: &Ending,
+) -> Result<bool, Fail> {
+    let mut store = store_of(alloc, false)?;
+    let failed = check_over(alloc, script, calls, plain, &mut store);
+    let_go(store);
+    failed
+}
+
+/// Runs a session with a fault, beside the plain program's answer to the session without it.
+fn check_session(alloc: Global, fault: &str, calls: &[usize]) -> Result<bool, Fail> {
+    let plain = plain_of(alloc, calls, "")?;
+    let script = script_of(alloc, Some(fault), calls)?;
+    check_script(alloc, script.as_str(), calls, &plain)
+}
+
+/// Runs the session of this pair, with its fault.
+fn check_pair(alloc: Global, pair: usize, length: usize) -> Result<bool, Fail> {
+    let calls = calls_of(pair / 15);
+    check_session(alloc, FAULTS[pair % 15], &calls[..length.min(4)])
 }
 
 /// Runs of the pairs of a session of each length and a single fault those with the numbers `first`, `first + step` and so on. Answers
@@ -159,10 +233,9 @@ fn check_session(alloc: Global, fault: &str, calls: &[usize]) -> Result<bool, Fa
 pub(crate) fn check_all(alloc: Global, first: usize, step: usize) -> Result<(u64, u64), Fail> {
     let mut done = 0u64;
     let mut failed = 0u64;
-    for (length, count) in COUNTS {
+    for (length, count) in &COUNTS {
         for pair in (first..count.saturating_mul(15)).step_by(step.max(1)) {
-            let calls = calls_of(alloc, pair / 15, length)?;
-            if check_session(alloc, FAULTS[pair % 15], calls.as_slice())? {
+            if check_pair(alloc, pair, *length)? {
                 failed = failed.saturating_add(1);
             }
             done = done.saturating_add(1);

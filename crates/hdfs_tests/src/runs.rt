@@ -2,7 +2,7 @@
 
 use hdfs_checking::{answer_words, failing_sink, failing_source, sink, source, store_of};
 use hdfs_cluster::Store;
-use hdfs_mem_cluster::MemCluster;
+use hdfs_mem_cluster::{MemCluster, let_go};
 use hdfs_streams::{MemSink, MemSource};
 use std::alloc::Global;
 use std::test::Fail;
@@ -38,7 +38,9 @@ fn ends(
     wanted: (u8, &str),
 ) -> Result<bool, Fail> {
     let mut store = store_of(alloc, false)?;
-    ends_over(alloc, texts, source, sink, &mut store, wanted)
+    let ends = ends_over(alloc, texts, source, sink, &mut store, wanted);
+    let_go(store);
+    ends
 }
 
 /// Whether words are refused.
@@ -90,19 +92,25 @@ fn a_sink_that_fails_has_a_prefix_of_the_text(rt: HostRuntime) -> Result<(), Fai
 }
 
 /// Whether a source that fails at a call ends the program, and leaves the store as it was.
-fn fails_untouched(alloc: Global, call: u64, store: &mut MemCluster) -> Result<bool, Fail> {
+fn fails_over(alloc: Global, call: u64, store: &mut MemCluster) -> Result<bool, Fail> {
     let mut source = failing_source(alloc, ONE_BYTE, call)?;
     let mut sink = sink(alloc);
     let ended = ends_over(alloc, &["session"], &mut source, &mut sink, store, (4, ""))?;
     Ok(ended && store.fresh())
 }
 
+/// The same of a new store.
+fn fails_untouched(alloc: Global, call: u64) -> Result<bool, Fail> {
+    let mut store = store_of(alloc, false)?;
+    let holds = fails_over(alloc, call, &mut store);
+    let_go(store);
+    holds
+}
+
 #[test]
 fn a_source_that_fails_ends_with_status_4(rt: HostRuntime) -> Result<(), Fail> {
     for call in 1..=2u64 {
-        let mut store = store_of(rt.alloc(), false)?;
-        let holds = fails_untouched(rt.alloc(), call, &mut store)?;
-        assert!(rt; holds, "call {call}");
+        assert!(rt; fails_untouched(rt.alloc(), call)?, "call {call}");
     }
     Ok(())
 }

@@ -2,6 +2,9 @@
 //! bytes, or what to do about the error.
 #![tactic(auto)]
 
+ghost use Rattle.std.specs.Prelude.{◌<◌};
+ghost use Rattle.hdfs_mem_cluster.specs.MemShown.{shown_of};
+
 mod advice;
 mod failed;
 mod making;
@@ -10,6 +13,7 @@ mod patient;
 use advice::advice_on;
 use failed::Failed;
 use hdfs_cluster::HdfsError;
+use hdfs_mem_cluster::{MemCluster, let_go};
 use hdfs_model::Reply;
 use making::{cluster, read, settings, standby};
 use patient::apply_patiently;
@@ -39,14 +43,27 @@ fn answer(alloc: Global, given: &Result<Reply, HdfsError>) -> Result<String, Fai
     }
 }
 
-/// What comes of a read.
-fn ask(alloc: Global, asked: &(&str, u64, u64, u64, u32)) -> Result<String, Failed> {
-    let (path, offset, len, broken, tries) = *asked;
+/// What comes of a read over a cluster.
+fn ask_over(
+    alloc: Global,
+    cluster: &mut MemCluster,
+    asked: &(&str, u64, u64, u64, u32),
+) -> Result<String, Failed>
+    requires { 0 < (shown_of cluster.old).namenodes }
+{
+    let (path, offset, len, _, tries) = *asked;
     let settings = settings(alloc)?;
     let command = read(alloc, path, offset, len)?;
-    let mut cluster = cluster(alloc, broken)?;
-    let given = apply_patiently(alloc, &mut cluster, &settings, &command, tries);
+    let given = apply_patiently(alloc, cluster, &settings, &command, tries);
     answer(alloc, &given)
+}
+
+/// What comes of a read over a new cluster.
+fn ask(alloc: Global, asked: &(&str, u64, u64, u64, u32)) -> Result<String, Failed> {
+    let mut cluster = cluster(alloc, asked.3)?;
+    let told = ask_over(alloc, &mut cluster, asked);
+    let_go(cluster);
+    told
 }
 
 /// Prints an error, and what to do about it.

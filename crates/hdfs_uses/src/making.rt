@@ -5,7 +5,7 @@ ghost use Rattle.hdfs_uses.specs.Trying.{IsRead};
 
 use crate::failed::Failed;
 use hdfs_cluster::{Attributes, FaultLine, HdfsError, Line, MemSettings, ReadKind, Store};
-use hdfs_mem_cluster::MemCluster;
+use hdfs_mem_cluster::{MemCluster, let_go};
 use hdfs_model::{Command, Settings};
 use hdfs_names::{Policy, ReplaceDatanodeOnFailure};
 use hdfs_wire::{Blob, Text};
@@ -71,13 +71,22 @@ fn break_packets(cluster: &mut MemCluster, broken: u64) -> Result<(), Failed> {
     Ok(())
 }
 
+/// Loads the file into a cluster, and has its datanode break its first `broken` packets.
+fn load(alloc: Global, cluster: &mut MemCluster, broken: u64) -> Result<(), Failed> {
+    cluster.load(report(alloc)?)?;
+    break_packets(cluster, broken)
+}
+
 /// A cluster in memory with the file, whose datanode breaks its first `broken` packets.
 pub(crate) fn cluster(alloc: Global, broken: u64) -> Result<MemCluster, Failed>
     ensures { IfOk result (λ m. 0 < (shown_of m).namenodes) }
 {
-    let file = report(alloc)?;
     let mut cluster = MemCluster::new(alloc, MemSettings::of_scripts())?;
-    cluster.load(file)?;
-    break_packets(&mut cluster, broken)?;
-    Ok(cluster)
+    match load(alloc, &mut cluster, broken) {
+        Ok(()) => Ok(cluster),
+        Err(why) => {
+            let_go(cluster);
+            Err(why)
+        }
+    }
 }
