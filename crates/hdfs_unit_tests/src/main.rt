@@ -4,6 +4,7 @@
 
 mod acl;
 mod arguments;
+mod client;
 mod connections;
 mod edge;
 mod globs;
@@ -20,8 +21,9 @@ use hdfs_wire::NoMemory;
 use std::alloc::Global;
 use std::io::{self, BufRead, BufReader};
 
-const TOPICS: [&str; 12] = [
+const TOPICS: [&str; 13] = [
     "acl",
+    "client",
     "connections",
     "edge",
     "globs",
@@ -62,6 +64,7 @@ fn tell(alloc: Global, out: &mut String, asked: &Question<'_>) -> Result<(), NoM
     let (word, argument) = (asked.word, asked.argument);
     match asked.topic {
         "acl" => acl::tell(alloc, out, word, argument),
+        "client" => client::tell(alloc, out, word, argument),
         "connections" => connections::tell(alloc, out, word, argument),
         "edge" => edge::tell(alloc, out, word, argument),
         "globs" => globs::tell(alloc, out, word, argument),
@@ -114,16 +117,21 @@ fn follow(rt: &HostRuntime, line: &str, held: &mut [u64]) -> io::Result<()> {
     }
 }
 
+/// Prints how many lines of a topic held.
+fn print_count(rt: &HostRuntime, topic: &str, count: u64) -> io::Result<()> {
+    println!(rt; "{topic} {count}")
+}
+
 /// Prints how many lines of each topic held.
 fn print_counts(rt: &HostRuntime, held: &[u64]) -> io::Result<()> {
     for (topic, count) in TOPICS.iter().zip(held) {
-        println!(rt; "{topic} {count}")?;
+        print_count(rt, topic, *count)?;
     }
     Ok(())
 }
 
 fn main(rt: HostRuntime) -> io::Result<()> {
-    let mut held = [0u64; 12];
+    let mut held = [0u64; 13];
     for line in BufReader::new(rt.alloc(), rt.reader())?.lines(rt.alloc()) {
         let line = line?;
         follow(&rt, line.as_str(), &mut held)?;

@@ -40,10 +40,21 @@ const LINKS: [(&str, &str); 3] = [
     ("/mount3/nested", "/path3"),
 ];
 
+/// Puts the link between two paths behind the others.
+fn push_link(
+    alloc: Global,
+    links: &mut List<MountLink>,
+    viewfs: &str,
+    hdfs: &str,
+) -> Result<(), NoMemory> {
+    let link = link(alloc, viewfs, hdfs)?;
+    Ok(links.push(link)?)
+}
+
 fn links(alloc: Global) -> Result<List<MountLink>, NoMemory> {
     let mut links = List::new(alloc);
     for (viewfs, hdfs) in &LINKS {
-        links.push(link(alloc, viewfs, hdfs)?)?;
+        push_link(alloc, &mut links, viewfs, hdfs)?;
     }
     Ok(links)
 }

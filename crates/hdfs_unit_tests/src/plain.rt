@@ -19,9 +19,14 @@ fn world(alloc: Global) -> Result<PlainWorld, NoMemory> {
     })
 }
 
+/// Bytes, so that who needs them has one way out.
+fn blob(alloc: Global, bytes: &[u8]) -> Result<Blob, NoMemory> {
+    Ok(Blob::from_vec(Vec::from_slice(alloc, bytes)?))
+}
+
 /// A write of the bytes 1 and 2.
 fn write(alloc: Global, path: Text) -> Result<Command, NoMemory> {
-    let bytes = Blob::from_vec(Vec::from_slice(alloc, &[1, 2])?);
+    let bytes = blob(alloc, &[1, 2])?;
     Ok(Command::Write { path, bytes })
 }
 
@@ -80,17 +85,21 @@ fn answer(alloc: Global, out: &mut String, text: &str) -> Result<(), NoMemory> {
     put_fold(out, &fold?)
 }
 
-/// A file of ten bytes in blocks of four, each on two datanodes.
+/// Blocks of four bytes, each on two datanodes.
+const ATTRIBUTES: Attributes = Attributes {
+    permission: 0o644,
+    replication: 2,
+    block_size: 4,
+    encrypted: false,
+};
+
+/// A file of ten bytes, with these attributes.
 fn file(alloc: Global) -> Result<Line, NoMemory> {
+    let bytes = blob(alloc, &[7; 10])?;
     Ok(Line::File {
         path: Text::from_str(alloc, "/a")?,
-        attributes: Attributes {
-            permission: 0o644,
-            replication: 2,
-            block_size: 4,
-            encrypted: false,
-        },
-        bytes: Blob::from_vec(Vec::from_slice(alloc, &[7; 10])?),
+        attributes: ATTRIBUTES,
+        bytes,
     })
 }
 

@@ -173,6 +173,7 @@ pub(crate) fn tell(
         "call" => call(alloc, out, argument),
         "context" => context(alloc, out, argument),
         "fault" => told(out, argument),
+        "sums" => packets::sums(alloc, out, argument),
         "data" | "parse" => packets::changed(alloc, out, word, argument),
         _ => tell_bytes(alloc, out, word, argument),
     }

@@ -59,6 +59,50 @@ pub(crate) fn changed(
     }
 }
 
+const ZEROS: [u8; 512] = [0; 512];
+
+/// The payload of as many zeros, 512 at most.
+fn zeros(alloc: Global, len: usize) -> Result<Bytes, NoMemory> {
+    Ok(Bytes::copy_from_slice(alloc, ZEROS.get(..len).unwrap_or(&ZEROS))?)
+}
+
+/// A packet with this payload and the CRC-32C of 512 zeros.
+fn packet_of(alloc: Global, payload: Bytes) -> Result<ReadPacket, NoMemory> {
+    let checksum = Bytes::copy_from_slice(alloc, b"\x30\xfc\xed\xc0")?;
+    Ok(ReadPacket {
+        header: PacketHeader {
+            offset_in_block: 0,
+            seqno: 0,
+            last_packet_in_block: false,
+            data_len: 0,
+            sync_block: None,
+        },
+        checksum,
+        payload,
+    })
+}
+
+/// How many bytes a packet gives whose checksums are of this kind; none where they don't hold.
+fn given(packet: ReadPacket, info: &ChecksumInfo) -> Option<u64> {
+    match packet.get_data(Some(info)) {
+        Ok(bytes) => Some(bytes.len() as u64),
+        Err(_) => None,
+    }
+}
+
+/// How many bytes a packet of as many zeros gives, by the kind and the size of its checksums.
+pub(crate) fn sums(alloc: Global, out: &mut String, argument: &str) -> Result<(), NoMemory> {
+    let info = ChecksumInfo {
+        kind: small(argument, 1),
+        bytes_per_checksum: small(argument, 2),
+    };
+    let payload = zeros(alloc, number(argument, 0) as usize)?;
+    match given(packet_of(alloc, payload)?, &info) {
+        Some(count) => put_number(out, count),
+        None => put(out, None),
+    }
+}
+
 /// Why bytes are no packet.
 fn refused(alloc: Global, out: &mut String, bytes: &[u8]) -> Result<(), NoMemory> {
     match parsed(alloc, bytes) {

@@ -1,6 +1,0 @@
--- A new reader stands in any cluster.
-use Rattle.hdfs_fakes.specs.Fakes.{shown_of}
-use Rattle.hdfs_client_tests.proofs.falling_over.read_block.Goals as goal
-
-pub next-piece-requires : goal.next-piece-requires
-next-piece-requires c = c.in-Ok.ensures.stands (shown_of c.args.cluster.now)

@@ -1,0 +1,15 @@
+//! Steps over a cluster in memory, and over plans by which its calls fail.
+
+mod asking;
+mod calling;
+mod case;
+mod failing;
+mod loading;
+mod making;
+mod planning;
+mod reading;
+mod seeing;
+mod telling;
+mod writing;
+
+pub(crate) use case::Case;

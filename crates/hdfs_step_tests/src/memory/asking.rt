@@ -1,0 +1,65 @@
+//! Asks of one namenode. For a client two of its exceptions are one error.
+ghost use Rattle.std.specs.Prelude.{◌<◌};
+ghost use Rattle.hdfs_mem_cluster.specs.MemShown.{shown_of};
+
+use crate::memory::telling::tell_given;
+use hdfs_cluster::{Ask, Cluster};
+use hdfs_mem_cluster::MemCluster;
+use crate::steps::{Said, Words, is_true, octal, small};
+use hdfs_wire::{NoMemory, Text};
+use std::alloc::Global;
+
+/// The ask of a step: for defaults, or to create a file (its flag, whether parents are made, its permission bits and its replication),
+/// to go on with one, or to close one that has no block.
+fn ask_of(alloc: Global, words: &Words<'_>) -> Result<Ask, NoMemory> {
+    let src = Text::from_str(alloc, words[3])?;
+    let client_name = Text::new(alloc);
+    Ok(match words[2] {
+        "create" => Ask::Create {
+            src,
+            masked: octal(words[6]),
+            client_name,
+            create_flag: small(words[4]),
+            create_parent: is_true(words[5]),
+            replication: small(words[7]),
+            block_size: 8,
+        },
+        "append" => Ask::Append {
+            src,
+            client_name,
+            flag: 4,
+        },
+        "complete" => Ask::Complete {
+            src,
+            client_name,
+            last: None,
+            file_id: None,
+        },
+        _ => Ask::GetServerDefaults,
+    })
+}
+
+/// What the namenode gives.
+fn tell(cluster: &mut MemCluster, number: u32, ask: &Ask, said: &mut Said)
+    requires { number < (shown_of cluster.old).namenodes }
+{
+    let given = cluster.ask(number, ask);
+    tell_given(&given, said);
+    drop(given);
+}
+
+/// Asks the namenode with this number.
+pub(crate) fn take(alloc: Global, cluster: &mut MemCluster, words: &Words<'_>, said: &mut Said) {
+    let number = small(words[1]);
+    if number >= cluster.namenodes() {
+        said.fails("namenode");
+        return;
+    }
+    match ask_of(alloc, words) {
+        Ok(ask) => {
+            tell(cluster, number, &ask, said);
+            drop(ask);
+        }
+        Err(_) => said.fails("NoMemory"),
+    }
+}

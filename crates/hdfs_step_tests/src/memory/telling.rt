@@ -1,0 +1,85 @@
+//! Answers and errors in words.
+use hdfs_cluster::{
+    Answer, AskFault, DatanodeInfo, HdfsError, LinkFault, LocatedBlock, LocatedBlocks,
+};
+use crate::steps::Said;
+
+/// A client's error, by its name, and of a namenode's exception its class.
+pub(crate) fn tell_error(error: &HdfsError, said: &mut Said) {
+    match error {
+        HdfsError::RPCError(class, _) => {
+            said.fails("RPCError");
+            said.word(class.as_str());
+        }
+        HdfsError::NoMemory => said.fails("NoMemory"),
+        HdfsError::AlreadyExists(_) => said.fails("AlreadyExists"),
+        HdfsError::IOError(_) => said.fails("IOError"),
+        _ => said.fails("otherwise"),
+    }
+}
+
+/// Why an ask has no answer, by its name, and of an exception its class.
+fn tell_ask_fault(fault: &AskFault, said: &mut Said) {
+    match fault {
+        AskFault::NoMemory => said.fails("NoMemory"),
+        AskFault::Broken => said.fails("Broken"),
+        AskFault::BadReply(_) => said.fails("BadReply"),
+        AskFault::Exception { class, .. } => {
+            said.fails("Exception");
+            said.word(class.as_str());
+        }
+        AskFault::Fatal { .. } => said.fails("Fatal"),
+    }
+}
+
+/// What a namenode gives: whether a file is closed, or that there are defaults or another answer, or why there is none.
+pub(crate) fn tell_given(given: &Result<Answer, AskFault>, said: &mut Said) {
+    match given {
+        Ok(Answer::Complete(done)) => said.truth(*done),
+        Ok(Answer::GetServerDefaults(_)) => said.word("defaults"),
+        Ok(_) => said.word("answer"),
+        Err(fault) => tell_ask_fault(fault, said),
+    }
+}
+
+/// Why a call on a link failed.
+pub(crate) fn tell_link_fault(fault: LinkFault, said: &mut Said) {
+    said.fails(match fault {
+        LinkFault::NoMemory => "NoMemory",
+        LinkFault::Broken => "Broken",
+        LinkFault::Refused => "Refused",
+    });
+}
+
+/// The datanodes by their uuids.
+pub(crate) fn tell_nodes(locs: &[DatanodeInfo], said: &mut Said) {
+    for node in locs {
+        said.word(node.id.datanode_uuid.as_str());
+    }
+}
+
+/// A block's id and its stamp.
+pub(crate) fn tell_block(block: &LocatedBlock, said: &mut Said) {
+    said.number(block.b.block_id);
+    said.number(block.b.generation_stamp);
+}
+
+/// What is wanted of a file: its length and how many blocks it has, or of each block its length, its name, or the datanodes that it
+/// lies on.
+pub(crate) fn tell_located(found: &LocatedBlocks, wanted: &str, said: &mut Said) {
+    if wanted == "extent" {
+        said.number(found.file_length);
+        said.number(found.blocks.as_slice().len() as u64);
+        return;
+    }
+    for block in found.blocks.as_slice() {
+        match wanted {
+            "lengths" => said.number(block.b.num_bytes),
+            "names" => tell_block(block, said),
+            _ => {
+                said.word("on");
+                tell_nodes(block.locs.as_slice(), said);
+            }
+        }
+    }
+}
