@@ -3,9 +3,9 @@ ghost use Rattle.std.specs.Prelude.{◌<◌};
 ghost use Rattle.hdfs_mem_cluster.specs.MemShown.{shown_of};
 
 use crate::memory::telling::tell_given;
+use crate::steps::{Said, Words, is_true, octal, small};
 use hdfs_cluster::{Ask, Cluster};
 use hdfs_mem_cluster::MemCluster;
-use crate::steps::{Said, Words, is_true, octal, small};
 use hdfs_wire::{NoMemory, Text};
 use std::alloc::Global;
 

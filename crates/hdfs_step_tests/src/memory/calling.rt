@@ -6,13 +6,13 @@ ghost use Rattle.hdfs_namenode.specs.Clients.{proxy_of};
 use crate::memory::making::{info, named, node};
 use crate::memory::reading::read_located;
 use crate::memory::telling::{tell_block, tell_error, tell_located, tell_nodes};
+use crate::steps::{Said, Words, is_true, number, small};
 use hdfs_cluster::{
     Appended, Block, DatanodeId, DatanodeInfo, FileStatusMsg, HdfsError, LocatedBlock,
     LocatedBlocks,
 };
 use hdfs_mem_cluster::MemCluster;
 use hdfs_namenode::NamenodeProtocol;
-use crate::steps::{Said, Words, is_true, number, small};
 use hdfs_wire::NoMemory;
 use std::alloc::Global;
 

@@ -3,10 +3,10 @@ ghost use Rattle.hdfs_cluster.specs.Loading.{AreValid};
 
 use crate::memory::planning::{self, Plans};
 use crate::memory::{asking, calling, loading, reading, seeing, writing};
+use crate::steps::{Said, Stage, Words, small};
 use hdfs_cluster::{MemSettings, ServerDefaults};
 use hdfs_mem_cluster::MemCluster;
 use hdfs_namenode::{NameServiceProxy, NamenodeProtocol};
-use crate::steps::{Said, Stage, Words, small};
 use hdfs_wire::NoMemory;
 use std::alloc::Global;
 

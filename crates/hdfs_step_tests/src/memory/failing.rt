@@ -1,6 +1,6 @@
 //! Lines by which calls fail.
-use hdfs_cluster::{AskKind, FaultLine, LinkKind, ReadKind};
 use crate::steps::{number, small};
+use hdfs_cluster::{AskKind, FaultLine, LinkKind, ReadKind};
 use hdfs_wire::{NoMemory, Text};
 use std::alloc::Global;
 

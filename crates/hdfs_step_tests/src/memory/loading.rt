@@ -1,8 +1,8 @@
 //! Lines are loaded into a store.
 use crate::memory::failing::fault_of;
+use crate::steps::{Said, Words, number, octal, small};
 use hdfs_cluster::{AddFault, Attributes, Line, MemSettings, Store};
 use hdfs_mem_cluster::MemCluster;
-use crate::steps::{Said, Words, number, octal, small};
 use hdfs_wire::{Blob, NoMemory, Text};
 use std::alloc::Global;
 

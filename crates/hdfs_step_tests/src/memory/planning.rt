@@ -1,8 +1,8 @@
 //! Calls are planned and counted.
 use crate::memory::failing::fault_of;
+use crate::steps::{Said, Words, number, small};
 use hdfs_cluster::LinkKind;
 use hdfs_mem_faults::{FaultPlan, Tally};
-use crate::steps::{Said, Words, number, small};
 use hdfs_wire::NoMemory;
 use std::alloc::Global;
 

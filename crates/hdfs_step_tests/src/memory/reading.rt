@@ -4,9 +4,9 @@ ghost use Rattle.hdfs_mem_cluster.specs.MemShown.{shown_of};
 
 use crate::memory::making::{named, node, token};
 use crate::memory::telling::tell_link_fault;
+use crate::steps::{Said, Words, number};
 use hdfs_cluster::{Cluster, LocatedBlock, ReadAsk};
 use hdfs_mem_cluster::MemCluster;
-use crate::steps::{Said, Words, number};
 use hdfs_wire::{NoMemory, Text};
 use std::alloc::Global;
 

@@ -1,7 +1,7 @@
 //! What a cluster shows of itself.
+use crate::steps::{Said, Words};
 use hdfs_cluster::{Cluster, Store};
 use hdfs_mem_cluster::{Counts, MemCluster};
-use crate::steps::{Said, Words};
 
 /// How often namenodes, links or datanodes have failed.
 fn tell_counts(counts: &Counts, what: &str, said: &mut Said) {

@@ -1,8 +1,8 @@
 //! Answers and errors in words.
+use crate::steps::Said;
 use hdfs_cluster::{
     Answer, AskFault, DatanodeInfo, HdfsError, LinkFault, LocatedBlock, LocatedBlocks,
 };
-use crate::steps::Said;
 
 /// A client's error, by its name, and of a namenode's exception its class.
 pub(crate) fn tell_error(error: &HdfsError, said: &mut Said) {

@@ -8,9 +8,9 @@ ghost use Rattle.hdfs_mem_cluster.specs.MemShown.{shown_of};
 
 use crate::memory::making::{info, named, push_node, token};
 use crate::memory::telling::tell_link_fault;
+use crate::steps::{Said, Words, number, small};
 use hdfs_cluster::{Cluster, DatanodeInfo, LinkFault, Setup, Stage, Transfer};
 use hdfs_mem_cluster::MemCluster;
-use crate::steps::{Said, Words, number, small};
 use hdfs_wire::{Ack, List, NoMemory, Text, WritePacket};
 use std::alloc::Global;
 

@@ -4,9 +4,9 @@ ghost use Rattle.hdfs_step_tests.specs.Namenodes.{shown_of};
 
 use crate::namenodes::fake_namenodes::{FakeNamenodes, Gives};
 use crate::namenodes::telling::{tell_asked, tell_error};
+use crate::steps::{Said, Words};
 use hdfs_cluster::Ask;
 use hdfs_namenode::NameServiceProxy;
-use crate::steps::{Said, Words};
 use hdfs_wire::Text;
 use std::alloc::Global;
 

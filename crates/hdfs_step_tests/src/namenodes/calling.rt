@@ -6,9 +6,9 @@ ghost use Rattle.hdfs_step_tests.specs.Namenodes.{shown_of};
 use crate::namenodes::changing;
 use crate::namenodes::fake_namenodes::FakeNamenodes;
 use crate::namenodes::telling::tell_error;
+use crate::steps::{Said, Words};
 use hdfs_cluster::{AclStatusMsg, HdfsError};
 use hdfs_namenode::NamenodeProtocol;
-use crate::steps::{Said, Words};
 
 /// `getFileInfo PATH`: whether a file is there.
 fn get_file_info(

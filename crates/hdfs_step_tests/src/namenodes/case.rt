@@ -2,8 +2,8 @@
 use crate::namenodes::fake_namenodes::{FakeNamenodes, Gives};
 use crate::namenodes::telling::{tell_asked, tell_done};
 use crate::namenodes::{asking, calling, keeping};
-use hdfs_namenode::{NameServiceProxy, NamenodeProtocol};
 use crate::steps::{Said, Stage, Words, is_true, number, small};
+use hdfs_namenode::{NameServiceProxy, NamenodeProtocol};
 use hdfs_wire::NoMemory;
 use std::alloc::Global;
 

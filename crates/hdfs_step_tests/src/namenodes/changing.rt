@@ -5,9 +5,9 @@ ghost use Rattle.hdfs_step_tests.specs.Namenodes.{shown_of};
 
 use crate::namenodes::fake_namenodes::FakeNamenodes;
 use crate::namenodes::telling::tell_error;
+use crate::steps::{Said, Words};
 use hdfs_cluster::AclEntryMsg;
 use hdfs_namenode::NamenodeProtocol;
-use crate::steps::{Said, Words};
 
 /// `mkdirs PATH`, `delete PATH` and `setReplication PATH`: whether it is done.
 fn is_done(

@@ -5,9 +5,9 @@ ghost use Rattle.hdfs_step_tests.specs.Namenodes.{shown_of};
 
 use crate::namenodes::fake_namenodes::FakeNamenodes;
 use crate::namenodes::telling::tell_error;
+use crate::steps::{Said, Words, number};
 use hdfs_cluster::{EncryptionKey, HdfsError};
 use hdfs_namenode::{LeaseTurn, NamenodeProtocol};
-use crate::steps::{Said, Words, number};
 
 /// What a turn comes to.
 fn name_of(turn: LeaseTurn) -> &'static str {

@@ -1,7 +1,7 @@
 //! Answers and errors in words.
 use crate::namenodes::fake_namenodes::name_of;
-use hdfs_cluster::{HdfsError, IoFault};
 use crate::steps::Said;
+use hdfs_cluster::{HdfsError, IoFault};
 
 /// The numbers by which asks are told.
 pub(crate) fn tell_asked(asked: &[u32], said: &mut Said) {
