@@ -10,6 +10,7 @@ use Rattle.hdfs_cluster.specs.declared.errors.HdfsError.TheVariants as errors
 use Rattle.hdfs_cluster.specs.declared.errors.TransferFault.TheVariants as transfer
 use Rattle.hdfs_cluster.specs.Counts.{FaultCounts, NeverFall, RoseTwice}
 use Rattle.hdfs_cluster.specs.Picture.{Picture, Told}
+use Rattle.hdfs_cluster.specs.Requests.{Request, ReadOf}
 use Rattle.hdfs_cluster.specs.Shown.{Shown, OnlyReads}
 use Rattle.hdfs_cluster.specs.Reading.{range_of}
 use Rattle.hdfs_cluster.specs.Stores.{HoldsPrefix}
@@ -88,6 +89,10 @@ pub record IsAskFor (block : LocatedBlock) (k : ℕ) (client : List ℕ) (end : 
   pub token : ask.token ≡ block.block_token
   pub same_client : ask.client ≡ client
   pub same_end : ask.offset + ask.len ≡ end
+
+-- leave to read a block up to a byte, in the name of a client, from each datanode that is listed for it
+abbrev pub LetsRead : (Request → Type 0) → LocatedBlock → List ℕ → ℕ → Type 0
+LetsRead allows block client end = (k : ℕ) (ask : ReadAsk) → IsAskFor block k client end ask → allows (ReadOf ask)
 
 -- The link was opened on the location that the reader tries, when its node's count was at most what it is now.
 abbrev pub LinkHolds : Shown → BlockRead → ℕ → Type 0

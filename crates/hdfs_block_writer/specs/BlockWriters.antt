@@ -3,6 +3,7 @@ use Rattle.std.specs.Prelude.{◌≡◌, ℕ, pos, ◌+◌, ◌-◌, ◌^◌, �
 use Rattle.hdfs_wire.specs.Outgoing.{Outgoing, ArePacketSizes, empty_packet}
 use Rattle.hdfs_cluster.specs.Picture.{Picture}
 use Rattle.hdfs_cluster.specs.Pipes.{FollowsOn}
+use Rattle.hdfs_cluster.specs.Requests.{Request, LetsWriteBlock}
 use Rattle.hdfs_cluster.specs.Shown.{Shown}
 use Rattle.hdfs_pipeline.specs.Driving.{IsNotLast}
 use Rattle.hdfs_block_reader.specs.Carrying.{joined, total}
@@ -32,9 +33,22 @@ link_in (Some pipe) = Some pipe.link
 abbrev pub link_of : BlockWriter → Option ℕ
 link_of writer = link_in writer.pipe
 
+-- how often a pipeline was rebuilt, where there is one
+abbrev pub rebuilds_in : Option BlockPipeline → ℕ
+rebuilds_in None = 0
+rebuilds_in (Some pipe) = pipe.plan.rebuilds
+
+-- how often the writer's pipeline was
+abbrev pub rebuilds_of : BlockWriter → ℕ
+rebuilds_of writer = rebuilds_in writer.pipe
+
 -- the writer has failed
 abbrev pub HasFailed : BlockWriter → Type 0
 HasFailed writer = writer.pipe ≡ None
+
+-- leave to go on with the writer's block in the name of a client
+abbrev pub MayGoOn : (Request → Type 0) → List ℕ → BlockWriter → Type 0
+MayGoOn allows client writer = (pipe : BlockPipeline) → writer.pipe ≡ Some pipe → LetsWriteBlock allows client pipe.plan.src pipe.plan.block.b
 
 -- how many bytes are acknowledged: those before the packets that wait, and before the one that is being filled
 abbrev pub safe_of : BlockWriter → BlockPipeline → ℕ

@@ -4,7 +4,7 @@ use Rattle.hdfs_wire.specs.Outgoing.{Outgoing}
 use Rattle.hdfs_cluster.specs.declared.errors.HdfsError.TheVariants as errors
 use Rattle.hdfs_cluster.specs.declared.picture.BlockEntry.{BlockEntry}
 use Rattle.hdfs_cluster.specs.declared.picture.OpenWrite.{OpenWrite}
-use Rattle.hdfs_cluster.specs.Failures.{CallsRose, SomeNodeRose}
+use Rattle.hdfs_cluster.specs.Failures.{CallsRose, NodesFailTimes, SomeNodeRose}
 use Rattle.hdfs_cluster.specs.Counts.{Rose}
 use Rattle.hdfs_cluster.specs.Effects.{IsBeingWritten}
 use Rattle.hdfs_cluster.specs.Namenode.{IsToWrite}
@@ -79,12 +79,6 @@ pub record KeepsBlock (plan plan' : BlockPlan) : Type 0 where
   pub replication : plan'.replication ≡ plan.replication
   pub created : plan'.created ≡ plan.created
   pub chunk : plan'.chunk ≡ plan.chunk
-
--- datanodes have failed so many times, one time behind another
-abbrev pub NodesFailTimes : ℕ → Shown → Shown → Type 0
-NodesFailTimes zero old new = Later old new
-NodesFailTimes (suc times) old new =
-    (between : Shown) × NodesFailTimes times old between × Later between new × SomeNodeRose between.counts new
 
 -- a block's pipeline was rebuilt, once for each time that datanodes have failed, one time behind another
 abbrev pub RebuiltOnFailures : Shown → BlockPlan → Shown → BlockPlan → Type 0

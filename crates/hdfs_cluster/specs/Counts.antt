@@ -1,13 +1,16 @@
--- How often the outside has failed. A count never falls, and one that stands at its last value counts as risen.
+-- How often namenodes were asked, and how often the outside has failed. A count never falls, and one that stands at its last value counts
+-- as risen.
 use Rattle.std.specs.Prelude.{◌≡◌, ℕ, zero, suc, ◌+◌, ◌-◌, ◌^◌, ◌<◌, ◌≤◌, min, List}
 
 -- the counts of a cluster
 pub record FaultCounts : Type 0 where
-  -- of each namenode, by its number
+  -- how often each namenode was asked, by its number
+  pub asks : ℕ → ℕ
+  -- how often each namenode has failed
   pub calls : ℕ → ℕ
-  -- of the write links together
+  -- how often the write links have, together
   pub links : ℕ
-  -- of each datanode, by its uuid
+  -- how often each datanode has, by its uuid
   pub nodes : List ℕ → ℕ
 
 -- a count rose, or stands at its last value
@@ -20,6 +23,7 @@ RoseTwice before now = min (before + 2) (2 ^ 64 - 1) ≤ now
 
 -- no count fell
 pub record NeverFall (before now : FaultCounts) : Type 0 where
+  pub asks : (i : ℕ) → before.asks i ≤ now.asks i
   pub calls : (i : ℕ) → before.calls i ≤ now.calls i
   pub links : before.links ≤ now.links
   pub nodes : (d : List ℕ) → before.nodes d ≤ now.nodes d
@@ -33,6 +37,7 @@ CallsRoseTimes namenodes (suc times) before now =
 
 -- each count is what it was
 pub record SameCounts (before now : FaultCounts) : Type 0 where
+  pub asks : (i : ℕ) → now.asks i ≡ before.asks i
   pub calls : (i : ℕ) → now.calls i ≡ before.calls i
   pub links : now.links ≡ before.links
   pub nodes : (d : List ℕ) → now.nodes d ≡ before.nodes d

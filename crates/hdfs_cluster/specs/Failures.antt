@@ -1,5 +1,5 @@
 -- What an error says has failed, and what a namenode has answered last: over any cluster, whoever answers it.
-use Rattle.std.specs.Prelude.{◌≡◌, ℕ, ◌<◌, true, false, List, All, Any}
+use Rattle.std.specs.Prelude.{◌≡◌, ℕ, zero, suc, ◌<◌, Bool, true, false, List, All, Any}
 use Rattle.hdfs_cluster.specs.declared.errors.HdfsError.{HdfsError}
 use Rattle.hdfs_cluster.specs.declared.errors.HdfsError.TheVariants as errors
 use Rattle.hdfs_cluster.specs.declared.errors.IoFault.TheVariants as io_faults
@@ -8,15 +8,31 @@ use Rattle.hdfs_cluster.specs.declared.picture.LastAnswer.{LastAnswer}
 use Rattle.hdfs_cluster.specs.declared.picture.LastAnswer.TheVariants as last_answers
 use Rattle.hdfs_cluster.specs.Counts.{CallsRoseTimes, FaultCounts, Rose, RoseTwice}
 use Rattle.hdfs_cluster.specs.Namenode.{is_taken}
-use Rattle.hdfs_cluster.specs.Shown.{Shown}
+use Rattle.hdfs_names.specs.Replacements.{ShouldReplace}
+use Rattle.hdfs_names.specs.declared.replacement.Policy.{Policy}
+use Rattle.hdfs_cluster.specs.Shown.{Shown, Later}
 
 -- a namenode has failed
 abbrev pub CallsRose : FaultCounts → Shown → Type 0
 CallsRose old new = (i : ℕ) × (i < new.namenodes) × Rose (old.calls i) (new.counts.calls i)
 
+-- each namenode was asked
+abbrev pub EachAsked : FaultCounts → Shown → Type 0
+EachAsked old new = (i : ℕ) → i < new.namenodes → Rose (old.asks i) (new.counts.asks i)
+
 -- some datanode has failed
 abbrev pub SomeNodeRose : FaultCounts → Shown → Type 0
 SomeNodeRose old new = (node : List ℕ) × Rose (old.nodes node) (new.counts.nodes node)
+
+-- datanodes have failed so many times, one time behind another
+abbrev pub NodesFailTimes : ℕ → Shown → Shown → Type 0
+NodesFailTimes zero old new = Later old new
+NodesFailTimes (suc times) old new =
+    (between : Shown) × NodesFailTimes times old between × Later between new × SomeNodeRose between.counts new
+
+-- of a pipeline of so many replicas a datanode is to be replaced by this policy, where some number of them are left
+abbrev pub MayReplace : Policy → ℕ → Type 0
+MayReplace policy replication = (left : ℕ) × (is_append : Bool) × ShouldReplace policy replication left is_append false
 
 -- one of these datanodes has failed
 abbrev pub OneRose : FaultCounts → FaultCounts → List (List ℕ) → Type 0
@@ -32,7 +48,9 @@ pub data Failure : Type 0 where
   Nothing : Failure
   -- a namenode
   ANamenode : Failure
-  -- this namenode, twice
+  -- a namenode, and each was asked
+  NoAnswer : Failure
+  -- this namenode, twice, and each was asked
   Twice : ℕ → Failure
   -- namenodes, so many times
   Times : ℕ → Failure
@@ -51,15 +69,16 @@ failure_of (errors.DataTransferError transfer.AllNodes) = ADatanode
 failure_of (errors.DataTransferError transfer.NoReplacement) = ADatanode
 failure_of (errors.DataTransferError (transfer.RebuildLimit rebuilds)) = ADatanode
 failure_of (errors.OperationFailed name) = Times 5
-failure_of (errors.InvalidRPCResponse fault) = ANamenode
-failure_of (errors.FatalRPCError class message) = ANamenode
+failure_of (errors.InvalidRPCResponse fault) = NoAnswer
+failure_of (errors.FatalRPCError class message) = NoAnswer
 failure_of error = Nothing
 
 -- it has, from one moment to another
 abbrev pub HasFailed : Failure → Shown → Shown → Type 0
 HasFailed Nothing old new = Unit {0}
 HasFailed ANamenode old new = CallsRose old.counts new
-HasFailed (Twice i) old new = (i < new.namenodes) × RoseTwice (old.counts.calls i) (new.counts.calls i)
+HasFailed NoAnswer old new = EachAsked old.counts new × CallsRose old.counts new
+HasFailed (Twice i) old new = EachAsked old.counts new × (i < new.namenodes) × RoseTwice (old.counts.calls i) (new.counts.calls i)
 HasFailed (Times n) old new = CallsRoseTimes new.namenodes n old.counts new.counts
 HasFailed TheLinks old new = Rose old.counts.links new.counts.links
 HasFailed ADatanode old new = SomeNodeRose old.counts new

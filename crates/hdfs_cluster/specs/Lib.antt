@@ -14,6 +14,7 @@ pub mod Reading
 pub mod Refusals
 pub mod Repeating
 pub mod Replicas
+pub mod Requests
 pub mod Sending
 pub mod Shown
 pub mod Sound

@@ -1,5 +1,5 @@
 -- What a cluster shows of itself, and what each of its calls does to that.
-use Rattle.std.specs.Prelude.{◌≡◌, ◌≢◌, ◌⊎◌, ℕ, pos, List, length, Option, Some, None, IsSome, Result, IfSome}
+use Rattle.std.specs.Prelude.{◌≡◌, ◌≢◌, ◌⊎◌, ℕ, pos, List, length, Option, Some, None, IsSome, Result, Err, IfSome}
 use Rattle.hdfs_wire.specs.Checksums.{IsChecked}
 use Rattle.hdfs_wire.specs.declared.checksums.ChecksumInfo.{ChecksumInfo}
 use Rattle.hdfs_wire.specs.declared.read_packet.ReadPacket.{ReadPacket}
@@ -7,6 +7,7 @@ use Rattle.hdfs_cluster.specs.declared.messages.ReadAsk.{ReadAsk}
 use Rattle.hdfs_cluster.specs.declared.asks.Ask.{Ask}
 use Rattle.hdfs_cluster.specs.declared.asks.Answer.{Answer}
 use Rattle.hdfs_cluster.specs.declared.asks.AskFault.{AskFault}
+use Rattle.hdfs_cluster.specs.declared.asks.AskFault.TheVariants as ask_faults
 use Rattle.hdfs_cluster.specs.declared.asks.LinkFault.{LinkFault}
 use Rattle.hdfs_cluster.specs.declared.asks.LinkFault.TheVariants as faults
 use Rattle.hdfs_cluster.specs.declared.picture.LastAnswer.{LastAnswer}
@@ -74,11 +75,12 @@ pub record SameLinks (old new : Shown) : Type 0 where
   pub writes : (link : ℕ) → new.writes link ≡ old.writes link
   pub places : Told (SamePlaces old) old.picture new.picture
 
--- An ask of namenode i. It raises no count of a link or a datanode. That no answer comes, or false to `complete`, is only where the
--- namenode's count rose.
+-- An ask of namenode i, which is counted, unless there was no memory for it. It raises no count of a link or a datanode. That no answer
+-- comes, or false to `complete`, is only where the namenode's count rose.
 pub record Served (old : Shown) (i : ℕ) (ask : Ask) (result : Result Answer AskFault) (new : Shown) : Type 0 where
   pub later : Later old new
   pub last : new.last ≡ last_of result
+  pub asked : (result ≡ Err ask_faults.NoMemory → ⊥) → Rose (old.counts.asks i) (new.counts.asks i)
   pub cause : IsFailure result → Rose (old.counts.calls i) (new.counts.calls i)
   pub reads : (link : ℕ) → new.reads link ≡ old.reads link
   pub writes : (link : ℕ) → new.writes link ≡ old.writes link

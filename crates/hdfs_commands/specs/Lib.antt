@@ -1,4 +1,5 @@
 pub mod Acting
+pub mod Asking
 pub mod Encrypted
 pub mod Finding
 pub mod Looking

@@ -7,12 +7,13 @@ use Rattle.hdfs_model.specs.declared.commands.Fault.{Fault}
 use Rattle.hdfs_cluster.specs.declared.errors.HdfsError.{HdfsError}
 use Rattle.hdfs_cluster.specs.declared.errors.HdfsError.TheVariants as errors
 use Rattle.hdfs_cluster.specs.declared.messages.ServerDefaults.{ServerDefaults}
+use Rattle.hdfs_cluster.specs.Failures.{NodesFailTimes}
 use Rattle.hdfs_cluster.specs.Files.{State, File, Writing, Content}
 use Rattle.hdfs_model.specs.Headline.{Scene}
 use Rattle.hdfs_model.specs.Limits.{are_settings}
 use Rattle.hdfs_model.specs.Sessions.{defaults_of}
 use Rattle.hdfs_cluster.specs.Picture.{Picture}
-use Rattle.hdfs_cluster.specs.Shown.{Shown}
+use Rattle.hdfs_cluster.specs.Shown.{Shown, Later}
 use Rattle.hdfs_cluster.specs.Sound.{IsFileAt}
 use Rattle.hdfs_cluster.specs.Stores.{AgreesBut}
 use Rattle.hdfs_cluster.specs.Writing.{SameRecords}
@@ -100,6 +101,11 @@ pub record OnlyOwnLinks (old : Shown) (session : Session) (new : Shown) (session
   pub others : (link : ℕ) → IsSome (old.writes link) → (HasLink session link → ⊥) → new.writes link ≡ old.writes link
   pub none : (link : ℕ) → (old.writes link ≡ None) ⊎ HasLink session link → (new.writes link ≡ None) ⊎ HasLink session' link
   pub fresh : (link : ℕ) → HasLink session' link → HasLink session link ⊎ (old.writes link ≡ None)
+
+-- From a moment on no count fell, and the pipeline of each writer was rebuilt no more often than datanodes have failed.
+pub record Tallied (start shown : Shown) (session : Session) : Type 0 where
+  pub later : Later start shown
+  pub each : (path : List ℕ) (writer : FileWriter) → writer_of session path ≡ Some writer → NodesFailTimes (files.rebuilds_of writer) start shown
 
 -- The writer of the file at a path carries the bytes that the state has there, and writes with the file's own attributes.
 pub record CarriesFile (p : Picture) (state : State) (path : List ℕ) (writer : FileWriter) : Type 0 where

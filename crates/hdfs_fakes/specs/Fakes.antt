@@ -15,11 +15,11 @@ abbrev last_told : Bool → LastAnswer
 last_told true = last_answers.NoMemory
 last_told false = last_answers.Fine
 
--- no picture, one namenode, and one count for all datanodes
+-- no picture, one namenode with a count of its asks, and one count for all datanodes
 abbrev pub shown_of : FakeCluster → Shown
 shown_of fake = record {
   picture = None;
-  counts = record { calls = λ i. 0; links = 0; nodes = λ d. fake.failures };
+  counts = record { asks = λ i. fake.asks; calls = λ i. 0; links = 0; nodes = λ d. fake.failures };
   last = last_told fake.lacks_memory;
   namenodes = 1;
   reads = λ link. slab.get fake.reads link;

@@ -5,7 +5,7 @@ use Rattle.hdfs_cluster.specs.declared.errors.HdfsError.TheVariants as errors
 use Rattle.hdfs_cluster.specs.declared.errors.Feature.TheVariants as features
 use Rattle.hdfs_cluster.specs.declared.errors.IoFault.TheVariants as io_faults
 use Rattle.hdfs_cluster.specs.declared.errors.TransferFault.TheVariants as transfer
-use Rattle.hdfs_cluster.specs.Failures.{CallsRose, IsOfAsk, Means}
+use Rattle.hdfs_cluster.specs.Failures.{CallsRose, IsOfAsk, MayReplace, Means}
 use Rattle.hdfs_cluster.specs.Lost.{PipelineFailed, SomeListedFailed}
 use Rattle.hdfs_cluster.specs.Counts.{Rose}
 use Rattle.hdfs_cluster.specs.Shown.{Shown}
@@ -45,14 +45,15 @@ TellsClose path old new error = IsOfClose path error × Means old new error
 
 -- The cause of an error of a writer that carries the file at this path, and writes with these sizes, beside what it says has failed: an exception
 -- of a namenode comes only where its count has risen. A pipeline fails only where each datanode has that is listed for the file's last block. That
--- none came for one that failed is told only without best effort, where the links or a namenode have failed too, and the limit of
+-- none came for one that failed is told only without best effort, where the links or a namenode have failed too and the policy replaces
+-- datanodes of a file of this replication, and the limit of
 -- rebuilds is the one of the settings; both only where a listed datanode has failed. Bytes are refused for encryption only
 -- where the sizes say so.
 abbrev pub CauseOfWrite : WriteSizes → List ℕ → Shown → Shown → HdfsError → Type 0
 CauseOfWrite sizes path old new (errors.DataTransferError transfer.AllNodes) = PipelineFailed old.counts new path
 CauseOfWrite sizes path old new (errors.DataTransferError transfer.NoReplacement) =
     (sizes.rebuilding.replace.best_effort ≡ false) × (Rose old.counts.links new.counts.links ⊎ CallsRose old.counts new)
-    × SomeListedFailed old.counts new path
+    × SomeListedFailed old.counts new path × MayReplace sizes.rebuilding.replace.policy sizes.replication
 CauseOfWrite sizes path old new (errors.DataTransferError (transfer.RebuildLimit rebuilds)) =
     (rebuilds ≡ sizes.rebuilding.rebuild_limit) × SomeListedFailed old.counts new path
 CauseOfWrite sizes path old new (errors.AlreadyExists message) = CallsRose old.counts new

@@ -1,12 +1,14 @@
 -- A writer of one file, as its callers see it.
-use Rattle.std.specs.Prelude.{◌≡◌, ◌≢◌, ℕ, ◌^◌, ◌<◌, ◌≤◌, true, false, Bool, List, [], ◌++◌, Option, Some, None, IsSome, IfSome, Result, Ok, Err}
+use Rattle.std.specs.Prelude.{◌≡◌, ◌≢◌, ℕ, suc, ◌^◌, ◌<◌, ◌≤◌, true, false, Bool, List, [], ◌++◌, Option, Some, None, IsSome, IfSome, Result, Ok, Err}
 use Rattle.hdfs_wire.specs.Outgoing.{ArePacketSizes}
 use Rattle.hdfs_cluster.specs.declared.messages.Block.{Block}
 use Rattle.hdfs_cluster.specs.declared.messages.LocatedBlock.{LocatedBlock}
 use Rattle.hdfs_cluster.specs.declared.errors.ArgFault.TheVariants as args
 use Rattle.hdfs_cluster.specs.declared.errors.HdfsError.{HdfsError}
 use Rattle.hdfs_cluster.specs.declared.errors.HdfsError.TheVariants as errors
+use Rattle.hdfs_cluster.specs.declared.errors.TransferFault.TheVariants as transfer
 use Rattle.hdfs_cluster.specs.Effects.{blocks_at}
+use Rattle.hdfs_cluster.specs.Failures.{NodesFailTimes}
 use Rattle.hdfs_cluster.specs.Files.{File}
 use Rattle.hdfs_cluster.specs.Namenode.{IsToWrite}
 use Rattle.hdfs_cluster.specs.Picture.{Picture}
@@ -16,6 +18,7 @@ use Rattle.hdfs_cluster.specs.Writing.{SameRecords}
 use Rattle.hdfs_block_writer.specs.BlockWriters as blocks
 use Rattle.hdfs_block_writer.specs.OpenPipelines as pipelines
 use Rattle.hdfs_block_writer.specs.declared.block_writer.BlockWriter.{BlockWriter}
+use Rattle.hdfs_rebuild.specs.declared.block_plan.BlockPipeline.{BlockPipeline}
 use Rattle.hdfs_rebuild.specs.declared.block_plan.BlockPlan.{BlockPlan}
 use Rattle.hdfs_file_writer.specs.Failing.{TellsWrite, TellsClose, CauseOfWrite, IsNoRefusal, IsRefusal}
 use Rattle.hdfs_file_writer.specs.OnlyFiles.{OnlyFile, SameFile}
@@ -99,9 +102,33 @@ link_by (Some writer) = blocks.link_of writer
 abbrev pub link_of : FileWriter → Option ℕ
 link_of writer = link_by writer.going
 
--- The writer of a block stands as its last call left it. Its block has the size of the file's blocks, which is in its limits, its
--- packets have the file's sizes of packets, its pipeline is rebuilt as the file's are, and its data isn't to be encrypted.
-pub record BlockStands (shown : Shown) (sizes : WriteSizes) (writer : BlockWriter) : Type 0 where
+-- a block is written as one of the file at this path, which has this replication
+pub record IsPlanOf (path : List ℕ) (sizes : WriteSizes) (plan : BlockPlan) : Type 0 where
+  pub src : plan.src ≡ path
+  pub replication : plan.replication ≡ sizes.replication
+
+-- how often the pipeline of a block that is being written was rebuilt
+abbrev pub rebuilds_by : Option BlockWriter → ℕ
+rebuilds_by None = 0
+rebuilds_by (Some writer) = blocks.rebuilds_of writer
+
+-- the same of the block that it is writing
+abbrev pub rebuilds_of : FileWriter → ℕ
+rebuilds_of writer = rebuilds_by writer.going
+
+-- from any moment on: where its pipeline was rebuilt once for each time that datanodes have failed, so it was behind the call
+abbrev pub Tallies : Shown → FileWriter → Shown → FileWriter → Type 0
+Tallies old writer new writer' = (start : Shown) → NodesFailTimes (rebuilds_of writer) start old → NodesFailTimes (rebuilds_of writer') start new
+
+-- from any moment on: then it was rebuilt as often as it may be only where datanodes have failed once more than that
+abbrev pub EndsTally : Shown → FileWriter → HdfsError → Shown → Type 0
+EndsTally old writer error new = (start : Shown) (n : ℕ) → error ≡ errors.DataTransferError (transfer.RebuildLimit n)
+    → NodesFailTimes (rebuilds_of writer) start old → NodesFailTimes (suc n) start new
+
+-- The writer of a block of the file at this path stands as its last call left it. Its block has the size of the file's blocks, which is in
+-- its limits, its packets have the file's sizes of packets, its pipeline is rebuilt as the file's are, a datanode that fails is replaced by
+-- the file's replication, and its data isn't to be encrypted.
+pub record BlockStands (shown : Shown) (path : List ℕ) (sizes : WriteSizes) (writer : BlockWriter) : Type 0 where
   pub limited : AreLimited sizes
   pub stands : blocks.Stands shown writer
   pub size : blocks.size_of writer ≡ sizes.block_size
@@ -109,12 +136,13 @@ pub record BlockStands (shown : Shown) (sizes : WriteSizes) (writer : BlockWrite
   pub packet_size : writer.packet_size ≡ sizes.packet_size
   pub settings : writer.settings ≡ sizes.rebuilding
   pub plain : sizes.encrypted ≡ false
+  pub plan : (pipe : BlockPipeline) → writer.pipe ≡ Some pipe → IsPlanOf path sizes pipe.plan
 
 -- What a writer of a file is between calls. Once it has failed it keeps no link. Until then a block of it is done only where the one
 -- behind it is being written.
 pub record Stands (shown : Shown) (writer : FileWriter) : Type 0 where
   pub packets : ArePackets writer.sizes
-  pub going : (block : BlockWriter) → writer.going ≡ Some block → BlockStands shown writer.sizes block
+  pub going : (block : BlockWriter) → writer.going ≡ Some block → BlockStands shown writer.path writer.sizes block
   pub is_open : writer.failed ≡ false → (block : BlockWriter) → writer.going ≡ Some block → IsSome (blocks.link_of block)
   pub idle : writer.failed ≡ true → link_of writer ≡ None
   pub reopened : IfSome writer.reopened IsToWrite
@@ -151,14 +179,14 @@ pub record Keeps (writer writer' : FileWriter) : Type 0 where
   pub file_id : writer'.file_id ≡ writer.file_id
   pub sizes : writer'.sizes ≡ writer.sizes
 
--- When a write does nothing to the cluster: of no bytes, which are taken; by a writer that has failed; and by one whose file's
--- replication or block size is out of its limits, which has failed then.
+-- When a write does nothing to the cluster: of no bytes, which are taken whatever the file's numbers are; by a writer that has failed; and
+-- of some by one whose file's replication or block size is out of its limits, which has failed then.
 pub record IsIdle {C : Type 0} (writer : FileWriter) (bytes : List ℕ) (old : C) (result : Result ℕ HdfsError) (writer' : FileWriter) (new : C)
     : Type 0 where
   pub none : bytes ≡ [] → new ≡ old
-  pub empty : writer.failed ≡ false → AreLimited writer.sizes → bytes ≡ [] → result ≡ Ok 0
+  pub empty : writer.failed ≡ false → bytes ≡ [] → result ≡ Ok 0
   pub failed : writer.failed ≡ true → (result ≡ Err errors.Failed) × (writer' ≡ writer) × (new ≡ old)
-  pub options : writer.failed ≡ false → (AreLimited writer.sizes → ⊥)
+  pub options : writer.failed ≡ false → bytes ≢ [] → (AreLimited writer.sizes → ⊥)
       → (result ≡ Err (errors.InvalidArgument args.Options)) × (link_of writer ≡ None) × (new ≡ old)
 
 -- calls on the cluster in the writer's name, as those of a writer of a block
@@ -206,6 +234,7 @@ Closes old writer new =
 pub record Wrote (old : Shown) (writer : FileWriter) (more : List ℕ) (new : Shown) (writer' : FileWriter) : Type 0 where
   pub keeps : Keeps writer writer'
   pub own : OnlyOwnLink old (link_of writer) new (link_of writer')
+  pub tallies : Tallies old writer new writer'
   pub carries : CarriesMore old writer more new writer'
 
 -- A call has failed: no link is left, the error tells what it stands for, and no datanode has failed where bytes are refused for encryption.
@@ -213,6 +242,7 @@ pub record Wrote (old : Shown) (writer : FileWriter) (more : List ℕ) (new : Sh
 pub record Fails (old : Shown) (writer : FileWriter) (error : HdfsError) (new : Shown) : Type 0 where
   pub own : OnlyOwnLink old (link_of writer) new None
   pub tells : TellsWrite old new error
+  pub limit : EndsTally old writer error new
   pub refused : IsRefusal error → SameNodes old new
   pub touches : TouchesFile old writer new
   pub cause : HasCause old writer error new
@@ -234,6 +264,7 @@ pub record Adds (old : Shown) (writer : FileWriter) (located : LocatedBlock) (ne
 pub record FailsToClose (old : Shown) (writer : FileWriter) (error : HdfsError) (new : Shown) : Type 0 where
   pub own : OnlyOwnLink old (link_of writer) new None
   pub tells : TellsClose writer.path old new error
+  pub limit : EndsTally old writer error new
   pub touches : TouchesFile old writer new
   pub cause : HasCause old writer error new
 

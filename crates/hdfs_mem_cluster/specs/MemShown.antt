@@ -6,8 +6,8 @@ use Rattle.slab.specs.Slab.{Slab}
 use Rattle.hdfs_cluster.specs.declared.store.Line.{Line}
 use Rattle.hdfs_cluster.specs.declared.mem_settings.MemSettings.{MemSettings}
 use Rattle.hdfs_mem_faults.specs.declared.fault_plan.FaultPlan.{FaultPlan}
-use Rattle.hdfs_mem_faults.specs.Plans.{ask_faults_of, has_node, link_faults_of, node_faults_of}
-use Rattle.hdfs_mem_faults.specs.Series.{uuid_of}
+use Rattle.hdfs_mem_faults.specs.Plans.{ask_faults_of, calls_of, has_node, link_faults_of, node_faults_of}
+use Rattle.hdfs_mem_faults.specs.Series.{AsksOf, uuid_of}
 use Rattle.hdfs_cluster.specs.Counts.{FaultCounts}
 use Rattle.hdfs_cluster.specs.Picture.{Picture}
 use Rattle.hdfs_cluster.specs.Shown.{Loaded, Shown}
@@ -53,6 +53,7 @@ namenode_faults settings calls plan i =
 -- the counts of a cluster with this plan, whose active namenode has failed so often beside it
 abbrev pub counts_at : MemSettings → ℕ → FaultPlan → FaultCounts
 counts_at settings calls plan = record {
+  asks = λ i. calls_of plan (AsksOf i);
   calls = namenode_faults settings calls plan;
   links = link_faults_of plan;
   nodes = λ d. node_faults_of plan d;

@@ -20,6 +20,7 @@ pub record Starts (settings : MemSettings) (shown : Shown) : Type 0 where
   pub no_read : (link : ℕ) → shown.reads link ≡ None
   pub no_write : (link : ℕ) → shown.writes link ≡ None
   pub no_line : shown.loaded ≡ record { settings = Some settings; lines = [] }
+  pub asks : (i : ℕ) → shown.counts.asks i ≡ 0
   pub calls : (i : ℕ) → shown.counts.calls i ≡ 0
   pub links : shown.counts.links ≡ 0
   pub nodes : (d : List ℕ) → shown.counts.nodes d ≡ 0

@@ -1,5 +1,5 @@
 -- What a session says over any cluster, whether it tells its picture or not.
-use Rattle.std.specs.Prelude.{◌≡◌, ◌≢◌, ℕ, ◌-◌, List, [], ◌∷◌, length, take, Result, IfOk, IfErr, slice_get, Some, Vec}
+use Rattle.std.specs.Prelude.{◌≡◌, ◌≢◌, ℕ, suc, ◌-◌, List, [], ◌∷◌, length, take, Result, IfOk, IfErr, slice_get, Some, Vec}
 use Rattle.std.specs.declared.alloc.Global.{Global}
 use Rattle.hdfs_model.specs.declared.commands.Command.{Command}
 use Rattle.hdfs_model.specs.declared.commands.Command.TheVariants as commands
@@ -7,6 +7,9 @@ use Rattle.hdfs_model.specs.declared.commands.Reply.{Reply}
 use Rattle.hdfs_model.specs.declared.commands.Reply.TheVariants as replies
 use Rattle.hdfs_model.specs.declared.commands.Fault.{Fault}
 use Rattle.hdfs_cluster.specs.declared.errors.HdfsError.{HdfsError}
+use Rattle.hdfs_cluster.specs.declared.errors.HdfsError.TheVariants as errors
+use Rattle.hdfs_cluster.specs.declared.errors.TransferFault.TheVariants as transfer
+use Rattle.hdfs_cluster.specs.Failures.{NodesFailTimes}
 use Rattle.hdfs_cluster.specs.Shown.{Shown, Later, SameReads, SameNodes}
 use Rattle.hdfs_model.specs.Causes.{Tells, IsEarly, TouchesNothing}
 
@@ -36,7 +39,8 @@ AreReplies (command ∷ commands) (reply ∷ replies) = IsReply command reply ×
 AreReplies commands replies = ⊥
 
 -- A whole session: no link was changed, closed or left open; each command has a reply to it, or an error tells what it stands for at its
--- command, and those before it have theirs.
+-- command, and those before it have theirs. That a pipeline was rebuilt as often as it may be, so many times, is told only where datanodes
+-- have failed once more than that, one time behind another.
 pub record Runs (commands : List Command) (old new : Shown) (result : Result (Vec Reply Global) Fault) : Type 0 where
   pub later : Later old new
   pub reads : SameReads old new
@@ -45,3 +49,4 @@ pub record Runs (commands : List Command) (old new : Shown) (result : Result (Ve
   pub done : IfErr result (λ fault. AreReplies (take (fault.at - 1) commands) fault.done)
   pub tells : IfErr result (λ fault. fault.at ≢ 0 → (command : Command) × (slice_get commands (fault.at - 1) ≡ Some command)
       × Tells command old new fault.error)
+  pub limit : IfErr result (λ fault. (n : ℕ) → fault.error ≡ errors.DataTransferError (transfer.RebuildLimit n) → NodesFailTimes (suc n) old new)

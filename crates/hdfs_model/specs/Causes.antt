@@ -10,7 +10,7 @@ use Rattle.hdfs_cluster.specs.declared.errors.TransferFault.TheVariants as trans
 use Rattle.hdfs_cluster.specs.declared.errors.ArgFault.TheVariants as args
 use Rattle.hdfs_cluster.specs.declared.errors.Feature.TheVariants as features
 use Rattle.hdfs_cluster.specs.Counts.{FaultCounts, Rose}
-use Rattle.hdfs_cluster.specs.Failures.{CallsRose, HasFailed, IsOfAsk, Means, failure_of}
+use Rattle.hdfs_cluster.specs.Failures.{CallsRose, HasFailed, IsOfAsk, MayReplace, Means, failure_of}
 use Rattle.hdfs_cluster.specs.Files.{State, Content, NoFile, File, Writing}
 use Rattle.hdfs_cluster.specs.Limits.{are_defaults, are_attributes}
 use Rattle.hdfs_model.specs.Limits.{are_options}
@@ -92,22 +92,27 @@ UsesDefaults (commands.Create path options) = Unit {0}
 UsesDefaults (commands.Append path) = Unit {0}
 UsesDefaults command = ⊥
 
--- the command's options are out of their limits, or it writes to a file, whose attributes may be
+-- the command's options are out of their limits, or it writes some bytes to a file, whose attributes may be
 abbrev pub OptionsMayBeOut : Command → Type 0
 OptionsMayBeOut (commands.Create path options) = are_options options ≡ false
-OptionsMayBeOut (commands.Write path bytes) = Unit {0}
+OptionsMayBeOut (commands.Write path bytes) = bytes ≢ []
 OptionsMayBeOut command = ⊥
 
 -- the length of the file at a path
 abbrev pub HasLength : State → List ℕ → ℕ → Type 0
 HasLength state path n = (content : Content) × (content_of (state.files path) ≡ Some content) × (n ≡ length content.bytes)
 
--- an option of the command is out of its limits, or an attribute of the file that it writes
+-- an option of the command is out of its limits, or an attribute of the file to which it writes some bytes
 abbrev pub OptionsOut : State → List ℕ → Command → Type 0
 OptionsOut state path (commands.Create text options) = are_options options ≡ false
 OptionsOut state path (commands.Write text bytes) =
-    (content : Content) × (state.files path ≡ Some (Writing content)) × (are_attributes content.attributes ≡ false)
+    (bytes ≢ []) × (content : Content) × (state.files path ≡ Some (Writing content)) × (are_attributes content.attributes ≡ false)
 OptionsOut state path command = ⊥
+
+-- a datanode of a pipeline of the file at a path, which is being written, may have to be replaced
+abbrev pub ReplacesAt : World → State → List ℕ → Type 0
+ReplacesAt world state path =
+    (content : Content) × (state.files path ≡ Some (Writing content)) × MayReplace world.policy content.attributes.replication
 
 -- The command can end with the error, which names what the command names.
 abbrev pub CanEnd : Command → HdfsError → Type 0
@@ -152,7 +157,7 @@ Because world state command old new (errors.DataTransferError transfer.AllNodes)
     IsDone (step world state command) × PipelineFailed old.counts new (target_of world command)
 Because world state command old new (errors.DataTransferError transfer.NoReplacement) =
     IsDone (step world state command) × (world.best_effort ≡ false) × (Rose old.counts.links new.counts.links ⊎ CallsRose old.counts new)
-    × SomeListedFailed old.counts new (target_of world command)
+    × SomeListedFailed old.counts new (target_of world command) × ReplacesAt world state (target_of world command)
 Because world state command old new (errors.DataTransferError (transfer.RebuildLimit rebuilds)) =
     IsDone (step world state command) × (rebuilds ≡ world.rebuild_limit) × SomeListedFailed old.counts new (target_of world command)
 Because world state command old new (errors.DataTransferError fault) = IsDone (step world state command)

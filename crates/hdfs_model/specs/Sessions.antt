@@ -1,5 +1,5 @@
 -- A session's words: when a cluster fits a state of files, what an error spares, and how errors stand for refusals.
-use Rattle.std.specs.Prelude.{◌≡◌, ◌⊎◌, ℕ, ◌+◌, ◌≤◌, Bool, true, false, not, ◌&&◌, ◌||◌, List, [], ◌∷◌, length, Option, Some, None, is_none, Result, IfErr, MatchResult}
+use Rattle.std.specs.Prelude.{◌≡◌, ◌≢◌, ◌⊎◌, ℕ, ◌+◌, ◌≤◌, Bool, true, false, not, ◌&&◌, ◌||◌, List, [], ◌∷◌, length, Option, Some, None, is_none, Result, IfErr, MatchResult}
 use Rattle.std.specs.List.{list_any}
 use Rattle.std.specs.Str.{bytes_eq}
 use Rattle.hdfs_model.specs.declared.commands.Command.{Command}
@@ -31,6 +31,7 @@ world_with settings defaults = record {
   home = settings.home;
   defaults = defaults;
   rebuild_limit = settings.rebuild_limit;
+  policy = settings.replace.policy;
   best_effort = settings.replace.best_effort;
 }
 
@@ -55,10 +56,10 @@ abbrev pub Avoids : World → State → Command → Type 0
 Avoids world state (commands.Read path offset len) = IsStrange state (target_of world (commands.Read path offset len)) → ⊥
 Avoids world state command = Unit {0}
 
--- the attributes of the file that a write goes on with are in their limits
+-- the attributes of the file that a write of some bytes goes on with are in their limits
 abbrev pub WritesInLimits : State → List ℕ → Command → Type 0
 WritesInLimits state path (commands.Write text bytes) =
-    (content : Content) → state.files path ≡ Some (Writing content) → are_attributes content.attributes ≡ true
+    bytes ≢ [] → (content : Content) → state.files path ≡ Some (Writing content) → are_attributes content.attributes ≡ true
 WritesInLimits state path command = Unit {0}
 
 -- the command moves no bytes that are to be encrypted on their way, and opens no encrypted file

@@ -9,6 +9,7 @@ use Rattle.hdfs_model.specs.declared.commands.Reply.{Reply}
 use Rattle.hdfs_model.specs.declared.commands.Reply.TheVariants as replies
 use Rattle.hdfs_model.specs.declared.commands.WriteOptions.{WriteOptions}
 use Rattle.hdfs_names.specs.Paths.{is_path, absolute, ancestors}
+use Rattle.hdfs_names.specs.declared.replacement.Policy.{Policy}
 use Rattle.hdfs_cluster.specs.Files.{State, Node, Dir, File, Writing, Content, NoFile, Missing, no_file, kinds_of}
 use Rattle.hdfs_cluster.specs.Reading.{range_of}
 pub use Rattle.hdfs_cluster.specs.Refusals.{Refusal, BadPath, WrongState, Exists, Lacks, BadRange, create_refusal, append_refusal, with_parents}
@@ -24,6 +25,7 @@ pub record World : Type 0 where
   pub home : List ℕ
   pub defaults : ServerDefaults
   pub rebuild_limit : ℕ
+  pub policy : Policy
   pub best_effort : Bool
 
 -- the content of a file, closed or open

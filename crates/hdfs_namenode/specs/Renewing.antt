@@ -10,11 +10,16 @@ use Rattle.hdfs_cluster.specs.declared.asks.Ask.TheVariants as asks
 use Rattle.hdfs_cluster.specs.declared.asks.Answer.{Answer}
 use Rattle.hdfs_cluster.specs.declared.asks.Answer.TheVariants as answers
 use Rattle.hdfs_cluster.specs.declared.asks.AskFault.{AskFault}
+use Rattle.hdfs_cluster.specs.Requests.{Request, AskOf}
 use Rattle.hdfs_cluster.specs.declared.errors.HdfsError.{HdfsError}
 use Rattle.hdfs_cluster.specs.declared.errors.HdfsError.TheVariants as errors
 use Rattle.hdfs_namenode.specs.Asked.{AskedOnce, Through, as_answer}
 use Rattle.hdfs_namenode.specs.declared.leases.LeaseTurn.{LeaseTurn}
 use Rattle.hdfs_namenode.specs.declared.leases.LeaseTurn.TheVariants.{Renewed, Missed}
+
+-- leave to renew the leases of a client, in whatever namespaces they are held
+abbrev pub LetsRenew : (Request → Type 0) → List ℕ → Type 0
+LetsRenew allows client = (namespaces : List (List ℕ)) → allows (AskOf (asks.RenewLease client namespaces))
 
 -- The names are those of the namespaces in which a file stands of which a lease is held, each once, in the order of their bytes.
 pub record AreNamespaces (leases : FileLeases) (names : List (List ℕ)) : Type 0 where

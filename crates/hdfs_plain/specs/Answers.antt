@@ -11,11 +11,12 @@ use Rattle.hdfs_plain.specs.declared.outcome.PlainOutcome.{PlainOutcome}
 use Rattle.hdfs_plain.specs.declared.outcome.PlainOutcome.TheVariants as outcomes
 use Rattle.hdfs_plain.specs.declared.running.PlainFold.{PlainFold}
 use Rattle.hdfs_plain.specs.declared.running.PlainWorld.{PlainWorld}
+use Rattle.hdfs_names.specs.declared.replacement.Policy.TheVariants.{Never}
 use Rattle.hdfs_plain.specs.Plain.{Holds}
 
 -- the world that a plain one stands for
 abbrev pub world_of : PlainWorld → World
-world_of plain = record { home = plain.home; defaults = plain.defaults; rebuild_limit = 0; best_effort = false }
+world_of plain = record { home = plain.home; defaults = plain.defaults; rebuild_limit = 0; policy = Never; best_effort = false }
 
 -- the refusal that a plain one stands for
 abbrev pub refusal_of : PlainRefusal → Refusal

@@ -12,11 +12,11 @@ use Rattle.hdfs_cluster.specs.Shown.{Shown}
 use Rattle.hdfs_cluster.specs.Sound.{IsSound}
 use Rattle.hdfs_step_tests.specs.declared.namenodes.fake_namenodes.FakeNamenodes.{FakeNamenodes}
 
--- no picture, three namenodes, and one count for all of them
+-- no picture, three namenodes, and one count of asks and one of failures for all of them
 abbrev pub shown_of : FakeNamenodes → Shown
 shown_of fake = record {
   picture = None;
-  counts = record { calls = λ i. fake.failed; links = 0; nodes = λ d. 0 };
+  counts = record { asks = λ i. fake.asks; calls = λ i. fake.failed; links = 0; nodes = λ d. 0 };
   last = fake.last;
   namenodes = 3;
   reads = λ link. slab.get fake.reads link;

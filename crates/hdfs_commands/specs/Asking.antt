@@ -1,0 +1,65 @@
+-- What a session may ask a cluster for, command by command. A session asks for nothing else, whatever comes of it.
+use Rattle.std.specs.Prelude.{◌≡◌, ℕ, ◌-◌, ◌^◌, true, false, List, [], Option, unwrap_or}
+use Rattle.hdfs_cluster.specs.declared.asks.Ask.TheVariants as asks
+use Rattle.hdfs_cluster.specs.declared.messages.LocatedBlock.{LocatedBlock}
+use Rattle.hdfs_cluster.specs.declared.messages.ServerDefaults.{ServerDefaults}
+use Rattle.hdfs_cluster.specs.Requests.{Request, AskOf, LetsClose, LetsWrite}
+use Rattle.hdfs_model.specs.declared.commands.Command.{Command}
+use Rattle.hdfs_model.specs.declared.commands.Command.TheVariants as commands
+use Rattle.hdfs_model.specs.declared.commands.Settings.{Settings}
+use Rattle.hdfs_model.specs.declared.commands.WriteOptions.{WriteOptions}
+use Rattle.hdfs_model.specs.Limits.{are_options}
+use Rattle.hdfs_model.specs.Owing.{is_misplaced}
+use Rattle.hdfs_model.specs.Steps.{path_of}
+use Rattle.hdfs_names.specs.Paths.{absolute, is_path}
+use Rattle.hdfs_namenode.specs.Clients.{client_name}
+use Rattle.hdfs_block_reader.specs.Reader.{LetsRead}
+use Rattle.hdfs_commands.specs.Opening.{appending, creating}
+use Rattle.hdfs_commands.specs.Session.{has_failed, opened_of, settings_of}
+use Rattle.hdfs_commands.specs.declared.session.Session.{Session}
+
+-- a new file: the cluster's defaults, the file with its options, and that it is deleted again
+pub record LetsCreate (allows : Request → Type 0) (client path : List ℕ) (options : WriteOptions) : Type 0 where
+  pub defaults : allows (AskOf asks.GetServerDefaults)
+  pub creates : (defaults : ServerDefaults) → allows (AskOf (creating path client options
+      (unwrap_or options.replication defaults.replication) (unwrap_or options.block_size defaults.block_size)))
+  pub deletes : allows (AskOf (asks.Delete path false))
+
+-- a file that is gone on with: the defaults, the file, and that it is closed again
+pub record LetsAppend (allows : Request → Type 0) (client path : List ℕ) : Type 0 where
+  pub defaults : allows (AskOf asks.GetServerDefaults)
+  pub opens : allows (AskOf (appending path client 4))
+  pub closes : (file_id : Option ℕ) → LetsClose allows client path file_id
+
+-- a read: all blocks of the file, the defaults, and the blocks from the datanodes that are listed for them, in no client's name
+pub record LetsReadFile (allows : Request → Type 0) (path : List ℕ) : Type 0 where
+  pub locates : allows (AskOf (asks.GetBlockLocations path 0 (2 ^ 63 - 1)))
+  pub defaults : allows (AskOf asks.GetServerDefaults)
+  pub reads : (block : LocatedBlock) (end : ℕ) → LetsRead allows block [] end
+
+-- what a command may ask for at a path, in the name of a client
+abbrev pub LetsAt : (Request → Type 0) → List ℕ → List ℕ → Command → Type 0
+LetsAt allows client path (commands.Create name options) = are_options options ≡ true → LetsCreate allows client path options
+LetsAt allows client path (commands.Append name) = LetsAppend allows client path
+LetsAt allows client path (commands.Write name bytes) = (file_id : Option ℕ) → LetsWrite allows client path file_id
+LetsAt allows client path (commands.Close name) = (file_id : Option ℕ) → LetsClose allows client path file_id
+LetsAt allows client path (commands.Read name offset len) = LetsReadFile allows path
+
+-- what a command may ask for in a session with these settings: at its own path, and where that is none nothing
+abbrev pub Lets : (Request → Type 0) → Settings → Command → Type 0
+Lets allows settings command = is_path (absolute settings.home (path_of command)) ≡ true
+    → LetsAt allows (client_name settings.client) (absolute settings.home (path_of command)) command
+
+-- what any command may ask for in a session with any settings
+abbrev pub LetsAny : (Request → Type 0) → Type 0
+LetsAny allows = (settings : Settings) (command : Command) → Lets allows settings command
+
+-- the same in this session: nothing where the path isn't open and should be, or the other way round
+abbrev pub LetsPlaced : (Request → Type 0) → Session → Command → Type 0
+LetsPlaced allows session command =
+    is_misplaced command (opened_of session (absolute (settings_of session).home (path_of command))) ≡ false
+    → Lets allows (settings_of session) command
+
+-- the same, and nothing behind an error
+abbrev pub LetsApply : (Request → Type 0) → Session → Command → Type 0
+LetsApply allows session command = has_failed session ≡ false → LetsPlaced allows session command
