@@ -33,7 +33,7 @@ pub struct BlockRead {
 impl BlockRead {
     ghost use Rattle.hdfs_cluster.specs.Counts.{FaultCounts};
     ghost use Rattle.hdfs_cluster.specs.Shown.{Shown};
-    ghost use Rattle.hdfs_block_reader.specs.Reader.{block_of, client_of, wanted_of, end_of, given_up_of, tried_of, link_of, moved_of, has_failed, EndsStill, IsAskFor, Holds, Stands, Keeps, KeepsConnections, ShowsBlock, TriesAgain, Over, Reads, AllBlamed, IsRead, Gives, IsPieceOf};
+    ghost use Rattle.hdfs_block_reader.specs.Reader.{block_of, client_of, wanted_of, end_of, given_up_of, tried_of, link_of, moved_of, has_failed, EndsStill, IsAskFor, LetsRead, Holds, Stands, Keeps, KeepsConnections, ShowsBlock, TriesAgain, Over, Reads, AllBlamed, IsRead, Gives, IsPieceOf};
     ghost use Rattle.hdfs_block_reader.specs.Going.{Frame, Goes, Accepts, gives_up, tries_left, Loses, LosesOne, Steps, IsPartOf, ReadsLocation};
 
     /// A read of `len` bytes from `offset` on of a block that is held in whole by each of its locations. `client` is the
@@ -81,7 +81,8 @@ impl BlockRead {
         cluster: &mut C,
         cache: &mut ConnectionCache,
     ) -> Result<Option<Bytes>, HdfsError>
-        requires { Stands (C.shown cluster.old) self.old }
+        requires stands { Stands (C.shown cluster.old) self.old }
+        requires allowed { LetsRead C.allows (block_of self.old) (client_of self.old) (end_of self.old) }
         ensures keeps { Keeps (C.shown cluster.old) (C.shown cluster.new) self.old self.new }
         ensures cached { KeepsConnections self.old self.new cache.old cache.new }
         ensures answers { Gives self.old result self.new × EndsStill self.old cluster.old result cluster.new }
@@ -237,6 +238,7 @@ impl BlockRead {
         cache: &mut ConnectionCache,
     ) -> Result<Option<u64>, NoMemory>
         requires holds { Holds (C.shown cluster.old) self.old }
+        requires allowed { LetsRead C.allows self.old.block self.old.client self.old.end }
         requires left { (tried_of self.old < node_count self.old.block) × (self.old.wanted < self.old.end) }
         requires idle { self.old.link ≡ None }
         ensures goes { Goes (C.shown cluster.old) (C.shown cluster.new) self.old self.new }
@@ -268,6 +270,7 @@ impl BlockRead {
         ask: &ReadAsk,
     ) -> Result<Option<u64>, NoMemory>
         requires holds { Holds (C.shown cluster.old) self.old }
+        requires allowed { LetsRead C.allows self.old.block self.old.client self.old.end }
         requires left { (tried_of self.old < node_count self.old.block) × (self.old.wanted < self.old.end) }
         requires idle { self.old.link ≡ None }
         requires asked { IsAskFor self.old.block (tried_of self.old) self.old.client self.old.end ask.now }
@@ -376,6 +379,7 @@ impl BlockRead {
         cache: &mut ConnectionCache,
     ) -> Result<Option<Bytes>, NoMemory>
         requires holds { Holds (C.shown cluster.old) self.old }
+        requires allowed { LetsRead C.allows self.old.block self.old.client self.old.end }
         requires left { tried_of self.old < node_count self.old.block }
         requires more { self.old.wanted < self.old.end }
         ensures reads { ReadsLocation (C.shown cluster.old) (C.shown cluster.new) self.old self.new result }
@@ -397,6 +401,7 @@ impl BlockRead {
         cache: &mut ConnectionCache,
     ) -> Result<Option<Bytes>, NoMemory>
         requires holds { Holds (C.shown cluster.old) self.old }
+        requires allowed { LetsRead C.allows self.old.block self.old.client self.old.end }
         requires more { self.old.wanted < self.old.end }
         ensures goes { Goes (C.shown cluster.old) (C.shown cluster.new) self.old self.new }
         ensures failed { self.new.failed ≡ self.old.failed }

@@ -3,6 +3,7 @@ ghost use Rattle.std.specs.Prelude.{◌≡◌, ◌≢◌, ℕ, List, None, IfOk,
 ghost use Rattle.hdfs_connections.specs.Connections.{kept_at};
 ghost use Rattle.hdfs_block_reader.specs.Blocks.{address_of_node};
 ghost use Rattle.hdfs_block_reader.specs.Connecting.{OpensBehind, WasAsked};
+ghost use Rattle.hdfs_cluster.specs.Requests.{ReadOf};
 ghost use Rattle.hdfs_cluster.specs.Shown.{NotOpened};
 
 use hdfs_cluster::{Cluster, DatanodeId, LinkFault, ReadAsk};
@@ -28,6 +29,7 @@ pub(crate) fn connect<C: Cluster>(
     address: &str,
     ask: &ReadAsk,
 ) -> Result<u64, LinkFault>
+    requires allowed { C.allows (ReadOf ask.now) }
     ensures ok { IfOk result (λ link. OpensBehind (C.shown cluster.old) ask.now link (C.shown cluster.new)) }
     ensures err { IfErr result (λ fault. NotOpened (C.shown cluster.old) None ask.now fault (C.shown cluster.new)) }
     ensures others { (other : List ℕ) → other ≢ address.now → kept_at cache.new other ≡ kept_at cache.old other }

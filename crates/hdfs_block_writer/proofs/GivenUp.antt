@@ -6,7 +6,7 @@ use Rattle.std.proofs.lemmas.List.Folds.{Any-from_list_any}
 use Rattle.std.specs.List.{All, Any, list_any, slice_index_or}
 use Rattle.hdfs_wire.specs.Outgoing.{Outgoing}
 use Rattle.hdfs_cluster.specs.declared.messages.DatanodeInfo.{DatanodeInfo}
-use Rattle.hdfs_cluster.specs.Failures.{SomeNodeRose}
+use Rattle.hdfs_cluster.specs.Failures.{SomeNodeRose, NodesFailTimes}
 use Rattle.hdfs_cluster.specs.Counts.{Rose}
 use Rattle.hdfs_cluster.specs.Pipes.{WriteEnded}
 use Rattle.hdfs_cluster.specs.Sending.{uuids}
@@ -22,11 +22,11 @@ use Rattle.hdfs_rebuild.specs.declared.block_plan.WriteFault.{WriteFault}
 use Rattle.hdfs_rebuild.specs.declared.block_plan.WriteFault.TheVariants as faults
 use Rattle.hdfs_rebuild.specs.Attempts.{GaveNone, GaveNoneAfter, HasRebuildCause, Standing}
 use Rattle.hdfs_rebuild.specs.Between.{HasLastError, KeepsEntry, KeepsLinks, NamenodeFailed}
-use Rattle.hdfs_block_writer.specs.OpenPipelines.{AllListedFail, GivesUp, HasCause, IsOver, ListedFails, MayBeDue, NamenodeFails, NodesFailTimes, id_of}
+use Rattle.hdfs_block_writer.specs.OpenPipelines.{AllListedFail, GivesUp, HasCause, IsOver, ListedFails, MayBeDue, NamenodeFails, id_of}
 use Rattle.hdfs_rebuild.specs.Plans.{IsDue, without}
 use Rattle.hdfs_block_writer.specs.Pushing.{FallsFor}
 use Rattle.hdfs_rebuild.specs.Trying.{HaveFailed}
-use Rattle.hdfs_block_writer.proofs.Failures.{fails_until}
+use Rattle.hdfs_cluster.proofs.Times.{fails_until}
 use Rattle.hdfs_block_writer.proofs.LettingGo.{gone_only, gone_picture, gone_told, known_of, own_none, stopped_only, until_gone, until_stopped}
 use Rattle.hdfs_block_writer.proofs.Missing.{MissedSince}
 use Rattle.hdfs_block_writer.proofs.Rebuilt.{FallsOff, before, missed_since, only_behind, safe_then, some_rose, task, then_picture, then_told, then_waits, until}

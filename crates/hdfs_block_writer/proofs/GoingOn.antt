@@ -1,6 +1,7 @@
 -- A pipeline goes on for a while, and is given up then.
 use Rattle.std.proofs.Common.{◌≡◌, ◌⊎◌, inl, inr, ⊎_elim, ℕ, suc, ◌+◌, ◌-◌, ◌≤◌, Bool, false, not, Some, None, refl, ◌∙◌, ap, subst, arith}
 use Rattle.std.specs.List.{slice_index_or}
+use Rattle.hdfs_cluster.specs.Failures.{NodesFailTimes}
 use Rattle.hdfs_cluster.specs.Counts.{Rose}
 use Rattle.hdfs_cluster.specs.Picture.{Picture}
 use Rattle.hdfs_cluster.specs.Shown.{Shown, Later}
@@ -13,8 +14,8 @@ use Rattle.hdfs_rebuild.specs.declared.block_plan.RebuildSettings.{RebuildSettin
 use Rattle.hdfs_rebuild.specs.declared.block_plan.WriteFault.{WriteFault}
 use Rattle.hdfs_rebuild.specs.declared.block_plan.WriteFault.TheVariants as faults
 use Rattle.hdfs_rebuild.specs.Between.{HasLastError, OnlyBlockOf}
-use Rattle.hdfs_block_writer.specs.OpenPipelines.{AllListedFail, GivesUp, HasCause, IsSteady, KeepsBlock, ListedFails, MayBeDue, NamenodeFails, NodesFailTimes, OnlyOwnLink, RebuiltOnFailures, id_of}
-use Rattle.hdfs_block_writer.proofs.Failures.{fails_enough, fails_join, fails_since, fails_until, some_rose_since}
+use Rattle.hdfs_block_writer.specs.OpenPipelines.{AllListedFail, GivesUp, HasCause, IsSteady, KeepsBlock, ListedFails, MayBeDue, NamenodeFails, OnlyOwnLink, RebuiltOnFailures, id_of}
+use Rattle.hdfs_cluster.proofs.Times.{fails_enough, fails_join, fails_since, fails_until, some_rose_since}
 use Rattle.hdfs_block_writer.proofs.OwnLinks.{own_link_refl, own_link_trans}
 use Rattle.hdfs_rebuild.proofs.Stepping.{calls_rose_since, only_block_of_refl, only_block_of_trans, tells_since}
 

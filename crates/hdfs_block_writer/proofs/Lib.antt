@@ -1,7 +1,7 @@
+pub mod Allowed
 pub mod Closed
 pub mod Driven
 pub mod EndedRebuilt
-pub mod Failures
 pub mod Filled
 pub mod Finished
 pub mod GivenUp

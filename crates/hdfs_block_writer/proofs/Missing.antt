@@ -1,7 +1,7 @@
 -- Attempts to rebuild a pipeline have failed, one behind another.
 use Rattle.std.proofs.Common.{◌≡◌, ℕ, zero, suc, ◌+◌, List, [], length, Some, refl, sym, ◌∙◌, subst, arith}
 use Rattle.std.specs.List.{slice_index_or}
-use Rattle.hdfs_cluster.specs.Failures.{SomeNodeRose}
+use Rattle.hdfs_cluster.specs.Failures.{SomeNodeRose, NodesFailTimes}
 use Rattle.hdfs_cluster.specs.Namenode.{IsToWrite}
 use Rattle.hdfs_cluster.specs.Picture.{Picture}
 use Rattle.hdfs_cluster.specs.Sending.{uuids}
@@ -14,7 +14,6 @@ use Rattle.hdfs_rebuild.specs.Attempts.{Missed, MissedTimes, Standing, Task}
 use Rattle.hdfs_rebuild.specs.Between.{KeepsLinks, OnlyBlockOf}
 use Rattle.hdfs_rebuild.specs.Plans.{KeepsPlan, Waits}
 use Rattle.hdfs_rebuild.specs.Trying.{HaveFailed}
-use Rattle.hdfs_block_writer.specs.OpenPipelines.{NodesFailTimes}
 use Rattle.hdfs_block_writer.proofs.LettingGo.{known_of}
 use Rattle.hdfs_rebuild.proofs.Stepping.{keeps_links_refl, keeps_links_trans, only_block_of_refl, only_block_of_trans}
 

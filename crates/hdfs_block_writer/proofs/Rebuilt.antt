@@ -31,7 +31,7 @@ use Rattle.hdfs_rebuild.specs.Plans.{HasStamp, KeepsPlan, Waits}
 use Rattle.hdfs_block_writer.specs.Pushing.{IsRebuilt}
 use Rattle.hdfs_rebuild.specs.Trying.{HaveFailed}
 use Rattle.hdfs_rebuild.proofs.Ending.{LinkOnly}
-use Rattle.hdfs_block_writer.proofs.Failures.{fails_until}
+use Rattle.hdfs_cluster.proofs.Times.{fails_until}
 use Rattle.hdfs_block_writer.proofs.LettingGo.{gone_only, gone_picture, gone_slices, gone_told, gone_waits, known_of, long_plan, now_safe, own_fresh, until_gone}
 use Rattle.hdfs_block_writer.proofs.Missing.{MissedSince, keeps_plan_trans, none_missed, times_missed}
 use Rattle.hdfs_rebuild.proofs.Resuming.{some_is}

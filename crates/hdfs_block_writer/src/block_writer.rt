@@ -40,12 +40,13 @@ fn named(plan: BlockPlan, length: u64) -> Block
 impl BlockWriter {
     ghost use Rattle.hdfs_cluster.specs.Namenode.{IsToWrite};
     ghost use Rattle.hdfs_cluster.specs.Pipes.{WriteEnded};
+    ghost use Rattle.hdfs_cluster.specs.Requests.{SetupOf};
     ghost use Rattle.hdfs_namenode.specs.Asked.{ReachesAll};
     ghost use Rattle.hdfs_namenode.specs.Clients.{SameClient, name_of, proxy_of};
     ghost use Rattle.hdfs_block_writer.specs.Packing.{setup_of};
     ghost use Rattle.hdfs_rebuild.specs.declared.block_plan.BlockPipeline.{BlockPipeline};
     ghost use Rattle.hdfs_wire.specs.Outgoing.{ArePacketSizes};
-    ghost use Rattle.hdfs_block_writer.specs.BlockWriters.{length_of, size_of, HasFailed, SendsFull, Holds, Stands};
+    ghost use Rattle.hdfs_block_writer.specs.BlockWriters.{length_of, size_of, HasFailed, MayGoOn, SendsFull, Holds, Stands};
     ghost use Rattle.hdfs_block_writer.specs.Written.{IsNew, OpensLink, OpensNone, BeginsWhole, Wrote, StaysFull, GaveUp, Fails, Ends, Closes, WaitsForLast, LetsGo};
 
     /// Opens the pipeline of a block, which goes on behind the bytes that the block has. `packet_size` is the most bytes that a packet has
@@ -65,6 +66,7 @@ impl BlockWriter {
         requires plan { IsToWrite plan.block × (plan.rebuilds ≤ settings.now.rebuild_limit) }
         requires sizes { ArePacketSizes plan.chunk packet_size × (1 ≤ settings.now.window) × (settings.now.window ≤ 1000) }
         requires size { (plan.block.b.num_bytes ≤ block_size) × (block_size < 2 ^ 63) }
+        requires allowed { C.allows (SetupOf (setup_of plan.block plan.chunk (name_of namenode.now))) }
         ensures stands { IfOk result (λ writer. Stands (C.shown cluster.new) writer) }
         ensures new { IfOk result (λ writer. IsNew plan settings.now block_size packet_size writer) }
         ensures opened { IfOk result (λ writer. OpensLink (C.shown cluster.old)
@@ -119,6 +121,7 @@ impl BlockWriter {
         namenode: &mut NamenodeProtocol,
     ) -> Result<(), WriteFault>
         requires reaches { ReachesAll (proxy_of namenode.old) (C.shown cluster.old) }
+        requires allowed { MayGoOn C.allows (name_of namenode.old) self.old }
         requires holds { Holds (C.shown cluster.old) self.old }
         requires open { IsSome self.old.pipe }
         ensures holds { OnOk result (Holds (C.shown cluster.new) self.new × (self.new.packet ≡ None)) }
@@ -147,6 +150,7 @@ impl BlockWriter {
         namenode: &mut NamenodeProtocol,
     ) -> Result<(), WriteFault>
         requires reaches { ReachesAll (proxy_of namenode.old) (C.shown cluster.old) }
+        requires allowed { MayGoOn C.allows (name_of namenode.old) self.old }
         requires holds { Holds (C.shown cluster.old) self.old }
         requires open { IsSome self.old.pipe }
         requires full { SendsFull self.old }
@@ -170,6 +174,7 @@ impl BlockWriter {
         bytes: &[u8],
     ) -> Result<usize, WriteFault>
         requires reaches { ReachesAll (proxy_of namenode.old) (C.shown cluster.old) }
+        requires allowed { MayGoOn C.allows (name_of namenode.old) self.old }
         requires stands { Stands (C.shown cluster.old) self.old }
         requires open { IsSome self.old.pipe }
         requires room { (self.old.length + length bytes.now ≤ self.old.block_size) × (0 < length bytes.now) }
@@ -195,6 +200,7 @@ impl BlockWriter {
         bytes: &[u8],
     ) -> Result<(), WriteFault>
         requires reaches { ReachesAll (proxy_of namenode.old) (C.shown cluster.old) }
+        requires allowed { MayGoOn C.allows (name_of namenode.old) self.old }
         requires stands { Stands (C.shown cluster.old) self.old }
         requires open { IsSome self.old.pipe }
         requires room { self.old.length + length bytes.now ≤ self.old.block_size }
@@ -223,6 +229,7 @@ impl BlockWriter {
         bytes: &[u8],
     ) -> Result<usize, WriteFault>
         requires reaches { ReachesAll (proxy_of namenode.old) (C.shown cluster.old) }
+        requires allowed { MayGoOn C.allows (name_of namenode.old) self.old }
         requires stands { Stands (C.shown cluster.old) self.old }
         ensures stands { Stands (C.shown cluster.new) self.new }
         ensures count { IfOk result (λ n. n ≡ min (length bytes.now) (size_of self.old - length_of self.old)) }
@@ -250,6 +257,7 @@ impl BlockWriter {
         namenode: &mut NamenodeProtocol,
     ) -> Result<Block, WriteFault>
         requires reaches { ReachesAll (proxy_of namenode.old) (C.shown cluster.old) }
+        requires allowed { MayGoOn C.allows (name_of namenode.old) self.old }
         requires holds { Holds (C.shown cluster.old) self.old }
         requires open { IsSome self.old.pipe }
         requires none { self.old.packet ≡ None }
@@ -281,6 +289,7 @@ impl BlockWriter {
         namenode: &mut NamenodeProtocol,
     ) -> Result<Block, WriteFault>
         requires reaches { ReachesAll (proxy_of namenode.old) (C.shown cluster.old) }
+        requires allowed { MayGoOn C.allows (name_of namenode.old) self }
         requires stands { Stands (C.shown cluster.old) self }
         ensures closed { IfOk result (λ block. Closes (C.shown cluster.old) self block (C.shown cluster.new)) }
 
@@ -302,6 +311,7 @@ impl BlockWriter {
         namenode: &mut NamenodeProtocol,
     ) -> Result<Block, WriteFault>
         requires reaches { ReachesAll (proxy_of namenode.old) (C.shown cluster.old) }
+        requires allowed { MayGoOn C.allows (name_of namenode.old) self.old }
         requires stands { Stands (C.shown cluster.old) self.old }
         ensures closed { IfOk result (λ block. Closes (C.shown cluster.old) self.old block (C.shown cluster.new)) }
         ensures last { OnOk result (WaitsForLast C.shown C.ends cluster.old self.old cluster.new) }

@@ -5,7 +5,7 @@ use Rattle.std.specs.Prelude.{slice_index_or}
 use Rattle.hdfs_cluster.specs.declared.errors.HdfsError.{HdfsError}
 use Rattle.hdfs_cluster.specs.declared.picture.LastAnswer.{LastAnswer}
 use Rattle.hdfs_cluster.specs.Counts.{CallsRoseTimes, FaultCounts, NeverFall, NoneRose}
-use Rattle.hdfs_cluster.specs.Failures.{Failure, Nothing, ANamenode, Twice, Times, TheLinks, ADatanode, EachRose, HasFailed, Means, OneRose, SaysLast, failure_of}
+use Rattle.hdfs_cluster.specs.Failures.{Failure, Nothing, ANamenode, NoAnswer, Twice, Times, TheLinks, ADatanode, EachAsked, EachRose, HasFailed, Means, OneRose, SaysLast, failure_of}
 use Rattle.hdfs_cluster.specs.Shown.{Shown, Later}
 use Rattle.hdfs_cluster.proofs.Frames.{never_fall_trans, rose_since}
 
@@ -42,16 +42,24 @@ module _ (old middle new : Shown) where
   pub failed_since : (failure : Failure) → NeverFall old.counts middle.counts → HasFailed failure middle new → HasFailed failure old new
   failed_since Nothing before h = h
   failed_since ANamenode before h = (h.0, h.1, omega (arith, before.calls h.0, h.2))
-  failed_since (Twice i) before h = (h.0, omega (arith, before.calls i, h.1))
+  failed_since NoAnswer before h = (λ i low. omega (arith, before.asks i, h.0 i low), (h.1.0, h.1.1, omega (arith, before.calls h.1.0, h.1.2)))
+  failed_since (Twice i) before h = (λ k low. omega (arith, before.asks k, h.0 k low), h.1, omega (arith, before.calls i, h.2))
   failed_since (Times n) before h = times_since new.namenodes n old.counts middle.counts new.counts before h
   failed_since TheLinks before h = omega (arith, before.links, h)
   failed_since ADatanode before h = (h.0, omega (arith, before.nodes h.0, h.1))
+
+  asked_on : EachAsked old.counts middle → Later middle new → EachAsked old.counts new
+  asked_on each later i low = omega (arith, each i (omega (arith, low, later.namenodes)), later.counts.asks i)
 
   -- and one until a later one
   pub failed_on : (failure : Failure) → Later middle new → HasFailed failure old middle → HasFailed failure old new
   failed_on Nothing later h = h
   failed_on ANamenode later h = (h.0, omega (arith, h.1, later.namenodes), omega (arith, h.2, later.counts.calls h.0))
-  failed_on (Twice i) later h = (omega (arith, h.0, later.namenodes), omega (arith, h.1, later.counts.calls i))
+  failed_on NoAnswer later h = (
+    asked_on h.0 later,
+    (h.1.0, omega (arith, h.1.1, later.namenodes), omega (arith, h.1.2, later.counts.calls h.1.0)),
+  )
+  failed_on (Twice i) later h = (asked_on h.0 later, omega (arith, h.1, later.namenodes), omega (arith, h.2, later.counts.calls i))
   failed_on (Times n) later h =
       subst (λ (k : ℕ). CallsRoseTimes k n old.counts new.counts) (sym later.namenodes)
       (times_until middle.namenodes n old.counts middle.counts new.counts h later.counts)
@@ -76,7 +84,8 @@ pub none_failed : (old new : Shown) → new.namenodes ≡ old.namenodes → None
     → HasFailed failure old new → IsQuiet failure
 none_failed old new size none Nothing h = tt
 none_failed old new size none ANamenode h = none.calls h.0 (omega (arith, h.1, size)) h.2
-none_failed old new size none (Twice i) h = none.calls i (omega (arith, h.0, size)) (omega (arith, h.1))
+none_failed old new size none NoAnswer h = none.calls h.1.0 (omega (arith, h.1.1, size)) h.1.2
+none_failed old new size none (Twice i) h = none.calls i (omega (arith, h.1, size)) (omega (arith, h.2))
 none_failed old new size none (Times zero) h = tt
 none_failed old new size none (Times (suc n)) h =
     let fall = times_fall new.namenodes n old.counts h.0 h.1 in

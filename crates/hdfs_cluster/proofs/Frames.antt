@@ -10,16 +10,16 @@ pub rose_since : (a b c d : ℕ) → a ≤ b → Rose b c → c ≤ d → Rose a
 rose_since a b c d before rose after = omega (arith, rose)
 
 pub never_fall_refl : (a : FaultCounts) → NeverFall a a
-never_fall_refl a = record { calls = λ i. omega arith; links = omega arith; nodes = λ d. omega arith }
+never_fall_refl a = record { asks = λ i. omega arith; calls = λ i. omega arith; links = omega arith; nodes = λ d. omega arith }
 
 pub never_fall_trans : (a b c : FaultCounts) → NeverFall a b → NeverFall b c → NeverFall a c
-never_fall_trans a b c f g = record { calls = λ i. omega (arith, f.calls i, g.calls i); links = omega (arith, f.links, g.links); nodes = λ d. omega (arith, f.nodes d, g.nodes d) }
+never_fall_trans a b c f g = record { asks = λ i. omega (arith, f.asks i, g.asks i); calls = λ i. omega (arith, f.calls i, g.calls i); links = omega (arith, f.links, g.links); nodes = λ d. omega (arith, f.nodes d, g.nodes d) }
 
 pub never_fall_from-SameCounts : (a b : FaultCounts) → SameCounts a b → NeverFall a b
-never_fall_from-SameCounts a b same = record { calls = λ i. omega (arith, same.calls i); links = omega (arith, same.links); nodes = λ d. omega (arith, same.nodes d) }
+never_fall_from-SameCounts a b same = record { asks = λ i. omega (arith, same.asks i); calls = λ i. omega (arith, same.calls i); links = omega (arith, same.links); nodes = λ d. omega (arith, same.nodes d) }
 
 pub same_counts_trans : (a b c : FaultCounts) → SameCounts a b → SameCounts b c → SameCounts a c
-same_counts_trans a b c f g = record { calls = λ i. g.calls i ∙ f.calls i; links = g.links ∙ f.links; nodes = λ d. g.nodes d ∙ f.nodes d }
+same_counts_trans a b c f g = record { asks = λ i. g.asks i ∙ f.asks i; calls = λ i. g.calls i ∙ f.calls i; links = g.links ∙ f.links; nodes = λ d. g.nodes d ∙ f.nodes d }
 
 pub later_refl : (a : Shown) → Later a a
 later_refl a = record { counts = never_fall_refl a.counts; namenodes = refl; loaded = refl }

@@ -1,5 +1,5 @@
 -- What an ask of several namenodes leaves, over any cluster, and what its failure tells of the counts.
-use Rattle.std.proofs.Common.{◌≡◌, inl, inr, ℕ, List, [], ◌∷◌, Result, Err, refl, sym, ◌∙◌, subst, arith}
+use Rattle.std.proofs.Common.{◌≡◌, ◌⊎◌, inl, inr, ℕ, ◌≤◌, true, List, [], ◌∷◌, ◌++◌, Result, Err, refl, sym, ◌∙◌, subst, arith}
 use Rattle.std.proofs.lemmas.Bool.{false≢true}
 use Rattle.hdfs_cluster.specs.declared.asks.Ask.{Ask}
 use Rattle.hdfs_cluster.specs.declared.asks.Answer.{Answer}
@@ -7,12 +7,13 @@ use Rattle.hdfs_cluster.specs.declared.asks.AskFault.{AskFault}
 use Rattle.hdfs_cluster.specs.declared.asks.AskFault.TheVariants as faults
 use Rattle.hdfs_cluster.specs.Counts.{Rose, RoseTwice}
 use Rattle.hdfs_cluster.specs.Effects.{KeepsBytes}
-use Rattle.hdfs_cluster.specs.Failover.{AsksOne, PassedOn, AsksInOrder}
+use Rattle.hdfs_cluster.specs.Failover.{AsksOne, PassedOn, AsksInOrder, passes_on}
 use Rattle.hdfs_cluster.specs.Namenode.{IsFailure, ServesTold, last_of}
 use Rattle.hdfs_cluster.specs.Picture.{Picture}
 use Rattle.hdfs_cluster.specs.Repeating.{Leaves}
 use Rattle.hdfs_cluster.specs.Shown.{Shown, Served}
 use Rattle.hdfs_cluster.proofs.Asking.{served_keeps}
+use Rattle.hdfs_cluster.proofs.Relaying.{Has}
 use Rattle.hdfs_cluster.proofs.Frames.{later_refl, later_trans, told_refl, told_trans, told_weaker}
 
 bytes_refl : (p : Picture) → KeepsBytes p p
@@ -49,6 +50,20 @@ leaves_served a b i ask given served = record {
   bytes = told_weaker (λ p q. ServesTold (Rose (a.counts.calls i) (b.counts.calls i)) p i ask given q) KeepsBytes a.picture b.picture
       (λ p q h. served_keeps (Rose (a.counts.calls i) (b.counts.calls i)) p q i ask given h) served.picture;
 }
+
+not_memory : (given : Result Answer AskFault) → passes_on given ≡ true → (given ≡ Err faults.NoMemory → ⊥)
+not_memory given passes is = false≢true (subst (λ (g : Result Answer AskFault). passes_on g ≡ true) is passes)
+
+-- what has an item, or ends with it
+in_either : (a : ℕ) (front : List ℕ) (last : ℕ) → Has a (front ++ last ∷ []) → Has a front ⊎ (last ≡ a)
+in_either a [] last (inl here) = inr here
+in_either a [] last (inr later) = absurd later
+in_either a (i ∷ others) last (inl here) = inl (inl here)
+in_either a (i ∷ others) last (inr later) = by (in_either a others last later)
+  where
+    by : Has a others ⊎ (last ≡ a) → Has a (i ∷ others) ⊎ (last ≡ a)
+    by (inl there) = inl (inr there)
+    by (inr is) = inr is
 
 module _ {C : Type 0} (shown : C → Shown) (serves : C → ℕ → Ask → Result Answer AskFault → C → Type 0)
     (rows : (old new : C) (i : ℕ) (ask : Ask) (result : Result Answer AskFault) → serves old i ask result new → Served (shown old) i ask result (shown new)) (ask : Ask) where
@@ -88,3 +103,37 @@ module _ {C : Type 0} (shown : C → Shown) (serves : C → ℕ → Ask → Resu
   pub broken_rose : (order : List ℕ) (last : ℕ) (old new : C) → AsksInOrder serves order ask old last (Err faults.Broken) new → RoseTwice ((shown old).counts.calls last) ((shown new).counts.calls last)
   broken_rose order last old new asks =
       let before = (leaves_all asks.front old asks.mid asks.passed).later.counts.calls last in omega (arith, before, twice_one last asks.mid new asks.asked)
+
+  -- one that passed it on, or gave no answer, was asked
+  asked_one : (i : ℕ) (t u : C) (given : Result Answer AskFault) → passes_on given ≡ true → AsksOne serves i ask t given u
+      → Rose ((shown t).counts.asks i) ((shown u).counts.asks i)
+  asked_one i t u given passes (inl once) = (rows t u i ask given once.0).asked (not_memory given passes)
+  asked_one i t u given passes (inr twice) =
+      let first = (rows t twice.0 i ask (Err faults.Broken) twice.1).asked (λ is. absurd (cc)) in
+      omega (arith, first, (rows twice.0 u i ask given twice.2).later.counts.asks i)
+
+  asked_front : (front : List ℕ) (t u : C) → PassedOn serves front ask t u → (a : ℕ) → Has a front → Rose ((shown t).counts.asks a) ((shown u).counts.asks a)
+  asked_front [] t u passed a has = absurd has
+  asked_front (i ∷ others) t u passed a (inl here) =
+      let one = asked_one i t passed.1 passed.0 passed.3 passed.2 in
+      let rest = (leaves_all others passed.1 u passed.4).later.counts.asks i in
+      subst (λ (k : ℕ). Rose ((shown t).counts.asks k) ((shown u).counts.asks k)) here (omega (arith, one, rest))
+  asked_front (i ∷ others) t u passed a (inr later) =
+      let one = (leaves_one i t passed.1 passed.0 passed.2).0.later.counts.asks a in
+      omega (arith, one, asked_front others passed.1 u passed.4 a later)
+
+  -- where the last one passed it on too, each of them was asked
+  pub each_asked : (order : List ℕ) (last : ℕ) (given : Result Answer AskFault) (old new : C) → passes_on given ≡ true → AsksInOrder serves order ask old last given new
+      → (a : ℕ) → Has a order → Rose ((shown old).counts.asks a) ((shown new).counts.asks a)
+  each_asked order last given old new passes asks a has =
+      let there = subst (λ (l : List ℕ). Has a (asks.front ++ last ∷ l)) (asks.ends passes) (subst (Has a) asks.in_order has) in
+      let before = (leaves_all asks.front old asks.mid asks.passed).later.counts.asks a in
+      let behind = (leaves_one last asks.mid new given asks.asked).0.later.counts.asks a in
+      by (in_either a asks.front last there) before behind
+    where
+      by : Has a asks.front ⊎ (last ≡ a) → (shown old).counts.asks a ≤ (shown asks.mid).counts.asks a → (shown asks.mid).counts.asks a ≤ (shown new).counts.asks a
+          → Rose ((shown old).counts.asks a) ((shown new).counts.asks a)
+      by (inl front) before behind = omega (arith, asked_front asks.front old asks.mid asks.passed a front, behind)
+      by (inr is) before behind =
+          let one = subst (λ (k : ℕ). Rose ((shown asks.mid).counts.asks k) ((shown new).counts.asks k)) is (asked_one last asks.mid new given passes asks.asked) in
+          omega (arith, before, one)

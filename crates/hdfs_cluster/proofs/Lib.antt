@@ -6,4 +6,5 @@ pub mod Loads
 pub mod Ordering
 pub mod Relaying
 pub mod Repeating
+pub mod Times
 pub mod Trees

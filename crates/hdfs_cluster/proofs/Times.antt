@@ -1,10 +1,9 @@
 -- Datanodes have failed so many times, one time behind another.
 use Rattle.std.proofs.Common.{◌≡◌, ℕ, zero, suc, ◌+◌, ◌-◌, ◌≤◌, subst, arith}
-use Rattle.hdfs_cluster.specs.Failures.{SomeNodeRose, ADatanode}
+use Rattle.hdfs_cluster.specs.Failures.{SomeNodeRose, NodesFailTimes, ADatanode}
 use Rattle.hdfs_cluster.specs.Shown.{Shown, Later}
 use Rattle.hdfs_cluster.proofs.Failures.{failed_on, failed_since}
 use Rattle.hdfs_cluster.proofs.Frames.{later_trans}
-use Rattle.hdfs_block_writer.specs.OpenPipelines.{NodesFailTimes}
 
 -- a datanode has failed since before
 pub some_rose_since : (a b c : Shown) → Later a b → SomeNodeRose b.counts c → SomeNodeRose a.counts c

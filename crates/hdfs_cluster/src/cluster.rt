@@ -3,6 +3,7 @@ ghost use Rattle.std.specs.Prelude.{◌≡◌, ◌<◌, ℕ, true, Some, Result,
 ghost use Rattle.hdfs_cluster.specs.Namenode.{IsShaped};
 ghost use Rattle.hdfs_cluster.specs.Picture.{Picture};
 ghost use Rattle.hdfs_cluster.specs.Pipes.{IsSetup, WriteOpened, WriteNotOpened, FollowsOn, Sent, NotSent, IsAwaited, Acknowledged, NotAcknowledged, WriteEnded, ShowsWrites};
+ghost use Rattle.hdfs_cluster.specs.Requests.{Request, AskOf, ReadOf, SetupOf, TransferOf, LetsKeepUp};
 ghost use Rattle.hdfs_cluster.specs.Shown.{Shown, Served, Opened, NotOpened, Given, NotGiven, Ended};
 ghost use Rattle.hdfs_cluster.specs.Sound.{IsSound};
 ghost use Rattle.hdfs_cluster.specs.Transferring.{IsTransfer, Transferred, NotTransferred};
@@ -20,6 +21,10 @@ pub trait Cluster {
     /// What it shows of itself.
     ghost shown: { Self → Shown };
 
+    /// Which requests it allows its client, whatever has happened. A function that is proved over any cluster makes no request but those
+    /// that its own clauses give it leave for.
+    ghost allows: { Request → Type 0 };
+
     /// What an ask of a namenode may give, from one state to the next.
     ghost serves: { Self → ℕ → Ask → Result Answer AskFault → Self → Type 0 };
 
@@ -32,7 +37,8 @@ pub trait Cluster {
 
     /// Asks namenode `i`.
     fn ask(&mut self, i: u32, ask: &Ask) -> Result<Answer, AskFault>
-        requires { i < (shown self.old).namenodes }
+        requires one { i < (shown self.old).namenodes }
+        requires allowed { allows (AskOf ask.now) }
         ensures serves { serves self.old i ask.now result self.new }
         ensures served { Served (shown self.old) i ask.now result (shown self.new) }
         ensures shape { IfOk result (λ answer. IsShaped ask.now answer) };
@@ -45,6 +51,7 @@ pub trait Cluster {
     /// asked datanode's address, and else on a fresh one. A kept connection may be found broken, as datanodes end those that are
     /// idle; a fresh one breaks only where the datanode has failed.
     fn open_read(&mut self, kept: Option<u64>, ask: &ReadAsk) -> Result<u64, LinkFault>
+        requires allowed { allows (ReadOf ask.now) }
         ensures ok { IfOk result (λ link. Opened (shown self.old) ask.now link (shown self.new)) }
         ensures err { IfErr result (λ fault. NotOpened (shown self.old) kept ask.now fault (shown self.new)) };
 
@@ -69,7 +76,8 @@ pub trait Cluster {
 
     /// Sets up a pipeline on fresh connections, and answers its link.
     fn open_write(&mut self, setup: Setup) -> Result<u64, LinkFault>
-        requires { IsSetup setup }
+        requires setup { IsSetup setup }
+        requires allowed { allows (SetupOf setup) }
         ensures ok { IfOk result (λ link. WriteOpened (shown self.old) setup link (shown self.new)) }
         ensures err { IfErr result (λ fault. WriteNotOpened (shown self.old) setup fault (shown self.new)) };
 
@@ -93,9 +101,13 @@ pub trait Cluster {
 
     /// Has a datanode give what it holds of a block to others.
     fn transfer(&mut self, transfer: &Transfer) -> Result<(), LinkFault>
-        requires { IsTransfer transfer.now }
+        requires transfer { IsTransfer transfer.now }
+        requires allowed { allows (TransferOf transfer.now) }
         ensures ok { OnOk result (Transferred (shown self.old) transfer.now (shown self.new)) }
         ensures err { IfErr result (λ fault. NotTransferred (shown self.old) transfer.now fault (shown self.new)) };
+
+    /// Any namenode may be asked for its state, and to be in step.
+    ghost keeps_up: { LetsKeepUp allows };
 
     /// What is served is served by the rows.
     ghost serves_rows: { (old new : Self) (i : ℕ) (ask : Ask) (result : Result Answer AskFault)

@@ -9,7 +9,6 @@ use Rattle.hdfs_model.specs.declared.commands.Reply.TheVariants as replies
 use Rattle.hdfs_cluster.specs.declared.errors.HdfsError.{HdfsError}
 use Rattle.hdfs_cluster.specs.declared.errors.HdfsError.TheVariants as errors
 use Rattle.hdfs_cluster.specs.declared.errors.Feature.TheVariants as features
-use Rattle.hdfs_cluster.specs.declared.errors.IoFault.TheVariants as io_faults
 use Rattle.hdfs_cluster.specs.declared.errors.ArgFault.TheVariants as args
 use Rattle.hdfs_cluster.specs.declared.errors.TransferFault.TheVariants as transfer
 use Rattle.hdfs_cluster.specs.Files.{State, Content, NoFile, NotDirectory, Missing, NotFile}

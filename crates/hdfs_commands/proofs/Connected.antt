@@ -62,6 +62,8 @@ acts_connected command old before new session cache protocol same knows result h
   anywhere = h.anywhere;
   links = own_connected old before new session cache protocol same h.links;
   stands = stands_connected new session cache protocol same h.stands;
+  tallied = λ start tally. (let on = h.tallied start tally in record { later = on.later; each = on.each });
+  limit = h.limit;
   writers = h.writers;
   applied = h.applied;
   world = h.world;

@@ -20,6 +20,7 @@ use Rattle.hdfs_commands.specs.Session.{Stands, after, opened_of}
 use Rattle.hdfs_commands.specs.declared.session.Session.{Session}
 use Rattle.hdfs_commands.proofs.Agreeing.{agrees_but}
 use Rattle.hdfs_commands.proofs.Sized.{remembers_failed, remembers_refl, sized_still}
+use Rattle.hdfs_commands.proofs.Tallying.{IsNoLimit, tallied_moved}
 
 -- a result that is an error
 abbrev error_result : HdfsError → Result Reply HdfsError
@@ -40,13 +41,15 @@ failed_stands s session stands = record {
 }
 
 -- nothing was done
-pub early_acts : (s : Shown) (session : Session) (command : Command) (error : HdfsError) → Stands s session → Tells command s s error
+pub early_acts : (s : Shown) (session : Session) (command : Command) (error : HdfsError) → IsNoLimit error → Stands s session → Tells command s s error
     → ((state : State) → IsReady s session state command → Cause (world_at session s) state command s s error × Answers (step (world_at session s) state command) error)
     → Acts command s session s (after session (error_result error)) (Err error)
-early_acts s session command error stands tells cause = record {
+early_acts s session command error apart stands tells cause = record {
   anywhere = record { later = later_refl s; reads = same_reads_refl s; replies = tt; tells = tells; refused = λ early d. refl; idle = λ idle d. refl };
   links = record { others = λ link some foreign. refl; none = λ link was. was; fresh = λ link has. inl has };
   stands = failed_stands s session stands;
+  tallied = tallied_moved (later_refl s) (λ r. refl);
+  limit = λ start n is tally. absurd (apart n is);
   writers = λ r apart. refl;
   applied = λ state ready. record {
     ok = tt;
@@ -64,7 +67,7 @@ memory_answers (Refused why) = inl refl
 
 -- for want of memory
 pub memory_acts : (s : Shown) (session : Session) (command : Command) → Stands s session → Acts command s session s (after session (error_result errors.NoMemory)) (Err errors.NoMemory)
-memory_acts s session command stands = early_acts s session command errors.NoMemory stands (tt, (tt, tt)) (λ state ready. ((tt, tt), memory_answers (step (world_at session s) state command)))
+memory_acts s session command stands = early_acts s session command errors.NoMemory (λ n is. cc (is)) stands (tt, (tt, tt)) (λ state ready. ((tt, tt), memory_answers (step (world_at session s) state command)))
 
 bad_path : (w : World) (state : State) (command : Command) → is_path (target_of w command) ≡ false → step w state command ≡ Refused BadPath
 bad_path w state command is = ap (λ (b : Bool). cond b (step_at w state (target_of w command) command) (Refused BadPath)) is
@@ -72,7 +75,7 @@ bad_path w state command is = ap (λ (b : Bool). cond b (step_at w state (target
 -- for the path rule
 pub path_acts : (s : Shown) (session : Session) (command : Command) → Stands s session → is_path (target_of (world_at session s) command) ≡ false
     → Acts command s session s (after session (error_result (errors.InvalidPath (path_of command)))) (Err (errors.InvalidPath (path_of command)))
-path_acts s session command stands is = early_acts s session command (errors.InvalidPath (path_of command)) stands (refl, (tt, tt)) (λ state ready.
+path_acts s session command stands is = early_acts s session command (errors.InvalidPath (path_of command)) (λ n is. cc (is)) stands (refl, (tt, tt)) (λ state ready.
     (let refused = bad_path (world_at session s) state command is in
     ((refused, tt), subst (λ (o : Outcome). Answers o (errors.InvalidPath (path_of command))) (sym refused) (inr tt))))
 
@@ -96,7 +99,7 @@ misplaced_step w state command is placed =
 pub state_acts : (s : Shown) (session : Session) (command : Command) → Stands s session → is_path (target_of (world_at session s) command) ≡ true
     → is_misplaced command (opened_of session (target_of (world_at session s) command)) ≡ true
     → Acts command s session s (after session (error_result (errors.InvalidArgument args.State))) (Err (errors.InvalidArgument args.State))
-state_acts s session command stands is placed = early_acts s session command (errors.InvalidArgument args.State) stands (tt, (tt, tt)) (λ state ready.
+state_acts s session command stands is placed = early_acts s session command (errors.InvalidArgument args.State) (λ n is. cc (is)) stands (tt, (tt, tt)) (λ state ready.
     (let here = ap (is_misplaced command) (ready.ready.opened (target_of (world_at session s) command)) ∙ placed in
     let refused = misplaced_step (world_at session s) state command is here in
     ((refused, tt), subst (λ (o : Outcome). Answers o (errors.InvalidArgument args.State)) (sym refused) (inr tt))))

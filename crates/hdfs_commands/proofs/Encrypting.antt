@@ -144,7 +144,7 @@ module _ (s m t u : Shown) (session session' session'' : Session) (path : List �
 
   pub encrypted_acts : Acts command s session u (after {T = Reply} session'' (Err unsupported)) (Err unsupported)
   encrypted_acts =
-      idle_acts command s u session session'' unsupported stands
+      idle_acts command tt s u session session'' unsupported stands
       (later_trans s t u looks.later touches.later)
       (same_reads_trans s t u (reads_same s t looks) touches.reads)
       (λ link. touches.writes link ∙ looks.links.writes link)

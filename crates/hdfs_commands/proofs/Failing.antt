@@ -1,5 +1,5 @@
 -- Errors of a command that opens a file to be written.
-use Rattle.std.proofs.Common.{◌≡◌, ◌⊎◌, inl, inr, ⊎_elim, ℕ, true, false, is_some, List, Option, Some, Err, refl, sym, ◌∙◌, ap, subst, arith}
+use Rattle.std.proofs.Common.{◌≡◌, ◌⊎◌, inl, inr, ⊎_elim, ℕ, true, false, is_some, List, Option, Some, Err, refl, sym, ◌∙◌, ap, subst}
 use Rattle.std.specs.BTreeMap.{get_by_text}
 use Rattle.hdfs_cluster.specs.declared.asks.Ask.{Ask}
 use Rattle.hdfs_model.specs.declared.commands.Command.{Command}
@@ -64,7 +64,7 @@ append_opens name = record { uses = tt; found = λ old new path byte lost. lost 
 pub options_acts : (s : Shown) (session : Session) (name : List ℕ) (options : WriteOptions) → Stands s session → are_options options ≡ false
     → Acts (commands.Create name options) s session s (after {T = Reply} session (Err (errors.InvalidArgument args.Options))) (Err (errors.InvalidArgument args.Options))
 options_acts s session name options stands out =
-    failed_acts (commands.Create name options) s s session session (errors.InvalidArgument args.Options) stands (looks_refl s) (λ r. refl) (remembers_refl session) (out, (tt, tt)) (λ path byte lost. lost)
+    failed_acts (commands.Create name options) tt s s session session (errors.InvalidArgument args.Options) stands (looks_refl s) (λ r. refl) (remembers_refl session) (out, (tt, tt)) (λ path byte lost. lost)
     (λ state ready. ((out, tt), agrees_but (spared (world_at session s) state (commands.Create name options) (errors.InvalidArgument args.Options)) s.picture state.files ready.ready.fits.agrees))
     (λ state ready. record { each = λ p told r writer is. inr (ready.carried.each p told r writer is) })
 
@@ -89,7 +89,7 @@ module _ (command : Command) (opens : Opens command) (s m : Shown) (session sess
   -- want of memory, once the defaults were asked for
   pub starved_acts : Acts command s session m (after {T = Reply} session' (Err errors.NoMemory)) (Err errors.NoMemory)
   starved_acts =
-      failed_acts command s m session session' errors.NoMemory stands prepares.looks kept prepares.remembers (tt, (tt, tt)) (opens.found s m)
+      failed_acts command opens.uses s m session session' errors.NoMemory stands prepares.looks kept prepares.remembers (tt, (tt, tt)) (opens.found s m)
       (λ state ready. ((tt, tt), agrees_but (spared (world_at session s) state command errors.NoMemory) m.picture state.files (agrees_still state ready)))
       open_still
 
@@ -107,12 +107,12 @@ module _ (command : Command) (opens : Opens command) (s m : Shown) (session sess
   -- no defaults
   pub lacks_acts : (error : HdfsError) → LacksDefaults s session error m → Acts command s session m (after {T = Reply} session' (Err error)) (Err error)
   lacks_acts error (inl fault) =
-      failed_acts command s m session session' error stands prepares.looks kept prepares.remembers (ask_tells command s s m error (never_fall_refl s.counts) fault.0) (opens.found s m)
+      failed_acts command opens.uses s m session session' error stands prepares.looks kept prepares.remembers (ask_tells command s s m error (never_fall_refl s.counts) fault.0) (opens.found s m)
       (λ state ready. (lacks_cause state ready error fault.0 fault.1, agrees_but (spared (world_at session s) state command error) m.picture state.files (agrees_still state ready)))
       open_still
   lacks_acts error (inr out) =
       subst (λ (e : HdfsError). Acts command s session m (after {T = Reply} session' (Err e)) (Err e)) (sym out.0)
-      (failed_acts command s m session session' (errors.InvalidArgument args.Defaults) stands prepares.looks kept prepares.remembers (opens.uses, (tt, tt)) (opens.found s m)
+      (failed_acts command opens.uses s m session session' (errors.InvalidArgument args.Defaults) stands prepares.looks kept prepares.remembers (opens.uses, (tt, tt)) (opens.found s m)
       (λ state ready. (out_cause state ready out.1 out.2 out.3, agrees_but (spared (world_at session s) state command (errors.InvalidArgument args.Defaults)) m.picture state.files (agrees_still state ready)))
       open_still)
 
@@ -142,7 +142,7 @@ module _ (command : Command) (opens : Opens command) (s m : Shown) (session sess
         → ((state : State) → IsReady s session state command → (p : Picture) → m.picture ≡ Some p → Cause (world_at session s) state command s t error × ((q : Picture) × (t.picture ≡ Some q) × MayBeDone ask p q))
         → Acts command s session t (after {T = Reply} session'' (Err error)) (Err error)
     late_acts error late looks tells cause =
-        failed_acts command s t session session'' error stands (looks_trans s m t prepares.looks looks) (λ r. writers r ∙ kept r) (remembers_trans session session' session'' prepares.remembers remembers) tells (opens.found s t)
+        failed_acts command opens.uses s t session session'' error stands (looks_trans s m t prepares.looks looks) (λ r. writers r ∙ kept r) (remembers_trans session session' session'' prepares.remembers remembers) tells (opens.found s t)
         (λ state ready.
         (let told = is_told m.picture state.files (agrees_still state ready) in
         let h = cause state ready told.0 told.1 in (

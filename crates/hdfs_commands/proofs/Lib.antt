@@ -2,6 +2,8 @@ mod AbandonFiles
 mod Abandoning
 mod Acted
 pub mod Agreeing
+pub mod Allowing
+mod Asking
 pub mod Avoiding
 mod Begun
 mod Beside
@@ -37,6 +39,7 @@ mod Sizing
 mod Starting
 mod Stepping
 mod Still
+mod Tallying
 pub mod WholeBeside
 mod WholeOpening
 mod WholeStarting

@@ -32,6 +32,7 @@ module _ (old new : Shown) (same : (link : ℕ) → new.writes link ≡ old.writ
           packet_size = h.packet_size;
           settings = h.settings;
           plain = h.plain;
+          plan = h.plan;
         });
     is_open = stands.is_open;
     idle = stands.idle;

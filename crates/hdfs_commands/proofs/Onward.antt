@@ -1,5 +1,5 @@
 -- What holds of an error holds still once the session's files are given up.
-use Rattle.std.proofs.Common.{◌≡◌, inl, inr, ⊎_elim, ℕ, ◌+◌, ◌<◌, List, [], ◌∷◌, length, Contains, get_or, Option, Some, sym, ◌∙◌, ap, subst, arith}
+use Rattle.std.proofs.Common.{◌≡◌, inl, inr, ⊎_elim, ℕ, ◌+◌, List, [], ◌∷◌, length, Contains, get_or, Option, Some, sym, ◌∙◌, ap, subst, arith}
 use Rattle.hdfs_model.specs.declared.commands.Command.{Command}
 use Rattle.hdfs_model.specs.declared.commands.Command.TheVariants as commands
 use Rattle.hdfs_model.specs.declared.commands.Reply.{Reply}
@@ -111,6 +111,7 @@ module _ (old u v : Shown) (later : Later u v) where
       h.1,
       ⊎_elim (λ rose. inl (failed_on old u v TheLinks later rose)) (λ rose. inr (failed_on old u v ANamenode later rose)) h.2,
       some_on (target_of w command) h.3,
+      h.4,
     )
     because_on w command avoids (errors.DataTransferError (transfer.RebuildLimit rebuilds)) h = (h.0, h.1, some_on (target_of w command) h.2)
     because_on w command avoids (errors.AlreadyExists message) h = ⊎_elim (λ is. inl is) (λ rose. inr (failed_on old u v ANamenode later rose)) h

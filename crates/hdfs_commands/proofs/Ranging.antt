@@ -1,11 +1,8 @@
 -- Whether a range may be read, from one call to the next.
-use Rattle.std.proofs.Common.{◌≡◌, ◌⊎◌, inl, inr, ⊎_elim, ℕ, ◌+◌, ◌≤◌, true, false, List, Option, Some, None, refl, sym, ◌∙◌, ap, subst}
+use Rattle.std.proofs.Common.{◌≡◌, inl, inr, ⊎_elim, ℕ, ◌+◌, ◌≤◌, List, Option, Some, None, refl, sym, ◌∙◌, ap, subst}
 use Rattle.std.proofs.lemmas.Bool.{false≢true}
 use Rattle.hdfs_model.specs.declared.commands.Command.TheVariants as commands
-use Rattle.hdfs_cluster.specs.declared.errors.ArgFault.TheVariants as args
-use Rattle.hdfs_cluster.specs.declared.errors.Feature.TheVariants as features
 use Rattle.hdfs_cluster.specs.declared.errors.HdfsError.{HdfsError}
-use Rattle.hdfs_cluster.specs.declared.errors.HdfsError.TheVariants as errors
 use Rattle.hdfs_cluster.specs.declared.messages.LocatedBlocks.{LocatedBlocks}
 use Rattle.hdfs_cluster.specs.declared.messages.ServerDefaults.{ServerDefaults}
 use Rattle.hdfs_model.specs.Causes.{Cause, Tells}

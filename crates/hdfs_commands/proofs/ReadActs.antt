@@ -30,6 +30,7 @@ use Rattle.hdfs_commands.proofs.Agreeing.{agrees_but, is_told}
 use Rattle.hdfs_commands.proofs.Lost.{not_lost}
 use Rattle.hdfs_commands.proofs.Stepping.{is_closed}
 use Rattle.hdfs_commands.proofs.Still.{session_stands, after_stands, after_links_stay, session_carries}
+use Rattle.hdfs_commands.proofs.Tallying.{sends_none, tallied_moved}
 
 -- what a read gives over a state that it meets
 abbrev pub Gives : List ℕ → List ℕ → ℕ → ℕ → Option ServerDefaults → Shown → Shown → Reply → Type 0
@@ -140,6 +141,8 @@ module _ (old new : Shown) (session : Session) (name path : List ℕ) (offset le
     anywhere = anywhere;
     links = after_links_stay {T = Reply} old new session (Ok reply) links.writes;
     stands = session_stands old new session anywhere.later.namenodes (λ link has. links.writes link) stands;
+    tallied = tallied_moved anywhere.later (λ r. refl);
+    limit = tt;
     writers = λ r apart. refl;
     applied = λ state ready. applied_ok state ready reply ok;
     world = λ state ready. same_world state ready files;
@@ -153,6 +156,8 @@ module _ (old new : Shown) (session : Session) (name path : List ℕ) (offset le
     anywhere = anywhere;
     links = after_links_stay {T = Reply} old new session (Err e) links.writes;
     stands = after_stands {T = Reply} new session (Err e) (session_stands old new session anywhere.later.namenodes (λ link has. links.writes link) stands);
+    tallied = tallied_moved anywhere.later (λ r. refl);
+    limit = λ start n is tally. absurd (sends_none reading old new e (λ sends. sends) anywhere.tells n is);
     writers = λ r apart. refl;
     applied = λ state ready. applied_err state ready (after {T = Reply} session (Err e)) e err anywhere.later;
     world = λ state ready. tt;

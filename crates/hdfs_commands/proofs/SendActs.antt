@@ -1,8 +1,11 @@
 -- How what a command does to a session and its cluster is put together.
-use Rattle.std.proofs.Common.{◌≡◌, ◌≢◌, ℕ, true, List, Some, Ok, Err, is_some, ◌∙◌, ap, subst}
+use Rattle.std.proofs.Common.{◌≡◌, ◌≢◌, ℕ, suc, true, List, Some, Ok, Err, is_some, ◌∙◌, ap, subst}
 use Rattle.hdfs_model.specs.declared.commands.Command.{Command}
 use Rattle.hdfs_model.specs.declared.commands.Reply.{Reply}
 use Rattle.hdfs_cluster.specs.declared.errors.HdfsError.{HdfsError}
+use Rattle.hdfs_cluster.specs.declared.errors.HdfsError.TheVariants as errors
+use Rattle.hdfs_cluster.specs.declared.errors.TransferFault.TheVariants as transfer
+use Rattle.hdfs_cluster.specs.Failures.{NodesFailTimes}
 use Rattle.hdfs_model.specs.Anywhere.{IsReply}
 use Rattle.hdfs_model.specs.Causes.{Tells, IsEarly, TouchesNothing, CommandLost, Cause}
 use Rattle.hdfs_cluster.specs.Files.{State}
@@ -15,7 +18,7 @@ use Rattle.hdfs_cluster.specs.Stores.{AgreesAt, AgreesBut}
 use Rattle.hdfs_model.proofs.Completing.{cause_completes}
 use Rattle.hdfs_file_writer.specs.declared.file_writer.FileWriter.{FileWriter}
 use Rattle.hdfs_commands.specs.Acting.{world_at, IsReady, Acts}
-use Rattle.hdfs_commands.specs.Session.{opened_of, writer_of, Stands, OnlyOwnLinks, CarriesFile, Carried, CarriesOpen}
+use Rattle.hdfs_commands.specs.Session.{opened_of, writer_of, Stands, OnlyOwnLinks, CarriesFile, Carried, CarriesOpen, Tallied}
 use Rattle.hdfs_commands.specs.declared.session.Session.{Session}
 use Rattle.hdfs_commands.proofs.Agreeing.{agrees_told, is_told}
 
@@ -51,13 +54,16 @@ open_at old session state command path writer ready here =
 
 module _ (command : Command) (old new : Shown) (session session' : Session) (later : Later old new) (reads : SameReads old new)
     (idle : TouchesNothing command → SameNodes old new) (links : OnlyOwnLinks old session new session') (stands : Stands new session')
-    (writers : (r : List ℕ) → r ≢ target_of (world_at session old) command → writer_of session' r ≡ writer_of session r) where
+    (writers : (r : List ℕ) → r ≢ target_of (world_at session old) command → writer_of session' r ≡ writer_of session r)
+    (tallied : (start : Shown) → Tallied start old session → Tallied start new session') where
   -- a command that is done
   pub acts_done : (reply : Reply) → IsReply command reply → ((state : State) → IsReady old session state command → Comes command old session new session' reply state) → Acts command old session new session' (Ok reply)
   acts_done reply replies comes = record {
     anywhere = record { later = later; reads = reads; replies = replies; tells = tt; refused = tt; idle = idle };
     links = links;
     stands = stands;
+    tallied = tallied;
+    limit = tt;
     writers = writers;
     applied = λ state ready.
         (let c = comes state ready in
@@ -72,14 +78,17 @@ module _ (command : Command) (old new : Shown) (session session' : Session) (lat
 
   -- a command that fails
   pub acts_failed : (error : HdfsError) → Tells command old new error → (IsEarly command error → SameNodes old new)
+      → ((start : Shown) (n : ℕ) → error ≡ errors.DataTransferError (transfer.RebuildLimit n) → Tallied start old session → NodesFailTimes (suc n) start new)
       → ((path : List ℕ) (byte : ℕ) → CommandLost old.counts new path command byte → ⊥)
       → ((state : State) → IsReady old session state command → Cause (world_at session old) state command old new error × AgreesBut (spared (world_at session old) state command error) new.picture state.files)
       → ((state : State) → IsReady old session state command → CarriesOpen new session' state)
       → Acts command old session new session' (Err error)
-  acts_failed error tells refused found over others = record {
+  acts_failed error tells refused limit found over others = record {
     anywhere = record { later = later; reads = reads; replies = tt; tells = tells; refused = refused; idle = idle };
     links = links;
     stands = stands;
+    tallied = tallied;
+    limit = limit;
     writers = writers;
     applied = λ state ready. record {
       ok = tt;

@@ -1,5 +1,5 @@
 -- What holds since a time holds since an earlier time.
-use Rattle.std.proofs.Common.{inl, inr, ⊎_elim, ℕ, ◌+◌, ◌<◌, List, [], length, get_or, arith}
+use Rattle.std.proofs.Common.{inl, inr, ⊎_elim, ℕ, ◌+◌, List, [], get_or, arith}
 use Rattle.hdfs_model.specs.declared.commands.Command.{Command}
 use Rattle.hdfs_model.specs.declared.commands.Command.TheVariants as commands
 use Rattle.hdfs_cluster.specs.declared.errors.ArgFault.TheVariants as args
@@ -60,7 +60,7 @@ module _ (old middle new : Shown) (before : NeverFall old.counts middle.counts) 
   because_since w state command (errors.DataTransferError (transfer.Read byte)) h = (h.0, command_lost_since (target_of w command) command byte h.1)
   because_since w state command (errors.DataTransferError transfer.AllNodes) h = (h.0, pipeline_since (target_of w command) h.1)
   because_since w state command (errors.DataTransferError transfer.NoReplacement) h =
-      (h.0, h.1, help_since old middle new before h.2, some_since (target_of w command) h.3)
+      (h.0, h.1, help_since old middle new before h.2, some_since (target_of w command) h.3, h.4)
   because_since w state command (errors.DataTransferError (transfer.RebuildLimit rebuilds)) h = (h.0, h.1, some_since (target_of w command) h.2)
   because_since w state command (errors.AlreadyExists message) h = ⊎_elim (λ is. inl is) (λ rose. inr (failed_since old middle new ANamenode before rose)) h
   because_since w state command (errors.RPCError class message) h = ⊎_elim (λ is. inl is) (λ rose. inr (failed_since old middle new ANamenode before rose)) h

@@ -31,6 +31,7 @@ writer_stands a b w stays s = record {
         packet_size = g.packet_size;
         settings = g.settings;
         plain = g.plain;
+        plan = g.plan;
       };
   is_open = s.is_open;
   idle = s.idle;

@@ -9,7 +9,6 @@ use Rattle.hdfs_model.specs.declared.commands.Reply.{Reply}
 use Rattle.hdfs_model.specs.declared.commands.Reply.TheVariants as replies
 use Rattle.hdfs_model.specs.declared.commands.WriteOptions.{WriteOptions}
 use Rattle.hdfs_cluster.specs.declared.errors.HdfsError.{HdfsError}
-use Rattle.hdfs_cluster.specs.declared.errors.HdfsError.TheVariants as errors
 use Rattle.hdfs_cluster.specs.declared.messages.Appended.{Appended}
 use Rattle.hdfs_cluster.specs.declared.messages.FileStatusMsg.{FileStatusMsg}
 use Rattle.hdfs_cluster.specs.declared.messages.ServerDefaults.{ServerDefaults}

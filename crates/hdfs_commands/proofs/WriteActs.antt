@@ -39,7 +39,7 @@ module _ (old new : Shown) (session session' : Session) (name path more : List �
     (call : OneCall old session path (Some writer) (Some writer') new session') (stands : Stands old session)
     (sound : (p : Picture) → old.picture ≡ Some p → IsSound p) (called : absolute (settings_of session).home name ≡ path) (is : is_path path ≡ true)
     (keeps : Keeps writer writer') (same : settings_of session' ≡ settings_of session) (known : defaults_known session' ≡ defaults_known session)
-    (carries : CarriesMore old writer more new writer') (limited : AreLimited (sizes_of writer)) (plain : more ≢ [] → (sizes_of writer).encrypted ≡ false) where
+    (carries : CarriesMore old writer more new writer') (limited : more ≢ [] → AreLimited (sizes_of writer)) (plain : more ≢ [] → (sizes_of writer).encrypted ≡ false) where
   -- the writer carries these bytes more
   carries_at : (p : Picture) (bytes : List ℕ) → old.picture ≡ Some p → FileCarries p path (tail_of writer) bytes
       → (q : Picture) × (new.picture ≡ Some q) × FileCarries q path (tail_of writer') (bytes ++ more) × OnlyFile path p q × SameFile path p q
@@ -64,7 +64,6 @@ module _ (old new : Shown) (session session' : Session) (name path more : List �
       let q = on.0 in
       let written : Content = record content { bytes = content.bytes ++ more } in
       let next = written_state state path content more in
-      let attributes = attributes_in (sizes_of writer) content.attributes o.file.replication o.file.block_size limited in
       let there : AgreesAt p (p.names path) (Some (Writing content)) = subst (λ (n : Option Node). AgreesAt p (p.names path) n) o.file.named (o.agrees path) in
       let here = open_agrees p q path content (tail_of writer) content.bytes o.file.carries there written refl on.4 in
       record {
@@ -72,9 +71,10 @@ module _ (old new : Shown) (session session' : Session) (name path more : List �
         done = write_is_done (world_at session old) state name path content called is o.opened o.file.named more;
         limited = record {
           numbers = refl;
-          attributes = λ other filed.
+          attributes = λ some other filed.
               (let one : content ≡ other = cc (o.file.named, subst (λ (x : List ℕ). state.files x ≡ Some (Writing other)) called filed) in
-              subst (λ (c : Content). are_attributes c.attributes ≡ true) one attributes);
+              subst (λ (c : Content). are_attributes c.attributes ≡ true) one
+              (attributes_in (sizes_of writer) content.attributes o.file.replication o.file.block_size (limited some)));
           plain = record {
             bytes = λ moves. false≢true (sym (plain moves.0) ∙ encrypted_is session old writer (stands.sized path writer call.here) state ready.carried ∙ moves.1);
             file = λ opens. opens;

@@ -21,13 +21,16 @@ pub(crate) fn tells_encryption(status: &Option<FileStatusMsg>) -> bool
 impl Session {
     ghost use Rattle.hdfs_commands.specs.Encrypted.{OnlyAsked, OnlyTouches};
     ghost use Rattle.hdfs_commands.specs.Looking.{OnlyLooks};
-    ghost use Rattle.hdfs_file_writer.specs.Writers.{Stands as FileStands, has_failed as file_has_failed, link_of};
+    ghost use Rattle.hdfs_file_writer.specs.Writers.{Stands as FileStands, file_id_of, has_failed as file_has_failed, link_of, path_of};
     ghost use Rattle.hdfs_namenode.specs.Asked.{ReachesAll};
-    ghost use Rattle.hdfs_namenode.specs.Clients.{proxy_of};
+    ghost use Rattle.hdfs_cluster.specs.Requests.{AskOf, LetsClose};
+    ghost use Rattle.hdfs_cluster.specs.declared.asks.Ask.TheVariants as asks;
+    ghost use Rattle.hdfs_namenode.specs.Clients.{name_of, proxy_of};
 
     /// Refuses to write a file that was just created: it is deleted again, as far as a namenode does that.
     pub(crate) fn refuse_created<C: Cluster>(&mut self, cluster: &mut C, path: &str) -> HdfsError
-        requires { ReachesAll (proxy_of self.old.namenode) (C.shown cluster.old) }
+        requires reaches { ReachesAll (proxy_of self.old.namenode) (C.shown cluster.old) }
+        requires allowed { C.allows (AskOf (asks.Delete path.now false)) }
         ensures is { result ≡ errors.UnsupportedFeature features.Encryption }
         ensures looks { OnlyLooks (C.shown cluster.old) (C.shown cluster.new) }
         ensures asked { OnlyAsked self.old self.new }
@@ -45,6 +48,7 @@ impl Session {
         requires reaches { ReachesAll (proxy_of self.old.namenode) (C.shown cluster.old) }
         requires stands { FileStands (C.shown cluster.old) writer }
         requires fresh { (link_of writer ≡ None) × (file_has_failed writer ≡ false) }
+        requires allowed { LetsClose C.allows (name_of self.old.namenode) (path_of writer) (file_id_of writer) }
         ensures is { result ≡ errors.UnsupportedFeature features.Encryption }
         ensures touches { OnlyTouches (C.shown cluster.old) writer (C.shown cluster.new) }
         ensures asked { OnlyAsked self.old self.new }

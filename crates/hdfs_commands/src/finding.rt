@@ -8,6 +8,9 @@ ghost use Rattle.hdfs_model.specs.Owing.{IsNotOwed};
 ghost use Rattle.hdfs_model.specs.Steps.{World};
 ghost use Rattle.hdfs_namenode.specs.Asked.{ReachesAll};
 ghost use Rattle.hdfs_namenode.specs.Clients.{defaults_of, proxy_of};
+ghost use Rattle.hdfs_cluster.specs.Requests.{AskOf};
+ghost use Rattle.hdfs_cluster.specs.declared.asks.Ask.TheVariants as asks;
+ghost use Rattle.hdfs_commands.specs.Asking.{LetsReadFile};
 ghost use Rattle.hdfs_commands.specs.Finding.{AsksOn, IsFound, LacksTransfer, MayMove, RefusesRange, SameButKnown};
 ghost use Rattle.hdfs_commands.specs.Looking.{OnlyLooks};
 ghost use Rattle.hdfs_commands.specs.Meeting.{IsClosed, KnowsDefaults, KnowsWorld, Meets};
@@ -45,7 +48,8 @@ fn allow_transfer<C: Cluster>(
     namenode: &mut NamenodeProtocol,
     len: u64,
 ) -> Result<(), HdfsError>
-    requires { ReachesAll (proxy_of namenode.old) (C.shown cluster.old) }
+    requires reaches { ReachesAll (proxy_of namenode.old) (C.shown cluster.old) }
+    requires allowed { C.allows (AskOf asks.GetServerDefaults) }
     ensures looks { OnlyLooks (C.shown cluster.old) (C.shown cluster.new) }
     ensures picture { Told SameButActive (C.shown cluster.old).picture (C.shown cluster.new).picture }
     ensures ok { OnOk result (MayMove len (C.shown cluster.old) namenode.old) }
@@ -75,7 +79,8 @@ pub(crate) fn find_range<C: Cluster>(
     offset: u64,
     len: u64,
 ) -> Result<LocatedBlocks, HdfsError>
-    requires { ReachesAll (proxy_of namenode.old) (C.shown cluster.old) }
+    requires reaches { ReachesAll (proxy_of namenode.old) (C.shown cluster.old) }
+    requires allowed { LetsReadFile C.allows path.now }
 
     // over any cluster
     ensures looks { OnlyLooks (C.shown cluster.old) (C.shown cluster.new) }

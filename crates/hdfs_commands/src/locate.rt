@@ -1,11 +1,13 @@
 //! Where the bytes of a file lie.
-ghost use Rattle.std.specs.Prelude.{◌≡◌, ◌<◌, ◌^◌, ℕ, Some, IfOk, IfErr};
+ghost use Rattle.std.specs.Prelude.{◌≡◌, ◌<◌, ◌-◌, ◌^◌, ℕ, Some, IfOk, IfErr};
 ghost use Rattle.hdfs_model.specs.Causes.{Cause, Tells};
 ghost use Rattle.hdfs_cluster.specs.Files.{State};
 ghost use Rattle.hdfs_cluster.specs.Namenode.{Locates};
 ghost use Rattle.hdfs_cluster.specs.Picture.{Picture, SameFiles};
 ghost use Rattle.hdfs_model.specs.Owing.{IsNotOwed};
 ghost use Rattle.hdfs_model.specs.Steps.{World};
+ghost use Rattle.hdfs_cluster.specs.Requests.{AskOf};
+ghost use Rattle.hdfs_cluster.specs.declared.asks.Ask.TheVariants as asks;
 ghost use Rattle.hdfs_commands.specs.Looking.{OnlyLooks};
 ghost use Rattle.hdfs_namenode.specs.Asked.{ReachesAll};
 ghost use Rattle.hdfs_namenode.specs.Clients.{SameClient, proxy_of};
@@ -28,7 +30,8 @@ pub(crate) fn locate<C: Cluster>(
     name: &Text,
     path: &str,
 ) -> Result<LocatedBlocks, HdfsError>
-    requires { ReachesAll (proxy_of namenode.old) (C.shown cluster.old) }
+    requires reaches { ReachesAll (proxy_of namenode.old) (C.shown cluster.old) }
+    requires allowed { C.allows (AskOf (asks.GetBlockLocations path.now 0 (2 ^ 63 - 1))) }
 
     // over any cluster
     ensures looks { OnlyLooks (C.shown cluster.old) (C.shown cluster.new) }

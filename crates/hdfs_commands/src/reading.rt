@@ -1,6 +1,6 @@
 //! The bytes of a range of a file, block by block.
-ghost use Rattle.std.specs.Prelude.{◌≡◌, ◌<◌, ◌≤◌, ◌+◌, ◌-◌, ◌^◌, ◌++◌, ℕ, List, Some, None, OnOk, IfOk, IfErr, MatchBool, length, false};
-ghost use Rattle.hdfs_block_reader.specs.Reader.{wanted_of, end_of, link_of, has_failed, Stands, Keeps, Reads, ShowsBlock, AllBlamed, IsRead};
+ghost use Rattle.std.specs.Prelude.{◌≡◌, ◌<◌, ◌≤◌, ◌+◌, ◌-◌, ◌^◌, ◌++◌, ℕ, List, [], Some, None, OnOk, IfOk, IfErr, MatchBool, length, false};
+ghost use Rattle.hdfs_block_reader.specs.Reader.{block_of, client_of, wanted_of, end_of, link_of, has_failed, LetsRead, Stands, Keeps, Reads, ShowsBlock, AllBlamed, IsRead};
 ghost use Rattle.hdfs_model.specs.Anywhere.{Applies};
 ghost use Rattle.hdfs_cluster.specs.Lost.{AllFailed, ByteLost};
 ghost use Rattle.hdfs_model.specs.Causes.{Cause};
@@ -14,6 +14,8 @@ ghost use Rattle.hdfs_model.specs.Steps.{World, Done, step};
 ghost use Rattle.hdfs_cluster.specs.Stores.{Agrees};
 ghost use Rattle.hdfs_namenode.specs.Asked.{ReachesAll};
 ghost use Rattle.hdfs_namenode.specs.Clients.{defaults_of, proxy_of};
+ghost use Rattle.hdfs_cluster.specs.declared.messages.LocatedBlock.{LocatedBlock};
+ghost use Rattle.hdfs_commands.specs.Asking.{LetsReadFile};
 ghost use Rattle.hdfs_commands.specs.Finding.{AsksOn};
 ghost use Rattle.hdfs_commands.specs.Meeting.{IsClosed, KnowsWorld, Meets};
 ghost use Rattle.hdfs_commands.specs.Ranges.{Stored, HoldsBlock, GoesOn, FailsAt, FailsToRead, LiesIn, IsOutside, part_of};
@@ -39,6 +41,7 @@ fn append_next<C: Cluster>(
 ) -> Result<bool, HdfsError>
     requires stands { Stands (C.shown cluster.old) reader.old }
     requires fine { has_failed reader.old ≡ false }
+    requires allowed { LetsRead C.allows (block_of reader.old) (client_of reader.old) (end_of reader.old) }
 
     // over any cluster
     ensures keeps { Keeps (C.shown cluster.old) (C.shown cluster.new) reader.old reader.new }
@@ -74,6 +77,7 @@ fn read_all<C: Cluster>(
 ) -> Result<(), HdfsError>
     requires stands { Stands (C.shown cluster.old) reader.old }
     requires fine { has_failed reader.old ≡ false }
+    requires allowed { LetsRead C.allows (block_of reader.old) (client_of reader.old) (end_of reader.old) }
 
     // over any cluster
     ensures keeps { Keeps (C.shown cluster.old) (C.shown cluster.new) reader.old reader.new }
@@ -98,7 +102,8 @@ fn read_block<C: Cluster>(
     offset: u64,
     len: u64,
 ) -> Result<(), HdfsError>
-    requires { offset + len < 2 ^ 64 }
+    requires within { offset + len < 2 ^ 64 }
+    requires allowed { (end : ℕ) → LetsRead C.allows block [] end }
 
     // over any cluster
     ensures only { OnlyReads (C.shown cluster.old) (C.shown cluster.new) }
@@ -126,7 +131,8 @@ fn read_part<C: Cluster>(
     offset: u64,
     end: u64,
 ) -> Result<(), HdfsError>
-    requires { offset ≤ end }
+    requires within { offset ≤ end }
+    requires allowed { (end : ℕ) → LetsRead C.allows block [] end }
 
     // over any cluster
     ensures only { OnlyReads (C.shown cluster.old) (C.shown cluster.new) }
@@ -160,7 +166,8 @@ fn read_blocks<C: Cluster>(
     offset: u64,
     end: u64,
 ) -> Result<(), HdfsError>
-    requires { offset ≤ end }
+    requires within { offset ≤ end }
+    requires allowed { (block : LocatedBlock) (end : ℕ) → LetsRead C.allows block [] end }
 
     // over any cluster
     ensures only { OnlyReads (C.shown cluster.old) (C.shown cluster.new) }
@@ -193,7 +200,8 @@ pub(crate) fn read_file<C: Cluster>(
     offset: u64,
     len: u64,
 ) -> Result<Reply, HdfsError>
-    requires { ReachesAll (proxy_of namenode.old) (C.shown cluster.old) }
+    requires reaches { ReachesAll (proxy_of namenode.old) (C.shown cluster.old) }
+    requires allowed { LetsReadFile C.allows path.now }
     ensures anywhere { Applies (Command.Read name.now offset len) (C.shown cluster.old) (C.shown cluster.new) result }
     ensures links { SameLinks (C.shown cluster.old) (C.shown cluster.new) }
     ensures owed { IfErr result IsNotOwed }

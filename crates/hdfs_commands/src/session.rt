@@ -1,6 +1,7 @@
 //! One session of commands.
 ghost use Rattle.std.specs.Prelude.{◌≡◌, ◌⊎◌, ◌<◌, ◌↔◌, Err, None, IfOk, IfErr, IsSome, IsTrue, OnOk, OnErr, true, false, List, ℕ};
 ghost use Rattle.hdfs_commands.specs.Acting.{Acts, world_at};
+ghost use Rattle.hdfs_commands.specs.Asking.{LetsApply, LetsPlaced};
 ghost use Rattle.hdfs_cluster.specs.Files.{State};
 ghost use Rattle.hdfs_model.specs.Limits.{are_settings};
 ghost use Rattle.hdfs_names.specs.Paths.{is_path, absolute};
@@ -99,6 +100,7 @@ impl Session {
     fn run<C: Cluster>(&mut self, cluster: &mut C, command: &Command) -> Result<Reply, HdfsError>
         requires stands { Stands (C.shown cluster.old) self.old }
         requires fine { has_failed self.old ≡ false }
+        requires allowed { LetsPlaced C.allows self.old command.now }
         ensures acts { Acts command.now (C.shown cluster.old) self.old (C.shown cluster.new) (after self.new result) result }
         ensures whole { KeepsBlocksWhole command.now (C.shown cluster.old) self.old (C.shown cluster.new) self.new result }
         ensures owed { IfErr result (Owed (world_at self.old (C.shown cluster.old)) (opened_of self.old) command.now) }
@@ -159,6 +161,7 @@ impl Session {
         command: &Command,
     ) -> Result<Reply, HdfsError>
         requires stands { Stands (C.shown cluster.old) self.old }
+        requires allowed { LetsApply C.allows self.old command.now }
 
         // Over any cluster, and over one that agrees with a state whose open files the session carries.
         ensures acts { has_failed self.old ≡ false

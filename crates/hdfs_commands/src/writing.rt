@@ -1,8 +1,12 @@
 //! The commands of a session that write.
-ghost use Rattle.std.specs.Prelude.{◌≡◌, ◌<◌, ℕ, List, Some, IfOk, IfErr, IfSome, OnOk, OnErr, string_bytes, true, false, unwrap_or};
+ghost use Rattle.std.specs.Prelude.{◌≡◌, ◌<◌, ℕ, List, Option, Some, IfOk, IfErr, IfSome, OnOk, OnErr, string_bytes, true, false, unwrap_or};
 ghost use Rattle.std.specs.BTreeMap.{get_by_text, IsUnchanged};
 ghost use Rattle.std.specs.Map.{update};
 ghost use Rattle.std.specs.Str.{bytes_eq};
+ghost use Rattle.hdfs_cluster.specs.Requests.{AskOf, LetsClose, LetsWrite};
+ghost use Rattle.hdfs_cluster.specs.declared.asks.Ask.TheVariants as asks;
+ghost use Rattle.hdfs_commands.specs.Asking.{LetsAppend, LetsCreate};
+ghost use Rattle.hdfs_model.specs.Limits.{are_options};
 ghost use Rattle.hdfs_commands.specs.Opening.{appending, create_flag, creating};
 ghost use Rattle.hdfs_cluster.specs.declared.asks.Answer.TheVariants as answers;
 ghost use Rattle.hdfs_model.specs.declared.commands.Command.TheVariants as Command;
@@ -78,6 +82,7 @@ impl Session {
     /// The cluster's defaults, which are asked for once.
     fn defaults<C: Cluster>(&mut self, cluster: &mut C) -> Result<ServerDefaults, HdfsError>
         requires stands { Stands (C.shown cluster.old) self.old }
+        requires allowed { C.allows (AskOf asks.GetServerDefaults) }
         ensures prepares { Prepares (C.shown cluster.old) self.old (C.shown cluster.new) self.new }
         ensures ok { IfOk result (HasDefaults (C.shown cluster.old) self.old self.new) }
         ensures err { IfErr result (λ error. LacksDefaults (C.shown cluster.old) self.old error (C.shown cluster.new)) }
@@ -115,7 +120,8 @@ impl Session {
         options: &WriteOptions,
         defaults: &ServerDefaults,
     ) -> Result<Option<FileStatusMsg>, HdfsError>
-        requires { ReachesAll (proxy_of self.old.namenode) (C.shown cluster.old) }
+        requires reaches { ReachesAll (proxy_of self.old.namenode) (C.shown cluster.old) }
+        requires allowed { LetsCreate C.allows (name_of self.old.namenode) path.now options.now }
         ensures came { Came (C.shown cluster.old) (creating path.now (name_of self.old.namenode) options.now
             (unwrap_or options.now.replication defaults.now.replication)
             (unwrap_or options.now.block_size defaults.now.block_size))
@@ -139,7 +145,8 @@ impl Session {
         cluster: &mut C,
         path: &Text,
     ) -> Result<Appended, HdfsError>
-        requires { ReachesAll (proxy_of self.old.namenode) (C.shown cluster.old) }
+        requires reaches { ReachesAll (proxy_of self.old.namenode) (C.shown cluster.old) }
+        requires allowed { C.allows (AskOf (appending path.now (name_of self.old.namenode) 4)) }
         ensures came { Came (C.shown cluster.old) (appending path.now (name_of self.old.namenode) 4)
             (as_answer answers.Append result) (C.shown cluster.new) }
         ensures block { IfOk result (λ appended. IfSome appended.block IsToWrite) }
@@ -159,6 +166,7 @@ impl Session {
         requires fine { has_failed self.old ≡ false }
         requires path { is_path path ≡ true }
         requires placed { opened_of self.old path ≡ false }
+        requires allowed { are_options options.now ≡ true → LetsCreate C.allows (name_of self.old.namenode) path options.now }
         ensures acts { (name : List ℕ) → absolute (settings_of self.old).home name ≡ path
             → Acts (Command.Create name options.now) (C.shown cluster.old) self.old (C.shown cluster.new) (after self.new result) result }
         ensures whole { (name : List ℕ) → absolute (settings_of self.old).home name ≡ path
@@ -197,6 +205,7 @@ impl Session {
         requires fine { has_failed self.old ≡ false }
         requires path { is_path path ≡ true }
         requires placed { opened_of self.old path ≡ false }
+        requires allowed { LetsAppend C.allows (name_of self.old.namenode) path }
         ensures acts { absolute (settings_of self.old).home name.now ≡ path
             → Acts (Command.Append name.now) (C.shown cluster.old) self.old (C.shown cluster.new) (after self.new result) result }
         ensures whole { absolute (settings_of self.old).home name.now ≡ path
@@ -238,6 +247,7 @@ impl Session {
         requires fine { has_failed self.old ≡ false }
         requires path { is_path path.now ≡ true }
         requires placed { opened_of self.old path.now ≡ true }
+        requires allowed { (file_id : Option ℕ) → LetsWrite C.allows (name_of self.old.namenode) path.now file_id }
         ensures acts { (name : List ℕ) → absolute (settings_of self.old).home name ≡ path.now
             → Acts (Command.Write name bytes.now) (C.shown cluster.old) self.old (C.shown cluster.new) (after self.new result) result }
         ensures whole { (name : List ℕ) → absolute (settings_of self.old).home name ≡ path.now
@@ -266,6 +276,7 @@ impl Session {
         requires fine { has_failed self.old ≡ false }
         requires path { is_path path.now ≡ true }
         requires placed { opened_of self.old path.now ≡ true }
+        requires allowed { (file_id : Option ℕ) → LetsClose C.allows (name_of self.old.namenode) path.now file_id }
         ensures acts { (name : List ℕ) → absolute (settings_of self.old).home name ≡ path.now
             → Acts (Command.Close name) (C.shown cluster.old) self.old (C.shown cluster.new) (after self.new result) result }
         ensures whole { (name : List ℕ) → absolute (settings_of self.old).home name ≡ path.now

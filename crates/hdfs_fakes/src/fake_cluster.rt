@@ -36,13 +36,14 @@ pub enum Look {
     TwoBlocks,
 }
 
-/// The cluster: what it gives, whether the last ask found no memory, its open links, how often its datanodes have failed, the moment, and
-/// how many milliseconds pass from one look at it to the next.
+/// The cluster: what it gives, how often it was asked and there was memory, whether the last ask found none, its open links, how often its
+/// datanodes have failed, the moment, and how many milliseconds pass from one look at it to the next. A count stays at its type's end.
 #[derive(Drop)]
 pub struct FakeCluster {
     pub(crate) alloc: Global,
     pub(crate) look: Look,
     pub(crate) steps: VecDeque<Step>,
+    pub(crate) asks: u64,
     pub(crate) lacks_memory: bool,
     pub(crate) reads: Slab<OpenRead>,
     pub(crate) writes: Slab<OpenWrite>,
@@ -71,6 +72,7 @@ impl FakeCluster {
             alloc,
             look,
             steps: all,
+            asks: 0,
             lacks_memory: false,
             reads: Slab::new(alloc),
             writes: Slab::new(alloc),
@@ -226,6 +228,10 @@ impl Cluster for FakeCluster {
 
     ghost shown = { shown_of };
 
+    ghost allows = { λ request. Unit {0} };
+
+    ghost keeps_up = { record { state = tt; sync = tt } };
+
     ghost serves = { λ old i ask result new. Served (shown_of old) i ask result (shown_of new) };
 
     ghost serves_rows = { λ old new i ask result served. served };
@@ -240,10 +246,12 @@ impl Cluster for FakeCluster {
         1
     }
 
-    /// It answers where a file lies, and the defaults, and has no memory for any other answer.
+    /// It answers where a file lies, and the defaults, and has no memory for any other answer. An ask that it answers is counted.
     fn ask(&mut self, _i: u32, ask: &Ask) -> Result<Answer, AskFault> {
+        let asks = self.asks.saturating_add(1);
         self.lacks_memory = false;
         if matches!(ask, Ask::GetServerDefaults) {
+            self.asks = asks;
             return Ok(Answer::GetServerDefaults(DEFAULTS));
         }
         let Ask::GetBlockLocations { .. } = ask else {
@@ -251,9 +259,15 @@ impl Cluster for FakeCluster {
             return Err(AskFault::NoMemory);
         };
         match self.look {
-            Look::NoFile => Ok(Answer::GetBlockLocations(None)),
+            Look::NoFile => {
+                self.asks = asks;
+                Ok(Answer::GetBlockLocations(None))
+            }
             Look::TwoBlocks => match two_blocks(self.alloc) {
-                Ok(found) => Ok(Answer::GetBlockLocations(Some(found))),
+                Ok(found) => {
+                    self.asks = asks;
+                    Ok(Answer::GetBlockLocations(Some(found)))
+                }
                 Err(NoMemory) => {
                     self.lacks_memory = true;
                     Err(AskFault::NoMemory)

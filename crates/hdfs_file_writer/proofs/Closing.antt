@@ -1,6 +1,6 @@
 -- A writer asks until its file is closed.
 use Rattle.std.proofs.Common.{◌≡◌, ◌≢◌, ◌⊎◌, ⊎_elim, inl, inr, ℕ, suc, ◌+◌, ◌<◌, ◌≤◌, List, Option, Some, None, refl, sym, ◌∙◌, ap, subst, arith}
-use Rattle.std.specs.Prelude.{Result, Ok, Err, Bool, true, false}
+use Rattle.std.specs.Prelude.{Result, Ok, Err, true, false}
 use Rattle.hdfs_cluster.specs.declared.asks.Answer.{Answer}
 use Rattle.hdfs_cluster.specs.declared.asks.Ask.{Ask}
 use Rattle.hdfs_cluster.specs.declared.errors.HdfsError.{HdfsError}
@@ -8,7 +8,6 @@ use Rattle.hdfs_cluster.specs.declared.messages.LocatedBlock.{LocatedBlock}
 use Rattle.hdfs_cluster.specs.declared.asks.Answer.TheVariants as answers
 use Rattle.hdfs_cluster.specs.declared.asks.Ask.TheVariants as asks
 use Rattle.hdfs_cluster.specs.declared.errors.HdfsError.TheVariants as errors
-use Rattle.hdfs_cluster.specs.declared.messages.Block.{Block}
 use Rattle.hdfs_cluster.specs.declared.picture.LastAnswer.TheVariants as last_answers
 use Rattle.hdfs_cluster.specs.Failures.{CallsRose}
 use Rattle.hdfs_cluster.specs.Counts.{CallsRoseTimes}
@@ -32,6 +31,7 @@ use Rattle.hdfs_file_writer.proofs.Growing.{closed_agrees}
 use Rattle.hdfs_file_writer.proofs.Joining.{calls_since, tells_since, tells_close}
 use Rattle.hdfs_file_writer.proofs.Moving.{own_link_refl, own_link_trans, own_link_left, only_file_refl}
 use Rattle.hdfs_file_writer.proofs.Steps.{Shows, as_done}
+use Rattle.hdfs_file_writer.proofs.Tallying.{no_limit}
 use Rattle.hdfs_file_writer.proofs.Telling.{tells_asked, apart_asked, asked_cause}
 use Rattle.hdfs_file_writer.proofs.Times.{times_enough, times_more}
 
@@ -58,6 +58,7 @@ module _ {a b : Shown} {w : FileWriter} (between : IsBetweenBlocks w) (sound : S
   no_memory = record {
     own = own_link b asking.own;
     tells = (tt, (tt, tt));
+    limit = λ start n is fails. absurd (cc is);
     touches = λ p bytes told c.
         (let c' = known p bytes told c in
         let f = asking.told p bytes told c' in
@@ -77,6 +78,7 @@ module _ {a b : Shown} {w : FileWriter} (between : IsBetweenBlocks w) (sound : S
             (times_enough a.namenodes 5 tries a.counts b.counts enough asking.times),
       ),
     );
+    limit = λ start n is fails. absurd (cc is);
     touches = no_memory.touches;
     cause = λ p bytes told c. tt;
   }
@@ -155,6 +157,7 @@ module _ {a b : Shown} {w : FileWriter} (between : IsBetweenBlocks w) (sound : S
       tells =
           tells_close w.path a c error (apart_asked error came.relays.tells.0)
           (tells_since a b c error asking.own.later (tells_asked b c error came.relays.tells));
+      limit = λ start n is fails. absurd (no_limit came.relays.tells.0 is);
       touches = λ p bytes told carried.
           (let c' = known p bytes told carried in
           let m = asked_more (Err error) came p bytes told c' in

@@ -1,5 +1,5 @@
 -- How the calls of a writer of a file join.
-use Rattle.std.proofs.Common.{◌≡◌, ◌⊎◌, inl, inr, ℕ, ◌<◌, true, List, [], ◌++◌, length, Some, None, refl, sym, ◌∙◌, ap, subst, arith, append_assoc}
+use Rattle.std.proofs.Common.{◌≡◌, ◌⊎◌, inl, inr, ℕ, true, List, [], ◌++◌, Some, None, refl, sym, ◌∙◌, ap, subst, append_assoc}
 use Rattle.std.proofs.lemmas.List.{append-nil}
 use Rattle.hdfs_cluster.specs.declared.attributes.Attributes.{Attributes}
 use Rattle.hdfs_cluster.specs.declared.errors.HdfsError.{HdfsError}
@@ -27,6 +27,7 @@ use Rattle.hdfs_file_writer.specs.WholeBlocks.{ClosesWhole}
 use Rattle.hdfs_file_writer.specs.Writers.{blocks_in, link_of, tail_of, Keeps, OnlyOwnLink, Wrote, Fails, FailsOtherwise, FailsToClose, Closed, HasCause}
 use Rattle.hdfs_file_writer.proofs.Moving.{own_link_refl, own_link_trans, only_file_trans}
 use Rattle.hdfs_file_writer.proofs.Steps.{carries_nothing, carries_trans, touches_behind}
+use Rattle.hdfs_file_writer.proofs.Tallying.{limit_behind, tallies_refl, tallies_trans}
 use Rattle.hdfs_file_writer.proofs.WholeBlocks.{closes_trans}
 
 pub keeps_refl : (w : FileWriter) → Keeps w w
@@ -36,12 +37,18 @@ pub keeps_trans : (w x y : FileWriter) → Keeps w x → Keeps x y → Keeps w y
 keeps_trans w x y one two = record { path = two.path ∙ one.path; file_id = two.file_id ∙ one.file_id; sizes = two.sizes ∙ one.sizes }
 
 pub wrote_nothing : (a : Shown) (w : FileWriter) → Wrote a w [] a w
-wrote_nothing a w = record { keeps = keeps_refl w; own = own_link_refl a (link_of w); carries = carries_nothing a w }
+wrote_nothing a w = record {
+  keeps = keeps_refl w;
+  own = own_link_refl a (link_of w);
+  tallies = tallies_refl a w;
+  carries = carries_nothing a w;
+}
 
 pub wrote_trans : (a b c : Shown) (w x y : FileWriter) (one two : List ℕ) → Wrote a w one b x → Wrote b x two c y → Wrote a w (one ++ two) c y
 wrote_trans a b c w x y one two first then = record {
   keeps = keeps_trans w x y first.keeps then.keeps;
   own = own_link_trans a b c (link_of w) (link_of x) (link_of y) first.own then.own;
+  tallies = tallies_trans first then;
   carries = λ p bytes told carried.
       (let both = carries_trans a b c w x y one two first.keeps.path first.keeps.sizes first.carries then.carries p bytes told carried in
       (both.0, both.1, subst (FileCarries both.0 w.path (tail_of y)) (append_assoc bytes one two) both.2, both.3, both.4, both.5, both.6));
@@ -81,7 +88,7 @@ pub cause_since : (sizes : WriteSizes) (path : List ℕ) (a b c : Shown) (e : Hd
     → CauseOfWrite sizes path a c e
 cause_since sizes path a b c (errors.DataTransferError transfer.AllNodes) later h = all_since path a b c later h
 cause_since sizes path a b c (errors.DataTransferError transfer.NoReplacement) later h =
-    (h.0, help_since a b c later.counts h.1, some_since path a b c later h.2)
+    (h.0, help_since a b c later.counts h.1, some_since path a b c later h.2, h.3)
 cause_since sizes path a b c (errors.DataTransferError (transfer.RebuildLimit rebuilds)) later h = (h.0, some_since path a b c later h.1)
 cause_since sizes path a b c (errors.AlreadyExists message) later h = calls_since a b c later h
 cause_since sizes path a b c (errors.RPCError class message) later h = calls_since a b c later h
@@ -102,6 +109,7 @@ fails_after a b c w x one e first then = record {
   fails = record {
     own = own_link_trans a b c (link_of w) (link_of x) None first.own then.fails.own;
     tells = tells_since a b c e first.own.later then.fails.tells;
+    limit = limit_behind c e first then.fails.limit;
     refused = λ refusal. absurd (then.apart refusal);
     touches = touches_behind a b c w x one first.keeps.path first.carries then.fails.touches;
     cause = has_cause_behind a b c w x one e first then.fails.cause;
@@ -115,6 +123,7 @@ pub refused : (a b : Shown) (w x : FileWriter) → Wrote a w [] b x → link_of 
 refused a b w x wrote idle nodes encrypted = record {
   own = subst (OnlyOwnLink a (link_of w) b) idle wrote.own;
   tells = (tt, (tt, tt));
+  limit = λ start n is fails. absurd (cc is);
   refused = λ refusal. nodes;
   touches = λ p bytes told carried. (let f = wrote.carries p bytes told carried in (f.0, f.1, f.3));
   cause = λ p bytes told carried. encrypted;
@@ -125,6 +134,7 @@ pub fails_to_close : (a b : Shown) (w : FileWriter) (e : HdfsError) → FailsOth
 fails_to_close a b w e failed = record {
   own = failed.fails.own;
   tells = tells_close w.path a b e failed.apart failed.fails.tells;
+  limit = failed.fails.limit;
   touches = failed.fails.touches;
   cause = failed.fails.cause;
 }
@@ -135,6 +145,7 @@ fails_to_close_after a b c w x one e first then = record {
   tells =
       let tells : TellsClose w.path b c e = subst (λ (path : List ℕ). TellsClose path b c e) first.keeps.path then.tells in
       (tells.0, means_since a b c e first.own.later.counts tells.1);
+  limit = limit_behind c e first then.limit;
   touches = touches_behind a b c w x one first.keeps.path first.carries then.touches;
   cause = has_cause_behind a b c w x one e first then.cause;
 }

@@ -1,8 +1,10 @@
 pub mod Adding
+pub mod Allowed
 pub mod Moving
 pub mod Others
 pub mod Placing
 pub mod Storing
+pub mod Tallying
 pub mod Telling
 pub mod Touching
 pub mod Asked

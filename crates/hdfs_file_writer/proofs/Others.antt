@@ -144,6 +144,7 @@ stands_beside a b w stays stands = record {
         packet_size = going.packet_size;
         settings = going.settings;
         plain = going.plain;
+        plan = going.plan;
       });
   is_open = stands.is_open;
   idle = stands.idle;

@@ -14,21 +14,26 @@ use Rattle.hdfs_cluster.specs.Namenode.{IsToWrite}
 use Rattle.hdfs_cluster.specs.Pipes.{WriteNotOpened}
 use Rattle.hdfs_cluster.specs.Shown.{SameNodes, Shown}
 use Rattle.hdfs_cluster.specs.Sound.{IsSound}
+use Rattle.hdfs_cluster.proofs.Frames.{later_refl}
 use Rattle.hdfs_rebuild.specs.declared.block_plan.BlockPipeline.{BlockPipeline}
+use Rattle.hdfs_rebuild.specs.declared.block_plan.BlockPlan.{BlockPlan}
 use Rattle.hdfs_rebuild.specs.declared.block_plan.RebuildSettings.{RebuildSettings}
 use Rattle.hdfs_rebuild.specs.declared.block_plan.WriteFault.{WriteFault}
 use Rattle.hdfs_block_writer.specs.declared.block_writer.BlockWriter.{BlockWriter}
 use Rattle.hdfs_block_writer.specs.BlockWriters.{length_of, size_of, link_of as block_link, link_in, Stands as StandsItself}
+use Rattle.hdfs_block_writer.specs.OpenPipelines.{KeepsBlock}
 use Rattle.hdfs_block_writer.specs.Written.{Closes, GaveUp, IsCarrying, LetsGo, OpensNone, Wrote as BlockWrote, IsNew, OpensLink, BeginsWhole, fault_of}
+use Rattle.hdfs_block_writer.proofs.Wrote.{pipe_is}
 use Rattle.hdfs_file_writer.specs.declared.file_writer.FileWriter.{FileWriter}
 use Rattle.hdfs_file_writer.specs.declared.sizes.WriteSizes.{WriteSizes}
 use Rattle.hdfs_file_writer.specs.Faults.{error_of}
 use Rattle.hdfs_file_writer.specs.Tails.{IsFull}
-use Rattle.hdfs_file_writer.specs.Writers.{AreLimited, ArePackets, AreSizes, plan_of, link_of, link_by, tail_by, tail_of, Keeps, Stands, IsBetweenBlocks, HasRoom, BlockStands, OnlyOwnLink, Wrote, Adds, FailsOtherwise}
+use Rattle.hdfs_file_writer.specs.Writers.{AreLimited, ArePackets, AreSizes, plan_of, link_of, link_by, tail_by, tail_of, Keeps, Stands, IsBetweenBlocks, HasRoom, BlockStands, IsPlanOf, OnlyOwnLink, Wrote, Adds, FailsOtherwise, rebuilds_by}
 use Rattle.hdfs_namenode.specs.Relaying.{Came}
 use Rattle.hdfs_file_writer.proofs.Moving.{own_link_refl, own_link_left, own_link_opened, own_link_unopened, only_file_refl}
 use Rattle.hdfs_file_writer.proofs.Placing.{some_none}
 use Rattle.hdfs_file_writer.proofs.Steps.{Shows, ended_carries, gave_up_touches, gave_up_cause, unopened_cause, wrote_carries, added_carries, opened_carries, settled_carries, unopened_touches, unopened_tells, unopened_apart, unanswered_touches, unanswered_rose}
+use Rattle.hdfs_file_writer.proofs.Tallying.{limit_given_up, no_limit, rebuilds_new, tallies_anew, tallies_more, unopened_no_limit}
 use Rattle.hdfs_file_writer.proofs.Telling.{tells_asked, apart_asked, tells_fault, apart_fault, asked_cause}
 
 -- there was no memory before anything was done
@@ -37,6 +42,7 @@ starved_fails a w idle = record {
   fails = record {
     own = subst (λ (x : Option ℕ). OnlyOwnLink a x a None) (sym idle) (own_link_refl a None);
     tells = (tt, (tt, tt));
+    limit = λ start n is fails. absurd (cc is);
     refused = λ refusal. absurd refusal;
     touches = λ p bytes told c. (p, told, only_file_refl w.path p);
     cause = λ p bytes told c. tt;
@@ -62,6 +68,14 @@ still_open a b block block' more wrote some =
     let pipe = has_pipe block some in
     subst IsSome (sym (ap link_in (wrote.stays pipe.0 pipe.1).1)) refl
 
+-- a block is written as one of the file, however often its pipeline is rebuilt
+plan_stays : {w w' : FileWriter} {plan plan' : BlockPlan} → Keeps w w' → KeepsBlock plan plan' → IsPlanOf w.path w.sizes plan
+    → IsPlanOf w'.path w'.sizes plan'
+plan_stays keeps stays of = record {
+  src = stays.src ∙ of.src ∙ sym keeps.path;
+  replication = stays.replication ∙ of.replication ∙ ap (λ (s : WriteSizes). s.replication) (sym keeps.sizes);
+}
+
 module _ (a b : Shown) (sound : Shows IsSound a) (sound' : Shows IsSound b) (w : FileWriter) (block : BlockWriter) (going : w.going ≡ Some block) where
   own_from : (x : Option ℕ) → OnlyOwnLink a (block_link block) b x → OnlyOwnLink a (link_of w) b x
   own_from x own = subst (λ (g : Option BlockWriter). OnlyOwnLink a (link_by g) b x) (sym going) own
@@ -71,22 +85,24 @@ module _ (a b : Shown) (sound : Shows IsSound a) (sound' : Shows IsSound b) (w :
   ended_wrote w' keeps between named last closes = record {
     keeps = keeps;
     own = subst (λ (g : Option BlockWriter). OnlyOwnLink a (link_of w) b (link_by g)) (sym between.none) (own_from None closes.2.own);
+    tallies = tallies_anew a b w w' (ap rebuilds_by between.none) closes.2.own.later;
     carries = ended_carries a b sound sound' w block going w' between named last closes;
   }
 
   -- its block was given up
-  pub gave_up_fails : IsSome (block_link block) → block.settings ≡ w.sizes.rebuilding
+  pub gave_up_fails : IsSome (block_link block) → BlockStands a w.path w.sizes block
       → (fault : WriteFault) → GaveUp a block fault b → FailsOtherwise a w (error_of fault) b
-  gave_up_fails some same fault gave =
+  gave_up_fails some stands fault gave =
       let pipe = has_pipe block some in
       let gives = gave pipe.0 pipe.1 in
       record {
         fails = record {
           own = own_from None (subst (λ (x : Option ℕ). OnlyOwnLink a x b None) (sym (ap link_in pipe.1)) gives.own);
           tells = tells_fault a b block.settings pipe.0.plan (IsCarrying block) fault gives.cause;
+          limit = limit_given_up a b w fault going pipe.1 stands.stands gave;
           refused = λ refusal. absurd (apart_fault a b block.settings pipe.0.plan (IsCarrying block) fault gives.cause refusal);
           touches = gave_up_touches a b sound sound' w block going fault gave;
-          cause = λ p bytes told c. gave_up_cause a b sound sound' w block going same fault gave p bytes told c;
+          cause = λ p bytes told c. gave_up_cause a b sound sound' w block going stands fault gave p bytes told c;
         };
         apart = apart_fault a b block.settings pipe.0.plan (IsCarrying block) fault gives.cause;
       }
@@ -104,15 +120,25 @@ module _ (a b : Shown) (sound : Shows IsSound a) (sound' : Shows IsSound b) (w :
   more_wrote w' block' more stands fine keeps going' wrote itself = record {
     keeps = keeps;
     own = own_from (link_of w') (subst (λ (g : Option BlockWriter). OnlyOwnLink a (block_link block) b (link_by g)) (sym going') wrote.own);
+    tallies = tallies_more w w' going (has_pipe block (stands.is_open fine block going)).1 going' wrote;
     carries = wrote_carries a b sound sound' w block going w' block' more going' (more_within block' more stands fine wrote itself) wrote;
   }
+
+  -- it is one of the file still
+  plan_more : (w' : FileWriter) (block' : BlockWriter) (more : List ℕ) → Stands a w → w.failed ≡ false → Keeps w w' → BlockWrote a block more b block'
+      → (pipe : BlockPipeline) → block'.pipe ≡ Some pipe → IsPlanOf w'.path w'.sizes pipe.plan
+  plan_more w' block' more stands fine keeps wrote pipe is =
+      let before = has_pipe block (stands.is_open fine block going) in
+      let stays = wrote.stays before.0 before.1 in
+      let same : stays.0 ≡ pipe = pipe_is stays.0 pipe (sym stays.1 ∙ is) in
+      plan_stays keeps (subst (λ (x : BlockPipeline). KeepsBlock before.0.plan x.plan) same stays.2) ((stands.going block going).plan before.0 before.1)
 
   pub more_stands : (w' : FileWriter) (block' : BlockWriter) (more : List ℕ) → Stands a w → w.failed ≡ false → w'.failed ≡ false → Keeps w w' → w'.going ≡ Some block' → w'.reopened ≡ w.reopened → BlockWrote a block more b block' → StandsItself b block' → Stands b w'
   more_stands w' block' more stands fine fine' keeps going' rest wrote itself = record {
     packets = subst (λ (s : WriteSizes). ArePackets s) (sym keeps.sizes) stands.packets;
     going = λ other is.
         (let same : block' ≡ other = cc (going', is) in
-        subst (λ (x : BlockWriter). BlockStands b w'.sizes x) same (record {
+        subst (λ (x : BlockWriter). BlockStands b w'.path w'.sizes x) same (record {
           limited = subst (λ (s : WriteSizes). AreLimited s) (sym keeps.sizes) (stands.going block going).limited;
           stands = itself;
           size = wrote.keeps.block_size ∙ (stands.going block going).size ∙ ap (λ (s : WriteSizes). s.block_size) (sym keeps.sizes);
@@ -120,6 +146,7 @@ module _ (a b : Shown) (sound : Shows IsSound a) (sound' : Shows IsSound b) (w :
           packet_size = wrote.keeps.packet_size ∙ (stands.going block going).packet_size ∙ ap (λ (s : WriteSizes). s.packet_size) (sym keeps.sizes);
           settings = wrote.keeps.settings ∙ (stands.going block going).settings ∙ ap (λ (s : WriteSizes). s.rebuilding) (sym keeps.sizes);
           plain = ap (λ (s : WriteSizes). s.encrypted) keeps.sizes ∙ (stands.going block going).plain;
+          plan = plan_more w' block' more stands fine keeps wrote;
         }));
     is_open = λ fine'' other is.
         (let same : block' ≡ other = cc (going', is) in
@@ -143,6 +170,7 @@ module _ (a m : Shown) (sound : Shows IsSound a) (w : FileWriter) (between : IsB
   added_wrote found empty full came = record {
     keeps = record { path = refl; file_id = refl; sizes = refl };
     own = idle_own a m w None between.none (own_link_left a m None came.relays.leaves);
+    tallies = tallies_anew a m w (record w { going = None; reopened = Some found }) refl came.relays.leaves.later;
     carries = added_carries a m sound w between client found empty full came;
   }
 
@@ -162,6 +190,7 @@ module _ (a m : Shown) (sound : Shows IsSound a) (w : FileWriter) (between : IsB
     fails = record {
       own = idle_own a m w None between.none (own_link_left a m None came.relays.leaves);
       tells = tells_asked a m error came.relays.tells;
+      limit = λ start n is fails. absurd (no_limit came.relays.tells.0 is);
       refused = λ refusal. absurd (apart_asked error came.relays.tells.0 refusal);
       touches = unanswered_touches a m sound w between client error came;
       cause = λ p bytes told c.
@@ -179,6 +208,7 @@ module _ (m b : Shown) (w : FileWriter) (found : LocatedBlock) (none : w.going �
     own = idle_own m b w (link_of w') none
         (subst (λ (g : Option BlockWriter). OnlyOwnLink m None b (link_by g)) (sym going')
         (own_link_opened m b setup opens.0 (block_link block) opens.1 opens.2));
+    tallies = tallies_anew m b w w' (rebuilds_new w' going' new) opens.2.only.later;
     carries = opened_carries m b w found none reopened w' block created settings size packet setup going' new opens begins;
   }
 
@@ -187,6 +217,7 @@ module _ (m b : Shown) (w : FileWriter) (found : LocatedBlock) (none : w.going �
     fails = record {
       own = idle_own m b w None none (own_link_unopened m b setup fault None not_opened);
       tells = unopened_tells m b w found none reopened setup fault not_opened;
+      limit = λ start n is fails. absurd (unopened_no_limit fault n is);
       refused = λ refusal. absurd (unopened_apart fault refusal);
       touches = unopened_touches m b w found none reopened setup fault not_opened;
       cause = λ p bytes told c. unopened_cause w.sizes w.path m b fault;
@@ -207,24 +238,37 @@ pub settled_wrote : (a : Shown) (w w' : FileWriter) (found : LocatedBlock) → K
 settled_wrote a w w' found keeps none reopened between last = record {
   keeps = keeps;
   own = idle_own a a w (link_of w') none (subst (λ (g : Option BlockWriter). OnlyOwnLink a None a (link_by g)) (sym between.none) (own_link_refl a None));
+  tallies = tallies_anew a a w w' (ap rebuilds_by between.none) (later_refl a);
   carries = settled_carries a w w' found none reopened between last;
 }
 
+-- a block that was begun is one of the file
+plan_begun : {w w' : FileWriter} {block : BlockWriter} {found : LocatedBlock} {created : Bool} {settings : RebuildSettings} {size packet : ℕ} → Keeps w w'
+    → IsNew (plan_of w found created) settings size packet block → (pipe : BlockPipeline) → block.pipe ≡ Some pipe
+    → IsPlanOf w'.path w'.sizes pipe.plan
+plan_begun {w' = w'} keeps new pipe is =
+    let same : new.pipe ≡ pipe = pipe_is new.pipe pipe (sym new.is ∙ is) in
+    subst (λ (x : BlockPipeline). IsPlanOf w'.path w'.sizes x.plan) same (record {
+      src = ap (λ (x : BlockPlan). x.src) new.plan ∙ sym keeps.path;
+      replication = ap (λ (x : BlockPlan). x.replication) new.plan ∙ ap (λ (s : WriteSizes). s.replication) (sym keeps.sizes);
+    })
+
 -- a writer of a file whose block was begun
-pub begun_stands : (b m : Shown) (w w' : FileWriter) (block : BlockWriter) (found : LocatedBlock) (created : Bool) (setup : Setup) → AreSizes w.sizes → w.sizes.encrypted ≡ false → w'.failed ≡ false → w'.sizes ≡ w.sizes → w'.going ≡ Some block → w'.reopened ≡ None
+pub begun_stands : (b m : Shown) (w w' : FileWriter) (block : BlockWriter) (found : LocatedBlock) (created : Bool) (setup : Setup) → AreSizes w.sizes → w.sizes.encrypted ≡ false → w'.failed ≡ false → Keeps w w' → w'.going ≡ Some block → w'.reopened ≡ None
     → StandsItself b block → IsNew (plan_of w found created) w.sizes.rebuilding w.sizes.block_size w.sizes.packet_size block → OpensLink m setup block b → Stands b w'
-begun_stands b m w w' block found created setup sizes plain fine same going done itself new opens = record {
-  packets = subst (λ (s : WriteSizes). ArePackets s) (sym same) sizes.packets;
+begun_stands b m w w' block found created setup sizes plain fine keeps going done itself new opens = record {
+  packets = subst (λ (s : WriteSizes). ArePackets s) (sym keeps.sizes) sizes.packets;
   going = λ other is.
       (let one : block ≡ other = cc (going, is) in
-      subst (λ (x : BlockWriter). BlockStands b w'.sizes x) one (record {
-        limited = subst (λ (s : WriteSizes). AreLimited s) (sym same) sizes.limited;
+      subst (λ (x : BlockWriter). BlockStands b w'.path w'.sizes x) one (record {
+        limited = subst (λ (s : WriteSizes). AreLimited s) (sym keeps.sizes) sizes.limited;
         stands = itself;
-        size = new.block_size ∙ ap (λ (s : WriteSizes). s.block_size) (sym same);
-        chunk = new.chunk ∙ ap (λ (s : WriteSizes). s.chunk) (sym same);
-        packet_size = new.packet_size ∙ ap (λ (s : WriteSizes). s.packet_size) (sym same);
-        settings = new.with ∙ ap (λ (s : WriteSizes). s.rebuilding) (sym same);
-        plain = ap (λ (s : WriteSizes). s.encrypted) same ∙ plain;
+        size = new.block_size ∙ ap (λ (s : WriteSizes). s.block_size) (sym keeps.sizes);
+        chunk = new.chunk ∙ ap (λ (s : WriteSizes). s.chunk) (sym keeps.sizes);
+        packet_size = new.packet_size ∙ ap (λ (s : WriteSizes). s.packet_size) (sym keeps.sizes);
+        settings = new.with ∙ ap (λ (s : WriteSizes). s.rebuilding) (sym keeps.sizes);
+        plain = ap (λ (s : WriteSizes). s.encrypted) keeps.sizes ∙ plain;
+        plan = plan_begun keeps new;
       }));
   is_open = λ fine' other is.
       (let one : block ≡ other = cc (going, is) in

@@ -39,7 +39,7 @@ use Rattle.hdfs_file_writer.specs.Faults.{error_of}
 use Rattle.hdfs_file_writer.specs.OnlyFiles.{OnlyFile, SameFile}
 use Rattle.hdfs_file_writer.specs.Tails.{Tail, Finished, Reopened, Going, tail_length, IsFull, FillsBlocks, StoresFront, TailCarries, FileCarries}
 use Rattle.hdfs_file_writer.specs.WholeBlocks.{StaysWhole}
-use Rattle.hdfs_file_writer.specs.Writers.{blocks_in, plan_of, tail_done, tail_by, tail_of, IsBetweenBlocks, CarriesMore, TouchesFile, LeavesFile}
+use Rattle.hdfs_file_writer.specs.Writers.{BlockStands, blocks_in, plan_of, tail_done, tail_by, tail_of, IsBetweenBlocks, CarriesMore, TouchesFile, LeavesFile}
 use Rattle.hdfs_namenode.specs.Relaying.{Came}
 use Rattle.hdfs_file_writer.proofs.Asked.{add_rose, added, not_added}
 use Rattle.hdfs_file_writer.proofs.Blocks.{touches_own, going_more, going_ended, going_whole}
@@ -131,17 +131,17 @@ module _ (a b : Shown) (sound : Shows IsSound a) (sound' : Shows IsSound b) (wri
       (only.0, only.1, (touches_own p (sound p told) writer.path block bytes c' only.0 (sound' only.0 only.1) only.2).0)
 
   -- and for its cause
-  pub gave_up_cause : block.settings ≡ writer.sizes.rebuilding → (fault : WriteFault) → GaveUp a block fault b → (p : Picture) (bytes : List ℕ)
+  pub gave_up_cause : BlockStands a writer.path writer.sizes block → (fault : WriteFault) → GaveUp a block fault b → (p : Picture) (bytes : List ℕ)
       → a.picture ≡ Some p → FileCarries p writer.path (tail_of writer) bytes → CauseOfWrite writer.sizes writer.path a b (error_of fault)
-  gave_up_cause same fault gave p bytes told c =
+  gave_up_cause stands fault gave p bytes told c =
       let c' = as_going p bytes c in
       let own = c'.carries.1 in
       let gives = gave own.pipe own.is in
       let carrying : IsCarrying block p = (c'.carries.0, own) in
       let only = gives.touches p told carrying in
       fault_cause a b writer.path c'.file c'.carries.3.front own.pipe.plan c'.carries.3.ends only.0 only.1
-      (only.2.names writer.path ∙ c'.named) (IsCarrying block) p told carrying writer.sizes fault
-      (subst (λ (r : RebuildSettings). HasCause r own.pipe.plan (IsCarrying block) a fault b) same gives.cause)
+      (only.2.names writer.path ∙ c'.named) (IsCarrying block) p told carrying writer.sizes fault (stands.plan own.pipe own.is).replication
+      (subst (λ (r : RebuildSettings). HasCause r own.pipe.plan (IsCarrying block) a fault b) stands.settings gives.cause)
 
   -- more bytes went into it
   pub wrote_carries : (writer' : FileWriter) (block' : BlockWriter) (more : List ℕ) → writer'.going ≡ Some block' → length_of block' ≤ writer.sizes.block_size → Wrote a block more b block' → CarriesMore a writer more b writer'

@@ -1,24 +1,25 @@
 -- What the faults of a writer of a block and of an ask tell for a writer of a file, and their causes.
-use Rattle.std.proofs.Common.{◌≡◌, ◌⊎◌, inl, inr, ℕ, ◌-◌, ◌<◌, List, [], ◌∷◌, ◌++◌, length, Some, subst}
+use Rattle.std.proofs.Common.{◌≡◌, ◌⊎◌, inl, inr, ℕ, ◌-◌, false, not, List, [], ◌∷◌, ◌++◌, Some, subst}
 use Rattle.hdfs_cluster.specs.declared.errors.HdfsError.{HdfsError}
 use Rattle.hdfs_cluster.specs.declared.errors.HdfsError.TheVariants as errors
 use Rattle.hdfs_cluster.specs.declared.errors.IoFault.TheVariants as io_faults
 use Rattle.hdfs_cluster.specs.declared.picture.BlockEntry.{BlockEntry}
 use Rattle.hdfs_cluster.specs.declared.picture.FileEntry.{FileEntry}
-use Rattle.hdfs_cluster.specs.Failures.{CallsRose, IsOfAsk}
+use Rattle.hdfs_cluster.specs.Failures.{CallsRose, IsOfAsk, MayReplace}
 use Rattle.hdfs_cluster.specs.Lost.{LastBlockAt, PipelineFailed, SomeListedFailed}
 use Rattle.hdfs_cluster.specs.Counts.{Rose}
 use Rattle.hdfs_cluster.specs.Picture.{Picture}
 use Rattle.hdfs_cluster.specs.Shown.{Shown}
 use Rattle.hdfs_cluster.specs.Sound.{IsFileAt}
+use Rattle.hdfs_names.specs.Replacements.{ShouldReplace}
 use Rattle.hdfs_namenode.specs.Relaying.{TellsAsk}
 use Rattle.hdfs_rebuild.specs.declared.block_plan.BlockPlan.{BlockPlan}
 use Rattle.hdfs_rebuild.specs.declared.block_plan.RebuildSettings.{RebuildSettings}
 use Rattle.hdfs_rebuild.specs.declared.block_plan.WriteFault.{WriteFault}
 use Rattle.hdfs_rebuild.specs.declared.block_plan.WriteFault.TheVariants as faults
 use Rattle.hdfs_rebuild.specs.Between.{HasLastError}
-use Rattle.hdfs_block_writer.specs.OpenPipelines.{AllListedFail, HasCause, ListedFails, NamenodeFails}
-use Rattle.hdfs_block_writer.proofs.Failures.{some_fails}
+use Rattle.hdfs_block_writer.specs.OpenPipelines.{AllListedFail, HasCause, ListedFails, MayBeDue, NamenodeFails}
+use Rattle.hdfs_cluster.proofs.Times.{some_fails}
 use Rattle.hdfs_file_writer.specs.declared.sizes.WriteSizes.{WriteSizes}
 use Rattle.hdfs_file_writer.specs.Failing.{TellsWrite, CauseOfWrite, IsNoRefusal, IsOfWrite}
 use Rattle.hdfs_file_writer.specs.Faults.{error_of}
@@ -69,6 +70,15 @@ pub apart_fault : (a b : Shown) (settings : RebuildSettings) (plan : BlockPlan) 
 apart_fault a b settings plan W (faults.Namenode error) cause = apart_asked error cause.1.0
 apart_fault a b settings plan W fault cause = λ refusal. refusal
 
+-- a datanode more that may be due is one that the policy adds to a file's replicas
+may_replace : (sizes : WriteSizes) (plan : BlockPlan) → plan.replication ≡ sizes.replication → MayBeDue sizes.rebuilding plan
+    → MayReplace sizes.rebuilding.replace.policy sizes.replication
+may_replace sizes plan same due = (
+  due.0,
+  not plan.created,
+  subst (λ (replication : ℕ). ShouldReplace sizes.rebuilding.replace.policy replication due.0 (not plan.created) false) same due.1,
+)
+
 -- A block was given up over a picture, and is the last one of the file at a path still.
 module _ (a b : Shown) (path : List ℕ) (file : FileEntry) (front : List ℕ) (plan : BlockPlan) (ends : file.blocks ≡ front ++ plan.block.b.block_id ∷ []) (q : Picture)
     (told' : b.picture ≡ Some q) (named : IsFileAt q path file) (W : Picture → Type 0) (p : Picture) (told : a.picture ≡ Some p) (w : W p) where
@@ -104,14 +114,15 @@ module _ (a b : Shown) (path : List ℕ) (file : FileEntry) (front : List ℕ) (
   help_failed (inr namenode) = inr (namenode.0 p told w)
 
   -- it was for this cause
-  pub fault_cause : (sizes : WriteSizes) (fault : WriteFault) → HasCause sizes.rebuilding plan W a fault b → CauseOfWrite sizes path a b (error_of fault)
-  fault_cause sizes faults.NoMemory cause = tt
-  fault_cause sizes faults.Failed cause = tt
-  fault_cause sizes faults.Link cause = tt
-  fault_cause sizes faults.Setup cause = tt
-  fault_cause sizes (faults.BadAck seqno) cause = tt
-  fault_cause sizes faults.AllNodes cause = all_failed cause.1
-  fault_cause sizes faults.NoReplacement cause = (cause.0, help_failed cause.2, listed_failed cause.3)
-  fault_cause sizes (faults.RebuildLimit rebuilds) cause = (cause.0, listed_failed cause.2)
-  fault_cause sizes (faults.Namenode error) cause =
+  pub fault_cause : (sizes : WriteSizes) (fault : WriteFault) → plan.replication ≡ sizes.replication → HasCause sizes.rebuilding plan W a fault b
+      → CauseOfWrite sizes path a b (error_of fault)
+  fault_cause sizes faults.NoMemory same cause = tt
+  fault_cause sizes faults.Failed same cause = tt
+  fault_cause sizes faults.Link same cause = tt
+  fault_cause sizes faults.Setup same cause = tt
+  fault_cause sizes (faults.BadAck seqno) same cause = tt
+  fault_cause sizes faults.AllNodes same cause = all_failed cause.1
+  fault_cause sizes faults.NoReplacement same cause = (cause.0, help_failed cause.2, listed_failed cause.3, may_replace sizes plan same cause.4)
+  fault_cause sizes (faults.RebuildLimit rebuilds) same cause = (cause.0, listed_failed cause.2)
+  fault_cause sizes (faults.Namenode error) same cause =
       asked_cause sizes path a a b error cause.1 (λ some. cause.3 p told w)

@@ -32,8 +32,9 @@ pub struct FileWriter {
 }
 
 impl FileWriter {
+    ghost use Rattle.hdfs_cluster.specs.Requests.{LetsClose, LetsWrite};
     ghost use Rattle.hdfs_namenode.specs.Asked.{ReachesAll};
-    ghost use Rattle.hdfs_namenode.specs.Clients.{SameClient, proxy_of};
+    ghost use Rattle.hdfs_namenode.specs.Clients.{SameClient, name_of, proxy_of};
     ghost use Rattle.hdfs_file_writer.specs.Tails.{Bare};
     ghost use Rattle.hdfs_cluster.specs.Namenode.{IsToWrite};
     ghost use Rattle.hdfs_file_writer.specs.Writers.{AreLimited, ArePackets, AreSizes, path_of, file_id_of, sizes_of, has_failed, link_of, tail_of, tail_opened, IsAtWork, IsIdle, Stands, Keeps, IsBetweenBlocks, OnlyOwnLink, LeavesFile, Wrote, Closed, Fails, FailsOtherwise, FailsToClose};
@@ -96,6 +97,7 @@ impl FileWriter {
         bytes: &[u8],
     ) -> Result<usize, HdfsError>
         requires reaches { ReachesAll (proxy_of namenode.old) (C.shown cluster.old) }
+        requires allowed { LetsWrite C.allows (name_of namenode.old) (path_of self.old) (file_id_of self.old) }
         requires works { IsAtWork (C.shown cluster.old) self.old }
         requires bytes { 0 < length bytes.now }
         ensures stands { OnOk result (Stands (C.shown cluster.new) self.new) }
@@ -118,10 +120,10 @@ impl FileWriter {
     }
 
     /// Takes the bytes, and answers how many they are. A block that is full is ended, and the next one begun, once a byte comes
-    /// that it has no room for. No bytes touch nothing of the cluster.
+    /// that it has no room for. No bytes touch nothing of the cluster, and nothing refuses them.
     ///
-    /// Errors: `NoMemory`; `Failed` after an earlier error; `InvalidArgument(Options)` where the file's replication or block size is
-    /// out of its limits; `IOError(Link)` and `DataTransferError(Setup)` where a pipeline wasn't set up, a rebuilt one too;
+    /// Errors: `NoMemory`; `Failed` after an earlier error; `InvalidArgument(Options)` for any byte where the file's replication or
+    /// block size is out of its limits; `IOError(Link)` and `DataTransferError(Setup)` where a pipeline wasn't set up, a rebuilt one too;
     /// `DataTransferError(AllNodes)` where each datanode of a pipeline has failed; `DataTransferError(NoReplacement)` where a datanode
     /// was to be added in the place of one that failed, none could be, and the settings don't let a write go on without it;
     /// `DataTransferError(RebuildLimit)` where a pipeline has failed that was rebuilt as often as the settings say;
@@ -136,11 +138,12 @@ impl FileWriter {
         bytes: &[u8],
     ) -> Result<usize, HdfsError>
         requires reaches { ReachesAll (proxy_of namenode.old) (C.shown cluster.old) }
+        requires allowed { LetsWrite C.allows (name_of namenode.old) (path_of self.old) (file_id_of self.old) }
         requires stands { Stands (C.shown cluster.old) self.old }
 
         ensures stands { Stands (C.shown cluster.new) self.new × Keeps self.old self.new × SameClient namenode.old namenode.new }
-        ensures count { IfOk result (λ n. (n ≡ length bytes.now) × AreLimited (sizes_of self.old)
-            × (bytes.now ≢ [] → (sizes_of self.old).encrypted ≡ false)) }
+        ensures count { IfOk result (λ n. (n ≡ length bytes.now)
+            × (bytes.now ≢ [] → AreLimited (sizes_of self.old) × ((sizes_of self.old).encrypted ≡ false))) }
         ensures idle { IsIdle self.old bytes.now cluster.old result self.new cluster.new }
         ensures fails { (OnOk result (has_failed self.new ≡ false)) × (OnErr result (has_failed self.new ≡ true)) }
 
@@ -153,12 +156,12 @@ impl FileWriter {
         if self.failed {
             return Err(HdfsError::Failed);
         }
+        if bytes.is_empty() {
+            return Ok(0);
+        }
         if !self.sizes.are_limited() {
             self.let_go();
             return Err(HdfsError::InvalidArgument(ArgFault::Options));
-        }
-        if bytes.is_empty() {
-            return Ok(0);
         }
         if self.sizes.encrypted {
             let error = self.refuse(cluster, namenode);
@@ -187,6 +190,7 @@ impl FileWriter {
     /// on with that has.
     fn refuse<C: Cluster>(&mut self, cluster: &mut C, namenode: &mut NamenodeProtocol) -> HdfsError
         requires reaches { ReachesAll (proxy_of namenode.old) (C.shown cluster.old) }
+        requires allowed { LetsWrite C.allows (name_of namenode.old) (path_of self.old) (file_id_of self.old) }
         requires stands { Stands (C.shown cluster.old) self.old }
         requires fine { self.old.failed ≡ false }
         requires encrypted { self.old.sizes.encrypted ≡ true }
@@ -221,6 +225,7 @@ impl FileWriter {
         bytes: &[u8],
     ) -> Result<(), HdfsError>
         requires reaches { ReachesAll (proxy_of namenode.old) (C.shown cluster.old) }
+        requires allowed { LetsWrite C.allows (name_of namenode.old) (path_of self.old) (file_id_of self.old) }
         requires works { IsAtWork (C.shown cluster.old) self.old }
         ensures fine { self.new.failed ≡ false }
         ensures stands { OnOk result (Stands (C.shown cluster.new) self.new) }
@@ -245,6 +250,7 @@ impl FileWriter {
         namenode: &mut NamenodeProtocol,
     ) -> Result<(), HdfsError>
         requires reaches { ReachesAll (proxy_of namenode.old) (C.shown cluster.old) }
+        requires allowed { LetsClose C.allows (name_of namenode.old) (path_of self.now) (file_id_of self.now) }
         requires between { IsBetweenBlocks self.now }
         ensures closed { OnOk result (Closed (C.shown cluster.old) self.now (C.shown cluster.new)) }
         ensures err { IfErr result (λ error. FailsToClose (C.shown cluster.old) self.now error (C.shown cluster.new)) }
@@ -279,6 +285,7 @@ impl FileWriter {
         namenode: &mut NamenodeProtocol,
     ) -> Result<(), HdfsError>
         requires reaches { ReachesAll (proxy_of namenode.old) (C.shown cluster.old) }
+        requires allowed { LetsClose C.allows (name_of namenode.old) (path_of self) (file_id_of self) }
         requires stands { Stands (C.shown cluster.old) self }
 
         ensures failed { has_failed self ≡ true → (result ≡ Err errors.Failed) × (cluster.new ≡ cluster.old) }
@@ -303,6 +310,7 @@ impl FileWriter {
         namenode: &mut NamenodeProtocol,
     ) -> Result<(), HdfsError>
         requires reaches { ReachesAll (proxy_of namenode.old) (C.shown cluster.old) }
+        requires allowed { LetsClose C.allows (name_of namenode.old) (path_of self.old) (file_id_of self.old) }
         requires stands { Stands (C.shown cluster.old) self.old }
         ensures failed { self.old.failed ≡ true → (result ≡ Err errors.Failed) × (cluster.new ≡ cluster.old) }
         ensures closed { OnOk result (Closed (C.shown cluster.old) self.old (C.shown cluster.new)) }

@@ -10,11 +10,12 @@ use hdfs_rebuild::BlockPlan;
 use hdfs_wire::NoMemory;
 
 impl FileWriter {
+    ghost use Rattle.hdfs_cluster.specs.Requests.{LetsWrite, LetsWriteBlocks};
     ghost use Rattle.hdfs_namenode.specs.Asked.{ReachesAll};
-    ghost use Rattle.hdfs_namenode.specs.Clients.{SameClient, proxy_of};
+    ghost use Rattle.hdfs_namenode.specs.Clients.{SameClient, name_of, proxy_of};
     ghost use Rattle.hdfs_file_writer.specs.Tails.{IsFull};
     ghost use Rattle.hdfs_cluster.specs.Namenode.{IsToWrite};
-    ghost use Rattle.hdfs_file_writer.specs.Writers.{plan_of, tail_of, IsAtWork, MayBegin, Stands, Keeps, IsBetweenBlocks, HasRoom, Wrote, Adds, FailsOtherwise};
+    ghost use Rattle.hdfs_file_writer.specs.Writers.{plan_of, path_of, file_id_of, tail_of, IsAtWork, MayBegin, Stands, Keeps, IsBetweenBlocks, HasRoom, Wrote, Adds, FailsOtherwise};
 
     /// Ends the block that is being written, or leaves the one that was to be gone on with.
     pub(crate) fn finish_block<C: Cluster>(
@@ -23,6 +24,7 @@ impl FileWriter {
         namenode: &mut NamenodeProtocol,
     ) -> Result<(), HdfsError>
         requires reaches { ReachesAll (proxy_of namenode.old) (C.shown cluster.old) }
+        requires allowed { LetsWriteBlocks C.allows (name_of namenode.old) (path_of self.old) }
         requires stands { Stands (C.shown cluster.old) self.old }
         requires fine { self.old.failed ≡ false }
         ensures keeps { Keeps self.old self.new × (self.new.failed ≡ false) × SameClient namenode.old namenode.new }
@@ -76,6 +78,7 @@ impl FileWriter {
         requires begins { MayBegin self.old }
         requires block { IsToWrite located }
         requires room { located.b.num_bytes < self.old.sizes.block_size }
+        requires allowed { LetsWriteBlocks C.allows (name_of namenode.now) (path_of self.old) }
         ensures fine { self.new.failed ≡ false }
         ensures keeps { Keeps self.old self.new }
         ensures stands { OnOk result (Stands (C.shown cluster.new) self.new × HasRoom self.new) }
@@ -112,6 +115,7 @@ impl FileWriter {
         namenode: &mut NamenodeProtocol,
     ) -> Result<LocatedBlock, HdfsError>
         requires reaches { ReachesAll (proxy_of namenode.old) (C.shown cluster.old) }
+        requires allowed { LetsWrite C.allows (name_of namenode.old) (path_of self.now) (file_id_of self.now) }
         requires between { IsBetweenBlocks self.now }
         requires full { IsFull self.now.sizes.block_size (tail_of self.now) }
         ensures adds { IfOk result (λ located. Adds (C.shown cluster.old) self.now located (C.shown cluster.new)) }
@@ -137,6 +141,7 @@ impl FileWriter {
         namenode: &mut NamenodeProtocol,
     ) -> Result<(), HdfsError>
         requires reaches { ReachesAll (proxy_of namenode.old) (C.shown cluster.old) }
+        requires allowed { LetsWrite C.allows (name_of namenode.old) (path_of self.old) (file_id_of self.old) }
         requires begins { MayBegin self.old }
         requires full { IsFull self.old.sizes.block_size (tail_of self.old) }
         ensures fine { self.new.failed ≡ false }
@@ -178,6 +183,7 @@ impl FileWriter {
         namenode: &mut NamenodeProtocol,
     ) -> Result<(), HdfsError>
         requires reaches { ReachesAll (proxy_of namenode.old) (C.shown cluster.old) }
+        requires allowed { LetsWrite C.allows (name_of namenode.old) (path_of self.old) (file_id_of self.old) }
         requires works { IsAtWork (C.shown cluster.old) self.old }
         ensures fine { self.new.failed ≡ false }
         ensures keeps { Keeps self.old self.new }

@@ -19,6 +19,7 @@ use Rattle.hdfs_cluster.specs.declared.messages.DatanodeInfo.{DatanodeInfo}
 use Rattle.hdfs_mem_faults.specs.declared.fault_plan.FaultPlan.{FaultPlan}
 use Rattle.hdfs_mem_faults.specs.Calls.{one_if}
 use Rattle.hdfs_mem_faults.specs.Plans.{link_faults_of, node_faults_of}
+use Rattle.hdfs_mem_faults.specs.Series.{AsksOf}
 use Rattle.hdfs_cluster.specs.Sending.{WritePlace, Came, Acknowledges, IsDue, MovesOn, StaysHeld, seqno_of, uuids}
 use Rattle.hdfs_cluster.specs.Shown.{Shown}
 use Rattle.hdfs_cluster.specs.Writing.{WritesAt, Responds}
@@ -246,7 +247,7 @@ module _ (link : ℕ) (ack : Ack) (faults faults' : FaultPlan) (v w : MemWrite) 
   acked_nodes d = h.takes.nodes d ∙ h.tells.nodes d
 
   pub acked_falls : NoneFalls faults faults'
-  acked_falls = record { asks = λ i. h.takes.asks i ∙ h.tells.asks i; links = omega (arith, acked_links); nodes = λ d. omega (arith, acked_nodes d) }
+  acked_falls = record { asked = λ i. omega (arith, h.takes.calls (AsksOf i), h.tells.others (AsksOf i) (λ d is. (cc))); asks = λ i. h.takes.asks i ∙ h.tells.asks i; links = omega (arith, acked_links); nodes = λ d. omega (arith, acked_nodes d) }
 
   pub acked_replies : length ack.replies ≡ length v.setup.locs
   acked_replies = h.tells.len ∙ length_uuids v.setup.locs

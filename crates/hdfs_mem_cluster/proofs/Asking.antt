@@ -23,7 +23,7 @@ use Rattle.hdfs_mem_faults.specs.declared.node_plan.NodeCall.TheVariants as call
 use Rattle.hdfs_mem_faults.specs.Calls.{is_at_once, is_bad_ack, one_if}
 use Rattle.hdfs_mem_faults.specs.Following.{Follows}
 use Rattle.hdfs_mem_faults.specs.Plans.{Counts, Forgets, SamePlan, SetsUp, calls_of, fails_at, has_node, has_series, is_bad, link_faults_of, node_faults_of}
-use Rattle.hdfs_mem_faults.specs.Series.{Series, SetUps, acks_of, kind_of, plans, sends_to}
+use Rattle.hdfs_mem_faults.specs.Series.{Series, SetUps, AsksOf, acks_of, kind_of, plans, sends_to}
 use Rattle.hdfs_mem_faults.proofs.Following.{ack_follows, counts_follows, end_follows, next_kind_follows}
 use Rattle.hdfs_mem_datanodes.specs.declared.datanodes.Datanodes.{Datanodes}
 use Rattle.hdfs_mem_cluster.specs.declared.mem_cluster.MemCluster.{MemCluster}
@@ -235,7 +235,7 @@ asks_ack_on m m' link ack (links.Read v) (links.Write w) was h rest waits = absu
 -- a link was ended
 pub counts_end : (m m' : MemCluster) (link : ℕ) → Forgets m.faults link m'.faults → slab.Updates m.links m'.links link None → m'.nodes ≡ m.nodes → SameCalls m m' → CountsNothing m m'
 counts_end m m' link forgets updates same asked = record {
-  counts = record { calls = asked; links = forgets.faults; nodes = forgets.nodes };
+  counts = record { asks = λ i. forgets.calls (AsksOf i); calls = asked; links = forgets.faults; nodes = forgets.nodes };
   calls = forgets.calls;
   bad = λ l shown. still_bad (is_bad m.faults l) (eqb link l) (is_bad m'.faults l) (forgets.left l)
       (other_link link l (λ equal. false≢true (sym (ap is_some (ap (λ (k : ℕ). write_told (slab.get m'.links k)) equal ∙ ap write_told updates.changed)) ∙ shown)));

@@ -1,6 +1,6 @@
 -- What a counted call does to the counts of a cluster, and which of them fail.
-use Rattle.std.proofs.Common.{◌≡◌, ◌≢◌, ℕ, ◌+◌, ◌-◌, ◌^◌, ◌<◌, ◌≤◌, min, nat_lt, Bool, true, false, ◌&&◌, if◌then◌else◌, List, Option, Some, None, is_some, map, refl, sym, ◌∙◌, ap, subst, arith}
-use Rattle.std.proofs.lemmas.Bool.{false≢true}
+use Rattle.std.proofs.Common.{◌≡◌, ◌≢◌, ⊎_elim, ℕ, ◌+◌, ◌-◌, ◌^◌, ◌<◌, ◌≤◌, min, nat_lt, Bool, true, false, ◌&&◌, if◌then◌else◌, List, Option, Some, None, is_some, map, refl, sym, ◌∙◌, ap, subst, arith}
+use Rattle.std.proofs.lemmas.Bool.{cases_eq, false≢true}
 use Rattle.std.proofs.lemmas.Slice.Eq.{bytes_eq-Decides}
 use Rattle.std.specs.Str.{bytes_eq}
 use Rattle.hdfs_cluster.specs.declared.asks.LinkFault.{LinkFault}
@@ -12,8 +12,8 @@ use Rattle.hdfs_cluster.specs.Counts.{NeverFall, Rose}
 use Rattle.hdfs_mem_faults.specs.declared.fault_plan.FaultPlan.{FaultPlan}
 use Rattle.hdfs_mem_faults.specs.declared.node_plan.NodeCall.{NodeCall}
 use Rattle.hdfs_mem_faults.specs.Calls.{after_one, is_at_once, one_if}
-use Rattle.hdfs_mem_faults.specs.Plans.{AddsNodes, Counts, Forgets, PlansFault, SameAskFaults, SamePlan, SetsUp, calls_of, has_node, is_bad, link_faults_of, node_faults_of}
-use Rattle.hdfs_mem_faults.specs.Series.{Series, CallsOf, is_of, link_fault_count, node_fault_count}
+use Rattle.hdfs_mem_faults.specs.Plans.{AddsNodes, Counts, CountsOne, Forgets, PlansFault, SameAskFaults, SamePlan, SetsUp, calls_of, has_node, is_bad, link_faults_of, node_faults_of}
+use Rattle.hdfs_mem_faults.specs.Series.{Series, SetUps, AsksOf, CallsOf, is_of, link_fault_count, node_fault_count}
 use Rattle.hdfs_mem_faults.proofs.Bounds.{link_faults-le, node_faults-le}
 use Rattle.hdfs_mem_faults.proofs.Following.{next_follows}
 use Rattle.hdfs_mem_cluster.specs.declared.mem_cluster.MemCluster.{MemCluster}
@@ -23,14 +23,19 @@ use Rattle.hdfs_mem_cluster.specs.Lines.{line_of}
 use Rattle.hdfs_mem_cluster.specs.MemShown.{HasNodesOf, counts_at, failed_calls, namenode_faults, shown_of}
 use Rattle.hdfs_mem_datanodes.specs.Nodes.{SameNodes}
 
--- no count of a plan fell, and those of the namenodes stay
+-- the number of asks of no namenode fell
+abbrev pub AsksGrow : FaultPlan → FaultPlan → Type 0
+AsksGrow old new = (i : ℕ) → calls_of old (AsksOf i) ≤ calls_of new (AsksOf i)
+
+-- no count of a plan fell, and the faults of the namenodes stay
 pub record NoneFalls (old new : FaultPlan) : Type 0 where
+  pub asked : AsksGrow old new
   pub asks : SameAskFaults old new
   pub links : link_faults_of old ≤ link_faults_of new
   pub nodes : (d : List ℕ) → node_faults_of old d ≤ node_faults_of new d
 
 pub falls_refl : (plan : FaultPlan) → NoneFalls plan plan
-falls_refl plan = record { asks = λ i. refl; links = omega arith; nodes = λ d. omega arith }
+falls_refl plan = record { asked = λ i. omega arith; asks = λ i. refl; links = omega arith; nodes = λ d. omega arith }
 
 -- the counts of the namenodes stay with those of the plan
 pub same_namenodes : (settings : MemSettings) (calls : ℕ) (old new : FaultPlan) → SameAskFaults old new → (i : ℕ) → namenode_faults settings calls new i ≡ namenode_faults settings calls old i
@@ -38,11 +43,20 @@ same_namenodes settings calls old new same i = ap (λ (n : ℕ). if nat_lt i set
 
 -- beside the counts of the namenodes, which stay
 pub falls_beside : (settings : MemSettings) (calls : ℕ) (old new : FaultPlan) → NoneFalls old new → NeverFall (counts_at settings calls old) (counts_at settings calls new)
-falls_beside settings calls old new fall = record { calls = λ i. omega (arith, same_namenodes settings calls old new fall.asks i); links = fall.links; nodes = fall.nodes }
+falls_beside settings calls old new fall = record { asks = fall.asked; calls = λ i. omega (arith, same_namenodes settings calls old new fall.asks i); links = fall.links; nodes = fall.nodes }
+
+-- where one call was counted, of whichever series
+pub asks_grow : (old new : FaultPlan) (series : Series) → CountsOne old series new → AsksGrow old new
+asks_grow old new SetUps h i = omega (arith, h.others (AsksOf i) (λ is. (cc)))
+asks_grow old new (AsksOf asked) h i = ⊎_elim
+    (λ same. subst (λ (k : ℕ). calls_of old (AsksOf k) ≤ calls_of new (AsksOf k)) (sym same) h.grows)
+    (λ apart. omega (arith, h.others (AsksOf i) (λ is. apart (cc))))
+    (cases_eq i asked)
+asks_grow old new (CallsOf call uuid) h i = omega (arith, h.others (AsksOf i) (λ is. (cc)))
 
 -- a call of a datanode
 pub falls_counts : (old new : FaultPlan) (series : Series) (fails : Bool) → Counts old series fails new → NoneFalls old new
-falls_counts old new series fails h = record { asks = h.asks; links = omega (arith, h.links.faults); nodes = λ d. omega (arith, h.nodes d) }
+falls_counts old new series fails h = record { asked = asks_grow old new series h.call; asks = h.asks; links = omega (arith, h.links.faults); nodes = λ d. omega (arith, h.nodes d) }
 
 own_adds : (fails : Bool) (call : NodeCall) (u : List ℕ) → one_if (fails && is_of u (CallsOf call u)) ≡ one_if fails
 own_adds true call u = ap one_if ((bytes_eq-Decides u u).1 refl)
@@ -65,25 +79,25 @@ rose_counts old new call u h = omega (arith, own_count old new call u true h)
 
 -- the set-up of a pipeline
 pub falls_set_up : (old new : FaultPlan) (link : ℕ) (kind : Option LinkKind) → SetsUp old link kind new → NoneFalls old new
-falls_set_up old new link kind h = record { asks = h.asks; links = omega (arith, h.faults); nodes = λ d. omega (arith, h.nodes d) }
+falls_set_up old new link kind h = record { asked = asks_grow old new SetUps h.call; asks = h.asks; links = omega (arith, h.faults); nodes = λ d. omega (arith, h.nodes d) }
 
 pub falls_end : (old new : FaultPlan) (link : ℕ) → Forgets old link new → NoneFalls old new
-falls_end old new link h = record { asks = h.asks; links = omega (arith, h.faults); nodes = λ d. omega (arith, h.nodes d) }
+falls_end old new link h = record { asked = λ i. omega (arith, h.calls (AsksOf i)); asks = h.asks; links = omega (arith, h.faults); nodes = λ d. omega (arith, h.nodes d) }
 
 pub falls_same : (old new : FaultPlan) → new ≡ old → NoneFalls old new
 falls_same old new same = subst (λ (p : FaultPlan). NoneFalls old p) (sym same) (falls_refl old)
 
 pub falls_same_plan : (old new : FaultPlan) → SamePlan old new → NoneFalls old new
-falls_same_plan old new h = record { asks = h.asks; links = omega (arith, h.links.faults); nodes = λ d. omega (arith, h.nodes d) }
+falls_same_plan old new h = record { asked = λ i. omega (arith, h.calls (AsksOf i)); asks = h.asks; links = omega (arith, h.links.faults); nodes = λ d. omega (arith, h.nodes d) }
 
 pub falls_fault : (old new : FaultPlan) (fault : FaultLine) → PlansFault old fault new → NoneFalls old new
-falls_fault old new fault h = record { asks = h.asks; links = omega (arith, h.links.faults); nodes = λ d. omega (arith, h.nodes d) }
+falls_fault old new fault h = record { asked = λ i. omega (arith, h.calls (AsksOf i)); asks = h.asks; links = omega (arith, h.links.faults); nodes = λ d. omega (arith, h.nodes d) }
 
 pub falls_adds : (old new : FaultPlan) → AddsNodes old new → NoneFalls old new
-falls_adds old new h = record { asks = h.asks; links = omega (arith, h.links.faults); nodes = λ d. omega (arith, h.nodes d) }
+falls_adds old new h = record { asked = λ i. omega (arith, h.calls (AsksOf i)); asks = h.asks; links = omega (arith, h.links.faults); nodes = λ d. omega (arith, h.nodes d) }
 
 pub falls_trans : (a b c : FaultPlan) → NoneFalls a b → NoneFalls b c → NoneFalls a c
-falls_trans a b c f g = record { asks = λ i. g.asks i ∙ f.asks i; links = omega (arith, f.links, g.links); nodes = λ d. omega (arith, f.nodes d, g.nodes d) }
+falls_trans a b c f g = record { asked = λ i. omega (arith, f.asked i, g.asked i); asks = λ i. g.asks i ∙ f.asks i; links = omega (arith, f.links, g.links); nodes = λ d. omega (arith, f.nodes d, g.nodes d) }
 
 -- how it fails is seen at once
 pub at_once : (kind : Option LinkKind) → is_some (planned_failure kind) ≡ is_at_once kind
@@ -105,7 +119,12 @@ SameCalls m m' = (i : ℕ) → (shown_of m').counts.calls i ≡ (shown_of m).cou
 -- nothing was counted
 pub counts_nothing : (m m' : MemCluster) → SameNodes m.nodes m'.nodes → m'.faults ≡ m.faults → SameCalls m m' → CountsNothing m m'
 counts_nothing m m' rest same asked = record {
-  counts = record { calls = asked; links = ap link_faults_of same; nodes = λ d. ap (λ (p : FaultPlan). node_faults_of p d) same };
+  counts = record {
+    asks = λ i. ap (λ (p : FaultPlan). calls_of p (AsksOf i)) same;
+    calls = asked;
+    links = ap link_faults_of same;
+    nodes = λ d. ap (λ (p : FaultPlan). node_faults_of p d) same;
+  };
   calls = λ s. ap (λ (p : FaultPlan). calls_of p s) same;
   bad = λ link shown. ap (λ (p : FaultPlan). is_bad p link) same;
   there = λ d has. record { there = rest.there d ∙ has.there; counted = ap (λ (p : FaultPlan). has_node p d) same ∙ has.counted };

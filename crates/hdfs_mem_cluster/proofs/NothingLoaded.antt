@@ -58,7 +58,7 @@ pub nothing_loaded : (space space' : Namespace) (settings : MemSettings) (last :
     → ((d : List ℕ) (b link : ℕ) → undisturbed_in nodes' d b link ≡ undisturbed_in nodes d b link)
     → LoadsNothing (shown_at space settings last failures (map line_of items) faults nodes s) (shown_at space' settings last failures (map line_of items') faults nodes' s)
 nothing_loaded space space' settings last failures items items' faults nodes nodes' s lines names kept links = record {
-  rest = record { counts = record { calls = λ i. refl; links = refl; nodes = λ d. refl }; last = refl; namenodes = refl; reads = λ link. refl; writes = λ link. refl };
+  rest = record { counts = record { asks = λ i. refl; calls = λ i. refl; links = refl; nodes = λ d. refl }; last = refl; namenodes = refl; reads = λ link. refl; writes = λ link. refl };
   lines = ap (λ (xs : List Kept). loaded_at settings (map line_of xs)) lines;
   picture = loads_at space space' nodes nodes' settings s kept links;
   files = λ state was. agrees_kept (picture_at space nodes settings s) (picture_at space' nodes' settings s) state kept

@@ -36,7 +36,7 @@ use Rattle.hdfs_mem_cluster.specs.MemShown.{counts_at, failed_calls, namenode_fa
 use Rattle.hdfs_mem_cluster.specs.Responding.{AskComesTo, DoesPlanned, Responds, failed_after, false_answer, has_failed, is_answered, is_failure, own_failure, planned_answer}
 use Rattle.hdfs_mem_datanodes.specs.Nodes.{SameNodes}
 use Rattle.hdfs_mem_namenode.proofs.Answering.{serves_answer}
-use Rattle.hdfs_mem_cluster.proofs.Counting.{nodes_stay, one_more}
+use Rattle.hdfs_mem_cluster.proofs.Counting.{AsksGrow, asks_grow, nodes_stay, one_more}
 use Rattle.hdfs_mem_cluster.proofs.Failing.{fails_if, failed_others, failed_own}
 use Rattle.hdfs_mem_cluster.proofs.Stills.{shown_at}
 
@@ -173,6 +173,8 @@ pub record AskCounts (settings : MemSettings) (i : ℕ) (kind : Option AskKind) 
   pub own : ask_faults_of plan' i ≡ ask_faults_of plan i + one_if (is_answered result && is_some kind)
   pub others : (j : ℕ) → j ≢ i → ask_faults_of plan' j ≡ ask_faults_of plan j
   pub after : calls' ≡ failed_after (own_failure kind result) calls
+  pub grows : AsksGrow plan plan'
+  pub asked : (result ≡ Err faults.NoMemory → ⊥) → Rose (calls_of plan (AsksOf i)) (calls_of plan' (AsksOf i))
   pub nodes : SameNodeFaults plan plan'
   pub links : SameLinks plan plan'
 
@@ -247,6 +249,7 @@ module _ (settings : MemSettings) (i : ℕ) (kind : Option AskKind) (result : Re
   -- no count falls
   pub none_falls : NeverFall (counts_at settings calls plan) (counts_at settings calls' plan')
   none_falls = record {
+    asks = h.grows;
     calls = λ j. ⊎_elim
         (λ same. subst (λ (k : ℕ). namenode_faults settings calls plan k ≤ namenode_faults settings calls' plan' k) (sym same)
         (subst (λ (n : ℕ). namenode_faults settings calls plan i ≤ n) (sym own_rises)
@@ -271,6 +274,7 @@ pub served : (space space' : Namespace) (plan plan' : FaultPlan) (nodes nodes' :
 served space space' plan plan' nodes nodes' settings last last' calls calls' loaded s i ask kind result is counts comes = record {
   later = record { counts = none_falls settings i kind result calls calls' plan plan' counts; namenodes = refl; loaded = refl };
   last = is;
+  asked = counts.asked;
   cause = λ fails. (let planned = failure_planned loaded nodes.count (picture_at space nodes settings s) (picture_at space' nodes' settings s) i ask kind result comes fails in
       rises settings i kind result calls calls' plan plan' counts (failed_as_planned kind result planned.0 planned.1));
   reads = λ link. refl;
@@ -335,6 +339,8 @@ module _ (settings : MemSettings) (i : ℕ) (kind : Option AskKind) (calls : ℕ
         own = h.own ∙ ap (λ (b : Bool). ask_faults_of plan i + one_if b) (planned ∙ ap (λ (b : Bool). b && is_some kind) (sym answered));
         others = h.others;
         after = beside;
+        grows = asks_grow plan plan' (AsksOf i) h.call;
+        asked = λ apart. omega (arith, h.call.own refl);
         nodes = h.nodes;
         links = h.links;
       }
@@ -359,6 +365,8 @@ module _ (settings : MemSettings) (i : ℕ) (kind : Option AskKind) (calls : ℕ
     own = omega (arith, same.asks i);
     others = λ j apart. same.asks j;
     after = sym (ap (λ (b : Bool). failed_after b calls) (unfailed kind));
+    grows = λ j. omega (arith, same.calls (AsksOf j));
+    asked = λ apart. absurd (apart refl);
     nodes = same.nodes;
     links = same.links;
   }

@@ -30,7 +30,7 @@ module _ (space : Namespace) (settings : MemSettings) (last : LastAnswer) (failu
   -- nothing is seen to change
   pub shown_same : items' ≡ items → SameHeld nodes nodes' → SameShown (shown_at space settings last failures (map line_of items) faults nodes s) (shown_at space settings last failures (map line_of items') faults nodes' s)
   shown_same lines same = record {
-    rest = record { counts = record { calls = λ i. refl; links = refl; nodes = λ d. refl }; last = refl; namenodes = refl; reads = λ link. refl; writes = λ link. refl };
+    rest = record { counts = record { asks = λ i. refl; calls = λ i. refl; links = refl; nodes = λ d. refl }; last = refl; namenodes = refl; reads = λ link. refl; writes = λ link. refl };
     lines = ap (λ (xs : List Kept). loaded_at settings (map line_of xs)) lines;
     picture = record {
       rest = record {
@@ -56,7 +56,7 @@ module _ (space : Namespace) (settings : MemSettings) (last : LastAnswer) (failu
       let loaded = map line_of items in
       let more_lines = ap (map line_of) more ∙ map-append line_of items (keeps.Short path k node len ∷ []) in
       record {
-        rest = record { counts = record { calls = λ i. refl; links = refl; nodes = λ d. refl }; last = refl; namenodes = refl; reads = λ link. refl; writes = λ link. refl };
+        rest = record { counts = record { asks = λ i. refl; calls = λ i. refl; links = refl; nodes = λ d. refl }; last = refl; namenodes = refl; reads = λ link. refl; writes = λ link. refl };
         settings = refl;
         lines = more_lines;
         picture = cuts_at space nodes nodes' settings s uuid id len cuts;

@@ -41,7 +41,7 @@ use Rattle.hdfs_mem_cluster.specs.Lines.{line_of}
 use Rattle.hdfs_mem_cluster.specs.Links.{write_place}
 use Rattle.hdfs_mem_cluster.specs.MemShown.{picture_at}
 use Rattle.hdfs_mem_cluster.specs.Writes.{place_of}
-use Rattle.hdfs_mem_cluster.proofs.Counting.{same_namenodes, NoneFalls, nodes_stay, one_more}
+use Rattle.hdfs_mem_cluster.proofs.Counting.{NoneFalls, asks_grow, same_namenodes, nodes_stay, one_more}
 use Rattle.hdfs_mem_cluster.proofs.Packets.{contains_named}
 use Rattle.hdfs_mem_cluster.proofs.Places.{place_same_for}
 use Rattle.hdfs_mem_cluster.proofs.Stills.{shown_at, still_later}
@@ -50,10 +50,10 @@ use Rattle.hdfs_mem_cluster.proofs.Stills.{shown_at, still_later}
 
 -- no count falls
 pub falls_transfer : (old new : FaultPlan) (kind : Option LinkKind) → CountsTransfer old kind new → NoneFalls old new
-falls_transfer old new kind h = record { asks = h.asks; links = omega (arith, h.faults); nodes = λ d. omega (arith, h.nodes d) }
+falls_transfer old new kind h = record { asked = asks_grow old new SetUps h.call; asks = h.asks; links = omega (arith, h.faults); nodes = λ d. omega (arith, h.nodes d) }
 
 -- a transfer fails in whatever way it is planned to
-fails_so : (kind : Option LinkKind) → is_some (planned_transfer_failure kind) ≡ is_some kind
+pub fails_so : (kind : Option LinkKind) → is_some (planned_transfer_failure kind) ≡ is_some kind
 fails_so None = refl
 fails_so (Some kinds.Broken) = refl
 fails_so (Some kinds.Refused) = refl

@@ -38,6 +38,10 @@ impl Cluster for MemCluster {
 
     ghost shown = { shown_of };
 
+    ghost allows = { λ request. Unit {0} };
+
+    ghost keeps_up = { record { state = tt; sync = tt } };
+
     ghost serves = { MemServes };
 
     ghost ends = { λ old link new. WriteEnded (shown_of old) link (shown_of new) };

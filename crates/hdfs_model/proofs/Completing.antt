@@ -26,7 +26,7 @@ both_true false b both = absurd (false≢true both)
 
 options_in : (world : World) (state : State) (path : List ℕ) (command : Command) → are_numbers world.defaults command ≡ true → WritesInLimits state path command → OptionsOut state path command → ⊥
 options_in world state path (commands.Create text options) numbers keeps out = false≢true (sym out ∙ (both_true (are_options options) (are_defaults world.defaults) numbers).0)
-options_in world state path (commands.Write text bytes) numbers keeps out = false≢true (sym out.2 ∙ keeps out.0 out.1)
+options_in world state path (commands.Write text bytes) numbers keeps out = false≢true (sym out.3 ∙ keeps out.0 out.1 out.2)
 options_in world state path (commands.Append text) numbers keeps out = out
 options_in world state path (commands.Close text) numbers keeps out = out
 options_in world state path (commands.Read text offset len) numbers keeps out = out

@@ -8,15 +8,15 @@ use Rattle.hdfs_cluster.specs.declared.asks.AskFault.TheVariants as faults
 use Rattle.hdfs_cluster.specs.declared.errors.HdfsError.{HdfsError}
 use Rattle.hdfs_cluster.specs.declared.errors.HdfsError.TheVariants as errors
 use Rattle.hdfs_cluster.specs.declared.picture.LastAnswer.TheVariants as last_answers
-use Rattle.hdfs_cluster.specs.Failures.{CallsRose}
+use Rattle.hdfs_cluster.specs.Failures.{CallsRose, EachAsked}
 use Rattle.hdfs_cluster.specs.Counts.{Rose, RoseTwice}
 use Rattle.hdfs_cluster.specs.Namenode.{Row, IsFailure, IsShaped, IsFalse, is_taken, last_of}
 use Rattle.hdfs_cluster.specs.Picture.{Picture}
 use Rattle.hdfs_cluster.specs.Repeating.{DoneOrNot, Leaves, Repeats}
 use Rattle.hdfs_cluster.specs.Shown.{Shown, Served}
 use Rattle.hdfs_cluster.proofs.Frames.{same_picture_refl}
-use Rattle.hdfs_cluster.specs.Failover.{AsksInOrder}
-use Rattle.hdfs_cluster.proofs.Framing.{asked_leaves, broken_rose, failure_rose, leaves_refl}
+use Rattle.hdfs_cluster.specs.Failover.{AsksInOrder, passes_on}
+use Rattle.hdfs_cluster.proofs.Framing.{asked_leaves, broken_rose, each_asked, failure_rose, leaves_refl}
 use Rattle.hdfs_cluster.proofs.Relaying.{Comes, asked_told}
 use Rattle.hdfs_namenode.specs.Asked.{Asked, AskedInOrder, IsServiceOf, ReachesAll, Through, error_of, order_of, outcome_of}
 use Rattle.hdfs_namenode.specs.Relaying.{Came, RefusedBy, Relays, RelaysTold, TellsAsk}
@@ -30,21 +30,23 @@ exception_tells old new class message false is last = (tt, ((is, last), tt))
 -- what its last answer tells, where it is a fault
 fault_tells : (old new : Shown) (last : ℕ) (fault : AskFault) → new.last ≡ last_of (Err fault) → last < new.namenodes
     → (IsFailure (Err fault) → Rose (old.counts.calls last) (new.counts.calls last))
-    → (fault ≡ faults.Broken → RoseTwice (old.counts.calls last) (new.counts.calls last)) → TellsAsk old new (error_of last fault)
-fault_tells old new last faults.NoMemory is low rose twice = (tt, (tt, tt))
-fault_tells old new last faults.Broken is low rose twice = (tt, (is, (low, twice refl)))
-fault_tells old new last (faults.BadReply fault) is low rose twice = (tt, (is, (last, low, rose tt)))
-fault_tells old new last (faults.Exception class message) is low rose twice = exception_tells old new class message (is_taken class) refl is
-fault_tells old new last (faults.Fatal class message) is low rose twice = (tt, (is, (last, low, rose tt)))
+    → (fault ≡ faults.Broken → RoseTwice (old.counts.calls last) (new.counts.calls last))
+    → (passes_on (Err fault) ≡ true → EachAsked old.counts new) → TellsAsk old new (error_of last fault)
+fault_tells old new last faults.NoMemory is low rose twice each = (tt, (tt, tt))
+fault_tells old new last faults.Broken is low rose twice each = (tt, (is, (each refl, low, twice refl)))
+fault_tells old new last (faults.BadReply fault) is low rose twice each = (tt, (is, (each refl, (last, low, rose tt))))
+fault_tells old new last (faults.Exception class message) is low rose twice each = exception_tells old new class message (is_taken class) refl is
+fault_tells old new last (faults.Fatal class message) is low rose twice each = (tt, (is, (each refl, (last, low, rose tt))))
 
 relays_given : (old new : Shown) (ask : Ask) (last : ℕ) (given : Result Answer AskFault) → Leaves old new → IfOk given (IsShaped ask) → new.last ≡ last_of given
     → last < new.namenodes → (IsFailure given → Rose (old.counts.calls last) (new.counts.calls last))
-    → (given ≡ Err faults.Broken → RoseTwice (old.counts.calls last) (new.counts.calls last)) → Relays old ask (outcome_of last given) new
-relays_given old new ask last (Ok answer) leaves shaped is low rose twice = record { leaves = leaves; shaped = shaped; tells = tt; fine = is; denied = λ no. (last, low, rose no) }
-relays_given old new ask last (Err fault) leaves shaped is low rose twice = record {
+    → (given ≡ Err faults.Broken → RoseTwice (old.counts.calls last) (new.counts.calls last))
+    → (passes_on given ≡ true → EachAsked old.counts new) → Relays old ask (outcome_of last given) new
+relays_given old new ask last (Ok answer) leaves shaped is low rose twice each = record { leaves = leaves; shaped = shaped; tells = tt; fine = is; denied = λ no. (last, low, rose no) }
+relays_given old new ask last (Err fault) leaves shaped is low rose twice each = record {
   leaves = leaves;
   shaped = tt;
-  tells = fault_tells old new last fault is low rose (λ broken. twice (ap (λ (f : AskFault). Err f) broken));
+  tells = fault_tells old new last fault is low rose (λ broken. twice (ap (λ (f : AskFault). Err f) broken)) each;
   fine = tt;
   denied = tt;
 }
@@ -96,20 +98,23 @@ module _ {C : Type 0} (shown : C → Shown) (serves : C → ℕ → Ask → Resu
       broken_rose shown serves rows ask (order_of old.proxy) last old.cluster new.cluster
       (subst (λ (g : Result Answer AskFault). AsksInOrder serves (order_of old.proxy) ask old.cluster last g new.cluster) broken asks)
 
-  -- of a service whose namenodes are asked in order
-  relayed_in_order : IsServiceOf old.proxy (shown old.cluster) → AskedInOrder serves write ask old outcome new
+  -- of a service that has all namenodes, which are asked in order
+  relayed_in_order : ReachesAll old.proxy (shown old.cluster) → AskedInOrder serves write ask old outcome new
       → Relays (shown old.cluster) ask outcome (shown new.cluster)
-  relayed_in_order of asked =
+  relayed_in_order reaches asked =
+      let of = reaches_service old.proxy (shown old.cluster) reaches in
       let left = asked_leaves shown serves rows ask (order_of old.proxy) asked.last asked.given old.cluster new.cluster asked.asks in
       let low = last_below old.proxy (shown old.cluster) asked.asks.front asked.last asked.asks.left of asked.asks.in_order in
       subst (λ (r : Result Answer HdfsError). Relays (shown old.cluster) ask r (shown new.cluster)) (sym asked.is)
       (relays_given (shown old.cluster) (shown new.cluster) ask asked.last asked.given left.0 asked.shaped left.1 (omega (arith, low, left.0.later.namenodes))
-      (last_rose asked.last asked.given asked.asks) (last_twice asked.last asked.given asked.asks))
+      (last_rose asked.last asked.given asked.asks) (last_twice asked.last asked.given asked.asks)
+      (λ passes i below. each_asked shown serves rows ask (order_of old.proxy) asked.last asked.given old.cluster new.cluster passes asked.asks i
+      (reaches_has old.proxy (shown old.cluster) i reaches (omega (arith, below, left.0.later.namenodes)))))
 
   -- over any cluster
   pub relayed : ReachesAll old.proxy (shown old.cluster) → Asked serves write ask old outcome new → Relays (shown old.cluster) ask outcome (shown new.cluster)
   relayed reaches asked =
-      relayed_in_order (reaches_service old.proxy (shown old.cluster) reaches) (asked_plain serves write ask old outcome new reaches.plain asked)
+      relayed_in_order reaches (asked_plain serves write ask old outcome new reaches.plain asked)
 
   -- what is told of it
   abbrev pub IsTold : Picture → Type 0

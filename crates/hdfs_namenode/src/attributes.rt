@@ -1,5 +1,6 @@
 //! The calls about times, owners, permissions, replication and access control lists.
 ghost use Rattle.std.specs.Prelude.{◌≡◌, true, false, option_copied};
+ghost use Rattle.hdfs_cluster.specs.Requests.{AskOf};
 ghost use Rattle.hdfs_cluster.specs.declared.asks.Ask.TheVariants as asks;
 ghost use Rattle.hdfs_cluster.specs.declared.asks.Answer.TheVariants as answers;
 ghost use Rattle.hdfs_namenode.specs.Asked.{AskedOnce, IsServiceOf, as_answer};
@@ -22,7 +23,8 @@ impl NamenodeProtocol {
         mtime: u64,
         atime: u64,
     ) -> Result<(), HdfsError>
-        requires { IsServiceOf (proxy_of self.old) (C.shown cluster.old) }
+        requires service { IsServiceOf (proxy_of self.old) (C.shown cluster.old) }
+        requires allowed { C.allows (AskOf (asks.SetTimes src.now mtime atime)) }
         ensures asked { AskedOnce C.serves true (asks.SetTimes src.now mtime atime) (through self.old cluster.old)
             (as_answer (λ _. answers.SetTimes) result) (through self.new cluster.new) }
         ensures keeps { SameClient self.old self.new }
@@ -44,7 +46,9 @@ impl NamenodeProtocol {
         username: Option<&str>,
         groupname: Option<&str>,
     ) -> Result<(), HdfsError>
-        requires { IsServiceOf (proxy_of self.old) (C.shown cluster.old) }
+        requires service { IsServiceOf (proxy_of self.old) (C.shown cluster.old) }
+        requires allowed { C.allows (AskOf
+            (asks.SetOwner src.now (option_copied username) (option_copied groupname))) }
         ensures asked { AskedOnce C.serves true (asks.SetOwner src.now (option_copied username.entry) (option_copied groupname.entry))
             (through self.old cluster.old) (as_answer (λ _. answers.SetOwner) result) (through self.new cluster.new) }
         ensures keeps { SameClient self.old self.new }
@@ -65,7 +69,8 @@ impl NamenodeProtocol {
         src: &str,
         permission: u32,
     ) -> Result<(), HdfsError>
-        requires { IsServiceOf (proxy_of self.old) (C.shown cluster.old) }
+        requires service { IsServiceOf (proxy_of self.old) (C.shown cluster.old) }
+        requires allowed { C.allows (AskOf (asks.SetPermission src.now permission)) }
         ensures asked { AskedOnce C.serves true (asks.SetPermission src.now permission) (through self.old cluster.old)
             (as_answer (λ _. answers.SetPermission) result) (through self.new cluster.new) }
         ensures keeps { SameClient self.old self.new }
@@ -85,7 +90,8 @@ impl NamenodeProtocol {
         src: &str,
         replication: u32,
     ) -> Result<bool, HdfsError>
-        requires { IsServiceOf (proxy_of self.old) (C.shown cluster.old) }
+        requires service { IsServiceOf (proxy_of self.old) (C.shown cluster.old) }
+        requires allowed { C.allows (AskOf (asks.SetReplication src.now replication)) }
         ensures asked { AskedOnce C.serves true (asks.SetReplication src.now replication) (through self.old cluster.old)
             (as_answer answers.SetReplication result) (through self.new cluster.new) }
         ensures keeps { SameClient self.old self.new }
@@ -110,7 +116,8 @@ impl NamenodeProtocol {
         src: &str,
         acl_spec: &[AclEntryMsg],
     ) -> Result<(), HdfsError>
-        requires { IsServiceOf (proxy_of self.old) (C.shown cluster.old) }
+        requires service { IsServiceOf (proxy_of self.old) (C.shown cluster.old) }
+        requires allowed { C.allows (AskOf (asks.ModifyAclEntries src.now acl_spec.now)) }
         ensures asked { AskedOnce C.serves true (asks.ModifyAclEntries src.now acl_spec.now) (through self.old cluster.old)
             (as_answer (λ _. answers.ModifyAclEntries) result) (through self.new cluster.new) }
         ensures keeps { SameClient self.old self.new }
@@ -130,7 +137,8 @@ impl NamenodeProtocol {
         src: &str,
         acl_spec: &[AclEntryMsg],
     ) -> Result<(), HdfsError>
-        requires { IsServiceOf (proxy_of self.old) (C.shown cluster.old) }
+        requires service { IsServiceOf (proxy_of self.old) (C.shown cluster.old) }
+        requires allowed { C.allows (AskOf (asks.RemoveAclEntries src.now acl_spec.now)) }
         ensures asked { AskedOnce C.serves true (asks.RemoveAclEntries src.now acl_spec.now) (through self.old cluster.old)
             (as_answer (λ _. answers.RemoveAclEntries) result) (through self.new cluster.new) }
         ensures keeps { SameClient self.old self.new }
@@ -149,7 +157,8 @@ impl NamenodeProtocol {
         cluster: &mut C,
         src: &str,
     ) -> Result<(), HdfsError>
-        requires { IsServiceOf (proxy_of self.old) (C.shown cluster.old) }
+        requires service { IsServiceOf (proxy_of self.old) (C.shown cluster.old) }
+        requires allowed { C.allows (AskOf (asks.RemoveDefaultAcl src.now)) }
         ensures asked { AskedOnce C.serves true (asks.RemoveDefaultAcl src.now) (through self.old cluster.old)
             (as_answer (λ _. answers.RemoveDefaultAcl) result) (through self.new cluster.new) }
         ensures keeps { SameClient self.old self.new }
@@ -163,7 +172,8 @@ impl NamenodeProtocol {
 
     /// Takes all entries out of it, but those that stand for the permission bits.
     pub fn remove_acl<C: Cluster>(&mut self, cluster: &mut C, src: &str) -> Result<(), HdfsError>
-        requires { IsServiceOf (proxy_of self.old) (C.shown cluster.old) }
+        requires service { IsServiceOf (proxy_of self.old) (C.shown cluster.old) }
+        requires allowed { C.allows (AskOf (asks.RemoveAcl src.now)) }
         ensures asked { AskedOnce C.serves true (asks.RemoveAcl src.now) (through self.old cluster.old)
             (as_answer (λ _. answers.RemoveAcl) result) (through self.new cluster.new) }
         ensures keeps { SameClient self.old self.new }
@@ -182,7 +192,8 @@ impl NamenodeProtocol {
         src: &str,
         acl_spec: &[AclEntryMsg],
     ) -> Result<(), HdfsError>
-        requires { IsServiceOf (proxy_of self.old) (C.shown cluster.old) }
+        requires service { IsServiceOf (proxy_of self.old) (C.shown cluster.old) }
+        requires allowed { C.allows (AskOf (asks.SetAcl src.now acl_spec.now)) }
         ensures asked { AskedOnce C.serves true (asks.SetAcl src.now acl_spec.now) (through self.old cluster.old)
             (as_answer (λ _. answers.SetAcl) result) (through self.new cluster.new) }
         ensures keeps { SameClient self.old self.new }
@@ -201,7 +212,8 @@ impl NamenodeProtocol {
         cluster: &mut C,
         src: &str,
     ) -> Result<AclStatusMsg, HdfsError>
-        requires { IsServiceOf (proxy_of self.old) (C.shown cluster.old) }
+        requires service { IsServiceOf (proxy_of self.old) (C.shown cluster.old) }
+        requires allowed { C.allows (AskOf (asks.GetAclStatus src.now)) }
         ensures asked { AskedOnce C.serves false (asks.GetAclStatus src.now) (through self.old cluster.old)
             (as_answer answers.GetAclStatus result) (through self.new cluster.new) }
         ensures keeps { SameClient self.old self.new }

@@ -1,5 +1,6 @@
 //! The key by which a client encrypts data on its way to datanodes.
 ghost use Rattle.std.specs.Prelude.{◌≡◌, ◌+◌, ◌<◌, ◌↔◌, ℕ, true, false, Some, None, Ok, IfSome, IsTrue};
+ghost use Rattle.hdfs_cluster.specs.Requests.{AskOf};
 ghost use Rattle.hdfs_cluster.specs.declared.asks.Ask.TheVariants as asks;
 ghost use Rattle.hdfs_cluster.specs.declared.asks.Answer.TheVariants as answers;
 ghost use Rattle.hdfs_namenode.specs.Asked.{Asked, IsServiceOf, as_answer};
@@ -26,7 +27,8 @@ impl NamenodeProtocol {
         &mut self,
         cluster: &mut C,
     ) -> Result<Option<EncryptionKey>, HdfsError>
-        requires { IsServiceOf (proxy_of self.old) (C.shown cluster.old) }
+        requires service { IsServiceOf (proxy_of self.old) (C.shown cluster.old) }
+        requires allowed { C.allows (AskOf asks.GetDataEncryptionKey) }
         ensures asked { Asked C.serves false asks.GetDataEncryptionKey (through self.old cluster.old)
             (as_answer answers.GetDataEncryptionKey result) (through self.new cluster.new) }
         ensures keeps { SameClient self.old self.new }
@@ -48,7 +50,8 @@ impl NamenodeProtocol {
         cluster: &mut C,
         moment: u64,
     ) -> Result<Option<EncryptionKey>, HdfsError>
-        requires { IsServiceOf (proxy_of self.old) (C.shown cluster.old) }
+        requires service { IsServiceOf (proxy_of self.old) (C.shown cluster.old) }
+        requires allowed { C.allows (AskOf asks.GetServerDefaults) × C.allows (AskOf asks.GetDataEncryptionKey) }
         ensures plain { IfSome (defaults_of self.old) (λ defaults. defaults.encrypt_data_transfer ≡ false
             → (result ≡ Ok None) × (self.new ≡ self.old) × (cluster.new ≡ cluster.old)) }
         ensures lasts { IfSome (defaults_of self.old) (λ defaults. defaults.encrypt_data_transfer ≡ true
@@ -73,7 +76,8 @@ impl NamenodeProtocol {
         moment: u64,
         defaults: ServerDefaults,
     ) -> Result<Option<EncryptionKey>, HdfsError>
-        requires { IsServiceOf (proxy_of self.old) (C.shown cluster.old) }
+        requires service { IsServiceOf (proxy_of self.old) (C.shown cluster.old) }
+        requires allowed { C.allows (AskOf asks.GetDataEncryptionKey) }
         ensures plain { defaults.encrypt_data_transfer ≡ false
             → (result ≡ Ok None) × (self.new ≡ self.old) × (cluster.new ≡ cluster.old) }
         ensures lasts { defaults.encrypt_data_transfer ≡ true → IsLasting moment (key_of self.old)

@@ -1,10 +1,11 @@
 //! The leases of the files that a client is writing, and their renewal.
 ghost use Rattle.std.specs.Prelude.{◌≡◌, ◌≢◌, ℕ, ◌+◌, ◌-◌, ◌/◌, ◌<◌, ◌≤◌, true, Some, None, Ok, OnOk, OnErr};
 ghost use Rattle.hdfs_leases.specs.Leases.{held, last_of, IsIdle, HoldsSame, HoldsSameBut};
+ghost use Rattle.hdfs_cluster.specs.Requests.{AskOf};
 ghost use Rattle.hdfs_cluster.specs.declared.asks.Ask.TheVariants as asks;
 ghost use Rattle.hdfs_cluster.specs.declared.asks.Answer.TheVariants as answers;
 ghost use Rattle.hdfs_namenode.specs.Asked.{AskedOnce, IsServiceOf, as_answer};
-ghost use Rattle.hdfs_namenode.specs.Renewing.{Renews, turn_of};
+ghost use Rattle.hdfs_namenode.specs.Renewing.{LetsRenew, Renews, turn_of};
 ghost use Rattle.hdfs_namenode.specs.declared.leases.LeaseTurn.TheVariants.{Idle, Waiting};
 
 use crate::protocol::NamenodeProtocol;
@@ -46,7 +47,8 @@ impl NamenodeProtocol {
         cluster: &mut C,
         namespaces: &[Text],
     ) -> Result<(), HdfsError>
-        requires { IsServiceOf (proxy_of self.old) (C.shown cluster.old) }
+        requires service { IsServiceOf (proxy_of self.old) (C.shown cluster.old) }
+        requires allowed { C.allows (AskOf (asks.RenewLease (name_of self.old) namespaces.now)) }
         ensures asked { AskedOnce C.serves true (asks.RenewLease (name_of self.old) namespaces.now) (through self.old cluster.old)
             (as_answer (λ _. answers.RenewLease) result) (through self.new cluster.new) }
         ensures keeps { SameClient self.old self.new }
@@ -94,7 +96,8 @@ impl NamenodeProtocol {
         cluster: &mut C,
         moment: u64,
     ) -> Result<LeaseTurn, HdfsError>
-        requires { IsServiceOf (proxy_of self.old) (C.shown cluster.old) }
+        requires service { IsServiceOf (proxy_of self.old) (C.shown cluster.old) }
+        requires allowed { LetsRenew C.allows (name_of self.old) }
         ensures idle { IsIdle (leases_of self.old) → (result ≡ Ok Idle) × (last_of (leases_of self.new) ≡ None)
             × (through self.new cluster.new ≡ through self.old cluster.old) }
         ensures first { ¬ IsIdle (leases_of self.old) → last_of (leases_of self.old) ≡ None → (result ≡ Ok Waiting)
@@ -117,7 +120,8 @@ impl NamenodeProtocol {
 
     /// Renews the leases at a moment.
     fn renew<C: Cluster>(&mut self, cluster: &mut C, moment: u64) -> Result<LeaseTurn, HdfsError>
-        requires { IsServiceOf (proxy_of self.old) (C.shown cluster.old) }
+        requires service { IsServiceOf (proxy_of self.old) (C.shown cluster.old) }
+        requires allowed { LetsRenew C.allows (name_of self.old) }
         ensures renews { (last : ℕ) → last_of (leases_of self.old) ≡ Some last → Renews C.serves moment last (name_of self.old)
             (leases_of self.old) (through self.old cluster.old) result (last_of (leases_of self.new)) (through self.new cluster.new) }
         ensures held { HoldsSame (leases_of self.old) (leases_of self.new) }

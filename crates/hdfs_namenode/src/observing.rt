@@ -1,6 +1,7 @@
 //! Namenodes that are brought into step, and observers, which answer reads.
 ghost use Rattle.std.specs.Prelude.{◌≡◌, ◌+◌, ◌<◌, true, IfErr, IfOk, IfSome};
 ghost use Rattle.hdfs_cluster.specs.Namenode.{IsShaped};
+ghost use Rattle.hdfs_cluster.specs.Requests.{AskOf};
 ghost use Rattle.hdfs_cluster.specs.Shown.{Later};
 ghost use Rattle.hdfs_cluster.specs.declared.asks.Ask.TheVariants as asks;
 ghost use Rattle.hdfs_cluster.specs.declared.errors.HdfsError.TheVariants as errors;
@@ -54,7 +55,8 @@ impl NameServiceProxy {
         ask: &Ask,
         write: bool,
     ) -> Result<Option<Answer>, HdfsError>
-        requires { IsServiceOf self.old (C.shown cluster.old) }
+        requires service { IsServiceOf self.old (C.shown cluster.old) }
+        requires allowed { C.allows (AskOf ask.now) }
         ensures asked { InStep C.serves write ask.now (record { cluster = cluster.old; proxy = self.old }) result
             (record { cluster = cluster.new; proxy = self.new }) }
         ensures shape { IfOk result (λ answer. IfSome answer (IsShaped ask.now)) }
@@ -75,6 +77,7 @@ impl NameServiceProxy {
         ask: &Ask,
     ) -> Result<Option<Answer>, HdfsError>
         requires service { IsServiceOf self.old (C.shown cluster.old) }
+        requires allowed { C.allows (AskOf ask.now) }
         requires observes { self.old.find_observer ≡ true }
         ensures asked { ByObserver C.serves ask.now (record { cluster = cluster.old; proxy = self.old }) result
             (record { cluster = cluster.new; proxy = self.new }) }

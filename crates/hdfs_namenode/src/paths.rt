@@ -1,5 +1,6 @@
 //! The calls about what stands at paths: look-ups, and changes of names.
 ghost use Rattle.std.specs.Prelude.{◌≡◌, true, false};
+ghost use Rattle.hdfs_cluster.specs.Requests.{AskOf};
 ghost use Rattle.hdfs_cluster.specs.declared.asks.Ask.TheVariants as asks;
 ghost use Rattle.hdfs_cluster.specs.declared.asks.Answer.TheVariants as answers;
 ghost use Rattle.hdfs_namenode.specs.Asked.{AskedOnce, IsServiceOf, ReachesAll, as_answer};
@@ -22,7 +23,8 @@ impl NamenodeProtocol {
         offset: u64,
         length: u64,
     ) -> Result<Option<LocatedBlocks>, HdfsError>
-        requires { IsServiceOf (proxy_of self.old) (C.shown cluster.old) }
+        requires service { IsServiceOf (proxy_of self.old) (C.shown cluster.old) }
+        requires allowed { C.allows (AskOf (asks.GetBlockLocations src.now offset length)) }
         ensures asked { AskedOnce C.serves false (asks.GetBlockLocations src.now offset length) (through self.old cluster.old)
             (as_answer answers.GetBlockLocations result) (through self.new cluster.new) }
         ensures came { ReachesAll (proxy_of self.old) (C.shown cluster.old) → Came (C.shown cluster.old)
@@ -49,7 +51,8 @@ impl NamenodeProtocol {
         cluster: &mut C,
         src: &str,
     ) -> Result<Option<FileStatusMsg>, HdfsError>
-        requires { IsServiceOf (proxy_of self.old) (C.shown cluster.old) }
+        requires service { IsServiceOf (proxy_of self.old) (C.shown cluster.old) }
+        requires allowed { C.allows (AskOf (asks.GetFileInfo src.now)) }
         ensures asked { AskedOnce C.serves false (asks.GetFileInfo src.now) (through self.old cluster.old)
             (as_answer answers.GetFileInfo result) (through self.new cluster.new) }
         ensures keeps { SameClient self.old self.new }
@@ -73,7 +76,8 @@ impl NamenodeProtocol {
         start_after: &[u8],
         need_location: bool,
     ) -> Result<Option<DirList>, HdfsError>
-        requires { IsServiceOf (proxy_of self.old) (C.shown cluster.old) }
+        requires service { IsServiceOf (proxy_of self.old) (C.shown cluster.old) }
+        requires allowed { C.allows (AskOf (asks.GetListing src.now start_after.now need_location)) }
         ensures asked { AskedOnce C.serves false (asks.GetListing src.now start_after.now need_location) (through self.old cluster.old)
             (as_answer answers.GetListing result) (through self.new cluster.new) }
         ensures keeps { SameClient self.old self.new }
@@ -96,7 +100,8 @@ impl NamenodeProtocol {
         cluster: &mut C,
         path: &str,
     ) -> Result<Summary, HdfsError>
-        requires { IsServiceOf (proxy_of self.old) (C.shown cluster.old) }
+        requires service { IsServiceOf (proxy_of self.old) (C.shown cluster.old) }
+        requires allowed { C.allows (AskOf (asks.GetContentSummary path.now)) }
         ensures asked { AskedOnce C.serves false (asks.GetContentSummary path.now) (through self.old cluster.old)
             (as_answer answers.GetContentSummary result) (through self.new cluster.new) }
         ensures keeps { SameClient self.old self.new }
@@ -122,7 +127,8 @@ impl NamenodeProtocol {
         masked: u32,
         create_parent: bool,
     ) -> Result<bool, HdfsError>
-        requires { IsServiceOf (proxy_of self.old) (C.shown cluster.old) }
+        requires service { IsServiceOf (proxy_of self.old) (C.shown cluster.old) }
+        requires allowed { C.allows (AskOf (asks.Mkdirs src.now masked create_parent)) }
         ensures asked { AskedOnce C.serves true (asks.Mkdirs src.now masked create_parent) (through self.old cluster.old)
             (as_answer answers.Mkdirs result) (through self.new cluster.new) }
         ensures keeps { SameClient self.old self.new }
@@ -149,7 +155,8 @@ impl NamenodeProtocol {
         dst: &str,
         overwrite_dest: bool,
     ) -> Result<(), HdfsError>
-        requires { IsServiceOf (proxy_of self.old) (C.shown cluster.old) }
+        requires service { IsServiceOf (proxy_of self.old) (C.shown cluster.old) }
+        requires allowed { C.allows (AskOf (asks.Rename src.now dst.now overwrite_dest)) }
         ensures asked { AskedOnce C.serves true (asks.Rename src.now dst.now overwrite_dest) (through self.old cluster.old)
             (as_answer (λ _. answers.Rename) result) (through self.new cluster.new) }
         ensures keeps { SameClient self.old self.new }
@@ -171,7 +178,8 @@ impl NamenodeProtocol {
         src: &str,
         recursive: bool,
     ) -> Result<bool, HdfsError>
-        requires { IsServiceOf (proxy_of self.old) (C.shown cluster.old) }
+        requires service { IsServiceOf (proxy_of self.old) (C.shown cluster.old) }
+        requires allowed { C.allows (AskOf (asks.Delete src.now recursive)) }
         ensures asked { AskedOnce C.serves true (asks.Delete src.now recursive) (through self.old cluster.old)
             (as_answer answers.Delete result) (through self.new cluster.new) }
         ensures came { ReachesAll (proxy_of self.old) (C.shown cluster.old) → Came (C.shown cluster.old)

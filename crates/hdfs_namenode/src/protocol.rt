@@ -2,6 +2,7 @@
 ghost use Rattle.std.specs.Prelude.{◌≡◌, ◌↔◌, false, Some, None, Ok, IfOk, IfSome, IsTrue, OnErr};
 ghost use Rattle.hdfs_leases.specs.Leases.{IsIdle, last_of};
 ghost use Rattle.hdfs_cluster.specs.Namenode.{IsShaped};
+ghost use Rattle.hdfs_cluster.specs.Requests.{AskOf};
 ghost use Rattle.hdfs_cluster.specs.declared.asks.Ask.TheVariants as asks;
 ghost use Rattle.hdfs_cluster.specs.declared.asks.Answer.TheVariants as answers;
 ghost use Rattle.hdfs_namenode.specs.Asked.{Asked, IsServiceOf, ReachesAll, SameService, as_answer};
@@ -85,7 +86,8 @@ impl NamenodeProtocol {
         ask: Ask,
         write: bool,
     ) -> Result<Answer, HdfsError>
-        requires { IsServiceOf (proxy_of self.old) (C.shown cluster.old) }
+        requires service { IsServiceOf (proxy_of self.old) (C.shown cluster.old) }
+        requires allowed { C.allows (AskOf ask) }
         ensures asked { Asked C.serves write ask (through self.old cluster.old) result (through self.new cluster.new) }
         ensures came { ReachesAll (proxy_of self.old) (C.shown cluster.old)
             → Came (C.shown cluster.old) ask result (C.shown cluster.new) }
@@ -102,7 +104,8 @@ impl NamenodeProtocol {
         &mut self,
         cluster: &mut C,
     ) -> Result<ServerDefaults, HdfsError>
-        requires { IsServiceOf (proxy_of self.old) (C.shown cluster.old) }
+        requires service { IsServiceOf (proxy_of self.old) (C.shown cluster.old) }
+        requires allowed { C.allows (AskOf asks.GetServerDefaults) }
         ensures asked { Asked C.serves false asks.GetServerDefaults (through self.old cluster.old)
             (as_answer answers.GetServerDefaults result) (through self.new cluster.new) }
         ensures came { ReachesAll (proxy_of self.old) (C.shown cluster.old) → Came (C.shown cluster.old)
@@ -123,7 +126,8 @@ impl NamenodeProtocol {
         &mut self,
         cluster: &mut C,
     ) -> Result<ServerDefaults, HdfsError>
-        requires { IsServiceOf (proxy_of self.old) (C.shown cluster.old) }
+        requires service { IsServiceOf (proxy_of self.old) (C.shown cluster.old) }
+        requires allowed { C.allows (AskOf asks.GetServerDefaults) }
         ensures known { IfSome (defaults_of self.old) (λ kept. (result ≡ Ok kept) × (cluster.new ≡ cluster.old) × (self.new ≡ self.old)) }
         ensures asked { defaults_of self.old ≡ None → Asked C.serves false asks.GetServerDefaults (through self.old cluster.old)
             (as_answer answers.GetServerDefaults result) (through self.new cluster.new) }

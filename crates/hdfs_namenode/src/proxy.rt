@@ -2,6 +2,7 @@
 ghost use Rattle.std.specs.Prelude.{◌≡◌, ◌+◌, ◌≤◌, ◌<◌, ◌↔◌, IfErr, IfOk, IfSome, IsTrue};
 ghost use Rattle.hdfs_cluster.specs.Failover.{AsksInOrder, AsksOne};
 ghost use Rattle.hdfs_cluster.specs.Namenode.{IsShaped};
+ghost use Rattle.hdfs_cluster.specs.Requests.{AskOf};
 ghost use Rattle.hdfs_cluster.specs.Shown.{Later};
 ghost use Rattle.hdfs_namenode.specs.Asked.{Asked, AskedInOrder, IsNew, IsServiceOf, ReachesAll, SameService, order_of, remembers};
 ghost use Rattle.hdfs_namenode.specs.Relaying.{HasNoAnswer, LacksAnswer};
@@ -91,7 +92,8 @@ impl NameServiceProxy {
         ask: &Ask,
         write: bool,
     ) -> Result<Answer, HdfsError>
-        requires { IsServiceOf self.old (C.shown cluster.old) }
+        requires service { IsServiceOf self.old (C.shown cluster.old) }
+        requires allowed { C.allows (AskOf ask.now) }
         ensures asked { Asked C.serves write ask.now (record { cluster = cluster.old; proxy = self.old }) result
             (record { cluster = cluster.new; proxy = self.new }) }
         ensures shape { IfOk result (IsShaped ask.now) }
@@ -113,7 +115,8 @@ impl NameServiceProxy {
         ask: &Ask,
         write: bool,
     ) -> Result<Answer, HdfsError>
-        requires { IsServiceOf self.old (C.shown cluster.old) }
+        requires service { IsServiceOf self.old (C.shown cluster.old) }
+        requires allowed { C.allows (AskOf ask.now) }
         ensures asked { AskedInOrder C.serves write ask.now (record { cluster = cluster.old; proxy = self.old }) result
             (record { cluster = cluster.new; proxy = self.new }) }
         ensures shape { IfOk result (IsShaped ask.now) }
@@ -132,7 +135,8 @@ impl NameServiceProxy {
         cluster: &mut C,
         ask: &Ask,
     ) -> (u32, Result<Answer, AskFault>)
-        requires { IsServiceOf self.now (C.shown cluster.old) }
+        requires service { IsServiceOf self.now (C.shown cluster.old) }
+        requires allowed { C.allows (AskOf ask.now) }
         ensures asked { AsksInOrder C.serves (order_of self.now) ask.now cluster.old result.0 result.1 cluster.new }
         ensures shaped { IfOk result.1 (IsShaped ask.now) }
         ensures from { self.now.first ≤ result.0 }
@@ -177,7 +181,8 @@ impl NameServiceProxy {
 
 /// Asks this namenode, and once more where its connection broke.
 fn ask_one<C: Cluster>(cluster: &mut C, i: u32, ask: &Ask) -> Result<Answer, AskFault>
-    requires { i < (C.shown cluster.old).namenodes }
+    requires one { i < (C.shown cluster.old).namenodes }
+    requires allowed { C.allows (AskOf ask.now) }
     ensures asks { AsksOne C.serves i ask.now cluster.old result cluster.new }
     ensures shaped { IfOk result (IsShaped ask.now) }
     ensures namenodes { (C.shown cluster.new).namenodes ≡ (C.shown cluster.old).namenodes }

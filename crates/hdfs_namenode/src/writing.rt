@@ -2,6 +2,7 @@
 ghost use Rattle.std.specs.Prelude.{◌≡◌, true, IfOk, IfSome, option_copied};
 ghost use Rattle.hdfs_cluster.specs.Effects.{HasOneMore};
 ghost use Rattle.hdfs_cluster.specs.Namenode.{IsToWrite};
+ghost use Rattle.hdfs_cluster.specs.Requests.{AskOf};
 ghost use Rattle.hdfs_cluster.specs.declared.asks.Ask.TheVariants as asks;
 ghost use Rattle.hdfs_cluster.specs.declared.asks.Answer.TheVariants as answers;
 ghost use Rattle.hdfs_namenode.specs.Asked.{AskedOnce, IsServiceOf, ReachesAll, as_answer};
@@ -31,7 +32,9 @@ impl NamenodeProtocol {
         replication: u32,
         block_size: u64,
     ) -> Result<Option<FileStatusMsg>, HdfsError>
-        requires { IsServiceOf (proxy_of self.old) (C.shown cluster.old) }
+        requires service { IsServiceOf (proxy_of self.old) (C.shown cluster.old) }
+        requires allowed { C.allows (AskOf
+            (asks.Create src.now masked (name_of self.old) create_flag create_parent replication block_size)) }
         ensures asked { AskedOnce C.serves true
             (asks.Create src.now masked (name_of self.old) create_flag create_parent replication block_size)
             (through self.old cluster.old) (as_answer answers.Create result) (through self.new cluster.new) }
@@ -64,7 +67,8 @@ impl NamenodeProtocol {
         src: &str,
         flag: u32,
     ) -> Result<Appended, HdfsError>
-        requires { IsServiceOf (proxy_of self.old) (C.shown cluster.old) }
+        requires service { IsServiceOf (proxy_of self.old) (C.shown cluster.old) }
+        requires allowed { C.allows (AskOf (asks.Append src.now (name_of self.old) flag)) }
         ensures asked { AskedOnce C.serves true (asks.Append src.now (name_of self.old) flag) (through self.old cluster.old)
             (as_answer answers.Append result) (through self.new cluster.new) }
         ensures came { ReachesAll (proxy_of self.old) (C.shown cluster.old) → Came (C.shown cluster.old)
@@ -95,7 +99,9 @@ impl NamenodeProtocol {
         excludes: &[DatanodeInfo],
         file_id: Option<u64>,
     ) -> Result<LocatedBlock, HdfsError>
-        requires { IsServiceOf (proxy_of self.old) (C.shown cluster.old) }
+        requires service { IsServiceOf (proxy_of self.old) (C.shown cluster.old) }
+        requires allowed { C.allows (AskOf
+            (asks.AddBlock src.now (name_of self.old) (option_copied previous) excludes.now file_id)) }
         ensures asked { AskedOnce C.serves true
             (asks.AddBlock src.now (name_of self.old) (option_copied previous.entry) excludes.now file_id)
             (through self.old cluster.old) (as_answer answers.AddBlock result) (through self.new cluster.new) }
@@ -121,7 +127,9 @@ impl NamenodeProtocol {
         last: Option<&Block>,
         file_id: Option<u64>,
     ) -> Result<bool, HdfsError>
-        requires { IsServiceOf (proxy_of self.old) (C.shown cluster.old) }
+        requires service { IsServiceOf (proxy_of self.old) (C.shown cluster.old) }
+        requires allowed { C.allows (AskOf
+            (asks.Complete src.now (name_of self.old) (option_copied last) file_id)) }
         ensures asked { AskedOnce C.serves true (asks.Complete src.now (name_of self.old) (option_copied last.entry) file_id)
             (through self.old cluster.old) (as_answer answers.Complete result) (through self.new cluster.new) }
         ensures came { ReachesAll (proxy_of self.old) (C.shown cluster.old) → Came (C.shown cluster.old)
@@ -147,7 +155,8 @@ impl NamenodeProtocol {
         cluster: &mut C,
         block: &Block,
     ) -> Result<LocatedBlock, HdfsError>
-        requires { IsServiceOf (proxy_of self.old) (C.shown cluster.old) }
+        requires service { IsServiceOf (proxy_of self.old) (C.shown cluster.old) }
+        requires allowed { C.allows (AskOf (asks.UpdateBlockForPipeline block.now (name_of self.old))) }
         ensures asked { AskedOnce C.serves true (asks.UpdateBlockForPipeline block.now (name_of self.old)) (through self.old cluster.old)
             (as_answer answers.UpdateBlockForPipeline result) (through self.new cluster.new) }
         ensures came { ReachesAll (proxy_of self.old) (C.shown cluster.old) → Came (C.shown cluster.old)
@@ -179,7 +188,10 @@ impl NamenodeProtocol {
         num_additional_nodes: u32,
         existing_storage_uuids: &[Text],
     ) -> Result<LocatedBlock, HdfsError>
-        requires { IsServiceOf (proxy_of self.old) (C.shown cluster.old) }
+        requires service { IsServiceOf (proxy_of self.old) (C.shown cluster.old) }
+        requires allowed { C.allows (AskOf
+            (asks.GetAdditionalDatanode src.now blk.now existings.now excludes.now num_additional_nodes
+            (name_of self.old) existing_storage_uuids.now)) }
         ensures asked { AskedOnce C.serves true (asks.GetAdditionalDatanode src.now blk.now existings.now excludes.now num_additional_nodes
             (name_of self.old) existing_storage_uuids.now) (through self.old cluster.old)
             (as_answer answers.GetAdditionalDatanode result) (through self.new cluster.new) }
@@ -216,7 +228,9 @@ impl NamenodeProtocol {
         new_nodes: &[DatanodeId],
         storage_ids: &[Text],
     ) -> Result<(), HdfsError>
-        requires { IsServiceOf (proxy_of self.old) (C.shown cluster.old) }
+        requires service { IsServiceOf (proxy_of self.old) (C.shown cluster.old) }
+        requires allowed { C.allows (AskOf
+            (asks.UpdatePipeline (name_of self.old) old_block.now new_block.now new_nodes.now storage_ids.now)) }
         ensures asked { AskedOnce C.serves true (asks.UpdatePipeline (name_of self.old) old_block.now new_block.now new_nodes.now
             storage_ids.now) (through self.old cluster.old) (as_answer (λ _. answers.UpdatePipeline) result) (through self.new cluster.new) }
         ensures came { ReachesAll (proxy_of self.old) (C.shown cluster.old) → Came (C.shown cluster.old)

@@ -1,5 +1,6 @@
 pub mod Added
 pub mod Adding
+pub mod Allowed
 pub mod Asks
 pub mod Attempting
 pub mod Choosing

@@ -34,7 +34,7 @@ use Rattle.hdfs_rebuild.proofs.Adding.{one_more_long}
 use Rattle.hdfs_rebuild.proofs.Leaving.{left_or_failed, left_plan, waits_for_left}
 use Rattle.hdfs_rebuild.proofs.Stepping.{failed_behind, help_failed_before, keeps_links_trans, only_block_of_trans, tells_since, touches_behind, touches_by, waits_on_trans}
 
-keeps_plan_trans : (a b c : BlockPlan) → KeepsPlan a b → KeepsPlan b c → KeepsPlan a c
+pub keeps_plan_trans : (a b c : BlockPlan) → KeepsPlan a b → KeepsPlan b c → KeepsPlan a c
 keeps_plan_trans a b c f g = record {
   src = g.src ∙ f.src;
   pool = g.pool ∙ f.pool;
@@ -51,13 +51,13 @@ keeps_plan_refl a = record { src = refl; pool = refl; id = refl; length = refl; 
 keeps_with_nodes : (a : BlockPlan) (located : LocatedBlock) → KeepsPlan a (with_nodes a located)
 keeps_with_nodes a located = record { src = refl; pool = refl; id = refl; length = refl; replication = refl; created = refl; chunk = refl }
 
-keeps_with_stamp : (a : BlockPlan) (stamp : ℕ) (token : Token) → KeepsPlan a (with_stamp a stamp token)
+pub keeps_with_stamp : (a : BlockPlan) (stamp : ℕ) (token : Token) → KeepsPlan a (with_stamp a stamp token)
 keeps_with_stamp a stamp token = record { src = refl; pool = refl; id = refl; length = refl; replication = refl; created = refl; chunk = refl }
 
 to_write_with_stamp : (a : BlockPlan) (stamp : ℕ) (token : Token) → IsToWrite a.block → IsToWrite (with_stamp a stamp token).block
 to_write_with_stamp a stamp token w = record { some = w.some; few = w.few; types = w.types; ids = w.ids; below = w.below }
 
-keeps_going_on : (settings : RebuildSettings) (a b : BlockPlan) (old new : Shown) → GoesOnWith a settings old b new
+pub keeps_going_on : (settings : RebuildSettings) (a b : BlockPlan) (old new : Shown) → GoesOnWith a settings old b new
     → KeepsPlan a b × (b.rebuilds ≡ a.rebuilds)
 keeps_going_on settings a b old new (inl alone) =
     (subst (KeepsPlan a) (sym alone.1) (keeps_plan_refl a), ap (λ (x : BlockPlan). x.rebuilds) alone.1)

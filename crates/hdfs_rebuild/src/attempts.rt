@@ -1,8 +1,10 @@
 //! Rebuilds a pipeline after datanodes of it have failed.
 
-ghost use Rattle.std.specs.Prelude.{◌≡◌, ◌<◌, ◌≤◌, ◌++◌, ◌^◌, [], Some, None, IsSome, IfOk, IfErr, length};
+ghost use Rattle.std.specs.Prelude.{◌≡◌, ◌<◌, ◌≤◌, ◌++◌, ◌^◌, [], Some, None, IsSome, IfOk, IfErr, length, map};
 ghost use Rattle.hdfs_cluster.specs.declared.picture.OpenWrite.{OpenWrite};
 ghost use Rattle.hdfs_cluster.specs.Namenode.{IsToWrite};
+ghost use Rattle.hdfs_cluster.specs.Requests.{AskOf, LetsWriteBlock};
+ghost use Rattle.hdfs_cluster.specs.declared.asks.Ask.TheVariants as asks;
 ghost use Rattle.hdfs_namenode.specs.Asked.{ReachesAll};
 ghost use Rattle.hdfs_namenode.specs.Clients.{SameClient, name_of, proxy_of};
 ghost use Rattle.hdfs_pipeline.specs.Driving.{Drives, IsGoing};
@@ -12,7 +14,7 @@ ghost use Rattle.hdfs_block_reader.specs.Carrying.{total};
 ghost use Rattle.hdfs_rebuild.specs.Attempts.{task_of, standing, fallen_at, Attempted, GaveNone, GivesNoPlan, RebuiltAfter, GaveNoneAfter};
 ghost use Rattle.hdfs_rebuild.specs.Between.{KeepsLinks};
 ghost use Rattle.hdfs_rebuild.specs.Plans.{CanRebuild, IsReplay};
-ghost use Rattle.hdfs_rebuild.specs.Opening.{rebuilt_of};
+ghost use Rattle.hdfs_rebuild.specs.Opening.{with_stamp_of};
 ghost use Rattle.hdfs_rebuild.specs.Resuming.{SendsAndNames, SendsOrNamesNot};
 ghost use Rattle.hdfs_rebuild.specs.Trying.{LeavesOut, LeavesNone, GivesPlan, Resumed, ResumedNot, FallsFrom, Collects, CollectsNot, course_of, with_plan};
 
@@ -112,6 +114,8 @@ fn replay_and_name<C: Cluster>(
     task: Resending,
 ) -> Result<SentAgain, WriteFault>
     requires reaches { ReachesAll (proxy_of namenode.old) (C.shown cluster.old) }
+    requires allowed { C.allows (AskOf (asks.UpdatePipeline (name_of namenode.old)
+        (with_stamp_of plan.now.block.b stamp) plan.now.block.b (map (λ node. node.id) plan.now.block.locs) plan.now.block.storage_ids)) }
     requires going { IsGoing (C.shown cluster.old) task.link task.core }
     requires packets { (task.core.pushed ≡ []) × IsReplay task.core.window task.replay }
     requires fresh { (write : OpenWrite) → (C.shown cluster.old).writes task.link ≡ Some write → write.end ≡ None }
@@ -167,6 +171,7 @@ fn resume_by<C: Cluster>(
     replay: List<WritePacket>,
 ) -> Result<Resumption, WriteFault>
     requires reaches { ReachesAll (proxy_of namenode.old) (C.shown cluster.old) }
+    requires allowed { LetsWriteBlock C.allows (name_of namenode.old) plan.now.src plan.now.block.b }
     requires block { IsToWrite plan.now.block }
     requires packets { (1 ≤ opening.window) × (opening.window ≤ 1000) × IsReplay opening.window replay }
     ensures ok { IfOk result (λ resumed. Resumed (course_of plan.now opening (name_of namenode.old) replay)
@@ -217,6 +222,7 @@ fn resume<C: Cluster>(
     replay: List<WritePacket>,
 ) -> Result<Attempt, WriteFault>
     requires reaches { ReachesAll (proxy_of namenode.old) (C.shown cluster.old) }
+    requires allowed { LetsWriteBlock C.allows (name_of namenode.old) plan.src plan.block.b }
     requires block { IsToWrite plan.block }
     requires packets { (1 ≤ opening.window) × (opening.window ≤ 1000) × IsReplay opening.window replay }
     ensures ok { IfOk result (λ attempt. Resumed (course_of plan opening (name_of namenode.old) replay)
@@ -244,6 +250,7 @@ fn next_plan<C: Cluster>(
     failed: &[u32],
 ) -> Result<BlockPlan, WriteFault>
     requires reaches { ReachesAll (proxy_of namenode.old) (C.shown cluster.old) }
+    requires allowed { LetsWriteBlock C.allows (name_of namenode.old) plan.src plan.block.b }
     requires block { IsToWrite plan.block × ArePlaces (length plan.block.locs) failed.now }
     requires rebuilds { plan.rebuilds ≤ settings.now.rebuild_limit }
     ensures links { KeepsLinks (C.shown cluster.old) (C.shown cluster.new) }
@@ -278,6 +285,7 @@ fn try_once<C: Cluster>(
     unsent: u64,
 ) -> Result<Attempt, WriteFault>
     requires reaches { ReachesAll (proxy_of namenode.old) (C.shown cluster.old) }
+    requires allowed { LetsWriteBlock C.allows (name_of namenode.old) fallen.plan.src fallen.plan.block.b }
     requires can { CanRebuild fallen settings.now unsent }
     ensures ok { IfOk result (λ attempt. Attempted (task_of settings.now (name_of namenode.old) fallen.replay unsent)
         (fallen_at fallen (C.shown cluster.old)) attempt (C.shown cluster.new)) }
@@ -313,6 +321,7 @@ pub fn rebuild<C: Cluster>(
     unsent: u64,
 ) -> Result<BlockPipeline, WriteFault>
     requires reaches { ReachesAll (proxy_of namenode.old) (C.shown cluster.old) }
+    requires allowed { LetsWriteBlock C.allows (name_of namenode.old) fallen.plan.src fallen.plan.block.b }
     requires can { CanRebuild fallen settings.now unsent }
     ensures ok { IfOk result (λ rebuilt. RebuiltAfter (task_of settings.now (name_of namenode.old) fallen.replay unsent)
         (fallen_at fallen (C.shown cluster.old)) rebuilt (C.shown cluster.new)) }

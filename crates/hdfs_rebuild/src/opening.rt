@@ -3,6 +3,7 @@
 ghost use Rattle.std.specs.Prelude.{◌≡◌, ◌≤◌, IfOk, IfErr, length};
 ghost use Rattle.hdfs_cluster.specs.Namenode.{IsToWrite};
 ghost use Rattle.hdfs_cluster.specs.Pipes.{WriteOpened};
+ghost use Rattle.hdfs_cluster.specs.Requests.{SetupOf};
 ghost use Rattle.hdfs_pipeline.specs.Pipelines.{empty_pipeline};
 ghost use Rattle.hdfs_rebuild.specs.Opening.{OpensNone, fault_of, first_of, rebuilt_of, setup_for, with_stamp_of};
 
@@ -130,6 +131,7 @@ pub fn open_pipeline<C: Cluster>(
 ) -> Result<(PipelineCore, u64), WriteFault>
     requires block { IsToWrite plan.now.block }
     requires window { (1 ≤ opening.window) × (opening.window ≤ 1000) }
+    requires allowed { C.allows (SetupOf (setup_for plan.now opening client.now)) }
     ensures core { IfOk result (λ opened. opened.0 ≡ empty_pipeline opening.window (length plan.now.block.locs)) }
     ensures opened { IfOk result (λ opened.
         WriteOpened (C.shown cluster.old) (setup_for plan.now opening client.now) opened.1 (C.shown cluster.new)) }

@@ -2,8 +2,11 @@
 
 ghost use Rattle.std.specs.Prelude.{◌≡◌, IfOk, IfErr, OnOk, map};
 ghost use Rattle.hdfs_namenode.specs.Asked.{ReachesAll};
-ghost use Rattle.hdfs_namenode.specs.Clients.{SameClient, proxy_of};
+ghost use Rattle.hdfs_cluster.specs.Requests.{AskOf};
+ghost use Rattle.hdfs_cluster.specs.declared.asks.Ask.TheVariants as asks;
+ghost use Rattle.hdfs_namenode.specs.Clients.{SameClient, name_of, proxy_of};
 ghost use Rattle.hdfs_rebuild.specs.Between.{KeepsLinks};
+ghost use Rattle.hdfs_rebuild.specs.Opening.{with_stamp_of};
 ghost use Rattle.hdfs_rebuild.specs.Resuming.{fault_of_ask, with_stamp, Restamps, RestampsNot, NamesIt, NamesSo, NamesNot};
 
 use crate::block_plan::{BlockPlan, WriteFault};
@@ -30,6 +33,7 @@ pub(crate) fn restamp<C: Cluster>(
     plan: BlockPlan,
 ) -> Result<BlockPlan, WriteFault>
     requires reaches { ReachesAll (proxy_of namenode.old) (C.shown cluster.old) }
+    requires allowed { C.allows (AskOf (asks.UpdateBlockForPipeline plan.block.b (name_of namenode.old))) }
     ensures links { KeepsLinks (C.shown cluster.old) (C.shown cluster.new) }
     ensures restamps { IfOk result (λ plan'. Restamps plan (C.shown cluster.old) plan' (C.shown cluster.new)) }
     ensures err { IfErr result (λ fault. RestampsNot plan (C.shown cluster.old) fault (C.shown cluster.new)) }
@@ -75,6 +79,8 @@ pub(crate) fn name_pipeline<C: Cluster>(
     stamp: u64,
 ) -> Result<(), WriteFault>
     requires reaches { ReachesAll (proxy_of namenode.old) (C.shown cluster.old) }
+    requires allowed { C.allows (AskOf (asks.UpdatePipeline (name_of namenode.old)
+        (with_stamp_of plan.now.block.b stamp) plan.now.block.b (map (λ node. node.id) plan.now.block.locs) plan.now.block.storage_ids)) }
     ensures links { KeepsLinks (C.shown cluster.old) (C.shown cluster.new) }
     ensures names { OnOk result (NamesSo (NamesIt stamp plan.now) plan.now (C.shown cluster.old) (C.shown cluster.new)) }
     ensures err { IfErr result (λ fault. NamesNot stamp plan.now (C.shown cluster.old) fault (C.shown cluster.new)) }

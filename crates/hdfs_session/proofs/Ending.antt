@@ -1,5 +1,5 @@
 -- A whole session over any cluster, where it ends or stops.
-use Rattle.std.proofs.Common.{◌≡◌, ◌⊎◌, ℕ, ◌+◌, ◌-◌, ◌<◌, List, [], ◌∷◌, ◌++◌, length, take, get_or, None, IsSome, Err, refl, sym, ◌∙◌, ap, subst, arith}
+use Rattle.std.proofs.Common.{◌≡◌, ◌≢◌, ◌⊎◌, ℕ, suc, ◌+◌, ◌-◌, ◌<◌, List, [], ◌∷◌, ◌++◌, length, take, get_or, None, IsSome, Err, refl, sym, ◌∙◌, ap, subst, arith}
 use Rattle.std.specs.List.{slice_get}
 use Rattle.std.proofs.lemmas.List.{take_more}
 use Rattle.std.proofs.lemmas.Option.{slice_get_read}
@@ -8,10 +8,13 @@ use Rattle.hdfs_model.specs.declared.commands.Reply.{Reply}
 use Rattle.hdfs_model.specs.declared.commands.Fault.{Fault}
 use Rattle.hdfs_model.specs.Anywhere.{AreReplies, IsReply, Runs}
 use Rattle.hdfs_cluster.specs.Shown.{Shown, Later, SameReads}
+use Rattle.hdfs_cluster.specs.declared.errors.HdfsError.TheVariants as errors
+use Rattle.hdfs_cluster.specs.declared.errors.TransferFault.TheVariants as transfer
 use Rattle.hdfs_cluster.proofs.Frames.{later_refl, later_trans, same_reads_refl, same_reads_trans}
+use Rattle.hdfs_cluster.proofs.Times.{fails_until}
 use Rattle.hdfs_model.proofs.Telling.{tells_on, tells_since}
 use Rattle.hdfs_commands.specs.Acting.{Acts}
-use Rattle.hdfs_commands.specs.Session.{HasLink}
+use Rattle.hdfs_commands.specs.Session.{HasLink, Tallied, writer_of}
 use Rattle.hdfs_commands.specs.declared.session.Session.{Session}
 use Rattle.hdfs_session.proofs.Owning.{OwnLinks, own_end, own_next}
 
@@ -29,24 +32,33 @@ replies_next commands n replies command reply below here all one =
     let more : take (n + 1) commands ≡ take n commands ++ command ∷ [] = take_more commands n command below ∙ ap (λ (x : Command). take n commands ++ x ∷ []) (sym here) in
     subst (λ (l : List Command). AreReplies l (replies ++ reply ∷ [])) (sym more) (are_replies_push (take n commands) replies command reply all one)
 
+-- before the first command no pipeline was rebuilt
+pub tallied_start : (start : Shown) (session : Session) → ((path : List ℕ) → writer_of session path ≡ None) → Tallied start start session
+tallied_start start session empty = record {
+  later = later_refl start;
+  each = λ path writer is. (let none = empty path in absurd (cc (is, none)));
+}
+
 -- no command was run
-pub runs_start : (commands : List Command) (start : Shown) (fault : Fault) → fault.at ≡ 0 → fault.done ≡ [] → Runs commands start start (Err fault)
-runs_start commands start fault at none = record {
+pub runs_start : (commands : List Command) (start : Shown) (fault : Fault) → fault.at ≡ 0 → fault.done ≡ [] → ((n : ℕ) → fault.error ≢ errors.DataTransferError (transfer.RebuildLimit n))
+    → Runs commands start start (Err fault)
+runs_start commands start fault at none apart = record {
   later = later_refl start;
   reads = same_reads_refl start;
   writes = λ link. refl;
   replies = tt;
   done = subst (λ (rs : List Reply). AreReplies (take (fault.at - 1) commands) rs) (sym none) (subst (λ (n : ℕ). AreReplies (take (n - 1) commands) []) (sym at) tt);
   tells = λ some. absurd (some at);
+  limit = λ n is. absurd (apart n is);
 }
 
 -- a command failed, and the session gave up its files
 pub runs_failed : (commands : List Command) (start now new final : Shown) (session session' : Session) (n : ℕ) (command : Command) (fault : Fault) → n < length commands → command ≡ get_or commands n command
-    → Later start now → SameReads start now → OwnLinks start now session → Acts command now session new session' (Err fault.error) → Later new final → SameReads new final → final.last ≡ new.last
+    → Later start now → SameReads start now → OwnLinks start now session → Tallied start now session → Acts command now session new session' (Err fault.error) → Later new final → SameReads new final → final.last ≡ new.last
     → ((link : ℕ) → IsSome (new.writes link) → (HasLink session' link → ⊥) → final.writes link ≡ new.writes link)
     → ((link : ℕ) → (new.writes link ≡ None) ⊎ HasLink session' link → final.writes link ≡ None) → fault.at ≡ n + 1 → AreReplies (take n commands) fault.done
     → Runs commands start final (Err fault)
-runs_failed commands start now new final session session' n command fault below here later reads own acts later' reads' last others none at replied = record {
+runs_failed commands start now new final session session' n command fault below here later reads own tallied acts later' reads' last others none at replied = record {
   later = later_trans start new final (later_trans start now new later acts.anywhere.later) later';
   reads = same_reads_trans start new final (same_reads_trans start now new reads acts.anywhere.reads) reads';
   writes = own_end start new final session' session' (own_next start now new session session' own acts.links) others none;
@@ -57,4 +69,5 @@ runs_failed commands start now new final session session' n command fault below 
     ap (slice_get commands) (omega (arith, at)) ∙ slice_get_read commands (length commands) n command refl below here,
     tells_since start now final later.counts command fault.error (tells_on now new final later' last command fault.error acts.anywhere.tells),
   );
+  limit = λ rebuilds is. fails_until (suc rebuilds) start new final (acts.limit start rebuilds is tallied) later';
 }

@@ -1,9 +1,10 @@
 //! A session from its first command to its last.
-ghost use Rattle.std.specs.Prelude.{◌≡◌, ◌<◌, true, false, IfErr};
+ghost use Rattle.std.specs.Prelude.{◌≡◌, ◌<◌, true, false, All, IfErr};
 ghost use Rattle.hdfs_model.specs.Anywhere.{Runs};
 ghost use Rattle.hdfs_model.specs.Headline.{LeavesWhole, WhereReady, Ran};
 ghost use Rattle.hdfs_model.specs.Sessions.{world_of, none_open};
 ghost use Rattle.hdfs_model.specs.Limits.{are_settings};
+ghost use Rattle.hdfs_commands.specs.Asking.{Lets};
 ghost use Rattle.hdfs_commands.specs.Session.{IsNotBegun, StopsAtOnce};
 
 use hdfs_cluster::{Cluster, HdfsError};
@@ -22,6 +23,7 @@ pub fn run_session<C: Cluster>(
     commands: &[Command],
 ) -> Result<Vec<Reply>, Fault>
     requires namenode { 0 < (C.shown cluster.old).namenodes }
+    requires allowed { All (Lets C.allows settings.now) commands.now }
     ensures settings { are_settings settings.now ≡ false → StopsAtOnce settings.now result × (cluster.new ≡ cluster.old) }
     ensures start { IfErr result (λ fault. fault.at ≡ 0 → IsNotBegun settings.now fault.error) }
     ensures anywhere { Runs commands.now (C.shown cluster.old) (C.shown cluster.new) result }

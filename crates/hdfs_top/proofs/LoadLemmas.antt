@@ -115,7 +115,7 @@ defaults_line None (Some q) line told = absurd told
 defaults_line (Some p) None line told = absurd told
 
 same_counts_refl : (a : FaultCounts) → SameCounts a a
-same_counts_refl a = record { calls = λ i. refl; links = refl; nodes = λ d. refl }
+same_counts_refl a = record { asks = λ i. refl; calls = λ i. refl; links = refl; nodes = λ d. refl }
 
 pub loads_none : (a : Shown) → LoadsAll a [] a
 loads_none a = record { namenodes = refl; counts = same_counts_refl a.counts; defaults = refl; settings = refl; loaded = sym (append-nil a.loaded.lines); taken = λ state fits are. refl; fits = λ state fits. fits; replicas = λ state fits are. are }

@@ -88,7 +88,7 @@ ready_loaded old settings new ready bare state fits p is path content there =
 -- no count rises
 pub readies_counts : (fresh : Bool) (old : Shown) (settings : MemSettings) (new : Shown) → Readies fresh old settings new → SameCounts old.counts new.counts
 readies_counts true old settings new ready = ready.counts
-readies_counts false old settings new same = subst (λ (s : Shown). SameCounts old.counts s.counts) (sym same) (record { calls = λ i. refl; links = refl; nodes = λ d. refl })
+readies_counts false old settings new same = subst (λ (s : Shown). SameCounts old.counts s.counts) (sym same) (record { asks = λ i. refl; calls = λ i. refl; links = refl; nodes = λ d. refl })
 
 -- there is still a namenode
 pub readies_some : (fresh : Bool) (old : Shown) (settings : MemSettings) (new : Shown) → Readies fresh old settings new → AreValid settings → 0 < old.namenodes → 0 < new.namenodes

@@ -35,7 +35,7 @@ use Rattle.hdfs_top.proofs.StatusLemmas.{Kept, ran_done, ran_refused, ran_stoppe
 
 pub same_shown_refl : (s : Shown) → SameShown s s
 same_shown_refl s = record {
-  rest = record { counts = record { calls = λ i. refl; links = refl; nodes = λ d. refl }; last = refl; namenodes = refl; reads = λ link. refl; writes = λ link. refl };
+  rest = record { counts = record { asks = λ i. refl; calls = λ i. refl; links = refl; nodes = λ d. refl }; last = refl; namenodes = refl; reads = λ link. refl; writes = λ link. refl };
   lines = refl;
   picture = told_refl SamePicture s.picture same_picture_refl;
 }

@@ -1,5 +1,6 @@
 //! The program's one call.
 ghost use Rattle.std.specs.Prelude.{◌≡◌, ◌<◌, ◌≤◌, ◌↔◌, ℕ, map, string_bytes, IsTrue, codes};
+ghost use Rattle.hdfs_commands.specs.Asking.{LetsAny};
 ghost use Rattle.hdfs_top.specs.Top.{IsSession, RanProgram, WroteReplies, WroteFault, ScriptDecides, NotesFault, outside};
 ghost use Rattle.hdfs_top.specs.Inside.{RanSession};
 
@@ -33,7 +34,8 @@ fn run_source<S: Source, K: Sink, C: Store>(
     store: &mut C,
     note: &mut Note,
 ) -> u8
-    requires { 0 < (C.shown store.old).namenodes }
+    requires namenode { 0 < (C.shown store.old).namenodes }
+    requires allowed { LetsAny C.allows }
     ensures ran { RanSession (outside (S.shown source.old) (K.shown sink.old) (C.shown store.old) (C.is_fresh store.old)) result
         (outside (S.shown source.new) (K.shown sink.new) (C.shown store.new) (C.is_fresh store.new)) }
     ensures noted { result ≡ 2 → NotesFault
@@ -66,7 +68,8 @@ pub fn top<S: Source, K: Sink, C: Store>(
     store: &mut C,
     note: &mut Note,
 ) -> u8
-    requires { 0 < (C.shown store.old).namenodes }
+    requires namenode { 0 < (C.shown store.old).namenodes }
+    requires allowed { LetsAny C.allows }
 
     // each status, over any source, sink and store
     ensures statuses { result ≤ 5 }

@@ -1,6 +1,7 @@
 //! Running a script over a store.
 ghost use Rattle.std.specs.Prelude.{◌≡◌, ◌≢◌, ◌⊎◌, ◌<◌, ℕ, true, List, []};
 ghost use Rattle.hdfs_cluster.specs.declared.errors.HdfsError.TheVariants as errors;
+ghost use Rattle.hdfs_commands.specs.Asking.{LetsAny};
 ghost use Rattle.hdfs_model.specs.Limits.{are_settings};
 ghost use Rattle.hdfs_cluster.specs.Loading.{AreValid};
 ghost use Rattle.hdfs_script.specs.declared.entry.ScriptSettings.{ScriptSettings};
@@ -43,6 +44,7 @@ fn run_commands<K: Sink, C: Store>(
     note: &mut Note,
 ) -> u8
     requires namenode { 0 < (C.shown store.old).namenodes }
+    requires allowed { LetsAny C.allows }
     ensures ran { (given : ScriptSettings) → settings.now ≡ session_settings given → are_settings settings.now ≡ true
         → RanCommands given commands.now (stage (C.shown store.old) (K.shown sink.old)) result
         (stage (C.shown store.new) (K.shown sink.new)) }
@@ -71,6 +73,7 @@ fn run_parsed<K: Sink, C: Store>(
     note: &mut Note,
 ) -> u8
     requires namenode { 0 < (C.shown store.old).namenodes }
+    requires allowed { LetsAny C.allows }
     requires valid { AreValid read.settings.cluster }
     ensures ran { (bytes : List ℕ) (source left : SourceShown) → Parses bytes read → Gave source bytes left
         → RanSession (outside source (K.shown sink.old) (C.shown store.old) (C.is_fresh store.old)) result
@@ -101,7 +104,8 @@ pub(crate) fn run_script<K: Sink, C: Store>(
     store: &mut C,
     note: &mut Note,
 ) -> u8
-    requires { 0 < (C.shown store.old).namenodes }
+    requires namenode { 0 < (C.shown store.old).namenodes }
+    requires allowed { LetsAny C.allows }
     ensures ran { (source left : SourceShown) → Gave source bytes.now left
         → RanSession (outside source (K.shown sink.old) (C.shown store.old) (C.is_fresh store.old)) result
         (outside left (K.shown sink.new) (C.shown store.new) (C.is_fresh store.new)) }

@@ -1,5 +1,6 @@
 //! A read that is tried again.
 ghost use Rattle.std.specs.Prelude.{◌≡◌, ◌<◌};
+ghost use Rattle.hdfs_commands.specs.Asking.{Lets};
 ghost use Rattle.hdfs_model.specs.Sessions.{world_of};
 ghost use Rattle.hdfs_uses.specs.Trying.{AnsweredWhereReady, IsRead};
 
@@ -21,6 +22,7 @@ pub(crate) fn apply_patiently<C: Cluster>(
 ) -> Result<Reply, HdfsError>
     requires namenode { 0 < (C.shown cluster.old).namenodes }
     requires reads { IsRead command.now }
+    requires allowed { Lets C.allows settings.now command.now }
     ensures { let old = C.shown cluster.old in
         AnsweredWhereReady (world_of settings.now old) old command.now (C.shown cluster.new) result }
 {

@@ -51,7 +51,8 @@ pub(crate) const STATE: u32 = 10;
 pub(crate) const SYNC: u32 = 20;
 
 /// The namenodes: what each gives, the state that each says it is in (0: it gives what it gives to other asks), whether data is to be
-/// encrypted on its way, the numbers of those that were asked, in order, and how often there was no answer. They have no links.
+/// encrypted on its way, the numbers of those that were asked, in order, how often they were asked together, and how often there was no
+/// answer. An ask for whose number there was no memory isn't counted, and a count stays at its type's end. They have no links.
 #[derive(Drop)]
 pub(crate) struct FakeNamenodes {
     pub(crate) alloc: Global,
@@ -59,6 +60,7 @@ pub(crate) struct FakeNamenodes {
     pub(crate) states: [u32; 3],
     pub(crate) encrypts: bool,
     pub(crate) asked: Vec<u32>,
+    pub(crate) asks: u64,
     pub(crate) last: LastAnswer,
     pub(crate) failed: u64,
     pub(crate) reads: Slab<OpenRead>,
@@ -216,6 +218,7 @@ impl FakeNamenodes {
             states,
             encrypts: false,
             asked: Vec::new(alloc),
+            asks: 0,
             last: LastAnswer::Fine,
             failed: 0,
             reads: Slab::new(alloc),
@@ -237,7 +240,8 @@ impl FakeNamenodes {
 
     /// There is no memory.
     fn lack(&mut self) -> Result<Answer, AskFault>
-        ensures { GivesNone self.old result self.new }
+        ensures none { GivesNone self.old result self.new }
+        ensures memory { result ≡ Err AskFault.NoMemory }
     {
         self.last = LastAnswer::NoMemory;
         Err(AskFault::NoMemory)
@@ -274,6 +278,10 @@ impl Cluster for FakeNamenodes {
 
     ghost shown = { shown_of };
 
+    ghost allows = { λ request. Unit {0} };
+
+    ghost keeps_up = { record { state = tt; sync = tt } };
+
     ghost serves = { λ old i ask result new. Served (shown_of old) i ask result (shown_of new) };
 
     ghost serves_rows = { λ old new i ask result served. served };
@@ -293,6 +301,7 @@ impl Cluster for FakeNamenodes {
         if self.asked.push(code_of(i, ask)).is_err() {
             return self.lack();
         }
+        self.asks = self.asks.saturating_add(1);
         let state = self.states[i as usize];
         let gives = match ask {
             Ask::GetHaServiceState if state != 0 => Gives::Answer,

@@ -1,6 +1,7 @@
 //! Sessions over a cluster in memory that holds a file of four bytes, of what no script says: a file that is encrypted, the numbers of an
 //! error, and a session that is called once more behind one.
 ghost use Rattle.std.specs.Prelude.{◌<◌};
+ghost use Rattle.hdfs_commands.specs.Asking.{LetsAny};
 ghost use Rattle.hdfs_commands.specs.Session.{Stands};
 ghost use Rattle.hdfs_mem_cluster.specs.MemShown.{shown_of};
 
@@ -116,7 +117,8 @@ pub(crate) fn run_one<C: Cluster>(
     cluster: &mut C,
     command: &Command,
 ) -> Option<String>
-    requires { 0 < (C.shown cluster.old).namenodes }
+    requires namenode { 0 < (C.shown cluster.old).namenodes }
+    requires allowed { LetsAny C.allows }
 {
     let settings = settings(alloc).ok()?;
     let answer = run_session(alloc, cluster, &settings, std::slice::from_ref(command));

@@ -3,6 +3,12 @@ use Rattle.std.proofs.lemmas.Result.{err_from_is_err_and}
 use Rattle.hdfs_commands.proofs.Ranging.{refused_cause, transfer_cause}
 use Rattle.hdfs_commands.proofs.finding.find_range.Goals as goal
 
+pub locate-requires-clause-allowed : goal.locate-requires-clause-allowed
+locate-requires-clause-allowed g c = c.requires.allowed.locates
+
+pub allow_transfer-requires-clause-allowed : goal.allow_transfer-requires-clause-allowed
+allow_transfer-requires-clause-allowed g c = c.requires.allowed.defaults
+
 pub returns-in_err-found-clause-err : goal.returns-in_err-found-clause-err
 returns-in_err-found-clause-err g c =
     let p = err_from_is_err_and c.from_residual.result c.from_residual.ensures.1 in

@@ -7,6 +7,11 @@ use Rattle.hdfs_commands.proofs.Pieces.{pieces_join}
 use Rattle.hdfs_commands.proofs.Readers.{keeps_trans, reads_trans, fails_from}
 use Rattle.hdfs_commands.proofs.reading.read_all.Goals as goal
 
+pub append_next-requires-clause-allowed : goal.append_next-requires-clause-allowed
+append_next-requires-clause-allowed g c =
+    let keeps = c.pieces.invariant.keeps in
+    rw (keeps.block, keeps.client, keeps.end) c.requires.allowed
+
 pub returns-in_err-append_next-clause-err : goal.returns-in_err-append_next-clause-err
 returns-in_err-append_next-clause-err g c =
     let p = err_from_is_err_and c.from_residual.result c.from_residual.ensures.1 in

@@ -32,7 +32,7 @@ loop-block-preserved g c =
       left = λ content st.
           left_next s t st.picture st.told c.loop-block.invariant.only st.ids st.total content c.in-Some.block (drop (length (c.loop-block.yielded ++ c.in-Some.block ∷ [])) c.args.blocks.items) c.args.offset c.args.end c.args.out.now.items c.loop-block.out.items
           (subst (λ (bs : List LocatedBlock). Left st.picture st.ids st.total content bs c.args.offset c.args.end c.args.out.now.items c.loop-block.out.items) here (c.loop-block.invariant.left content st))
-          c.read_part.new.out.items c.requires part.bytes;
+          c.read_part.new.out.items c.requires.within part.bytes;
     }
 
 pub returns-in_err-read_part-clause-lost : goal.returns-in_err-read_part-clause-lost

@@ -1,8 +1,13 @@
 use Rattle.std.proofs.Common.{inr, refl, map, List, ℕ}
 use Rattle.std.specs.String.{string_bytes}
+use Rattle.hdfs_commands.proofs.Allowing.{lets_any}
 use Rattle.hdfs_program.specs.Program.{Streams}
 use Rattle.hdfs_program.proofs.ProgramLemmas.{planned_faults, new_from-Starts, ran_store, refused_new, replies_new, fault_new, notes_new, notes_more, decides_new, starved_decides}
 use Rattle.hdfs_program.proofs.over_memory.run_words.Goals as goal
+
+-- a cluster in memory allows all
+pub top-status-requires-clause-allowed : goal.top-status-requires-clause-allowed
+top-status-requires-clause-allowed g c = lets_any (λ request. tt)
 
 -- the program ran over the new cluster
 pub returns : goal.returns

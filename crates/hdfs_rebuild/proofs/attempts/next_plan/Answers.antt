@@ -1,5 +1,5 @@
 -- The goals of next_plan.
-use Rattle.std.proofs.Common.{◌≡◌, List, subst}
+use Rattle.std.proofs.Common.{◌≡◌, List, refl, subst}
 use Rattle.std.proofs.lemmas.Result.{err_from_is_err_and}
 use Rattle.hdfs_cluster.specs.declared.messages.DatanodeInfo.{DatanodeInfo}
 use Rattle.hdfs_namenode.specs.Clients.{proxy_of}
@@ -9,6 +9,7 @@ use Rattle.hdfs_rebuild.specs.Plans.{nodes_at}
 use Rattle.hdfs_rebuild.specs.Replacing.{Completes}
 use Rattle.hdfs_rebuild.specs.Resuming.{Restamps, RestampsNot}
 use Rattle.hdfs_rebuild.specs.Trying.{GivesPlan}
+use Rattle.hdfs_rebuild.proofs.Allowed.{completed_keeps, left_keeps, lets_plan}
 use Rattle.hdfs_rebuild.proofs.Stepping.{keeps_links_trans}
 use Rattle.hdfs_rebuild.proofs.Tried.{ok_by, err_by, incomplete, unstamped}
 use Rattle.hdfs_rebuild.proofs.attempts.next_plan.Goals as goal
@@ -18,7 +19,13 @@ restamp-requires g c = record {
   reaches =
       reaches_later (proxy_of c.args.namenode.now) (proxy_of c.complete.new.namenode) (g.C.Cluster.shown c.args.cluster.now)
       (g.C.Cluster.shown c.complete.new.cluster) c.in_ok-plan-2.ensures.client.service c.in_ok-plan-2.ensures.links.later c.requires.reaches;
+  allowed =
+      (lets_plan c.in_ok-plan-2.ensures.client.name (completed_keeps c.in_ok-plan.ensures.ok c.in_ok-plan-2.ensures.completes)
+      c.requires.allowed).restamps c.in_ok-plan-2.plan.block.b (refl, refl);
 }
+
+pub complete-requires-clause-allowed : goal.complete-requires-clause-allowed
+complete-requires-clause-allowed g c = lets_plan refl (left_keeps c.in_ok-plan.ensures.ok) c.requires.allowed
 
 pub returns-in_err-plan-2-clause-err : goal.returns-in_err-plan-2-clause-err
 returns-in_err-plan-2-clause-err g c =

@@ -4,6 +4,7 @@ use Rattle.hdfs_namenode.specs.Clients.{name_of, proxy_of}
 use Rattle.hdfs_namenode.proofs.Services.{reaches_same, same_client_trans}
 use Rattle.hdfs_rebuild.specs.declared.attempts.Attempt.{Attempt}
 use Rattle.hdfs_rebuild.specs.Attempts.{Attempted, fallen_at, task_of}
+use Rattle.hdfs_rebuild.proofs.Allowed.{lets_plan}
 use Rattle.hdfs_rebuild.proofs.Repeating.{one_fell}
 use Rattle.hdfs_rebuild.proofs.attempts.rebuild.Goals as goal
 
@@ -18,6 +19,8 @@ attempts-preserved g c =
     let new = g.C.Cluster.shown c.try_once.new.cluster in
     let client = name_of c.args.namenode.now in
     let task = task_of c.args.settings.now client c.attempts.fallen.replay c.args.unsent in
+    let missed = subst (λ (attempt : Attempt). Attempted (task_of c.args.settings.now (name_of c.attempts.namenode) c.attempts.fallen.replay c.args.unsent)
+    (fallen_at c.attempts.fallen now) attempt new) c.in-Fell.is c.in_ok-rebuilt.ensures.ok in
     record {
       fell =
           one_fell c.args.fallen c.args.settings.now client c.args.unsent (g.C.Cluster.shown c.args.cluster.now)
@@ -28,6 +31,7 @@ attempts-preserved g c =
       client =
           same_client_trans c.args.namenode.now c.attempts.namenode c.try_once.new.namenode c.attempts.invariant.client
           c.in_ok-rebuilt.ensures.client;
+      allowed = lets_plan c.in_ok-rebuilt.ensures.client.name missed.0.begins.next.keeps c.attempts.invariant.allowed;
     }
 
 pub returns-in_err-rebuilt-clause-client : goal.returns-in_err-rebuilt-clause-client

@@ -1,10 +1,11 @@
 -- The goals of resume_by.
-use Rattle.std.proofs.Common.{rules, ◌≡◌, ◌≤◌, ℕ, List, None, IsSome, subst}
+use Rattle.std.proofs.Common.{rules, ◌≡◌, ◌≤◌, ℕ, List, None, IsSome, refl, subst}
 use Rattle.std.proofs.lemmas.Result.{err_from_is_err_and}
 use Rattle.hdfs_cluster.specs.Pipes.{WriteOpened}
 use Rattle.hdfs_namenode.specs.Clients.{name_of, proxy_of}
 use Rattle.hdfs_namenode.proofs.Services.{reaches_later, same_service_refl}
 use Rattle.hdfs_rebuild.specs.Opening.{setup_for}
+use Rattle.hdfs_rebuild.proofs.Allowed.{lets_name}
 use Rattle.hdfs_rebuild.proofs.Attempting.{opens_none}
 use Rattle.hdfs_rebuild.proofs.Ending.{falls}
 use Rattle.hdfs_rebuild.proofs.Replaying.{never_done}
@@ -24,6 +25,13 @@ replay_and_name-requires-clause-reaches g c =
     reaches_later (proxy_of c.args.namenode.now) (proxy_of c.args.namenode.now) (g.C.Cluster.shown c.args.cluster.now)
     (g.C.Cluster.shown c.open_pipeline.new.cluster) (same_service_refl (proxy_of c.args.namenode.now)) c.in_ok-core.ensures.opened.only.later
     c.requires.reaches
+
+pub open_pipeline-requires-clause-allowed : goal.open_pipeline-requires-clause-allowed
+open_pipeline-requires-clause-allowed g c =
+    c.requires.allowed.sets_up (setup_for c.args.plan.now c.args.opening c.client_name-client.result.now) (refl, refl) c.client_name-client.ensures
+
+pub replay_and_name-requires-clause-allowed : goal.replay_and_name-requires-clause-allowed
+replay_and_name-requires-clause-allowed g c = lets_name c.args.plan.now c.args.opening.stamp c.requires.block c.requires.allowed
 
 pub collect-requires-clause-ended : goal.collect-requires-clause-ended
 collect-requires-clause-ended g c =

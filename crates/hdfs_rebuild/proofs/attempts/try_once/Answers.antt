@@ -7,6 +7,7 @@ use Rattle.hdfs_rebuild.specs.declared.opening.Opening.{Opening}
 use Rattle.hdfs_rebuild.specs.Attempts.{Attempted, GaveNone, opening_of, standing, task_of}
 use Rattle.hdfs_rebuild.specs.Plans.{nodes_at}
 use Rattle.hdfs_rebuild.specs.Trying.{GivesPlan, Resumed, ResumedNot, course_of}
+use Rattle.hdfs_rebuild.proofs.Allowed.{lets_plan, next_keeps}
 use Rattle.hdfs_rebuild.proofs.Tried.{ok_by, err_by, to_resume, tried, untried}
 use Rattle.hdfs_rebuild.proofs.attempts.try_once.Goals as goal
 
@@ -14,6 +15,9 @@ pub resume-requires-clause-reaches : goal.resume-requires-clause-reaches
 resume-requires-clause-reaches g c =
     reaches_later (proxy_of c.args.namenode.now) (proxy_of c.next_plan.new.namenode) (g.C.Cluster.shown c.args.cluster.now)
     (g.C.Cluster.shown c.next_plan.new.cluster) c.in_ok-plan.ensures.client.service c.in_ok-plan.ensures.links.later c.requires.reaches
+
+pub resume-requires-clause-allowed : goal.resume-requires-clause-allowed
+resume-requires-clause-allowed g c = lets_plan c.in_ok-plan.ensures.client.name (next_keeps c.in_ok-plan.ensures.ok) c.requires.allowed
 
 pub resume-requires-clause-block : goal.resume-requires-clause-block
 resume-requires-clause-block g c =

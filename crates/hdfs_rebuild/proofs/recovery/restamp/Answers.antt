@@ -5,8 +5,8 @@ use Rattle.hdfs_rebuild.proofs.Asks.{asked_links}
 use Rattle.hdfs_rebuild.proofs.Restamping.{restamped, restamped_not}
 use Rattle.hdfs_rebuild.proofs.recovery.restamp.Goals as goal
 
-pub update_block_for_pipeline-requires : goal.update_block_for_pipeline-requires
-update_block_for_pipeline-requires g c =
+pub update_block_for_pipeline-requires-clause-service : goal.update_block_for_pipeline-requires-clause-service
+update_block_for_pipeline-requires-clause-service g c =
     reaches_service (proxy_of c.args.namenode.now) (g.C.Cluster.shown c.args.cluster.now) c.requires.reaches
 
 pub returns-in-Ok-clause-links : goal.returns-in-Ok-clause-links

@@ -1,7 +1,11 @@
 -- It is given the block, or it isn't.
 use Rattle.std.proofs.Common.{inl, inr, refl}
 use Rattle.std.proofs.lemmas.Result.{err_from_is_err_and}
+use Rattle.hdfs_rebuild.proofs.Allowed.{lets_give}
 use Rattle.hdfs_rebuild.proofs.replacing.give_block.Goals as goal
+
+pub transfer-given-requires-clause-allowed : goal.transfer-given-requires-clause-allowed
+transfer-given-requires-clause-allowed g c = lets_give c.in_ok-transfer.ensures c.requires.allowed
 
 pub returns-in_err-transfer-clause-err : goal.returns-in_err-transfer-clause-err
 returns-in_err-transfer-clause-err g c =

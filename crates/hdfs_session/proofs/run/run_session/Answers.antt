@@ -2,6 +2,7 @@
 use Rattle.std.proofs.Common.{◌≡◌, ℕ, ◌+◌, Option, is_some, List, [], length, take, Result, Err, Vec, sym, ◌∙◌, ap, subst, arith, rules}
 use Rattle.std.specs.declared.alloc.Global.{Global}
 use Rattle.std.proofs.lemmas.List.{take_all, length_push}
+use Rattle.hdfs_model.specs.declared.commands.Command.{Command}
 use Rattle.hdfs_model.specs.declared.commands.Reply.{Reply}
 use Rattle.hdfs_model.specs.declared.commands.Settings.{Settings}
 use Rattle.hdfs_file_writer.specs.declared.file_writer.FileWriter.{FileWriter}
@@ -12,7 +13,8 @@ use Rattle.hdfs_cluster.proofs.Frames.{later_refl, later_trans, same_reads_refl,
 use Rattle.hdfs_cluster.specs.declared.errors.HdfsError.{HdfsError}
 use Rattle.hdfs_model.specs.Folds.{fold}
 use Rattle.hdfs_commands.specs.Acting.{Acts}
-use Rattle.hdfs_session.proofs.Ending.{replies_next, runs_failed}
+use Rattle.hdfs_commands.specs.Asking.{Lets}
+use Rattle.hdfs_session.proofs.Ending.{replies_next, runs_failed, tallied_start}
 use Rattle.hdfs_session.proofs.Finishing.{complete_done}
 use Rattle.hdfs_session.proofs.Going.{GoneOn, gone_none, goes_on, stops_there, complete_there, ends_there}
 use Rattle.hdfs_session.proofs.WholeGoing.{leaves_end, leaves_stopped, whole_goes_on, whole_none}
@@ -37,6 +39,7 @@ loop-command-init g c =
       own = own_start s session made.none.0;
       stands = made.stands;
       fine = made.fresh;
+      tallied = tallied_start s session made.none.0;
       settings = made.settings.0;
       count = ap length c.in-Ok.ensures.items;
       replied = subst (AreReplies []) (sym c.in-Ok.ensures.items) tt;
@@ -50,6 +53,14 @@ loop-command-init g c =
             defaults = rw made.none.1 tt;
           }) (ap (λ (x : Settings). world_of x s) made.settings.0));
     }
+
+-- a command of the list has leave
+pub apply-requires-clause-allowed : goal.apply-requires-clause-allowed
+apply-requires-clause-allowed g c = λ fine placed.
+    let command = c.command-item.result in
+    let i = c.loop-command.command-index in
+    subst (λ (x : Settings). Lets g.C.Cluster.allows x command) (sym c.loop-command.invariant.settings)
+    (subst (λ (x : Command). Lets g.C.Cluster.allows c.args.settings.now x) (sym c.command-item.is) (c.requires.allowed i command c.loop-command-test.true))
 
 pub loop-command-preserved : goal.loop-command-preserved
 loop-command-preserved g c =
@@ -69,6 +80,7 @@ loop-command-preserved g c =
       own = own_next s t u c.loop-command.session c.apply.new.self before.own acts.links;
       stands = now.keeps.1;
       fine = now.fails.1;
+      tallied = acts.tallied s before.tallied;
       settings = now.keeps.0 ∙ before.settings;
       count = ap length c.push_reserved.ensures.items ∙ length_push c.loop-command.replies.items reply ∙ ap (λ (n : ℕ). n + 1) before.count;
       replied = subst (AreReplies (take (i + 1) c.args.commands.now)) (sym c.push_reserved.ensures.items)
@@ -94,7 +106,7 @@ returns-in-Err-apply-clause-anywhere g c =
     let acts = subst (λ (e : HdfsError). Acts command t c.loop-command.session u c.apply.new.self (failed_with e)) (sym f.ensures.error) (c.in-Err-apply.ensures.acts before.fine) in
     let at : f.result.at ≡ c.loop-command.command-index + 1 = omega (arith, f.ensures.at, c.len.ensures, c.loop-command.replies.ok, before.count) in
     let kept = c.abandon.ensures.keeps in
-    runs_failed c.args.commands.now s t u v c.loop-command.session c.apply.new.self c.loop-command.command-index command f.result c.loop-command-test.true c.command-item.is before.later before.reads before.own acts
+    runs_failed c.args.commands.now s t u v c.loop-command.session c.apply.new.self c.loop-command.command-index command f.result c.loop-command-test.true c.command-item.is before.later before.reads before.own before.tallied acts
     kept.0 kept.1 kept.2 c.abandon.ensures.others c.abandon.ensures.none at
     (subst (AreReplies (take c.loop-command.command-index c.args.commands.now)) (sym f.ensures.done) before.replied)
 
@@ -152,6 +164,7 @@ returns-clause-anywhere g c =
       replies = subst (λ cs. AreReplies cs c.loop-command.replies.items) (take_all c.loop-command.command-index c.args.commands.now c.loop-command-test.false) before.replied;
       done = tt;
       tells = tt;
+      limit = tt;
     }
 
 pub returns-in-Err-apply-clause-whole : goal.returns-in-Err-apply-clause-whole

@@ -4,7 +4,7 @@ use Rattle.hdfs_cluster.specs.Files.{State}
 use Rattle.hdfs_model.specs.Headline.{Ready}
 use Rattle.hdfs_model.specs.Sessions.{none_open, world_of}
 use Rattle.hdfs_cluster.specs.Shown.{Later, SameReads}
-use Rattle.hdfs_commands.specs.Session.{Stands, settings_of, has_failed}
+use Rattle.hdfs_commands.specs.Session.{Stands, Tallied, settings_of, has_failed}
 use Rattle.hdfs_session.proofs.Going.{GoneOn}
 use Rattle.hdfs_session.proofs.WholeGoing.{WholeSoFar}
 use Rattle.hdfs_session.proofs.Owning.{OwnLinks}
@@ -20,6 +20,7 @@ invariant-loop-command g l =
       own : OwnLinks start now l.session;
       stands : Stands now l.session;
       fine : has_failed l.session ≡ false;
+      tallied : Tallied start now l.session;
       settings : settings_of l.session ≡ l.fn.settings;
       count : length l.replies.items ≡ l.command-index;
       replied : AreReplies (take l.command-index l.commands) l.replies.items;

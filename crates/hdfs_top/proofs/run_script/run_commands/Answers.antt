@@ -1,6 +1,11 @@
 use Rattle.std.proofs.Common.{⊎_elim, inl, arith}
+use Rattle.std.specs.Prelude.{slice_index_or}
 use Rattle.hdfs_top.proofs.SessionLemmas.{ran_to_end, ran_to_fault, notes_stop, not_status_2, world_is}
 use Rattle.hdfs_top.proofs.run_script.run_commands.Goals as goal
+
+-- any command may be run
+pub run_session-requires-clause-allowed : goal.run_session-requires-clause-allowed
+run_session-requires-clause-allowed g c = λ k other low. c.requires.allowed c.args.settings.now (slice_index_or c.args.commands.now k other)
 
 -- the session came to its end
 pub returns-in-Ok : goal.returns-in-Ok

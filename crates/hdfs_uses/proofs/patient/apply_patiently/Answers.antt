@@ -1,7 +1,15 @@
 -- A read that is tried again.
+use Rattle.std.proofs.Common.{sym, subst}
 use Rattle.hdfs_cluster.proofs.Frames.{later_trans}
+use Rattle.hdfs_commands.specs.Asking.{Lets}
+use Rattle.hdfs_model.specs.declared.commands.Settings.{Settings}
 use Rattle.hdfs_uses.proofs.Patience.{answers_reply, answers_error, leaves_files}
 use Rattle.hdfs_uses.proofs.patient.apply_patiently.Goals as goal
+
+-- the session has the settings for which there is leave
+pub apply-requires-clause-allowed : goal.apply-requires-clause-allowed
+apply-requires-clause-allowed g c = λ fine placed.
+    subst (λ (settings : Settings). Lets g.C.Cluster.allows settings c.args.command.now) (sym c.in_ok-session.ensures.settings.0) c.requires.allowed
 
 -- a reply is that of the step
 pub returns-in-Ok : goal.returns-in-Ok

@@ -3,6 +3,7 @@ use Rattle.std.proofs.Common.{rules, ◌≡◌, [], Some, arith}
 use Rattle.std.proofs.lemmas.Result.{err_from_is_err_and}
 use Rattle.hdfs_namenode.specs.Clients.{proxy_of}
 use Rattle.hdfs_namenode.proofs.Services.{reaches_later, same_client_trans}
+use Rattle.hdfs_block_writer.proofs.Allowed.{lets_pipe}
 use Rattle.hdfs_block_writer.proofs.Closed.{can_push_last, closes, ending, few, last_not_pushed, not_finished}
 use Rattle.hdfs_block_writer.proofs.Received.{waits_for_last}
 use Rattle.hdfs_block_writer.proofs.Sent.{is_open, pipe_of}
@@ -46,6 +47,11 @@ pub finish-requires-clause-reaches : goal.finish-requires-clause-reaches
 finish-requires-clause-reaches g c =
     reaches_later (proxy_of c.args.namenode.now) (proxy_of c.push.new.namenode) (g.C.Cluster.shown c.args.cluster.now)
     (g.C.Cluster.shown c.push.new.cluster) c.push.ensures.client.service c.in_ok-pipe.ensures.ok.continues.own.later c.requires.reaches
+
+pub finish-requires-clause-allowed : goal.finish-requires-clause-allowed
+finish-requires-clause-allowed g c =
+    let piped : c.args.self.now.pipe ≡ Some c.in-Some.pipe = search rules in
+    lets_pipe c.push.ensures.client.name c.in_ok-pipe.ensures.ok.continues.keeps (c.requires.allowed c.in-Some.pipe piped)
 
 pub finish-requires-clause-ending : goal.finish-requires-clause-ending
 finish-requires-clause-ending g c =

@@ -1,8 +1,9 @@
 -- The goals of BlockWriter::flush_and_end.
-use Rattle.std.proofs.Common.{[]}
+use Rattle.std.proofs.Common.{rules, [], IsSome}
 use Rattle.std.proofs.lemmas.Result.{err_from_is_err_and}
 use Rattle.hdfs_namenode.proofs.Services.{same_client_trans}
 use Rattle.hdfs_block_writer.specs.Written.{Closes, GaveUp, WaitsForLast}
+use Rattle.hdfs_block_writer.proofs.Allowed.{may_go_on}
 use Rattle.hdfs_block_writer.proofs.Closed.{closes_after}
 use Rattle.hdfs_block_writer.proofs.Received.{last_after, on_ok_by}
 use Rattle.hdfs_rebuild.proofs.Tried.{err_by, ok_by}
@@ -16,6 +17,11 @@ pub returns-in_err-flush-clause-err : goal.returns-in_err-flush-clause-err
 returns-in_err-flush-clause-err g c =
     let p = err_from_is_err_and c.from_residual.result c.from_residual.ensures.1 in
     rw (p.1, p.2) c.in_err-flush.ensures.err.gave_up
+
+pub end-requires-clause-allowed : goal.end-requires-clause-allowed
+end-requires-clause-allowed g c =
+    let some : IsSome c.args.self.now.pipe = search rules in
+    may_go_on c.args.self.now c.flush.new.self c.flush.ensures.client.name some c.in_ok-flush.ensures.wrote.stays c.requires.allowed
 
 pub returns-clause-closed : goal.returns-clause-closed
 returns-clause-closed g c =

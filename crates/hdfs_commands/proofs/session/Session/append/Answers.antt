@@ -9,7 +9,9 @@ use Rattle.hdfs_cluster.specs.declared.errors.HdfsError.{HdfsError}
 use Rattle.hdfs_cluster.specs.declared.errors.HdfsError.TheVariants as errors
 use Rattle.hdfs_cluster.specs.declared.messages.Appended.{Appended}
 use Rattle.hdfs_cluster.proofs.Repeating.{append_repeats}
-use Rattle.hdfs_namenode.specs.Clients.{proxy_of}
+use Rattle.hdfs_cluster.specs.Requests.{AskOf, LetsClose}
+use Rattle.hdfs_file_writer.specs.Writers.{file_id_of}
+use Rattle.hdfs_namenode.specs.Clients.{name_of, proxy_of}
 use Rattle.hdfs_namenode.proofs.Services.{reaches_later}
 use Rattle.hdfs_commands.specs.Acting.{Acts}
 use Rattle.hdfs_commands.specs.Opening.{appending}
@@ -28,8 +30,15 @@ use Rattle.hdfs_commands.proofs.WholeOpening.{appending_spares}
 use Rattle.hdfs_commands.proofs.WholeStarting.{appended_whole, late_whole, prepared_whole, refused_whole}
 use Rattle.hdfs_commands.proofs.session.Session.append.Goals as goal
 
-pub ask_append-requires : goal.ask_append-requires
-ask_append-requires g c =
+pub defaults-requires-clause-allowed : goal.defaults-requires-clause-allowed
+defaults-requires-clause-allowed g c = c.requires.allowed.defaults
+
+pub ask_append-requires-clause-allowed : goal.ask_append-requires-clause-allowed
+ask_append-requires-clause-allowed g c =
+    subst (λ (n : List ℕ). g.C.Cluster.allows (AskOf (appending c.args.path n 4))) (sym c.in_ok-defaults.ensures.prepares.remembers.name) c.requires.allowed.opens
+
+pub ask_append-requires-clause-reaches : goal.ask_append-requires-clause-reaches
+ask_append-requires-clause-reaches g c =
     reaches_prepared (g.C.Cluster.shown c.args.cluster.now) (g.C.Cluster.shown c.defaults.new.cluster) c.args.self.now c.defaults.new.self
     c.in_ok-defaults.ensures.prepares c.requires.stands.reaches
 
@@ -245,6 +254,13 @@ refuse_opened-requires-clause-reaches g c =
     reaches_later (proxy_of c.defaults.new.self.namenode) (proxy_of c.ask_append.new.self.namenode) m t c.ask_append.ensures.asked.remembers.service
     c.ask_append.ensures.came.relays.leaves.later
     (reaches_prepared (g.C.Cluster.shown c.args.cluster.now) m c.args.self.now c.defaults.new.self c.in_ok-defaults.ensures.prepares c.requires.stands.reaches)
+
+pub refuse_opened-requires-clause-allowed : goal.refuse_opened-requires-clause-allowed
+refuse_opened-requires-clause-allowed g c =
+    let id = file_id_of c.appended-writer.result in
+    let name = c.ask_append.ensures.asked.remembers.name ∙ c.in_ok-defaults.ensures.prepares.remembers.name in
+    subst (λ (p : List ℕ). LetsClose g.C.Cluster.allows (name_of c.ask_append.new.self.namenode) p id) (sym c.appended-writer.ensures.path.0)
+    (subst (λ (n : List ℕ). LetsClose g.C.Cluster.allows n c.args.path id) (sym name) (c.requires.allowed.closes id))
 
 pub refuse_opened-requires-clause-stands : goal.refuse_opened-requires-clause-stands
 refuse_opened-requires-clause-stands g c = c.appended-writer.ensures.stands (g.C.Cluster.shown c.ask_append.new.cluster)

@@ -1,13 +1,22 @@
 -- A close of a session.
-use Rattle.std.proofs.Common.{true, None, refl, sym}
+use Rattle.std.proofs.Common.{ℕ, true, List, None, refl, sym, subst}
 use Rattle.std.proofs.lemmas.Map.Text.{btree_map_updates_text}
 use Rattle.hdfs_model.specs.declared.commands.Command.TheVariants as commands
+use Rattle.hdfs_cluster.specs.Requests.{LetsClose}
+use Rattle.hdfs_namenode.specs.Clients.{name_of}
+use Rattle.hdfs_file_writer.specs.Writers.{file_id_of}
 use Rattle.hdfs_commands.proofs.WholeWriting.{close_keeps, sending_keeps}
 use Rattle.hdfs_commands.proofs.WriteEnds.{close_acts, close_fails, close_not_owed}
 use Rattle.hdfs_commands.proofs.session.Session.close.Goals as goal
 
 pub close-requires-clause-stands : goal.close-requires-clause-stands
 close-requires-clause-stands g c = (c.requires.stands.each c.args.path.now c.in-Some.writer (sym c.in-Some.ensures.value)).0
+
+pub close-requires-clause-allowed : goal.close-requires-clause-allowed
+close-requires-clause-allowed g c =
+    let at = (c.requires.stands.each c.args.path.now c.in-Some.writer (sym c.in-Some.ensures.value)).1 in
+    let id = file_id_of c.in-Some.writer in
+    subst (λ (p : List ℕ). LetsClose g.C.Cluster.allows (name_of c.args.self.now.namenode) p id) (sym at) (c.requires.allowed id)
 
 pub returns-in-Ok-clause-acts : goal.returns-in-Ok-clause-acts
 returns-in-Ok-clause-acts g c = λ name is.

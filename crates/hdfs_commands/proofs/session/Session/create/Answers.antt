@@ -1,5 +1,5 @@
 -- The goals of Session::create.
-use Rattle.std.proofs.Common.{◌≡◌, ℕ, Err, refl, sym, ◌∙◌, ap, subst, unwrap_or}
+use Rattle.std.proofs.Common.{◌≡◌, ℕ, List, Err, sym, ◌∙◌, ap, subst, unwrap_or}
 use Rattle.std.proofs.lemmas.Result.{err_from_is_err_and}
 use Rattle.std.proofs.lemmas.Bool.{false≢true}
 use Rattle.std.specs.BTreeMap.{get_by_text}
@@ -15,6 +15,7 @@ use Rattle.hdfs_cluster.proofs.Repeating.{create_repeats}
 use Rattle.hdfs_namenode.specs.Clients.{proxy_of}
 use Rattle.hdfs_namenode.proofs.Services.{reaches_later}
 use Rattle.hdfs_commands.specs.Acting.{Acts}
+use Rattle.hdfs_commands.specs.Asking.{LetsCreate}
 use Rattle.hdfs_commands.specs.Opening.{create_flag, creating}
 use Rattle.hdfs_commands.specs.Preparing.{sizes_by}
 use Rattle.hdfs_commands.specs.Session.{after}
@@ -31,8 +32,16 @@ use Rattle.hdfs_commands.proofs.WholeOpening.{creating_spares}
 use Rattle.hdfs_commands.proofs.WholeStarting.{behind_whole, created_whole, early_whole, late_whole, prepared_whole, refused_whole}
 use Rattle.hdfs_commands.proofs.session.Session.create.Goals as goal
 
-pub ask_create-requires : goal.ask_create-requires
-ask_create-requires g c =
+pub defaults-requires-clause-allowed : goal.defaults-requires-clause-allowed
+defaults-requires-clause-allowed g c = (c.requires.allowed (sym c.are_limited.ensures ∙ c.if-not-are_limited.false)).defaults
+
+pub ask_create-requires-clause-allowed : goal.ask_create-requires-clause-allowed
+ask_create-requires-clause-allowed g c =
+    subst (λ (n : List ℕ). LetsCreate g.C.Cluster.allows n c.args.path c.args.options.now) (sym c.in_ok-defaults.ensures.prepares.remembers.name)
+    (c.requires.allowed (sym c.are_limited.ensures ∙ c.if-not-are_limited.false))
+
+pub ask_create-requires-clause-reaches : goal.ask_create-requires-clause-reaches
+ask_create-requires-clause-reaches g c =
     reaches_prepared (g.C.Cluster.shown c.args.cluster.now) (g.C.Cluster.shown c.defaults.new.cluster) c.args.self.now c.defaults.new.self
     c.in_ok-defaults.ensures.prepares c.requires.stands.reaches
 
@@ -228,8 +237,8 @@ returns-clause-whole g c = λ name called.
     })
     d name client options r k status called c.new-writer.ensures.tail came
 
-pub refuse_created-requires : goal.refuse_created-requires
-refuse_created-requires g c =
+pub refuse_created-requires-clause-reaches : goal.refuse_created-requires-clause-reaches
+refuse_created-requires-clause-reaches g c =
     let m = g.C.Cluster.shown c.defaults.new.cluster in
     let t = g.C.Cluster.shown c.ask_create.new.cluster in
     reaches_later (proxy_of c.defaults.new.self.namenode) (proxy_of c.ask_create.new.self.namenode) m t c.ask_create.ensures.asked.remembers.service

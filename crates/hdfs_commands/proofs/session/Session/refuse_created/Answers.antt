@@ -6,12 +6,12 @@ use Rattle.hdfs_commands.proofs.Looking.{looks_from-Leaves}
 use Rattle.hdfs_commands.proofs.Sized.{remembers_asked}
 use Rattle.hdfs_commands.proofs.session.Session.refuse_created.Goals as goal
 
-pub delete-requires : goal.delete-requires
-delete-requires g c = reaches_service (proxy_of c.args.self.now.namenode) (g.C.Cluster.shown c.args.cluster.now) c.requires
+pub delete-requires-clause-service : goal.delete-requires-clause-service
+delete-requires-clause-service g c = reaches_service (proxy_of c.args.self.now.namenode) (g.C.Cluster.shown c.args.cluster.now) c.requires.reaches
 
 pub returns-clause-looks : goal.returns-clause-looks
 returns-clause-looks g c =
-    looks_from-Leaves (g.C.Cluster.shown c.args.cluster.now) (g.C.Cluster.shown c.delete.new.cluster) (c.delete.ensures.came c.requires).relays.leaves
+    looks_from-Leaves (g.C.Cluster.shown c.args.cluster.now) (g.C.Cluster.shown c.delete.new.cluster) (c.delete.ensures.came c.requires.reaches).relays.leaves
 
 pub returns-clause-asked : goal.returns-clause-asked
 returns-clause-asked g c = record { remembers = remembers_asked c.args.self.now c.delete.new.self c.delete.ensures.keeps; writers = refl; failed = refl }

@@ -8,6 +8,7 @@ use Rattle.hdfs_names.specs.Paths.{is_path}
 use Rattle.hdfs_model.specs.Owing.{is_misplaced}
 use Rattle.hdfs_commands.specs.Acting.{world_at}
 use Rattle.hdfs_commands.specs.Session.{opened_of}
+use Rattle.hdfs_commands.proofs.Asking.{lets_there}
 use Rattle.hdfs_commands.proofs.Early.{fact_true, owed_result, state_acts, target_acts}
 use Rattle.hdfs_commands.proofs.Connected.{connected_acts}
 use Rattle.hdfs_commands.proofs.ReadActs.{read_command, read_knows}
@@ -88,3 +89,43 @@ pub returns-in-Close-clause-whole : goal.returns-in-Close-clause-whole
 returns-in-Close-clause-whole g c =
     as_called (g.C.Cluster.shown c.args.cluster.now) (g.C.Cluster.shown c.close.new.cluster) c.args.self.now c.close.new.self c.args.command.now (commands.Close c.in-Close.path) c.as_str-in-Close.result.now
     c.close.result c.in-Close.is (c.as_str-in-Close.ensures ∙ c.in_ok-path.ensures.ok.0) (λ called. c.close.ensures.whole c.in-Close.path called)
+
+pub create-requires-clause-allowed : goal.create-requires-clause-allowed
+create-requires-clause-allowed g c =
+    lets_there g.C.Cluster.allows c.args.self.now c.args.command.now (commands.Create c.in-Create.path c.in-Create.options) c.in_ok-path.path
+    (c.in-Create.is) (c.in_ok-path.ensures.ok.0) (c.in_ok-path.ensures.ok.1)
+    (subst (λ (p : List ℕ). is_misplaced c.args.command.now (opened_of c.args.self.now p) ≡ false) (c.as_str.ensures)
+    (c.is_placed.ensures.0 c.if-not-is_placed.false))
+    c.requires.stands.name c.requires.allowed
+
+pub append-requires-clause-allowed : goal.append-requires-clause-allowed
+append-requires-clause-allowed g c =
+    lets_there g.C.Cluster.allows c.args.self.now c.args.command.now (commands.Append c.in-Append.name) c.in_ok-path.path
+    (c.in-Append.is) (c.in_ok-path.ensures.ok.0) (c.in_ok-path.ensures.ok.1)
+    (subst (λ (p : List ℕ). is_misplaced c.args.command.now (opened_of c.args.self.now p) ≡ false) (c.as_str.ensures)
+    (c.is_placed.ensures.0 c.if-not-is_placed.false))
+    c.requires.stands.name c.requires.allowed
+
+pub write-requires-clause-allowed : goal.write-requires-clause-allowed
+write-requires-clause-allowed g c =
+    lets_there g.C.Cluster.allows c.args.self.now c.args.command.now (commands.Write c.in-Write.path c.in-Write.bytes) c.as_str-in-Write.result.now
+    (c.in-Write.is) (c.as_str-in-Write.ensures ∙ c.in_ok-path.ensures.ok.0) (ap is_path c.as_str-in-Write.ensures ∙ c.in_ok-path.ensures.ok.1)
+    (subst (λ (p : List ℕ). is_misplaced c.args.command.now (opened_of c.args.self.now p) ≡ false) (c.as_str.ensures ∙ sym c.as_str-in-Write.ensures)
+    (c.is_placed.ensures.0 c.if-not-is_placed.false))
+    c.requires.stands.name c.requires.allowed
+
+pub close-requires-clause-allowed : goal.close-requires-clause-allowed
+close-requires-clause-allowed g c =
+    lets_there g.C.Cluster.allows c.args.self.now c.args.command.now (commands.Close c.in-Close.path) c.as_str-in-Close.result.now
+    (c.in-Close.is) (c.as_str-in-Close.ensures ∙ c.in_ok-path.ensures.ok.0) (ap is_path c.as_str-in-Close.ensures ∙ c.in_ok-path.ensures.ok.1)
+    (subst (λ (p : List ℕ). is_misplaced c.args.command.now (opened_of c.args.self.now p) ≡ false) (c.as_str.ensures ∙ sym c.as_str-in-Close.ensures)
+    (c.is_placed.ensures.0 c.if-not-is_placed.false))
+    c.requires.stands.name c.requires.allowed
+
+pub read_file-requires-clause-allowed : goal.read_file-requires-clause-allowed
+read_file-requires-clause-allowed g c =
+    lets_there g.C.Cluster.allows c.args.self.now c.args.command.now (commands.Read c.in-Read.name c.in-Read.offset c.in-Read.len) c.as_str-in-Read.result.now
+    (c.in-Read.is) (c.as_str-in-Read.ensures ∙ c.in_ok-path.ensures.ok.0) (ap is_path c.as_str-in-Read.ensures ∙ c.in_ok-path.ensures.ok.1)
+    (subst (λ (p : List ℕ). is_misplaced c.args.command.now (opened_of c.args.self.now p) ≡ false) (c.as_str.ensures ∙ sym c.as_str-in-Read.ensures)
+    (c.is_placed.ensures.0 c.if-not-is_placed.false))
+    c.requires.stands.name c.requires.allowed

@@ -17,8 +17,8 @@ loop-init g c = record {
   client = same_client_refl c.args.namenode.now;
 }
 
-pub complete-requires : goal.complete-requires
-complete-requires g c =
+pub complete-requires-clause-service : goal.complete-requires-clause-service
+complete-requires-clause-service g c =
     let s = g.C.Cluster.shown c.args.cluster.now in
     let m = g.C.Cluster.shown c.loop.cluster in
     reaches_service (proxy_of c.loop.namenode) m

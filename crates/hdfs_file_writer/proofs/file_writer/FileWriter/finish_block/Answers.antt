@@ -6,6 +6,7 @@ use Rattle.hdfs_cluster.specs.declared.messages.Block.{Block}
 use Rattle.hdfs_cluster.specs.declared.messages.LocatedBlock.{LocatedBlock}
 use Rattle.hdfs_file_writer.specs.Tails.{IsFull}
 use Rattle.hdfs_file_writer.specs.Writers.{tail_by, tail_of, IsBetweenBlocks, Wrote, FailsOtherwise}
+use Rattle.hdfs_file_writer.proofs.Allowed.{may_go_on}
 use Rattle.hdfs_file_writer.proofs.Filling.{settled_full, ended_full}
 use Rattle.hdfs_file_writer.proofs.Joining.{wrote_nothing}
 use Rattle.hdfs_file_writer.proofs.Standing.{ended_wrote, gave_up_fails, settled_wrote}
@@ -51,6 +52,11 @@ returns-in-None-take-clause-wrote g c =
     subst (λ (o : Option LocatedBlock). Wrote s w [] s (record w { going = c.take-2.new.self; reopened = o })) reopened
     (subst (λ (o : Option BlockWriter). Wrote s w [] s (record w { going = o })) going (wrote_nothing s w))
 
+pub close-requires-clause-allowed : goal.close-requires-clause-allowed
+close-requires-clause-allowed g c =
+    let going : c.args.self.now.going ≡ Some c.in-Some-take.block = sym c.take-2.ensures.value ∙ c.in-Some-take.is in
+    may_go_on refl refl (c.requires.stands.going c.in-Some-take.block going) c.requires.allowed
+
 pub close-requires-clause-stands : goal.close-requires-clause-stands
 close-requires-clause-stands g c =
     let going : c.args.self.now.going ≡ Some c.in-Some-take.block = sym c.take-2.ensures.value ∙ c.in-Some-take.is in
@@ -85,4 +91,4 @@ returns-in-Err-clause-err g c =
     let going : w.going ≡ Some block = sym c.take-2.ensures.value ∙ c.in-Some-take.is in
     subst (λ (e : HdfsError). FailsOtherwise s w e t) (sym c.error_of.ensures)
     (gave_up_fails s t (g.met.C.Cluster.sound c.args.cluster.now) (g.met.C.Cluster.sound c.close.new.cluster) w block going (c.requires.stands.is_open c.requires.fine block going)
-    (c.requires.stands.going block going).settings c.in-Err.fault c.in-Err.ensures.err)
+    (c.requires.stands.going block going) c.in-Err.fault c.in-Err.ensures.err)

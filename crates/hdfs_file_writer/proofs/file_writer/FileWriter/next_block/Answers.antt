@@ -6,8 +6,8 @@ use Rattle.hdfs_namenode.proofs.Services.{reaches_service}
 use Rattle.hdfs_file_writer.proofs.Standing.{answered_adds, unanswered_fails}
 use Rattle.hdfs_file_writer.proofs.file_writer.FileWriter.next_block.Goals as goal
 
-pub add_block-requires : goal.add_block-requires
-add_block-requires g c = reaches_service (proxy_of c.args.namenode.now) (g.C.Cluster.shown c.args.cluster.now) c.requires.reaches
+pub add_block-requires-clause-service : goal.add_block-requires-clause-service
+add_block-requires-clause-service g c = reaches_service (proxy_of c.args.namenode.now) (g.C.Cluster.shown c.args.cluster.now) c.requires.reaches
 
 pub returns-in-Err-clause-err : goal.returns-in-Err-clause-err
 returns-in-Err-clause-err g c =

@@ -9,6 +9,11 @@ use Rattle.hdfs_file_writer.specs.Writers.{FailsOtherwise, plan_of}
 use Rattle.hdfs_file_writer.proofs.Standing.{begun_stands, opened_wrote, unopened_fails}
 use Rattle.hdfs_file_writer.proofs.file_writer.FileWriter.open_block.Goals as goal
 
+pub replicated-requires-clause-allowed : goal.replicated-requires-clause-allowed
+replicated-requires-clause-allowed g c =
+    let plan = c.in-Ok.plan in
+    (c.requires.allowed plan.block.b).sets_up (setup_of plan.block plan.chunk (name_of c.args.namenode.now)) (refl, refl) refl
+
 pub returns-in-Ok-replicated-clause-stands : goal.returns-in-Ok-replicated-clause-stands
 returns-in-Ok-replicated-clause-stands g c =
     let w = c.args.self.now in
@@ -19,8 +24,8 @@ returns-in-Ok-replicated-clause-stands g c =
     subst (λ (x : BlockPlan). IsNew x w.sizes.rebuilding w.sizes.block_size w.sizes.packet_size block) c.in-Ok.ensures c.in-Ok-replicated.ensures.new in
     let room = c.requires.room in (
       begun_stands (g.C.Cluster.shown c.replicated.new.cluster) (g.C.Cluster.shown c.args.cluster.now) w (record w { going = Some block }) block c.args.located created
-          (setup_of plan.block plan.chunk (name_of c.args.namenode.now)) c.requires.begins.sizes c.requires.begins.plain c.requires.begins.fine refl refl
-          c.requires.begins.between.done c.in-Ok-replicated.ensures.stands new c.in-Ok-replicated.ensures.opened,
+          (setup_of plan.block plan.chunk (name_of c.args.namenode.now)) c.requires.begins.sizes c.requires.begins.plain c.requires.begins.fine
+          (record { path = refl; file_id = refl; sizes = refl }) refl c.requires.begins.between.done c.in-Ok-replicated.ensures.stands new c.in-Ok-replicated.ensures.opened,
       (block, refl, λ full. absurd (omega (arith, full, new.length, new.block_size, room))),
     )
 

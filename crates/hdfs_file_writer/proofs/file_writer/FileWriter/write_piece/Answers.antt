@@ -7,6 +7,7 @@ use Rattle.hdfs_block_writer.specs.BlockWriters.{length_of, size_of}
 use Rattle.hdfs_block_writer.specs.declared.block_writer.BlockWriter.{BlockWriter}
 use Rattle.hdfs_file_writer.specs.Faults.{error_of}
 use Rattle.hdfs_file_writer.specs.Writers.{FailsOtherwise}
+use Rattle.hdfs_file_writer.proofs.Allowed.{may_go_on}
 use Rattle.hdfs_file_writer.proofs.Joining.{wrote_trans, fails_after}
 use Rattle.hdfs_file_writer.proofs.Standing.{more_stands, more_wrote, gave_up_fails, within_size, min_some}
 use Rattle.hdfs_file_writer.proofs.file_writer.FileWriter.write_piece.Goals as goal
@@ -15,6 +16,11 @@ pub write-requires-clause-reaches : goal.write-requires-clause-reaches
 write-requires-clause-reaches g c =
     reaches_later (proxy_of c.args.namenode.now) (proxy_of c.make_room.new.namenode) (g.C.Cluster.shown c.args.cluster.now) (g.C.Cluster.shown c.make_room.new.cluster)
     c.make_room.ensures.client.service c.in-Ok.ensures.wrote.own.later c.requires.reaches
+
+pub write-requires-clause-allowed : goal.write-requires-clause-allowed
+write-requires-clause-allowed g c =
+    may_go_on c.make_room.ensures.client.name c.make_room.ensures.keeps.path (c.in-Ok.ensures.stands.0.going c.in-Some.block c.in-Some.is)
+    c.requires.allowed.blocks
 
 pub write-requires-clause-stands : goal.write-requires-clause-stands
 write-requires-clause-stands g c = (c.in-Ok.ensures.stands.0.going c.in-Some.block c.in-Some.is).stands
@@ -56,4 +62,4 @@ returns-in-Err-write-clause-err g c =
     subst (λ (e : HdfsError). FailsOtherwise s c.args.self.now e t) (sym c.error_of.ensures)
     (fails_after s m t c.args.self.now w1 [] (error_of c.in-Err-write.fault) c.in-Ok.ensures.wrote
     (gave_up_fails m t (g.met.C.Cluster.sound c.make_room.new.cluster) (g.met.C.Cluster.sound c.write.new.cluster) w1 block c.in-Some.is (stands.is_open c.in-Ok.ensures.fine block c.in-Some.is)
-    (stands.going block c.in-Some.is).settings c.in-Err-write.fault c.in-Err-write.ensures.err.gave_up))
+    (stands.going block c.in-Some.is) c.in-Err-write.fault c.in-Err-write.ensures.err.gave_up))

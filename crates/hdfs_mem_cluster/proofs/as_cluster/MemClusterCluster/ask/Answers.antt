@@ -36,7 +36,7 @@ returns-then-is_err-clause-served c =
     let plan = c.add_namenode.new.self in
     let kind = next_kind (ask_kind m.faults c.args.i) (calls_of m.faults (AsksOf c.args.i)) in
     served m.space m.space m.faults plan m.nodes m.nodes m.config.settings m.last _ m.calls m.calls (map line_of m.loaded.items) m.links c.args.i c.args.ask.now kind (Err faults.NoMemory) refl
-    (uncounted_ask m.config.settings c.args.i kind m.calls m.faults plan c.requires c.add_namenode.ensures.same)
+    (uncounted_ask m.config.settings c.args.i kind m.calls m.faults plan c.requires.one c.add_namenode.ensures.same)
     (comes_to_nothing (map line_of m.loaded.items) m.nodes.count kind (picture_of m) (picture_of m) c.args.i c.args.ask.now (same_picture (picture_of m)))
 
 pub returns-then-is_err-clause-serves : goal.returns-then-is_err-clause-serves
@@ -44,10 +44,10 @@ returns-then-is_err-clause-serves c =
     let m = c.args.self.now in
     let plan = c.add_namenode.new.self in
     let kind = next_kind (ask_kind m.faults c.args.i) (calls_of m.faults (AsksOf c.args.i)) in
-    let counts = uncounted_ask m.config.settings c.args.i kind m.calls m.faults plan c.requires c.add_namenode.ensures.same in
+    let counts = uncounted_ask m.config.settings c.args.i kind m.calls m.faults plan c.requires.one c.add_namenode.ensures.same in
     let comes = comes_to_nothing (map line_of m.loaded.items) m.nodes.count kind (picture_of m) (picture_of m) c.args.i c.args.ask.now (same_picture (picture_of m)) in
     let serves = served m.space m.space m.faults plan m.nodes m.nodes m.config.settings m.last _ m.calls m.calls (map line_of m.loaded.items) m.links c.args.i c.args.ask.now kind (Err faults.NoMemory) refl counts comes in
-    mem_serves m _ c.args.i kind (Err faults.NoMemory) (same_nodes_refl m.nodes) refl counts (uncounted_step m.config.settings c.args.i kind m.calls m.faults plan c.requires c.add_namenode.ensures.same) c.args.ask.now refl serves comes
+    mem_serves m _ c.args.i kind (Err faults.NoMemory) (same_nodes_refl m.nodes) refl counts (uncounted_step m.config.settings c.args.i kind m.calls m.faults plan c.requires.one c.add_namenode.ensures.same) c.args.ask.now refl serves comes
 
 -- ---- an answer
 
@@ -82,7 +82,7 @@ returns-in-Ok-clause-served c =
     let counts = counts_behind m.faults c.add_namenode.new.self c.ask.new.self c.args.i c.ask.result c.add_namenode.ensures.same c.ask.ensures in
     let after = c.failures_after-self.ensures.after ∙ ap (λ (b : Bool). failed_after b m.calls) c.in-Ok.ensures.failed in
     let is = c.next_ask.ensures ∙ next_ask_same m.faults c.add_namenode.new.self c.add_namenode.ensures.same c.args.i in
-    let all = counted_ask m.config.settings c.args.i kind m.calls m.faults c.ask.new.self c.requires given c.failures_after-self.result c.ask.result counts is c.in-Ok.ensures.answered
+    let all = counted_ask m.config.settings c.args.i kind m.calls m.faults c.ask.new.self c.requires.one given c.failures_after-self.result c.ask.result counts is c.in-Ok.ensures.answered
     (failed_here (map line_of m.loaded.items) m.nodes.count kind (picture_of m) q c.args.i c.args.ask.now given comes) after in
     served m.space r.new.space m.faults c.ask.new.self m.nodes r.new.nodes m.config.settings m.last c.in-Ok.answered.last m.calls c.failures_after-self.result (map line_of m.loaded.items) m.links c.args.i c.args.ask.now kind given c.in-Ok.ensures.last all comes
 
@@ -97,10 +97,10 @@ returns-in-Ok-clause-serves c =
     let counts = counts_behind m.faults c.add_namenode.new.self c.ask.new.self c.args.i c.ask.result c.add_namenode.ensures.same c.ask.ensures in
     let after = c.failures_after-self.ensures.after ∙ ap (λ (b : Bool). failed_after b m.calls) c.in-Ok.ensures.failed in
     let is = c.next_ask.ensures ∙ next_ask_same m.faults c.add_namenode.new.self c.add_namenode.ensures.same c.args.i in
-    let all = counted_ask m.config.settings c.args.i kind m.calls m.faults c.ask.new.self c.requires given c.failures_after-self.result c.ask.result counts is c.in-Ok.ensures.answered
+    let all = counted_ask m.config.settings c.args.i kind m.calls m.faults c.ask.new.self c.requires.one given c.failures_after-self.result c.ask.result counts is c.in-Ok.ensures.answered
     (failed_here (map line_of m.loaded.items) m.nodes.count kind (picture_of m) q c.args.i c.args.ask.now given comes) after in
     let serves = served m.space r.new.space m.faults c.ask.new.self m.nodes r.new.nodes m.config.settings m.last c.in-Ok.answered.last m.calls c.failures_after-self.result (map line_of m.loaded.items) m.links c.args.i c.args.ask.now kind given c.in-Ok.ensures.last all comes in
-    let step = counted_step m.config.settings c.args.i kind m.calls m.faults c.ask.new.self c.requires (is_answered given) c.ask.result c.in-Ok.ensures.answered counts in
+    let step = counted_step m.config.settings c.args.i kind m.calls m.faults c.ask.new.self c.requires.one (is_answered given) c.ask.result c.in-Ok.ensures.answered counts in
     mem_serves m _ c.args.i kind given r.ensures.rest refl all step c.args.ask.now is serves comes
 
 -- ---- no memory for an answer
@@ -124,7 +124,7 @@ returns-in-Err-clause-served c =
     let q = picture_at r.new.space r.new.nodes m.config.settings m.links in
     let kind = next_kind (ask_kind m.faults c.args.i) (calls_of m.faults (AsksOf c.args.i)) in
     served m.space r.new.space m.faults plan m.nodes r.new.nodes m.config.settings m.last _ m.calls m.calls (map line_of m.loaded.items) m.links c.args.i c.args.ask.now kind (Err faults.NoMemory) refl
-    (uncounted_ask m.config.settings c.args.i kind m.calls m.faults plan c.requires c.add_namenode.ensures.same)
+    (uncounted_ask m.config.settings c.args.i kind m.calls m.faults plan c.requires.one c.add_namenode.ensures.same)
     (comes_to_nothing (map line_of m.loaded.items) m.nodes.count kind (picture_of m) q c.args.i c.args.ask.now (c.in-Err.ensures.err m.links))
 
 pub returns-in-Err-clause-serves : goal.returns-in-Err-clause-serves
@@ -134,7 +134,7 @@ returns-in-Err-clause-serves c =
     let plan = c.add_namenode.new.self in
     let q = picture_at r.new.space r.new.nodes m.config.settings m.links in
     let kind = next_kind (ask_kind m.faults c.args.i) (calls_of m.faults (AsksOf c.args.i)) in
-    let counts = uncounted_ask m.config.settings c.args.i kind m.calls m.faults plan c.requires c.add_namenode.ensures.same in
+    let counts = uncounted_ask m.config.settings c.args.i kind m.calls m.faults plan c.requires.one c.add_namenode.ensures.same in
     let comes = comes_to_nothing (map line_of m.loaded.items) m.nodes.count kind (picture_of m) q c.args.i c.args.ask.now (c.in-Err.ensures.err m.links) in
     let serves = served m.space r.new.space m.faults plan m.nodes r.new.nodes m.config.settings m.last _ m.calls m.calls (map line_of m.loaded.items) m.links c.args.i c.args.ask.now kind (Err faults.NoMemory) refl counts comes in
-    mem_serves m _ c.args.i kind (Err faults.NoMemory) r.ensures.rest refl counts (uncounted_step m.config.settings c.args.i kind m.calls m.faults plan c.requires c.add_namenode.ensures.same) c.args.ask.now refl serves comes
+    mem_serves m _ c.args.i kind (Err faults.NoMemory) r.ensures.rest refl counts (uncounted_step m.config.settings c.args.i kind m.calls m.faults plan c.requires.one c.add_namenode.ensures.same) c.args.ask.now refl serves comes

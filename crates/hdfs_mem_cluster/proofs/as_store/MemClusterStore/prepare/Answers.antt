@@ -6,6 +6,7 @@ use Rattle.hdfs_cluster.proofs.Loads.{and_parts}
 use Rattle.hdfs_mem_faults.specs.declared.fault_plan.FaultPlan.{FaultPlan}
 use Rattle.hdfs_mem_faults.specs.Following.{Follows}
 use Rattle.hdfs_mem_faults.specs.Plans.{AddsNodes}
+use Rattle.hdfs_mem_faults.specs.Series.{AsksOf}
 use Rattle.hdfs_mem_faults.proofs.Following.{added_follows}
 use Rattle.hdfs_mem_datanodes.specs.declared.datanodes.Datanodes.{Datanodes}
 use Rattle.hdfs_mem_cluster.specs.declared.mem_cluster.MemCluster.{MemCluster}
@@ -54,7 +55,7 @@ pub returns-in_err-add_nodes-clause-err : goal.returns-in_err-add_nodes-clause-e
 returns-in_err-add_nodes-clause-err c =
     let adds = c.add_nodes.ensures.rest in
     on_err c.from_residual.result (record {
-      rest = record { counts = record { calls = same_namenodes c.args.self.now.config.settings c.args.self.now.calls c.args.self.now.faults c.add_nodes.new.self adds.asks; links = adds.links.faults; nodes = adds.nodes }; last = refl; namenodes = refl; reads = λ link. refl; writes = λ link. refl };
+      rest = record { counts = record { asks = λ i. adds.calls (AsksOf i); calls = same_namenodes c.args.self.now.config.settings c.args.self.now.calls c.args.self.now.faults c.add_nodes.new.self adds.asks; links = adds.links.faults; nodes = adds.nodes }; last = refl; namenodes = refl; reads = λ link. refl; writes = λ link. refl };
       lines = refl;
       picture = record {
         rest = record {
@@ -72,7 +73,7 @@ returns-in_err-grow-clause-err c =
     let joins = c.grow.ensures.joins in
     let adds = c.add_nodes.ensures.rest in
     on_err c.from_residual-in_err-grow.result (record {
-      rest = record { counts = record { calls = same_namenodes c.args.self.now.config.settings c.args.self.now.calls c.args.self.now.faults c.add_nodes.new.self adds.asks; links = adds.links.faults; nodes = adds.nodes }; last = refl; namenodes = refl; reads = λ link. refl; writes = λ link. refl };
+      rest = record { counts = record { asks = λ i. adds.calls (AsksOf i); calls = same_namenodes c.args.self.now.config.settings c.args.self.now.calls c.args.self.now.faults c.add_nodes.new.self adds.asks; links = adds.links.faults; nodes = adds.nodes }; last = refl; namenodes = refl; reads = λ link. refl; writes = λ link. refl };
       lines = refl;
       picture = record {
         rest = record {
@@ -90,7 +91,7 @@ returns-clause-ok c =
     let joins = c.grow.ensures.joins in
     let adds = c.add_nodes.ensures.rest in
     record {
-      counts = record { calls = fresh_calls c.args.self.now c.requires.fresh c.new-self.result.settings c.add_nodes.new.self adds.asks; links = adds.links.faults; nodes = adds.nodes };
+      counts = record { asks = λ i. adds.calls (AsksOf i); calls = fresh_calls c.args.self.now c.requires.fresh c.new-self.result.settings c.add_nodes.new.self adds.asks; links = adds.links.faults; nodes = adds.nodes };
       last = refl;
       namenodes = ap (λ (s : MemSettings). s.namenodes) c.new-self.ensures;
       reads = λ link. refl;
@@ -117,7 +118,7 @@ pub returns-clause-counted : goal.returns-clause-counted
 returns-clause-counted c =
     let adds = c.add_nodes.ensures.rest in
     record {
-      counts = record { calls = fresh_calls c.args.self.now c.requires.fresh c.new-self.result.settings c.add_nodes.new.self adds.asks; links = adds.links.faults; nodes = adds.nodes };
+      counts = record { asks = λ i. adds.calls (AsksOf i); calls = fresh_calls c.args.self.now c.requires.fresh c.new-self.result.settings c.add_nodes.new.self adds.asks; links = adds.links.faults; nodes = adds.nodes };
       calls = adds.calls;
       bad = λ link shown. adds.links.bad link;
       there = λ d has. record { there = (c.grow.ensures.joins d).there has.there; counted = adds.there d has.counted };
@@ -127,7 +128,7 @@ pub returns-in_err-add_nodes-clause-counted : goal.returns-in_err-add_nodes-clau
 returns-in_err-add_nodes-clause-counted c =
     let adds = c.add_nodes.ensures.rest in
     record {
-      counts = record { calls = same_namenodes c.args.self.now.config.settings c.args.self.now.calls c.args.self.now.faults c.add_nodes.new.self adds.asks; links = adds.links.faults; nodes = adds.nodes };
+      counts = record { asks = λ i. adds.calls (AsksOf i); calls = same_namenodes c.args.self.now.config.settings c.args.self.now.calls c.args.self.now.faults c.add_nodes.new.self adds.asks; links = adds.links.faults; nodes = adds.nodes };
       calls = adds.calls;
       bad = λ link shown. adds.links.bad link;
       there = λ d has. record { there = has.there; counted = adds.there d has.counted };
@@ -137,7 +138,7 @@ pub returns-in_err-grow-clause-counted : goal.returns-in_err-grow-clause-counted
 returns-in_err-grow-clause-counted c =
     let adds = c.add_nodes.ensures.rest in
     record {
-      counts = record { calls = same_namenodes c.args.self.now.config.settings c.args.self.now.calls c.args.self.now.faults c.add_nodes.new.self adds.asks; links = adds.links.faults; nodes = adds.nodes };
+      counts = record { asks = λ i. adds.calls (AsksOf i); calls = same_namenodes c.args.self.now.config.settings c.args.self.now.calls c.args.self.now.faults c.add_nodes.new.self adds.asks; links = adds.links.faults; nodes = adds.nodes };
       calls = adds.calls;
       bad = λ link shown. adds.links.bad link;
       there = λ d has. record { there = (c.grow.ensures.joins d).there has.there; counted = adds.there d has.counted };

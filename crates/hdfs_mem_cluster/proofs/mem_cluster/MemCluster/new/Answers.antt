@@ -1,6 +1,7 @@
 -- A new cluster shows the root alone.
 use Rattle.std.proofs.Common.{◌≡◌, ℕ, ◌<◌, List, Some, None, map, refl, sym, ◌∙◌, ap, subst}
 use Rattle.hdfs_mem_faults.specs.Following.{Follows}
+use Rattle.hdfs_mem_faults.specs.Series.{AsksOf}
 use Rattle.hdfs_mem_faults.proofs.Following.{new_follows}
 use Rattle.std.specs.List.{slice_index_or}
 use Rattle.hdfs_cluster.specs.declared.mem_settings.MemSettings.{MemSettings}
@@ -28,6 +29,7 @@ returns-clause-starts c = record {
   no_read = λ link. ap (λ slots. read_told (slice_index_or slots link None)) c.new-4.ensures.empty;
   no_write = λ link. ap (λ slots. write_told (slice_index_or slots link None)) c.new-4.ensures.empty;
   no_line = ap (λ (s : MemSettings). loaded_at s (map line_of c.new-6.result.items)) c.new.ensures ∙ ap (λ (xs : List Kept). loaded_at c.args.settings (map line_of xs)) c.new-6.ensures.items;
+  asks = λ i. c.in_ok-new-3.ensures.new.calls (AsksOf i);
   calls = λ i. no_namenode_faults c.new.result.settings 0 c.in_ok-new-3.field-0 i (c.in_ok-new-3.ensures.new.asks i) refl;
   links = c.in_ok-new-3.ensures.new.links;
   nodes = c.in_ok-new-3.ensures.new.nodes;

@@ -43,7 +43,7 @@ returns-clause-loads c =
     let blocks = subst (λ t. KeepsBlocks table (table_of t.entries) (held_in m.nodes) (held_in m.nodes)) (sym c.add_dir.ensures.table) (keeps_refl table (held_in m.nodes)) in
     let p' = picture_at space' m.nodes m.config.settings m.links in
     record {
-      rest = record { counts = record { calls = λ i. refl; links = refl; nodes = λ d. refl }; last = refl; namenodes = refl; reads = λ link. refl; writes = λ link. refl };
+      rest = record { counts = record { asks = λ i. refl; calls = λ i. refl; links = refl; nodes = λ d. refl }; last = refl; namenodes = refl; reads = λ link. refl; writes = λ link. refl };
       settings = refl;
       lines = ap (map line_of) items ∙ map-append line_of m.loaded.items (kept ∷ []);
       picture = loads_at m.space space' m.nodes m.nodes m.config.settings m.links blocks (λ d b link. refl);

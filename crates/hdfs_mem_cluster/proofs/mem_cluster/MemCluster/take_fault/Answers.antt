@@ -2,6 +2,7 @@
 use Rattle.std.proofs.Common.{◌≡◌, List, [], ◌∷◌, ◌++◌, map, refl, sym, ◌∙◌, ap, subst}
 use Rattle.std.proofs.lemmas.List.{map-append}
 use Rattle.hdfs_mem_faults.specs.Following.{Follows}
+use Rattle.hdfs_mem_faults.specs.Series.{AsksOf}
 use Rattle.hdfs_mem_faults.proofs.Following.{plan_follows}
 use Rattle.hdfs_mem_cluster.specs.declared.loaded.Kept.{Kept}
 use Rattle.hdfs_mem_cluster.specs.declared.loaded.Kept.TheVariants as keeps
@@ -41,7 +42,7 @@ returns-clause-loads c =
     let items : c.push_reserved.new.self.items ≡ m.loaded.items ++ kept ∷ [] = c.push_reserved.ensures.items ∙ ap (λ (xs : List Kept). xs ++ kept ∷ []) c.reserve.ensures.items in
     let plans = c.in_ok-plan.ensures.ok in
     record {
-      rest = record { counts = record { calls = same_namenodes m.config.settings m.calls m.faults c.plan.new.self plans.asks; links = plans.links.faults; nodes = plans.nodes }; last = refl; namenodes = refl; reads = λ link. refl; writes = λ link. refl };
+      rest = record { counts = record { asks = λ i. plans.calls (AsksOf i); calls = same_namenodes m.config.settings m.calls m.faults c.plan.new.self plans.asks; links = plans.links.faults; nodes = plans.nodes }; last = refl; namenodes = refl; reads = λ link. refl; writes = λ link. refl };
       settings = refl;
       lines = ap (map line_of) items ∙ map-append line_of m.loaded.items (kept ∷ []);
       picture = record { rest = record { files = record { names = λ path. refl; table = λ id. refl; held = λ node id. refl; defaults = refl }; reads = λ link. refl; writes = λ link. refl }; active = refl };
@@ -59,8 +60,30 @@ returns-in_err-plan-clause-err c =
     let m = c.args.self.now in
     let same = c.in_err-plan.ensures.err in
     on_err c.from_residual-in_err-plan.result (record {
-      rest = record { counts = record { calls = same_namenodes m.config.settings m.calls m.faults c.plan.new.self same.asks; links = same.links.faults; nodes = same.nodes }; last = refl; namenodes = refl; reads = λ link. refl; writes = λ link. refl };
+      rest = record { counts = record { asks = λ i. same.calls (AsksOf i); calls = same_namenodes m.config.settings m.calls m.faults c.plan.new.self same.asks; links = same.links.faults; nodes = same.nodes }; last = refl; namenodes = refl; reads = λ link. refl; writes = λ link. refl };
       lines = ap (λ (xs : List Kept). loaded_at m.config.settings (map line_of xs)) c.reserve.ensures.items;
       picture = record { active = refl; defaults = refl; reads = λ link. refl; writes = λ link. refl; table = λ id some. refl; held = λ node id some. refl };
       files = λ state was. was;
     })
+
+pub returns-clause-counted : goal.returns-clause-counted
+returns-clause-counted c =
+    let m = c.args.self.now in
+    let plans = c.in_ok-plan.ensures.ok in
+    record {
+      counts = record { asks = λ i. plans.calls (AsksOf i); calls = same_namenodes m.config.settings m.calls m.faults c.plan.new.self plans.asks; links = plans.links.faults; nodes = plans.nodes };
+      calls = plans.calls;
+      bad = λ link shown. plans.links.bad link;
+      there = λ d has. record { there = has.there; counted = plans.there d ∙ has.counted };
+    }
+
+pub returns-in_err-plan-clause-counted : goal.returns-in_err-plan-clause-counted
+returns-in_err-plan-clause-counted c =
+    let m = c.args.self.now in
+    let same = c.in_err-plan.ensures.err in
+    record {
+      counts = record { asks = λ i. same.calls (AsksOf i); calls = same_namenodes m.config.settings m.calls m.faults c.plan.new.self same.asks; links = same.links.faults; nodes = same.nodes };
+      calls = same.calls;
+      bad = λ link shown. same.links.bad link;
+      there = λ d has. record { there = has.there; counted = same.plans.there d ∙ has.counted };
+    }

@@ -59,7 +59,7 @@ returns-clause-loads c =
     let held : c.in_ok-bytes.held ≡ c.args.bytes = c.in_ok-bytes.ensures.1 in
     let told : c.in_ok-bytes.bytes ≡ c.args.bytes = c.in_ok-bytes.ensures.0 in
     record {
-      rest = record { counts = record { calls = λ i. refl; links = refl; nodes = λ d. refl }; last = refl; namenodes = refl; reads = λ link. refl; writes = λ link. refl };
+      rest = record { counts = record { asks = λ i. refl; calls = λ i. refl; links = refl; nodes = λ d. refl }; last = refl; namenodes = refl; reads = λ link. refl; writes = λ link. refl };
       settings = refl;
       lines = ap (map line_of) items ∙ map-append line_of m.loaded.items (kept ∷ []) ∙ ap (λ (bytes : List ℕ). map line_of m.loaded.items ++ lines.File c.args.path c.args.attributes bytes ∷ []) told;
       picture = loads_at m.space c.store_file.new.space m.nodes c.store_file.new.nodes m.config.settings m.links c.store_file.ensures.kept c.store_file.ensures.links;

@@ -8,11 +8,11 @@ use Rattle.hdfs_namenode.proofs.Services.{same_service_trans}
 use Rattle.hdfs_namenode.proofs.Keyed.{by_known, gives_key, service_between}
 use Rattle.hdfs_namenode.proofs.protocol.NamenodeProtocol.get_cached_data_encryption_key.Goals as goal
 
-pub key_by-requires : goal.key_by-requires
-key_by-requires g c =
+pub key_by-requires-clause-service : goal.key_by-requires-clause-service
+key_by-requires-clause-service g c =
     let look = c.get_cached_server_defaults in
     service_between g.C.Cluster.shown g.C.Cluster.serves g.met.C.Cluster.serves_rows c.args.self.now look.new.self c.args.cluster.now look.new.cluster look.result
-    (defaults_of c.args.self.now) look.ensures.known look.ensures.asked look.ensures.keeps.1 c.requires
+    (defaults_of c.args.self.now) look.ensures.known look.ensures.asked look.ensures.keeps.1 c.requires.service
 
 pub returns-in_err-defaults-clause-first : goal.returns-in_err-defaults-clause-first
 returns-in_err-defaults-clause-first g c = λ none.

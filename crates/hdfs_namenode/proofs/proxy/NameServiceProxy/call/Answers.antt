@@ -39,14 +39,14 @@ pub returns-in_err-answer-clause-keeps : goal.returns-in_err-answer-clause-keeps
 returns-in_err-answer-clause-keeps g c =
     same_service_trans c.args.self.now c.sync.new.self c.ask_observer_first.new.self c.sync.ensures.keeps c.ask_observer_first.ensures.keeps
 
-pub ask_all-requires : goal.ask_all-requires
-ask_all-requires g c =
+pub ask_all-requires-clause-service : goal.ask_all-requires-clause-service
+ask_all-requires-clause-service g c =
     let s = g.C.Cluster.shown c.args.cluster.now in
     let m = g.C.Cluster.shown c.sync.new.cluster in
     service_later c.sync.new.self c.ask_observer_first.new.self m (g.C.Cluster.shown c.ask_observer_first.new.cluster) c.ask_observer_first.ensures.keeps
     c.ask_observer_first.ensures.later
     (service_later c.args.self.now c.sync.new.self s m c.sync.ensures.keeps c.sync.ensures.later
-    (record { within = c.requires.within; from = c.requires.from; below = c.requires.below; observer = c.requires.observer }))
+    c.requires.service)
 
 pub returns-in-Some-clause-asked : goal.returns-in-Some-clause-asked
 returns-in-Some-clause-asked g c =
