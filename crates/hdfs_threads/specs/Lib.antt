@@ -1,0 +1,4 @@
+pub mod Counts
+pub mod Inside
+pub mod Links
+pub mod Pairs

@@ -1,0 +1,139 @@
+//! The pair under its lock, and its holds: a thread waits where it has nothing to do, and each event wakes the other.
+
+ghost use Rattle.std.specs.Prelude.{◌≡◌, ◌+◌, ◌<◌, OnOk};
+ghost use Rattle.hdfs_threads.specs.declared.pair.AckTurn.TheVariants as turns;
+
+use crate::pair::{AckTurn, Job, Pair, SenderTurn};
+use hdfs_wire::{Ack, NoMemory, WritePacket};
+use std::alloc::Global;
+use std::sync::ledger::{Ledger, Share};
+use std::sync::{Condvar, Mutex, Wait};
+
+/// What both threads share: the packets, which nobody changes, and the pair under its lock.
+#[derive(Drop)]
+pub(crate) struct Shared<J: Job, W: Ledger, X: Ledger, A: Ledger, Y: Ledger, Z: Ledger> {
+    pub(crate) alloc: Global,
+    pub(crate) packets: Vec<WritePacket>,
+    pub(crate) pair: Mutex<Pair<J, W, X, A, Y, Z>>,
+    changed: Condvar,
+    ghost all: { packets.items ≡ J.packets },
+}
+
+impl<J: Job, W: Ledger, X: Ledger, A: Ledger, Y: Ledger, Z: Ledger> Shared<J, W, X, A, Y, Z> {
+    /// Shares the packets of the job, and a pair.
+    pub(crate) fn new(
+        alloc: Global,
+        packets: Vec<WritePacket>,
+        pair: Pair<J, W, X, A, Y, Z>,
+    ) -> Shared<J, W, X, A, Y, Z>
+        requires { packets.items ≡ J.packets }
+    {
+        Shared {
+            alloc,
+            packets,
+            pair: Mutex::new(pair),
+            changed: Condvar::new(),
+        }
+    }
+
+    /// A hold of the sender, which waits where it has nothing to do.
+    fn sender_hold<R: Wait>(&self, rt: &R) -> Result<SenderTurn, NoMemory> {
+        let packets = self.packets.as_slice();
+        let count = packets.len();
+        let mut guard = self
+            .changed
+            .wait_while(rt, self.pair.lock(rt), |pair| pair.sender_waits(count));
+        let turn = guard.sender_turn(self.alloc, packets);
+        self.changed.notify_all();
+        turn
+    }
+
+    /// Waits until a packet is taken, to be sent. False where there is none to send any more.
+    pub(crate) fn take_next<R: Wait>(&self, rt: &R) -> Result<bool, NoMemory> {
+        for _ in rt.forever() {
+            match self.sender_hold(rt)? {
+                SenderTurn::Send => return Ok(true),
+                SenderTurn::Stop => return Ok(false),
+                SenderTurn::Pushed | SenderTurn::Wait => {}
+            }
+        }
+        Ok(false)
+    }
+
+    /// Tells that the packet in the hand was sent.
+    pub(crate) fn tell_wrote<R: Wait>(&self, rt: &R, mine: &mut Share<W>) -> Result<(), NoMemory>
+        requires { 0 < mine.old.parts }
+        ensures amount { OnOk result (mine.new.amount ≡ mine.old.amount + 1) }
+        ensures parts { mine.new.parts ≡ mine.old.parts }
+    {
+        let told = self.pair.lock(rt).wrote(mine);
+        self.changed.notify_all();
+        told
+    }
+
+    /// Tells that the packet in the hand couldn't be sent.
+    pub(crate) fn tell_write_failed<R: Wait>(
+        &self,
+        rt: &R,
+        mine: &mut Share<X>,
+    ) -> Result<(), NoMemory>
+        requires { 0 < mine.old.parts }
+        ensures amount { OnOk result (mine.new.amount ≡ mine.old.amount + 1) }
+        ensures parts { mine.new.parts ≡ mine.old.parts }
+    {
+        let told = self.pair.lock(rt).write_failed(mine);
+        self.changed.notify_all();
+        told
+    }
+
+    /// A hold of the other thread, which waits until a packet waits for its acknowledgement, or it is over.
+    pub(crate) fn ack_hold<R: Wait>(&self, rt: &R, over: &mut Share<Z>) -> AckTurn
+        requires { 0 < over.old.parts }
+        ensures over { result ≡ turns.Stop → 0 < over.new.amount }
+        ensures parts { over.new.parts ≡ over.old.parts }
+    {
+        let packets = self.packets.as_slice();
+        let count = packets.len();
+        let mut guard = self
+            .changed
+            .wait_while(rt, self.pair.lock(rt), |pair| pair.asker_waits(count));
+        guard.ack_turn(packets, over)
+    }
+
+    /// Tells that an acknowledgement came.
+    pub(crate) fn tell_acked<R: Wait>(
+        &self,
+        rt: &R,
+        mine: &mut Share<A>,
+        ack: Ack,
+    ) -> Result<(), NoMemory>
+        requires { 0 < mine.old.parts }
+        ensures amount { OnOk result (mine.new.amount ≡ mine.old.amount + 1) }
+        ensures parts { mine.new.parts ≡ mine.old.parts }
+    {
+        let told = self.pair.lock(rt).acked(mine, ack);
+        self.changed.notify_all();
+        told
+    }
+
+    /// Tells that none came.
+    pub(crate) fn tell_ack_failed<R: Wait>(
+        &self,
+        rt: &R,
+        mine: &mut Share<Y>,
+    ) -> Result<(), NoMemory>
+        requires { 0 < mine.old.parts }
+        ensures amount { OnOk result (mine.new.amount ≡ mine.old.amount + 1) }
+        ensures parts { mine.new.parts ≡ mine.old.parts }
+    {
+        let told = self.pair.lock(rt).ack_failed(mine);
+        self.changed.notify_all();
+        told
+    }
+
+    /// Tells that a thread found no memory.
+    pub(crate) fn starve<R: Wait>(&self, rt: &R) {
+        self.pair.lock(rt).starve();
+        self.changed.notify_all();
+    }
+}
