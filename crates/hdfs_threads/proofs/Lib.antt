@@ -1,3 +1,6 @@
 pub mod Calling
+pub mod Counting
+pub mod Ending
 pub mod Keeping
+pub mod Lasts
 pub mod Waiting

@@ -1,5 +1,5 @@
 -- What each of the two threads has done, once it went through.
-use Rattle.std.specs.Prelude.{◌≡◌, ℕ, ◌<◌, ◌≤◌, List, take}
+use Rattle.std.specs.Prelude.{◌≡◌, ℕ, ◌<◌, ◌≤◌, List, length, take}
 use Rattle.hdfs_wire.specs.Outgoing.{Outgoing}
 use Rattle.hdfs_pipeline.specs.declared.event.Event.{Event}
 use Rattle.hdfs_threads.specs.Counts.{wrote_in, write_failed_in, acked_in, ack_failed_in}
@@ -9,6 +9,7 @@ use Rattle.hdfs_threads.specs.Links.{OutShown, InShown, Took, GaveSo}
 pub record SentAll (packets : List Outgoing) (before : OutShown) (sent wrote failed : ℕ) (after : OutShown) : Type 0 where
   pub took : Took before (take sent packets) after
   pub counted : sent ≡ wrote
+  pub within : sent ≤ length packets
   pub one : failed ≤ 1
   pub cause : 0 < failed → before.failures < after.failures
 

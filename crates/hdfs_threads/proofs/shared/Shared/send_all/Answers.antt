@@ -2,7 +2,7 @@ use Rattle.std.proofs.Common.{rules, ◌≡◌, ◌<◌, length, take, subst, sy
 use Rattle.std.specs.Prelude.{slice_index_or}
 use Rattle.hdfs_threads.specs.Links.{Took}
 use Rattle.hdfs_threads.proofs.Calling.{took_none, took_next}
-use Rattle.hdfs_threads.proofs.run.send_all.Goals as goal
+use Rattle.hdfs_threads.proofs.shared.Shared.send_all.Goals as goal
 
 -- a send that fails sends nothing
 pub returns-then-not-branch-2-clause-done : goal.returns-then-not-branch-2-clause-done
@@ -15,9 +15,11 @@ returns-then-not-branch-2-clause-done g c =
     let sum = so_far.amount in
     let none = so_far.none in
     let counted = so_far.counted in
+    let left : c.packets.packet-index < length g.J.Job.packets = search rules in
     let sent = subst (λ k. Took before (take k g.J.Job.packets) here) (sym counted) so_far.took in record {
       took = took_none before here behind (take c.packets.sent g.J.Job.packets) sent broke.0;
       counted = omega (arith, broke.1, sum, counted);
+      within = omega (arith, left, counted);
       one = omega (arith, broke.2, none);
       cause = λ _. omega (arith, so_far.later, broke.3);
     }
@@ -29,7 +31,6 @@ packets-preserved g c =
     let here = g.O.PacketOut.shown c.packets.out in
     let behind = g.O.PacketOut.shown c.send_one.new.out in
     let so_far = c.packets.invariant in
-    let mine = c.send_one.new.mine in
     let one = c.in_ok-send_one.ensures.sent c.if-not-branch-2.false in
     let left : c.packets.packet-index < length g.J.Job.packets = search rules in
     let is : c.packet-item.result ≡ slice_index_or g.J.Job.packets c.packets.packet-index c.packet-item.result = search rules in

@@ -1,30 +1,27 @@
 use Rattle.std.proofs.Common.{rules, ◌≡◌, ◌+◌, ◌<◌, [], ◌∷◌, Some, None, arith}
 use Rattle.hdfs_threads.specs.Links.{Gave}
 use Rattle.hdfs_threads.proofs.Calling.{gave_more}
-use Rattle.hdfs_threads.proofs.run.ask_one.Goals as goal
+use Rattle.hdfs_threads.proofs.shared.Shared.ask_one.Goals as goal
 
 -- an acknowledgement more was given, and counted
 pub returns-in_ok-tell_acked-in-Ok-clause-gave : goal.returns-in_ok-tell_acked-in-Ok-clause-gave
 returns-in_ok-tell_acked-in-Ok-clause-gave g c start so =
     let here = g.I.AckIn.shown c.args.acks.now in
     let behind = g.I.AckIn.shown c.ack.new.self in
-    let mine = c.args.mine.now in
     let gave : Gave here (Some c.in-Ok.ack ∷ []) behind = search rules in
-    let one : c.tell_acked.new.mine.amount ≡ mine.acked.amount + 1 = search rules in
-    gave_more start here behind (Some c.in-Ok.ack ∷ []) mine.acked.amount mine.failed.amount c.tell_acked.new.mine.amount mine.failed.amount gave one (omega arith) so
+    let one : c.tell_acked.new.mine.amount ≡ c.args.acked.now.amount + 1 = search rules in
+    gave_more start here behind (Some c.in-Ok.ack ∷ []) c.args.acked.now.amount c.args.failed.now.amount c.tell_acked.new.mine.amount c.args.failed.now.amount gave one (omega arith) so
 
 -- none came, which is counted
 pub returns-in_ok-tell_ack_failed-in-Err-Broken : goal.returns-in_ok-tell_ack_failed-in-Err-Broken
 returns-in_ok-tell_ack_failed-in-Err-Broken g c =
     let here = g.I.AckIn.shown c.args.acks.now in
     let behind = g.I.AckIn.shown c.ack.new.self in
-    let mine = c.args.mine.now in
     let gave : Gave here (None ∷ []) behind = search rules in
-    let one : c.tell_ack_failed.new.mine.amount ≡ mine.failed.amount + 1 = search rules in
+    let one : c.tell_ack_failed.new.mine.amount ≡ c.args.failed.now.amount + 1 = search rules in
     let risen : here.failures < behind.failures = search rules in record {
-      gave = λ start so. gave_more start here behind (None ∷ []) mine.acked.amount mine.failed.amount mine.acked.amount c.tell_ack_failed.new.mine.amount gave (omega arith) one so;
+      gave = λ start so. gave_more start here behind (None ∷ []) c.args.acked.now.amount c.args.failed.now.amount c.args.acked.now.amount c.tell_ack_failed.new.mine.amount gave (omega arith) one so;
       cause = λ _. risen;
       later = search rules;
       parts = search rules;
-      over = search rules;
     }
