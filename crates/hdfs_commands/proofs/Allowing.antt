@@ -39,7 +39,7 @@ module _ {allows : Request → Type 0} (all : (request : Request) → allows req
   }
   lets_at client path (commands.Read name offset len) = record {
     locates = all (AskOf (asks.GetBlockLocations path 0 9223372036854775807));
-    defaults = all (AskOf asks.GetServerDefaults);
+    defaults = λ some. all (AskOf asks.GetServerDefaults);
     reads = λ block end k ask is. all (ReadOf ask);
   }
 

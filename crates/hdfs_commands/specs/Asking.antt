@@ -1,5 +1,6 @@
--- What a session may ask a cluster for, command by command. A session asks for nothing else, whatever comes of it.
-use Rattle.std.specs.Prelude.{◌≡◌, ℕ, ◌-◌, ◌^◌, true, false, List, [], Option, unwrap_or}
+-- What a session may ask a cluster for, command by command. It asks for nothing else, whatever comes of it, but that any namenode may always
+-- be asked for its state, and to be in step (`keeps_up`). How often is not said.
+use Rattle.std.specs.Prelude.{◌≡◌, ℕ, ◌<◌, ◌-◌, ◌^◌, true, false, List, [], Option, unwrap_or}
 use Rattle.hdfs_cluster.specs.declared.asks.Ask.TheVariants as asks
 use Rattle.hdfs_cluster.specs.declared.messages.LocatedBlock.{LocatedBlock}
 use Rattle.hdfs_cluster.specs.declared.messages.ServerDefaults.{ServerDefaults}
@@ -31,10 +32,11 @@ pub record LetsAppend (allows : Request → Type 0) (client path : List ℕ) : T
   pub opens : allows (AskOf (appending path client 4))
   pub closes : (file_id : Option ℕ) → LetsClose allows client path file_id
 
--- a read: all blocks of the file, the defaults, and the blocks from the datanodes that are listed for them, in no client's name
-pub record LetsReadFile (allows : Request → Type 0) (path : List ℕ) : Type 0 where
+-- A read of so many bytes: all blocks of the file; where there are some bytes the defaults; and any block from the datanodes that are listed
+-- for it, in no client's name.
+pub record LetsReadFile (allows : Request → Type 0) (path : List ℕ) (len : ℕ) : Type 0 where
   pub locates : allows (AskOf (asks.GetBlockLocations path 0 (2 ^ 63 - 1)))
-  pub defaults : allows (AskOf asks.GetServerDefaults)
+  pub defaults : 0 < len → allows (AskOf asks.GetServerDefaults)
   pub reads : (block : LocatedBlock) (end : ℕ) → LetsRead allows block [] end
 
 -- what a command may ask for at a path, in the name of a client
@@ -43,7 +45,7 @@ LetsAt allows client path (commands.Create name options) = are_options options �
 LetsAt allows client path (commands.Append name) = LetsAppend allows client path
 LetsAt allows client path (commands.Write name bytes) = (file_id : Option ℕ) → LetsWrite allows client path file_id
 LetsAt allows client path (commands.Close name) = (file_id : Option ℕ) → LetsClose allows client path file_id
-LetsAt allows client path (commands.Read name offset len) = LetsReadFile allows path
+LetsAt allows client path (commands.Read name offset len) = LetsReadFile allows path len
 
 -- what a command may ask for in a session with these settings: at its own path, and where that is none nothing
 abbrev pub Lets : (Request → Type 0) → Settings → Command → Type 0

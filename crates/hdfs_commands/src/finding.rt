@@ -1,5 +1,5 @@
 //! The blocks of a range of a file that may be read.
-ghost use Rattle.std.specs.Prelude.{◌≡◌, ◌+◌, ◌≤◌, ℕ, None, Some, IfOk, IfErr, OnOk};
+ghost use Rattle.std.specs.Prelude.{◌≡◌, ◌<◌, ◌+◌, ◌≤◌, ℕ, None, Some, IfOk, IfErr, OnOk};
 ghost use Rattle.hdfs_model.specs.Causes.{Cause, Tells};
 ghost use Rattle.hdfs_cluster.specs.Files.{State};
 ghost use Rattle.hdfs_cluster.specs.Picture.{Picture, SameButActive, SameFiles, Told};
@@ -49,7 +49,7 @@ fn allow_transfer<C: Cluster>(
     len: u64,
 ) -> Result<(), HdfsError>
     requires reaches { ReachesAll (proxy_of namenode.old) (C.shown cluster.old) }
-    requires allowed { C.allows (AskOf asks.GetServerDefaults) }
+    requires allowed { 0 < len → C.allows (AskOf asks.GetServerDefaults) }
     ensures looks { OnlyLooks (C.shown cluster.old) (C.shown cluster.new) }
     ensures picture { Told SameButActive (C.shown cluster.old).picture (C.shown cluster.new).picture }
     ensures ok { OnOk result (MayMove len (C.shown cluster.old) namenode.old) }
@@ -80,7 +80,7 @@ pub(crate) fn find_range<C: Cluster>(
     len: u64,
 ) -> Result<LocatedBlocks, HdfsError>
     requires reaches { ReachesAll (proxy_of namenode.old) (C.shown cluster.old) }
-    requires allowed { LetsReadFile C.allows path.now }
+    requires allowed { LetsReadFile C.allows path.now len }
 
     // over any cluster
     ensures looks { OnlyLooks (C.shown cluster.old) (C.shown cluster.new) }

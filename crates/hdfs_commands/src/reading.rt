@@ -201,7 +201,7 @@ pub(crate) fn read_file<C: Cluster>(
     len: u64,
 ) -> Result<Reply, HdfsError>
     requires reaches { ReachesAll (proxy_of namenode.old) (C.shown cluster.old) }
-    requires allowed { LetsReadFile C.allows path.now }
+    requires allowed { LetsReadFile C.allows path.now len }
     ensures anywhere { Applies (Command.Read name.now offset len) (C.shown cluster.old) (C.shown cluster.new) result }
     ensures links { SameLinks (C.shown cluster.old) (C.shown cluster.new) }
     ensures owed { IfErr result IsNotOwed }
