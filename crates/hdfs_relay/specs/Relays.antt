@@ -59,9 +59,11 @@ pub record TellsEnd (packets : ℕ) (text : List ℕ) (status : ℕ) : Type 0 wh
 -- Memory was wanting, and nothing was written; or the end of the pair was told.
 pub data Ran (packets : ℕ) (before : SinkShown) (status : ℕ) (after : SinkShown) : Type 0 where
   Starved : status ≡ 3 → after ≡ before → Ran packets before status after
-  Told : (text : List ℕ) (good : ℕ) → TellsEnd packets text good → Concludes good before text status after → Ran packets before status after
+  Told : (text : List ℕ) (good : ℕ) → TellsEnd packets text good → Concludes good before text status after
+      → Ran packets before status after
 
 -- The words are refused, and `bad 0` was written; or the packets were relayed.
 pub record Relayed (words : List (List ℕ)) (before : SinkShown) (status : ℕ) (after : SinkShown) : Type 0 where
-  pub refused : ((packets window : ℕ) → IsRelay words packets window → ⊥) → Concludes 1 before (refusal_text 0) status after
+  pub refused : ((packets window : ℕ) → IsRelay words packets window → ⊥)
+      → Concludes 1 before (refusal_text 0) status after
   pub ran : (packets window : ℕ) → IsRelay words packets window → Ran packets before status after

@@ -112,8 +112,8 @@ fn refuse<K: Sink>(sink: &mut K) -> u8
     status_of(1, printed)
 }
 
-/// Runs the words `relay PACKETS WINDOW`: one thread sends so many packets of a byte and a last one to a node in memory, and
-/// another takes its acknowledgements. It may wait for ever, where no thread can be made.
+/// Runs the words `relay PACKETS WINDOW`: one thread sends so many packets of a byte and a last one to a node in
+/// memory, and another takes its acknowledgements. It may wait for ever, where no thread can be made.
 ///
 /// | Status | Comes |
 /// |---|---|

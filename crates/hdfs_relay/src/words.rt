@@ -28,7 +28,8 @@ fn begins_well(text: &str) -> bool
 
 /// The number from 1 to `most` that a text writes in digits, without a leading zero.
 fn number(text: &str, most: u32) -> Option<u32>
-    ensures { MatchOption result ((number : ℕ) → Writes most text.now number → ⊥) (λ number. Writes most text.now number) }
+    ensures { MatchOption result ((number : ℕ) → Writes most text.now number → ⊥)
+        (λ number. Writes most text.now number) }
 {
     if !begins_well(text) {
         return None;

@@ -7,8 +7,8 @@ use std::sync::atomic::{AtomicBool, Ordering};
 /// How often a thread looks at most.
 const LOOKS: u32 = 100_000_000;
 
-/// Holds the second send until the first acknowledgement is asked for, and that until the second send has begun. Each marks
-/// its own beginning before it looks for the other's.
+/// Holds the second send until the first acknowledgement is asked for, and that until the second send has begun. Each
+/// marks its own beginning before it looks for the other's.
 #[derive(Drop)]
 pub(crate) struct Handshake {
     send_begun: AtomicBool,

@@ -15,8 +15,8 @@ fn put_recover(out: &mut String, failed: &[u32], replay: &[WritePacket]) -> Resu
     Ok(())
 }
 
-/// The end: with success how many packets were sent, else the failed places and the seqnos that are handed back, or the bad
-/// seqno. How many were sent before a failure isn't told, since that isn't always the same.
+/// The end: with success how many packets were sent, else the failed places and the seqnos that are handed back, or the
+/// bad seqno. How many were sent before a failure isn't told, since that isn't always the same.
 pub(crate) fn put_end(out: &mut String, ended: &Result<PairEnd, NoMemory>) -> Result<(), NoMemory> {
     let Ok(ended) = ended else {
         return Ok(out.push_str("no memory")?);

@@ -20,9 +20,9 @@ with_rest (ends.Bad seqno) rest = ends.Bad seqno
 abbrev pub NoneIsLast : List Outgoing → Type 0
 NoneIsLast packets = All (λ packet. packet.header.last_packet_in_block ≡ false) packets
 
--- What was pushed is a front of the packets, and the end is that of the history, with the packets that were never pushed
--- behind its replay. So a replay is all packets but the acknowledged ones, in order; where no node has failed it is empty,
--- and none of the packets is a last one; and with success all are acknowledged.
+-- What was pushed is a front of the packets, and the end is that of the history, with the packets that were never
+-- pushed behind its replay. So a replay is all packets but the acknowledged ones, in order; where no node has failed
+-- it is empty, and none of the packets is a last one; and with success all are acknowledged.
 pub record EndsWith (window nodes : ℕ) (packets : List Outgoing) (history : List Event) (end : PipelineEnd) : Type 0 where
   pub pushed : (run_of window nodes history).pushed ≡ take (length (run_of window nodes history).pushed) packets
   pub is : end ≡ with_rest (end_of (run_of window nodes history)) (drop (length (run_of window nodes history).pushed) packets)
@@ -30,9 +30,9 @@ pub record EndsWith (window nodes : ℕ) (packets : List Outgoing) (history : Li
   pub idle : (replay : List Outgoing) → end ≡ ends.Recover [] replay → (replay ≡ []) × NoneIsLast packets
   pub done : end ≡ ends.Success → packets ≡ acked_of (run_of window nodes history)
 
--- The events are as many as the calls of the two ends: as many packets were sent as were told, the first ones in their order,
--- all of them with success; a send that failed, at most one, has a cause; and what was given is as many acknowledgements,
--- and failures with a cause.
+-- The events are as many as the calls of the two ends: as many packets were sent as were told, the first ones in
+-- their order, all of them with success; a send that failed, at most one, has a cause; and what was given is as many
+-- acknowledgements, and failures with a cause.
 pub record Counted (out out' : OutShown) (acks acks' : InShown) (packets : List Outgoing) (r : PairEnd) : Type 0 where
   pub sent : r.sent ≡ wrote_in r.history
   pub within : r.sent ≤ length packets

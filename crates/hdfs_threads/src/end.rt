@@ -69,14 +69,16 @@ fn close(
     requires { pushed ≤ vec_len packets }
     ensures core { IsCore core }
     ensures end { (events : List EventShown) → Stands core events
-        → IfOk result (λ end. end ≡ with_rest (end_of (run_of core.window core.nodes events)) (drop pushed packets.items)) }
+        → IfOk result (λ end. end ≡ with_rest (end_of (run_of core.window core.nodes events))
+        (drop pushed packets.items)) }
 {
     let _ = core.has_ended();
     end_with_rest(core.shutdown(), packets, pushed)
 }
 
 impl<J: Job, W: Ledger, X: Ledger, A: Ledger, Y: Ledger, Z: Ledger> Pair<J, W, X, A, Y, Z> {
-    /// Ends the pair, which both threads have left. Their shares are whole, so what they counted is what the history has.
+    /// Ends the pair, which both threads have left. Their shares are whole, so what they counted is what the history
+    /// has.
     pub(crate) fn finish(
         self,
         packets: Vec<WritePacket>,
@@ -85,12 +87,12 @@ impl<J: Job, W: Ledger, X: Ledger, A: Ledger, Y: Ledger, Z: Ledger> Pair<J, W, X
     ) -> Result<PairEnd, NoMemory>
         requires packets { packets.items ≡ J.packets }
         requires last { IsLastBehind J.packets }
-        requires parts { (mine.wrote.parts ≡ W.parts) × (mine.write_failed.parts ≡ X.parts) × (mine.acked.parts ≡ A.parts)
-            × (mine.ack_failed.parts ≡ Y.parts) }
+        requires parts { (mine.wrote.parts ≡ W.parts) × (mine.write_failed.parts ≡ X.parts)
+            × (mine.acked.parts ≡ A.parts) × (mine.ack_failed.parts ≡ Y.parts) }
         requires over { 0 < mine.over.amount }
         ensures ends { IfOk result (λ r. EndsWith J.window J.nodes J.packets r.history r.end) }
-        ensures tallies { IfOk result (λ r. Tallies r.history mine.wrote.amount mine.write_failed.amount mine.acked.amount
-            mine.ack_failed.amount) }
+        ensures tallies { IfOk result (λ r. Tallies r.history mine.wrote.amount mine.write_failed.amount
+            mine.acked.amount mine.ack_failed.amount) }
         ensures sent { IfOk result (λ r. r.sent ≡ sent) }
     {
         let Shares {

@@ -32,8 +32,8 @@ pub struct MemOut<'a, R: Wait + Sync> {
     arrivals: Arc<Arrivals>,
 }
 
-/// Where the acknowledgements of a node in memory come from, those of so many nodes in a row: the nth one is that of the
-/// packet n - 1, and each status is 0. It is given once n packets have come.
+/// Where the acknowledgements of a node in memory come from, those of so many nodes in a row: the nth one is that of
+/// the packet n - 1, and each status is 0. It is given once n packets have come.
 #[derive(Drop)]
 pub struct MemIn<'a, R: Wait + Sync> {
     rt: &'a R,

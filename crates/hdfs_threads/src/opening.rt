@@ -33,10 +33,10 @@ pub(crate) fn open<J: Job, W: Ledger, X: Ledger, A: Ledger, Y: Ledger, Z: Ledger
     requires packets { begin.packets.items ≡ J.packets }
     requires names { (begin.wrote.name ≡ W.name) × (begin.write_failed.name ≡ X.name) × (begin.acked.name ≡ A.name)
         × (begin.ack_failed.name ≡ Y.name) × (begin.over.name ≡ Z.name) }
-    requires parts { (begin.wrote.parts ≡ W.parts) × (begin.write_failed.parts ≡ X.parts) × (begin.acked.parts ≡ A.parts)
-        × (begin.ack_failed.parts ≡ Y.parts) × (begin.over.parts ≡ Z.parts) }
-    ensures parts { (result.1.wrote.parts ≡ W.parts) × (result.1.write_failed.parts ≡ X.parts) × (result.1.acked.parts ≡ A.parts)
-        × (result.1.ack_failed.parts ≡ Y.parts) × (result.1.over.parts ≡ Z.parts) }
+    requires parts { (begin.wrote.parts ≡ W.parts) × (begin.write_failed.parts ≡ X.parts)
+        × (begin.acked.parts ≡ A.parts) × (begin.ack_failed.parts ≡ Y.parts) × (begin.over.parts ≡ Z.parts) }
+    ensures parts { (result.1.wrote.parts ≡ W.parts) × (result.1.write_failed.parts ≡ X.parts)
+        × (result.1.acked.parts ≡ A.parts) × (result.1.ack_failed.parts ≡ Y.parts) × (result.1.over.parts ≡ Z.parts) }
     ensures amounts { (result.1.wrote.amount ≡ 0) × (result.1.write_failed.amount ≡ 0) × (result.1.acked.amount ≡ 0)
         × (result.1.ack_failed.amount ≡ 0) }
 {

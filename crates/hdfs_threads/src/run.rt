@@ -108,7 +108,8 @@ impl<J: Job, W: Ledger, X: Ledger, A: Ledger, Y: Ledger, Z: Ledger> Shared<J, W,
         failed: &mut Share<Y>,
     ) -> Result<(), NoMemory>
         requires { (0 < acked.old.parts) × (0 < failed.old.parts) }
-        ensures gave { OnOk result ((start : InShown) → GaveSo start acked.old.amount failed.old.amount (I.shown acks.old)
+        ensures gave { OnOk result ((start : InShown)
+            → GaveSo start acked.old.amount failed.old.amount (I.shown acks.old)
             → GaveSo start acked.new.amount failed.new.amount (I.shown acks.new)) }
         ensures cause { OnOk result (failed.old.amount < failed.new.amount
             → (I.shown acks.old).failures < (I.shown acks.new).failures) }

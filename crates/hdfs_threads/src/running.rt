@@ -37,13 +37,15 @@ fn run_counted<
     requires packets { begin.packets.items ≡ J.packets }
     requires names { (begin.wrote.name ≡ W.name) × (begin.write_failed.name ≡ X.name) × (begin.acked.name ≡ A.name)
         × (begin.ack_failed.name ≡ Y.name) × (begin.over.name ≡ Z.name) }
-    requires parts { (begin.wrote.parts ≡ W.parts) × (begin.write_failed.parts ≡ X.parts) × (begin.acked.parts ≡ A.parts)
-        × (begin.ack_failed.parts ≡ Y.parts) × (begin.over.parts ≡ Z.parts) }
+    requires parts { (begin.wrote.parts ≡ W.parts) × (begin.write_failed.parts ≡ X.parts)
+        × (begin.acked.parts ≡ A.parts) × (begin.ack_failed.parts ≡ Y.parts) × (begin.over.parts ≡ Z.parts) }
     requires last { IsLastBehind J.packets }
     requires one { (W.parts ≡ 1) × (X.parts ≡ 1) × (A.parts ≡ 1) × (Y.parts ≡ 1) × (Z.parts ≡ 1) }
     ensures ends { IfOk result (λ r. EndsWith J.window J.nodes J.packets r.history r.end) }
-    ensures counts { IfOk result (λ r. Counted (O.shown out.old) (O.shown out.new) (I.shown acks.old) (I.shown acks.new) J.packets r) }
-    ensures later { ((O.shown out.old).failures ≤ (O.shown out.new).failures) × ((I.shown acks.old).failures ≤ (I.shown acks.new).failures) }
+    ensures counts { IfOk result (λ r. Counted (O.shown out.old) (O.shown out.new)
+        (I.shown acks.old) (I.shown acks.new) J.packets r) }
+    ensures later { ((O.shown out.old).failures ≤ (O.shown out.new).failures)
+        × ((I.shown acks.old).failures ≤ (I.shown acks.new).failures) }
 {
     let (shared, shares) = open::<J, W, X, A, Y, Z>(begin);
     let (sent, shares) = run_both(rt, &shared, gate, out, acks, shares)?;
@@ -52,9 +54,10 @@ fn run_counted<
     Ok(ended)
 }
 
-/// Sends the packets over a pipeline of so many nodes, in which at most `window` of them wait for their acknowledgement: a
-/// thread sends them, and another takes the acknowledgements. The answer is the end, how many packets were sent, and all that
-/// happened. It may wait for ever, where `out` or `acks` does, or where no thread can be made.
+/// Sends the packets over a pipeline of so many nodes, in which at most `window` of them wait for their
+/// acknowledgement: a thread sends them, and another takes the acknowledgements. The answer is the end, how many
+/// packets were sent, and all that happened. It may wait for ever, where `out` or `acks` does, or where no thread can
+/// be made.
 pub fn run_pair<O: PacketOut, A: AckIn, G: Gate, R: Threads + Wait + Sync>(
     rt: &R,
     alloc: Global,
@@ -69,8 +72,10 @@ pub fn run_pair<O: PacketOut, A: AckIn, G: Gate, R: Threads + Wait + Sync>(
     requires nodes { (1 ≤ nodes) × (nodes ≤ 256) }
     requires last { IsLastBehind packets.items }
     ensures ends { IfOk result (λ r. EndsWith window nodes packets.items r.history r.end) }
-    ensures counts { IfOk result (λ r. Counted (O.shown out.old) (O.shown out.new) (A.shown acks.old) (A.shown acks.new) packets.items r) }
-    ensures later { ((O.shown out.old).failures ≤ (O.shown out.new).failures) × ((A.shown acks.old).failures ≤ (A.shown acks.new).failures) }
+    ensures counts { IfOk result (λ r. Counted (O.shown out.old) (O.shown out.new)
+        (A.shown acks.old) (A.shown acks.new) packets.items r) }
+    ensures later { ((O.shown out.old).failures ≤ (O.shown out.new).failures)
+        × ((A.shown acks.old).failures ≤ (A.shown acks.new).failures) }
 {
     let core = PipelineCore::with_room(alloc, window, nodes)?;
     let begin = Beginning {
