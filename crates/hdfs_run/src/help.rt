@@ -7,7 +7,10 @@ Runs a script of file commands over an HDFS cluster in memory, with one namenode
 It reads the script from standard input and writes a line for each reply to standard output. What goes wrong is said in a
 line on standard error: which line of the script and why; or which command, its path, the error, what has failed and what to do.
 
-Usage: hdfs_run session | --explain NAME | --help | --version
+Usage: hdfs_run session | relay PACKETS WINDOW | --explain NAME | --help | --version
+
+`relay` sends 1 to 10000 packets of a byte and a last one to a node in memory, by two threads over one pipeline of which at most
+WINDOW packets, 1 to 1000, wait for their acknowledgement. It prints how many were sent, and how it ended.
 
 `--explain NAME` says of an error, as DataTransferError or AllNodes, when it comes, what is so of the file afterwards and what to
 do next. Without a name, or with one that isn't there, all names are listed on standard error.
@@ -50,9 +53,9 @@ A script has lines for settings, then for directories, files and short replicas 
 Bytes are pairs of lower-case hexadecimal digits, or `-` for none.
 
 Status  Meaning
-0       every reply was written
+0       every reply was written, or a relay ended with success
 1       `bad N` was written: line N of the script is the first bad one, or 0 where the words are refused
-2       a command failed: the replies before it were written, and a line `fault NUMBER NAME`
+2       a command failed: the replies before it were written, and a line `fault NUMBER NAME`; or a relay ended otherwise
 3       there was no memory; nothing was written
 4       standard input failed; nothing was written
 5       standard output failed

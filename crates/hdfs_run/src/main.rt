@@ -1,4 +1,4 @@
-//! Runs a script of file commands over an HDFS cluster in memory.
+//! Runs a script of file commands over an HDFS cluster in memory, or relays packets.
 #![tactic(auto)]
 
 mod complaints;
@@ -7,12 +7,16 @@ mod help;
 use complaints::complain;
 use hdfs_edge::{StdSink, StdSource, WordsFault, words};
 use hdfs_program::run_words;
+use hdfs_relay::top_relay;
 use hdfs_script::write_refusal;
 use hdfs_streams::{IoFailed, Sink, write_all};
 use hdfs_top::{Note, explain};
 use hdfs_wire::NoMemory;
 use help::{HELP, VERSION};
+use std::alloc::Global;
 use std::process::ExitCode;
+use std::sync::Wait;
+use std::thread::Threads;
 
 // The given status of a text that was printed, or that of a failed sink.
 fn status_of(good: u8, printed: Result<(), IoFailed>) -> u8 {
@@ -50,11 +54,35 @@ fn run_session<K: Sink>(rt: &HostRuntime, words: &[String], sink: &mut K, note: 
     run_words(rt.alloc(), words, &mut source, sink, note)
 }
 
-// Does what words say, and answers the status.
-fn answer<K: Sink>(rt: &HostRuntime, words: &[String], sink: &mut K, note: &mut Note) -> u8 {
+// Relays packets, and notes words that are refused.
+fn run_relay<K: Sink, R: Threads + Wait + Sync>(
+    rt: &R,
+    alloc: Global,
+    words: &[String],
+    sink: &mut K,
+    note: &mut Note,
+) -> u8 {
+    let status = top_relay(rt, alloc, words, sink);
+    if status == 1 {
+        *note = Note::Words;
+    }
+    status
+}
+
+// Does what words say, with leave to start threads, and answers the status.
+fn answer<K: Sink, R: Threads + Wait + Sync>(
+    rt: &HostRuntime,
+    leave: &R,
+    words: &[String],
+    sink: &mut K,
+    note: &mut Note,
+) -> u8 {
     match words {
         [word] if word.as_str() == "--help" => return print(sink, HELP),
         [word] if word.as_str() == "--version" => return print(sink, VERSION),
+        [word, ..] if word.as_str() == "relay" => {
+            return run_relay(leave, rt.alloc(), words, sink, note);
+        }
         _ => {}
     }
     match explanation(rt, words) {
@@ -65,18 +93,18 @@ fn answer<K: Sink>(rt: &HostRuntime, words: &[String], sink: &mut K, note: &mut 
 }
 
 // Runs the words of the command line over standard input and output, and complains on standard error.
-fn run(rt: &HostRuntime) -> u8 {
+fn run<R: Threads + Wait + Sync>(rt: &HostRuntime, leave: &R) -> u8 {
     let mut sink = StdSink::new(rt.stdout());
     let words = match words(rt) {
         Ok(words) => words,
         Err(fault) => return refuse_words(rt, &mut sink, fault),
     };
     let mut note = Note::Nothing;
-    let status = answer(rt, words.as_slice(), &mut sink, &mut note);
+    let status = answer(rt, leave, words.as_slice(), &mut sink, &mut note);
     complain(rt, status, words.as_slice(), &note);
     status
 }
 
 fn main(rt: HostRuntime) -> ExitCode {
-    ExitCode::from(run(&rt))
+    ExitCode::from(run(&rt, &rt))
 }
