@@ -36,13 +36,14 @@ impl<J: Job, W: Ledger, X: Ledger, A: Ledger, Y: Ledger, Z: Ledger> Shared<J, W,
         }
     }
 
-    /// A hold of the sender, which waits where it has nothing to do.
+    /// A hold of the sender, which waits for the other thread where it has nothing to do.
     fn sender_hold<R: Wait>(&self, rt: &R) -> Result<SenderTurn, NoMemory> {
         let packets = self.packets.as_slice();
         let count = packets.len();
-        let mut guard = self
-            .changed
-            .wait_while(rt, self.pair.lock(rt), |pair| pair.sender_waits(count));
+        let mut guard = self.pair.lock(rt);
+        if guard.sender_waits(count) {
+            guard = self.changed.wait(rt, guard);
+        }
         let turn = guard.sender_turn(self.alloc, packets);
         self.changed.notify_all();
         turn
@@ -86,7 +87,7 @@ impl<J: Job, W: Ledger, X: Ledger, A: Ledger, Y: Ledger, Z: Ledger> Shared<J, W,
         told
     }
 
-    /// A hold of the other thread, which waits until a packet waits for its acknowledgement, or it is over.
+    /// A hold of the other thread, which waits for the sender where it has nothing to do.
     pub(crate) fn ack_hold<R: Wait>(&self, rt: &R, over: &mut Share<Z>) -> AckTurn
         requires { 0 < over.old.parts }
         ensures over { result ≡ turns.Stop → 0 < over.new.amount }
@@ -94,9 +95,10 @@ impl<J: Job, W: Ledger, X: Ledger, A: Ledger, Y: Ledger, Z: Ledger> Shared<J, W,
     {
         let packets = self.packets.as_slice();
         let count = packets.len();
-        let mut guard = self
-            .changed
-            .wait_while(rt, self.pair.lock(rt), |pair| pair.asker_waits(count));
+        let mut guard = self.pair.lock(rt);
+        if guard.asker_waits(count) {
+            guard = self.changed.wait(rt, guard);
+        }
         guard.ack_turn(packets, over)
     }
 
