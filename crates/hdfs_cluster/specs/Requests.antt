@@ -1,11 +1,17 @@
 -- What a cluster is asked for, and what its client has leave to ask for. A cluster says once and for all which requests it allows, and a
 -- call that makes one wants leave for it. So a function over any cluster makes no request but those that its own clauses give it leave for.
-use Rattle.std.specs.Prelude.{◌≡◌, ℕ, List, [], length, Option}
+use Rattle.std.specs.Prelude.{◌≡◌, ◌⊎◌, ℕ, ◌-◌, ◌^◌, Bool, true, false, List, [], Contains, length, Option, Some, None}
+use Rattle.hdfs_cluster.specs.declared.asks.Answer.{Answer}
+use Rattle.hdfs_cluster.specs.declared.asks.Answer.TheVariants as answers
 use Rattle.hdfs_cluster.specs.declared.asks.Ask.{Ask}
 use Rattle.hdfs_cluster.specs.declared.asks.Ask.TheVariants as asks
+use Rattle.hdfs_cluster.specs.declared.messages.Appended.{Appended}
 use Rattle.hdfs_cluster.specs.declared.messages.Block.{Block}
 use Rattle.hdfs_cluster.specs.declared.messages.DatanodeId.{DatanodeId}
 use Rattle.hdfs_cluster.specs.declared.messages.DatanodeInfo.{DatanodeInfo}
+use Rattle.hdfs_cluster.specs.declared.messages.FileStatusMsg.{FileStatusMsg}
+use Rattle.hdfs_cluster.specs.declared.messages.LocatedBlock.{LocatedBlock}
+use Rattle.hdfs_cluster.specs.declared.messages.LocatedBlocks.{LocatedBlocks}
 use Rattle.hdfs_cluster.specs.declared.messages.ReadAsk.{ReadAsk}
 use Rattle.hdfs_cluster.specs.declared.messages.Setup.{Setup}
 use Rattle.hdfs_cluster.specs.declared.messages.Transfer.{Transfer}
@@ -26,6 +32,59 @@ pub record LetsKeepUp (allows : Request → Type 0) : Type 0 where
 abbrev pub IsSameBlock : Block → Block → Type 0
 IsSameBlock block named = (named.pool_id ≡ block.pool_id) × (named.block_id ≡ block.block_id)
 
+-- a block of a file that was answered to a look-up of all its blocks
+pub record IsLocated (may_answer : Ask → Answer → Type 0) (path : List ℕ) (block : LocatedBlock) : Type 0 where
+  pub found : LocatedBlocks
+  pub answered : may_answer (asks.GetBlockLocations path 0 (2 ^ 63 - 1)) (answers.GetBlockLocations (Some found))
+  pub among : Contains found.blocks block
+
+-- a block that was answered as one more of the file at a path, which has this id, behind any block and on any datanode
+pub record IsAdded (may_answer : Ask → Answer → Type 0) (client path : List ℕ) (file_id : Option ℕ) (block : Block) : Type 0 where
+  pub previous : Option Block
+  pub located : LocatedBlock
+  pub answered : may_answer (asks.AddBlock path client previous [] file_id) (answers.AddBlock located)
+  pub same : IsSameBlock located.b block
+
+-- a block that was answered as the last one of the file at a path, when that was opened to be gone on with
+pub record IsReopened (may_answer : Ask → Answer → Type 0) (client path : List ℕ) (block : Block) : Type 0 where
+  pub appended : Appended
+  pub located : LocatedBlock
+  pub answered : may_answer (asks.Append path client 4) (answers.Append appended)
+  pub is : appended.block ≡ Some located
+  pub same : IsSameBlock located.b block
+
+-- a block of a file that was answered to its writer: where it is new as one more, and else as the last one
+abbrev pub IsAnsweredBlock : (Ask → Answer → Type 0) → List ℕ → List ℕ → Option ℕ → Bool → Block → Type 0
+IsAnsweredBlock may_answer client path file_id true block = IsAdded may_answer client path file_id block
+IsAnsweredBlock may_answer client path file_id false block = IsReopened may_answer client path block
+
+-- the id that a status tells
+abbrev pub id_in : Option FileStatusMsg → Option ℕ
+id_in None = None
+id_in (Some status) = status.file_id
+
+-- the id that was answered with a new file at a path
+pub record IsIdOfCreated (may_answer : Ask → Answer → Type 0) (client path : List ℕ) (file_id : Option ℕ) : Type 0 where
+  pub masked : ℕ
+  pub create_flag : ℕ
+  pub create_parent : Bool
+  pub replication : ℕ
+  pub block_size : ℕ
+  pub status : Option FileStatusMsg
+  pub answered : may_answer (asks.Create path masked client create_flag create_parent replication block_size) (answers.Create status)
+  pub is : file_id ≡ id_in status
+
+-- the id that was answered with a file at a path that was opened to be gone on with
+pub record IsIdOfAppended (may_answer : Ask → Answer → Type 0) (client path : List ℕ) (file_id : Option ℕ) : Type 0 where
+  pub appended : Appended
+  pub answered : may_answer (asks.Append path client 4) (answers.Append appended)
+  pub is : file_id ≡ id_in appended.stat
+
+-- the id of the file at a path that was answered to its writer
+abbrev pub IsAnsweredId : (Ask → Answer → Type 0) → List ℕ → List ℕ → Option ℕ → Type 0
+IsAnsweredId may_answer client path file_id =
+    IsIdOfCreated may_answer client path file_id ⊎ IsIdOfAppended may_answer client path file_id
+
 -- Leave to write a block of the file at a path in the name of a client: to set up its pipelines, to have it given to one datanode, and
 -- to ask for what a rebuild asks for. One datanode more is asked for, and as many storages are named as datanodes.
 pub record LetsWriteBlock (allows : Request → Type 0) (client path : List ℕ) (block : Block) : Type 0 where
@@ -38,16 +97,17 @@ pub record LetsWriteBlock (allows : Request → Type 0) (client path : List ℕ)
   pub names : (before now : Block) (nodes : List DatanodeId) (storages : List (List ℕ)) → IsSameBlock block before → IsSameBlock block now
       → length storages ≡ length nodes → allows (AskOf (asks.UpdatePipeline client before now nodes storages))
 
--- leave to write any block of the file at a path in the name of a client
-abbrev pub LetsWriteBlocks : (Request → Type 0) → List ℕ → List ℕ → Type 0
-LetsWriteBlocks allows client path = (block : Block) → LetsWriteBlock allows client path block
+-- leave to write any block of the file at a path, which has this id, that was answered to the client
+abbrev pub LetsWriteBlocks : (Request → Type 0) → (Ask → Answer → Type 0) → List ℕ → List ℕ → Option ℕ → Type 0
+LetsWriteBlocks allows may_answer client path file_id =
+    (block : Block) → (created : Bool) → IsAnsweredBlock may_answer client path file_id created block → LetsWriteBlock allows client path block
 
 -- Leave to write the file at a path, which has this id: a block more is asked for behind any block, on any datanode.
-pub record LetsWrite (allows : Request → Type 0) (client path : List ℕ) (file_id : Option ℕ) : Type 0 where
+pub record LetsWrite (allows : Request → Type 0) (may_answer : Ask → Answer → Type 0) (client path : List ℕ) (file_id : Option ℕ) : Type 0 where
   pub adds : (previous : Option Block) → allows (AskOf (asks.AddBlock path client previous [] file_id))
-  pub blocks : LetsWriteBlocks allows client path
+  pub blocks : LetsWriteBlocks allows may_answer client path file_id
 
 -- Leave to close the file at a path, which has this id, behind any block.
-pub record LetsClose (allows : Request → Type 0) (client path : List ℕ) (file_id : Option ℕ) : Type 0 where
+pub record LetsClose (allows : Request → Type 0) (may_answer : Ask → Answer → Type 0) (client path : List ℕ) (file_id : Option ℕ) : Type 0 where
   pub completes : (last : Option Block) → allows (AskOf (asks.Complete path client last file_id))
-  pub blocks : LetsWriteBlocks allows client path
+  pub blocks : LetsWriteBlocks allows may_answer client path file_id

@@ -25,6 +25,10 @@ pub trait Cluster {
     /// that its own clauses give it leave for.
     ghost allows: { Request → Type 0 };
 
+    /// Which answers it may give to an ask, whatever has happened. A function that is proved over any cluster and has leave for what was
+    /// answered alone names no block and no file but those that it was answered.
+    ghost may_answer: { Ask → Answer → Type 0 };
+
     /// What an ask of a namenode may give, from one state to the next.
     ghost serves: { Self → ℕ → Ask → Result Answer AskFault → Self → Type 0 };
 
@@ -41,7 +45,8 @@ pub trait Cluster {
         requires allowed { allows (AskOf ask.now) }
         ensures serves { serves self.old i ask.now result self.new }
         ensures served { Served (shown self.old) i ask.now result (shown self.new) }
-        ensures shape { IfOk result (λ answer. IsShaped ask.now answer) };
+        ensures shape { IfOk result (λ answer. IsShaped ask.now answer) }
+        ensures answered { IfOk result (may_answer ask.now) };
 
     /// The moment in milliseconds, counted from any beginning.
     fn moment(&mut self) -> u64

@@ -1,15 +1,25 @@
--- A cluster that allows all requests lets any command be run.
-use Rattle.std.proofs.Common.{ℕ, false, List, []}
+-- A cluster that allows all requests lets any command be run, and one that may answer anything may have answered what a session has open.
+use Rattle.std.proofs.Common.{◌≡◌, ℕ, Bool, true, false, List, [], Option, Some, None, inr, refl}
+use Rattle.hdfs_cluster.specs.declared.asks.Answer.{Answer}
+use Rattle.hdfs_cluster.specs.declared.asks.Answer.TheVariants as answers
+use Rattle.hdfs_cluster.specs.declared.asks.Ask.{Ask}
+use Rattle.hdfs_cluster.specs.declared.messages.Block.{Block}
+use Rattle.hdfs_cluster.specs.declared.messages.FileStatusMsg.{FileStatusMsg}
+use Rattle.hdfs_cluster.specs.declared.messages.LocatedBlock.{LocatedBlock}
 use Rattle.hdfs_cluster.specs.declared.asks.Ask.TheVariants as asks
-use Rattle.hdfs_cluster.specs.Requests.{Request, AskOf, ReadOf, SetupOf, TransferOf, LetsWriteBlocks}
+use Rattle.hdfs_cluster.specs.Requests.{Request, AskOf, ReadOf, SetupOf, TransferOf, IsAnsweredBlock, IsAnsweredId, IsReopened, LetsClose, LetsWriteBlocks, id_in}
 use Rattle.hdfs_model.specs.declared.commands.Command.{Command}
 use Rattle.hdfs_model.specs.declared.commands.Command.TheVariants as commands
-use Rattle.hdfs_commands.specs.Asking.{LetsAny, LetsAt}
+use Rattle.hdfs_namenode.specs.Clients.{name_of}
+use Rattle.hdfs_file_writer.specs.Tails.{Tail, Bare, Finished, Reopened, Going}
+use Rattle.hdfs_file_writer.specs.Writers.{IsAnsweredTail, file_id_of, path_of, tail_of}
+use Rattle.hdfs_commands.specs.Asking.{AreAnswered, LetsAny, LetsAt}
+use Rattle.hdfs_commands.specs.declared.session.Session.{Session}
 use Rattle.hdfs_commands.specs.Opening.{appending, creating}
 
-module _ {allows : Request → Type 0} (all : (request : Request) → allows request) where
-  lets_blocks : (client path : List ℕ) → LetsWriteBlocks allows client path
-  lets_blocks client path block = record {
+module _ {allows : Request → Type 0} (may_answer : Ask → Answer → Type 0) (all : (request : Request) → allows request) where
+  lets_blocks : (client path : List ℕ) (file_id : Option ℕ) → LetsWriteBlocks allows may_answer client path file_id
+  lets_blocks client path file_id block created answered = record {
     sets_up = λ setup same name. all (SetupOf setup);
     gives = λ transfer same name one. all (TransferOf transfer);
     restamps = λ named same. all (AskOf (asks.UpdateBlockForPipeline named client));
@@ -18,30 +28,108 @@ module _ {allows : Request → Type 0} (all : (request : Request) → allows req
     names = λ before now nodes storages one two many. all (AskOf (asks.UpdatePipeline client before now nodes storages));
   }
 
-  lets_at : (client path : List ℕ) (command : Command) → LetsAt allows client path command
+  lets_close : (client path : List ℕ) (file_id : Option ℕ) → LetsClose allows may_answer client path file_id
+  lets_close client path file_id = record {
+    completes = λ last. all (AskOf (asks.Complete path client last file_id));
+    blocks = lets_blocks client path file_id;
+  }
+
+  lets_at : (client path : List ℕ) (command : Command) → LetsAt allows may_answer client path command
   lets_at client path (commands.Create name options) = λ fine. record {
     defaults = all (AskOf asks.GetServerDefaults);
     creates = λ defaults. all (AskOf (creating path client options _ _));
-    deletes = all (AskOf (asks.Delete path false));
+    deletes = λ replication block_size status answered encrypted. all (AskOf (asks.Delete path false));
   }
   lets_at client path (commands.Append name) = record {
     defaults = all (AskOf asks.GetServerDefaults);
     opens = all (AskOf (appending path client 4));
-    closes = λ file_id. record { completes = λ last. all (AskOf (asks.Complete path client last file_id)); blocks = lets_blocks client path };
+    closes = λ appended answered encrypted. lets_close client path (id_in appended.stat);
   }
-  lets_at client path (commands.Write name bytes) = λ file_id. record {
+  lets_at client path (commands.Write name bytes) = λ file_id answered. record {
     adds = λ previous. all (AskOf (asks.AddBlock path client previous [] file_id));
-    blocks = lets_blocks client path;
+    blocks = lets_blocks client path file_id;
   }
-  lets_at client path (commands.Close name) = λ file_id. record {
-    completes = λ last. all (AskOf (asks.Complete path client last file_id));
-    blocks = lets_blocks client path;
-  }
+  lets_at client path (commands.Close name) = λ file_id answered. lets_close client path file_id
   lets_at client path (commands.Read name offset len) = record {
     locates = all (AskOf (asks.GetBlockLocations path 0 9223372036854775807));
     defaults = λ some. all (AskOf asks.GetServerDefaults);
-    reads = λ block end k ask is. all (ReadOf ask);
+    reads = λ block located end k ask is. all (ReadOf ask);
   }
 
-  pub lets_any : LetsAny allows
+  pub lets_any : LetsAny allows may_answer
   lets_any settings command is = lets_at _ _ command
+
+-- a block of this name on no datanode
+abbrev located_at : Block → LocatedBlock
+located_at block = record {
+  b = block;
+  offset = 0;
+  locs = [];
+  corrupt = false;
+  block_token = record { identifier = []; password = []; kind = []; service = [] };
+  storage_types = [];
+  storage_ids = [];
+  block_indices = None;
+  block_tokens = [];
+}
+
+-- a status with this id
+abbrev status_with : ℕ → FileStatusMsg
+status_with id = record {
+  file_type = 2;
+  path = [];
+  length = 0;
+  permission = 0;
+  owner = [];
+  group = [];
+  modification_time = 0;
+  access_time = 0;
+  block_replication = None;
+  blocksize = None;
+  file_id = Some id;
+  encryption = None;
+  namespace = None;
+}
+
+module _ {may_answer : Ask → Answer → Type 0} (all : (ask : Ask) (answer : Answer) → may_answer ask answer) where
+  any_id : (client path : List ℕ) (file_id : Option ℕ) → IsAnsweredId may_answer client path file_id
+  any_id client path None = inr (record {
+    appended = record { block = None; stat = None };
+    answered = all (asks.Append path client 4) (answers.Append (record { block = None; stat = None }));
+    is = refl;
+  })
+  any_id client path (Some id) = inr (record {
+    appended = record { block = None; stat = Some (status_with id) };
+    answered = all (asks.Append path client 4) (answers.Append (record { block = None; stat = Some (status_with id) }));
+    is = refl;
+  })
+
+  any_reopened : (client path : List ℕ) (block : Block) → IsReopened may_answer client path block
+  any_reopened client path block = record {
+    appended = record { block = Some (located_at block); stat = None };
+    located = located_at block;
+    answered = all (asks.Append path client 4) (answers.Append (record { block = Some (located_at block); stat = None }));
+    is = refl;
+    same = (refl, refl);
+  }
+
+  any_block : (client path : List ℕ) (file_id : Option ℕ) (created : Bool) (block : Block) → IsAnsweredBlock may_answer client path file_id created block
+  any_block client path file_id true block = record {
+    previous = None;
+    located = located_at block;
+    answered = all (asks.AddBlock path client None [] file_id) (answers.AddBlock (located_at block));
+    same = (refl, refl);
+  }
+  any_block client path file_id false block = any_reopened client path block
+
+  any_tail : (client path : List ℕ) (file_id : Option ℕ) (tail : Tail) → IsAnsweredTail may_answer client path file_id tail
+  any_tail client path file_id Bare = tt
+  any_tail client path file_id (Finished id length) = tt
+  any_tail client path file_id (Reopened located) = any_reopened client path located.b
+  any_tail client path file_id (Going block) = λ pipe is. any_block client path file_id pipe.plan.created pipe.plan.block.b
+
+  pub answers_any : (session : Session) → AreAnswered may_answer session
+  answers_any session path writer is = record {
+    id = any_id (name_of session.namenode) (path_of writer) (file_id_of writer);
+    block = any_tail (name_of session.namenode) (path_of writer) (file_id_of writer) (tail_of writer);
+  }

@@ -3,6 +3,7 @@ mod Abandoning
 mod Acted
 pub mod Agreeing
 pub mod Allowing
+mod Answered
 mod Asking
 pub mod Avoiding
 mod Begun

@@ -1,10 +1,16 @@
 -- What a session may ask a cluster for, command by command. It asks for nothing else, whatever comes of it, but that any namenode may always
--- be asked for its state, and to be in step (`keeps_up`). How often is not said.
-use Rattle.std.specs.Prelude.{◌≡◌, ℕ, ◌<◌, ◌-◌, ◌^◌, true, false, List, [], Option, unwrap_or}
+-- be asked for its state, and to be in step (`keeps_up`). It names no block and no file's id but those that it was answered, for this path.
+-- How often is not said.
+use Rattle.std.specs.Prelude.{◌≡◌, ℕ, ◌<◌, ◌-◌, ◌^◌, true, false, List, [], Option, Some, unwrap_or}
+use Rattle.hdfs_cluster.specs.declared.asks.Answer.{Answer}
+use Rattle.hdfs_cluster.specs.declared.asks.Answer.TheVariants as answers
+use Rattle.hdfs_cluster.specs.declared.asks.Ask.{Ask}
 use Rattle.hdfs_cluster.specs.declared.asks.Ask.TheVariants as asks
+use Rattle.hdfs_cluster.specs.declared.messages.Appended.{Appended}
+use Rattle.hdfs_cluster.specs.declared.messages.FileStatusMsg.{FileStatusMsg}
 use Rattle.hdfs_cluster.specs.declared.messages.LocatedBlock.{LocatedBlock}
 use Rattle.hdfs_cluster.specs.declared.messages.ServerDefaults.{ServerDefaults}
-use Rattle.hdfs_cluster.specs.Requests.{Request, AskOf, LetsClose, LetsWrite}
+use Rattle.hdfs_cluster.specs.Requests.{Request, AskOf, IsAnsweredId, IsLocated, LetsClose, LetsWrite, id_in}
 use Rattle.hdfs_model.specs.declared.commands.Command.{Command}
 use Rattle.hdfs_model.specs.declared.commands.Command.TheVariants as commands
 use Rattle.hdfs_model.specs.declared.commands.Settings.{Settings}
@@ -13,55 +19,68 @@ use Rattle.hdfs_model.specs.Limits.{are_options}
 use Rattle.hdfs_model.specs.Owing.{is_misplaced}
 use Rattle.hdfs_model.specs.Steps.{path_of}
 use Rattle.hdfs_names.specs.Paths.{absolute, is_path}
-use Rattle.hdfs_namenode.specs.Clients.{client_name}
+use Rattle.hdfs_namenode.specs.Clients.{client_name, name_of}
 use Rattle.hdfs_block_reader.specs.Reader.{LetsRead}
+use Rattle.hdfs_file_writer.specs.Writers.{IsAnswered}
+use Rattle.hdfs_file_writer.specs.declared.file_writer.FileWriter.{FileWriter}
+use Rattle.hdfs_commands.specs.Encrypted.{tells_encryption}
 use Rattle.hdfs_commands.specs.Opening.{appending, creating}
-use Rattle.hdfs_commands.specs.Session.{has_failed, opened_of, settings_of}
+use Rattle.hdfs_commands.specs.Session.{has_failed, opened_of, settings_of, writer_of}
 use Rattle.hdfs_commands.specs.declared.session.Session.{Session}
 
--- a new file: the cluster's defaults, the file with its options, and that it is deleted again
-pub record LetsCreate (allows : Request → Type 0) (client path : List ℕ) (options : WriteOptions) : Type 0 where
+-- a new file: the cluster's defaults, the file with its options, and that it is deleted again where it was answered to be encrypted
+pub record LetsCreate (allows : Request → Type 0) (may_answer : Ask → Answer → Type 0) (client path : List ℕ) (options : WriteOptions) : Type 0 where
   pub defaults : allows (AskOf asks.GetServerDefaults)
   pub creates : (defaults : ServerDefaults) → allows (AskOf (creating path client options
       (unwrap_or options.replication defaults.replication) (unwrap_or options.block_size defaults.block_size)))
-  pub deletes : allows (AskOf (asks.Delete path false))
+  pub deletes : (replication block_size : ℕ) (status : Option FileStatusMsg)
+      → may_answer (creating path client options replication block_size) (answers.Create status) → tells_encryption status ≡ true
+      → allows (AskOf (asks.Delete path false))
 
--- a file that is gone on with: the defaults, the file, and that it is closed again
-pub record LetsAppend (allows : Request → Type 0) (client path : List ℕ) : Type 0 where
+-- a file that is gone on with: the defaults, the file, and that it is closed again where it was answered to be encrypted
+pub record LetsAppend (allows : Request → Type 0) (may_answer : Ask → Answer → Type 0) (client path : List ℕ) : Type 0 where
   pub defaults : allows (AskOf asks.GetServerDefaults)
   pub opens : allows (AskOf (appending path client 4))
-  pub closes : (file_id : Option ℕ) → LetsClose allows client path file_id
+  pub closes : (appended : Appended) → may_answer (appending path client 4) (answers.Append appended) → tells_encryption appended.stat ≡ true
+      → LetsClose allows may_answer client path (id_in appended.stat)
 
--- A read of so many bytes: all blocks of the file; where there are some bytes the defaults; and any block from the datanodes that are listed
--- for it, in no client's name.
-pub record LetsReadFile (allows : Request → Type 0) (path : List ℕ) (len : ℕ) : Type 0 where
+-- A read of so many bytes: all blocks of the file; where there are some bytes the defaults; and the blocks that were answered, from the
+-- datanodes that are listed for them, in no client's name.
+pub record LetsReadFile (allows : Request → Type 0) (may_answer : Ask → Answer → Type 0) (path : List ℕ) (len : ℕ) : Type 0 where
   pub locates : allows (AskOf (asks.GetBlockLocations path 0 (2 ^ 63 - 1)))
   pub defaults : 0 < len → allows (AskOf asks.GetServerDefaults)
-  pub reads : (block : LocatedBlock) (end : ℕ) → LetsRead allows block [] end
+  pub reads : (block : LocatedBlock) → IsLocated may_answer path block → (end : ℕ) → LetsRead allows block [] end
 
 -- what a command may ask for at a path, in the name of a client
-abbrev pub LetsAt : (Request → Type 0) → List ℕ → List ℕ → Command → Type 0
-LetsAt allows client path (commands.Create name options) = are_options options ≡ true → LetsCreate allows client path options
-LetsAt allows client path (commands.Append name) = LetsAppend allows client path
-LetsAt allows client path (commands.Write name bytes) = (file_id : Option ℕ) → LetsWrite allows client path file_id
-LetsAt allows client path (commands.Close name) = (file_id : Option ℕ) → LetsClose allows client path file_id
-LetsAt allows client path (commands.Read name offset len) = LetsReadFile allows path len
+abbrev pub LetsAt : (Request → Type 0) → (Ask → Answer → Type 0) → List ℕ → List ℕ → Command → Type 0
+LetsAt allows may_answer client path (commands.Create name options) = are_options options ≡ true → LetsCreate allows may_answer client path options
+LetsAt allows may_answer client path (commands.Append name) = LetsAppend allows may_answer client path
+LetsAt allows may_answer client path (commands.Write name bytes) =
+    (file_id : Option ℕ) → IsAnsweredId may_answer client path file_id → LetsWrite allows may_answer client path file_id
+LetsAt allows may_answer client path (commands.Close name) =
+    (file_id : Option ℕ) → IsAnsweredId may_answer client path file_id → LetsClose allows may_answer client path file_id
+LetsAt allows may_answer client path (commands.Read name offset len) = LetsReadFile allows may_answer path len
 
 -- what a command may ask for in a session with these settings: at its own path, and where that is none nothing
-abbrev pub Lets : (Request → Type 0) → Settings → Command → Type 0
-Lets allows settings command = is_path (absolute settings.home (path_of command)) ≡ true
-    → LetsAt allows (client_name settings.client) (absolute settings.home (path_of command)) command
+abbrev pub Lets : (Request → Type 0) → (Ask → Answer → Type 0) → Settings → Command → Type 0
+Lets allows may_answer settings command = is_path (absolute settings.home (path_of command)) ≡ true
+    → LetsAt allows may_answer (client_name settings.client) (absolute settings.home (path_of command)) command
 
 -- what any command may ask for in a session with any settings
-abbrev pub LetsAny : (Request → Type 0) → Type 0
-LetsAny allows = (settings : Settings) (command : Command) → Lets allows settings command
+abbrev pub LetsAny : (Request → Type 0) → (Ask → Answer → Type 0) → Type 0
+LetsAny allows may_answer = (settings : Settings) (command : Command) → Lets allows may_answer settings command
 
 -- the same in this session: nothing where the path isn't open and should be, or the other way round
-abbrev pub LetsPlaced : (Request → Type 0) → Session → Command → Type 0
-LetsPlaced allows session command =
+abbrev pub LetsPlaced : (Request → Type 0) → (Ask → Answer → Type 0) → Session → Command → Type 0
+LetsPlaced allows may_answer session command =
     is_misplaced command (opened_of session (absolute (settings_of session).home (path_of command))) ≡ false
-    → Lets allows (settings_of session) command
+    → Lets allows may_answer (settings_of session) command
 
 -- the same, and nothing behind an error
-abbrev pub LetsApply : (Request → Type 0) → Session → Command → Type 0
-LetsApply allows session command = has_failed session ≡ false → LetsPlaced allows session command
+abbrev pub LetsApply : (Request → Type 0) → (Ask → Answer → Type 0) → Session → Command → Type 0
+LetsApply allows may_answer session command = has_failed session ≡ false → LetsPlaced allows may_answer session command
+
+-- the files that a session has open were answered to it, and so were the blocks that it writes
+abbrev pub AreAnswered : (Ask → Answer → Type 0) → Session → Type 0
+AreAnswered may_answer session = (path : List ℕ) (writer : FileWriter) → writer_of session path ≡ Some writer
+    → IsAnswered may_answer (name_of session.namenode) writer

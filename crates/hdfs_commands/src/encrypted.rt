@@ -21,7 +21,7 @@ pub(crate) fn tells_encryption(status: &Option<FileStatusMsg>) -> bool
 impl Session {
     ghost use Rattle.hdfs_commands.specs.Encrypted.{OnlyAsked, OnlyTouches};
     ghost use Rattle.hdfs_commands.specs.Looking.{OnlyLooks};
-    ghost use Rattle.hdfs_file_writer.specs.Writers.{Stands as FileStands, file_id_of, has_failed as file_has_failed, link_of, path_of};
+    ghost use Rattle.hdfs_file_writer.specs.Writers.{IsAnswered, Stands as FileStands, file_id_of, has_failed as file_has_failed, link_of, path_of};
     ghost use Rattle.hdfs_namenode.specs.Asked.{ReachesAll};
     ghost use Rattle.hdfs_cluster.specs.Requests.{AskOf, LetsClose};
     ghost use Rattle.hdfs_cluster.specs.declared.asks.Ask.TheVariants as asks;
@@ -48,7 +48,8 @@ impl Session {
         requires reaches { ReachesAll (proxy_of self.old.namenode) (C.shown cluster.old) }
         requires stands { FileStands (C.shown cluster.old) writer }
         requires fresh { (link_of writer ≡ None) × (file_has_failed writer ≡ false) }
-        requires allowed { LetsClose C.allows (name_of self.old.namenode) (path_of writer) (file_id_of writer) }
+        requires allowed { LetsClose C.allows C.may_answer (name_of self.old.namenode) (path_of writer) (file_id_of writer) }
+        requires answered { IsAnswered C.may_answer (name_of self.old.namenode) writer }
         ensures is { result ≡ errors.UnsupportedFeature features.Encryption }
         ensures touches { OnlyTouches (C.shown cluster.old) writer (C.shown cluster.new) }
         ensures asked { OnlyAsked self.old self.new }

@@ -1,5 +1,5 @@
 //! The blocks of a range of a file that may be read.
-ghost use Rattle.std.specs.Prelude.{◌≡◌, ◌<◌, ◌+◌, ◌≤◌, ℕ, None, Some, IfOk, IfErr, OnOk};
+ghost use Rattle.std.specs.Prelude.{◌≡◌, ◌<◌, ◌+◌, ◌-◌, ◌^◌, ◌≤◌, ℕ, None, Some, IfOk, IfErr, OnOk};
 ghost use Rattle.hdfs_model.specs.Causes.{Cause, Tells};
 ghost use Rattle.hdfs_cluster.specs.Files.{State};
 ghost use Rattle.hdfs_cluster.specs.Picture.{Picture, SameButActive, SameFiles, Told};
@@ -10,6 +10,7 @@ ghost use Rattle.hdfs_namenode.specs.Asked.{ReachesAll};
 ghost use Rattle.hdfs_namenode.specs.Clients.{defaults_of, proxy_of};
 ghost use Rattle.hdfs_cluster.specs.Requests.{AskOf};
 ghost use Rattle.hdfs_cluster.specs.declared.asks.Ask.TheVariants as asks;
+ghost use Rattle.hdfs_cluster.specs.declared.asks.Answer.TheVariants as answers;
 ghost use Rattle.hdfs_commands.specs.Asking.{LetsReadFile};
 ghost use Rattle.hdfs_commands.specs.Finding.{AsksOn, IsFound, LacksTransfer, MayMove, RefusesRange, SameButKnown};
 ghost use Rattle.hdfs_commands.specs.Looking.{OnlyLooks};
@@ -80,7 +81,7 @@ pub(crate) fn find_range<C: Cluster>(
     len: u64,
 ) -> Result<LocatedBlocks, HdfsError>
     requires reaches { ReachesAll (proxy_of namenode.old) (C.shown cluster.old) }
-    requires allowed { LetsReadFile C.allows path.now len }
+    requires allowed { LetsReadFile C.allows C.may_answer path.now len }
 
     // over any cluster
     ensures looks { OnlyLooks (C.shown cluster.old) (C.shown cluster.new) }
@@ -98,6 +99,8 @@ pub(crate) fn find_range<C: Cluster>(
         → KnowsWorld world (C.shown cluster.old) (defaults_of namenode.old)
         → Cause world state (Command.Read name.now offset len) (C.shown cluster.old) (C.shown cluster.new) e) }
     ensures client { AsksOn path.now (C.shown cluster.old) namenode.old (C.shown cluster.new) namenode.new }
+    ensures answered { IfOk result (λ found. C.may_answer
+        (asks.GetBlockLocations path.now 0 (2 ^ 63 - 1)) (answers.GetBlockLocations (Some found))) }
 {
     let found = locate(alloc, cluster, namenode, name, path)?;
     check_range(&found, offset, len)?;

@@ -8,6 +8,7 @@ ghost use Rattle.hdfs_model.specs.Owing.{IsNotOwed};
 ghost use Rattle.hdfs_model.specs.Steps.{World};
 ghost use Rattle.hdfs_cluster.specs.Requests.{AskOf};
 ghost use Rattle.hdfs_cluster.specs.declared.asks.Ask.TheVariants as asks;
+ghost use Rattle.hdfs_cluster.specs.declared.asks.Answer.TheVariants as answers;
 ghost use Rattle.hdfs_commands.specs.Looking.{OnlyLooks};
 ghost use Rattle.hdfs_namenode.specs.Asked.{ReachesAll};
 ghost use Rattle.hdfs_namenode.specs.Clients.{SameClient, proxy_of};
@@ -48,6 +49,8 @@ pub(crate) fn locate<C: Cluster>(
         → Meets world (C.shown cluster.old) state name.now path.now
         → Cause world state (Command.Read name.now offset len) (C.shown cluster.old) (C.shown cluster.new) e) }
     ensures client { SameClient namenode.old namenode.new }
+    ensures answered { IfOk result (λ found. C.may_answer
+        (asks.GetBlockLocations path.now 0 (2 ^ 63 - 1)) (answers.GetBlockLocations (Some found))) }
 {
     match namenode.get_block_locations(cluster, path, 0, WHOLE_FILE) {
         Ok(Some(found)) => Ok(found),

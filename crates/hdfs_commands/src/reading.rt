@@ -1,5 +1,5 @@
 //! The bytes of a range of a file, block by block.
-ghost use Rattle.std.specs.Prelude.{◌≡◌, ◌<◌, ◌≤◌, ◌+◌, ◌-◌, ◌^◌, ◌++◌, ℕ, List, [], Some, None, OnOk, IfOk, IfErr, MatchBool, length, false};
+ghost use Rattle.std.specs.Prelude.{◌≡◌, ◌<◌, ◌≤◌, ◌+◌, ◌-◌, ◌^◌, ◌++◌, ℕ, List, [], Some, None, OnOk, IfOk, IfErr, MatchBool, All, length, false};
 ghost use Rattle.hdfs_block_reader.specs.Reader.{block_of, client_of, wanted_of, end_of, link_of, has_failed, LetsRead, Stands, Keeps, Reads, ShowsBlock, AllBlamed, IsRead};
 ghost use Rattle.hdfs_model.specs.Anywhere.{Applies};
 ghost use Rattle.hdfs_cluster.specs.Lost.{AllFailed, ByteLost};
@@ -14,7 +14,6 @@ ghost use Rattle.hdfs_model.specs.Steps.{World, Done, step};
 ghost use Rattle.hdfs_cluster.specs.Stores.{Agrees};
 ghost use Rattle.hdfs_namenode.specs.Asked.{ReachesAll};
 ghost use Rattle.hdfs_namenode.specs.Clients.{defaults_of, proxy_of};
-ghost use Rattle.hdfs_cluster.specs.declared.messages.LocatedBlock.{LocatedBlock};
 ghost use Rattle.hdfs_commands.specs.Asking.{LetsReadFile};
 ghost use Rattle.hdfs_commands.specs.Finding.{AsksOn};
 ghost use Rattle.hdfs_commands.specs.Meeting.{IsClosed, KnowsWorld, Meets};
@@ -167,7 +166,7 @@ fn read_blocks<C: Cluster>(
     end: u64,
 ) -> Result<(), HdfsError>
     requires within { offset ≤ end }
-    requires allowed { (block : LocatedBlock) (end : ℕ) → LetsRead C.allows block [] end }
+    requires allowed { All (λ block. (end : ℕ) → LetsRead C.allows block [] end) blocks.items }
 
     // over any cluster
     ensures only { OnlyReads (C.shown cluster.old) (C.shown cluster.new) }
@@ -201,7 +200,7 @@ pub(crate) fn read_file<C: Cluster>(
     len: u64,
 ) -> Result<Reply, HdfsError>
     requires reaches { ReachesAll (proxy_of namenode.old) (C.shown cluster.old) }
-    requires allowed { LetsReadFile C.allows path.now len }
+    requires allowed { LetsReadFile C.allows C.may_answer path.now len }
     ensures anywhere { Applies (Command.Read name.now offset len) (C.shown cluster.old) (C.shown cluster.new) result }
     ensures links { SameLinks (C.shown cluster.old) (C.shown cluster.new) }
     ensures owed { IfErr result IsNotOwed }

@@ -1,7 +1,6 @@
 //! One session of commands.
 ghost use Rattle.std.specs.Prelude.{◌≡◌, ◌⊎◌, ◌<◌, ◌↔◌, Err, None, IfOk, IfErr, IsSome, IsTrue, OnOk, OnErr, true, false, List, ℕ};
 ghost use Rattle.hdfs_commands.specs.Acting.{Acts, world_at};
-ghost use Rattle.hdfs_commands.specs.Asking.{LetsApply, LetsPlaced};
 ghost use Rattle.hdfs_cluster.specs.Files.{State};
 ghost use Rattle.hdfs_model.specs.Limits.{are_settings};
 ghost use Rattle.hdfs_names.specs.Paths.{is_path, absolute};
@@ -37,6 +36,7 @@ pub struct Session {
 }
 
 impl Session {
+    ghost use Rattle.hdfs_commands.specs.Asking.{AreAnswered, LetsApply, LetsPlaced};
     ghost use Rattle.hdfs_commands.specs.Session.{settings_of, has_failed, opened_of, writer_of, defaults_known, after, CarriesOpen, LeavesFiles, HasLink, Stands, IsNotBegun};
     ghost use Rattle.hdfs_commands.specs.Whole.{KeepsBlocksWhole};
 
@@ -54,6 +54,7 @@ impl Session {
         ensures fresh { IfOk result (λ session. has_failed session ≡ false) }
         ensures none { IfOk result (λ session. ((path : List ℕ) → writer_of session path ≡ None)
             × (defaults_known session ≡ None)) }
+        ensures answered { IfOk result (AreAnswered C.may_answer) }
         ensures err { IfErr result (IsNotBegun settings.now) }
     {
         if !settings.are_limited() {
@@ -100,11 +101,13 @@ impl Session {
     fn run<C: Cluster>(&mut self, cluster: &mut C, command: &Command) -> Result<Reply, HdfsError>
         requires stands { Stands (C.shown cluster.old) self.old }
         requires fine { has_failed self.old ≡ false }
-        requires allowed { LetsPlaced C.allows self.old command.now }
+        requires allowed { LetsPlaced C.allows C.may_answer self.old command.now }
+        requires answered { AreAnswered C.may_answer self.old }
         ensures acts { Acts command.now (C.shown cluster.old) self.old (C.shown cluster.new) (after self.new result) result }
         ensures whole { KeepsBlocksWhole command.now (C.shown cluster.old) self.old (C.shown cluster.new) self.new result }
         ensures owed { IfErr result (Owed (world_at self.old (C.shown cluster.old)) (opened_of self.old) command.now) }
         ensures keeps { (settings_of self.new ≡ settings_of self.old) × (has_failed self.new ≡ false) }
+        ensures answered { AreAnswered C.may_answer self.new }
     {
         let path = self.target(command)?;
         if !self.is_placed(command, path.as_str()) {
@@ -161,7 +164,8 @@ impl Session {
         command: &Command,
     ) -> Result<Reply, HdfsError>
         requires stands { Stands (C.shown cluster.old) self.old }
-        requires allowed { LetsApply C.allows self.old command.now }
+        requires allowed { LetsApply C.allows C.may_answer self.old command.now }
+        requires answered { AreAnswered C.may_answer self.old }
 
         // Over any cluster, and over one that agrees with a state whose open files the session carries.
         ensures acts { has_failed self.old ≡ false
@@ -175,6 +179,7 @@ impl Session {
         ensures failed { has_failed self.old ≡ true → (result ≡ Err errors.Failed) × (cluster.new ≡ cluster.old) }
         ensures fails { (OnErr result (has_failed self.new ≡ true)) × (OnOk result (has_failed self.new ≡ false)) }
         ensures keeps { (settings_of self.new ≡ settings_of self.old) × Stands (C.shown cluster.new) self.new }
+        ensures answered { AreAnswered C.may_answer self.new }
     {
         if self.failed {
             return Err(HdfsError::Failed);

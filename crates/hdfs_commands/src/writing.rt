@@ -3,9 +3,8 @@ ghost use Rattle.std.specs.Prelude.{◌≡◌, ◌<◌, ℕ, List, Option, Some,
 ghost use Rattle.std.specs.BTreeMap.{get_by_text, IsUnchanged};
 ghost use Rattle.std.specs.Map.{update};
 ghost use Rattle.std.specs.Str.{bytes_eq};
-ghost use Rattle.hdfs_cluster.specs.Requests.{AskOf, LetsClose, LetsWrite};
+ghost use Rattle.hdfs_cluster.specs.Requests.{AskOf, IsAnsweredId, LetsClose, LetsWrite, id_in};
 ghost use Rattle.hdfs_cluster.specs.declared.asks.Ask.TheVariants as asks;
-ghost use Rattle.hdfs_commands.specs.Asking.{LetsAppend, LetsCreate};
 ghost use Rattle.hdfs_model.specs.Limits.{are_options};
 ghost use Rattle.hdfs_commands.specs.Opening.{appending, create_flag, creating};
 ghost use Rattle.hdfs_cluster.specs.declared.asks.Answer.TheVariants as answers;
@@ -43,7 +42,9 @@ fn create_flag(options: &WriteOptions) -> u32
 }
 
 /// The id of a file that is told with its status.
-fn file_id_of(status: &Option<FileStatusMsg>) -> Option<u64> {
+fn file_id_of(status: &Option<FileStatusMsg>) -> Option<u64>
+    ensures { result ≡ id_in status.now }
+{
     match status {
         Some(status) => status.file_id,
         None => None,
@@ -74,6 +75,7 @@ fn keep(
 
 impl Session {
     ghost use Rattle.hdfs_commands.specs.Acting.{Acts};
+    ghost use Rattle.hdfs_commands.specs.Asking.{AreAnswered, LetsAppend, LetsCreate};
     ghost use Rattle.hdfs_commands.specs.Encrypted.{OnlyAsked};
     ghost use Rattle.hdfs_commands.specs.Preparing.{HasDefaults, LacksDefaults, Prepares, sizes_by};
     ghost use Rattle.hdfs_commands.specs.Session.{settings_of, has_failed, opened_of, after, Stands};
@@ -121,11 +123,14 @@ impl Session {
         defaults: &ServerDefaults,
     ) -> Result<Option<FileStatusMsg>, HdfsError>
         requires reaches { ReachesAll (proxy_of self.old.namenode) (C.shown cluster.old) }
-        requires allowed { LetsCreate C.allows (name_of self.old.namenode) path.now options.now }
+        requires allowed { LetsCreate C.allows C.may_answer (name_of self.old.namenode) path.now options.now }
         ensures came { Came (C.shown cluster.old) (creating path.now (name_of self.old.namenode) options.now
             (unwrap_or options.now.replication defaults.now.replication)
             (unwrap_or options.now.block_size defaults.now.block_size))
             (as_answer answers.Create result) (C.shown cluster.new) }
+        ensures answered { IfOk result (λ status. C.may_answer (creating path.now (name_of self.old.namenode) options.now
+            (unwrap_or options.now.replication defaults.now.replication)
+            (unwrap_or options.now.block_size defaults.now.block_size)) (answers.Create status)) }
         ensures asked { OnlyAsked self.old self.new }
     {
         self.namenode.create(
@@ -149,6 +154,8 @@ impl Session {
         requires allowed { C.allows (AskOf (appending path.now (name_of self.old.namenode) 4)) }
         ensures came { Came (C.shown cluster.old) (appending path.now (name_of self.old.namenode) 4)
             (as_answer answers.Append result) (C.shown cluster.new) }
+        ensures answered { IfOk result (λ appended. C.may_answer
+            (appending path.now (name_of self.old.namenode) 4) (answers.Append appended)) }
         ensures block { IfOk result (λ appended. IfSome appended.block IsToWrite) }
         ensures asked { OnlyAsked self.old self.new }
     {
@@ -166,13 +173,16 @@ impl Session {
         requires fine { has_failed self.old ≡ false }
         requires path { is_path path ≡ true }
         requires placed { opened_of self.old path ≡ false }
-        requires allowed { are_options options.now ≡ true → LetsCreate C.allows (name_of self.old.namenode) path options.now }
+        requires allowed { are_options options.now ≡ true
+            → LetsCreate C.allows C.may_answer (name_of self.old.namenode) path options.now }
+        requires answered { AreAnswered C.may_answer self.old }
         ensures acts { (name : List ℕ) → absolute (settings_of self.old).home name ≡ path
             → Acts (Command.Create name options.now) (C.shown cluster.old) self.old (C.shown cluster.new) (after self.new result) result }
         ensures whole { (name : List ℕ) → absolute (settings_of self.old).home name ≡ path
             → KeepsBlocksWhole (Command.Create name options.now) (C.shown cluster.old) self.old (C.shown cluster.new) self.new result }
         ensures owed { IfErr result IsNotOwed }
         ensures keeps { (settings_of self.new ≡ settings_of self.old) × (has_failed self.new ≡ false) }
+        ensures answered { AreAnswered C.may_answer self.new }
     {
         if !options.are_limited() {
             return Err(HdfsError::InvalidArgument(ArgFault::Options));
@@ -205,13 +215,15 @@ impl Session {
         requires fine { has_failed self.old ≡ false }
         requires path { is_path path ≡ true }
         requires placed { opened_of self.old path ≡ false }
-        requires allowed { LetsAppend C.allows (name_of self.old.namenode) path }
+        requires allowed { LetsAppend C.allows C.may_answer (name_of self.old.namenode) path }
+        requires answered { AreAnswered C.may_answer self.old }
         ensures acts { absolute (settings_of self.old).home name.now ≡ path
             → Acts (Command.Append name.now) (C.shown cluster.old) self.old (C.shown cluster.new) (after self.new result) result }
         ensures whole { absolute (settings_of self.old).home name.now ≡ path
             → KeepsBlocksWhole (Command.Append name.now) (C.shown cluster.old) self.old (C.shown cluster.new) self.new result }
         ensures owed { IfErr result IsNotOwed }
         ensures keeps { (settings_of self.new ≡ settings_of self.old) × (has_failed self.new ≡ false) }
+        ensures answered { AreAnswered C.may_answer self.new }
     {
         let defaults = self.defaults(cluster)?;
         let key = String::from_str(self.alloc, path.as_str())?;
@@ -247,13 +259,16 @@ impl Session {
         requires fine { has_failed self.old ≡ false }
         requires path { is_path path.now ≡ true }
         requires placed { opened_of self.old path.now ≡ true }
-        requires allowed { (file_id : Option ℕ) → LetsWrite C.allows (name_of self.old.namenode) path.now file_id }
+        requires allowed { (file_id : Option ℕ) → IsAnsweredId C.may_answer (name_of self.old.namenode) path.now file_id
+            → LetsWrite C.allows C.may_answer (name_of self.old.namenode) path.now file_id }
+        requires answered { AreAnswered C.may_answer self.old }
         ensures acts { (name : List ℕ) → absolute (settings_of self.old).home name ≡ path.now
             → Acts (Command.Write name bytes.now) (C.shown cluster.old) self.old (C.shown cluster.new) (after self.new result) result }
         ensures whole { (name : List ℕ) → absolute (settings_of self.old).home name ≡ path.now
             → KeepsBlocksWhole (Command.Write name bytes.now) (C.shown cluster.old) self.old (C.shown cluster.new) self.new result }
         ensures owed { IfErr result IsNotOwed }
         ensures keeps { (settings_of self.new ≡ settings_of self.old) × (has_failed self.new ≡ false) }
+        ensures answered { AreAnswered C.may_answer self.new }
     {
         let Some(writer) = self.writers.get_mut(path) else {
             unreachable!();
@@ -276,13 +291,16 @@ impl Session {
         requires fine { has_failed self.old ≡ false }
         requires path { is_path path.now ≡ true }
         requires placed { opened_of self.old path.now ≡ true }
-        requires allowed { (file_id : Option ℕ) → LetsClose C.allows (name_of self.old.namenode) path.now file_id }
+        requires allowed { (file_id : Option ℕ) → IsAnsweredId C.may_answer (name_of self.old.namenode) path.now file_id
+            → LetsClose C.allows C.may_answer (name_of self.old.namenode) path.now file_id }
+        requires answered { AreAnswered C.may_answer self.old }
         ensures acts { (name : List ℕ) → absolute (settings_of self.old).home name ≡ path.now
             → Acts (Command.Close name) (C.shown cluster.old) self.old (C.shown cluster.new) (after self.new result) result }
         ensures whole { (name : List ℕ) → absolute (settings_of self.old).home name ≡ path.now
             → KeepsBlocksWhole (Command.Close name) (C.shown cluster.old) self.old (C.shown cluster.new) self.new result }
         ensures owed { IfErr result IsNotOwed }
         ensures keeps { (settings_of self.new ≡ settings_of self.old) × (has_failed self.new ≡ false) }
+        ensures answered { AreAnswered C.may_answer self.new }
     {
         let Some(writer) = self.writers.remove(path) else {
             unreachable!();

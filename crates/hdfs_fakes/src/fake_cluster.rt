@@ -230,6 +230,8 @@ impl Cluster for FakeCluster {
 
     ghost allows = { λ request. Unit {0} };
 
+    ghost may_answer = { λ ask answer. Unit {0} };
+
     ghost keeps_up = { record { state = tt; sync = tt } };
 
     ghost serves = { λ old i ask result new. Served (shown_of old) i ask result (shown_of new) };

@@ -1,6 +1,8 @@
 -- A writer of one file, as its callers see it.
 use Rattle.std.specs.Prelude.{◌≡◌, ◌≢◌, ℕ, suc, ◌^◌, ◌<◌, ◌≤◌, true, false, Bool, List, [], ◌++◌, Option, Some, None, IsSome, IfSome, Result, Ok, Err}
 use Rattle.hdfs_wire.specs.Outgoing.{ArePacketSizes}
+use Rattle.hdfs_cluster.specs.declared.asks.Answer.{Answer}
+use Rattle.hdfs_cluster.specs.declared.asks.Ask.{Ask}
 use Rattle.hdfs_cluster.specs.declared.messages.Block.{Block}
 use Rattle.hdfs_cluster.specs.declared.messages.LocatedBlock.{LocatedBlock}
 use Rattle.hdfs_cluster.specs.declared.errors.ArgFault.TheVariants as args
@@ -12,6 +14,7 @@ use Rattle.hdfs_cluster.specs.Failures.{NodesFailTimes}
 use Rattle.hdfs_cluster.specs.Files.{File}
 use Rattle.hdfs_cluster.specs.Namenode.{IsToWrite}
 use Rattle.hdfs_cluster.specs.Picture.{Picture}
+use Rattle.hdfs_cluster.specs.Requests.{IsAnsweredBlock, IsAnsweredId, IsReopened}
 use Rattle.hdfs_cluster.specs.Shown.{SameNodes, Shown}
 use Rattle.hdfs_cluster.specs.Stores.{AgreesAt}
 use Rattle.hdfs_cluster.specs.Writing.{SameRecords}
@@ -106,6 +109,19 @@ link_of writer = link_by writer.going
 pub record IsPlanOf (path : List ℕ) (sizes : WriteSizes) (plan : BlockPlan) : Type 0 where
   pub src : plan.src ≡ path
   pub replication : plan.replication ≡ sizes.replication
+
+-- The last block of its file was answered to the client: one that is to be gone on with as the last one when the file was opened, and one
+-- that is being written so, or as one more, by whether its writer has it as a new one.
+abbrev pub IsAnsweredTail : (Ask → Answer → Type 0) → List ℕ → List ℕ → Option ℕ → Tail → Type 0
+IsAnsweredTail may_answer client path file_id (Reopened located) = IsReopened may_answer client path located.b
+IsAnsweredTail may_answer client path file_id (Going block) = (pipe : BlockPipeline) → block.pipe ≡ Some pipe
+    → IsAnsweredBlock may_answer client path file_id pipe.plan.created pipe.plan.block.b
+IsAnsweredTail may_answer client path file_id tail = Unit {0}
+
+-- The file's id and the block that is written were answered to the client, of the file at its path.
+pub record IsAnswered (may_answer : Ask → Answer → Type 0) (client : List ℕ) (writer : FileWriter) : Type 0 where
+  pub id : IsAnsweredId may_answer client writer.path writer.file_id
+  pub block : IsAnsweredTail may_answer client writer.path writer.file_id (tail_of writer)
 
 -- how often the pipeline of a block that is being written was rebuilt
 abbrev pub rebuilds_by : Option BlockWriter → ℕ

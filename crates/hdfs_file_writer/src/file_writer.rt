@@ -37,7 +37,7 @@ impl FileWriter {
     ghost use Rattle.hdfs_namenode.specs.Clients.{SameClient, name_of, proxy_of};
     ghost use Rattle.hdfs_file_writer.specs.Tails.{Bare};
     ghost use Rattle.hdfs_cluster.specs.Namenode.{IsToWrite};
-    ghost use Rattle.hdfs_file_writer.specs.Writers.{AreLimited, ArePackets, AreSizes, path_of, file_id_of, sizes_of, has_failed, link_of, tail_of, tail_opened, IsAtWork, IsIdle, Stands, Keeps, IsBetweenBlocks, OnlyOwnLink, LeavesFile, Wrote, Closed, Fails, FailsOtherwise, FailsToClose};
+    ghost use Rattle.hdfs_file_writer.specs.Writers.{AreLimited, ArePackets, AreSizes, path_of, file_id_of, sizes_of, has_failed, link_of, tail_of, tail_opened, IsAnswered, IsAtWork, IsIdle, Stands, Keeps, IsBetweenBlocks, OnlyOwnLink, LeavesFile, Wrote, Closed, Fails, FailsOtherwise, FailsToClose};
 
     /// A writer of a file that was just created at `path`, which has the size of blocks that `sizes` says. `file_id` is the id that
     /// the namenode told.
@@ -97,10 +97,12 @@ impl FileWriter {
         bytes: &[u8],
     ) -> Result<usize, HdfsError>
         requires reaches { ReachesAll (proxy_of namenode.old) (C.shown cluster.old) }
-        requires allowed { LetsWrite C.allows (name_of namenode.old) (path_of self.old) (file_id_of self.old) }
+        requires allowed { LetsWrite C.allows C.may_answer (name_of namenode.old) (path_of self.old) (file_id_of self.old) }
+        requires answered { IsAnswered C.may_answer (name_of namenode.old) self.old }
         requires works { IsAtWork (C.shown cluster.old) self.old }
         requires bytes { 0 < length bytes.now }
         ensures stands { OnOk result (Stands (C.shown cluster.new) self.new) }
+        ensures answered { OnOk result (IsAnswered C.may_answer (name_of namenode.old) self.new) }
         ensures count { IfOk result (λ n. (0 < n) × (n ≤ length bytes.now)) }
         ensures wrote { IfOk result (λ n. Wrote (C.shown cluster.old) self.old (take n bytes.now) (C.shown cluster.new) self.new) }
         ensures err { IfErr result (λ error. FailsOtherwise (C.shown cluster.old) self.old error (C.shown cluster.new)) }
@@ -138,7 +140,8 @@ impl FileWriter {
         bytes: &[u8],
     ) -> Result<usize, HdfsError>
         requires reaches { ReachesAll (proxy_of namenode.old) (C.shown cluster.old) }
-        requires allowed { LetsWrite C.allows (name_of namenode.old) (path_of self.old) (file_id_of self.old) }
+        requires allowed { LetsWrite C.allows C.may_answer (name_of namenode.old) (path_of self.old) (file_id_of self.old) }
+        requires answered { IsAnswered C.may_answer (name_of namenode.old) self.old }
         requires stands { Stands (C.shown cluster.old) self.old }
 
         ensures stands { Stands (C.shown cluster.new) self.new × Keeps self.old self.new × SameClient namenode.old namenode.new }
@@ -146,6 +149,7 @@ impl FileWriter {
             × (bytes.now ≢ [] → AreLimited (sizes_of self.old) × ((sizes_of self.old).encrypted ≡ false))) }
         ensures idle { IsIdle self.old bytes.now cluster.old result self.new cluster.new }
         ensures fails { (OnOk result (has_failed self.new ≡ false)) × (OnErr result (has_failed self.new ≡ true)) }
+        ensures answered { IsAnswered C.may_answer (name_of namenode.old) self.new }
 
         // Over a told picture these bytes are carried too, nothing but the file changes, and no block is begun before the one before it
         // is full. Blocks that are done are whole on each datanode that is listed for them.
@@ -190,7 +194,8 @@ impl FileWriter {
     /// on with that has.
     fn refuse<C: Cluster>(&mut self, cluster: &mut C, namenode: &mut NamenodeProtocol) -> HdfsError
         requires reaches { ReachesAll (proxy_of namenode.old) (C.shown cluster.old) }
-        requires allowed { LetsWrite C.allows (name_of namenode.old) (path_of self.old) (file_id_of self.old) }
+        requires allowed { LetsWrite C.allows C.may_answer (name_of namenode.old) (path_of self.old) (file_id_of self.old) }
+        requires answered { IsAnswered C.may_answer (name_of namenode.old) self.old }
         requires stands { Stands (C.shown cluster.old) self.old }
         requires fine { self.old.failed ≡ false }
         requires encrypted { self.old.sizes.encrypted ≡ true }
@@ -225,10 +230,12 @@ impl FileWriter {
         bytes: &[u8],
     ) -> Result<(), HdfsError>
         requires reaches { ReachesAll (proxy_of namenode.old) (C.shown cluster.old) }
-        requires allowed { LetsWrite C.allows (name_of namenode.old) (path_of self.old) (file_id_of self.old) }
+        requires allowed { LetsWrite C.allows C.may_answer (name_of namenode.old) (path_of self.old) (file_id_of self.old) }
+        requires answered { IsAnswered C.may_answer (name_of namenode.old) self.old }
         requires works { IsAtWork (C.shown cluster.old) self.old }
         ensures fine { self.new.failed ≡ false }
         ensures stands { OnOk result (Stands (C.shown cluster.new) self.new) }
+        ensures answered { OnOk result (IsAnswered C.may_answer (name_of namenode.old) self.new) }
         ensures wrote { OnOk result (Wrote (C.shown cluster.old) self.old bytes.now (C.shown cluster.new) self.new) }
         ensures err { IfErr result (λ error. FailsOtherwise (C.shown cluster.old) self.old error (C.shown cluster.new)) }
         ensures keeps { Keeps self.old self.new × SameClient namenode.old namenode.new }
@@ -250,7 +257,7 @@ impl FileWriter {
         namenode: &mut NamenodeProtocol,
     ) -> Result<(), HdfsError>
         requires reaches { ReachesAll (proxy_of namenode.old) (C.shown cluster.old) }
-        requires allowed { LetsClose C.allows (name_of namenode.old) (path_of self.now) (file_id_of self.now) }
+        requires allowed { LetsClose C.allows C.may_answer (name_of namenode.old) (path_of self.now) (file_id_of self.now) }
         requires between { IsBetweenBlocks self.now }
         ensures closed { OnOk result (Closed (C.shown cluster.old) self.now (C.shown cluster.new)) }
         ensures err { IfErr result (λ error. FailsToClose (C.shown cluster.old) self.now error (C.shown cluster.new)) }
@@ -285,7 +292,8 @@ impl FileWriter {
         namenode: &mut NamenodeProtocol,
     ) -> Result<(), HdfsError>
         requires reaches { ReachesAll (proxy_of namenode.old) (C.shown cluster.old) }
-        requires allowed { LetsClose C.allows (name_of namenode.old) (path_of self) (file_id_of self) }
+        requires allowed { LetsClose C.allows C.may_answer (name_of namenode.old) (path_of self) (file_id_of self) }
+        requires answered { IsAnswered C.may_answer (name_of namenode.old) self }
         requires stands { Stands (C.shown cluster.old) self }
 
         ensures failed { has_failed self ≡ true → (result ≡ Err errors.Failed) × (cluster.new ≡ cluster.old) }
@@ -310,7 +318,8 @@ impl FileWriter {
         namenode: &mut NamenodeProtocol,
     ) -> Result<(), HdfsError>
         requires reaches { ReachesAll (proxy_of namenode.old) (C.shown cluster.old) }
-        requires allowed { LetsClose C.allows (name_of namenode.old) (path_of self.old) (file_id_of self.old) }
+        requires allowed { LetsClose C.allows C.may_answer (name_of namenode.old) (path_of self.old) (file_id_of self.old) }
+        requires answered { IsAnswered C.may_answer (name_of namenode.old) self.old }
         requires stands { Stands (C.shown cluster.old) self.old }
         ensures failed { self.old.failed ≡ true → (result ≡ Err errors.Failed) × (cluster.new ≡ cluster.old) }
         ensures closed { OnOk result (Closed (C.shown cluster.old) self.old (C.shown cluster.new)) }

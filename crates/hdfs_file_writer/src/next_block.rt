@@ -10,12 +10,12 @@ use hdfs_rebuild::BlockPlan;
 use hdfs_wire::NoMemory;
 
 impl FileWriter {
-    ghost use Rattle.hdfs_cluster.specs.Requests.{LetsWrite, LetsWriteBlocks};
+    ghost use Rattle.hdfs_cluster.specs.Requests.{IsAdded, IsAnsweredBlock, IsAnsweredId, LetsWrite, LetsWriteBlocks};
     ghost use Rattle.hdfs_namenode.specs.Asked.{ReachesAll};
     ghost use Rattle.hdfs_namenode.specs.Clients.{SameClient, name_of, proxy_of};
     ghost use Rattle.hdfs_file_writer.specs.Tails.{IsFull};
     ghost use Rattle.hdfs_cluster.specs.Namenode.{IsToWrite};
-    ghost use Rattle.hdfs_file_writer.specs.Writers.{plan_of, path_of, file_id_of, tail_of, IsAtWork, MayBegin, Stands, Keeps, IsBetweenBlocks, HasRoom, Wrote, Adds, FailsOtherwise};
+    ghost use Rattle.hdfs_file_writer.specs.Writers.{plan_of, path_of, file_id_of, tail_of, IsAnswered, IsAtWork, MayBegin, Stands, Keeps, IsBetweenBlocks, HasRoom, Wrote, Adds, FailsOtherwise};
 
     /// Ends the block that is being written, or leaves the one that was to be gone on with.
     pub(crate) fn finish_block<C: Cluster>(
@@ -24,7 +24,8 @@ impl FileWriter {
         namenode: &mut NamenodeProtocol,
     ) -> Result<(), HdfsError>
         requires reaches { ReachesAll (proxy_of namenode.old) (C.shown cluster.old) }
-        requires allowed { LetsWriteBlocks C.allows (name_of namenode.old) (path_of self.old) }
+        requires allowed { LetsWriteBlocks C.allows C.may_answer (name_of namenode.old) (path_of self.old) (file_id_of self.old) }
+        requires answered { IsAnswered C.may_answer (name_of namenode.old) self.old }
         requires stands { Stands (C.shown cluster.old) self.old }
         requires fine { self.old.failed ≡ false }
         ensures keeps { Keeps self.old self.new × (self.new.failed ≡ false) × SameClient namenode.old namenode.new }
@@ -78,10 +79,14 @@ impl FileWriter {
         requires begins { MayBegin self.old }
         requires block { IsToWrite located }
         requires room { located.b.num_bytes < self.old.sizes.block_size }
-        requires allowed { LetsWriteBlocks C.allows (name_of namenode.now) (path_of self.old) }
+        requires allowed { LetsWriteBlocks C.allows C.may_answer (name_of namenode.now) (path_of self.old) (file_id_of self.old) }
+        requires id { IsAnsweredId C.may_answer (name_of namenode.now) (path_of self.old) (file_id_of self.old) }
+        requires answered { IsAnsweredBlock C.may_answer (name_of namenode.now) (path_of self.old) (file_id_of self.old)
+            created located.b }
         ensures fine { self.new.failed ≡ false }
         ensures keeps { Keeps self.old self.new }
         ensures stands { OnOk result (Stands (C.shown cluster.new) self.new × HasRoom self.new) }
+        ensures answered { OnOk result (IsAnswered C.may_answer (name_of namenode.now) self.new) }
         ensures wrote { OnOk result (Wrote (C.shown cluster.old) (record self.old { reopened = Some located }) []
             (C.shown cluster.new) self.new) }
         ensures err { IfErr result (λ error. FailsOtherwise (C.shown cluster.old) (record self.old { reopened = Some located }) error
@@ -115,10 +120,12 @@ impl FileWriter {
         namenode: &mut NamenodeProtocol,
     ) -> Result<LocatedBlock, HdfsError>
         requires reaches { ReachesAll (proxy_of namenode.old) (C.shown cluster.old) }
-        requires allowed { LetsWrite C.allows (name_of namenode.old) (path_of self.now) (file_id_of self.now) }
+        requires allowed { LetsWrite C.allows C.may_answer (name_of namenode.old) (path_of self.now) (file_id_of self.now) }
         requires between { IsBetweenBlocks self.now }
         requires full { IsFull self.now.sizes.block_size (tail_of self.now) }
         ensures adds { IfOk result (λ located. Adds (C.shown cluster.old) self.now located (C.shown cluster.new)) }
+        ensures answered { IfOk result (λ located. IsAdded C.may_answer (name_of namenode.old) (path_of self.now)
+            (file_id_of self.now) located.b) }
         ensures err { IfErr result (λ error. FailsOtherwise (C.shown cluster.old) self.now error (C.shown cluster.new)) }
         ensures client { SameClient namenode.old namenode.new }
     {
@@ -141,12 +148,14 @@ impl FileWriter {
         namenode: &mut NamenodeProtocol,
     ) -> Result<(), HdfsError>
         requires reaches { ReachesAll (proxy_of namenode.old) (C.shown cluster.old) }
-        requires allowed { LetsWrite C.allows (name_of namenode.old) (path_of self.old) (file_id_of self.old) }
+        requires allowed { LetsWrite C.allows C.may_answer (name_of namenode.old) (path_of self.old) (file_id_of self.old) }
+        requires id { IsAnsweredId C.may_answer (name_of namenode.old) (path_of self.old) (file_id_of self.old) }
         requires begins { MayBegin self.old }
         requires full { IsFull self.old.sizes.block_size (tail_of self.old) }
         ensures fine { self.new.failed ≡ false }
         ensures keeps { Keeps self.old self.new × SameClient namenode.old namenode.new }
         ensures stands { OnOk result (Stands (C.shown cluster.new) self.new × HasRoom self.new) }
+        ensures answered { OnOk result (IsAnswered C.may_answer (name_of namenode.old) self.new) }
         ensures wrote { OnOk result (Wrote (C.shown cluster.old) self.old [] (C.shown cluster.new) self.new) }
         ensures err { IfErr result (λ error. FailsOtherwise (C.shown cluster.old) self.old error (C.shown cluster.new)) }
     {
@@ -183,11 +192,13 @@ impl FileWriter {
         namenode: &mut NamenodeProtocol,
     ) -> Result<(), HdfsError>
         requires reaches { ReachesAll (proxy_of namenode.old) (C.shown cluster.old) }
-        requires allowed { LetsWrite C.allows (name_of namenode.old) (path_of self.old) (file_id_of self.old) }
+        requires allowed { LetsWrite C.allows C.may_answer (name_of namenode.old) (path_of self.old) (file_id_of self.old) }
+        requires answered { IsAnswered C.may_answer (name_of namenode.old) self.old }
         requires works { IsAtWork (C.shown cluster.old) self.old }
         ensures fine { self.new.failed ≡ false }
         ensures keeps { Keeps self.old self.new }
         ensures stands { OnOk result (Stands (C.shown cluster.new) self.new × HasRoom self.new) }
+        ensures answered { OnOk result (IsAnswered C.may_answer (name_of namenode.old) self.new) }
         ensures wrote { OnOk result (Wrote (C.shown cluster.old) self.old [] (C.shown cluster.new) self.new) }
         ensures err { IfErr result (λ error. FailsOtherwise (C.shown cluster.old) self.old error (C.shown cluster.new)) }
         ensures client { SameClient namenode.old namenode.new }

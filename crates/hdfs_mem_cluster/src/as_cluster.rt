@@ -40,6 +40,8 @@ impl Cluster for MemCluster {
 
     ghost allows = { λ request. Unit {0} };
 
+    ghost may_answer = { λ ask answer. Unit {0} };
+
     ghost keeps_up = { record { state = tt; sync = tt } };
 
     ghost serves = { MemServes };

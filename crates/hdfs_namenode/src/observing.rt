@@ -60,6 +60,7 @@ impl NameServiceProxy {
         ensures asked { InStep C.serves write ask.now (record { cluster = cluster.old; proxy = self.old }) result
             (record { cluster = cluster.new; proxy = self.new }) }
         ensures shape { IfOk result (λ answer. IfSome answer (IsShaped ask.now)) }
+        ensures answered { IfOk result (λ answer. IfSome answer (C.may_answer ask.now)) }
         ensures memory { IfErr result (λ error. error ≡ errors.NoMemory) }
         ensures later { Later (C.shown cluster.old) (C.shown cluster.new) }
         ensures keeps { SameService self.old self.new }
@@ -82,6 +83,7 @@ impl NameServiceProxy {
         ensures asked { ByObserver C.serves ask.now (record { cluster = cluster.old; proxy = self.old }) result
             (record { cluster = cluster.new; proxy = self.new }) }
         ensures shape { IfOk result (λ answer. IfSome answer (IsShaped ask.now)) }
+        ensures answered { IfOk result (λ answer. IfSome answer (C.may_answer ask.now)) }
         ensures memory { IfErr result (λ error. error ≡ errors.NoMemory) }
         ensures later { Later (C.shown cluster.old) (C.shown cluster.new) }
         ensures keeps { SameService self.old self.new }

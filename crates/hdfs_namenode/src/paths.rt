@@ -1,5 +1,5 @@
 //! The calls about what stands at paths: look-ups, and changes of names.
-ghost use Rattle.std.specs.Prelude.{◌≡◌, true, false};
+ghost use Rattle.std.specs.Prelude.{◌≡◌, true, false, IfOk};
 ghost use Rattle.hdfs_cluster.specs.Requests.{AskOf};
 ghost use Rattle.hdfs_cluster.specs.declared.asks.Ask.TheVariants as asks;
 ghost use Rattle.hdfs_cluster.specs.declared.asks.Answer.TheVariants as answers;
@@ -30,6 +30,8 @@ impl NamenodeProtocol {
         ensures came { ReachesAll (proxy_of self.old) (C.shown cluster.old) → Came (C.shown cluster.old)
             (asks.GetBlockLocations src.now offset length)
             (as_answer answers.GetBlockLocations result) (C.shown cluster.new) }
+        ensures answered { IfOk result (λ found. C.may_answer
+            (asks.GetBlockLocations src.now offset length) (answers.GetBlockLocations found)) }
         ensures keeps { SameClient self.old self.new }
     {
         let ask = Ask::GetBlockLocations {

@@ -92,6 +92,7 @@ impl NamenodeProtocol {
         ensures came { ReachesAll (proxy_of self.old) (C.shown cluster.old)
             → Came (C.shown cluster.old) ask result (C.shown cluster.new) }
         ensures shape { IfOk result (IsShaped ask) }
+        ensures answered { IfOk result (C.may_answer ask) }
         ensures keeps { SameClient self.old self.new }
     {
         let answer = self.proxy.call(cluster, &ask, write);
@@ -110,6 +111,7 @@ impl NamenodeProtocol {
             (as_answer answers.GetServerDefaults result) (through self.new cluster.new) }
         ensures came { ReachesAll (proxy_of self.old) (C.shown cluster.old) → Came (C.shown cluster.old)
             asks.GetServerDefaults (as_answer answers.GetServerDefaults result) (C.shown cluster.new) }
+        ensures answered { IfOk result (λ defaults. C.may_answer asks.GetServerDefaults (answers.GetServerDefaults defaults)) }
         ensures keeps { SameClient self.old self.new }
     {
         let answer = self.ask(cluster, Ask::GetServerDefaults, false)?;

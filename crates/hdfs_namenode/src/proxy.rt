@@ -97,6 +97,7 @@ impl NameServiceProxy {
         ensures asked { Asked C.serves write ask.now (record { cluster = cluster.old; proxy = self.old }) result
             (record { cluster = cluster.new; proxy = self.new }) }
         ensures shape { IfOk result (IsShaped ask.now) }
+        ensures answered { IfOk result (C.may_answer ask.now) }
         ensures cause { IfErr result
             (LacksAnswer C.shown C.serves ask.now (record { cluster = cluster.old; proxy = self.old }) cluster.new) }
         ensures keeps { SameService self.old self.new }
@@ -120,6 +121,7 @@ impl NameServiceProxy {
         ensures asked { AskedInOrder C.serves write ask.now (record { cluster = cluster.old; proxy = self.old }) result
             (record { cluster = cluster.new; proxy = self.new }) }
         ensures shape { IfOk result (IsShaped ask.now) }
+        ensures answered { IfOk result (C.may_answer ask.now) }
         ensures cause { IfErr result (HasNoAnswer C.shown C.serves (order_of self.old) ask.now cluster.old cluster.new) }
         ensures later { Later (C.shown cluster.old) (C.shown cluster.new) }
         ensures keeps { SameService self.old self.new }
@@ -139,6 +141,7 @@ impl NameServiceProxy {
         requires allowed { C.allows (AskOf ask.now) }
         ensures asked { AsksInOrder C.serves (order_of self.now) ask.now cluster.old result.0 result.1 cluster.new }
         ensures shaped { IfOk result.1 (IsShaped ask.now) }
+        ensures answered { IfOk result.1 (C.may_answer ask.now) }
         ensures from { self.now.first ≤ result.0 }
         ensures below { result.0 < self.now.first + self.now.count }
     {
@@ -185,6 +188,7 @@ fn ask_one<C: Cluster>(cluster: &mut C, i: u32, ask: &Ask) -> Result<Answer, Ask
     requires allowed { C.allows (AskOf ask.now) }
     ensures asks { AsksOne C.serves i ask.now cluster.old result cluster.new }
     ensures shaped { IfOk result (IsShaped ask.now) }
+    ensures answered { IfOk result (C.may_answer ask.now) }
     ensures namenodes { (C.shown cluster.new).namenodes ≡ (C.shown cluster.old).namenodes }
 {
     let given = cluster.ask(i, ask);

@@ -41,6 +41,9 @@ impl NamenodeProtocol {
         ensures came { ReachesAll (proxy_of self.old) (C.shown cluster.old) → Came (C.shown cluster.old)
             (asks.Create src.now masked (name_of self.old) create_flag create_parent replication block_size)
             (as_answer answers.Create result) (C.shown cluster.new) }
+        ensures answered { IfOk result (λ status. C.may_answer
+            (asks.Create src.now masked (name_of self.old) create_flag create_parent replication block_size)
+            (answers.Create status)) }
         ensures keeps { SameClient self.old self.new }
     {
         let ask = Ask::Create {
@@ -73,6 +76,8 @@ impl NamenodeProtocol {
             (as_answer answers.Append result) (through self.new cluster.new) }
         ensures came { ReachesAll (proxy_of self.old) (C.shown cluster.old) → Came (C.shown cluster.old)
             (asks.Append src.now (name_of self.old) flag) (as_answer answers.Append result) (C.shown cluster.new) }
+        ensures answered { IfOk result (λ appended. C.may_answer
+            (asks.Append src.now (name_of self.old) flag) (answers.Append appended)) }
         ensures block { IfOk result (λ appended. IfSome appended.block IsToWrite) }
         ensures keeps { SameClient self.old self.new }
     {
@@ -108,6 +113,9 @@ impl NamenodeProtocol {
         ensures came { ReachesAll (proxy_of self.old) (C.shown cluster.old) → Came (C.shown cluster.old)
             (asks.AddBlock src.now (name_of self.old) (option_copied previous.entry) excludes.now file_id)
             (as_answer answers.AddBlock result) (C.shown cluster.new) }
+        ensures answered { IfOk result (λ located. C.may_answer
+            (asks.AddBlock src.now (name_of self.old) (option_copied previous.entry) excludes.now file_id)
+            (answers.AddBlock located)) }
         ensures keeps { SameClient self.old self.new }
     {
         let ask = self.add_block_ask(src, previous, excludes, file_id)?;

@@ -23,7 +23,7 @@ pub fn run_session<C: Cluster>(
     commands: &[Command],
 ) -> Result<Vec<Reply>, Fault>
     requires namenode { 0 < (C.shown cluster.old).namenodes }
-    requires allowed { All (Lets C.allows settings.now) commands.now }
+    requires allowed { All (Lets C.allows C.may_answer settings.now) commands.now }
     ensures settings { are_settings settings.now ≡ false → StopsAtOnce settings.now result × (cluster.new ≡ cluster.old) }
     ensures start { IfErr result (λ fault. fault.at ≡ 0 → IsNotBegun settings.now fault.error) }
     ensures anywhere { Runs commands.now (C.shown cluster.old) (C.shown cluster.new) result }

@@ -35,7 +35,7 @@ fn run_source<S: Source, K: Sink, C: Store>(
     note: &mut Note,
 ) -> u8
     requires namenode { 0 < (C.shown store.old).namenodes }
-    requires allowed { LetsAny C.allows }
+    requires allowed { LetsAny C.allows C.may_answer }
     ensures ran { RanSession (outside (S.shown source.old) (K.shown sink.old) (C.shown store.old) (C.is_fresh store.old)) result
         (outside (S.shown source.new) (K.shown sink.new) (C.shown store.new) (C.is_fresh store.new)) }
     ensures noted { result ≡ 2 → NotesFault
@@ -69,7 +69,7 @@ pub fn top<S: Source, K: Sink, C: Store>(
     note: &mut Note,
 ) -> u8
     requires namenode { 0 < (C.shown store.old).namenodes }
-    requires allowed { LetsAny C.allows }
+    requires allowed { LetsAny C.allows C.may_answer }
 
     // each status, over any source, sink and store
     ensures statuses { result ≤ 5 }

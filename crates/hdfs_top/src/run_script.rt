@@ -44,7 +44,7 @@ fn run_commands<K: Sink, C: Store>(
     note: &mut Note,
 ) -> u8
     requires namenode { 0 < (C.shown store.old).namenodes }
-    requires allowed { LetsAny C.allows }
+    requires allowed { LetsAny C.allows C.may_answer }
     ensures ran { (given : ScriptSettings) → settings.now ≡ session_settings given → are_settings settings.now ≡ true
         → RanCommands given commands.now (stage (C.shown store.old) (K.shown sink.old)) result
         (stage (C.shown store.new) (K.shown sink.new)) }
@@ -73,7 +73,7 @@ fn run_parsed<K: Sink, C: Store>(
     note: &mut Note,
 ) -> u8
     requires namenode { 0 < (C.shown store.old).namenodes }
-    requires allowed { LetsAny C.allows }
+    requires allowed { LetsAny C.allows C.may_answer }
     requires valid { AreValid read.settings.cluster }
     ensures ran { (bytes : List ℕ) (source left : SourceShown) → Parses bytes read → Gave source bytes left
         → RanSession (outside source (K.shown sink.old) (C.shown store.old) (C.is_fresh store.old)) result
@@ -105,7 +105,7 @@ pub(crate) fn run_script<K: Sink, C: Store>(
     note: &mut Note,
 ) -> u8
     requires namenode { 0 < (C.shown store.old).namenodes }
-    requires allowed { LetsAny C.allows }
+    requires allowed { LetsAny C.allows C.may_answer }
     ensures ran { (source left : SourceShown) → Gave source bytes.now left
         → RanSession (outside source (K.shown sink.old) (C.shown store.old) (C.is_fresh store.old)) result
         (outside left (K.shown sink.new) (C.shown store.new) (C.is_fresh store.new)) }

@@ -22,7 +22,7 @@ pub(crate) fn apply_patiently<C: Cluster>(
 ) -> Result<Reply, HdfsError>
     requires namenode { 0 < (C.shown cluster.old).namenodes }
     requires reads { IsRead command.now }
-    requires allowed { Lets C.allows settings.now command.now }
+    requires allowed { Lets C.allows C.may_answer settings.now command.now }
     ensures { let old = C.shown cluster.old in
         AnsweredWhereReady (world_of settings.now old) old command.now (C.shown cluster.new) result }
 {

@@ -118,7 +118,7 @@ pub(crate) fn run_one<C: Cluster>(
     command: &Command,
 ) -> Option<String>
     requires namenode { 0 < (C.shown cluster.old).namenodes }
-    requires allowed { LetsAny C.allows }
+    requires allowed { LetsAny C.allows C.may_answer }
 {
     let settings = settings(alloc).ok()?;
     let answer = run_session(alloc, cluster, &settings, std::slice::from_ref(command));

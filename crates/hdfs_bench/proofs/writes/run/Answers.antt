@@ -4,4 +4,4 @@ use Rattle.hdfs_commands.proofs.Allowing.{lets_any}
 use Rattle.hdfs_bench.proofs.writes.run.Goals as goal
 
 pub run_session-requires-clause-allowed : goal.run_session-requires-clause-allowed
-run_session-requires-clause-allowed c = λ k other low. lets_any (λ request. tt) c.args.settings.now (slice_index_or c.args.commands.now k other)
+run_session-requires-clause-allowed c = λ k other low. lets_any (λ ask answer. Unit {0}) (λ request. tt) c.args.settings.now (slice_index_or c.args.commands.now k other)

@@ -8,6 +8,7 @@ use Rattle.std.proofs.Math.Seq.{drop-cons}
 use Rattle.hdfs_cluster.specs.declared.messages.LocatedBlock.{LocatedBlock}
 use Rattle.hdfs_cluster.proofs.Frames.{only_reads_trans, same_links_trans}
 use Rattle.hdfs_commands.proofs.Parts.{Left, left_next, left_end, fails_first}
+use Rattle.hdfs_block_reader.specs.Reader.{LetsRead}
 use Rattle.hdfs_commands.proofs.reading.read_blocks.Goals as goal
 
 -- the block of this turn and those behind it
@@ -57,3 +58,11 @@ returns-clause-bytes g c = λ content st within.
     left_end st.picture st.ids st.total content c.args.offset c.args.end c.args.out.now.items c.loop-block.out.items within
     (subst (λ (bs : List LocatedBlock). Left st.picture st.ids st.total content bs c.args.offset c.args.end c.args.out.now.items c.loop-block.out.items)
     (drop_all (length c.loop-block.yielded) c.args.blocks.items (omega (arith, all.1))) (c.loop-block.invariant.left content st))
+
+pub read_part-requires-clause-allowed : goal.read_part-requires-clause-allowed
+read_part-requires-clause-allowed g c =
+    let given = c.into_iter-block-iterator.ensures.into_iter_gives in
+    let at = YieldsList-turn (YieldsList-from_vec {s = c.into_iter-block-iterator.result} c.args.blocks.items given.0 (given.1 ∙ c.args.blocks.ok.0))
+    c.loop-block.yielded c.loop-block.block-iterator c.loop-block.yielded_by c.next.result c.next.new.self c.in-Some.block c.in-Some.is c.next.ensures.steps in
+    subst (λ (b : LocatedBlock). (end : ℕ) → LetsRead g.C.Cluster.allows b [] end) (sym at.1)
+    (c.requires.allowed (length c.loop-block.yielded) c.in-Some.block at.0)

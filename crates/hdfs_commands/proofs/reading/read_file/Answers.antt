@@ -1,4 +1,4 @@
-use Rattle.std.proofs.Common.{◌≡◌, ℕ, ◌+◌, ◌-◌, ◌<◌, List, ◌++◌, sym, ◌∙◌, ap, subst}
+use Rattle.std.proofs.Common.{◌≡◌, ℕ, ◌+◌, ◌-◌, ◌<◌, List, ◌++◌, sym, ◌∙◌, ap, subst, [], get_or}
 use Rattle.std.proofs.lemmas.Result.{err_from_is_err_and}
 use Rattle.hdfs_cluster.specs.declared.messages.LocatedBlock.{LocatedBlock}
 use Rattle.hdfs_cluster.specs.Reading.{range_of}
@@ -8,6 +8,9 @@ use Rattle.hdfs_commands.proofs.Causing.{agrees_looked, read_done, blocks_cause,
 use Rattle.hdfs_commands.proofs.Ranging.{asks_read}
 use Rattle.hdfs_commands.proofs.Looking.{applies_looked}
 use Rattle.hdfs_commands.proofs.Owing.{reader_not_owed}
+use Rattle.hdfs_block_reader.specs.Reader.{LetsRead}
+use Rattle.std.specs.Prelude.{All}
+use Rattle.std.proofs.lemmas.List.Elements.{Contains-get_or}
 use Rattle.hdfs_commands.proofs.reading.read_file.Goals as goal
 
 pub returns-in_err-found-clause-anywhere : goal.returns-in_err-found-clause-anywhere
@@ -84,3 +87,10 @@ returns-clause-client g c =
     let h = c.in_ok-found.ensures in
     asks_read c.args.path.now (g.C.Cluster.shown c.args.cluster.now) (g.C.Cluster.shown c.find_range.new.cluster) (g.C.Cluster.shown c.read_blocks.new.cluster) c.args.namenode.now c.find_range.new.namenode
     h.files c.in_ok-read_blocks.ensures.only h.client
+
+pub read_blocks-requires-clause-allowed : goal.read_blocks-requires-clause-allowed
+read_blocks-requires-clause-allowed g c =
+    let found = c.in_ok-found.found in
+    subst (All (λ (b : LocatedBlock). (end : ℕ) → LetsRead g.C.Cluster.allows b [] end)) (sym c.into_vec.ensures)
+    (λ k other low. c.requires.allowed.reads (get_or found.blocks k other)
+    (record { found = found; answered = c.in_ok-found.ensures.answered; among = Contains-get_or found.blocks k other low }))

@@ -7,7 +7,7 @@ use Rattle.hdfs_program.proofs.over_memory.run_words.Goals as goal
 
 -- a cluster in memory allows all
 pub top-status-requires-clause-allowed : goal.top-status-requires-clause-allowed
-top-status-requires-clause-allowed g c = lets_any (λ request. tt)
+top-status-requires-clause-allowed g c = lets_any (λ ask answer. Unit {0}) (λ request. tt)
 
 -- the program ran over the new cluster
 pub returns : goal.returns

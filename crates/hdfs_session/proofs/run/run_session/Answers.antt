@@ -40,6 +40,7 @@ loop-command-init g c =
       stands = made.stands;
       fine = made.fresh;
       tallied = tallied_start s session made.none.0;
+      answered = made.answered;
       settings = made.settings.0;
       count = ap length c.in-Ok.ensures.items;
       replied = subst (AreReplies []) (sym c.in-Ok.ensures.items) tt;
@@ -59,8 +60,8 @@ pub apply-requires-clause-allowed : goal.apply-requires-clause-allowed
 apply-requires-clause-allowed g c = λ fine placed.
     let command = c.command-item.result in
     let i = c.loop-command.command-index in
-    subst (λ (x : Settings). Lets g.C.Cluster.allows x command) (sym c.loop-command.invariant.settings)
-    (subst (λ (x : Command). Lets g.C.Cluster.allows c.args.settings.now x) (sym c.command-item.is) (c.requires.allowed i command c.loop-command-test.true))
+    subst (λ (x : Settings). Lets g.C.Cluster.allows g.C.Cluster.may_answer x command) (sym c.loop-command.invariant.settings)
+    (subst (λ (x : Command). Lets g.C.Cluster.allows g.C.Cluster.may_answer c.args.settings.now x) (sym c.command-item.is) (c.requires.allowed i command c.loop-command-test.true))
 
 pub loop-command-preserved : goal.loop-command-preserved
 loop-command-preserved g c =
@@ -78,6 +79,7 @@ loop-command-preserved g c =
       later = later_trans s t u before.later acts.anywhere.later;
       reads = same_reads_trans s t u before.reads acts.anywhere.reads;
       own = own_next s t u c.loop-command.session c.apply.new.self before.own acts.links;
+      answered = now.answered;
       stands = now.keeps.1;
       fine = now.fails.1;
       tallied = acts.tallied s before.tallied;

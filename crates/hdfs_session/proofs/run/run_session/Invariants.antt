@@ -4,6 +4,7 @@ use Rattle.hdfs_cluster.specs.Files.{State}
 use Rattle.hdfs_model.specs.Headline.{Ready}
 use Rattle.hdfs_model.specs.Sessions.{none_open, world_of}
 use Rattle.hdfs_cluster.specs.Shown.{Later, SameReads}
+use Rattle.hdfs_commands.specs.Asking.{AreAnswered}
 use Rattle.hdfs_commands.specs.Session.{Stands, Tallied, settings_of, has_failed}
 use Rattle.hdfs_session.proofs.Going.{GoneOn}
 use Rattle.hdfs_session.proofs.WholeGoing.{WholeSoFar}
@@ -21,6 +22,7 @@ invariant-loop-command g l =
       stands : Stands now l.session;
       fine : has_failed l.session ≡ false;
       tallied : Tallied start now l.session;
+      answered : AreAnswered g.C.Cluster.may_answer l.session;
       settings : settings_of l.session ≡ l.fn.settings;
       count : length l.replies.items ≡ l.command-index;
       replied : AreReplies (take l.command-index l.commands) l.replies.items;

@@ -9,7 +9,7 @@ use Rattle.hdfs_uses.proofs.patient.apply_patiently.Goals as goal
 -- the session has the settings for which there is leave
 pub apply-requires-clause-allowed : goal.apply-requires-clause-allowed
 apply-requires-clause-allowed g c = λ fine placed.
-    subst (λ (settings : Settings). Lets g.C.Cluster.allows settings c.args.command.now) (sym c.in_ok-session.ensures.settings.0) c.requires.allowed
+    subst (λ (settings : Settings). Lets g.C.Cluster.allows g.C.Cluster.may_answer settings c.args.command.now) (sym c.in_ok-session.ensures.settings.0) c.requires.allowed
 
 -- a reply is that of the step
 pub returns-in-Ok : goal.returns-in-Ok

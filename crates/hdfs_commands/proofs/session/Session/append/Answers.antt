@@ -1,5 +1,5 @@
 -- The goals of Session::append.
-use Rattle.std.proofs.Common.{◌≡◌, ℕ, List, Err, refl, sym, ◌∙◌, ap, subst, unwrap_or}
+use Rattle.std.proofs.Common.{◌≡◌, ℕ, List, Err, refl, sym, ◌∙◌, ap, subst, unwrap_or, Some, Option, true}
 use Rattle.std.proofs.lemmas.Result.{err_from_is_err_and}
 use Rattle.std.specs.BTreeMap.{get_by_text}
 use Rattle.std.specs.String.{string_bytes}
@@ -7,10 +7,11 @@ use Rattle.hdfs_model.specs.declared.commands.Command.TheVariants as commands
 use Rattle.hdfs_model.specs.declared.commands.Reply.{Reply}
 use Rattle.hdfs_cluster.specs.declared.errors.HdfsError.{HdfsError}
 use Rattle.hdfs_cluster.specs.declared.errors.HdfsError.TheVariants as errors
+use Rattle.hdfs_cluster.specs.declared.asks.Answer.TheVariants as answers
 use Rattle.hdfs_cluster.specs.declared.messages.Appended.{Appended}
 use Rattle.hdfs_cluster.proofs.Repeating.{append_repeats}
-use Rattle.hdfs_cluster.specs.Requests.{AskOf, LetsClose}
-use Rattle.hdfs_file_writer.specs.Writers.{file_id_of}
+use Rattle.hdfs_cluster.specs.Requests.{AskOf, LetsClose, id_in}
+use Rattle.hdfs_file_writer.specs.Writers.{file_id_of, IsAnswered}
 use Rattle.hdfs_namenode.specs.Clients.{name_of, proxy_of}
 use Rattle.hdfs_namenode.proofs.Services.{reaches_later}
 use Rattle.hdfs_commands.specs.Acting.{Acts}
@@ -28,6 +29,8 @@ use Rattle.hdfs_commands.proofs.Sized.{remembers_trans, remembers_with, sizes_st
 use Rattle.hdfs_commands.proofs.Starting.{appended_acts, appended_over}
 use Rattle.hdfs_commands.proofs.WholeOpening.{appending_spares}
 use Rattle.hdfs_commands.proofs.WholeStarting.{appended_whole, late_whole, prepared_whole, refused_whole}
+use Rattle.hdfs_commands.proofs.Answered.{answered_appended, answered_put, answered_same}
+use Rattle.hdfs_commands.specs.Encrypted.{tells_encryption}
 use Rattle.hdfs_commands.proofs.session.Session.append.Goals as goal
 
 pub defaults-requires-clause-allowed : goal.defaults-requires-clause-allowed
@@ -257,10 +260,18 @@ refuse_opened-requires-clause-reaches g c =
 
 pub refuse_opened-requires-clause-allowed : goal.refuse_opened-requires-clause-allowed
 refuse_opened-requires-clause-allowed g c =
-    let id = file_id_of c.appended-writer.result in
-    let name = c.ask_append.ensures.asked.remembers.name ∙ c.in_ok-defaults.ensures.prepares.remembers.name in
-    subst (λ (p : List ℕ). LetsClose g.C.Cluster.allows (name_of c.ask_append.new.self.namenode) p id) (sym c.appended-writer.ensures.path.0)
-    (subst (λ (n : List ℕ). LetsClose g.C.Cluster.allows n c.args.path id) (sym name) (c.requires.allowed.closes id))
+    let appended : Appended = c.in_ok-block.field-0 in
+    let stat = c.in-Some.stat in
+    let name = c.ask_append.ensures.asked.remembers.name ∙ c.defaults.ensures.prepares.remembers.name in
+    let encrypted : tells_encryption appended.stat ≡ true = ap tells_encryption c.in-Some.is ∙ sym c.is_some-encrypted.ensures ∙ c.if-encrypted.true in
+    let lets = c.requires.allowed.closes appended
+    (subst (λ (client : List ℕ). g.C.Cluster.may_answer (appending c.args.path client 4) (answers.Append appended)) c.defaults.ensures.prepares.remembers.name
+    c.in_ok-block.ensures.answered) encrypted in
+    subst (λ (p : List ℕ). LetsClose g.C.Cluster.allows g.C.Cluster.may_answer (name_of c.ask_append.new.self.namenode) p (file_id_of c.appended-writer.result))
+    (sym c.appended-writer.ensures.path.0)
+    (subst (λ (id : Option ℕ). LetsClose g.C.Cluster.allows g.C.Cluster.may_answer (name_of c.ask_append.new.self.namenode) c.args.path id)
+    (ap id_in c.in-Some.is ∙ sym c.appended-writer.ensures.path.2)
+    (subst (λ (n : List ℕ). LetsClose g.C.Cluster.allows g.C.Cluster.may_answer n c.args.path (id_in appended.stat)) (sym name) lets))
 
 pub refuse_opened-requires-clause-stands : goal.refuse_opened-requires-clause-stands
 refuse_opened-requires-clause-stands g c = c.appended-writer.ensures.stands (g.C.Cluster.shown c.ask_append.new.cluster)
@@ -311,3 +322,72 @@ returns-then-encrypted-clause-whole g c = λ called.
     c.in_ok-block.field-0 stat called c.in-Some.is c.appended-writer.ensures.tail (c.appended-writer.ensures.path.1 ∙ sizes) c.in_ok-block.ensures.came (sym c.is_some-encrypted.ensures ∙ c.if-encrypted.true)
     (g.met.C.Cluster.sound c.ask_append.new.cluster) c.appended-writer.ensures.path.0 h.touches (remembers_trans session asked refused on.remembers h.asked.remembers)
     (λ q. ap (λ w. get_by_text w q) (h.asked.writers ∙ on.writers)) c.requires.stands c.refuse_opened.result
+
+pub returns-in_err-defaults-clause-answered : goal.returns-in_err-defaults-clause-answered
+returns-in_err-defaults-clause-answered g c =
+    let prepares = c.defaults.ensures.prepares in
+    answered_same c.args.self.now c.defaults.new.self prepares.remembers.name (λ q. ap (λ w. get_by_text w q) prepares.writers) c.requires.answered
+
+pub returns-in_err-key-clause-answered : goal.returns-in_err-key-clause-answered
+returns-in_err-key-clause-answered g c =
+    let prepares = c.defaults.ensures.prepares in
+    answered_same c.args.self.now c.defaults.new.self prepares.remembers.name (λ q. ap (λ w. get_by_text w q) prepares.writers) c.requires.answered
+
+pub returns-in_err-block-clause-answered : goal.returns-in_err-block-clause-answered
+returns-in_err-block-clause-answered g c =
+    let prepares = c.defaults.ensures.prepares in
+    let on = c.ask_append.ensures.asked in
+    answered_same c.args.self.now c.ask_append.new.self (on.remembers.name ∙ prepares.remembers.name)
+    (λ q. ap (λ w. get_by_text w q) (on.writers ∙ prepares.writers)) c.requires.answered
+
+pub returns-in_default-clause-answered : goal.returns-in_default-clause-answered
+returns-in_default-clause-answered g c =
+    let prepares = c.defaults.ensures.prepares in
+    let on = c.ask_append.ensures.asked in
+    answered_same c.args.self.now c.ask_append.new.self (on.remembers.name ∙ prepares.remembers.name)
+    (λ q. ap (λ w. get_by_text w q) (on.writers ∙ prepares.writers)) c.requires.answered
+
+pub returns-in_err-copy-clause-answered : goal.returns-in_err-copy-clause-answered
+returns-in_err-copy-clause-answered g c =
+    let prepares = c.defaults.ensures.prepares in
+    let on = c.ask_append.ensures.asked in
+    answered_same c.args.self.now c.ask_append.new.self (on.remembers.name ∙ prepares.remembers.name)
+    (λ q. ap (λ w. get_by_text w q) (on.writers ∙ prepares.writers)) c.requires.answered
+
+pub returns-in_err-keep-clause-answered : goal.returns-in_err-keep-clause-answered
+returns-in_err-keep-clause-answered g c =
+    let prepares = c.defaults.ensures.prepares in
+    let on = c.ask_append.ensures.asked in
+    let asked = c.ask_append.new.self in
+    answered_same c.args.self.now (record asked { writers = c.keep.new.writers }) (on.remembers.name ∙ prepares.remembers.name)
+    (λ q. kept_by asked.writers c.keep.new.writers c.in_err-keep.ensures.err q ∙ ap (λ w. get_by_text w q) (on.writers ∙ prepares.writers)) c.requires.answered
+
+pub returns-then-encrypted-clause-answered : goal.returns-then-encrypted-clause-answered
+returns-then-encrypted-clause-answered g c =
+    let prepares = c.defaults.ensures.prepares in
+    let on = c.ask_append.ensures.asked in
+    let refused = c.refuse_opened.ensures.asked in
+    answered_same c.args.self.now c.refuse_opened.new.self (refused.remembers.name ∙ on.remembers.name ∙ prepares.remembers.name)
+    (λ q. ap (λ w. get_by_text w q) (refused.writers ∙ on.writers ∙ prepares.writers)) c.requires.answered
+
+pub returns-clause-answered : goal.returns-clause-answered
+returns-clause-answered g c =
+    let prepares = c.defaults.ensures.prepares in
+    let on = c.ask_append.ensures.asked in
+    let session = c.args.self.now in
+    let asked = c.ask_append.new.self in
+    let writer = c.appended-writer.result in
+    answered_put session (record asked { writers = c.keep.new.writers }) c.args.path (Some writer) (on.remembers.name ∙ prepares.remembers.name)
+    (put_by asked.writers c.keep.new.writers session.writers (string_bytes c.in_ok-key.key) c.args.path writer (on.writers ∙ prepares.writers)
+    (c.in_ok-key.ensures.ok ∙ c.as_str.ensures) c.in_ok-keep.ensures.put)
+    (subst (λ (client : List ℕ). IsAnswered g.C.Cluster.may_answer client writer) prepares.remembers.name
+    (answered_appended writer c.args.path c.in_ok-block.field-0 c.appended-writer.ensures.path.0
+    (c.appended-writer.ensures.path.2 ∙ sym (ap id_in c.in-Some.is)) c.appended-writer.ensures.tail c.in_ok-block.ensures.answered))
+    c.requires.answered
+
+pub refuse_opened-requires-clause-answered : goal.refuse_opened-requires-clause-answered
+refuse_opened-requires-clause-answered g c =
+    let writer = c.appended-writer.result in
+    subst (λ (client : List ℕ). IsAnswered g.C.Cluster.may_answer client writer) (sym c.ask_append.ensures.asked.remembers.name)
+    (answered_appended writer c.args.path c.in_ok-block.field-0 c.appended-writer.ensures.path.0
+    (c.appended-writer.ensures.path.2 ∙ sym (ap id_in c.in-Some.is)) c.appended-writer.ensures.tail c.in_ok-block.ensures.answered)

@@ -1,5 +1,5 @@
 -- The goals of Session::create.
-use Rattle.std.proofs.Common.{◌≡◌, ℕ, List, Err, sym, ◌∙◌, ap, subst, unwrap_or}
+use Rattle.std.proofs.Common.{◌≡◌, ℕ, List, Err, sym, ◌∙◌, ap, subst, unwrap_or, Some, inl, refl}
 use Rattle.std.proofs.lemmas.Result.{err_from_is_err_and}
 use Rattle.std.proofs.lemmas.Bool.{false≢true}
 use Rattle.std.specs.BTreeMap.{get_by_text}
@@ -10,7 +10,8 @@ use Rattle.hdfs_model.specs.declared.commands.Reply.{Reply}
 use Rattle.hdfs_cluster.specs.declared.errors.HdfsError.{HdfsError}
 use Rattle.hdfs_cluster.specs.declared.errors.HdfsError.TheVariants as errors
 use Rattle.hdfs_model.specs.Limits.{are_settings}
-use Rattle.hdfs_file_writer.specs.Writers.{AreSizes}
+use Rattle.hdfs_file_writer.specs.Writers.{AreSizes, IsAnswered}
+use Rattle.hdfs_cluster.specs.declared.asks.Answer.TheVariants as answers
 use Rattle.hdfs_cluster.proofs.Repeating.{create_repeats}
 use Rattle.hdfs_namenode.specs.Clients.{proxy_of}
 use Rattle.hdfs_namenode.proofs.Services.{reaches_later}
@@ -30,6 +31,8 @@ use Rattle.hdfs_commands.proofs.Sizing.{are_sizes_by}
 use Rattle.hdfs_commands.proofs.Starting.{created_acts, created_over}
 use Rattle.hdfs_commands.proofs.WholeOpening.{creating_spares}
 use Rattle.hdfs_commands.proofs.WholeStarting.{behind_whole, created_whole, early_whole, late_whole, prepared_whole, refused_whole}
+use Rattle.hdfs_commands.proofs.Answered.{answered_created, answered_put, answered_same}
+use Rattle.hdfs_cluster.specs.Requests.{id_in}
 use Rattle.hdfs_commands.proofs.session.Session.create.Goals as goal
 
 pub defaults-requires-clause-allowed : goal.defaults-requires-clause-allowed
@@ -37,7 +40,7 @@ defaults-requires-clause-allowed g c = (c.requires.allowed (sym c.are_limited.en
 
 pub ask_create-requires-clause-allowed : goal.ask_create-requires-clause-allowed
 ask_create-requires-clause-allowed g c =
-    subst (λ (n : List ℕ). LetsCreate g.C.Cluster.allows n c.args.path c.args.options.now) (sym c.in_ok-defaults.ensures.prepares.remembers.name)
+    subst (λ (n : List ℕ). LetsCreate g.C.Cluster.allows g.C.Cluster.may_answer n c.args.path c.args.options.now) (sym c.in_ok-defaults.ensures.prepares.remembers.name)
     (c.requires.allowed (sym c.are_limited.ensures ∙ c.if-not-are_limited.false))
 
 pub ask_create-requires-clause-reaches : goal.ask_create-requires-clause-reaches
@@ -288,3 +291,77 @@ returns-then-encrypted-clause-whole g c = λ name called.
     c.in_ok-defaults.ensures.prepares (λ q. ap (λ w. get_by_text w q) (c.refuse_created.ensures.asked.writers ∙ c.ask_create.ensures.asked.writers)) c.args.path called
     (λ q told. absurd (false≢true (sym (was_plain c.args.path client options r k q m t status told came) ∙ sym c.tells_encryption-encrypted.ensures ∙ c.if-encrypted.true)))
     c.refuse_created.result
+
+pub returns-in_err-defaults-clause-answered : goal.returns-in_err-defaults-clause-answered
+returns-in_err-defaults-clause-answered g c =
+    let prepares = c.defaults.ensures.prepares in
+    answered_same c.args.self.now c.defaults.new.self prepares.remembers.name (λ q. ap (λ w. get_by_text w q) prepares.writers) c.requires.answered
+
+pub returns-in_err-key-clause-answered : goal.returns-in_err-key-clause-answered
+returns-in_err-key-clause-answered g c =
+    let prepares = c.defaults.ensures.prepares in
+    answered_same c.args.self.now c.defaults.new.self prepares.remembers.name (λ q. ap (λ w. get_by_text w q) prepares.writers) c.requires.answered
+
+pub returns-in_err-status-clause-answered : goal.returns-in_err-status-clause-answered
+returns-in_err-status-clause-answered g c =
+    let prepares = c.defaults.ensures.prepares in
+    let on = c.ask_create.ensures.asked in
+    answered_same c.args.self.now c.ask_create.new.self (on.remembers.name ∙ prepares.remembers.name)
+    (λ q. ap (λ w. get_by_text w q) (on.writers ∙ prepares.writers)) c.requires.answered
+
+pub returns-in_err-keep-clause-answered : goal.returns-in_err-keep-clause-answered
+returns-in_err-keep-clause-answered g c =
+    let prepares = c.defaults.ensures.prepares in
+    let on = c.ask_create.ensures.asked in
+    let asked = c.ask_create.new.self in
+    answered_same c.args.self.now (record asked { writers = c.keep.new.writers }) (on.remembers.name ∙ prepares.remembers.name)
+    (λ q. kept_by asked.writers c.keep.new.writers c.in_err-keep.ensures.err q ∙ ap (λ w. get_by_text w q) (on.writers ∙ prepares.writers)) c.requires.answered
+
+pub returns-then-encrypted-clause-answered : goal.returns-then-encrypted-clause-answered
+returns-then-encrypted-clause-answered g c =
+    let prepares = c.defaults.ensures.prepares in
+    let on = c.ask_create.ensures.asked in
+    let refused = c.refuse_created.ensures.asked in
+    answered_same c.args.self.now c.refuse_created.new.self (refused.remembers.name ∙ on.remembers.name ∙ prepares.remembers.name)
+    (λ q. ap (λ w. get_by_text w q) (refused.writers ∙ on.writers ∙ prepares.writers)) c.requires.answered
+
+pub returns-clause-answered : goal.returns-clause-answered
+returns-clause-answered g c =
+    let prepares = c.defaults.ensures.prepares in
+    let on = c.ask_create.ensures.asked in
+    let session = c.args.self.now in
+    let asked = c.ask_create.new.self in
+    let options = c.args.options.now in
+    let d = c.in_ok-defaults.defaults in
+    let writer = c.new-writer.result in
+    answered_put session (record asked { writers = c.keep.new.writers }) c.args.path (Some writer) (on.remembers.name ∙ prepares.remembers.name)
+    (put_by asked.writers c.keep.new.writers session.writers (string_bytes c.in_ok-key.key) c.args.path writer (on.writers ∙ prepares.writers)
+    (c.in_ok-key.ensures.ok ∙ c.as_str.ensures) c.in_ok-keep.ensures.put)
+    (subst (λ (client : List ℕ). IsAnswered g.C.Cluster.may_answer client writer) prepares.remembers.name
+    (answered_created writer c.args.path (id_in c.in_ok-status.status) c.new-writer.ensures.path.0 (c.new-writer.ensures.path.2 ∙ c.file_id_of-file_id.ensures)
+    c.new-writer.ensures.tail
+    (inl (record {
+      masked = options.permission;
+      create_flag = create_flag options;
+      create_parent = options.create_parent;
+      replication = unwrap_or options.replication d.replication;
+      block_size = unwrap_or options.block_size d.block_size;
+      status = c.in_ok-status.status;
+      answered = c.in_ok-status.ensures.answered;
+      is = refl;
+    }))))
+    c.requires.answered
+
+pub refuse_created-requires-clause-allowed : goal.refuse_created-requires-clause-allowed
+refuse_created-requires-clause-allowed g c =
+    let options = c.args.options.now in
+    let d = c.in_ok-defaults.defaults in
+    let r = unwrap_or options.replication d.replication in
+    let k = unwrap_or options.block_size d.block_size in
+    let status = c.in_ok-status.status in
+    let lets = c.requires.allowed (sym c.are_limited.ensures ∙ c.if-not-are_limited.false) in
+    rw c.as_str-then-encrypted.ensures
+    (lets.deletes r k status
+    (subst (λ (client : List ℕ). g.C.Cluster.may_answer (creating c.args.path client options r k) (answers.Create status)) c.defaults.ensures.prepares.remembers.name
+    c.in_ok-status.ensures.answered)
+    (sym c.tells_encryption-encrypted.ensures ∙ c.if-encrypted.true))

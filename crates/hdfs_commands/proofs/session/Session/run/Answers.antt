@@ -13,6 +13,7 @@ use Rattle.hdfs_commands.proofs.Early.{fact_true, owed_result, state_acts, targe
 use Rattle.hdfs_commands.proofs.Connected.{connected_acts}
 use Rattle.hdfs_commands.proofs.ReadActs.{read_command, read_knows}
 use Rattle.hdfs_commands.proofs.WholeStarting.{as_called, early_whole, read_whole}
+use Rattle.hdfs_commands.proofs.Answered.{answered_same}
 use Rattle.hdfs_commands.proofs.session.Session.run.Goals as goal
 
 pub returns-in_err-path-clause-acts : goal.returns-in_err-path-clause-acts
@@ -92,7 +93,7 @@ returns-in-Close-clause-whole g c =
 
 pub create-requires-clause-allowed : goal.create-requires-clause-allowed
 create-requires-clause-allowed g c =
-    lets_there g.C.Cluster.allows c.args.self.now c.args.command.now (commands.Create c.in-Create.path c.in-Create.options) c.in_ok-path.path
+    lets_there g.C.Cluster.allows g.C.Cluster.may_answer c.args.self.now c.args.command.now (commands.Create c.in-Create.path c.in-Create.options) c.in_ok-path.path
     (c.in-Create.is) (c.in_ok-path.ensures.ok.0) (c.in_ok-path.ensures.ok.1)
     (subst (λ (p : List ℕ). is_misplaced c.args.command.now (opened_of c.args.self.now p) ≡ false) (c.as_str.ensures)
     (c.is_placed.ensures.0 c.if-not-is_placed.false))
@@ -100,7 +101,7 @@ create-requires-clause-allowed g c =
 
 pub append-requires-clause-allowed : goal.append-requires-clause-allowed
 append-requires-clause-allowed g c =
-    lets_there g.C.Cluster.allows c.args.self.now c.args.command.now (commands.Append c.in-Append.name) c.in_ok-path.path
+    lets_there g.C.Cluster.allows g.C.Cluster.may_answer c.args.self.now c.args.command.now (commands.Append c.in-Append.name) c.in_ok-path.path
     (c.in-Append.is) (c.in_ok-path.ensures.ok.0) (c.in_ok-path.ensures.ok.1)
     (subst (λ (p : List ℕ). is_misplaced c.args.command.now (opened_of c.args.self.now p) ≡ false) (c.as_str.ensures)
     (c.is_placed.ensures.0 c.if-not-is_placed.false))
@@ -108,7 +109,7 @@ append-requires-clause-allowed g c =
 
 pub write-requires-clause-allowed : goal.write-requires-clause-allowed
 write-requires-clause-allowed g c =
-    lets_there g.C.Cluster.allows c.args.self.now c.args.command.now (commands.Write c.in-Write.path c.in-Write.bytes) c.as_str-in-Write.result.now
+    lets_there g.C.Cluster.allows g.C.Cluster.may_answer c.args.self.now c.args.command.now (commands.Write c.in-Write.path c.in-Write.bytes) c.as_str-in-Write.result.now
     (c.in-Write.is) (c.as_str-in-Write.ensures ∙ c.in_ok-path.ensures.ok.0) (ap is_path c.as_str-in-Write.ensures ∙ c.in_ok-path.ensures.ok.1)
     (subst (λ (p : List ℕ). is_misplaced c.args.command.now (opened_of c.args.self.now p) ≡ false) (c.as_str.ensures ∙ sym c.as_str-in-Write.ensures)
     (c.is_placed.ensures.0 c.if-not-is_placed.false))
@@ -116,7 +117,7 @@ write-requires-clause-allowed g c =
 
 pub close-requires-clause-allowed : goal.close-requires-clause-allowed
 close-requires-clause-allowed g c =
-    lets_there g.C.Cluster.allows c.args.self.now c.args.command.now (commands.Close c.in-Close.path) c.as_str-in-Close.result.now
+    lets_there g.C.Cluster.allows g.C.Cluster.may_answer c.args.self.now c.args.command.now (commands.Close c.in-Close.path) c.as_str-in-Close.result.now
     (c.in-Close.is) (c.as_str-in-Close.ensures ∙ c.in_ok-path.ensures.ok.0) (ap is_path c.as_str-in-Close.ensures ∙ c.in_ok-path.ensures.ok.1)
     (subst (λ (p : List ℕ). is_misplaced c.args.command.now (opened_of c.args.self.now p) ≡ false) (c.as_str.ensures ∙ sym c.as_str-in-Close.ensures)
     (c.is_placed.ensures.0 c.if-not-is_placed.false))
@@ -124,8 +125,14 @@ close-requires-clause-allowed g c =
 
 pub read_file-requires-clause-allowed : goal.read_file-requires-clause-allowed
 read_file-requires-clause-allowed g c =
-    lets_there g.C.Cluster.allows c.args.self.now c.args.command.now (commands.Read c.in-Read.name c.in-Read.offset c.in-Read.len) c.as_str-in-Read.result.now
+    lets_there g.C.Cluster.allows g.C.Cluster.may_answer c.args.self.now c.args.command.now (commands.Read c.in-Read.name c.in-Read.offset c.in-Read.len) c.as_str-in-Read.result.now
     (c.in-Read.is) (c.as_str-in-Read.ensures ∙ c.in_ok-path.ensures.ok.0) (ap is_path c.as_str-in-Read.ensures ∙ c.in_ok-path.ensures.ok.1)
     (subst (λ (p : List ℕ). is_misplaced c.args.command.now (opened_of c.args.self.now p) ≡ false) (c.as_str.ensures ∙ sym c.as_str-in-Read.ensures)
     (c.is_placed.ensures.0 c.if-not-is_placed.false))
     c.requires.stands.name c.requires.allowed
+
+pub returns-in-Read-clause-answered : goal.returns-in-Read-clause-answered
+returns-in-Read-clause-answered g c =
+    let session = c.args.self.now in
+    answered_same session (record session { connections = c.read_file.new.connections; namenode = c.read_file.new.namenode })
+    c.read_file.ensures.client.same.name (λ q. refl) c.requires.answered

@@ -2,11 +2,12 @@
 use Rattle.std.proofs.Common.{ℕ, true, List, Some, refl, sym, ap, subst, rules}
 use Rattle.std.proofs.lemmas.Map.Text.{btree_map_updates_text}
 use Rattle.hdfs_model.specs.declared.commands.Command.TheVariants as commands
-use Rattle.hdfs_cluster.specs.Requests.{LetsWrite}
+use Rattle.hdfs_cluster.specs.Requests.{LetsWrite, IsAnsweredId}
 use Rattle.hdfs_namenode.specs.Clients.{name_of}
 use Rattle.hdfs_file_writer.specs.Writers.{file_id_of}
 use Rattle.hdfs_commands.proofs.WholeWriting.{write_keeps, write_fails_keeps}
 use Rattle.hdfs_commands.proofs.WriteEnds.{write_acts, write_fails, write_not_owed}
+use Rattle.hdfs_commands.proofs.Answered.{answered_put}
 use Rattle.hdfs_commands.proofs.session.Session.write.Goals as goal
 
 pub write-requires-clause-stands : goal.write-requires-clause-stands
@@ -16,7 +17,10 @@ pub write-requires-clause-allowed : goal.write-requires-clause-allowed
 write-requires-clause-allowed g c =
     let at = (c.requires.stands.each c.args.path.now c.in-Some.writer.now (sym c.in-Some.ensures.value)).1 in
     let id = file_id_of c.in-Some.writer.now in
-    subst (λ (p : List ℕ). LetsWrite g.C.Cluster.allows (name_of c.args.self.now.namenode) p id) (sym at) (c.requires.allowed id)
+    let answered = (c.requires.answered c.args.path.now c.in-Some.writer.now (sym c.in-Some.ensures.value)).id in
+    let client = name_of c.args.self.now.namenode in
+    subst (λ (p : List ℕ). LetsWrite g.C.Cluster.allows g.C.Cluster.may_answer client p id) (sym at)
+    (c.requires.allowed id (subst (λ (p : List ℕ). IsAnsweredId g.C.Cluster.may_answer client p id) at answered))
 
 pub returns-in-Ok-clause-acts : goal.returns-in-Ok-clause-acts
 returns-in-Ok-clause-acts g c = λ name is.
@@ -107,3 +111,24 @@ returns-in-Err-clause-whole g c = λ name is.
       namenode = c.write.ensures.stands.2;
     })
     is c.in-Err.error (c.in-Err.ensures.err fine) (λ out. ap (λ x. g.C.Cluster.shown x) (c.in-Err.ensures.idle.options fine (λ none. cc (c.in-Err.ensures.idle.empty fine none)) out).2)
+
+pub write-requires-clause-answered : goal.write-requires-clause-answered
+write-requires-clause-answered g c = c.requires.answered c.args.path.now c.in-Some.writer.now (sym c.in-Some.ensures.value)
+
+pub returns-in-Ok-clause-answered : goal.returns-in-Ok-clause-answered
+returns-in-Ok-clause-answered g c =
+    let session = c.args.self.now in
+    let path = c.args.path.now in
+    let w = c.write.new.self in
+    answered_put session (record session { writers = c.get_mut.follows.lender w; namenode = c.write.new.namenode }) path (Some w) c.write.ensures.stands.2.name
+    (btree_map_updates_text path session.writers (c.get_mut.follows.lender w) (Some w) ((c.get_mut.follows.holds w).3 (search rules)))
+    c.write.ensures.answered c.requires.answered
+
+pub returns-in-Err-clause-answered : goal.returns-in-Err-clause-answered
+returns-in-Err-clause-answered g c =
+    let session = c.args.self.now in
+    let path = c.args.path.now in
+    let w = c.write.new.self in
+    answered_put session (record session { writers = c.get_mut.follows.lender w; namenode = c.write.new.namenode }) path (Some w) c.write.ensures.stands.2.name
+    (btree_map_updates_text path session.writers (c.get_mut.follows.lender w) (Some w) ((c.get_mut.follows.holds w).3 (search rules)))
+    c.write.ensures.answered c.requires.answered

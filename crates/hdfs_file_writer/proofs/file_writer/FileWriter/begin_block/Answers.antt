@@ -1,6 +1,8 @@
 -- The goals of FileWriter::begin_block.
-use Rattle.std.proofs.Common.{[], Some}
+use Rattle.std.proofs.Common.{[], Some, List, ℕ, sym, subst}
 use Rattle.hdfs_file_writer.proofs.Joining.{wrote_trans, fails_after}
+use Rattle.hdfs_file_writer.specs.Writers.{IsAnswered}
+use Rattle.hdfs_cluster.specs.Requests.{IsAdded, IsAnsweredId}
 use Rattle.hdfs_file_writer.proofs.file_writer.FileWriter.begin_block.Goals as goal
 
 pub returns-in-Ok-open_block-clause-wrote : goal.returns-in-Ok-open_block-clause-wrote
@@ -18,3 +20,18 @@ returns-in-Err-open_block-clause-err g c =
     let w = c.args.self.now in
     fails_after s m (g.C.Cluster.shown c.open_block.new.cluster) w (record w { reopened = Some c.in-Ok.located }) [] c.in-Err-open_block.error
     c.in-Ok.ensures.adds.wrote c.in-Err-open_block.ensures.err
+
+pub open_block-requires-clause-answered : goal.open_block-requires-clause-answered
+open_block-requires-clause-answered g c =
+    subst (λ (client : List ℕ). IsAdded g.C.Cluster.may_answer client c.args.self.now.path c.args.self.now.file_id c.in-Ok.located.b)
+    (sym c.next_block.ensures.client.name) c.in-Ok.ensures.answered
+
+pub open_block-requires-clause-id : goal.open_block-requires-clause-id
+open_block-requires-clause-id g c =
+    subst (λ (client : List ℕ). IsAnsweredId g.C.Cluster.may_answer client c.args.self.now.path c.args.self.now.file_id)
+    (sym c.next_block.ensures.client.name) c.requires.id
+
+pub returns-in-Ok-open_block-clause-answered : goal.returns-in-Ok-open_block-clause-answered
+returns-in-Ok-open_block-clause-answered g c =
+    subst (λ (client : List ℕ). IsAnswered g.C.Cluster.may_answer client c.open_block.new.self) c.next_block.ensures.client.name
+    c.in-Ok-open_block.ensures.answered

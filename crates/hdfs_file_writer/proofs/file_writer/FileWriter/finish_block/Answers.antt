@@ -6,10 +6,11 @@ use Rattle.hdfs_cluster.specs.declared.messages.Block.{Block}
 use Rattle.hdfs_cluster.specs.declared.messages.LocatedBlock.{LocatedBlock}
 use Rattle.hdfs_file_writer.specs.Tails.{IsFull}
 use Rattle.hdfs_file_writer.specs.Writers.{tail_by, tail_of, IsBetweenBlocks, Wrote, FailsOtherwise}
-use Rattle.hdfs_file_writer.proofs.Allowed.{may_go_on}
+use Rattle.hdfs_file_writer.proofs.Allowed.{answered_going, may_go_on}
 use Rattle.hdfs_file_writer.proofs.Filling.{settled_full, ended_full}
 use Rattle.hdfs_file_writer.proofs.Joining.{wrote_nothing}
 use Rattle.hdfs_file_writer.proofs.Standing.{ended_wrote, gave_up_fails, settled_wrote}
+use Rattle.hdfs_namenode.specs.Clients.{name_of}
 use Rattle.hdfs_file_writer.proofs.file_writer.FileWriter.finish_block.Goals as goal
 
 pub returns-in-Some-clause-wrote : goal.returns-in-Some-clause-wrote
@@ -55,7 +56,9 @@ returns-in-None-take-clause-wrote g c =
 pub close-requires-clause-allowed : goal.close-requires-clause-allowed
 close-requires-clause-allowed g c =
     let going : c.args.self.now.going ≡ Some c.in-Some-take.block = sym c.take-2.ensures.value ∙ c.in-Some-take.is in
-    may_go_on refl refl (c.requires.stands.going c.in-Some-take.block going) c.requires.allowed
+    let w = c.args.self.now in
+    may_go_on g.C.Cluster.may_answer (name_of c.args.namenode.now) (name_of c.args.namenode.now) c.in-Some-take.block w w refl (record { path = refl; file_id = refl; sizes = refl }) (c.requires.stands.going c.in-Some-take.block going)
+    (answered_going w going c.requires.answered) c.requires.allowed
 
 pub close-requires-clause-stands : goal.close-requires-clause-stands
 close-requires-clause-stands g c =

@@ -1,14 +1,16 @@
 -- The goals of FileWriter::make_room.
-use Rattle.std.proofs.Common.{[], sym, ◌∙◌, subst}
+use Rattle.std.proofs.Common.{[], sym, ◌∙◌, subst, ◌≡◌, None, IsSome, List, ℕ, refl}
 use Rattle.std.proofs.lemmas.Bool.{false≢true}
-use Rattle.hdfs_namenode.specs.Clients.{proxy_of}
+use Rattle.hdfs_namenode.specs.Clients.{proxy_of, name_of}
 use Rattle.hdfs_namenode.proofs.Services.{reaches_later}
 use Rattle.hdfs_file_writer.specs.declared.file_writer.FileWriter.{FileWriter}
 use Rattle.hdfs_file_writer.specs.declared.sizes.WriteSizes.{WriteSizes}
 use Rattle.hdfs_file_writer.specs.Tails.{IsFull}
-use Rattle.hdfs_file_writer.specs.Writers.{HasRoom, tail_of, Wrote}
+use Rattle.hdfs_file_writer.specs.Writers.{HasRoom, tail_of, Wrote, IsAnswered}
 use Rattle.hdfs_file_writer.proofs.Joining.{wrote_nothing, wrote_trans, fails_after}
 use Rattle.hdfs_file_writer.proofs.Standing.{full_without_room}
+use Rattle.hdfs_file_writer.proofs.Allowed.{answered_reopened, id_kept}
+use Rattle.hdfs_cluster.specs.Requests.{IsAnsweredId, IsReopened, LetsWriteBlocks}
 use Rattle.hdfs_file_writer.proofs.file_writer.FileWriter.make_room.Goals as goal
 
 pub returns-then-has_room-clause-wrote : goal.returns-then-has_room-clause-wrote
@@ -44,3 +46,38 @@ returns-in-Err-begin_block-clause-err g c =
     let same = c.take_reopened.ensures.none c.in-None.is in
     fails_after s m (g.C.Cluster.shown c.begin_block.new.cluster) c.args.self.now c.finish_block.new.self [] c.in-Err-begin_block.error
     (subst (λ (w : FileWriter). Wrote s w [] m c.finish_block.new.self) same c.in-Ok-finish_block.ensures.wrote) c.in-Err-begin_block.ensures.err
+
+pub open_block-requires-clause-answered : goal.open_block-requires-clause-answered
+open_block-requires-clause-answered g c =
+    let w = c.args.self.now in
+    let some = c.in-Some.ensures.some in
+    let none : w.going ≡ None = c.requires.works.stands.apart (subst IsSome (sym some.0) refl) in
+    subst (λ (x : FileWriter). IsReopened g.C.Cluster.may_answer (name_of c.args.namenode.now) x.path c.in-Some.located.b) (sym some.2)
+    (answered_reopened w none some.0 c.requires.answered)
+
+pub open_block-requires-clause-id : goal.open_block-requires-clause-id
+open_block-requires-clause-id g c =
+    subst (λ (x : FileWriter). IsAnsweredId g.C.Cluster.may_answer (name_of c.args.namenode.now) x.path x.file_id) (sym c.in-Some.ensures.some.2)
+    c.requires.answered.id
+
+pub finish_block-requires-clause-answered : goal.finish_block-requires-clause-answered
+finish_block-requires-clause-answered g c =
+    subst (IsAnswered g.C.Cluster.may_answer (name_of c.args.namenode.now)) (sym (c.take_reopened.ensures.none c.in-None.is)) c.requires.answered
+
+pub begin_block-requires-clause-id : goal.begin_block-requires-clause-id
+begin_block-requires-clause-id g c =
+    subst (λ (client : List ℕ). IsAnsweredId g.C.Cluster.may_answer client c.finish_block.new.self.path c.finish_block.new.self.file_id)
+    (sym c.finish_block.ensures.keeps.2.name)
+    (id_kept c.take_reopened.new.self c.finish_block.new.self c.finish_block.ensures.keeps.0
+    (subst (λ (x : FileWriter). IsAnsweredId g.C.Cluster.may_answer (name_of c.args.namenode.now) x.path x.file_id)
+    (sym (c.take_reopened.ensures.none c.in-None.is)) c.requires.answered.id))
+
+pub returns-in-Ok-begin_block-clause-answered : goal.returns-in-Ok-begin_block-clause-answered
+returns-in-Ok-begin_block-clause-answered g c =
+    subst (λ (client : List ℕ). IsAnswered g.C.Cluster.may_answer client c.begin_block.new.self) c.finish_block.ensures.keeps.2.name
+    c.in-Ok-begin_block.ensures.answered
+
+pub open_block-requires-clause-allowed : goal.open_block-requires-clause-allowed
+open_block-requires-clause-allowed g c =
+    subst (λ (x : FileWriter). LetsWriteBlocks g.C.Cluster.allows g.C.Cluster.may_answer (name_of c.args.namenode.now) x.path x.file_id)
+    (sym c.in-Some.ensures.some.2) c.requires.allowed.blocks

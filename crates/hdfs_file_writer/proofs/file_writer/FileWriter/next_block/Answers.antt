@@ -1,9 +1,13 @@
 -- The goals of FileWriter::next_block.
-use Rattle.std.proofs.Common.{refl}
+use Rattle.std.proofs.Common.{refl, ◌≡◌, [], subst}
 use Rattle.hdfs_namenode.specs.Clients.{name_of, proxy_of}
 use Rattle.hdfs_namenode.proofs.Relayed.{came_as}
 use Rattle.hdfs_namenode.proofs.Services.{reaches_service}
 use Rattle.hdfs_file_writer.proofs.Standing.{answered_adds, unanswered_fails}
+use Rattle.std.specs.Prelude.{option_copied}
+use Rattle.hdfs_cluster.specs.declared.asks.Ask.{Ask}
+use Rattle.hdfs_cluster.specs.declared.asks.Ask.TheVariants as asks
+use Rattle.hdfs_cluster.specs.declared.asks.Answer.TheVariants as answers
 use Rattle.hdfs_file_writer.proofs.file_writer.FileWriter.next_block.Goals as goal
 
 pub add_block-requires-clause-service : goal.add_block-requires-clause-service
@@ -20,3 +24,15 @@ returns-in-Ok-clause-adds g c =
     answered_adds (g.C.Cluster.shown c.args.cluster.now) (g.C.Cluster.shown c.add_block.new.cluster) (g.met.C.Cluster.sound c.args.cluster.now)
     c.args.self.now c.requires.between (name_of c.args.namenode.now) c.in-Ok.located c.requires.full
     (came_as (cc (c.as_str.ensures, c.as_ref.ensures.value)) refl (c.in-Ok.ensures.came c.requires.reaches))
+
+pub returns-in-Ok-clause-answered : goal.returns-in-Ok-clause-answered
+returns-in-Ok-clause-answered g c =
+    let w = c.args.self.now in
+    let asked : asks.AddBlock c.as_str.result.now (name_of c.args.namenode.now) (option_copied c.as_ref.result) [] w.file_id
+        ≡ asks.AddBlock w.path (name_of c.args.namenode.now) w.last [] w.file_id = cc (c.as_str.ensures, c.as_ref.ensures.value) in
+    record {
+      previous = w.last;
+      located = c.in-Ok.located;
+      answered = subst (λ (ask : Ask). g.C.Cluster.may_answer ask (answers.AddBlock c.in-Ok.located)) asked c.in-Ok.ensures.answered;
+      same = (refl, refl);
+    }

@@ -7,12 +7,16 @@ use Rattle.hdfs_rebuild.specs.declared.block_plan.BlockPlan.{BlockPlan}
 use Rattle.hdfs_block_writer.specs.Written.{BeginsWhole, IsNew}
 use Rattle.hdfs_file_writer.specs.Writers.{FailsOtherwise, plan_of}
 use Rattle.hdfs_file_writer.proofs.Standing.{begun_stands, opened_wrote, unopened_fails}
+use Rattle.hdfs_file_writer.proofs.Allowed.{answered_new, answered_with}
+use Rattle.hdfs_cluster.specs.Requests.{IsAnsweredBlock}
 use Rattle.hdfs_file_writer.proofs.file_writer.FileWriter.open_block.Goals as goal
 
 pub replicated-requires-clause-allowed : goal.replicated-requires-clause-allowed
 replicated-requires-clause-allowed g c =
     let plan = c.in-Ok.plan in
-    (c.requires.allowed plan.block.b).sets_up (setup_of plan.block plan.chunk (name_of c.args.namenode.now)) (refl, refl) refl
+    let answered = subst (λ (x : BlockPlan). IsAnsweredBlock g.C.Cluster.may_answer (name_of c.args.namenode.now) c.args.self.now.path c.args.self.now.file_id
+    x.created x.block.b) (sym c.in-Ok.ensures) c.requires.answered in
+    (c.requires.allowed plan.block.b plan.created answered).sets_up (setup_of plan.block plan.chunk (name_of c.args.namenode.now)) (refl, refl) refl
 
 pub returns-in-Ok-replicated-clause-stands : goal.returns-in-Ok-replicated-clause-stands
 returns-in-Ok-replicated-clause-stands g c =
@@ -53,3 +57,12 @@ returns-in-Err-replicated-clause-err g c =
     subst (λ (e : HdfsError). FailsOtherwise s (record w { reopened = Some c.args.located }) e t) (sym c.error_of.ensures)
     (unopened_fails s t (record w { reopened = Some c.args.located }) c.args.located c.requires.begins.between.none refl
     (setup_of plan.block plan.chunk (name_of c.args.namenode.now)) c.in-Err-replicated.fault c.in-Err-replicated.ensures.err)
+
+pub returns-in-Ok-replicated-clause-answered : goal.returns-in-Ok-replicated-clause-answered
+returns-in-Ok-replicated-clause-answered g c =
+    let w = c.args.self.now in
+    let block = c.in-Ok-replicated.block in
+    answered_with w (record w { going = Some block }) block (record { path = refl; file_id = refl; sizes = refl }) refl c.requires.id
+    (answered_new g.C.Cluster.may_answer (name_of c.args.namenode.now) w.path w.file_id c.in-Ok.plan block c.in-Ok-replicated.ensures.new
+    (subst (λ (x : BlockPlan). IsAnsweredBlock g.C.Cluster.may_answer (name_of c.args.namenode.now) w.path w.file_id x.created x.block.b) (sym c.in-Ok.ensures)
+    c.requires.answered))

@@ -1,12 +1,12 @@
 -- The goals of FileWriter::refuse: no block is being written, so that no call touches a datanode.
 use Rattle.std.proofs.Common.{[], Some, refl, sym, ap, subst, ◌∙◌}
 use Rattle.hdfs_cluster.specs.Shown.{SameNodes, Shown}
-use Rattle.hdfs_namenode.specs.Clients.{proxy_of}
+use Rattle.hdfs_namenode.specs.Clients.{proxy_of, name_of}
 use Rattle.hdfs_namenode.proofs.Services.{reaches_later, same_client_trans}
 use Rattle.hdfs_file_writer.specs.declared.file_writer.FileWriter.{FileWriter}
 use Rattle.hdfs_file_writer.specs.declared.sizes.WriteSizes.{WriteSizes}
 use Rattle.hdfs_file_writer.specs.Tails.{IsFull}
-use Rattle.hdfs_file_writer.specs.Writers.{HasRoom, Keeps, link_by, tail_of, FailsOtherwise, Wrote}
+use Rattle.hdfs_file_writer.specs.Writers.{HasRoom, Keeps, link_by, tail_of, FailsOtherwise, Wrote, IsAnswered}
 use Rattle.hdfs_file_writer.proofs.Joining.{wrote_nothing, wrote_trans, fails_after, refused}
 use Rattle.hdfs_file_writer.proofs.Standing.{encrypted_none, full_without_room}
 use Rattle.hdfs_file_writer.proofs.file_writer.FileWriter.refuse.Goals as goal
@@ -69,3 +69,7 @@ returns-in-Err-next_block-clause-fails g c =
     let x = c.finish_block.new.self in
     (fails_after s m (g.C.Cluster.shown c.next_block.new.cluster) c.args.self.now x [] c.in-Err-next_block.error
     (subst (λ (v : FileWriter). Wrote s v [] m x) (c.take_reopened.ensures.none c.in-None.is) c.in-Ok.ensures.wrote) c.in-Err-next_block.ensures.err).fails
+
+pub finish_block-requires-clause-answered : goal.finish_block-requires-clause-answered
+finish_block-requires-clause-answered g c =
+    subst (IsAnswered g.C.Cluster.may_answer (name_of c.args.namenode.now)) (sym (c.take_reopened.ensures.none c.in-None.is)) c.requires.answered

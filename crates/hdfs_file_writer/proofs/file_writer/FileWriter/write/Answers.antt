@@ -1,9 +1,11 @@
 -- The goals of FileWriter::write.
-use Rattle.std.proofs.Common.{◌≡◌, ℕ, List, [], length, sym, ◌∙◌, subst}
+use Rattle.std.proofs.Common.{◌≡◌, ℕ, List, [], length, sym, ◌∙◌, subst, None, true, refl}
 use Rattle.std.proofs.lemmas.Bool.{eqb-true}
 use Rattle.std.proofs.lemmas.List.{nil_from_length}
-use Rattle.hdfs_file_writer.specs.Writers.{Wrote}
+use Rattle.hdfs_file_writer.specs.Writers.{Wrote, IsAnswered}
 use Rattle.hdfs_file_writer.proofs.Joining.{wrote_nothing}
+use Rattle.hdfs_file_writer.proofs.Allowed.{answered_idle}
+use Rattle.hdfs_namenode.specs.Clients.{name_of}
 use Rattle.hdfs_file_writer.proofs.file_writer.FileWriter.write.Goals as goal
 
 pub returns-then-is_empty-clause-wrote : goal.returns-then-is_empty-clause-wrote
@@ -13,3 +15,19 @@ returns-then-is_empty-clause-wrote g c =
     let none : c.args.bytes.now ≡ [] =
     nil_from_length c.args.bytes.now (eqb-true (length c.args.bytes.now) 0 (sym c.is_empty.ensures ∙ c.if-is_empty.true)) in
     subst (λ (more : List ℕ). Wrote s w more s w) (sym none) (wrote_nothing s w)
+
+pub returns-then-not-are_limited-clause-answered : goal.returns-then-not-are_limited-clause-answered
+returns-then-not-are_limited-clause-answered g c =
+    let w = c.args.self.now in
+    subst (IsAnswered g.C.Cluster.may_answer (name_of c.args.namenode.now)) (sym c.let_go.ensures)
+    (answered_idle w (record w { failed = true; reopened = None; going = None }) (record { path = refl; file_id = refl; sizes = refl }) refl refl
+    c.requires.answered)
+
+pub returns-in-Err-clause-answered : goal.returns-in-Err-clause-answered
+returns-in-Err-clause-answered g c =
+    let w = c.write_all.new.self in
+    let kept = c.write_all.ensures.keeps.0 in
+    subst (IsAnswered g.C.Cluster.may_answer (name_of c.args.namenode.now)) (sym c.let_go-in-Err.ensures)
+    (answered_idle c.args.self.now (record w { failed = true; reopened = None; going = None })
+    (record { path = kept.path; file_id = kept.file_id; sizes = kept.sizes }) refl refl
+    c.requires.answered)

@@ -1,14 +1,15 @@
 -- The goals of FileWriter::write_all.
-use Rattle.std.proofs.Common.{[], List, ℕ, ◌++◌, take, sym, ◌∙◌, ap, refl}
+use Rattle.std.proofs.Common.{[], List, ℕ, ◌++◌, take, sym, ◌∙◌, ap, refl, subst}
 use Rattle.std.proofs.lemmas.List.{take_rest}
 use Rattle.hdfs_namenode.specs.Clients.{proxy_of}
 use Rattle.hdfs_namenode.proofs.Services.{reaches_later, same_client_refl, same_client_trans}
 use Rattle.hdfs_block_writer.proofs.Wrote.{pieces_join}
 use Rattle.hdfs_file_writer.proofs.Joining.{wrote_nothing, wrote_trans, fails_after}
+use Rattle.hdfs_file_writer.specs.Writers.{IsAnswered}
 use Rattle.hdfs_file_writer.proofs.file_writer.FileWriter.write_all.Goals as goal
 
 pub blocks-2-init : goal.blocks-2-init
-blocks-2-init g c = record { stands = c.requires.works.stands; fine = c.requires.works.fine; told = ([], refl, wrote_nothing (g.C.Cluster.shown c.args.cluster.now) c.args.self.now); client = same_client_refl c.args.namenode.now }
+blocks-2-init g c = record { stands = c.requires.works.stands; fine = c.requires.works.fine; told = ([], refl, wrote_nothing (g.C.Cluster.shown c.args.cluster.now) c.args.self.now); client = same_client_refl c.args.namenode.now; answered = c.requires.answered }
 
 pub blocks-2-preserved : goal.blocks-2-preserved
 blocks-2-preserved g c =
@@ -26,6 +27,7 @@ blocks-2-preserved g c =
         wrote_trans (g.C.Cluster.shown c.args.cluster.now) (g.C.Cluster.shown c.blocks-2.cluster) (g.C.Cluster.shown c.write_piece.new.cluster) c.args.self.now c.blocks-2.self c.write_piece.new.self told.0 (take n rest) told.2 now.wrote,
       );
       client = same_client_trans c.args.namenode.now c.blocks-2.namenode c.write_piece.new.namenode before.client now.keeps.2;
+      answered = subst (λ (client : List ℕ). IsAnswered g.C.Cluster.may_answer client c.write_piece.new.self) before.client.name now.answered;
     }
 
 pub write_piece-requires-clause-reaches : goal.write_piece-requires-clause-reaches
@@ -37,3 +39,8 @@ pub returns-in-Err-clause-err : goal.returns-in-Err-clause-err
 returns-in-Err-clause-err g c =
     let told = c.blocks-2.invariant.told in
     fails_after (g.C.Cluster.shown c.args.cluster.now) (g.C.Cluster.shown c.blocks-2.cluster) (g.C.Cluster.shown c.write_piece.new.cluster) c.args.self.now c.blocks-2.self told.0 c.in-Err.error told.2 c.in-Err.ensures.err
+
+pub write_piece-requires-clause-answered : goal.write_piece-requires-clause-answered
+write_piece-requires-clause-answered g c =
+    subst (λ (client : List ℕ). IsAnswered g.C.Cluster.may_answer client c.blocks-2.self) (sym c.blocks-2.invariant.client.name)
+    c.blocks-2.invariant.answered

@@ -1,7 +1,7 @@
 -- How far the bytes were taken.
 use Rattle.std.proofs.Common.{◌≡◌, ℕ, List, ◌++◌, length, false}
-use Rattle.hdfs_namenode.specs.Clients.{SameClient}
-use Rattle.hdfs_file_writer.specs.Writers.{Stands, Wrote}
+use Rattle.hdfs_namenode.specs.Clients.{SameClient, name_of}
+use Rattle.hdfs_file_writer.specs.Writers.{IsAnswered, Stands, Wrote}
 use Rattle.hdfs_file_writer.proofs.file_writer.FileWriter.write_all.Given as goal
 
 abbrev pub invariant-blocks-2 : goal.invariant-blocks-2
@@ -10,6 +10,7 @@ invariant-blocks-2 g l = record {
   fine : l.self.failed ≡ false;
   told : (done : List ℕ) × (l.fn.bytes ≡ done ++ l.rest) × Wrote (g.C.Cluster.shown l.fn.cluster) l.fn.self done (g.C.Cluster.shown l.cluster) l.self;
   client : SameClient l.fn.namenode l.namenode;
+  answered : IsAnswered g.C.Cluster.may_answer (name_of l.fn.namenode) l.self;
 }
 
 abbrev pub decreases-blocks-2 : goal.decreases-blocks-2

@@ -1,13 +1,13 @@
 -- The goals of FileWriter::write_piece.
 use Rattle.std.proofs.Common.{◌≡◌, [], ◌-◌, length, take, Some, refl, sym, subst, arith}
 use Rattle.hdfs_cluster.specs.declared.errors.HdfsError.{HdfsError}
-use Rattle.hdfs_namenode.specs.Clients.{proxy_of}
-use Rattle.hdfs_namenode.proofs.Services.{reaches_later}
+use Rattle.hdfs_namenode.specs.Clients.{proxy_of, name_of}
+use Rattle.hdfs_namenode.proofs.Services.{reaches_later, same_client_trans}
 use Rattle.hdfs_block_writer.specs.BlockWriters.{length_of, size_of}
 use Rattle.hdfs_block_writer.specs.declared.block_writer.BlockWriter.{BlockWriter}
 use Rattle.hdfs_file_writer.specs.Faults.{error_of}
 use Rattle.hdfs_file_writer.specs.Writers.{FailsOtherwise}
-use Rattle.hdfs_file_writer.proofs.Allowed.{may_go_on}
+use Rattle.hdfs_file_writer.proofs.Allowed.{may_go_on, answered_going, answered_pipe, answered_with}
 use Rattle.hdfs_file_writer.proofs.Joining.{wrote_trans, fails_after}
 use Rattle.hdfs_file_writer.proofs.Standing.{more_stands, more_wrote, gave_up_fails, within_size, min_some}
 use Rattle.hdfs_file_writer.proofs.file_writer.FileWriter.write_piece.Goals as goal
@@ -19,7 +19,9 @@ write-requires-clause-reaches g c =
 
 pub write-requires-clause-allowed : goal.write-requires-clause-allowed
 write-requires-clause-allowed g c =
-    may_go_on c.make_room.ensures.client.name c.make_room.ensures.keeps.path (c.in-Ok.ensures.stands.0.going c.in-Some.block c.in-Some.is)
+    may_go_on g.C.Cluster.may_answer (name_of c.args.namenode.now) (name_of c.make_room.new.namenode) c.in-Some.block c.args.self.now c.make_room.new.self
+    c.make_room.ensures.client.name c.make_room.ensures.keeps
+    (c.in-Ok.ensures.stands.0.going c.in-Some.block c.in-Some.is) (answered_going c.make_room.new.self c.in-Some.is c.in-Ok.ensures.answered)
     c.requires.allowed.blocks
 
 pub write-requires-clause-stands : goal.write-requires-clause-stands
@@ -63,3 +65,21 @@ returns-in-Err-write-clause-err g c =
     (fails_after s m t c.args.self.now w1 [] (error_of c.in-Err-write.fault) c.in-Ok.ensures.wrote
     (gave_up_fails m t (g.met.C.Cluster.sound c.make_room.new.cluster) (g.met.C.Cluster.sound c.write.new.cluster) w1 block c.in-Some.is (stands.is_open c.in-Ok.ensures.fine block c.in-Some.is)
     (stands.going block c.in-Some.is) c.in-Err-write.fault c.in-Err-write.ensures.err.gave_up))
+
+pub returns-in-Ok-write-clause-answered : goal.returns-in-Ok-write-clause-answered
+returns-in-Ok-write-clause-answered g c =
+    let w = c.make_room.new.self in
+    let block = c.in-Some.block in
+    let answered = c.in-Ok.ensures.answered in
+    answered_with w (record w { going = Some c.write.new.self }) c.write.new.self (record { path = refl; file_id = refl; sizes = refl }) refl answered.id
+    (answered_pipe g.C.Cluster.may_answer (name_of c.args.namenode.now) w.path w.file_id (g.C.Cluster.shown c.make_room.new.cluster) (g.C.Cluster.shown c.write.new.cluster)
+    block c.write.new.self (c.in-Ok.ensures.stands.0.is_open c.in-Ok.ensures.fine block c.in-Some.is) c.in-Ok-write.ensures.wrote.stays
+    (answered_going w c.in-Some.is answered))
+
+pub returns-in-Ok-write-clause-keeps : goal.returns-in-Ok-write-clause-keeps
+returns-in-Ok-write-clause-keeps g c =
+    let kept = c.make_room.ensures.keeps in (
+      record { path = kept.path; file_id = kept.file_id; sizes = kept.sizes },
+      c.in-Ok.ensures.fine,
+      same_client_trans c.args.namenode.now c.make_room.new.namenode c.write.new.namenode c.make_room.ensures.client c.write.ensures.client,
+    )

@@ -13,6 +13,7 @@ others-preserved-then-i-self g c =
       going = going_same g.C.Cluster.serves c.args.ask.now (order_of c.args.self.now) (numbers_but remembered o.i (end - o.i)) (numbers_but remembered (o.i + 1) (end - (o.i + 1)))
           c.args.cluster.now o.cluster o.last o.given (numbers_skip remembered o.i end c.others-test.true c.if-i-self.true) o.invariant.going;
       shaped = o.invariant.shaped;
+      answered = o.invariant.answered;
       from = o.invariant.from;
       below = o.invariant.below;
       namenodes = o.invariant.namenodes;
@@ -29,6 +30,7 @@ others-preserved g c =
       going = going_next g.C.Cluster.serves c.args.ask.now (order_of c.args.self.now) left c.args.cluster.now o.cluster c.ask_one-given-in-others.new.cluster o.last o.i o.given
           c.ask_one-given-in-others.result going (sym c.passes_on.ensures ∙ c.if-not-passes_on.false) c.ask_one-given-in-others.ensures.asks;
       shaped = c.ask_one-given-in-others.ensures.shaped;
+      answered = c.ask_one-given-in-others.ensures.answered;
       from = o.auto.i;
       below = omega (arith, c.others-test.true, c.end-end.ensures);
       namenodes = c.ask_one-given-in-others.ensures.namenodes ∙ o.invariant.namenodes;

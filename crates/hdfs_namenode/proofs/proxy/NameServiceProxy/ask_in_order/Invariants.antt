@@ -11,6 +11,7 @@ abbrev pub invariant-others : goal.invariant-others
 invariant-others g l = record {
   going : Going g.C.Cluster.serves (order_of l.self) (numbers_but l.self.remembered l.i (l.end - l.i)) l.ask l.fn.cluster l.last l.given l.cluster;
   shaped : IfOk l.given (IsShaped l.ask);
+  answered : IfOk l.given (g.C.Cluster.may_answer l.ask);
   from : l.self.first ≤ l.last;
   below : l.last < l.self.first + l.self.count;
   namenodes : (g.C.Cluster.shown l.cluster).namenodes ≡ (g.C.Cluster.shown l.fn.cluster).namenodes;

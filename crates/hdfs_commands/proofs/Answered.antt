@@ -1,0 +1,69 @@
+-- What a session was answered stays so from call to call: the name in which it asks stays, and of its writers only the one of its command's
+-- file is another.
+use Rattle.std.proofs.Common.{◌≡◌, ℕ, true, false, Bool, cond, List, Option, Some, None, inr, refl, sym, ◌∙◌, subst}
+use Rattle.std.specs.Prelude.{IfSome}
+use Rattle.std.specs.Str.{bytes_eq}
+use Rattle.hdfs_cluster.specs.declared.asks.Answer.{Answer}
+use Rattle.hdfs_cluster.specs.declared.asks.Answer.TheVariants as answers
+use Rattle.hdfs_cluster.specs.declared.asks.Ask.{Ask}
+use Rattle.hdfs_cluster.specs.declared.asks.Ask.TheVariants as asks
+use Rattle.hdfs_cluster.specs.declared.messages.Appended.{Appended}
+use Rattle.hdfs_cluster.specs.declared.messages.LocatedBlock.{LocatedBlock}
+use Rattle.hdfs_cluster.specs.Requests.{IsAnsweredId, id_in}
+use Rattle.hdfs_namenode.specs.Clients.{name_of}
+use Rattle.hdfs_file_writer.specs.declared.file_writer.FileWriter.{FileWriter}
+use Rattle.hdfs_file_writer.specs.Tails.{Tail, Bare}
+use Rattle.hdfs_file_writer.specs.Writers.{IsAnswered, IsAnsweredTail, file_id_of, path_of, tail_of, tail_opened}
+use Rattle.hdfs_commands.specs.Asking.{AreAnswered}
+use Rattle.hdfs_commands.specs.Session.{writer_of}
+use Rattle.hdfs_commands.specs.declared.session.Session.{Session}
+
+-- with the same writers
+pub answered_same : {may_answer : Ask → Answer → Type 0} (session session' : Session) → name_of session'.namenode ≡ name_of session.namenode
+    → ((path : List ℕ) → writer_of session' path ≡ writer_of session path) → AreAnswered may_answer session → AreAnswered may_answer session'
+answered_same {may_answer} session session' name same answered path writer is =
+    subst (λ (client : List ℕ). IsAnswered may_answer client writer) (sym name) (answered path writer (sym (same path) ∙ is))
+
+-- with another one at a path, or none
+pub answered_put : {may_answer : Ask → Answer → Type 0} (session session' : Session) (path : List ℕ) (put : Option FileWriter)
+    → name_of session'.namenode ≡ name_of session.namenode
+    → ((other : List ℕ) → writer_of session' other ≡ cond (bytes_eq path other) put (writer_of session other))
+    → IfSome put (IsAnswered may_answer (name_of session.namenode)) → AreAnswered may_answer session → AreAnswered may_answer session'
+answered_put {may_answer} session session' path put name puts here answered other writer is =
+    subst (λ (client : List ℕ). IsAnswered may_answer client writer) (sym name) (by (bytes_eq path other) (sym (puts other) ∙ is))
+  where
+    by : (b : Bool) → cond b put (writer_of session other) ≡ Some writer → IsAnswered may_answer (name_of session.namenode) writer
+    by true at = subst (λ (o : Option FileWriter). IfSome o (IsAnswered may_answer (name_of session.namenode))) at here
+    by false at = answered other writer at
+
+-- the writer of a file with a path and an id that were answered, whose last block was
+answered_writer : {may_answer : Ask → Answer → Type 0} {client : List ℕ} (writer : FileWriter) (path : List ℕ) (file_id : Option ℕ) (tail : Tail)
+    → path_of writer ≡ path → file_id_of writer ≡ file_id → tail_of writer ≡ tail → IsAnsweredId may_answer client path file_id
+    → IsAnsweredTail may_answer client path file_id tail → IsAnswered may_answer client writer
+answered_writer {may_answer} {client} writer path file_id tail at id is answered block = record {
+  id =
+      subst (λ (p : List ℕ). IsAnsweredId may_answer client p writer.file_id) (sym at)
+      (subst (λ (i : Option ℕ). IsAnsweredId may_answer client path i) (sym id) answered);
+  block =
+      subst (λ (p : List ℕ). IsAnsweredTail may_answer client p writer.file_id (tail_of writer)) (sym at)
+      (subst (λ (i : Option ℕ). IsAnsweredTail may_answer client path i (tail_of writer)) (sym id)
+      (subst (IsAnsweredTail may_answer client path file_id) (sym is) block));
+}
+
+-- that of a new file
+pub answered_created : {may_answer : Ask → Answer → Type 0} {client : List ℕ} (writer : FileWriter) (path : List ℕ) (file_id : Option ℕ)
+    → path_of writer ≡ path → file_id_of writer ≡ file_id → tail_of writer ≡ Bare → IsAnsweredId may_answer client path file_id
+    → IsAnswered may_answer client writer
+answered_created writer path file_id at id is answered = answered_writer writer path file_id Bare at id is answered tt
+
+-- that of a file that was opened to be gone on with
+pub answered_appended : {may_answer : Ask → Answer → Type 0} {client : List ℕ} (writer : FileWriter) (path : List ℕ) (appended : Appended)
+    → path_of writer ≡ path → file_id_of writer ≡ id_in appended.stat → tail_of writer ≡ tail_opened appended.block None
+    → may_answer (asks.Append path client 4) (answers.Append appended) → IsAnswered may_answer client writer
+answered_appended {may_answer} {client} writer path appended at id is answered =
+    answered_writer writer path (id_in appended.stat) (tail_opened appended.block None) at id is
+    (inr (record { appended = appended; answered = answered; is = refl })) (opened appended.block refl)
+  where
+    opened : (block : Option LocatedBlock) → appended.block ≡ block → IsAnsweredTail may_answer client path (id_in appended.stat) (tail_opened block None)
+    opened None is = tt
+    opened (Some located) is = record { appended = appended; located = located; answered = answered; is = is; same = (refl, refl) }
