@@ -10,7 +10,7 @@ ghost use Rattle.hdfs_threads.specs.Ends.{EndsWith, with_rest};
 ghost use Rattle.hdfs_threads.specs.Inside.{Tallies};
 
 use crate::pair::{Job, Pair};
-use crate::shares::Shares;
+use crate::shares::{AskerShares, SenderShares};
 use hdfs_pipeline::{Event, PipelineCore, PipelineEnd};
 use hdfs_wire::{List, NoMemory, WritePacket};
 use std::sync::ledger::Ledger;
@@ -83,25 +83,18 @@ impl<J: Job, W: Ledger, X: Ledger, A: Ledger, Y: Ledger, Z: Ledger> Pair<J, W, X
         self,
         packets: Vec<WritePacket>,
         sent: u64,
-        mine: Shares<W, X, A, Y, Z>,
+        mut sender: SenderShares<W, X>,
+        mut asker: AskerShares<A, Y, Z>,
     ) -> Result<PairEnd, NoMemory>
         requires packets { packets.items ≡ J.packets }
         requires last { IsLastBehind J.packets }
-        requires parts { (mine.wrote.parts ≡ W.parts) × (mine.write_failed.parts ≡ X.parts)
-            × (mine.acked.parts ≡ A.parts) × (mine.ack_failed.parts ≡ Y.parts) }
-        requires over { 0 < mine.over.amount }
+        requires parts { (W.parts ≡ 1) × (X.parts ≡ 1) × (A.parts ≡ 1) × (Y.parts ≡ 1) }
+        requires over { 0 < asker.over.share.amount }
         ensures ends { IfOk result (λ r. EndsWith J.window J.nodes J.packets r.history r.end) }
-        ensures tallies { IfOk result (λ r. Tallies r.history mine.wrote.amount mine.write_failed.amount
-            mine.acked.amount mine.ack_failed.amount) }
+        ensures tallies { IfOk result (λ r. Tallies r.history sender.wrote.share.amount sender.failed.share.amount
+            asker.acked.share.amount asker.failed.share.amount) }
         ensures sent { IfOk result (λ r. r.sent ≡ sent) }
     {
-        let Shares {
-            wrote: mut my_wrote,
-            write_failed: mut my_write_failed,
-            acked: mut my_acked,
-            ack_failed: mut my_ack_failed,
-            over: mut my_over,
-        } = mine;
         let Pair {
             core,
             history,
@@ -113,11 +106,11 @@ impl<J: Job, W: Ledger, X: Ledger, A: Ledger, Y: Ledger, Z: Ledger> Pair<J, W, X
             mut over,
             ..
         } = self;
-        wrote.audit(&mut my_wrote);
-        write_failed.audit(&mut my_write_failed);
-        acked.audit(&mut my_acked);
-        ack_failed.audit(&mut my_ack_failed);
-        over.audit(&mut my_over);
+        wrote.audit(&mut sender.wrote.share);
+        write_failed.audit(&mut sender.failed.share);
+        acked.audit(&mut asker.acked.share);
+        ack_failed.audit(&mut asker.failed.share);
+        over.audit(&mut asker.over.share);
         Ok(PairEnd {
             end: close(core, packets, pushed)?,
             sent,

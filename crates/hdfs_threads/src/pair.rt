@@ -1,6 +1,6 @@
 //! What two threads share under their lock: a pipeline, its history, and a book for each count.
 
-ghost use Rattle.std.specs.Prelude.{◌≡◌, ℕ, ◌+◌, ◌<◌, ◌≤◌, List, [], ◌∷◌, length, IfOk, OnOk, OnErr, IsTrue, true};
+ghost use Rattle.std.specs.Prelude.{◌≡◌, ℕ, ◌+◌, ◌<◌, ◌≤◌, List, [], ◌∷◌, length, IfOk, OnOk, OnErr, true};
 ghost use Rattle.hdfs_wire.specs.Outgoing.{Outgoing};
 ghost use Rattle.hdfs_pipeline.specs.Pipelines.{empty_pipeline, has_room};
 ghost use Rattle.hdfs_pipeline.specs.Cores.{Stands};
