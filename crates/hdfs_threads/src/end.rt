@@ -9,7 +9,7 @@ ghost use Rattle.hdfs_pipeline.specs.Pushed.{IsLastBehind};
 ghost use Rattle.hdfs_threads.specs.Ends.{EndsWith, with_rest};
 ghost use Rattle.hdfs_threads.specs.Inside.{Tallies};
 
-use crate::pair::{Job, Pair};
+use crate::pair::{Books, Job, Pair};
 use crate::shares::{AskerShares, SenderShares};
 use hdfs_pipeline::{Event, PipelineCore, PipelineEnd};
 use hdfs_wire::{List, NoMemory, WritePacket};
@@ -76,6 +76,26 @@ fn close(
     end_with_rest(core.shutdown(), packets, pushed)
 }
 
+/// Compares the books with the shares of both threads, which are whole: each book has what its thread counted.
+fn compare<W: Ledger, X: Ledger, A: Ledger, Y: Ledger, Z: Ledger>(
+    mut books: Books<W, X, A, Y, Z>,
+    mut sender: SenderShares<W, X>,
+    mut asker: AskerShares<A, Y, Z>,
+)
+    requires { (W.parts ≡ 1) × (X.parts ≡ 1) × (A.parts ≡ 1) × (Y.parts ≡ 1) }
+    ensures sender { (sender.wrote.share.amount ≡ books.wrote.total)
+        × (sender.failed.share.amount ≡ books.write_failed.total) }
+    ensures asker { (asker.acked.share.amount ≡ books.acked.total)
+        × (asker.failed.share.amount ≡ books.ack_failed.total) }
+    ensures over { asker.over.share.amount ≤ books.over.total }
+{
+    books.wrote.audit(&mut sender.wrote.share);
+    books.write_failed.audit(&mut sender.failed.share);
+    books.acked.audit(&mut asker.acked.share);
+    books.ack_failed.audit(&mut asker.failed.share);
+    books.over.audit(&mut asker.over.share);
+}
+
 impl<J: Job, W: Ledger, X: Ledger, A: Ledger, Y: Ledger, Z: Ledger> Pair<J, W, X, A, Y, Z> {
     /// Ends the pair, which both threads have left. Their shares are whole, so what they counted is what the history
     /// has.
@@ -83,8 +103,8 @@ impl<J: Job, W: Ledger, X: Ledger, A: Ledger, Y: Ledger, Z: Ledger> Pair<J, W, X
         self,
         packets: Vec<WritePacket>,
         sent: u64,
-        mut sender: SenderShares<W, X>,
-        mut asker: AskerShares<A, Y, Z>,
+        sender: SenderShares<W, X>,
+        asker: AskerShares<A, Y, Z>,
     ) -> Result<PairEnd, NoMemory>
         requires packets { packets.items ≡ J.packets }
         requires last { IsLastBehind J.packets }
@@ -99,18 +119,21 @@ impl<J: Job, W: Ledger, X: Ledger, A: Ledger, Y: Ledger, Z: Ledger> Pair<J, W, X
             core,
             history,
             pushed,
-            mut wrote,
-            mut write_failed,
-            mut acked,
-            mut ack_failed,
-            mut over,
+            wrote,
+            write_failed,
+            acked,
+            ack_failed,
+            over,
             ..
         } = self;
-        wrote.audit(&mut sender.wrote.share);
-        write_failed.audit(&mut sender.failed.share);
-        acked.audit(&mut asker.acked.share);
-        ack_failed.audit(&mut asker.failed.share);
-        over.audit(&mut asker.over.share);
+        let books = Books {
+            wrote,
+            write_failed,
+            acked,
+            ack_failed,
+            over,
+        };
+        compare(books, sender, asker);
         Ok(PairEnd {
             end: close(core, packets, pushed)?,
             sent,

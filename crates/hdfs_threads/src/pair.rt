@@ -58,7 +58,7 @@ pub enum AckTurn {
 }
 
 /// A pipeline with the history that it stands for, how many packets were pushed, and a book for each count. Each call
-/// with `&mut self` is one hold of the lock around it, and adds at most one event.
+/// with `&mut self` is a hold: it is made under the lock around the pair, and adds at most one event.
 #[derive(Drop)]
 pub struct Pair<J: Job, W: Ledger, X: Ledger, A: Ledger, Y: Ledger, Z: Ledger> {
     pub(crate) core: PipelineCore,

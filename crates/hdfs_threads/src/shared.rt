@@ -1,4 +1,5 @@
-//! The pair under its lock, and its holds: a thread waits where it has nothing to do, and each event wakes the other.
+//! The pair under its lock, and its holds: a thread waits where it has nothing to do, and each event that it may wait
+//! for wakes it.
 
 ghost use Rattle.std.specs.Prelude.{◌≡◌, ◌+◌, ◌<◌, OnOk};
 ghost use Rattle.hdfs_threads.specs.declared.pair.AckTurn.TheVariants as turns;
@@ -58,12 +59,15 @@ impl<J: Job, W: Ledger, X: Ledger, A: Ledger, Y: Ledger, Z: Ledger> Shared<J, W,
         guard
     }
 
-    /// A hold of the sender, which waits for the other thread where it has nothing to do.
+    /// A hold of the sender, which waits for the other thread where it has nothing to do. It takes what it has just
+    /// pushed, where it can. The other thread waits for neither, so nobody is woken.
     fn sender_hold<R: Wait>(&self, rt: &R) -> Result<SenderTurn, NoMemory> {
+        let packets = self.packets.as_slice();
         let mut guard = self.hold(rt, Side::Sender);
-        let turn = guard.sender_turn(self.alloc, self.packets.as_slice());
-        self.changed.notify_all();
-        turn
+        match guard.sender_turn(self.alloc, packets)? {
+            SenderTurn::Pushed => guard.sender_turn(self.alloc, packets),
+            turn => Ok(turn),
+        }
     }
 
     /// Waits until a packet is taken, to be sent. False where there is none to send any more.

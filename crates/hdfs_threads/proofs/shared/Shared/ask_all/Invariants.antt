@@ -1,4 +1,4 @@
-use Rattle.std.specs.Prelude.{◌≡◌, ◌<◌, ◌≤◌}
+use Rattle.std.specs.Prelude.{◌<◌, ◌≤◌}
 use Rattle.hdfs_threads.specs.Links.{GaveSo}
 use Rattle.hdfs_threads.proofs.shared.Shared.ask_all.Given as goal
 
