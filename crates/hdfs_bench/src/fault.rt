@@ -1,4 +1,5 @@
 // Why there is no number.
+use hdfs_cluster::LinkFault;
 use hdfs_ec::EcFault;
 use hdfs_names::NamesFault;
 use hdfs_wire::{ChecksumFault, NoMemory, WireFault};
@@ -59,6 +60,15 @@ impl From<WireFault> for Fault {
 impl From<ChecksumFault> for Fault {
     fn from(_: ChecksumFault) -> Self {
         Fault::Checksum
+    }
+}
+
+impl From<LinkFault> for Fault {
+    fn from(fault: LinkFault) -> Self {
+        match fault {
+            LinkFault::NoMemory => Fault::NoMemory,
+            LinkFault::Broken | LinkFault::Refused => Fault::Refused,
+        }
     }
 }
 

@@ -1,7 +1,7 @@
 //! Runs the code of the libraries as often as the words say, to time it, and prints a number that came of it.
 //!
 //! Words: `crc32c SIZE TIMES`, `crc32 SIZE TIMES`, `frames COUNT PIECE`, `packets SIZE TIMES`, `checks SIZE TIMES`,
-//! `stars STARS LENGTH`, `products FIRST TIMES`, `quotients FIRST TIMES`, `pipeline WINDOW TIMES`,
+//! `stars STARS LENGTH`, `products FIRST TIMES`, `quotients FIRST TIMES`, `pipeline WINDOW TIMES`, `pair`, `turns` or `late` with `COUNT WINDOW`,
 //! `files_0`, `files_1`, `files_2` or `files_3` with `COUNT SIZE`, or `encode` or `decode` with a code, as in
 //! `encode_6_3 SIZE TIMES`, the code being one of `_3_2`, `_6_3` and `_10_4`.
 #![tactic(auto)]
@@ -11,6 +11,7 @@ mod fault;
 mod frames;
 mod globs;
 mod packets;
+mod pairs;
 mod pipelines;
 mod shards;
 mod sums;
@@ -21,10 +22,14 @@ use fault::Fault;
 use frames::{count_frames, stream};
 use globs::match_stars;
 use packets::{checked_bytes, payload_bytes};
+use pairs::{pass_by_turns, pass_by_two, pass_late};
 use pipelines::count_events;
 use shards::{code_of, decode, encode};
 use std::alloc::Global;
 use std::env;
+use std::sync::Wait;
+use std::thread::Threads;
+use std::time::Clock;
 use sums::{Kind, folded_sum};
 use writes::write_files;
 
@@ -69,19 +74,42 @@ fn words_of(rt: &HostRuntime) -> Result<Vec<String>, Fault> {
     Ok(words)
 }
 
+/// What a word names that may wait, over two numbers; nothing where it names none of it.
+fn measure_threads<R: Threads + Wait + Clock + Sync>(
+    rt: &R,
+    alloc: Global,
+    name: &str,
+    first: usize,
+    second: usize,
+) -> Result<Option<u64>, Fault> {
+    match name {
+        "pair" => Ok(Some(pass_by_two(rt, alloc, first, second)?)),
+        "turns" => Ok(Some(pass_by_turns(rt, alloc, first, second)?)),
+        "late" => Ok(Some(pass_late(rt, alloc, first, second)?)),
+        _ => Ok(None),
+    }
+}
+
 /// What words name, over the two numbers behind it.
-fn measure_words(alloc: Global, words: &[String]) -> Result<u64, Fault> {
+fn measure_words<R: Threads + Wait + Clock + Sync>(
+    rt: &R,
+    alloc: Global,
+    words: &[String],
+) -> Result<u64, Fault> {
     let [name, first, second] = words else {
         return Err(Fault::Words);
     };
     let first = first.as_str().parse()?;
     let second = second.as_str().parse()?;
+    if let Some(number) = measure_threads(rt, alloc, name.as_str(), first, second)? {
+        return Ok(number);
+    }
     measure(alloc, name.as_str(), first, second)
 }
 
 fn main(rt: HostRuntime) -> Result<(), Fault> {
     let words = words_of(&rt)?;
-    let number = measure_words(rt.alloc(), words.as_slice());
+    let number = measure_words(&rt, rt.alloc(), words.as_slice());
     drop(words);
     println!(rt; "{}", number?)?;
     Ok(())

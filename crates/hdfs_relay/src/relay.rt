@@ -10,7 +10,7 @@ use crate::words::{Relay, relay_of};
 use hdfs_pipeline::PipelineEnd;
 use hdfs_script::write_refusal;
 use hdfs_streams::{IoFailed, Sink, write_all};
-use hdfs_threads::{OpenGate, PairEnd, mem_node, run_pair};
+use hdfs_threads::{Link, OpenGate, PairEnd, mem_node, run_pair};
 use hdfs_wire::NoMemory;
 use std::alloc::Global;
 use std::sync::Wait;
@@ -58,17 +58,13 @@ fn run<R: Threads + Wait + Sync>(rt: &R, alloc: Global, asked: Relay) -> Result<
     ensures all { IfOk result (λ ended. ended.end ≡ ends.Success → ended.sent ≡ asked.packets + 1) }
 {
     let packets = relay_packets(alloc, asked.packets)?;
-    let (mut out, mut acks) = mem_node(rt, alloc, 1)?;
-    let ended = run_pair(
-        rt,
-        alloc,
-        &mut out,
-        &mut acks,
-        &OpenGate,
-        packets,
-        1,
-        asked.window,
-    )?;
+    let (out, acks) = mem_node(rt, alloc, 1)?;
+    let mut link = Link {
+        out,
+        acks,
+        gate: OpenGate,
+    };
+    let ended = run_pair(rt, alloc, &mut link, packets, 1, asked.window)?;
     Ok(ended)
 }
 

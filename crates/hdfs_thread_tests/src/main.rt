@@ -10,7 +10,7 @@ use ends::{Odd, OddAcks, ShortOut};
 use handshake::{Handshake, pass_by_turns};
 use hdfs_cluster::LinkFault;
 use hdfs_relay::relay_packets;
-use hdfs_threads::{OpenGate, PairEnd, mem_node, run_pair};
+use hdfs_threads::{Link, OpenGate, PairEnd, mem_node, run_pair};
 use hdfs_wire::NoMemory;
 use relays::put_relay;
 use std::alloc::Global;
@@ -19,15 +19,20 @@ use std::sync::Wait;
 use std::thread::Threads;
 use told::put_end;
 
-/// A pair of four packets over a node in memory, with a window of two packets.
+/// A pair of four packets over a node in memory, with a window of two packets. `late` says whether one of its threads
+/// has looked for the other in vain.
 fn shake_hands<R: Threads + Wait + Sync>(
     rt: &R,
     alloc: Global,
-    gate: &Handshake,
+    late: &mut bool,
 ) -> Result<PairEnd, NoMemory> {
     let packets = relay_packets(alloc, 3)?;
-    let (mut out, mut acks) = mem_node(rt, alloc, 1)?;
-    run_pair(rt, alloc, &mut out, &mut acks, gate, packets, 1, 2)
+    let (out, acks) = mem_node(rt, alloc, 1)?;
+    let gate = Handshake::new();
+    let mut link = Link { out, acks, gate };
+    let ended = run_pair(rt, alloc, &mut link, packets, 1, 2);
+    *late = link.gate.is_late();
+    ended
 }
 
 /// The same packets on one thread, which asks where so many wait for their acknowledgement.
@@ -192,12 +197,13 @@ fn run_odd<R: Threads + Wait + Sync>(
     row: &OddRow,
 ) -> Result<PairEnd, NoMemory> {
     let packets = relay_packets(alloc, 3)?;
-    let mut out = ShortOut::new(u32::MAX, LinkFault::Broken);
-    let mut acks = OddAcks::new(alloc, row.nth, row.odd);
+    let mut link = Link {
+        out: ShortOut::new(u32::MAX, LinkFault::Broken),
+        acks: OddAcks::new(alloc, row.nth, row.odd),
+        gate: OpenGate,
+    };
     let window = row.window.clamp(1, 1000);
-    run_pair(
-        rt, alloc, &mut out, &mut acks, &OpenGate, packets, 3, window,
-    )
+    run_pair(rt, alloc, &mut link, packets, 3, window)
 }
 
 fn run_short<R: Threads + Wait + Sync>(
@@ -206,9 +212,12 @@ fn run_short<R: Threads + Wait + Sync>(
     row: &ShortRow,
 ) -> Result<PairEnd, NoMemory> {
     let packets = relay_packets(alloc, 3)?;
-    let mut out = ShortOut::new(row.sent, row.fault);
-    let mut acks = OddAcks::new(alloc, u32::MAX, Odd::Broken);
-    run_pair(rt, alloc, &mut out, &mut acks, &OpenGate, packets, 3, 1)
+    let mut link = Link {
+        out: ShortOut::new(row.sent, row.fault),
+        acks: OddAcks::new(alloc, u32::MAX, Odd::Broken),
+        gate: OpenGate,
+    };
+    run_pair(rt, alloc, &mut link, packets, 3, 1)
 }
 
 fn run_long<R: Threads + Wait + Sync>(
@@ -217,11 +226,14 @@ fn run_long<R: Threads + Wait + Sync>(
     row: &LongRow,
 ) -> Result<PairEnd, NoMemory> {
     let packets = relay_packets(alloc, row.count)?;
-    let (mut out, mut acks) = mem_node(rt, alloc, 3)?;
+    let (out, acks) = mem_node(rt, alloc, 3)?;
+    let mut link = Link {
+        out,
+        acks,
+        gate: OpenGate,
+    };
     let window = row.window.clamp(1, 1000);
-    run_pair(
-        rt, alloc, &mut out, &mut acks, &OpenGate, packets, 3, window,
-    )
+    run_pair(rt, alloc, &mut link, packets, 3, window)
 }
 
 /// Prints how a pair ended.
@@ -255,9 +267,9 @@ fn print_long<R: Threads + Wait + Sync>(
 
 /// Two threads shake hands.
 fn print_pair<R: Threads + Wait + Sync>(host: &HostRuntime, rt: &R) -> io::Result<()> {
-    let gate = Handshake::new();
-    let ended = shake_hands(rt, host.alloc(), &gate);
-    println!(host; "gate_holds_first_ack: late {}", gate.is_late())?;
+    let mut late = false;
+    let ended = shake_hands(rt, host.alloc(), &mut late);
+    println!(host; "gate_holds_first_ack: late {late}")?;
     print(host, "gate_holds_first_ack", &ended)
 }
 

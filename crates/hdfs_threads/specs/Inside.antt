@@ -25,3 +25,7 @@ pub record Tallies (history : List Event) (wrote write_failed acked ack_failed :
   pub write_failed_is : write_failed ≡ write_failed_in history
   pub acked_is : acked ≡ acked_in history
   pub ack_failed_is : ack_failed ≡ ack_failed_in history
+
+-- a ledger of one part has the name of a type
+abbrev pub Names : ℕ → ℕ → ℕ → Type 0
+Names blank name parts = (blank ≡ name) × (parts ≡ 1)

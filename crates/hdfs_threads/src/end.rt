@@ -9,8 +9,8 @@ ghost use Rattle.hdfs_pipeline.specs.Pushed.{IsLastBehind};
 ghost use Rattle.hdfs_threads.specs.Ends.{EndsWith, with_rest};
 ghost use Rattle.hdfs_threads.specs.Inside.{Tallies};
 
-use crate::pair::{Job, Pair};
-use crate::shares::Shares;
+use crate::pair::{Books, Job, Pair};
+use crate::shares::{AskerShares, SenderShares};
 use hdfs_pipeline::{Event, PipelineCore, PipelineEnd};
 use hdfs_wire::{List, NoMemory, WritePacket};
 use std::sync::ledger::Ledger;
@@ -76,6 +76,26 @@ fn close(
     end_with_rest(core.shutdown(), packets, pushed)
 }
 
+/// Compares the books with the shares of both threads, which are whole: each book has what its thread counted.
+fn compare<W: Ledger, X: Ledger, A: Ledger, Y: Ledger, Z: Ledger>(
+    mut books: Books<W, X, A, Y, Z>,
+    mut sender: SenderShares<W, X>,
+    mut asker: AskerShares<A, Y, Z>,
+)
+    requires { (W.parts ≡ 1) × (X.parts ≡ 1) × (A.parts ≡ 1) × (Y.parts ≡ 1) }
+    ensures sender { (sender.wrote.share.amount ≡ books.wrote.total)
+        × (sender.failed.share.amount ≡ books.write_failed.total) }
+    ensures asker { (asker.acked.share.amount ≡ books.acked.total)
+        × (asker.failed.share.amount ≡ books.ack_failed.total) }
+    ensures over { asker.over.share.amount ≤ books.over.total }
+{
+    books.wrote.audit(&mut sender.wrote.share);
+    books.write_failed.audit(&mut sender.failed.share);
+    books.acked.audit(&mut asker.acked.share);
+    books.ack_failed.audit(&mut asker.failed.share);
+    books.over.audit(&mut asker.over.share);
+}
+
 impl<J: Job, W: Ledger, X: Ledger, A: Ledger, Y: Ledger, Z: Ledger> Pair<J, W, X, A, Y, Z> {
     /// Ends the pair, which both threads have left. Their shares are whole, so what they counted is what the history
     /// has.
@@ -83,41 +103,37 @@ impl<J: Job, W: Ledger, X: Ledger, A: Ledger, Y: Ledger, Z: Ledger> Pair<J, W, X
         self,
         packets: Vec<WritePacket>,
         sent: u64,
-        mine: Shares<W, X, A, Y, Z>,
+        sender: SenderShares<W, X>,
+        asker: AskerShares<A, Y, Z>,
     ) -> Result<PairEnd, NoMemory>
         requires packets { packets.items ≡ J.packets }
         requires last { IsLastBehind J.packets }
-        requires parts { (mine.wrote.parts ≡ W.parts) × (mine.write_failed.parts ≡ X.parts)
-            × (mine.acked.parts ≡ A.parts) × (mine.ack_failed.parts ≡ Y.parts) }
-        requires over { 0 < mine.over.amount }
+        requires parts { (W.parts ≡ 1) × (X.parts ≡ 1) × (A.parts ≡ 1) × (Y.parts ≡ 1) }
+        requires over { 0 < asker.over.share.amount }
         ensures ends { IfOk result (λ r. EndsWith J.window J.nodes J.packets r.history r.end) }
-        ensures tallies { IfOk result (λ r. Tallies r.history mine.wrote.amount mine.write_failed.amount
-            mine.acked.amount mine.ack_failed.amount) }
+        ensures tallies { IfOk result (λ r. Tallies r.history sender.wrote.share.amount sender.failed.share.amount
+            asker.acked.share.amount asker.failed.share.amount) }
         ensures sent { IfOk result (λ r. r.sent ≡ sent) }
     {
-        let Shares {
-            wrote: mut my_wrote,
-            write_failed: mut my_write_failed,
-            acked: mut my_acked,
-            ack_failed: mut my_ack_failed,
-            over: mut my_over,
-        } = mine;
         let Pair {
             core,
             history,
             pushed,
-            mut wrote,
-            mut write_failed,
-            mut acked,
-            mut ack_failed,
-            mut over,
+            wrote,
+            write_failed,
+            acked,
+            ack_failed,
+            over,
             ..
         } = self;
-        wrote.audit(&mut my_wrote);
-        write_failed.audit(&mut my_write_failed);
-        acked.audit(&mut my_acked);
-        ack_failed.audit(&mut my_ack_failed);
-        over.audit(&mut my_over);
+        let books = Books {
+            wrote,
+            write_failed,
+            acked,
+            ack_failed,
+            over,
+        };
+        compare(books, sender, asker);
         Ok(PairEnd {
             end: close(core, packets, pushed)?,
             sent,

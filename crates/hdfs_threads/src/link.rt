@@ -6,7 +6,7 @@ use hdfs_cluster::LinkFault;
 use hdfs_wire::{Ack, WritePacket};
 
 /// Where packets go. A failure is answered only where the count rose, but for want of memory.
-pub trait PacketOut: Send {
+pub trait PacketOut {
     ghost shown: { Self → OutShown };
 
     /// Sends a packet.
@@ -15,7 +15,7 @@ pub trait PacketOut: Send {
 }
 
 /// Where acknowledgements come from. A failure is answered only where the count rose, but for want of memory.
-pub trait AckIn: Send {
+pub trait AckIn {
     ghost shown: { Self → InShown };
 
     /// Waits for the next acknowledgement.
@@ -25,7 +25,7 @@ pub trait AckIn: Send {
 
 /// What is called right before each send, and right before each call of `ack`: both are counted from 1, and are outside
 /// the lock. No clause says what it does.
-pub trait Gate: Sync {
+pub trait Gate {
     fn before_send(&self, n: u64);
 
     fn before_ack(&self, n: u64);
@@ -39,4 +39,15 @@ impl Gate for OpenGate {
     fn before_send(&self, _n: u64) {}
 
     fn before_ack(&self, _n: u64) {}
+}
+
+/// What two threads use: where packets go, where acknowledgements come from, and what is called right before each use.
+#[derive(Drop)]
+pub struct Link<O, A, G> {
+    /// Where packets go.
+    pub out: O,
+    /// Where acknowledgements come from.
+    pub acks: A,
+    /// What is called right before each use of them.
+    pub gate: G,
 }

@@ -1,7 +1,6 @@
 //! A node in memory, which acknowledges each packet that it gets.
 
 ghost use Rattle.std.specs.Prelude.{◌≡◌, ◌≤◌, [], None, Some, IfOk, replicate};
-ghost use Rattle.hdfs_threads.specs.Links.{InShown, OutShown};
 ghost use Rattle.hdfs_threads.specs.Nodes.{fine_acks};
 
 use crate::link::{AckIn, PacketOut};

@@ -1,6 +1,6 @@
 //! What two threads share under their lock: a pipeline, its history, and a book for each count.
 
-ghost use Rattle.std.specs.Prelude.{◌≡◌, ℕ, ◌+◌, ◌<◌, ◌≤◌, List, [], ◌∷◌, length, IfOk, OnOk, OnErr, IsTrue, true};
+ghost use Rattle.std.specs.Prelude.{◌≡◌, ℕ, ◌+◌, ◌<◌, ◌≤◌, List, [], ◌∷◌, length, IfOk, OnOk, OnErr, true};
 ghost use Rattle.hdfs_wire.specs.Outgoing.{Outgoing};
 ghost use Rattle.hdfs_pipeline.specs.Pipelines.{empty_pipeline, has_room};
 ghost use Rattle.hdfs_pipeline.specs.Cores.{Stands};
@@ -58,7 +58,7 @@ pub enum AckTurn {
 }
 
 /// A pipeline with the history that it stands for, how many packets were pushed, and a book for each count. Each call
-/// with `&mut self` is one hold of the lock around it, and adds at most one event.
+/// with `&mut self` is a hold: it is made under the lock around the pair, and adds at most one event.
 #[derive(Drop)]
 pub struct Pair<J: Job, W: Ledger, X: Ledger, A: Ledger, Y: Ledger, Z: Ledger> {
     pub(crate) core: PipelineCore,

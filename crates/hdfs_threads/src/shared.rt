@@ -1,13 +1,22 @@
-//! The pair under its lock, and its holds: a thread waits where it has nothing to do, and each event wakes the other.
+//! The pair under its lock, and its holds: a thread waits where it has nothing to do, and each event that it may wait
+//! for wakes it.
 
 ghost use Rattle.std.specs.Prelude.{◌≡◌, ◌+◌, ◌<◌, OnOk};
 ghost use Rattle.hdfs_threads.specs.declared.pair.AckTurn.TheVariants as turns;
 
 use crate::pair::{AckTurn, Job, Pair, SenderTurn};
+use crate::shares::Whole;
 use hdfs_wire::{Ack, NoMemory, WritePacket};
 use std::alloc::Global;
-use std::sync::ledger::{Ledger, Share};
-use std::sync::{Condvar, Mutex, Wait};
+use std::sync::ledger::Ledger;
+use std::sync::{Condvar, Mutex, MutexGuard, Wait};
+
+/// Which of the two threads it is.
+#[derive(Clone, Copy)]
+enum Side {
+    Sender,
+    Asker,
+}
 
 /// What both threads share: the packets, which nobody changes, and the pair under its lock.
 #[derive(Drop)]
@@ -36,17 +45,29 @@ impl<J: Job, W: Ledger, X: Ledger, A: Ledger, Y: Ledger, Z: Ledger> Shared<J, W,
         }
     }
 
-    /// A hold of the sender, which waits for the other thread where it has nothing to do.
+    /// Takes the lock for a thread, which waits for the other one first where it has nothing to do.
+    fn hold<'a, R: Wait>(&'a self, rt: &R, side: Side) -> MutexGuard<'a, Pair<J, W, X, A, Y, Z>> {
+        let count = self.packets.len();
+        let guard = self.pair.lock(rt);
+        let waits = match side {
+            Side::Sender => guard.sender_waits(count),
+            Side::Asker => guard.asker_waits(count),
+        };
+        if waits {
+            return self.changed.wait(rt, guard);
+        }
+        guard
+    }
+
+    /// A hold of the sender, which waits for the other thread where it has nothing to do. It takes what it has just
+    /// pushed, where it can. The other thread waits for neither, so nobody is woken.
     fn sender_hold<R: Wait>(&self, rt: &R) -> Result<SenderTurn, NoMemory> {
         let packets = self.packets.as_slice();
-        let count = packets.len();
-        let mut guard = self.pair.lock(rt);
-        if guard.sender_waits(count) {
-            guard = self.changed.wait(rt, guard);
+        let mut guard = self.hold(rt, Side::Sender);
+        match guard.sender_turn(self.alloc, packets)? {
+            SenderTurn::Pushed => guard.sender_turn(self.alloc, packets),
+            turn => Ok(turn),
         }
-        let turn = guard.sender_turn(self.alloc, packets);
-        self.changed.notify_all();
-        turn
     }
 
     /// Waits until a packet is taken, to be sent. False where there is none to send any more.
@@ -62,12 +83,10 @@ impl<J: Job, W: Ledger, X: Ledger, A: Ledger, Y: Ledger, Z: Ledger> Shared<J, W,
     }
 
     /// Tells that the packet in the hand was sent.
-    pub(crate) fn tell_wrote<R: Wait>(&self, rt: &R, mine: &mut Share<W>) -> Result<(), NoMemory>
-        requires { 0 < mine.old.parts }
-        ensures amount { OnOk result (mine.new.amount ≡ mine.old.amount + 1) }
-        ensures parts { mine.new.parts ≡ mine.old.parts }
+    pub(crate) fn tell_wrote<R: Wait>(&self, rt: &R, mine: &mut Whole<W>) -> Result<(), NoMemory>
+        ensures { OnOk result (mine.new.share.amount ≡ mine.old.share.amount + 1) }
     {
-        let told = self.pair.lock(rt).wrote(mine);
+        let told = self.pair.lock(rt).wrote(&mut mine.share);
         self.changed.notify_all();
         told
     }
@@ -76,44 +95,33 @@ impl<J: Job, W: Ledger, X: Ledger, A: Ledger, Y: Ledger, Z: Ledger> Shared<J, W,
     pub(crate) fn tell_write_failed<R: Wait>(
         &self,
         rt: &R,
-        mine: &mut Share<X>,
+        mine: &mut Whole<X>,
     ) -> Result<(), NoMemory>
-        requires { 0 < mine.old.parts }
-        ensures amount { OnOk result (mine.new.amount ≡ mine.old.amount + 1) }
-        ensures parts { mine.new.parts ≡ mine.old.parts }
+        ensures { OnOk result (mine.new.share.amount ≡ mine.old.share.amount + 1) }
     {
-        let told = self.pair.lock(rt).write_failed(mine);
+        let told = self.pair.lock(rt).write_failed(&mut mine.share);
         self.changed.notify_all();
         told
     }
 
     /// A hold of the other thread, which waits for the sender where it has nothing to do.
-    pub(crate) fn ack_hold<R: Wait>(&self, rt: &R, over: &mut Share<Z>) -> AckTurn
-        requires { 0 < over.old.parts }
-        ensures over { result ≡ turns.Stop → 0 < over.new.amount }
-        ensures parts { over.new.parts ≡ over.old.parts }
+    pub(crate) fn ack_hold<R: Wait>(&self, rt: &R, over: &mut Whole<Z>) -> AckTurn
+        ensures { result ≡ turns.Stop → 0 < over.new.share.amount }
     {
-        let packets = self.packets.as_slice();
-        let count = packets.len();
-        let mut guard = self.pair.lock(rt);
-        if guard.asker_waits(count) {
-            guard = self.changed.wait(rt, guard);
-        }
-        guard.ack_turn(packets, over)
+        let mut guard = self.hold(rt, Side::Asker);
+        guard.ack_turn(self.packets.as_slice(), &mut over.share)
     }
 
     /// Tells that an acknowledgement came.
     pub(crate) fn tell_acked<R: Wait>(
         &self,
         rt: &R,
-        mine: &mut Share<A>,
+        mine: &mut Whole<A>,
         ack: Ack,
     ) -> Result<(), NoMemory>
-        requires { 0 < mine.old.parts }
-        ensures amount { OnOk result (mine.new.amount ≡ mine.old.amount + 1) }
-        ensures parts { mine.new.parts ≡ mine.old.parts }
+        ensures { OnOk result (mine.new.share.amount ≡ mine.old.share.amount + 1) }
     {
-        let told = self.pair.lock(rt).acked(mine, ack);
+        let told = self.pair.lock(rt).acked(&mut mine.share, ack);
         self.changed.notify_all();
         told
     }
@@ -122,13 +130,11 @@ impl<J: Job, W: Ledger, X: Ledger, A: Ledger, Y: Ledger, Z: Ledger> Shared<J, W,
     pub(crate) fn tell_ack_failed<R: Wait>(
         &self,
         rt: &R,
-        mine: &mut Share<Y>,
+        mine: &mut Whole<Y>,
     ) -> Result<(), NoMemory>
-        requires { 0 < mine.old.parts }
-        ensures amount { OnOk result (mine.new.amount ≡ mine.old.amount + 1) }
-        ensures parts { mine.new.parts ≡ mine.old.parts }
+        ensures { OnOk result (mine.new.share.amount ≡ mine.old.share.amount + 1) }
     {
-        let told = self.pair.lock(rt).ack_failed(mine);
+        let told = self.pair.lock(rt).ack_failed(&mut mine.share);
         self.changed.notify_all();
         told
     }

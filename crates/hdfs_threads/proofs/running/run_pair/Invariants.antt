@@ -5,16 +5,16 @@ abbrev pub ghosts-run_counted-J-Job : goal.ghosts-run_counted-J-Job
 ghosts-run_counted-J-Job g a = record { window = a.begin.core.window; nodes = a.begin.core.nodes; packets = a.begin.packets.items }
 
 abbrev pub ghosts-run_counted-W-Ledger : goal.ghosts-run_counted-W-Ledger
-ghosts-run_counted-W-Ledger g a = record { name = a.begin.wrote.name; parts = a.begin.wrote.parts }
+ghosts-run_counted-W-Ledger g a = record { name = a.begin.blanks.wrote.name; parts = 1 }
 
 abbrev pub ghosts-run_counted-X-Ledger : goal.ghosts-run_counted-X-Ledger
-ghosts-run_counted-X-Ledger g a = record { name = a.begin.write_failed.name; parts = a.begin.write_failed.parts }
+ghosts-run_counted-X-Ledger g a = record { name = a.begin.blanks.write_failed.name; parts = 1 }
 
 abbrev pub ghosts-run_counted-A-Ledger : goal.ghosts-run_counted-A-Ledger
-ghosts-run_counted-A-Ledger g a = record { name = a.begin.acked.name; parts = a.begin.acked.parts }
+ghosts-run_counted-A-Ledger g a = record { name = a.begin.blanks.acked.name; parts = 1 }
 
 abbrev pub ghosts-run_counted-Y-Ledger : goal.ghosts-run_counted-Y-Ledger
-ghosts-run_counted-Y-Ledger g a = record { name = a.begin.ack_failed.name; parts = a.begin.ack_failed.parts }
+ghosts-run_counted-Y-Ledger g a = record { name = a.begin.blanks.ack_failed.name; parts = 1 }
 
 abbrev pub ghosts-run_counted-Z-Ledger : goal.ghosts-run_counted-Z-Ledger
-ghosts-run_counted-Z-Ledger g a = record { name = a.begin.over.name; parts = a.begin.over.parts }
+ghosts-run_counted-Z-Ledger g a = record { name = a.begin.blanks.over.name; parts = 1 }

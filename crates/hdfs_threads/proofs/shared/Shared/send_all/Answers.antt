@@ -41,7 +41,6 @@ packets-preserved g c =
       counted = omega (arith, counted);
       amount = omega (arith, one.1, sum);
       none = omega (arith, one.2, none);
-      parts = search rules;
       took = took_next before here behind g.J.Job.packets c.packets.packet-index c.packet-item.result left is so_far.took one.0;
       later = omega (arith, so_far.later, later);
     }
