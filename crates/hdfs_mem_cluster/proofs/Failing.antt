@@ -26,7 +26,9 @@ use Rattle.hdfs_mem_faults.specs.Series.{AsksOf, ask_fault_count, is_fault}
 use Rattle.hdfs_mem_faults.proofs.Bounds.{ask_faults-le, no_faults}
 use Rattle.hdfs_mem_cluster.specs.declared.loaded.Kept.{Kept}
 use Rattle.hdfs_mem_cluster.specs.declared.mem_cluster.MemCluster.{MemCluster}
-use Rattle.hdfs_mem_namenode.specs.Answering.{Answers}
+use Rattle.hdfs_mem_namenode.specs.Answering.{Answers, AnswersAbout, space_in}
+use Rattle.hdfs_mem_namenode.specs.Adding.{Space}
+use Rattle.hdfs_mem_namenode.specs.Rows.{NamesRefusal}
 use Rattle.hdfs_mem_namenode.specs.Pipelines.{AreBarred, IsOfOpen, is_barred}
 use Rattle.hdfs_mem_namenode.proofs.Answering.{same_picture}
 use Rattle.hdfs_mem_cluster.specs.Lines.{NeedsFault, line_of}
@@ -80,16 +82,27 @@ answers_fine p q i ask (Err faults.Broken) h = refl
 answers_fine p q i ask (Err (faults.BadReply fault)) h = refl
 answers_fine p q i ask (Err (faults.Fatal class message)) h = refl
 
+-- nor is what is answered to an ask about names
+class_for_names : (old : Space) (ask : Ask) (class : List ℕ) → NamesRefusal old ask class → bytes_eq class io_exception ≡ false
+class_for_names old (asks.GetFileInfo src) class h = class_for_any _ _ class h
+class_for_names old (asks.GetListing src from located) class h = ⊎_elim (class_for_any _ _ class) (λ bad. same_class class _ bad refl) h
+class_for_names old (asks.GetAclStatus src) class h = class_for_any _ _ class h
+class_for_names old ask class h = class_for_any _ _ class h.2
+
+about_fine : (p q : Picture) (i : ℕ) (ask : Ask) (result : Result Answer AskFault) → AnswersAbout p i ask result q → is_failure result ≡ false
+about_fine p q i ask (Ok answer) h = refl
+about_fine p q i ask (Err faults.NoMemory) h = refl
+about_fine p q i ask (Err (faults.Exception class message)) h = class_for_names (space_in p) ask class h.row.2
+about_fine p q i ask (Err faults.Broken) h = refl
+about_fine p q i ask (Err (faults.BadReply fault)) h = refl
+about_fine p q i ask (Err (faults.Fatal class message)) h = refl
+
 pub fails_so : (loaded : List Line) (count : ℕ) (p q : Picture) (i : ℕ) (ask : Ask) (result : Result Answer AskFault) → Fails loaded count p i ask result q → is_failure result ≡ true
 fails_so loaded count p q i ask result h = ap is_failure h.is
 
 module _ (loaded : List Line) (count : ℕ) (p q : Picture) (i : ℕ) (ask : Ask) (result : Result Answer AskFault) (responds : Responds loaded count p i ask result q) where
-  -- what is no failure is answered by the picture
-  pub answers_else : is_failure result ≡ false → Answers p i ask result q
-  answers_else fine = ⊎_elim (λ answers. answers) (λ fails. absurd (false≢true (sym fine ∙ fails_so loaded count p q i ask result fails))) responds
-
   pub fails_if : is_failure result ≡ true → Fails loaded count p i ask result q
-  fails_if failed = ⊎_elim (λ answers. absurd (false≢true (sym (answers_fine p q i ask result answers) ∙ failed))) (λ fails. fails) responds
+  fails_if failed = ⊎_elim (λ answers. absurd (false≢true (sym (answers_fine p q i ask result answers) ∙ failed))) (λ more. ⊎_elim (λ fails. fails) (λ about. absurd (false≢true (sym (about_fine p q i ask result about) ∙ failed))) more) responds
 
 -- each datanode is existing or excluded
 pub lacks_datanode : (p : Picture) (src text : List ℕ) → text ≡ src → (block : Block) (client : List ℕ) (existing excludes : List DatanodeInfo) (number : ℕ) (ids : List (List ℕ)) (count : ℕ) (olds outs : List DatanodeInfo) → olds ≡ existing → outs ≡ excludes
@@ -103,7 +116,7 @@ lacks_datanode p src text is_text block client existing excludes number ids coun
 -- what is answered then
 pub responds_none : (loaded : List Line) (count : ℕ) (p : Picture) (i : ℕ) (ask : Ask) → i ≡ p.active → LacksDatanode count p ask → (fault : AskFault) → StandsForNone loaded fault → Responds loaded count p i ask (Err fault) p
 responds_none loaded count p i ask here lacks faults.NoMemory stands = inl (same_picture p)
-responds_none loaded count p i ask here lacks (faults.Exception class message) stands = inr (record { here = here; lacks = lacks; planned = stands.0; is = cc (stands.1, stands.2); same = same_picture p })
+responds_none loaded count p i ask here lacks (faults.Exception class message) stands = inr (inl (record { here = here; lacks = lacks; planned = stands.0; is = cc (stands.1, stands.2); same = same_picture p }))
 responds_none loaded count p i ask here lacks faults.Broken stands = absurd stands
 responds_none loaded count p i ask here lacks (faults.BadReply fault) stands = absurd stands
 responds_none loaded count p i ask here lacks (faults.Fatal class message) stands = absurd stands

@@ -36,13 +36,14 @@ use Rattle.hdfs_mem_cluster.specs.MemShown.{counts_at, failed_calls, namenode_fa
 use Rattle.hdfs_mem_cluster.specs.Responding.{AskComesTo, DoesPlanned, Responds, failed_after, false_answer, has_failed, is_answered, is_failure, own_failure, planned_answer}
 use Rattle.hdfs_mem_datanodes.specs.Nodes.{SameNodes}
 use Rattle.hdfs_mem_namenode.proofs.Answering.{serves_answer}
+use Rattle.hdfs_mem_namenode.proofs.Rows.{about_not_false, about_own, about_still, serves_about}
 use Rattle.hdfs_mem_cluster.proofs.Counting.{AsksGrow, asks_grow, nodes_stay, one_more}
 use Rattle.hdfs_mem_cluster.proofs.Failing.{fails_if, failed_others, failed_own}
 use Rattle.hdfs_mem_cluster.proofs.Stills.{shown_at}
 
 -- where no answer came, nothing changed
 pub still_without_answer : (loaded : List Line) (count : ℕ) (p q : Picture) (i : ℕ) (ask : Ask) (result : Result Answer AskFault) → IsErr result → Responds loaded count p i ask result q → SamePicture p q
-still_without_answer loaded count p q i ask result is h = ⊎_elim (unanswered result is) (λ fails. fails.same) h
+still_without_answer loaded count p q i ask result is h = ⊎_elim (unanswered result is) (λ more. ⊎_elim (λ fails. fails.same) (λ about. about_still p q i ask result about is) more) h
   where
     unanswered : (r : Result Answer AskFault) → IsErr r → Answers p i ask r q → SamePicture p q
     unanswered (Ok answer) is h = absurd (false≢true is)
@@ -91,16 +92,16 @@ no_false p ask q row = row
 module _ (loaded : List Line) (count : ℕ) (p q : Picture) (i : ℕ) (ask : Ask) where
   -- a namenode that isn't planned to fail gives an answer, and never that the file isn't closed
   no_failure : (result : Result Answer AskFault) → Responds loaded count p i ask result q → IsFailure result → ⊥
-  no_failure (Ok answer) h is = ⊎_elim (λ here. no_false p ask q (subst (λ (a : Answer). Row p ask a q) is here.3)) (λ fails. (let e = fails.is in absurd (cc))) h
+  no_failure (Ok answer) h is = ⊎_elim (λ here. no_false p ask q (subst (λ (a : Answer). Row p ask a q) is here.3)) (λ more. ⊎_elim (λ fails. (let e = fails.is in absurd (cc))) (λ about. about_not_false p q i ask answer about is) more) h
   no_failure (Err faults.NoMemory) h is = is
-  no_failure (Err faults.Broken) h is = ⊎_elim (λ here. here) (λ fails. (let e = fails.is in absurd (cc))) h
-  no_failure (Err (faults.BadReply fault)) h is = ⊎_elim (λ here. here) (λ fails. (let e = fails.is in absurd (cc))) h
+  no_failure (Err faults.Broken) h is = ⊎_elim (λ here. here) (λ more. ⊎_elim (λ fails. (let e = fails.is in absurd (cc))) (λ about. about.row) more) h
+  no_failure (Err (faults.BadReply fault)) h is = ⊎_elim (λ here. here) (λ more. ⊎_elim (λ fails. (let e = fails.is in absurd (cc))) (λ about. about.row) more) h
   no_failure (Err (faults.Exception class message)) h is = is
-  no_failure (Err (faults.Fatal class message)) h is = ⊎_elim (λ here. here) (λ fails. (let e = fails.is in absurd (cc))) h
+  no_failure (Err (faults.Fatal class message)) h is = ⊎_elim (λ here. here) (λ more. ⊎_elim (λ fails. (let e = fails.is in absurd (cc))) (λ about. about.row) more) h
 
   -- what a namenode responds whose answer is late may be done
   may_be_done : (given : Result Answer AskFault) → IfOk given (IsShaped ask) → Responds loaded count p i ask given q → MayBeDone ask p q
-  may_be_done (Ok answer) shaped h = ⊎_elim (λ here. inr (inl (answer, shaped, here.3))) (λ fails. inl fails.same.rest) h
+  may_be_done (Ok answer) shaped h = ⊎_elim (λ here. inr (inl (answer, shaped, here.3))) (λ more. ⊎_elim (λ fails. inl fails.same.rest) (λ about. inr (inr (about_own p q i ask answer about))) more) h
   may_be_done (Err fault) shaped h = inl (still_without_answer loaded count p q i ask (Err fault) refl h).rest
 
   module _ (risen : Type 0) where
@@ -109,7 +110,10 @@ module _ (loaded : List Line) (count : ℕ) (p q : Picture) (i : ℕ) (ask : Ask
     serves_response result rises h =
         ⊎_elim
         (serves_answer risen p q i ask result)
+        (λ more. ⊎_elim
         (λ fails. subst (λ (r : Result Answer AskFault). ServesTold risen p i ask r q) (sym fails.is) (inr (inr (inr (rises (ap is_failure fails.is) fails.here, inl fails.same.rest)))))
+        (serves_about risen p q i ask result)
+        more)
         h
 
     -- one that is

@@ -21,7 +21,7 @@ use Rattle.hdfs_mem_faults.specs.Series.{is_fault}
 use Rattle.hdfs_mem_namenode.specs.declared.namespace.Namespace.{Namespace}
 use Rattle.hdfs_mem_datanodes.specs.declared.datanodes.Datanodes.{Datanodes}
 use Rattle.hdfs_mem_cluster.specs.declared.mem_link.MemLink.{MemLink}
-use Rattle.hdfs_mem_namenode.specs.Answering.{Answers, no_such_method}
+use Rattle.hdfs_mem_namenode.specs.Answering.{Answers, AnswersAbout, is_about_names, no_such_method}
 use Rattle.hdfs_mem_namenode.specs.Pipelines.{AreBarred, is_barred}
 use Rattle.hdfs_mem_cluster.specs.MemShown.{picture_at}
 
@@ -106,9 +106,9 @@ pub record Fails (loaded : List Line) (count : ℕ) (p : Picture) (i : ℕ) (ask
   pub is : result ≡ Err (faults.Exception io_exception [])
   pub same : SamePicture p q
 
--- a namenode answers, or the active one fails
+-- a namenode answers, or the active one fails, or answers an ask about names
 abbrev pub Responds : List Line → ℕ → Picture → ℕ → Ask → Result Answer AskFault → Picture → Type 0
-Responds loaded count p i ask result q = Answers p i ask result q ⊎ Fails loaded count p i ask result q
+Responds loaded count p i ask result q = Answers p i ask result q ⊎ Fails loaded count p i ask result q ⊎ AnswersAbout p i ask result q
 
 -- the same of the active namenode, whatever the datanodes hold and whichever links are open
 abbrev pub RespondsHere : List Line → ℕ → Namespace → Ask → Result Answer AskFault → Type 0

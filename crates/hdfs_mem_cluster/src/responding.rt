@@ -1,7 +1,8 @@
 //! How the namenodes of a cluster in memory respond to what is asked.
-ghost use Rattle.std.specs.Prelude.{◌≡◌, ℕ, map, IfOk};
+ghost use Rattle.std.specs.Prelude.{◌≡◌, ℕ, map, false, IfOk};
 ghost use Rattle.std.specs.List.{list_any};
 ghost use Rattle.hdfs_cluster.specs.Namenode.{IsShaped};
+ghost use Rattle.hdfs_mem_namenode.specs.Answering.{is_about_names as about};
 ghost use Rattle.slab.specs.Slab.{Slab};
 ghost use Rattle.hdfs_mem_cluster.specs.declared.mem_link.MemLink.{MemLink};
 ghost use Rattle.hdfs_mem_faults.specs.Series.{is_fault};
@@ -15,7 +16,7 @@ use crate::known::Known;
 use crate::loaded::Kept;
 use hdfs_cluster::{Answer, Ask, AskFault, Attributes};
 use hdfs_mem_datanodes::Datanodes;
-use hdfs_mem_namenode::{Namespace, STANDBY, exception};
+use hdfs_mem_namenode::{Namespace, STANDBY, exception, is_about_names};
 use hdfs_wire::NoMemory;
 use std::alloc::Global;
 
@@ -170,8 +171,9 @@ fn is_of_session(ask: &Ask) -> bool
     )
 }
 
-/// What the active namenode answers to an ask that no command of a session makes.
+/// What the active namenode answers to an ask that no command of a session makes, and that isn't about names.
 fn other_answer(alloc: Global, ask: &Ask) -> Result<Answer, AskFault>
+    requires { about ask.now ≡ false }
     ensures { StandsForOther ask.now result }
 {
     match ask {
@@ -199,6 +201,9 @@ pub(crate) fn respond(
     let alloc = known.alloc;
     if i != known.config.settings.active {
         return Err(exception(alloc, STANDBY)?);
+    }
+    if is_about_names(ask) {
+        return space.answer_names(alloc, ask);
     }
     if !is_of_session(ask) {
         return other_answer(alloc, ask);

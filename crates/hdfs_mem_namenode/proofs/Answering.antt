@@ -197,6 +197,16 @@ unknown_own p (asks.Complete src client last file_id) h = absurd h
 unknown_own p (asks.UpdateBlockForPipeline block client) h = absurd h
 unknown_own p (asks.GetAdditionalDatanode src block existing excludes count client ids) h = absurd h
 unknown_own p (asks.UpdatePipeline client block block' nodes ids) h = absurd h
+unknown_own p (asks.GetFileInfo src) h = absurd h
+unknown_own p (asks.GetListing src from located) h = absurd h
+unknown_own p (asks.GetAclStatus src) h = absurd h
+unknown_own p (asks.SetTimes src mtime atime) h = absurd h
+unknown_own p (asks.SetOwner src owner group) h = absurd h
+unknown_own p (asks.ModifyAclEntries src entries) h = absurd h
+unknown_own p (asks.RemoveAclEntries src entries) h = absurd h
+unknown_own p (asks.RemoveDefaultAcl src) h = absurd h
+unknown_own p (asks.RemoveAcl src) h = absurd h
+unknown_own p (asks.SetAcl src entries) h = absurd h
 unknown_own p ask h = h
 
 keeps_others : (p q : Picture) (path : List ℕ) → SamePicture p q → KeepsOthers path p q

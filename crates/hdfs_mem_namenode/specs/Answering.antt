@@ -1,5 +1,5 @@
 -- What a namenode of a cluster in memory answers.
-use Rattle.std.specs.Prelude.{◌≡◌, ◌≢◌, ◌⊎◌, ℕ, List, [], Option, Some, None, is_some, Result, Ok, Err, codes}
+use Rattle.std.specs.Prelude.{◌≡◌, ◌≢◌, ◌⊎◌, ℕ, Bool, true, false, List, [], Option, Some, None, is_some, Result, Ok, Err, codes}
 use Rattle.hdfs_cluster.specs.declared.asks.Ask.{Ask}
 use Rattle.hdfs_cluster.specs.declared.asks.Ask.TheVariants as asks
 use Rattle.hdfs_cluster.specs.declared.asks.Answer.{Answer}
@@ -11,10 +11,13 @@ use Rattle.hdfs_cluster.specs.declared.picture.BlockEntry.{BlockEntry}
 use Rattle.hdfs_cluster.specs.declared.picture.Entry.{Entry}
 use Rattle.hdfs_cluster.specs.declared.picture.Entry.TheVariants as entries
 use Rattle.hdfs_cluster.specs.declared.picture.FileEntry.{FileEntry}
+use Rattle.hdfs_cluster.specs.Effects.{KeepsBytes}
 use Rattle.hdfs_cluster.specs.Files.{Kind, NoFile, no_file}
 use Rattle.hdfs_cluster.specs.Namenode.{LocatesBlocks, IsOwn, IsRefusal, Row, StandsForAny, class_for, not_found, standby}
 use Rattle.hdfs_cluster.specs.Picture.{Picture, SamePicture}
 use Rattle.hdfs_cluster.specs.Refusals.{Refusal}
+use Rattle.hdfs_mem_namenode.specs.Adding.{Space}
+use Rattle.hdfs_mem_namenode.specs.Rows.{AnswersNames}
 
 -- the answer has the length and the blocks of the file at the path, and encryption information where it is encrypted
 pub record LocatesFile (names : List ℕ → Option Entry) (table : ℕ → Option BlockEntry) (src : List ℕ) (found : LocatedBlocks) : Type 0 where
@@ -67,6 +70,16 @@ IsUnknown (asks.Complete src client last file_id) = ⊥
 IsUnknown (asks.UpdateBlockForPipeline block client) = ⊥
 IsUnknown (asks.GetAdditionalDatanode src block existing excludes count client ids) = ⊥
 IsUnknown (asks.UpdatePipeline client block block' nodes ids) = ⊥
+IsUnknown (asks.GetFileInfo src) = ⊥
+IsUnknown (asks.GetListing src from located) = ⊥
+IsUnknown (asks.GetAclStatus src) = ⊥
+IsUnknown (asks.SetTimes src mtime atime) = ⊥
+IsUnknown (asks.SetOwner src owner group) = ⊥
+IsUnknown (asks.ModifyAclEntries src entries) = ⊥
+IsUnknown (asks.RemoveAclEntries src entries) = ⊥
+IsUnknown (asks.RemoveDefaultAcl src) = ⊥
+IsUnknown (asks.RemoveAcl src) = ⊥
+IsUnknown (asks.SetAcl src entries) = ⊥
 IsUnknown (asks.RenewLease client namespaces) = ⊥
 IsUnknown asks.Msync = ⊥
 IsUnknown asks.GetHaServiceState = ⊥
@@ -89,3 +102,28 @@ Answers p i ask (Err faults.NoMemory) q = SamePicture p q
 Answers p i ask (Err (faults.Exception class message)) q =
     (message ≡ []) × SamePicture p q × (((i ≢ p.active) × (class ≡ standby)) ⊎ ((i ≡ p.active) × IsExcused p ask class))
 Answers p i ask (Err fault) q = ⊥
+
+-- the names and the blocks of a picture, and what its datanodes hold
+abbrev pub space_in : Picture → Space
+space_in p = record { names = p.names; table = p.table; held = p.held }
+
+-- The active namenode answers an ask about names by its row, or with an exception. That changes names and blocks alone.
+pub record AnswersAbout (p : Picture) (i : ℕ) (ask : Ask) (result : Result Answer AskFault) (q : Picture) : Type 0 where
+  pub here : i ≡ p.active
+  pub active : q.active ≡ p.active
+  pub bytes : KeepsBytes p q
+  pub row : AnswersNames (space_in p) ask result (space_in q)
+
+-- the ask is about names
+abbrev pub is_about_names : Ask → Bool
+is_about_names (asks.GetFileInfo src) = true
+is_about_names (asks.GetListing src from located) = true
+is_about_names (asks.GetAclStatus src) = true
+is_about_names (asks.SetTimes src mtime atime) = true
+is_about_names (asks.SetOwner src owner group) = true
+is_about_names (asks.ModifyAclEntries src entries) = true
+is_about_names (asks.RemoveAclEntries src entries) = true
+is_about_names (asks.RemoveDefaultAcl src) = true
+is_about_names (asks.RemoveAcl src) = true
+is_about_names (asks.SetAcl src entries) = true
+is_about_names ask = false

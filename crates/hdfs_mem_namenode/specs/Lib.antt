@@ -1,7 +1,11 @@
 pub mod Adding
 pub mod Answering
+pub mod Changing
+pub mod Listing
+pub mod Looking
 pub mod Memory
 pub mod Pipelines
+pub mod Rows
 pub mod Soundness
 pub mod Spaces
 pub mod Totals

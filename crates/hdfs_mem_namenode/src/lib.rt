@@ -6,10 +6,14 @@ mod appending;
 mod blocks;
 mod closing;
 mod creating;
+mod listing;
+mod looking;
 mod namenode;
+mod names;
 mod namespace;
 mod pipelines;
 mod totals;
 
 pub use namenode::{STANDBY, exception, last_answer};
+pub use names::is_about_names;
 pub use namespace::Namespace;

@@ -1,5 +1,5 @@
 -- The active namenode answers each ask by its row.
-use Rattle.std.proofs.Common.{inl, ℕ, true, List, Some, Ok, Err, sym, ◌∙◌, ap, subst}
+use Rattle.std.proofs.Common.{inl, inr, refl, ℕ, true, List, Some, Ok, Err, sym, ◌∙◌, ap, subst}
 use Rattle.std.proofs.lemmas.Result.{err_from_is_err_and}
 use Rattle.std.specs.BTreeMap.{get_by_text}
 use Rattle.hdfs_cluster.specs.declared.asks.Ask.{Ask}
@@ -9,6 +9,7 @@ use Rattle.hdfs_cluster.specs.Namenode.{IsShaped}
 use Rattle.hdfs_cluster.specs.Picture.{kinds_in}
 use Rattle.hdfs_mem_namenode.specs.Answering.{Answers, LocatesFile, StandsForRefusal}
 use Rattle.hdfs_mem_namenode.specs.Memory.{table_of}
+use Rattle.hdfs_mem_datanodes.specs.Nodes.{held_in}
 use Rattle.hdfs_mem_cluster.specs.MemShown.{picture_at}
 use Rattle.hdfs_mem_namenode.proofs.Answering.{answers_found, answers_excused, answers_stamped, answers_not_stamped, same_picture, shaped_found}
 use Rattle.hdfs_mem_cluster.proofs.Written.{answers_added, answers_not_added, answers_completed, answers_not_completed, same_parts}
@@ -123,3 +124,12 @@ returns-in_ok-block-in-UpdateBlockForPipeline-clause-responds c = λ links.
     let same = same_parts c.args.space.now c.update_block_for_pipeline.new.self c.args.nodes.now config.settings links c.update_block_for_pipeline.ensures.same in
     inl (subst (λ (ask : Ask). Answers p c.args.i ask (Ok (answers.UpdateBlockForPipeline block)) q) (sym e.is)
     (answers_stamped p q c.args.i c.if-i-known.false e.block e.client_name block c.in_ok-block-in-UpdateBlockForPipeline.ensures.stamp same))
+
+pub returns-then-is_about_names-clause-responds : goal.returns-then-is_about_names-clause-responds
+returns-then-is_about_names-clause-responds c = λ links.
+    inr (inr (record {
+      here = c.if-i-known.false;
+      active = refl;
+      bytes = record { held = λ node id. refl; defaults = refl; reads = λ link. refl; writes = λ link. refl };
+      row = c.answer_names.ensures.answers (held_in c.args.nodes.now);
+    }))

@@ -1,0 +1,180 @@
+//! What stands in a directory of a cluster in memory, page by page.
+ghost use Rattle.std.specs.Prelude.{◌≡◌, true, IsSome, ◌++◌, ◌∷◌, ℕ, List, [], false, Some, None, string_bytes, IfOk, IfErr, MatchOption};
+ghost use Rattle.std.specs.BTreeMap.{get_by_text};
+ghost use Rattle.std.specs.List.{list_any};
+ghost use Rattle.hdfs_cluster.specs.declared.messages.FileStatusMsg.{FileStatusMsg};
+ghost use Rattle.hdfs_cluster.specs.Picture.{kinds_in};
+ghost use Rattle.hdfs_names.specs.Paths.{is_slash};
+ghost use Rattle.hdfs_mem_namenode.specs.Answering.{StandsForWritten};
+ghost use Rattle.hdfs_mem_namenode.specs.Listing.{CountsBehind, IsNext, IsPage, Lists, NoneBehind, front_of, is_before};
+ghost use Rattle.hdfs_mem_namenode.specs.Looking.{TellsOf, above_refusal};
+ghost use Rattle.hdfs_mem_namenode.specs.Memory.{table_of};
+
+use crate::namenode::exception;
+use crate::namespace::Namespace;
+use hdfs_cluster::{AskFault, DirList, Entry};
+use hdfs_wire::{List, NoMemory};
+use std::alloc::Global;
+use std::collections::BTreeMap;
+
+/// How many entries a page has at most.
+const PAGE: usize = 1000;
+
+/// What the paths in a directory begin with.
+pub(crate) fn front_of(alloc: Global, dir: &str) -> Result<String, NoMemory>
+    ensures { IfOk result (λ front. string_bytes front ≡ front_of dir.now) }
+{
+    let mut front = String::from_str(alloc, dir)?;
+    if dir != "/" {
+        front.push_str("/")?;
+    }
+    Ok(front)
+}
+
+/// Two texts, one behind the other.
+fn joined(alloc: Global, front: &str, back: &str) -> Result<String, NoMemory>
+    ensures { IfOk result (λ text. string_bytes text ≡ front.now ++ back.now) }
+{
+    let mut text = String::from_str(alloc, front)?;
+    text.push_str(back)?;
+    Ok(text)
+}
+
+/// What stands before the first slash of a text, if it has one.
+fn first_part(text: &str) -> Option<&str>
+    ensures { MatchOption result (list_any is_slash text.now ≡ false) (λ part. (rest : List ℕ) × (text.now ≡ part.now ++ 47 ∷ rest)) }
+{
+    match text.split_once('/') {
+        None => None,
+        Some((part, _)) => Some(part),
+    }
+}
+
+/// What stands behind the front of a path, if it begins so.
+fn behind<'a>(path: &'a str, front: &str) -> Option<&'a str>
+    ensures { MatchOption result ((rest : List ℕ) → path.now ≡ front.now ++ rest → ⊥) (λ rest. path.now ≡ front.now ++ rest.now) }
+{
+    path.strip_prefix(front)
+}
+
+/// What stands in a directory: its path, its name there, and what it is.
+#[derive(Clone, Copy)]
+struct Child<'a> {
+    path: &'a str,
+    name: &'a str,
+    entry: &'a Entry,
+}
+
+/// The first path that doesn't stand before this text, byte by byte, and what stands there.
+fn first_from<'a>(
+    names: &'a BTreeMap<String, Entry>,
+    start: &String,
+) -> Option<(&'a str, &'a Entry)>
+    ensures { MatchOption result ((q : List ℕ) → IsSome (get_by_text names.now q) → is_before q (string_bytes start.now) ≡ true)
+        (λ found. (get_by_text names.now found.0.now ≡ Some found.1.now) × (is_before found.0.now (string_bytes start.now) ≡ false)
+        × ((q : List ℕ) → IsSome (get_by_text names.now q) → is_before q (string_bytes start.now) ≡ false → is_before q found.0.now ≡ false)) }
+{
+    match names.range(start..).next() {
+        None => None,
+        Some((path, entry)) => Some((path.as_str(), entry)),
+    }
+}
+
+impl Namespace {
+    /// What stands in the directory whose paths begin so, by the first name behind this one. What lies in its directories is passed over.
+    fn next_child(
+        &self,
+        alloc: Global,
+        front: &str,
+        after: &str,
+    ) -> Result<Option<Child<'_>>, NoMemory>
+        ensures { IfOk result (λ next. MatchOption next (NoneBehind (get_by_text self.now.names) front.now after.now)
+            (λ child. (child.path.now ≡ front.now ++ child.name.now) × (get_by_text self.now.names child.path.now ≡ Some child.entry.now)
+            × IsNext (get_by_text self.now.names) front.now after.now child.name.now)) }
+    {
+        let mut start = joined(alloc, front, after)?;
+        start.push_str("\0")?;
+        while let Some((path, entry)) = first_from(&self.names, &start) {
+            let Some(name) = behind(path, front) else {
+                return Ok(None);
+            };
+            let Some(part) = first_part(name) else {
+                return Ok(Some(Child { path, name, entry }));
+            };
+            start = joined(alloc, front, part)?;
+            start.push_str("0")?;
+        }
+        Ok(None)
+    }
+
+    /// How many names in the directory whose paths begin so stand behind this one.
+    fn count_behind(&self, alloc: Global, front: &str, after: &str) -> Result<u32, NoMemory>
+        ensures { IfOk result (CountsBehind (get_by_text self.now.names) front.now after.now) }
+    {
+        let mut last = after;
+        let mut count: u32 = 0;
+        while let Some(child) = self.next_child(alloc, front, last)? {
+            let Some(more) = count.checked_add(1) else {
+                return Err(NoMemory);
+            };
+            count = more;
+            last = child.name;
+        }
+        Ok(count)
+    }
+
+    /// The page of a directory behind a name.
+    fn page(&self, alloc: Global, dir: &str, from: &str) -> Result<DirList, NoMemory>
+        ensures { IfOk result (IsPage (get_by_text self.now.names) (table_of self.now.table.entries) dir.now from.now) }
+    {
+        let front = front_of(alloc, dir)?;
+        let mut last = from;
+        let mut listing = Vec::new(alloc);
+        while listing.len() < PAGE {
+            let Some(child) = self.next_child(alloc, front.as_str(), last)? else {
+                return Ok(DirList {
+                    partial_listing: List::from_vec(listing),
+                    remaining_entries: 0,
+                });
+            };
+            listing.push(self.tell(alloc, child.path, child.entry, child.name)?)?;
+            last = child.name;
+        }
+        let remaining_entries = self.count_behind(alloc, front.as_str(), last)?;
+        Ok(DirList {
+            partial_listing: List::from_vec(listing),
+            remaining_entries,
+        })
+    }
+
+    /// What stands at a path, with no name.
+    fn only(&self, alloc: Global, src: &str, entry: &Entry) -> Result<DirList, NoMemory>
+        requires { get_by_text self.now.names src.now ≡ Some entry.now }
+        ensures { IfOk result (λ page. (page.remaining_entries ≡ 0)
+            × ((status : FileStatusMsg) × (page.partial_listing ≡ status ∷ [])
+            × TellsOf (get_by_text self.now.names) (table_of self.now.table.entries) src.now [] status)) }
+    {
+        let mut listing = Vec::new(alloc);
+        listing.push(self.tell(alloc, src, entry, "")?)?;
+        Ok(DirList {
+            partial_listing: List::from_vec(listing),
+            remaining_entries: 0,
+        })
+    }
+
+    /// What stands at a path, or in the directory there behind a name.
+    pub fn listing(&self, alloc: Global, src: &str, from: &str) -> Result<Option<DirList>, AskFault>
+        ensures lists { IfOk result (Lists (get_by_text self.now.names) (table_of self.now.table.entries) src.now from.now) }
+        ensures excused { IfErr result (StandsForWritten (kinds_in (get_by_text self.now.names) src.now)
+            (above_refusal (kinds_in (get_by_text self.now.names)) src.now)) }
+    {
+        match self.names.get(src) {
+            Some(Entry::Dir) => Ok(Some(self.page(alloc, src, from)?)),
+            Some(entry) => Ok(Some(self.only(alloc, src, entry)?)),
+            None => match self.above(src) {
+                Some(class) => Err(exception(alloc, class)?),
+                None => Ok(None),
+            },
+        }
+    }
+}
