@@ -1,0 +1,4 @@
+pub mod Leading
+pub mod Asking
+pub mod Renaming
+pub mod Numbers
