@@ -2,3 +2,4 @@ pub mod Leading
 pub mod Asking
 pub mod Renaming
 pub mod Numbers
+pub mod Building

@@ -33,6 +33,14 @@ addresses_of client = client.addresses.items
 abbrev pub replacement_of : Client → ReplaceDatanodeOnFailure
 replacement_of client = client.replacement
 
+-- it has these parts
+pub record HasParts (mounts : MountTable) (services : List NamenodeProtocol) (addresses : List NamenodeAddress) (replacement : ReplaceDatanodeOnFailure)
+    (client : Client) : Type 0 where
+  pub its_mounts : mounts_of client ≡ mounts
+  pub its_services : services_of client ≡ services
+  pub its_addresses : addresses_of client ≡ addresses
+  pub its_replacement : replacement_of client ≡ replacement
+
 -- where a path leads: the first mount that matches it, and what it is called there
 abbrev pub leads_to : Client → List ℕ → Option Resolved
 leads_to client src = first_match client.mounts.fallback 0 client.mounts.mounts (absolute client.mounts.home_dir src)

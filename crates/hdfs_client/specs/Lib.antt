@@ -3,3 +3,6 @@ pub mod Clients
 pub mod Calls
 pub mod Statuses
 pub mod Acls
+pub mod Places
+pub mod Services
+pub mod Building

@@ -1,10 +1,11 @@
 //! A client: where paths lead, and the services that it asks.
-ghost use Rattle.std.specs.Prelude.{◌≡◌, ◌↔◌, ◌<◌, true, [], length, Some, IfOk, IsTrue, vec_len};
-ghost use Rattle.hdfs_client.specs.Linked.{are_linked, is_rooted};
+ghost use Rattle.std.specs.Prelude.{◌≡◌, ◌↔◌, ◌<◌, true, [], length, Some, is_some, IfOk, IfSome, IsTrue, vec_len};
+ghost use Rattle.std.specs.List.{list_all};
+ghost use Rattle.hdfs_client.specs.Linked.{are_linked, is_linked, is_nothing, is_rooted, is_table};
 
 use hdfs_cluster::Cluster;
 use hdfs_namenode::NamenodeProtocol;
-use hdfs_names::{MountTable, NamenodeAddress, ReplaceDatanodeOnFailure, Resolved};
+use hdfs_names::{MountLink, MountTable, NamenodeAddress, ReplaceDatanodeOnFailure, Resolved};
 use hdfs_wire::NoMemory;
 use std::alloc::Global;
 
@@ -22,7 +23,34 @@ pub struct Client {
 }
 
 impl Client {
-    ghost use Rattle.hdfs_client.specs.Clients.{AreServicesOf, IsClientOf, addresses_of, leads_to, services_of};
+    ghost use Rattle.hdfs_client.specs.Clients.{AreServicesOf, HasParts, IsClientOf, addresses_of, leads_to, services_of};
+
+    /// The client with these mounts, which lead to these services by their numbers, and the addresses of all namenodes of these, in order. It
+    /// takes no memory.
+    ///
+    /// None where a path could lead nowhere: the home directory doesn't begin with a slash, the viewfs path of the fallback isn't empty, or
+    /// a link or the fallback leads to a service that isn't there.
+    pub fn from_parts(
+        alloc: Global,
+        mounts: MountTable,
+        services: Vec<NamenodeProtocol>,
+        addresses: Vec<NamenodeAddress>,
+        replacement: ReplaceDatanodeOnFailure,
+    ) -> Option<Client>
+        ensures some { IfSome result (HasParts mounts services.items addresses.items replacement) }
+        ensures when { is_some result ≡ is_table (vec_len services) mounts }
+    {
+        if !is_table(&mounts, services.len()) {
+            return None;
+        }
+        Some(Client {
+            alloc,
+            mounts,
+            services,
+            addresses,
+            replacement,
+        })
+    }
 
     /// The addresses of its namenodes, one service behind another. A cluster that it asks has to have just these, in this order.
     pub fn namenodes(&self) -> &[NamenodeAddress]
@@ -63,4 +91,41 @@ impl Client {
     {
         self.mounts.resolve(self.alloc, src)
     }
+}
+
+/// Whether a path always leads to one of so many services.
+fn is_table(table: &MountTable, many: usize) -> bool
+    ensures { result ≡ is_table many table.now }
+{
+    is_rooted(table.home_dir.as_str())
+        && is_nothing(table.fallback.viewfs_path.as_str())
+        && table.fallback.service < many
+        && are_linked(table.mounts.as_slice(), many)
+}
+
+/// Whether a text is empty.
+fn is_nothing(text: &str) -> bool
+    ensures { result ≡ is_nothing text.now }
+{
+    match text.as_bytes() {
+        [] => true,
+        [_, ..] => false,
+    }
+}
+
+/// Whether a text begins with a slash.
+fn is_rooted(text: &str) -> bool
+    ensures { result ≡ is_rooted text.now }
+{
+    match text.as_bytes() {
+        [first, ..] => *first == b'/',
+        [] => false,
+    }
+}
+
+/// Whether each link leads to one of so many services.
+fn are_linked(links: &[MountLink], many: usize) -> bool
+    ensures { result ≡ list_all (is_linked many) links.now }
+{
+    links.iter().all(|link| link.service < many)
 }

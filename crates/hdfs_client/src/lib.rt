@@ -4,11 +4,18 @@
 mod acl_messages;
 mod acls;
 mod attributes;
+mod build_error;
+mod builder;
 mod client;
+mod constructors;
 mod errors;
 mod paths;
+mod places;
+mod service_plan;
 mod status;
 
+pub use build_error::BuildError;
+pub use builder::ClientBuilder;
 pub use client::Client;
 pub use errors::ClientError;
 pub use status::FileStatus;
