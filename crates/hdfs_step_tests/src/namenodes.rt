@@ -4,8 +4,8 @@ mod asking;
 mod calling;
 mod case;
 mod changing;
-mod fake_namenodes;
+pub(crate) mod fake_namenodes;
 mod keeping;
-mod telling;
+pub(crate) mod telling;
 
 pub(crate) use case::Case;

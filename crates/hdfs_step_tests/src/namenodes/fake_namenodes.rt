@@ -4,8 +4,8 @@ ghost use Rattle.hdfs_cluster.specs.Namenode.{IsFailure, IsFalse, IsShaped, last
 ghost use Rattle.hdfs_step_tests.specs.Namenodes.{GivesNone};
 
 use hdfs_cluster::{
-    AclStatusMsg, Answer, Ask, AskFault, Cluster, EncryptionKey, LastAnswer, LinkFault, OpenRead,
-    OpenWrite, ReadAsk, ServerDefaults, Setup, Summary, Transfer,
+    AclStatusMsg, Answer, Ask, AskFault, Cluster, EncryptionKey, FileStatusMsg, LastAnswer,
+    LinkFault, OpenRead, OpenWrite, ReadAsk, ServerDefaults, Setup, Summary, Transfer,
 };
 use hdfs_wire::{
     Ack, Blob, ChecksumInfo, List, NoMemory, ReadPacket, Text, WireFault, WritePacket,
@@ -158,6 +158,28 @@ const SUMMARY: Summary = Summary {
     space_quota: 0,
 };
 
+/// What stands at a path: a file of 2^32 + 5 bytes at `/y/there`, and nothing elsewhere.
+fn stands_at(alloc: Global, path: &str) -> Option<FileStatusMsg> {
+    if path != "/y/there" {
+        return None;
+    }
+    Some(FileStatusMsg {
+        file_type: 2,
+        path: Blob::new(alloc),
+        length: 4_294_967_301,
+        permission: 0o200_644,
+        owner: Text::new(alloc),
+        group: Text::new(alloc),
+        modification_time: 11,
+        access_time: 12,
+        block_replication: Some(3),
+        blocksize: Some(8),
+        file_id: None,
+        encryption: None,
+        namespace: None,
+    })
+}
+
 /// What a namenode in this state answers, where it does.
 fn answer_of(alloc: Global, state: u32, encrypts: bool, ask: &Ask) -> Option<Answer>
     ensures { IfSome result (λ answer. IsShaped ask.now answer × (IsFalse answer → ⊥)) }
@@ -181,7 +203,7 @@ fn path_answer(alloc: Global, ask: &Ask) -> Option<Answer>
     ensures { IfSome result (λ answer. IsShaped ask.now answer × (IsFalse answer → ⊥)) }
 {
     match ask {
-        Ask::GetFileInfo { .. } => Some(Answer::GetFileInfo(None)),
+        Ask::GetFileInfo { src } => Some(Answer::GetFileInfo(stands_at(alloc, src.as_str()))),
         Ask::GetListing { .. } => Some(Answer::GetListing(None)),
         Ask::Mkdirs { .. } => Some(Answer::Mkdirs(true)),
         Ask::Rename { .. } => Some(Answer::Rename),

@@ -1,7 +1,7 @@
 //! Answers and errors in words.
 use crate::namenodes::fake_namenodes::name_of;
 use crate::steps::Said;
-use hdfs_cluster::{HdfsError, IoFault};
+use hdfs_cluster::{ArgFault, HdfsError, IoFault};
 
 /// The numbers by which asks are told.
 pub(crate) fn tell_asked(asked: &[u32], said: &mut Said) {
@@ -37,6 +37,11 @@ pub(crate) fn tell_error(error: &HdfsError, said: &mut Said) {
             said.word(message.as_str());
         }
         HdfsError::NoMemory => said.fails("NoMemory"),
+        HdfsError::FileNotFound(path) => {
+            said.fails("FileNotFound");
+            said.word(path.as_str());
+        }
+        HdfsError::InvalidArgument(ArgFault::Options) => said.fails("Options"),
         HdfsError::IOError(IoFault::Namenode { last }) => {
             said.fails("IOError");
             said.word(name_of(*last));

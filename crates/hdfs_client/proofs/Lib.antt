@@ -1,0 +1,5 @@
+pub mod Leading
+pub mod Asking
+pub mod Renaming
+pub mod Numbers
+pub mod Building

@@ -1,0 +1,38 @@
+//! Errors of a client.
+ghost use Rattle.std.specs.Prelude.{◌≡◌};
+ghost use Rattle.hdfs_client.specs.declared.errors.ClientError.TheVariants as client_errors;
+ghost use Rattle.hdfs_cluster.specs.declared.errors.HdfsError.TheVariants as errors;
+
+use hdfs_cluster::HdfsError;
+use hdfs_wire::NoMemory;
+use thiserror::Error;
+
+/// Why a call of a client failed that has more causes than an ask has.
+#[derive(Debug, Drop, Error)]
+pub enum ClientError {
+    /// What an ask of a namenode comes to, and want of memory.
+    #[error("{}", .0)]
+    Hdfs(HdfsError),
+    /// The two paths lead through different mounts.
+    #[error("invalid argument: OtherService")]
+    OtherService,
+    /// There are more entries than this.
+    #[error("invalid argument: TooMany")]
+    TooMany { limit: u64 },
+}
+
+impl From<HdfsError> for ClientError {
+    ghost from_gives = { λ error e. e ≡ client_errors.Hdfs error };
+
+    fn from(error: HdfsError) -> Self {
+        ClientError::Hdfs(error)
+    }
+}
+
+impl From<NoMemory> for ClientError {
+    ghost from_gives = { λ _ e. e ≡ client_errors.Hdfs errors.NoMemory };
+
+    fn from(_: NoMemory) -> Self {
+        ClientError::Hdfs(HdfsError::NoMemory)
+    }
+}

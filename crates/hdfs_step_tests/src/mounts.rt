@@ -1,0 +1,7 @@
+//! Steps of a client with mounts, over three namenodes that give what they are told to give.
+
+mod asking;
+mod case;
+mod changing;
+
+pub(crate) use case::Case;
