@@ -5,7 +5,7 @@ usage: bench/pairs.py PROGRAM
   PROGRAM  the built program hdfs_bench
 
 Packets of a byte go to a node in memory: 10,000 with a window of 1,000, by two threads and by one; 1,000 and 100,000 by
-two. 2,000 go to a node whose acknowledgements come 50 microseconds late, with a window of 1 and of 100.
+two, with a window of 100. 2,000 go to a node whose acknowledgements come 50 microseconds late, with a window of 1 and of 100.
 Each run is made fifteen times, by turns, and the fastest counts: in processor seconds of the process, and by the clock.
 """
 import os
@@ -17,8 +17,8 @@ RUNS = 15
 RUNS_OF = {
     "pair": ("pair", 10_000, 1_000),
     "alone": ("turns", 10_000, 1_000),
-    "few": ("pair", 1_000, 1_000),
-    "many": ("pair", 100_000, 1_000),
+    "few": ("pair", 1_000, 100),
+    "many": ("pair", 100_000, 100),
     "in turn": ("late", 2_000, 1),
     "windowed": ("late", 2_000, 100),
     "start": ("pair", 1, 1),

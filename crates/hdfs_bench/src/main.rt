@@ -1,7 +1,8 @@
 //! Runs the code of the libraries as often as the words say, to time it, and prints a number that came of it.
 //!
 //! Words: `crc32c SIZE TIMES`, `crc32 SIZE TIMES`, `frames COUNT PIECE`, `packets SIZE TIMES`, `checks SIZE TIMES`,
-//! `stars STARS LENGTH`, `products FIRST TIMES`, `quotients FIRST TIMES`, `pipeline WINDOW TIMES`, `pair`, `turns` or `late` with `COUNT WINDOW`,
+//! `stars STARS LENGTH`, `products FIRST TIMES`, `quotients FIRST TIMES`, `pipeline WINDOW TIMES`,
+//! `pair`, `turns` or `late` with `COUNT WINDOW`,
 //! `files_0`, `files_1`, `files_2` or `files_3` with `COUNT SIZE`, or `encode` or `decode` with a code, as in
 //! `encode_6_3 SIZE TIMES`, the code being one of `_3_2`, `_6_3` and `_10_4`.
 #![tactic(auto)]
