@@ -87,6 +87,8 @@ class_for_names : (old : Space) (ask : Ask) (class : List ℕ) → NamesRefusal 
 class_for_names old (asks.GetFileInfo src) class h = class_for_any _ _ class h
 class_for_names old (asks.GetListing src from located) class h = ⊎_elim (class_for_any _ _ class) (λ bad. same_class class _ bad refl) h
 class_for_names old (asks.GetAclStatus src) class h = class_for_any _ _ class h
+class_for_names old (asks.Mkdirs src masked parents) class h = class_for_any (Some Directory) _ class h
+class_for_names old (asks.Delete src recursive) class h = ⊎_elim (class_for_any _ _ class) (λ full. same_class class _ full.1 refl) h
 class_for_names old ask class h = class_for_any _ _ class h.2
 
 about_fine : (p q : Picture) (i : ℕ) (ask : Ask) (result : Result Answer AskFault) → AnswersAbout p i ask result q → is_failure result ≡ false

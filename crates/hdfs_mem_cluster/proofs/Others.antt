@@ -27,6 +27,8 @@ answers_other p i (asks.UpdatePipeline client block block' nodes ids) here other
 answers_other p i (asks.GetFileInfo src) here other unnamed = absurd (false≢true (sym unnamed))
 answers_other p i (asks.GetListing src from located) here other unnamed = absurd (false≢true (sym unnamed))
 answers_other p i (asks.GetAclStatus src) here other unnamed = absurd (false≢true (sym unnamed))
+answers_other p i (asks.Mkdirs src masked parents) here other unnamed = absurd (false≢true (sym unnamed))
+answers_other p i (asks.Delete src recursive) here other unnamed = absurd (false≢true (sym unnamed))
 answers_other p i (asks.SetTimes src mtime atime) here other unnamed = absurd (false≢true (sym unnamed))
 answers_other p i (asks.SetOwner src owner group) here other unnamed = absurd (false≢true (sym unnamed))
 answers_other p i (asks.ModifyAclEntries src entries) here other unnamed = absurd (false≢true (sym unnamed))

@@ -1,8 +1,10 @@
 pub mod Answering
 pub mod Apart
+pub mod Below
 pub mod Bytes
 pub mod Barring
 pub mod Children
+pub mod Within
 pub mod Directories
 pub mod EachOnce
 pub mod FileChanges
@@ -10,9 +12,11 @@ pub mod Fronts
 pub mod Keys
 pub mod Locating
 pub mod Naming
+pub mod NewDirectories
 pub mod NewFiles
 pub mod Numbers
 pub mod Pages
+pub mod Removing
 pub mod Rows
 pub mod Sizing
 pub mod Sums

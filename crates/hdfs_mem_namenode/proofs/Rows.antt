@@ -1,5 +1,5 @@
 -- What an ask about names is answered, and that a cluster may answer so: all that an answer changes are names and blocks.
-use Rattle.std.proofs.Common.{◌≡◌, inl, inr, ⊎_elim, ℕ, true, false, List, [], Option, Some, None, Result, Ok, Err, IsErr, refl, sym, ◌∙◌, ap, subst}
+use Rattle.std.proofs.Common.{◌≡◌, inl, inr, ⊎_elim, ℕ, Bool, true, false, List, [], Option, Some, None, Result, Ok, Err, IsErr, refl, sym, ◌∙◌, ap, subst}
 use Rattle.std.proofs.lemmas.Bool.{false≢true}
 use Rattle.hdfs_cluster.specs.declared.asks.Ask.{Ask}
 use Rattle.hdfs_cluster.specs.declared.asks.Ask.TheVariants as asks
@@ -9,11 +9,12 @@ use Rattle.hdfs_cluster.specs.declared.asks.AskFault.{AskFault}
 use Rattle.hdfs_cluster.specs.declared.asks.AskFault.TheVariants as faults
 use Rattle.hdfs_cluster.specs.declared.picture.Entry.{Entry}
 use Rattle.hdfs_cluster.specs.Effects.{KeepsBytes}
+use Rattle.hdfs_cluster.specs.Files.{Directory}
 use Rattle.hdfs_cluster.specs.Namenode.{IsOwnOf, ServesTold, StandsForAny}
 use Rattle.hdfs_cluster.specs.Picture.{Picture, SameButActive, SamePicture, kinds_in}
 use Rattle.hdfs_mem_namenode.specs.Adding.{Space}
-use Rattle.hdfs_mem_namenode.specs.Answering.{AnswersAbout, space_in}
-use Rattle.hdfs_mem_namenode.specs.Changing.{SameSpace}
+use Rattle.hdfs_mem_namenode.specs.Answering.{AnswersAbout, StandsForWritten, space_in}
+use Rattle.hdfs_mem_namenode.specs.Changing.{SameSpace, StandsForKept, mkdirs_refusal}
 use Rattle.hdfs_mem_namenode.specs.Looking.{look_refusal}
 use Rattle.hdfs_mem_namenode.specs.Rows.{AnswersNames, NamesRefusal, NamesRow, still_answer, still_path}
 
@@ -26,13 +27,33 @@ module _ (old : Space) (src : List ℕ) where
   still_row (asks.GetFileInfo path) at entry is = absurd (cc)
   still_row (asks.GetListing path from located) at entry is = absurd (cc)
   still_row (asks.GetAclStatus path) at entry is = absurd (cc)
+  still_row (asks.Mkdirs path masked parents) at entry is = absurd (cc)
+  still_row (asks.Delete path recursive) at entry is = absurd (cc)
   still_row ask at entry is = record { src = src; asked = at; entry = entry; is = is; answered = refl; same = same_space old }
 
   pub still_refused : (ask : Ask) (class : List ℕ) → still_path ask ≡ Some src → StandsForAny (kinds_in old.names src) (look_refusal (kinds_in old.names) src) class → NamesRefusal old ask class
   still_refused (asks.GetFileInfo path) class at stands = absurd (cc)
   still_refused (asks.GetListing path from located) class at stands = absurd (cc)
   still_refused (asks.GetAclStatus path) class at stands = absurd (cc)
+  still_refused (asks.Mkdirs path masked parents) class at stands = absurd (cc)
+  still_refused (asks.Delete path recursive) class at stands = absurd (cc)
   still_refused ask class at stands = (src, at, stands)
+
+-- what refuses a directory, or keeps one
+module _ (old new : Space) (same : SameSpace old new) (src : List ℕ) where
+  pub err_made : (masked : ℕ) (parents : Bool) (fault : AskFault) → StandsForWritten (Some Directory) (mkdirs_refusal (kinds_in old.names) src parents) fault → AnswersNames old (asks.Mkdirs src masked parents) (Err fault) new
+  err_made masked parents faults.NoMemory h = same
+  err_made masked parents faults.Broken h = absurd h
+  err_made masked parents (faults.BadReply fault) h = absurd h
+  err_made masked parents (faults.Exception class message) h = (h.1, same, h.0)
+  err_made masked parents (faults.Fatal class message) h = absurd h
+
+  pub err_kept : (recursive : Bool) (fault : AskFault) → StandsForKept old.names src recursive fault → AnswersNames old (asks.Delete src recursive) (Err fault) new
+  err_kept recursive faults.NoMemory h = same
+  err_kept recursive faults.Broken h = absurd h
+  err_kept recursive (faults.BadReply fault) h = absurd h
+  err_kept recursive (faults.Exception class message) h = (h.1, same, h.0)
+  err_kept recursive (faults.Fatal class message) h = absurd h
 
 -- where no answer comes, nothing changed
 module _ (p q : Picture) (bytes : KeepsBytes p q) (active : q.active ≡ p.active) where
@@ -111,6 +132,8 @@ row_closed : (old new : Space) (ask : Ask) → NamesRow old ask (answers.Complet
 row_closed old new (asks.GetFileInfo src) h = (let is = h.asked in absurd (cc))
 row_closed old new (asks.GetListing src from located) h = (let is = h.asked in absurd (cc))
 row_closed old new (asks.GetAclStatus src) h = (let is = h.asked in absurd (cc))
+row_closed old new (asks.Mkdirs src masked parents) h = (let is = h.asked in absurd (cc))
+row_closed old new (asks.Delete src recursive) h = (let is = h.asked in absurd (cc))
 row_closed old new ask h = still_closed ask h.answered
 
 pub about_not_false : (p q : Picture) (i : ℕ) (ask : Ask) (answer : Answer) → AnswersAbout p i ask (Ok answer) q → answer ≡ answers.Complete false → ⊥

@@ -73,6 +73,8 @@ IsUnknown (asks.UpdatePipeline client block block' nodes ids) = ⊥
 IsUnknown (asks.GetFileInfo src) = ⊥
 IsUnknown (asks.GetListing src from located) = ⊥
 IsUnknown (asks.GetAclStatus src) = ⊥
+IsUnknown (asks.Mkdirs src masked parents) = ⊥
+IsUnknown (asks.Delete src recursive) = ⊥
 IsUnknown (asks.SetTimes src mtime atime) = ⊥
 IsUnknown (asks.SetOwner src owner group) = ⊥
 IsUnknown (asks.ModifyAclEntries src entries) = ⊥
@@ -119,6 +121,8 @@ abbrev pub is_about_names : Ask → Bool
 is_about_names (asks.GetFileInfo src) = true
 is_about_names (asks.GetListing src from located) = true
 is_about_names (asks.GetAclStatus src) = true
+is_about_names (asks.Mkdirs src masked parents) = true
+is_about_names (asks.Delete src recursive) = true
 is_about_names (asks.SetTimes src mtime atime) = true
 is_about_names (asks.SetOwner src owner group) = true
 is_about_names (asks.ModifyAclEntries src entries) = true

@@ -7,10 +7,11 @@ use Rattle.hdfs_cluster.specs.declared.asks.Answer.TheVariants as answers
 use Rattle.hdfs_cluster.specs.declared.asks.AskFault.{AskFault}
 use Rattle.hdfs_cluster.specs.declared.asks.AskFault.TheVariants as faults
 use Rattle.hdfs_cluster.specs.declared.picture.Entry.{Entry}
+use Rattle.hdfs_cluster.specs.Files.{Directory}
 use Rattle.hdfs_cluster.specs.Namenode.{StandsForAny}
 use Rattle.hdfs_cluster.specs.Picture.{kinds_in}
 use Rattle.hdfs_mem_namenode.specs.Adding.{Space}
-use Rattle.hdfs_mem_namenode.specs.Changing.{SameSpace}
+use Rattle.hdfs_mem_namenode.specs.Changing.{DeletesOrNot, IsNotEmpty, MakesDirectory, SameSpace, mkdirs_refusal, not_empty}
 use Rattle.hdfs_mem_namenode.specs.Listing.{Lists}
 use Rattle.hdfs_mem_namenode.specs.Looking.{Informs, TellsAcl, above_refusal, look_refusal}
 
@@ -44,11 +45,19 @@ pub record StandsStill (old : Space) (ask : Ask) (answer : Answer) (new : Space)
   pub answered : answer ≡ still_answer ask
   pub same : SameSpace old new
 
+-- What stood at a path and below it is deleted, or not. What datanodes hold stays.
+pub record Deletes (old : Space) (src : List ℕ) (recursive deleted : Bool) (new : Space) : Type 0 where
+  pub done : DeletesOrNot old.names old.table src recursive new.names new.table deleted
+  pub held : (node : List ℕ) (id : ℕ) → new.held node id ≡ old.held node id
+
 -- the row of an ask about names
 abbrev pub NamesRow : Space → Ask → Answer → Space → Type 0
 NamesRow old (asks.GetFileInfo src) (answers.GetFileInfo status) new = Informs old.names old.table src status × SameSpace old new
 NamesRow old (asks.GetListing src from located) (answers.GetListing page) new = Lists old.names old.table src from page × SameSpace old new
 NamesRow old (asks.GetAclStatus src) (answers.GetAclStatus status) new = TellsAcl old.names src status × SameSpace old new
+NamesRow old (asks.Mkdirs src masked parents) (answers.Mkdirs true) new =
+    (mkdirs_refusal (kinds_in old.names) src parents ≡ None) × MakesDirectory old src new
+NamesRow old (asks.Delete src recursive) (answers.Delete deleted) new = Deletes old src recursive deleted new
 NamesRow old ask answer new = StandsStill old ask answer new
 
 -- a name from which a directory is listed isn't UTF-8
@@ -68,6 +77,8 @@ abbrev pub NamesRefusal : Space → Ask → List ℕ → Type 0
 NamesRefusal old (asks.GetFileInfo src) class = IsAboveRefusal old src class
 NamesRefusal old (asks.GetListing src from located) class = IsAboveRefusal old src class ⊎ (class ≡ bad_argument)
 NamesRefusal old (asks.GetAclStatus src) class = IsLookRefusal old src class
+NamesRefusal old (asks.Mkdirs src masked parents) class = StandsForAny (Some Directory) (mkdirs_refusal (kinds_in old.names) src parents) class
+NamesRefusal old (asks.Delete src recursive) class = IsAboveRefusal old src class ⊎ (IsNotEmpty old.names src recursive × (class ≡ not_empty))
 NamesRefusal old ask class = (src : List ℕ) × (still_path ask ≡ Some src) × IsLookRefusal old src class
 
 -- The active namenode answers an ask about names by its row, or with an exception that has no message. For that, and for want of memory,

@@ -23,7 +23,7 @@ use hdfs_wire::{Blob, List, NoMemory, Text};
 use std::alloc::Global;
 use std::collections::BTreeMap;
 
-const ALREADY_EXISTS: &str = "org.apache.hadoop.fs.FileAlreadyExistsException";
+pub(crate) const ALREADY_EXISTS: &str = "org.apache.hadoop.fs.FileAlreadyExistsException";
 
 pub(crate) const BEING_CREATED: &str =
     "org.apache.hadoop.hdfs.protocol.AlreadyBeingCreatedException";
@@ -57,7 +57,7 @@ pub(crate) fn status(
 }
 
 /// Makes a directory of each path above this one at which nothing stands.
-fn make_parents(
+pub(crate) fn make_parents(
     alloc: Global,
     names: &mut BTreeMap<String, Entry>,
     path: &str,
@@ -110,7 +110,7 @@ fn name_file(
 }
 
 /// Takes blocks out of the table.
-fn unlist_all(table: &mut BTreeMap<u64, BlockEntry>, ids: &[u64])
+pub(crate) fn unlist_all(table: &mut BTreeMap<u64, BlockEntry>, ids: &[u64])
     ensures { (id : ℕ) → table_of table.new.entries id ≡ table_without (table_of table.old.entries) ids.now id }
 {
     for id in ids {
@@ -152,7 +152,7 @@ impl Namespace {
     }
 
     /// Whether the directory in which a path stands is missing, and isn't to be made.
-    fn lacks_parent(&self, src: &str, create_parent: bool) -> bool
+    pub(crate) fn lacks_parent(&self, src: &str, create_parent: bool) -> bool
         ensures { result ≡ (not create_parent && is_none (kinds_in (get_by_text self.now.names) (parent_of src.now))) }
     {
         !create_parent && !self.names.contains_key(parent_of(src))

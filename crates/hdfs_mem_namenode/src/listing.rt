@@ -51,7 +51,7 @@ fn first_part(text: &str) -> Option<&str>
 }
 
 /// What stands behind the front of a path, if it begins so.
-fn behind<'a>(path: &'a str, front: &str) -> Option<&'a str>
+pub(crate) fn behind<'a>(path: &'a str, front: &str) -> Option<&'a str>
     ensures { MatchOption result ((rest : List ℕ) → path.now ≡ front.now ++ rest → ⊥) (λ rest. path.now ≡ front.now ++ rest.now) }
 {
     path.strip_prefix(front)
@@ -66,7 +66,7 @@ struct Child<'a> {
 }
 
 /// The first path that doesn't stand before this text, byte by byte, and what stands there.
-fn first_from<'a>(
+pub(crate) fn first_from<'a>(
     names: &'a BTreeMap<String, Entry>,
     start: &String,
 ) -> Option<(&'a str, &'a Entry)>

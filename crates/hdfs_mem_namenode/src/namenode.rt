@@ -282,7 +282,7 @@ impl Namespace {
         false
     }
 
-    fn is_file(&self, path: &str) -> bool
+    pub(crate) fn is_file(&self, path: &str) -> bool
         ensures { result ≡ is_file (kinds_in (get_by_text self.now.names) path.now) }
     {
         match self.names.get(path) {

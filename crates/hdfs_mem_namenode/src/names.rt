@@ -25,6 +25,8 @@ pub fn is_about_names(ask: &Ask) -> bool
         Ask::GetFileInfo { .. }
             | Ask::GetListing { .. }
             | Ask::GetAclStatus { .. }
+            | Ask::Mkdirs { .. }
+            | Ask::Delete { .. }
             | Ask::SetTimes { .. }
             | Ask::SetOwner { .. }
             | Ask::ModifyAclEntries { .. }
@@ -128,10 +130,45 @@ impl Namespace {
         }
     }
 
+    /// `mkdirs`, whose permission isn't kept
+    fn answer_mkdirs(
+        &mut self,
+        alloc: Global,
+        src: &str,
+        masked: u32,
+        parents: bool,
+    ) -> Result<Answer, AskFault>
+        ensures answers { (held : List ℕ → ℕ → List ℕ)
+            → AnswersNames (space_with self.old held) (asks.Mkdirs src.now masked parents) result (space_with self.new held) }
+        ensures shape { IfOk result (IsShaped (asks.Mkdirs src.now masked parents)) }
+    {
+        match self.mkdirs(alloc, src, parents) {
+            Ok(()) => Ok(Answer::Mkdirs(true)),
+            Err(fault) => Err(fault),
+        }
+    }
+
+    /// `delete`
+    fn answer_delete(
+        &mut self,
+        alloc: Global,
+        src: &str,
+        recursive: bool,
+    ) -> Result<Answer, AskFault>
+        ensures answers { (held : List ℕ → ℕ → List ℕ)
+            → AnswersNames (space_with self.old held) (asks.Delete src.now recursive) result (space_with self.new held) }
+        ensures shape { IfOk result (IsShaped (asks.Delete src.now recursive)) }
+    {
+        match self.delete(alloc, src, recursive) {
+            Ok(deleted) => Ok(Answer::Delete(deleted)),
+            Err(fault) => Err(fault),
+        }
+    }
+
     /// What the active namenode answers to an ask about names.
-    pub fn answer_names(&self, alloc: Global, ask: &Ask) -> Result<Answer, AskFault>
+    pub fn answer_names(&mut self, alloc: Global, ask: &Ask) -> Result<Answer, AskFault>
         requires { spec.is_about_names ask.now ≡ true }
-        ensures answers { (held : List ℕ → ℕ → List ℕ) → AnswersNames (space_with self.now held) ask.now result (space_with self.now held) }
+        ensures answers { (held : List ℕ → ℕ → List ℕ) → AnswersNames (space_with self.old held) ask.now result (space_with self.new held) }
         ensures shape { IfOk result (IsShaped ask.now) }
     {
         match ask {
@@ -142,6 +179,12 @@ impl Namespace {
                 need_location,
             } => self.answer_listing(alloc, src.as_str(), start_after.as_slice(), *need_location),
             Ask::GetAclStatus { src } => self.answer_acl(alloc, src.as_str()),
+            Ask::Mkdirs {
+                src,
+                masked,
+                create_parent,
+            } => self.answer_mkdirs(alloc, src.as_str(), *masked, *create_parent),
+            Ask::Delete { src, recursive } => self.answer_delete(alloc, src.as_str(), *recursive),
             _ => self.answer_still(alloc, ask),
         }
     }
