@@ -6,3 +6,4 @@ pub mod Acls
 pub mod Places
 pub mod Services
 pub mod Building
+pub mod Listing

@@ -9,6 +9,7 @@ mod builder;
 mod client;
 mod constructors;
 mod errors;
+mod listing;
 mod paths;
 mod places;
 mod service_plan;

@@ -1,5 +1,5 @@
 //! A case: what steps are taken over.
-use crate::mounts::{asking, changing};
+use crate::mounts::{asking, building, changing};
 use crate::namenodes::fake_namenodes::{FakeNamenodes, Gives};
 use crate::namenodes::telling::tell_asked;
 use crate::steps::{Said, Stage, Words};
@@ -111,6 +111,9 @@ impl Stage for Case {
         match words[0] {
             "==" => self.begin(said),
             "asked" => tell_asked(self.namenodes.asked.as_slice(), said),
+            "build" => building::build(self.alloc, words[1], words[2], said),
+            "new" => building::new(self.alloc, words[1], said),
+            "construct" => building::construct(self.alloc, words[1], words[2], words[3], said),
             "parts" => {
                 said.number(self.client.services() as u64);
                 for namenode in self.client.namenodes() {
