@@ -6,11 +6,12 @@ use crate::memory::telling::tell_given;
 use crate::steps::{Said, Words, is_true, octal, small};
 use hdfs_cluster::{Ask, Cluster};
 use hdfs_mem_cluster::MemCluster;
-use hdfs_wire::{NoMemory, Text};
+use hdfs_wire::{Blob, NoMemory, Text};
 use std::alloc::Global;
 
 /// The ask of a step: for defaults, or to create a file (its flag, whether parents are made, its permission bits and its replication),
-/// to go on with one, or to close one that has no block.
+/// to go on with one, or to close one that has no block. Of those about names a listing has the name behind which it begins, `mkdirs`
+/// whether directories are made above, and `delete` whether all below goes too.
 fn ask_of(alloc: Global, words: &Words<'_>) -> Result<Ask, NoMemory> {
     let src = Text::from_str(alloc, words[3])?;
     let client_name = Text::new(alloc);
@@ -34,6 +35,27 @@ fn ask_of(alloc: Global, words: &Words<'_>) -> Result<Ask, NoMemory> {
             client_name,
             last: None,
             file_id: None,
+        },
+        "getFileInfo" => Ask::GetFileInfo { src },
+        "getListing" => Ask::GetListing {
+            src,
+            start_after: Blob::from_vec(Vec::from_slice(alloc, words[4].as_bytes())?),
+            need_location: false,
+        },
+        "getAclStatus" => Ask::GetAclStatus { src },
+        "mkdirs" => Ask::Mkdirs {
+            src,
+            masked: 0o755,
+            create_parent: is_true(words[4]),
+        },
+        "delete" => Ask::Delete {
+            src,
+            recursive: is_true(words[4]),
+        },
+        "setTimes" => Ask::SetTimes {
+            src,
+            mtime: 1,
+            atime: 1,
         },
         _ => Ask::GetServerDefaults,
     })

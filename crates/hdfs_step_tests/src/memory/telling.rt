@@ -1,8 +1,10 @@
 //! Answers and errors in words.
 use crate::steps::Said;
 use hdfs_cluster::{
-    Answer, AskFault, DatanodeInfo, HdfsError, LinkFault, LocatedBlock, LocatedBlocks,
+    Answer, AskFault, DatanodeInfo, DirList, FileStatusMsg, HdfsError, LinkFault, LocatedBlock,
+    LocatedBlocks,
 };
+use std::str;
 
 /// A client's error, by its name, and of a namenode's exception its class.
 pub(crate) fn tell_error(error: &HdfsError, said: &mut Said) {
@@ -32,11 +34,41 @@ fn tell_ask_fault(fault: &AskFault, said: &mut Said) {
     }
 }
 
-/// What a namenode gives: whether a file is closed, or that there are defaults or another answer, or why there is none.
+/// The type, the length and the permission bits of what stands at a path.
+fn tell_status(status: &Option<FileStatusMsg>, said: &mut Said) {
+    match status {
+        Some(status) => {
+            said.number(u64::from(status.file_type));
+            said.number(status.length);
+            said.octal(status.permission);
+        }
+        None => said.word("none"),
+    }
+}
+
+/// The names of a page, and how many come behind it.
+fn tell_page(page: &Option<DirList>, said: &mut Said) {
+    match page {
+        Some(page) => {
+            for status in page.partial_listing.as_slice() {
+                said.word(str::from_utf8(status.path.as_slice()).unwrap_or("?"));
+            }
+            said.number(u64::from(page.remaining_entries));
+        }
+        None => said.word("none"),
+    }
+}
+
+/// What a namenode gives: whether a file is closed, what stands at a path or in a directory, that there are defaults or another answer, or
+/// why there is none.
 pub(crate) fn tell_given(given: &Result<Answer, AskFault>, said: &mut Said) {
     match given {
         Ok(Answer::Complete(done)) => said.truth(*done),
         Ok(Answer::GetServerDefaults(_)) => said.word("defaults"),
+        Ok(Answer::GetFileInfo(status)) => tell_status(status, said),
+        Ok(Answer::GetListing(page)) => tell_page(page, said),
+        Ok(Answer::Mkdirs(done)) => said.truth(*done),
+        Ok(Answer::Delete(done)) => said.truth(*done),
         Ok(_) => said.word("answer"),
         Err(fault) => tell_ask_fault(fault, said),
     }
