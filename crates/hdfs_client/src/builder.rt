@@ -135,7 +135,8 @@ fn service_at<G: Rng>(
     place: &Place,
     rng: &mut G,
 ) -> Result<ServicePlan, BuildError>
-    ensures { Draws (spec.service_at (setting config.now) place.now.host place.now.port (G.stream rng.old)) result (G.stream rng.new) }
+    ensures { Draws (spec.service_at (setting config.now) place.now.host place.now.port (G.stream rng.old)) result
+        (G.stream rng.new) }
 {
     match &place.host {
         Some(host) => service_of(alloc, config, host.as_str(), place.port, rng),
@@ -151,7 +152,8 @@ fn home_at(
     place: &Place,
 ) -> Result<Text, BuildError>
     ensures ok { IfOk result (IsHome (home_root_of config.now place.now.scheme place.now.host) user.now) }
-    ensures when { IfOk result (λ home. is_absolute_or_empty (home_root_of config.now place.now.scheme place.now.host) ≡ true) }
+    ensures when { IfOk result (λ home. is_absolute_or_empty (home_root_of config.now place.now.scheme
+        place.now.host) ≡ true) }
     ensures rooted { IfOk result (λ home. is_rooted home ≡ true) }
     ensures err { IfErr result (λ e. (e ≡ build_errors.NoMemory)
         ⊎ ((e ≡ build_errors.Home) × (is_absolute_or_empty (home_root_of config.now place.now.scheme place.now.host) ≡ false))) }

@@ -87,7 +87,8 @@ impl Client {
 
     /// Where a path leads.
     pub(crate) fn resolve(&self, src: &str) -> Result<Resolved, NoMemory>
-        ensures { IfOk result (λ to. (leads_to self.now src.now ≡ Some to) × (to.service < vec_len self.now.services)) }
+        ensures { IfOk result (λ to. (leads_to self.now src.now ≡ Some to) ×
+            (to.service < vec_len self.now.services)) }
     {
         self.mounts.resolve(self.alloc, src)
     }
