@@ -22,8 +22,10 @@ impl Client {
         acl_spec: &[AclEntry],
     ) -> Result<(), HdfsError>
         requires client { IsClientOf self.old (C.shown cluster.old) }
-        requires allowed { LetsAt C.allows (λ at. asks.ModifyAclEntries at (map entry_message acl_spec.now)) self.old path.now }
-        ensures asked { AsksAt C.serves true (λ at. asks.ModifyAclEntries at (map entry_message acl_spec.now)) self.old path.now cluster.old
+        requires allowed { LetsAt C.allows (λ at. asks.ModifyAclEntries at (map entry_message acl_spec.now)) self.old
+            path.now }
+        ensures asked { AsksAt C.serves true (λ at. asks.ModifyAclEntries at (map entry_message acl_spec.now))
+            self.old path.now cluster.old
             (as_answer (λ _. answers.ModifyAclEntries) result) self.new cluster.new }
         ensures client { IsClientOf self.new (C.shown cluster.new) }
     {
@@ -40,8 +42,10 @@ impl Client {
         acl_spec: &[AclEntry],
     ) -> Result<(), HdfsError>
         requires client { IsClientOf self.old (C.shown cluster.old) }
-        requires allowed { LetsAt C.allows (λ at. asks.RemoveAclEntries at (map entry_message acl_spec.now)) self.old path.now }
-        ensures asked { AsksAt C.serves true (λ at. asks.RemoveAclEntries at (map entry_message acl_spec.now)) self.old path.now cluster.old
+        requires allowed { LetsAt C.allows (λ at. asks.RemoveAclEntries at (map entry_message acl_spec.now)) self.old
+            path.now }
+        ensures asked { AsksAt C.serves true (λ at. asks.RemoveAclEntries at (map entry_message acl_spec.now))
+            self.old path.now cluster.old
             (as_answer (λ _. answers.RemoveAclEntries) result) self.new cluster.new }
         ensures client { IsClientOf self.new (C.shown cluster.new) }
     {
@@ -87,7 +91,8 @@ impl Client {
     ) -> Result<(), HdfsError>
         requires client { IsClientOf self.old (C.shown cluster.old) }
         requires allowed { LetsAt C.allows (λ at. asks.SetAcl at (map entry_message acl_spec.now)) self.old path.now }
-        ensures asked { AsksAt C.serves true (λ at. asks.SetAcl at (map entry_message acl_spec.now)) self.old path.now cluster.old
+        ensures asked { AsksAt C.serves true (λ at. asks.SetAcl at (map entry_message acl_spec.now)) self.old
+            path.now cluster.old
             (as_answer (λ _. answers.SetAcl) result) self.new cluster.new }
         ensures client { IsClientOf self.new (C.shown cluster.new) }
     {
@@ -106,7 +111,8 @@ impl Client {
     ) -> Result<AclStatus, HdfsError>
         requires client { IsClientOf self.old (C.shown cluster.old) }
         requires allowed { LetsAt C.allows asks.GetAclStatus self.old path.now }
-        ensures asked { Gives C.serves false asks.GetAclStatus answers.GetAclStatus self.old path.now cluster.old self.new cluster.new
+        ensures asked { Gives C.serves false asks.GetAclStatus answers.GetAclStatus self.old path.now cluster.old
+            self.new cluster.new
             (λ told. IsAcl told result) }
         ensures client { IsClientOf self.new (C.shown cluster.new) }
     {

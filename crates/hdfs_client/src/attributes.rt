@@ -37,8 +37,10 @@ impl Client {
         group: Option<&str>,
     ) -> Result<(), HdfsError>
         requires client { IsClientOf self.old (C.shown cluster.old) }
-        requires allowed { LetsAt C.allows (λ at. asks.SetOwner at (option_copied owner) (option_copied group)) self.old path.now }
-        ensures asked { AsksAt C.serves true (λ at. asks.SetOwner at (option_copied owner.entry) (option_copied group.entry))
+        requires allowed { LetsAt C.allows (λ at. asks.SetOwner at (option_copied owner) (option_copied group))
+            self.old path.now }
+        ensures asked { AsksAt C.serves true (λ at. asks.SetOwner at (option_copied owner.entry)
+            (option_copied group.entry))
             self.old path.now cluster.old (as_answer (λ _. answers.SetOwner) result) self.new cluster.new }
         ensures client { IsClientOf self.new (C.shown cluster.new) }
     {

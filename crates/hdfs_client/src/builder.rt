@@ -1,6 +1,7 @@
 //! How a client is built from settings.
-ghost use Rattle.std.specs.Prelude.{◌≡◌, ◌⊎◌, ◌≤◌, ℕ, [], true, false, length, Some, None, Option as Maybe, List as Items, IfOk, IfErr, option_copied, option_map, string_bytes, vec_len};
-ghost use Rattle.hdfs_names.specs.Configurations.{setting};
+ghost use Rattle.std.specs.Prelude.{◌≡◌, ◌⊎◌, ◌≤◌, ℕ, [], true, false, length, Some, None, Option as Maybe, List as Items, IfOk, IfErr, option_copied, map, option_map, string_bytes, vec_len};
+ghost use Rattle.hdfs_names.specs.Configurations.{pair_text, setting};
+ghost use Rattle.hdfs_names.specs.Settings.{last_value};
 ghost use Rattle.hdfs_names.specs.Homes.{home_root_of};
 ghost use Rattle.hdfs_names.specs.Mounts.{is_absolute_or_empty};
 ghost use Rattle.hdfs_client.specs.Building as spec;
@@ -29,13 +30,11 @@ pub struct ClientBuilder {
 }
 
 impl ClientBuilder {
-    ghost use Rattle.hdfs_client.specs.Building.{given_of};
+    ghost use Rattle.hdfs_client.specs.Building.{given_from, given_of};
 
     /// A builder that is given nothing. It takes no memory.
     pub fn new(alloc: Global) -> ClientBuilder
-        ensures url { result.url ≡ None }
-        ensures config { result.config.items ≡ [] }
-        ensures user { result.user ≡ None }
+        ensures { given_of result ≡ given_from None [] None }
     {
         ClientBuilder {
             alloc,
@@ -47,7 +46,7 @@ impl ClientBuilder {
 
     /// The same with this URL. It takes no memory.
     pub fn with_url(mut self, url: String) -> ClientBuilder
-        ensures { result ≡ record self { url = Some (string_bytes url) } }
+        ensures { given_of result ≡ record (given_of self) { url = Some (string_bytes url) } }
     {
         self.url = Some(Text::from_string(url));
         self
@@ -55,7 +54,7 @@ impl ClientBuilder {
 
     /// The same with these settings in the place of those that it had; of two with one key the later holds. It takes no memory.
     pub fn with_config(mut self, config: Vec<(String, String)>) -> ClientBuilder
-        ensures { result ≡ record self { config = config } }
+        ensures { given_of result ≡ record (given_of self) { setting = last_value (map pair_text config.items) } }
     {
         self.config = config;
         self
@@ -63,7 +62,7 @@ impl ClientBuilder {
 
     /// The same with this user, below whose home directory paths without leading slash lie. It takes no memory.
     pub fn with_user(mut self, user: String) -> ClientBuilder
-        ensures { result ≡ record self { user = Some (string_bytes user) } }
+        ensures { given_of result ≡ record (given_of self) { user = string_bytes user } }
     {
         self.user = Some(Text::from_string(user));
         self
@@ -136,7 +135,8 @@ fn service_at<G: Rng>(
     place: &Place,
     rng: &mut G,
 ) -> Result<ServicePlan, BuildError>
-    ensures { Draws (spec.service_at (setting config.now) place.now.host place.now.port (G.stream rng.old)) result (G.stream rng.new) }
+    ensures { Draws (spec.service_at (setting config.now) place.now.host place.now.port (G.stream rng.old)) result
+        (G.stream rng.new) }
 {
     match &place.host {
         Some(host) => service_of(alloc, config, host.as_str(), place.port, rng),
@@ -152,7 +152,8 @@ fn home_at(
     place: &Place,
 ) -> Result<Text, BuildError>
     ensures ok { IfOk result (IsHome (home_root_of config.now place.now.scheme place.now.host) user.now) }
-    ensures when { IfOk result (λ home. is_absolute_or_empty (home_root_of config.now place.now.scheme place.now.host) ≡ true) }
+    ensures when { IfOk result (λ home. is_absolute_or_empty (home_root_of config.now place.now.scheme
+        place.now.host) ≡ true) }
     ensures rooted { IfOk result (λ home. is_rooted home ≡ true) }
     ensures err { IfErr result (λ e. (e ≡ build_errors.NoMemory)
         ⊎ ((e ≡ build_errors.Home) × (is_absolute_or_empty (home_root_of config.now place.now.scheme place.now.host) ≡ false))) }

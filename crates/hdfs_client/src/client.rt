@@ -9,7 +9,7 @@ use hdfs_names::{MountLink, MountTable, NamenodeAddress, ReplaceDatanodeOnFailur
 use hdfs_wire::NoMemory;
 use std::alloc::Global;
 
-/// A client of a file system: it asks the name services to which its mounts lead, in the name of one user of the cluster.
+/// A client of a file system: it asks the name services to which its mounts lead.
 #[derive(Drop)]
 pub struct Client {
     pub(crate) alloc: Global,
@@ -87,7 +87,8 @@ impl Client {
 
     /// Where a path leads.
     pub(crate) fn resolve(&self, src: &str) -> Result<Resolved, NoMemory>
-        ensures { IfOk result (λ to. (leads_to self.now src.now ≡ Some to) × (to.service < vec_len self.now.services)) }
+        ensures { IfOk result (λ to. (leads_to self.now src.now ≡ Some to) ×
+            (to.service < vec_len self.now.services)) }
     {
         self.mounts.resolve(self.alloc, src)
     }

@@ -72,7 +72,8 @@ fn built<G: Rng>(
     user: Option<&str>,
     rng: &mut G,
 ) -> Result<Client, BuildError>
-    ensures { let given = given_from (option_copied url.entry) (map pair_text config.items) (option_copied user.entry) in
+    ensures { let given = given_from (option_copied url.entry) (map pair_text config.items)
+        (option_copied user.entry) in
         Builds given (plan_of given (G.stream rng.old)) result (G.stream rng.new) }
 {
     let builder = ClientBuilder {

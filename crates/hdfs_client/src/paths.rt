@@ -28,7 +28,8 @@ impl Client {
     ) -> Result<FileStatus, HdfsError>
         requires client { IsClientOf self.old (C.shown cluster.old) }
         requires allowed { LetsAt C.allows asks.GetFileInfo self.old path.now }
-        ensures asked { Gives C.serves false asks.GetFileInfo answers.GetFileInfo self.old path.now cluster.old self.new cluster.new
+        ensures asked { Gives C.serves false asks.GetFileInfo answers.GetFileInfo self.old path.now cluster.old
+            self.new cluster.new
             (λ found. IsInfo path.now found result) }
         ensures client { IsClientOf self.new (C.shown cluster.new) }
     {
@@ -82,7 +83,8 @@ impl Client {
         requires allowed { LetsAt C.allows (λ at. asks.Mkdirs at permission create_parent) self.old path.now }
         ensures refused { is_permission permission ≡ false
             → (result ≡ Err (errors.InvalidArgument args.Options)) × (self.new ≡ self.old) × (cluster.new ≡ cluster.old) }
-        ensures asked { is_permission permission ≡ true → Gives C.serves true (λ at. asks.Mkdirs at permission create_parent) answers.Mkdirs
+        ensures asked { is_permission permission ≡ true → Gives C.serves true
+            (λ at. asks.Mkdirs at permission create_parent) answers.Mkdirs
             self.old path.now cluster.old self.new cluster.new (λ made. result ≡ done made) }
         ensures client { IsClientOf self.new (C.shown cluster.new) }
     {

@@ -51,7 +51,8 @@ fn default_of(
     scheme: Option<&str>,
     default: Option<&str>,
 ) -> Result<Place, BuildError>
-    ensures { Answers (spec.and_then (spec.default_place (option_copied default.entry)) (spec.taken (option_copied scheme.entry))) result }
+    ensures { Answers (spec.and_then (spec.default_place (option_copied default.entry))
+        (spec.taken (option_copied scheme.entry))) result }
 {
     let Some(text) = default else {
         return Err(BuildError::NoDefaultFs);

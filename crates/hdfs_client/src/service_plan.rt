@@ -52,7 +52,8 @@ fn plan_of(
 ) -> Result<ServicePlan, BuildError>
     ensures ok { IfOk result (λ plan. plan ≡ planned (setting config.now (provider_key host.now)) namenodes) }
     ensures some { IfOk result (λ plan. spec.is_some_namenode namenodes ≡ true) }
-    ensures err { IfErr result (λ e. (e ≡ build_errors.NoMemory) ⊎ ((e ≡ build_errors.NoNamenode) × (namenodes ≡ []))) }
+    ensures err { IfErr result (λ e. (e ≡ build_errors.NoMemory) ⊎
+        ((e ≡ build_errors.NoNamenode) × (namenodes ≡ []))) }
 {
     if namenodes.as_slice().is_empty() {
         return Err(BuildError::NoNamenode);
@@ -102,7 +103,8 @@ fn namenodes_at<G: Rng>(
     port: Option<u16>,
     rng: &mut G,
 ) -> Result<List<NamenodeAddress>, BuildError>
-    ensures { Draws (spec.namenodes_at (setting config.now) host.now port (G.stream rng.old)) result (G.stream rng.new) }
+    ensures { Draws (spec.namenodes_at (setting config.now) host.now port (G.stream rng.old)) result
+        (G.stream rng.new) }
 {
     match port {
         Some(port) => one_namenode(alloc, host, port),

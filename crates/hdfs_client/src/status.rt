@@ -86,7 +86,8 @@ fn status_of(path: Text, message: FileStatusMsg) -> FileStatus
 /// `InvalidPath`, with the path as it was given: the name isn't UTF-8. `NoMemory` is the only other refusal.
 fn name_of(alloc: Global, given: &str, name: &[u8]) -> Result<Text, HdfsError>
     ensures ok { IfOk result (λ path. IsNamed given.now name.now path) }
-    ensures err { IfErr result (λ e. (e ≡ errors.NoMemory) ⊎ ((e ≡ errors.InvalidPath given.now) × ¬ (IsUtf8 name.now))) }
+    ensures err { IfErr result (λ e. (e ≡ errors.NoMemory) ⊎ ((e ≡ errors.InvalidPath given.now) × ¬
+        (IsUtf8 name.now))) }
 {
     match str::from_utf8(name) {
         Ok(name) => Ok(name_below(alloc, without_end(given), name)?),

@@ -4,8 +4,8 @@ ghost use Rattle.hdfs_step_tests.specs.Namenodes.{shown_of};
 
 use crate::namenodes::fake_namenodes::FakeNamenodes;
 use crate::namenodes::telling::tell_error;
-use crate::steps::{Said, Words};
-use hdfs_client::{Client, FileStatus};
+use crate::steps::{Said, Words, is_true, number};
+use hdfs_client::{Client, ClientError, FileStatus};
 
 /// What is told of a path.
 fn tell_status(status: &FileStatus, said: &mut Said) {
@@ -58,6 +58,29 @@ fn list(client: &mut Client, namenodes: &mut FakeNamenodes, words: &Words<'_>, s
     drop(status);
 }
 
+/// `listStatus PATH RECURSIVE LIMIT`: the paths.
+fn list_status(
+    client: &mut Client,
+    namenodes: &mut FakeNamenodes,
+    words: &Words<'_>,
+    said: &mut Said,
+)
+    requires { IsClientOf client.old (shown_of namenodes.old) }
+{
+    let limit = number(words[3]);
+    let found = client.list_status(namenodes, words[1], is_true(words[2]), limit);
+    match &found {
+        Ok(found) => {
+            for status in found {
+                said.word(status.path.as_str());
+            }
+        }
+        Err(ClientError::Hdfs(error)) => tell_error(error, said),
+        Err(_) => said.fails("TooMany"),
+    }
+    drop(found);
+}
+
 pub(crate) fn take(
     client: &mut Client,
     namenodes: &mut FakeNamenodes,
@@ -68,6 +91,7 @@ pub(crate) fn take(
 {
     match words[0] {
         "getFileInfo" => look_up(client, namenodes, words, said),
+        "listStatus" => list_status(client, namenodes, words, said),
         "getContentSummary" => count(client, namenodes, words, said),
         _ => list(client, namenodes, words, said),
     }

@@ -95,7 +95,7 @@ impl Case {
             return;
         }
         match words[0] {
-            "getFileInfo" | "getContentSummary" | "getAclStatus" => asking::take(
+            "getFileInfo" | "listStatus" | "getContentSummary" | "getAclStatus" => asking::take(
                 &mut *self.client,
                 &mut *self.namenodes,
                 words,

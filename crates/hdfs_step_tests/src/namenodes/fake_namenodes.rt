@@ -4,8 +4,8 @@ ghost use Rattle.hdfs_cluster.specs.Namenode.{IsFailure, IsFalse, IsShaped, last
 ghost use Rattle.hdfs_step_tests.specs.Namenodes.{GivesNone};
 
 use hdfs_cluster::{
-    AclStatusMsg, Answer, Ask, AskFault, Cluster, EncryptionKey, FileStatusMsg, LastAnswer,
-    LinkFault, OpenRead, OpenWrite, ReadAsk, ServerDefaults, Setup, Summary, Transfer,
+    AclStatusMsg, Answer, Ask, AskFault, Cluster, DirList, EncryptionKey, FileStatusMsg,
+    LastAnswer, LinkFault, OpenRead, OpenWrite, ReadAsk, ServerDefaults, Setup, Summary, Transfer,
 };
 use hdfs_wire::{
     Ack, Blob, ChecksumInfo, List, NoMemory, ReadPacket, Text, WireFault, WritePacket,
@@ -158,14 +158,11 @@ const SUMMARY: Summary = Summary {
     space_quota: 0,
 };
 
-/// What stands at a path: a file of 2^32 + 5 bytes at `/y/there`, and nothing elsewhere.
-fn stands_at(alloc: Global, path: &str) -> Option<FileStatusMsg> {
-    if path != "/y/there" {
-        return None;
-    }
-    Some(FileStatusMsg {
-        file_type: 2,
-        path: Blob::new(alloc),
+/// What is told of a directory, or of a file of 2^32 + 5 bytes, under this name.
+fn status(alloc: Global, name: &str, file_type: u32) -> Result<FileStatusMsg, NoMemory> {
+    Ok(FileStatusMsg {
+        file_type,
+        path: Blob::from_vec(Vec::from_slice(alloc, name.as_bytes())?),
         length: 4_294_967_301,
         permission: 0o200_644,
         owner: Text::new(alloc),
@@ -178,6 +175,34 @@ fn stands_at(alloc: Global, path: &str) -> Option<FileStatusMsg> {
         encryption: None,
         namespace: None,
     })
+}
+
+/// What stands at a path: a file at `/y/there`, and nothing elsewhere.
+fn stands_at(alloc: Global, path: &str) -> Option<FileStatusMsg> {
+    match path {
+        "/y/there" => status(alloc, "", 2).ok(),
+        _ => None,
+    }
+}
+
+/// A page of one entry, behind which so many come.
+fn page(alloc: Global, name: &str, file_type: u32, remaining: u32) -> Result<DirList, NoMemory> {
+    let mut entries = List::new(alloc);
+    entries.push(status(alloc, name, file_type)?)?;
+    Ok(DirList {
+        partial_listing: entries,
+        remaining_entries: remaining,
+    })
+}
+
+/// What stands in a directory behind a name: in `/y/dir` the directory `a` and then the file `b`, in that the file `c`, and nothing elsewhere.
+fn page_at(alloc: Global, path: &str, start: &[u8]) -> Option<DirList> {
+    match path {
+        "/y/dir" if start.is_empty() => page(alloc, "a", 1, 1).ok(),
+        "/y/dir" => page(alloc, "b", 2, 0).ok(),
+        "/y/dir/a" => page(alloc, "c", 2, 0).ok(),
+        _ => None,
+    }
 }
 
 /// What a namenode in this state answers, where it does.
@@ -204,7 +229,11 @@ fn path_answer(alloc: Global, ask: &Ask) -> Option<Answer>
 {
     match ask {
         Ask::GetFileInfo { src } => Some(Answer::GetFileInfo(stands_at(alloc, src.as_str()))),
-        Ask::GetListing { .. } => Some(Answer::GetListing(None)),
+        Ask::GetListing {
+            src,
+            start_after,
+            ..
+        } => Some(Answer::GetListing(page_at(alloc, src.as_str(), start_after.as_slice()))),
         Ask::Mkdirs { .. } => Some(Answer::Mkdirs(true)),
         Ask::Rename { .. } => Some(Answer::Rename),
         Ask::Delete { .. } => Some(Answer::Delete(true)),
