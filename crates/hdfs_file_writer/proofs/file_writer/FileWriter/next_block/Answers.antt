@@ -29,7 +29,7 @@ pub returns-in-Ok-clause-answered : goal.returns-in-Ok-clause-answered
 returns-in-Ok-clause-answered g c =
     let w = c.args.self.now in
     let asked : asks.AddBlock c.as_str.result.now (name_of c.args.namenode.now) (option_copied c.as_ref.result) [] w.file_id
-        ≡ asks.AddBlock w.path (name_of c.args.namenode.now) w.last [] w.file_id = cc (c.as_str.ensures, c.as_ref.ensures.value) in
+    ≡ asks.AddBlock w.path (name_of c.args.namenode.now) w.last [] w.file_id = cc (c.as_str.ensures, c.as_ref.ensures.value) in
     record {
       previous = w.last;
       located = c.in-Ok.located;
