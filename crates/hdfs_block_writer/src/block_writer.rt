@@ -121,7 +121,7 @@ impl BlockWriter {
         namenode: &mut NamenodeProtocol,
     ) -> Result<(), WriteFault>
         requires reaches { ReachesAll (proxy_of namenode.old) (C.shown cluster.old) }
-        requires allowed { MayGoOn C.allows (name_of namenode.old) self.old }
+        requires allowed { MayGoOn C.allows C.may_answer (name_of namenode.old) self.old }
         requires holds { Holds (C.shown cluster.old) self.old }
         requires open { IsSome self.old.pipe }
         ensures holds { OnOk result (Holds (C.shown cluster.new) self.new × (self.new.packet ≡ None)) }
@@ -150,7 +150,7 @@ impl BlockWriter {
         namenode: &mut NamenodeProtocol,
     ) -> Result<(), WriteFault>
         requires reaches { ReachesAll (proxy_of namenode.old) (C.shown cluster.old) }
-        requires allowed { MayGoOn C.allows (name_of namenode.old) self.old }
+        requires allowed { MayGoOn C.allows C.may_answer (name_of namenode.old) self.old }
         requires holds { Holds (C.shown cluster.old) self.old }
         requires open { IsSome self.old.pipe }
         requires full { SendsFull self.old }
@@ -174,7 +174,7 @@ impl BlockWriter {
         bytes: &[u8],
     ) -> Result<usize, WriteFault>
         requires reaches { ReachesAll (proxy_of namenode.old) (C.shown cluster.old) }
-        requires allowed { MayGoOn C.allows (name_of namenode.old) self.old }
+        requires allowed { MayGoOn C.allows C.may_answer (name_of namenode.old) self.old }
         requires stands { Stands (C.shown cluster.old) self.old }
         requires open { IsSome self.old.pipe }
         requires room { (self.old.length + length bytes.now ≤ self.old.block_size) × (0 < length bytes.now) }
@@ -200,7 +200,7 @@ impl BlockWriter {
         bytes: &[u8],
     ) -> Result<(), WriteFault>
         requires reaches { ReachesAll (proxy_of namenode.old) (C.shown cluster.old) }
-        requires allowed { MayGoOn C.allows (name_of namenode.old) self.old }
+        requires allowed { MayGoOn C.allows C.may_answer (name_of namenode.old) self.old }
         requires stands { Stands (C.shown cluster.old) self.old }
         requires open { IsSome self.old.pipe }
         requires room { self.old.length + length bytes.now ≤ self.old.block_size }
@@ -229,7 +229,7 @@ impl BlockWriter {
         bytes: &[u8],
     ) -> Result<usize, WriteFault>
         requires reaches { ReachesAll (proxy_of namenode.old) (C.shown cluster.old) }
-        requires allowed { MayGoOn C.allows (name_of namenode.old) self.old }
+        requires allowed { MayGoOn C.allows C.may_answer (name_of namenode.old) self.old }
         requires stands { Stands (C.shown cluster.old) self.old }
         ensures stands { Stands (C.shown cluster.new) self.new }
         ensures count { IfOk result (λ n. n ≡ min (length bytes.now) (size_of self.old - length_of self.old)) }
@@ -257,7 +257,7 @@ impl BlockWriter {
         namenode: &mut NamenodeProtocol,
     ) -> Result<Block, WriteFault>
         requires reaches { ReachesAll (proxy_of namenode.old) (C.shown cluster.old) }
-        requires allowed { MayGoOn C.allows (name_of namenode.old) self.old }
+        requires allowed { MayGoOn C.allows C.may_answer (name_of namenode.old) self.old }
         requires holds { Holds (C.shown cluster.old) self.old }
         requires open { IsSome self.old.pipe }
         requires none { self.old.packet ≡ None }
@@ -289,7 +289,7 @@ impl BlockWriter {
         namenode: &mut NamenodeProtocol,
     ) -> Result<Block, WriteFault>
         requires reaches { ReachesAll (proxy_of namenode.old) (C.shown cluster.old) }
-        requires allowed { MayGoOn C.allows (name_of namenode.old) self }
+        requires allowed { MayGoOn C.allows C.may_answer (name_of namenode.old) self }
         requires stands { Stands (C.shown cluster.old) self }
         ensures closed { IfOk result (λ block. Closes (C.shown cluster.old) self block (C.shown cluster.new)) }
 
@@ -311,7 +311,7 @@ impl BlockWriter {
         namenode: &mut NamenodeProtocol,
     ) -> Result<Block, WriteFault>
         requires reaches { ReachesAll (proxy_of namenode.old) (C.shown cluster.old) }
-        requires allowed { MayGoOn C.allows (name_of namenode.old) self.old }
+        requires allowed { MayGoOn C.allows C.may_answer (name_of namenode.old) self.old }
         requires stands { Stands (C.shown cluster.old) self.old }
         ensures closed { IfOk result (λ block. Closes (C.shown cluster.old) self.old block (C.shown cluster.new)) }
         ensures last { OnOk result (WaitsForLast C.shown C.ends cluster.old self.old cluster.new) }

@@ -65,7 +65,7 @@ impl BlockWriter {
         unsent: u64,
     ) -> Result<BlockPipeline, WriteFault>
         requires reaches { ReachesAll (proxy_of namenode.old) (C.shown cluster.old) }
-        requires allowed { LetsWriteBlock C.allows (name_of namenode.old) pipe.plan.src pipe.plan.block.b }
+        requires allowed { LetsWriteBlock C.allows C.may_answer (name_of namenode.old) pipe.plan.src pipe.plan.block.b }
         requires standing { IsStanding self.now.settings (C.shown cluster.old) pipe [] }
         requires ended { IsSome pipe.core.end × (pipe.core.end ≡ Some Done → ⊥) }
         requires few { (total pipe.core.pushed + unsent ≤ self.now.length) × (self.now.length < 2 ^ 63) }
@@ -112,7 +112,7 @@ impl BlockWriter {
         packet: WritePacket,
     ) -> Result<PushedOnce, WriteFault>
         requires reaches { ReachesAll (proxy_of namenode.old) (C.shown cluster.old) }
-        requires allowed { LetsWriteBlock C.allows (name_of namenode.old) pipe.plan.src pipe.plan.block.b }
+        requires allowed { LetsWriteBlock C.allows C.may_answer (name_of namenode.old) pipe.plan.src pipe.plan.block.b }
         requires can { CanPush self.now.settings (C.shown cluster.old) pipe self.now.length packet }
         ensures ok { IfOk result (λ pushed.
             PushesOnce self.now.settings (C.shown cluster.old) pipe packet pushed (C.shown cluster.new)) }
@@ -146,7 +146,7 @@ impl BlockWriter {
         packet: WritePacket,
     ) -> Result<BlockPipeline, WriteFault>
         requires reaches { ReachesAll (proxy_of namenode.old) (C.shown cluster.old) }
-        requires allowed { LetsWriteBlock C.allows (name_of namenode.old) pipe.plan.src pipe.plan.block.b }
+        requires allowed { LetsWriteBlock C.allows C.may_answer (name_of namenode.old) pipe.plan.src pipe.plan.block.b }
         requires can { CanPush self.now.settings (C.shown cluster.old) pipe self.now.length packet }
         ensures ok { IfOk result (λ pipe'. Pushes self.now.settings (C.shown cluster.old) pipe packet (C.shown cluster.new) pipe') }
         ensures err { IfErr result (λ fault.
@@ -175,7 +175,7 @@ impl BlockWriter {
         pipe: BlockPipeline,
     ) -> Result<Settled, WriteFault>
         requires reaches { ReachesAll (proxy_of namenode.old) (C.shown cluster.old) }
-        requires allowed { LetsWriteBlock C.allows (name_of namenode.old) pipe.plan.src pipe.plan.block.b }
+        requires allowed { LetsWriteBlock C.allows C.may_answer (name_of namenode.old) pipe.plan.src pipe.plan.block.b }
         requires standing { IsStanding self.now.settings (C.shown cluster.old) pipe [] }
         requires ending { IsEnding pipe }
         requires few { (total pipe.core.pushed ≤ self.now.length) × (self.now.length < 2 ^ 63) }
@@ -223,7 +223,7 @@ impl BlockWriter {
         pipe: BlockPipeline,
     ) -> Result<BlockPlan, WriteFault>
         requires reaches { ReachesAll (proxy_of namenode.old) (C.shown cluster.old) }
-        requires allowed { LetsWriteBlock C.allows (name_of namenode.old) pipe.plan.src pipe.plan.block.b }
+        requires allowed { LetsWriteBlock C.allows C.may_answer (name_of namenode.old) pipe.plan.src pipe.plan.block.b }
         requires standing { IsStanding self.now.settings (C.shown cluster.old) pipe [] }
         requires ending { IsEnding pipe }
         requires few { (total pipe.core.pushed ≤ self.now.length) × (self.now.length < 2 ^ 63) }

@@ -14,6 +14,7 @@ use Rattle.hdfs_cluster.specs.declared.messages.LocatedBlock.{LocatedBlock}
 use Rattle.hdfs_cluster.specs.declared.messages.LocatedBlocks.{LocatedBlocks}
 use Rattle.hdfs_cluster.specs.declared.messages.ReadAsk.{ReadAsk}
 use Rattle.hdfs_cluster.specs.declared.messages.Setup.{Setup}
+use Rattle.hdfs_cluster.specs.declared.messages.Token.{Token}
 use Rattle.hdfs_cluster.specs.declared.messages.Transfer.{Transfer}
 
 -- an ask of a namenode, a read of a block, the set-up of a pipeline, and that a datanode gives a block to others
@@ -38,25 +39,44 @@ pub record IsLocated (may_answer : Ask → Answer → Type 0) (path : List ℕ) 
   pub answered : may_answer (asks.GetBlockLocations path 0 (2 ^ 63 - 1)) (answers.GetBlockLocations (Some found))
   pub among : Contains found.blocks block
 
--- a block that was answered as one more of the file at a path, which has this id, behind any block and on any datanode
-pub record IsAdded (may_answer : Ask → Answer → Type 0) (client path : List ℕ) (file_id : Option ℕ) (block : Block) : Type 0 where
+-- it was answered as one block more of the file at a path, which has this id, behind any block and on any datanode
+pub record IsAdded (may_answer : Ask → Answer → Type 0) (client path : List ℕ) (file_id : Option ℕ) (located : LocatedBlock) : Type 0 where
   pub previous : Option Block
-  pub located : LocatedBlock
   pub answered : may_answer (asks.AddBlock path client previous [] file_id) (answers.AddBlock located)
-  pub same : IsSameBlock located.b block
 
--- a block that was answered as the last one of the file at a path, when that was opened to be gone on with
-pub record IsReopened (may_answer : Ask → Answer → Type 0) (client path : List ℕ) (block : Block) : Type 0 where
+-- it was answered as the last block of the file at a path, when that was opened to be gone on with
+pub record IsReopened (may_answer : Ask → Answer → Type 0) (client path : List ℕ) (located : LocatedBlock) : Type 0 where
   pub appended : Appended
-  pub located : LocatedBlock
   pub answered : may_answer (asks.Append path client 4) (answers.Append appended)
   pub is : appended.block ≡ Some located
+
+-- it was answered to the writer of a file: where it is new as one block more, and else as the last one
+abbrev pub IsAnsweredLocated : (Ask → Answer → Type 0) → List ℕ → List ℕ → Option ℕ → Bool → LocatedBlock → Type 0
+IsAnsweredLocated may_answer client path file_id true located = IsAdded may_answer client path file_id located
+IsAnsweredLocated may_answer client path file_id false located = IsReopened may_answer client path located
+
+-- a block that was answered to the writer of its file, whatever its generation stamp and its length are by now
+pub record IsAnsweredBlock (may_answer : Ask → Answer → Type 0) (client path : List ℕ) (file_id : Option ℕ) (created : Bool) (block : Block) : Type 0 where
+  pub located : LocatedBlock
+  pub answered : IsAnsweredLocated may_answer client path file_id created located
   pub same : IsSameBlock located.b block
 
--- a block of a file that was answered to its writer: where it is new as one more, and else as the last one
-abbrev pub IsAnsweredBlock : (Ask → Answer → Type 0) → List ℕ → List ℕ → Option ℕ → Bool → Block → Type 0
-IsAnsweredBlock may_answer client path file_id true block = IsAdded may_answer client path file_id block
-IsAnsweredBlock may_answer client path file_id false block = IsReopened may_answer client path block
+-- the generation stamp and the token that were answered where a block is to have another pipeline
+pub record IsStamped (may_answer : Ask → Answer → Type 0) (client : List ℕ) (block : Block) (stamp : ℕ) (token : Token) : Type 0 where
+  pub named : Block
+  pub located : LocatedBlock
+  pub answered : may_answer (asks.UpdateBlockForPipeline named client) (answers.UpdateBlockForPipeline located)
+  pub same : IsSameBlock block named
+  pub stamp_is : stamp ≡ located.b.generation_stamp
+  pub token_is : token ≡ located.block_token
+
+-- the first pipeline of a block is set up as the block was answered: on its datanodes, with its generation stamp and its token
+pub record IsFirstSetup (located : LocatedBlock) (client : List ℕ) (setup : Setup) : Type 0 where
+  pub block : setup.block ≡ located.b
+  pub nodes : setup.locs ≡ located.locs
+  pub stamp : setup.stamp ≡ located.b.generation_stamp
+  pub token : setup.token ≡ located.block_token
+  pub named : setup.client ≡ client
 
 -- the id that a status tells
 abbrev pub id_in : Option FileStatusMsg → Option ℕ
@@ -85,10 +105,12 @@ abbrev pub IsAnsweredId : (Ask → Answer → Type 0) → List ℕ → List ℕ 
 IsAnsweredId may_answer client path file_id =
     IsIdOfCreated may_answer client path file_id ⊎ IsIdOfAppended may_answer client path file_id
 
--- Leave to write a block of the file at a path in the name of a client: to set up its pipelines, to have it given to one datanode, and
--- to ask for what a rebuild asks for. One datanode more is asked for, and as many storages are named as datanodes.
-pub record LetsWriteBlock (allows : Request → Type 0) (client path : List ℕ) (block : Block) : Type 0 where
-  pub sets_up : (setup : Setup) → IsSameBlock block setup.block → setup.client ≡ client → allows (SetupOf setup)
+-- Leave to write a block of the file at a path in the name of a client behind its first pipeline: to set up others, with a generation stamp
+-- and a token that were answered, to have it given to one datanode, and to ask for what a rebuild asks for. One datanode more is asked for,
+-- and as many storages are named as datanodes.
+pub record LetsWriteBlock (allows : Request → Type 0) (may_answer : Ask → Answer → Type 0) (client path : List ℕ) (block : Block) : Type 0 where
+  pub sets_up : (setup : Setup) → IsSameBlock block setup.block → setup.client ≡ client → IsStamped may_answer client block setup.stamp setup.token
+      → allows (SetupOf setup)
   pub gives : (transfer : Transfer) → IsSameBlock block transfer.block → transfer.client ≡ client → length transfer.targets ≡ 1
       → allows (TransferOf transfer)
   pub restamps : (named : Block) → IsSameBlock block named → allows (AskOf (asks.UpdateBlockForPipeline named client))
@@ -100,11 +122,15 @@ pub record LetsWriteBlock (allows : Request → Type 0) (client path : List ℕ)
 -- leave to write any block of the file at a path, which has this id, that was answered to the client
 abbrev pub LetsWriteBlocks : (Request → Type 0) → (Ask → Answer → Type 0) → List ℕ → List ℕ → Option ℕ → Type 0
 LetsWriteBlocks allows may_answer client path file_id =
-    (block : Block) → (created : Bool) → IsAnsweredBlock may_answer client path file_id created block → LetsWriteBlock allows client path block
+    (block : Block) → (created : Bool) → IsAnsweredBlock may_answer client path file_id created block
+    → LetsWriteBlock allows may_answer client path block
 
--- Leave to write the file at a path, which has this id: a block more is asked for behind any block, on any datanode.
+-- Leave to write the file at a path, which has this id: a block more is asked for behind any block, on any datanode, and the first pipeline of
+-- one that was answered is set up.
 pub record LetsWrite (allows : Request → Type 0) (may_answer : Ask → Answer → Type 0) (client path : List ℕ) (file_id : Option ℕ) : Type 0 where
   pub adds : (previous : Option Block) → allows (AskOf (asks.AddBlock path client previous [] file_id))
+  pub opens : (located : LocatedBlock) (created : Bool) → IsAnsweredLocated may_answer client path file_id created located
+      → (setup : Setup) → IsFirstSetup located client setup → allows (SetupOf setup)
   pub blocks : LetsWriteBlocks allows may_answer client path file_id
 
 -- Leave to close the file at a path, which has this id, behind any block.

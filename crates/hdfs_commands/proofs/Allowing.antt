@@ -7,7 +7,7 @@ use Rattle.hdfs_cluster.specs.declared.messages.Block.{Block}
 use Rattle.hdfs_cluster.specs.declared.messages.FileStatusMsg.{FileStatusMsg}
 use Rattle.hdfs_cluster.specs.declared.messages.LocatedBlock.{LocatedBlock}
 use Rattle.hdfs_cluster.specs.declared.asks.Ask.TheVariants as asks
-use Rattle.hdfs_cluster.specs.Requests.{Request, AskOf, ReadOf, SetupOf, TransferOf, IsAnsweredBlock, IsAnsweredId, IsReopened, LetsClose, LetsWriteBlocks, id_in}
+use Rattle.hdfs_cluster.specs.Requests.{Request, AskOf, ReadOf, SetupOf, TransferOf, IsAnsweredBlock, IsAnsweredId, IsAnsweredLocated, IsReopened, LetsClose, LetsWriteBlocks, id_in}
 use Rattle.hdfs_model.specs.declared.commands.Command.{Command}
 use Rattle.hdfs_model.specs.declared.commands.Command.TheVariants as commands
 use Rattle.hdfs_namenode.specs.Clients.{name_of}
@@ -20,7 +20,7 @@ use Rattle.hdfs_commands.specs.Opening.{appending, creating}
 module _ {allows : Request → Type 0} (may_answer : Ask → Answer → Type 0) (all : (request : Request) → allows request) where
   lets_blocks : (client path : List ℕ) (file_id : Option ℕ) → LetsWriteBlocks allows may_answer client path file_id
   lets_blocks client path file_id block created answered = record {
-    sets_up = λ setup same name. all (SetupOf setup);
+    sets_up = λ setup same name stamped. all (SetupOf setup);
     gives = λ transfer same name one. all (TransferOf transfer);
     restamps = λ named same. all (AskOf (asks.UpdateBlockForPipeline named client));
     adds = λ named existing excluded storages same many.
@@ -47,6 +47,7 @@ module _ {allows : Request → Type 0} (may_answer : Ask → Answer → Type 0) 
   }
   lets_at client path (commands.Write name bytes) = λ file_id answered. record {
     adds = λ previous. all (AskOf (asks.AddBlock path client previous [] file_id));
+    opens = λ located created answered setup first. all (SetupOf setup);
     blocks = lets_blocks client path file_id;
   }
   lets_at client path (commands.Close name) = λ file_id answered. lets_close client path file_id
@@ -104,28 +105,32 @@ module _ {may_answer : Ask → Answer → Type 0} (all : (ask : Ask) (answer : A
     is = refl;
   })
 
-  any_reopened : (client path : List ℕ) (block : Block) → IsReopened may_answer client path block
-  any_reopened client path block = record {
-    appended = record { block = Some (located_at block); stat = None };
-    located = located_at block;
-    answered = all (asks.Append path client 4) (answers.Append (record { block = Some (located_at block); stat = None }));
+  any_reopened : (client path : List ℕ) (located : LocatedBlock) → IsReopened may_answer client path located
+  any_reopened client path located = record {
+    appended = record { block = Some located; stat = None };
+    answered = all (asks.Append path client 4) (answers.Append (record { block = Some located; stat = None }));
     is = refl;
-    same = (refl, refl);
   }
 
-  any_block : (client path : List ℕ) (file_id : Option ℕ) (created : Bool) (block : Block) → IsAnsweredBlock may_answer client path file_id created block
-  any_block client path file_id true block = record {
+  any_located : (client path : List ℕ) (file_id : Option ℕ) (created : Bool) (located : LocatedBlock)
+      → IsAnsweredLocated may_answer client path file_id created located
+  any_located client path file_id true located = record {
     previous = None;
+    answered = all (asks.AddBlock path client None [] file_id) (answers.AddBlock located);
+  }
+  any_located client path file_id false located = any_reopened client path located
+
+  any_block : (client path : List ℕ) (file_id : Option ℕ) (created : Bool) (block : Block) → IsAnsweredBlock may_answer client path file_id created block
+  any_block client path file_id created block = record {
     located = located_at block;
-    answered = all (asks.AddBlock path client None [] file_id) (answers.AddBlock (located_at block));
+    answered = any_located client path file_id created (located_at block);
     same = (refl, refl);
   }
-  any_block client path file_id false block = any_reopened client path block
 
   any_tail : (client path : List ℕ) (file_id : Option ℕ) (tail : Tail) → IsAnsweredTail may_answer client path file_id tail
   any_tail client path file_id Bare = tt
   any_tail client path file_id (Finished id length) = tt
-  any_tail client path file_id (Reopened located) = any_reopened client path located.b
+  any_tail client path file_id (Reopened located) = any_reopened client path located
   any_tail client path file_id (Going block) = λ pipe is. any_block client path file_id pipe.plan.created pipe.plan.block.b
 
   pub answers_any : (session : Session) → AreAnswered may_answer session

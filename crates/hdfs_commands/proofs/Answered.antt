@@ -66,4 +66,4 @@ answered_appended {may_answer} {client} writer path appended at id is answered =
   where
     opened : (block : Option LocatedBlock) → appended.block ≡ block → IsAnsweredTail may_answer client path (id_in appended.stat) (tail_opened block None)
     opened None is = tt
-    opened (Some located) is = record { appended = appended; located = located; answered = answered; is = is; same = (refl, refl) }
+    opened (Some located) is = record { appended = appended; answered = answered; is = is }

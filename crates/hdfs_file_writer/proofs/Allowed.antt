@@ -27,11 +27,11 @@ IsAnsweredPipe may_answer client path file_id block =
     (pipe : BlockPipeline) → block.pipe ≡ Some pipe → IsAnsweredBlock may_answer client path file_id pipe.plan.created pipe.plan.block.b
 
 -- to write a block of a file, by a client and a path that are the same
-lets_block : {allows : Request → Type 0} {client client' path path' : List ℕ} {block : Block} → client' ≡ client → path' ≡ path
-    → LetsWriteBlock allows client path block → LetsWriteBlock allows client' path' block
-lets_block {allows} {client} {client'} {path} {path'} {block} same here lets =
-    subst (λ (name : List ℕ). LetsWriteBlock allows name path' block) (sym same)
-    (subst (λ (src : List ℕ). LetsWriteBlock allows client src block) (sym here) lets)
+lets_block : {allows : Request → Type 0} {may_answer : Ask → Answer → Type 0} {client client' path path' : List ℕ} {block : Block} → client' ≡ client → path' ≡ path
+    → LetsWriteBlock allows may_answer client path block → LetsWriteBlock allows may_answer client' path' block
+lets_block {allows} {may_answer} {client} {client'} {path} {path'} {block} same here lets =
+    subst (λ (name : List ℕ). LetsWriteBlock allows may_answer name path' block) (sym same)
+    (subst (λ (src : List ℕ). LetsWriteBlock allows may_answer client src block) (sym here) lets)
 
 -- what holds of a path and an id holds of those that a call keeps
 at_file : (P : List ℕ → Option ℕ → Type 0) (w w' : FileWriter) → Keeps w w' → P w.path w.file_id → P w'.path w'.file_id
@@ -46,30 +46,17 @@ id_kept {may_answer} {client} w w' keeps id = at_file (λ path file_id. IsAnswer
 -- to go on with the block that is being written
 pub may_go_on : {allows : Request → Type 0} (may_answer : Ask → Answer → Type 0) (client client' : List ℕ) {shown : Shown} {sizes : WriteSizes}
     (block : BlockWriter) (w w' : FileWriter) → client' ≡ client → Keeps w w' → BlockStands shown w'.path sizes block
-    → IsAnsweredPipe may_answer client w'.path w'.file_id block → LetsWriteBlocks allows may_answer client w.path w.file_id → MayGoOn allows client' block
+    → IsAnsweredPipe may_answer client w'.path w'.file_id block → LetsWriteBlocks allows may_answer client w.path w.file_id → MayGoOn allows may_answer client' block
 may_go_on {allows} may_answer client client' block w w' same keeps stands answered lets pipe is =
     lets_block same (stands.plan pipe is).src
     (at_file (λ path file_id. LetsWriteBlocks allows may_answer client path file_id) w w' keeps lets pipe.plan.block.b pipe.plan.created (answered pipe is))
-
--- a block of the same name was answered, too
-renamed : (may_answer : Ask → Answer → Type 0) (client path : List ℕ) (file_id : Option ℕ) (created : Bool) (block block' : Block)
-    → block'.pool_id ≡ block.pool_id → block'.block_id ≡ block.block_id → IsAnsweredBlock may_answer client path file_id created block
-    → IsAnsweredBlock may_answer client path file_id created block'
-renamed may_answer client path file_id true block block' pool id was = record { previous = was.previous; located = was.located; answered = was.answered; same = (pool ∙ was.same.0, id ∙ was.same.1) }
-renamed may_answer client path file_id false block block' pool id was = record {
-  appended = was.appended;
-  located = was.located;
-  answered = was.answered;
-  is = was.is;
-  same = (pool ∙ was.same.0, id ∙ was.same.1);
-}
 
 -- so was that of another pipeline of the block
 on_pipeline : (may_answer : Ask → Answer → Type 0) (client path : List ℕ) (file_id : Option ℕ) (plan plan' : BlockPlan)
     → KeepsBlock plan plan' → IsAnsweredBlock may_answer client path file_id plan.created plan.block.b → IsAnsweredBlock may_answer client path file_id plan'.created plan'.block.b
 on_pipeline may_answer client path file_id plan plan' keeps answered =
     subst (λ (created : Bool). IsAnsweredBlock may_answer client path file_id created plan'.block.b) (sym keeps.created)
-    (renamed may_answer client path file_id plan.created plan.block.b plan'.block.b keeps.pool keeps.id answered)
+    (record { located = answered.located; answered = answered.answered; same = (keeps.pool ∙ answered.same.0, keeps.id ∙ answered.same.1) })
 
 -- a writer of a block that has a link has a pipeline
 has_pipe : (pipe : Option BlockPipeline) → IsSome (link_in pipe) → IsSome pipe
@@ -113,7 +100,7 @@ answered_going {may_answer} {client} w {block} is answered =
 
 -- so was the one that is to be gone on with
 pub answered_reopened : {may_answer : Ask → Answer → Type 0} {client : List ℕ} (w : FileWriter) {located : LocatedBlock} → w.going ≡ None
-    → w.reopened ≡ Some located → IsAnswered may_answer client w → IsReopened may_answer client w.path located.b
+    → w.reopened ≡ Some located → IsAnswered may_answer client w → IsReopened may_answer client w.path located
 answered_reopened {may_answer} {client} w {located} none is answered =
     subst (λ (reopened : Option LocatedBlock). IsAnsweredTail may_answer client w.path w.file_id (tail_by None reopened w.last)) is
     (subst (λ (going : Option BlockWriter). IsAnsweredTail may_answer client w.path w.file_id (tail_by going w.reopened w.last)) none answered.block)

@@ -113,7 +113,7 @@ pub record IsPlanOf (path : List ℕ) (sizes : WriteSizes) (plan : BlockPlan) : 
 -- The last block of its file was answered to the client: one that is to be gone on with as the last one when the file was opened, and one
 -- that is being written so, or as one more, by whether its writer has it as a new one.
 abbrev pub IsAnsweredTail : (Ask → Answer → Type 0) → List ℕ → List ℕ → Option ℕ → Tail → Type 0
-IsAnsweredTail may_answer client path file_id (Reopened located) = IsReopened may_answer client path located.b
+IsAnsweredTail may_answer client path file_id (Reopened located) = IsReopened may_answer client path located
 IsAnsweredTail may_answer client path file_id (Going block) = (pipe : BlockPipeline) → block.pipe ≡ Some pipe
     → IsAnsweredBlock may_answer client path file_id pipe.plan.created pipe.plan.block.b
 IsAnsweredTail may_answer client path file_id tail = Unit {0}

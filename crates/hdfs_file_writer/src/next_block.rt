@@ -10,7 +10,8 @@ use hdfs_rebuild::BlockPlan;
 use hdfs_wire::NoMemory;
 
 impl FileWriter {
-    ghost use Rattle.hdfs_cluster.specs.Requests.{IsAdded, IsAnsweredBlock, IsAnsweredId, LetsWrite, LetsWriteBlocks};
+    ghost use Rattle.hdfs_cluster.specs.Requests.{IsAdded, IsAnsweredId, IsAnsweredLocated, IsFirstSetup, LetsWrite, LetsWriteBlocks, SetupOf};
+    ghost use Rattle.hdfs_cluster.specs.declared.messages.Setup.{Setup};
     ghost use Rattle.hdfs_namenode.specs.Asked.{ReachesAll};
     ghost use Rattle.hdfs_namenode.specs.Clients.{SameClient, name_of, proxy_of};
     ghost use Rattle.hdfs_file_writer.specs.Tails.{IsFull};
@@ -79,10 +80,10 @@ impl FileWriter {
         requires begins { MayBegin self.old }
         requires block { IsToWrite located }
         requires room { located.b.num_bytes < self.old.sizes.block_size }
-        requires allowed { LetsWriteBlocks C.allows C.may_answer (name_of namenode.now) (path_of self.old) (file_id_of self.old) }
+        requires allowed { (setup : Setup) → IsFirstSetup located (name_of namenode.now) setup → C.allows (SetupOf setup) }
         requires id { IsAnsweredId C.may_answer (name_of namenode.now) (path_of self.old) (file_id_of self.old) }
-        requires answered { IsAnsweredBlock C.may_answer (name_of namenode.now) (path_of self.old) (file_id_of self.old)
-            created located.b }
+        requires answered { IsAnsweredLocated C.may_answer (name_of namenode.now) (path_of self.old) (file_id_of self.old)
+            created located }
         ensures fine { self.new.failed ≡ false }
         ensures keeps { Keeps self.old self.new }
         ensures stands { OnOk result (Stands (C.shown cluster.new) self.new × HasRoom self.new) }
@@ -124,8 +125,7 @@ impl FileWriter {
         requires between { IsBetweenBlocks self.now }
         requires full { IsFull self.now.sizes.block_size (tail_of self.now) }
         ensures adds { IfOk result (λ located. Adds (C.shown cluster.old) self.now located (C.shown cluster.new)) }
-        ensures answered { IfOk result (λ located. IsAdded C.may_answer (name_of namenode.old) (path_of self.now)
-            (file_id_of self.now) located.b) }
+        ensures answered { IfOk result (IsAdded C.may_answer (name_of namenode.old) (path_of self.now) (file_id_of self.now)) }
         ensures err { IfErr result (λ error. FailsOtherwise (C.shown cluster.old) self.now error (C.shown cluster.new)) }
         ensures client { SameClient namenode.old namenode.new }
     {

@@ -170,6 +170,8 @@ impl NamenodeProtocol {
         ensures came { ReachesAll (proxy_of self.old) (C.shown cluster.old) → Came (C.shown cluster.old)
             (asks.UpdateBlockForPipeline block.now (name_of self.old))
             (as_answer answers.UpdateBlockForPipeline result) (C.shown cluster.new) }
+        ensures answered { IfOk result (λ located. C.may_answer (asks.UpdateBlockForPipeline block.now (name_of self.old))
+            (answers.UpdateBlockForPipeline located)) }
         ensures keeps { SameClient self.old self.new }
     {
         let ask = Ask::UpdateBlockForPipeline {

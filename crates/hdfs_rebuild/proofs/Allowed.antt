@@ -1,6 +1,7 @@
 -- Leave to write a block goes on with the block, whatever its plan becomes, and with the client's name.
 use Rattle.std.proofs.Common.{◌≡◌, ℕ, List, length, map, refl, sym, ◌∙◌, ap, subst}
 use Rattle.std.proofs.lemmas.List.{length-map}
+use Rattle.hdfs_cluster.specs.declared.asks.Answer.{Answer}
 use Rattle.hdfs_cluster.specs.declared.asks.Ask.{Ask}
 use Rattle.hdfs_cluster.specs.declared.asks.Ask.TheVariants as asks
 use Rattle.hdfs_cluster.specs.declared.messages.Block.{Block}
@@ -23,13 +24,21 @@ pub allowed_as : (allows : Request → Type 0) {ask ask' : Ask} → ask' ≡ ask
 allowed_as allows {ask} {ask'} same leave = subst (λ (a : Ask). allows (AskOf a)) (sym same) leave
 
 -- for another block of the same name, of the same file, and for the same client
-pub lets_block : {allows : Request → Type 0} {client client' path path' : List ℕ} {block block' : Block} → client' ≡ client → path' ≡ path
-    → block'.pool_id ≡ block.pool_id → block'.block_id ≡ block.block_id → LetsWriteBlock allows client path block → LetsWriteBlock allows client' path' block'
-lets_block {allows} {client} {client'} {path} {path'} {block} {block'} name at pool id lets =
-    subst (λ (c : List ℕ). LetsWriteBlock allows c path' block') (sym name)
-    (subst (λ (s : List ℕ). LetsWriteBlock allows client s block') (sym at)
+pub lets_block : {allows : Request → Type 0} {may_answer : Ask → Answer → Type 0} {client client' path path' : List ℕ} {block block' : Block} → client' ≡ client → path' ≡ path
+    → block'.pool_id ≡ block.pool_id → block'.block_id ≡ block.block_id → LetsWriteBlock allows may_answer client path block
+    → LetsWriteBlock allows may_answer client' path' block'
+lets_block {allows} {may_answer} {client} {client'} {path} {path'} {block} {block'} name at pool id lets =
+    subst (λ (c : List ℕ). LetsWriteBlock allows may_answer c path' block') (sym name)
+    (subst (λ (s : List ℕ). LetsWriteBlock allows may_answer client s block') (sym at)
     (record {
-      sets_up = λ setup same named. lets.sets_up setup (same.0 ∙ pool, same.1 ∙ id) named;
+      sets_up = λ setup same named stamped. lets.sets_up setup (same.0 ∙ pool, same.1 ∙ id) named (record {
+        named = stamped.named;
+        located = stamped.located;
+        answered = stamped.answered;
+        same = (stamped.same.0 ∙ pool, stamped.same.1 ∙ id);
+        stamp_is = stamped.stamp_is;
+        token_is = stamped.token_is;
+      });
       gives = λ transfer same named one. lets.gives transfer (same.0 ∙ pool, same.1 ∙ id) named one;
       restamps = λ named same. lets.restamps named (same.0 ∙ pool, same.1 ∙ id);
       adds = λ named existing excluded storages same many. lets.adds named existing excluded storages (same.0 ∙ pool, same.1 ∙ id) many;
@@ -37,8 +46,9 @@ lets_block {allows} {client} {client'} {path} {path'} {block} {block'} name at p
           lets.names before now nodes storages (one.0 ∙ pool, one.1 ∙ id) (two.0 ∙ pool, two.1 ∙ id) many;
     }))
 
-pub lets_plan : {allows : Request → Type 0} {client client' : List ℕ} {plan plan' : BlockPlan} → client' ≡ client → KeepsPlan plan plan'
-    → LetsWriteBlock allows client plan.src plan.block.b → LetsWriteBlock allows client' plan'.src plan'.block.b
+pub lets_plan : {allows : Request → Type 0} {may_answer : Ask → Answer → Type 0} {client client' : List ℕ} {plan plan' : BlockPlan} → client' ≡ client → KeepsPlan plan plan'
+    → LetsWriteBlock allows may_answer client plan.src plan.block.b
+    → LetsWriteBlock allows may_answer client' plan'.src plan'.block.b
 lets_plan name keeps lets = lets_block name keeps.src keeps.pool keeps.id lets
 
 -- the plan without the datanodes that have failed
@@ -61,16 +71,16 @@ next_keeps {plan} {plan'} gives =
     (subst (KeepsPlan gives.whole) (sym gives.restamps.is) (keeps_with_stamp gives.whole gives.restamps.stamp gives.restamps.token))
 
 -- leave to name the pipeline of a plan
-pub lets_name : {allows : Request → Type 0} {client : List ℕ} (plan : BlockPlan) (stamp : ℕ) → IsToWrite plan.block
-    → LetsWriteBlock allows client plan.src plan.block.b → allows (AskOf (asks.UpdatePipeline client (with_stamp_of plan.block.b stamp) plan.block.b
+pub lets_name : {allows : Request → Type 0} {may_answer : Ask → Answer → Type 0} {client : List ℕ} (plan : BlockPlan) (stamp : ℕ) → IsToWrite plan.block
+    → LetsWriteBlock allows may_answer client plan.src plan.block.b → allows (AskOf (asks.UpdatePipeline client (with_stamp_of plan.block.b stamp) plan.block.b
     (map (λ node. node.id) plan.block.locs) plan.block.storage_ids))
-lets_name {allows} {client} plan stamp block lets =
+lets_name {allows} {may_answer} {client} plan stamp block lets =
     lets.names (with_stamp_of plan.block.b stamp) plan.block.b (map (λ node. node.id) plan.block.locs) plan.block.storage_ids (refl, refl) (refl, refl)
     (block.ids ∙ sym (length-map plan.block.locs (λ node. node.id)))
 
 -- leave to have the datanode that was added given the block
-pub lets_give : {allows : Request → Type 0} {client : List ℕ} {plan : BlockPlan} {located : LocatedBlock} {transfer : Transfer}
-    → GivesToAdded plan located client transfer → LetsWriteBlock allows client plan.src plan.block.b → allows (TransferOf transfer)
-lets_give {allows} {client} {plan} {located} {transfer} gives lets =
+pub lets_give : {allows : Request → Type 0} {may_answer : Ask → Answer → Type 0} {client : List ℕ} {plan : BlockPlan} {located : LocatedBlock} {transfer : Transfer}
+    → GivesToAdded plan located client transfer → LetsWriteBlock allows may_answer client plan.src plan.block.b → allows (TransferOf transfer)
+lets_give {allows} {may_answer} {client} {plan} {located} {transfer} gives lets =
     lets.gives transfer (ap (λ (b : Block). b.pool_id) gives.block, ap (λ (b : Block). b.block_id) gives.block) gives.named_so
     (ap length gives.targets)

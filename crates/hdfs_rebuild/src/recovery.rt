@@ -2,7 +2,7 @@
 
 ghost use Rattle.std.specs.Prelude.{◌≡◌, IfOk, IfErr, OnOk, map};
 ghost use Rattle.hdfs_namenode.specs.Asked.{ReachesAll};
-ghost use Rattle.hdfs_cluster.specs.Requests.{AskOf};
+ghost use Rattle.hdfs_cluster.specs.Requests.{AskOf, IsStamped};
 ghost use Rattle.hdfs_cluster.specs.declared.asks.Ask.TheVariants as asks;
 ghost use Rattle.hdfs_namenode.specs.Clients.{SameClient, name_of, proxy_of};
 ghost use Rattle.hdfs_rebuild.specs.Between.{KeepsLinks};
@@ -38,6 +38,8 @@ pub(crate) fn restamp<C: Cluster>(
     ensures restamps { IfOk result (λ plan'. Restamps plan (C.shown cluster.old) plan' (C.shown cluster.new)) }
     ensures err { IfErr result (λ fault. RestampsNot plan (C.shown cluster.old) fault (C.shown cluster.new)) }
     ensures client { SameClient namenode.old namenode.new }
+    ensures stamped { IfOk result (λ plan'. IsStamped C.may_answer (name_of namenode.old) plan'.block.b
+        plan'.block.b.generation_stamp plan'.block.block_token) }
 {
     match namenode.update_block_for_pipeline(cluster, &plan.block.b) {
         Ok(located) => Ok(with_stamp(plan, located)),

@@ -127,7 +127,7 @@ fn give_block<C: Cluster>(
     requires some { 0 < length plan.now.block.locs }
     requires types { length plan.now.block.storage_types ≡ length plan.now.block.locs }
     requires one { HasOneMore plan.now.block.locs located.now.locs }
-    requires allowed { LetsWriteBlock C.allows client.now plan.now.src plan.now.block.b }
+    requires allowed { LetsWriteBlock C.allows C.may_answer client.now plan.now.src plan.now.block.b }
     ensures ok { OnOk result (GivesBlock plan.now located.now client.now (C.shown cluster.old) (C.shown cluster.new)) }
     ensures err { IfErr result (λ fault. GivesNoBlock plan.now located.now client.now (C.shown cluster.old) fault (C.shown cluster.new)) }
 {
@@ -149,7 +149,7 @@ fn add_datanode<C: Cluster>(
     excluded: &[DatanodeInfo],
 ) -> Result<LocatedBlock, WriteFault>
     requires reaches { ReachesAll (proxy_of namenode.old) (C.shown cluster.old) }
-    requires allowed { LetsWriteBlock C.allows (name_of namenode.old) plan.now.src plan.now.block.b }
+    requires allowed { LetsWriteBlock C.allows C.may_answer (name_of namenode.old) plan.now.src plan.now.block.b }
     requires block { IsToWrite plan.now.block }
     ensures links { KeepsLinks (C.shown cluster.old) (C.shown cluster.new) }
     ensures adds { IfOk result (λ located. AddsNode plan.now excluded.now (C.shown cluster.old) located (C.shown cluster.new)) }
@@ -188,7 +188,7 @@ pub(crate) fn complete<C: Cluster>(
     excluded: &[DatanodeInfo],
 ) -> Result<BlockPlan, WriteFault>
     requires reaches { ReachesAll (proxy_of namenode.old) (C.shown cluster.old) }
-    requires allowed { LetsWriteBlock C.allows (name_of namenode.old) plan.src plan.block.b }
+    requires allowed { LetsWriteBlock C.allows C.may_answer (name_of namenode.old) plan.src plan.block.b }
     requires block { IsToWrite plan.block }
     ensures links { KeepsLinks (C.shown cluster.old) (C.shown cluster.new) }
     ensures completes { IfOk result (λ plan'. Completes plan settings.now excluded.now (C.shown cluster.old) plan' (C.shown cluster.new)) }

@@ -1,5 +1,5 @@
 -- The goals of next_plan.
-use Rattle.std.proofs.Common.{◌≡◌, List, refl, subst}
+use Rattle.std.proofs.Common.{◌≡◌, List, refl, subst, ℕ}
 use Rattle.std.proofs.lemmas.Result.{err_from_is_err_and}
 use Rattle.hdfs_cluster.specs.declared.messages.DatanodeInfo.{DatanodeInfo}
 use Rattle.hdfs_namenode.specs.Clients.{proxy_of}
@@ -12,6 +12,8 @@ use Rattle.hdfs_rebuild.specs.Trying.{GivesPlan}
 use Rattle.hdfs_rebuild.proofs.Allowed.{completed_keeps, left_keeps, lets_plan}
 use Rattle.hdfs_rebuild.proofs.Stepping.{keeps_links_trans}
 use Rattle.hdfs_rebuild.proofs.Tried.{ok_by, err_by, incomplete, unstamped}
+use Rattle.hdfs_cluster.specs.Requests.{IsStamped}
+use Rattle.std.specs.Prelude.{IfOk}
 use Rattle.hdfs_rebuild.proofs.attempts.next_plan.Goals as goal
 
 pub restamp-requires : goal.restamp-requires
@@ -79,3 +81,8 @@ returns-clause-err g c =
     c.in_ok-plan-2.plan c.as_slice-2.result.now those c.in_ok-plan-2.ensures.completes n
     c.restamp.ensures.links fault not)
     c.restamp.ensures.err
+
+pub returns-clause-stamped : goal.returns-clause-stamped
+returns-clause-stamped g c =
+    subst (λ (client : List ℕ). IfOk c.restamp.result (λ plan. IsStamped g.C.Cluster.may_answer client plan.block.b plan.block.b.generation_stamp plan.block.block_token))
+    c.in_ok-plan-2.ensures.client.name c.restamp.ensures.stamped

@@ -9,7 +9,7 @@ abbrev pub invariant-attempts : goal.invariant-attempts
 invariant-attempts g l = record {
   fell : FellSoFar l.fn.fallen l.settings (name_of l.fn.namenode) l.unsent (g.C.Cluster.shown l.fn.cluster) l.fallen (g.C.Cluster.shown l.cluster);
   client : SameClient l.fn.namenode l.namenode;
-  allowed : LetsWriteBlock g.C.Cluster.allows (name_of l.namenode) l.fallen.plan.src l.fallen.plan.block.b;
+  allowed : LetsWriteBlock g.C.Cluster.allows g.C.Cluster.may_answer (name_of l.namenode) l.fallen.plan.src l.fallen.plan.block.b;
 }
 
 abbrev pub decreases-attempts : goal.decreases-attempts

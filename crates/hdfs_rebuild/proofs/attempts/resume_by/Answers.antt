@@ -28,7 +28,7 @@ replay_and_name-requires-clause-reaches g c =
 
 pub open_pipeline-requires-clause-allowed : goal.open_pipeline-requires-clause-allowed
 open_pipeline-requires-clause-allowed g c =
-    c.requires.allowed.sets_up (setup_for c.args.plan.now c.args.opening c.client_name-client.result.now) (refl, refl) c.client_name-client.ensures
+    c.requires.allowed.sets_up (setup_for c.args.plan.now c.args.opening c.client_name-client.result.now) (refl, refl) c.client_name-client.ensures c.requires.stamped
 
 pub replay_and_name-requires-clause-allowed : goal.replay_and_name-requires-clause-allowed
 replay_and_name-requires-clause-allowed g c = lets_name c.args.plan.now c.args.opening.stamp c.requires.block c.requires.allowed

@@ -1,5 +1,5 @@
 -- The goals of try_once.
-use Rattle.std.proofs.Common.{◌≡◌, ℕ, List, refl, subst}
+use Rattle.std.proofs.Common.{◌≡◌, ℕ, List, refl, subst, sym}
 use Rattle.std.specs.Prelude.{IfOk}
 use Rattle.hdfs_namenode.specs.Clients.{name_of, proxy_of}
 use Rattle.hdfs_namenode.proofs.Services.{reaches_later, same_client_trans}
@@ -9,6 +9,7 @@ use Rattle.hdfs_rebuild.specs.Plans.{nodes_at}
 use Rattle.hdfs_rebuild.specs.Trying.{GivesPlan, Resumed, ResumedNot, course_of}
 use Rattle.hdfs_rebuild.proofs.Allowed.{lets_plan, next_keeps}
 use Rattle.hdfs_rebuild.proofs.Tried.{ok_by, err_by, to_resume, tried, untried}
+use Rattle.hdfs_cluster.specs.Requests.{IsStamped}
 use Rattle.hdfs_rebuild.proofs.attempts.try_once.Goals as goal
 
 pub resume-requires-clause-reaches : goal.resume-requires-clause-reaches
@@ -64,3 +65,9 @@ returns-clause-err g c =
     given.whole (nodes_at c.args.fallen.plan.block.locs c.args.fallen.failed) refl given.completes n given.keeps
     c.in_ok-plan.plan given.restamps z)
     c.resume.ensures.err
+
+pub resume-requires-clause-stamped : goal.resume-requires-clause-stamped
+resume-requires-clause-stamped g c =
+    let plan = c.in_ok-plan.plan in
+    subst (λ (client : List ℕ). IsStamped g.C.Cluster.may_answer client plan.block.b plan.block.b.generation_stamp plan.block.block_token)
+    (sym c.in_ok-plan.ensures.client.name) c.in_ok-plan.ensures.stamped

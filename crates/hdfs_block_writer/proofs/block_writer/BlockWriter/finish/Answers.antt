@@ -7,6 +7,7 @@ use Rattle.hdfs_block_writer.specs.declared.pushing.Settled.{Settled}
 use Rattle.hdfs_block_writer.specs.Pushing.{ReceivesOnce, Settles}
 use Rattle.hdfs_block_writer.proofs.PushingOn.{few_still, fewer_waits, finished_then, first_wait, not_finished, waits_again}
 use Rattle.hdfs_block_writer.proofs.Received.{all_received}
+use Rattle.hdfs_block_writer.proofs.Allowed.{lets_pipe}
 use Rattle.hdfs_block_writer.proofs.block_writer.BlockWriter.finish.Goals as goal
 
 pub loop-plan-init : goal.loop-plan-init
@@ -87,3 +88,7 @@ loop-plan-preserved g c =
       client = client;
       waits = w;
     }
+
+pub finish_once-requires-clause-allowed : goal.finish_once-requires-clause-allowed
+finish_once-requires-clause-allowed g c =
+    lets_pipe c.loop-plan.invariant.client.name c.loop-plan.invariant.waits.continues.keeps c.requires.allowed

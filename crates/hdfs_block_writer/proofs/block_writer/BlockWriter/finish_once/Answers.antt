@@ -1,5 +1,5 @@
 -- The goals of BlockWriter::finish_once.
-use Rattle.std.proofs.Common.{◌≡◌, ◌≢◌, [], length, sym, ◌∙◌, ap, subst, arith}
+use Rattle.std.proofs.Common.{◌≡◌, ◌≢◌, [], length, sym, ◌∙◌, ap, subst, arith, refl}
 use Rattle.std.proofs.lemmas.Bool.{eqb-true, eqb-false}
 use Rattle.std.proofs.lemmas.List.{nil_from_length}
 use Rattle.std.proofs.lemmas.Result.{err_from_is_err_and}
@@ -11,6 +11,7 @@ use Rattle.hdfs_block_writer.proofs.EndedRebuilt.{bad_is, recovers_is}
 use Rattle.hdfs_block_writer.proofs.Finished.{done_is, finishes, fewer_bytes, once_bad, once_given_up, once_rebuilt, once_stopped}
 use Rattle.hdfs_block_writer.proofs.Received.{receives}
 use Rattle.hdfs_block_writer.proofs.Standing.{can_rebuild_standing, standing_drove}
+use Rattle.hdfs_rebuild.proofs.Allowed.{lets_block}
 use Rattle.hdfs_block_writer.proofs.block_writer.BlockWriter.finish_once.Goals as goal
 
 pub returns-in-Err-clause-err : goal.returns-in-Err-clause-err
@@ -133,3 +134,9 @@ returns-in_ok-rebuilt-in-Ok-Recover-clause-ok g c =
     c.in-Ok-Recover.failed r.0 (name_of c.args.namenode.now) c.in-Ok-Recover.replay c.args.self.now.length 0 c.requires.few.1 c.with_length-plan.result r.1
     c.with_length-plan.ensures c.in_ok-rebuilt-in-Ok-Recover.rebuilt (g.C.Cluster.shown c.rebuild.new.cluster)
     c.in_ok-rebuilt-in-Ok-Recover.ensures.ok (omega (arith, ap length c.as_slice.ensures, some))
+
+pub rebuild-requires-clause-allowed : goal.rebuild-requires-clause-allowed
+rebuild-requires-clause-allowed g c =
+    let is = c.with_length-plan.ensures in
+    lets_block refl (ap (λ (p : BlockPlan). p.src) is) (ap (λ (p : BlockPlan). p.block.b.pool_id) is) (ap (λ (p : BlockPlan). p.block.b.block_id) is)
+    c.requires.allowed

@@ -5,6 +5,7 @@ use Rattle.hdfs_wire.specs.Outgoing.{Outgoing}
 use Rattle.hdfs_namenode.specs.Clients.{SameClient, proxy_of}
 use Rattle.hdfs_namenode.proofs.Services.{reaches_later, same_client_refl, same_client_trans}
 use Rattle.hdfs_block_writer.specs.Pushing.{CanPush, PushesNot, PushesOnce}
+use Rattle.hdfs_block_writer.proofs.Allowed.{lets_pipe}
 use Rattle.hdfs_block_writer.proofs.PushingOn.{PushedSoFar, first_try, fewer_turns, later_so_far, not_again, still_more, tried_again, turns_left}
 use Rattle.hdfs_block_writer.proofs.block_writer.BlockWriter.push.Goals as goal
 
@@ -86,3 +87,10 @@ loop-packet-preserved g c =
       client = client;
       so_far = next;
     }
+
+pub push_once-requires-clause-allowed : goal.push_once-requires-clause-allowed
+push_once-requires-clause-allowed g c =
+    let t = still_more c.args.self.now.settings (g.C.Cluster.shown c.args.cluster.now) c.args.pipe c.args.self.now.length c.args.packet
+    (g.C.Cluster.shown c.loop-packet.cluster) c.loop-packet.pushed.pipe c.loop-packet.pushed.back c.in-Some.packet c.in-Some.is
+    c.loop-packet.invariant.so_far in
+    lets_pipe c.loop-packet.invariant.client.name t.1.continues.keeps c.requires.allowed

@@ -1,5 +1,5 @@
 -- The goals of BlockWriter::rebuild_ended.
-use Rattle.std.proofs.Common.{◌≡◌, [], sym, ◌∙◌, ap, subst, arith}
+use Rattle.std.proofs.Common.{◌≡◌, [], sym, ◌∙◌, ap, subst, arith, refl}
 use Rattle.hdfs_namenode.specs.Clients.{name_of, proxy_of}
 use Rattle.hdfs_namenode.proofs.Services.{reaches_same, same_service_refl}
 use Rattle.hdfs_block_reader.specs.Carrying.{total}
@@ -10,6 +10,7 @@ use Rattle.hdfs_rebuild.proofs.Tried.{err_by, ok_by}
 use Rattle.hdfs_block_writer.specs.Pushing.{FallsEnded, RebuildsEnded}
 use Rattle.hdfs_block_writer.proofs.EndedRebuilt.{bad_is, ended_bad, ended_given_up, ended_rebuilt, ended_same, ended_stopped, recovers_is}
 use Rattle.hdfs_block_writer.proofs.Standing.{can_rebuild_standing, standing_drove}
+use Rattle.hdfs_rebuild.proofs.Allowed.{lets_block}
 use Rattle.hdfs_block_writer.proofs.block_writer.BlockWriter.rebuild_ended.Goals as goal
 
 pub returns-in-Err-clause-err : goal.returns-in-Err-clause-err
@@ -82,3 +83,9 @@ returns-in-Ok-Bad-clause-err g c =
     ended_bad c.args.self.now.settings c.args.pipe (g.C.Cluster.shown c.args.cluster.now) z m d.last c.requires.standing c.requires.ended.0
     d.drove (g.met.C.Cluster.ends_row d.before c.drive_end.new.cluster c.args.pipe.link d.ended) d.is_core c.in-Ok-Bad.seqno _
     (bad_is d.last c.in-Ok-Bad.field-0 c.in-Ok-Bad.seqno d.has_ended d.is c.in-Ok-Bad.field-0-is)
+
+pub rebuild-requires-clause-allowed : goal.rebuild-requires-clause-allowed
+rebuild-requires-clause-allowed g c =
+    let is = c.with_length-plan.ensures in
+    lets_block refl (ap (λ (p : BlockPlan). p.src) is) (ap (λ (p : BlockPlan). p.block.b.pool_id) is) (ap (λ (p : BlockPlan). p.block.b.block_id) is)
+    c.requires.allowed

@@ -12,7 +12,7 @@ invariant-pieces g l = record {
   client : SameClient l.fn.namenode l.namenode;
   stands : Stands (g.C.Cluster.shown l.cluster) l.self;
   some : IsSome l.self.pipe;
-  allowed : MayGoOn g.C.Cluster.allows (name_of l.namenode) l.self;
+  allowed : MayGoOn g.C.Cluster.allows g.C.Cluster.may_answer (name_of l.namenode) l.self;
   room : l.self.length + length l.rest ≤ l.self.block_size;
   told : (done : List ℕ) × (l.fn.bytes ≡ done ++ l.rest) × Wrote (g.C.Cluster.shown l.fn.cluster) l.fn.self done (g.C.Cluster.shown l.cluster) l.self;
 }

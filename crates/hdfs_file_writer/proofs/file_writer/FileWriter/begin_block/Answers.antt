@@ -1,8 +1,8 @@
 -- The goals of FileWriter::begin_block.
-use Rattle.std.proofs.Common.{[], Some, List, ℕ, sym, subst}
+use Rattle.std.proofs.Common.{[], Some, List, ℕ, sym, subst, true}
 use Rattle.hdfs_file_writer.proofs.Joining.{wrote_trans, fails_after}
 use Rattle.hdfs_file_writer.specs.Writers.{IsAnswered}
-use Rattle.hdfs_cluster.specs.Requests.{IsAdded, IsAnsweredId}
+use Rattle.hdfs_cluster.specs.Requests.{IsAdded, IsAnsweredId, IsFirstSetup}
 use Rattle.hdfs_file_writer.proofs.file_writer.FileWriter.begin_block.Goals as goal
 
 pub returns-in-Ok-open_block-clause-wrote : goal.returns-in-Ok-open_block-clause-wrote
@@ -23,7 +23,7 @@ returns-in-Err-open_block-clause-err g c =
 
 pub open_block-requires-clause-answered : goal.open_block-requires-clause-answered
 open_block-requires-clause-answered g c =
-    subst (λ (client : List ℕ). IsAdded g.C.Cluster.may_answer client c.args.self.now.path c.args.self.now.file_id c.in-Ok.located.b)
+    subst (λ (client : List ℕ). IsAdded g.C.Cluster.may_answer client c.args.self.now.path c.args.self.now.file_id c.in-Ok.located)
     (sym c.next_block.ensures.client.name) c.in-Ok.ensures.answered
 
 pub open_block-requires-clause-id : goal.open_block-requires-clause-id
@@ -35,3 +35,8 @@ pub returns-in-Ok-open_block-clause-answered : goal.returns-in-Ok-open_block-cla
 returns-in-Ok-open_block-clause-answered g c =
     subst (λ (client : List ℕ). IsAnswered g.C.Cluster.may_answer client c.open_block.new.self) c.next_block.ensures.client.name
     c.in-Ok-open_block.ensures.answered
+
+pub open_block-requires-clause-allowed : goal.open_block-requires-clause-allowed
+open_block-requires-clause-allowed g c = λ setup first.
+    c.requires.allowed.opens c.in-Ok.located true c.in-Ok.ensures.answered setup
+    (subst (λ (client : List ℕ). IsFirstSetup c.in-Ok.located client setup) c.next_block.ensures.client.name first)

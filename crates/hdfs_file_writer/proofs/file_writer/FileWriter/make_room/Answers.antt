@@ -1,5 +1,5 @@
 -- The goals of FileWriter::make_room.
-use Rattle.std.proofs.Common.{[], sym, ◌∙◌, subst, ◌≡◌, None, IsSome, List, ℕ, refl}
+use Rattle.std.proofs.Common.{[], sym, ◌∙◌, subst, ◌≡◌, None, IsSome, List, ℕ, refl, false}
 use Rattle.std.proofs.lemmas.Bool.{false≢true}
 use Rattle.hdfs_namenode.specs.Clients.{proxy_of, name_of}
 use Rattle.hdfs_namenode.proofs.Services.{reaches_later}
@@ -52,7 +52,7 @@ open_block-requires-clause-answered g c =
     let w = c.args.self.now in
     let some = c.in-Some.ensures.some in
     let none : w.going ≡ None = c.requires.works.stands.apart (subst IsSome (sym some.0) refl) in
-    subst (λ (x : FileWriter). IsReopened g.C.Cluster.may_answer (name_of c.args.namenode.now) x.path c.in-Some.located.b) (sym some.2)
+    subst (λ (x : FileWriter). IsReopened g.C.Cluster.may_answer (name_of c.args.namenode.now) x.path c.in-Some.located) (sym some.2)
     (answered_reopened w none some.0 c.requires.answered)
 
 pub open_block-requires-clause-id : goal.open_block-requires-clause-id
@@ -79,5 +79,12 @@ returns-in-Ok-begin_block-clause-answered g c =
 
 pub open_block-requires-clause-allowed : goal.open_block-requires-clause-allowed
 open_block-requires-clause-allowed g c =
+    let w = c.args.self.now in
+    let some = c.in-Some.ensures.some in
+    let none : w.going ≡ None = c.requires.works.stands.apart (subst IsSome (sym some.0) refl) in
+    c.requires.allowed.opens c.in-Some.located false (answered_reopened w none some.0 c.requires.answered)
+
+pub finish_block-requires-clause-allowed : goal.finish_block-requires-clause-allowed
+finish_block-requires-clause-allowed g c =
     subst (λ (x : FileWriter). LetsWriteBlocks g.C.Cluster.allows g.C.Cluster.may_answer (name_of c.args.namenode.now) x.path x.file_id)
-    (sym c.in-Some.ensures.some.2) c.requires.allowed.blocks
+    (sym (c.take_reopened.ensures.none c.in-None.is)) c.requires.allowed.blocks

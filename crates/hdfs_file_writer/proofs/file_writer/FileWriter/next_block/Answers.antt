@@ -32,7 +32,5 @@ returns-in-Ok-clause-answered g c =
     ≡ asks.AddBlock w.path (name_of c.args.namenode.now) w.last [] w.file_id = cc (c.as_str.ensures, c.as_ref.ensures.value) in
     record {
       previous = w.last;
-      located = c.in-Ok.located;
       answered = subst (λ (ask : Ask). g.C.Cluster.may_answer ask (answers.AddBlock c.in-Ok.located)) asked c.in-Ok.ensures.answered;
-      same = (refl, refl);
     }

@@ -1,5 +1,5 @@
 -- The goals of FileWriter::open_block.
-use Rattle.std.proofs.Common.{Some, refl, sym, subst, arith}
+use Rattle.std.proofs.Common.{Some, refl, sym, subst, arith, ◌≡◌, ap}
 use Rattle.hdfs_cluster.specs.declared.errors.HdfsError.{HdfsError}
 use Rattle.hdfs_namenode.specs.Clients.{name_of}
 use Rattle.hdfs_block_writer.specs.Packing.{setup_of}
@@ -8,15 +8,18 @@ use Rattle.hdfs_block_writer.specs.Written.{BeginsWhole, IsNew}
 use Rattle.hdfs_file_writer.specs.Writers.{FailsOtherwise, plan_of}
 use Rattle.hdfs_file_writer.proofs.Standing.{begun_stands, opened_wrote, unopened_fails}
 use Rattle.hdfs_file_writer.proofs.Allowed.{answered_new, answered_with}
-use Rattle.hdfs_cluster.specs.Requests.{IsAnsweredBlock}
+use Rattle.hdfs_cluster.specs.Requests.{IsAnsweredBlock, IsFirstSetup}
+use Rattle.hdfs_cluster.specs.declared.messages.LocatedBlock.{LocatedBlock}
 use Rattle.hdfs_file_writer.proofs.file_writer.FileWriter.open_block.Goals as goal
 
 pub replicated-requires-clause-allowed : goal.replicated-requires-clause-allowed
 replicated-requires-clause-allowed g c =
     let plan = c.in-Ok.plan in
-    let answered = subst (λ (x : BlockPlan). IsAnsweredBlock g.C.Cluster.may_answer (name_of c.args.namenode.now) c.args.self.now.path c.args.self.now.file_id
-    x.created x.block.b) (sym c.in-Ok.ensures) c.requires.answered in
-    (c.requires.allowed plan.block.b plan.created answered).sets_up (setup_of plan.block plan.chunk (name_of c.args.namenode.now)) (refl, refl) refl
+    let client = name_of c.args.namenode.now in
+    let located : plan.block ≡ c.args.located = ap (λ (x : BlockPlan). x.block) c.in-Ok.ensures in
+    c.requires.allowed (setup_of plan.block plan.chunk client)
+    (subst (λ (x : LocatedBlock). IsFirstSetup x client (setup_of plan.block plan.chunk client)) located
+    (record { block = refl; nodes = refl; stamp = refl; token = refl; named = refl }))
 
 pub returns-in-Ok-replicated-clause-stands : goal.returns-in-Ok-replicated-clause-stands
 returns-in-Ok-replicated-clause-stands g c =
@@ -65,4 +68,4 @@ returns-in-Ok-replicated-clause-answered g c =
     answered_with w (record w { going = Some block }) block (record { path = refl; file_id = refl; sizes = refl }) refl c.requires.id
     (answered_new g.C.Cluster.may_answer (name_of c.args.namenode.now) w.path w.file_id c.in-Ok.plan block c.in-Ok-replicated.ensures.new
     (subst (λ (x : BlockPlan). IsAnsweredBlock g.C.Cluster.may_answer (name_of c.args.namenode.now) w.path w.file_id x.created x.block.b) (sym c.in-Ok.ensures)
-    c.requires.answered))
+    (record { located = c.args.located; answered = c.requires.answered; same = (refl, refl) })))

@@ -1,5 +1,6 @@
 -- The goals of FileWriter::refuse: no block is being written, so that no call touches a datanode.
 use Rattle.std.proofs.Common.{[], Some, refl, sym, ap, subst, ◌∙◌}
+use Rattle.hdfs_cluster.specs.Requests.{LetsWriteBlocks}
 use Rattle.hdfs_cluster.specs.Shown.{SameNodes, Shown}
 use Rattle.hdfs_namenode.specs.Clients.{proxy_of, name_of}
 use Rattle.hdfs_namenode.proofs.Services.{reaches_later, same_client_trans}
@@ -73,3 +74,8 @@ returns-in-Err-next_block-clause-fails g c =
 pub finish_block-requires-clause-answered : goal.finish_block-requires-clause-answered
 finish_block-requires-clause-answered g c =
     subst (IsAnswered g.C.Cluster.may_answer (name_of c.args.namenode.now)) (sym (c.take_reopened.ensures.none c.in-None.is)) c.requires.answered
+
+pub finish_block-requires-clause-allowed : goal.finish_block-requires-clause-allowed
+finish_block-requires-clause-allowed g c =
+    subst (λ (x : FileWriter). LetsWriteBlocks g.C.Cluster.allows g.C.Cluster.may_answer (name_of c.args.namenode.now) x.path x.file_id)
+    (sym (c.take_reopened.ensures.none c.in-None.is)) c.requires.allowed.blocks
