@@ -171,7 +171,7 @@ module _ (settings : RebuildSettings) (client : List ℕ) (a : Shown) (pipe : Bl
       cause faults.Link why = (node_rose, links_rose why)
       cause faults.Setup why = (node_rose, links_rose why)
       cause (faults.BadAck seqno) why = links_rose why
-      cause faults.AllNodes why = (node_rose, all_listed why.0 why.1)
+      cause faults.AllNodes why = (node_rose, all_listed why.0 why.2)
       cause faults.NoReplacement why = (
         why.1,
         node_rose,

@@ -5,7 +5,7 @@ use Rattle.hdfs_cluster.specs.Picture.{Picture}
 use Rattle.hdfs_cluster.specs.Pipes.{FollowsOn}
 use Rattle.hdfs_cluster.specs.declared.asks.Answer.{Answer}
 use Rattle.hdfs_cluster.specs.declared.asks.Ask.{Ask}
-use Rattle.hdfs_cluster.specs.Requests.{Request, LetsWriteBlock}
+use Rattle.hdfs_cluster.specs.Requests.{Request, LetsGoOn}
 use Rattle.hdfs_cluster.specs.Shown.{Shown}
 use Rattle.hdfs_pipeline.specs.Driving.{IsNotLast}
 use Rattle.hdfs_block_reader.specs.Carrying.{joined, total}
@@ -48,10 +48,10 @@ rebuilds_of writer = rebuilds_in writer.pipe
 abbrev pub HasFailed : BlockWriter → Type 0
 HasFailed writer = writer.pipe ≡ None
 
--- leave to go on with the writer's block in the name of a client
+-- leave to go on with the writer's block in the name of a client, behind its pipeline, which was answered
 abbrev pub MayGoOn : (Request → Type 0) → (Ask → Answer → Type 0) → List ℕ → BlockWriter → Type 0
 MayGoOn allows may_answer client writer =
-    (pipe : BlockPipeline) → writer.pipe ≡ Some pipe → LetsWriteBlock allows may_answer client pipe.plan.src pipe.plan.block.b
+    (pipe : BlockPipeline) → writer.pipe ≡ Some pipe → LetsGoOn allows may_answer client pipe.plan.src pipe.plan.block
 
 -- how many bytes are acknowledged: those before the packets that wait, and before the one that is being filled
 abbrev pub safe_of : BlockWriter → BlockPipeline → ℕ

@@ -8,6 +8,7 @@ use Rattle.hdfs_pipeline.specs.Driving.{Drives, Drove, EndsInLast, IsNotLast}
 use Rattle.hdfs_pipeline.specs.Pipelines.{Pipeline}
 use Rattle.hdfs_block_reader.specs.Carrying.{FollowFrom, total}
 use Rattle.hdfs_rebuild.specs.declared.block_plan.BlockPipeline.{BlockPipeline}
+use Rattle.hdfs_rebuild.specs.declared.block_plan.BlockPlan.{BlockPlan}
 use Rattle.hdfs_rebuild.specs.declared.block_plan.RebuildSettings.{RebuildSettings}
 use Rattle.hdfs_rebuild.specs.declared.block_plan.WriteFault.{WriteFault}
 use Rattle.hdfs_block_writer.specs.declared.pushing.PushedOnce.{PushedOnce}
@@ -64,6 +65,11 @@ FallsEnded settings old pipe fault new =
 abbrev pub Settles : RebuildSettings → Shown → BlockPipeline → Settled → Shown → Type 0
 Settles settings old pipe (settled.Done plan) new = Finishes settings old pipe new plan
 Settles settings old pipe (settled.Rebuilt pipe') new = IsRebuilt settings old pipe [] new pipe' × (0 < len pipe'.core.pushed)
+
+-- the block's plan then
+abbrev pub plan_in : Settled → BlockPlan
+plan_in (settled.Done plan) = plan
+plan_in (settled.Rebuilt pipe) = pipe.plan
 
 -- A pipeline's link was ended only once its datanodes had received its packets, the last of which is this one.
 abbrev pub ReceivesAll : {C : Type 0} → (C → Shown) → (C → ℕ → C → Type 0) → C → BlockPipeline → C → Type 0

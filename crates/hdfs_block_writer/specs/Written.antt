@@ -1,11 +1,15 @@
 -- What the calls of a writer of one block do.
 use Rattle.std.specs.Prelude.{◌≡◌, ◌⊎◌, ℕ, pos, ◌+◌, ◌≤◌, true, List, [], ◌++◌, length, Some, None}
 use Rattle.hdfs_wire.specs.Outgoing.{Outgoing}
+use Rattle.hdfs_cluster.specs.declared.asks.Answer.{Answer}
+use Rattle.hdfs_cluster.specs.declared.asks.Ask.{Ask}
 use Rattle.hdfs_cluster.specs.declared.messages.Block.{Block}
+use Rattle.hdfs_cluster.specs.declared.messages.LocatedBlock.{LocatedBlock}
 use Rattle.hdfs_cluster.specs.declared.messages.Setup.{Setup}
 use Rattle.hdfs_cluster.specs.Effects.{IsBeingWritten}
 use Rattle.hdfs_cluster.specs.Picture.{Picture}
 use Rattle.hdfs_cluster.specs.Pipes.{WriteEnded, WriteOpened}
+use Rattle.hdfs_cluster.specs.Requests.{IsNamed, IsPipelineOf}
 use Rattle.hdfs_cluster.specs.Sending.{uuids}
 use Rattle.hdfs_cluster.specs.Shown.{Shown}
 use Rattle.hdfs_cluster.specs.Writing.{OnlyBlock}
@@ -18,6 +22,7 @@ use Rattle.hdfs_rebuild.specs.declared.block_plan.WriteFault.{WriteFault}
 use Rattle.hdfs_block_writer.specs.declared.block_writer.BlockWriter.{BlockWriter}
 use Rattle.hdfs_block_writer.specs.BlockWriters.{AreFull, Carries, HasFailed, length_of, link_of, size_of, start_of}
 use Rattle.hdfs_rebuild.specs.Between.{OnlyBlockOf}
+use Rattle.hdfs_rebuild.specs.Plans.{StaysAnswered}
 pub use Rattle.hdfs_rebuild.specs.Opening.{OpensNone, fault_of}
 use Rattle.hdfs_block_writer.specs.OpenPipelines.{EndsReceived, GivesUp, IsSteady, KeepsBlock, KeepsStamp, OnlyOwnLink, RebuiltOnFailures, id_of, nodes_of}
 
@@ -68,6 +73,16 @@ CarriesMore old writer more new writer' = (p : Picture) (bytes : List ℕ) → o
 abbrev pub PipelineStays : Shown → BlockWriter → Shown → BlockWriter → Type 0
 PipelineStays old writer new writer' = (pipe : BlockPipeline) → writer.pipe ≡ Some pipe
     → (pipe' : BlockPipeline) × (writer'.pipe ≡ Some pipe') × KeepsBlock pipe.plan pipe'.plan × IsSteady old pipe new pipe'
+
+-- whatever block it is of: where the writer's pipeline was answered so, it is so behind a call
+abbrev pub GoesOnAnswered : (Ask → Answer → Type 0) → List ℕ → BlockWriter → BlockWriter → Type 0
+GoesOnAnswered may_answer client writer writer' = (pipe pipe' : BlockPipeline) → writer.pipe ≡ Some pipe → writer'.pipe ≡ Some pipe'
+    → StaysAnswered may_answer client pipe.plan pipe'.plan
+
+-- whatever block it is of: where the writer's pipeline was answered so, this is its name, with a generation stamp that was answered for it
+abbrev pub ClosesAnswered : (Ask → Answer → Type 0) → List ℕ → BlockWriter → Block → Type 0
+ClosesAnswered may_answer client writer block = (pipe : BlockPipeline) → writer.pipe ≡ Some pipe → (first : LocatedBlock)
+    → IsPipelineOf may_answer client pipe.plan.src first pipe.plan.block → IsNamed may_answer client first block
 
 -- These bytes were taken.
 pub record Wrote (old : Shown) (writer : BlockWriter) (more : List ℕ) (new : Shown) (writer' : BlockWriter) : Type 0 where

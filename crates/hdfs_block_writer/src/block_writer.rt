@@ -47,7 +47,7 @@ impl BlockWriter {
     ghost use Rattle.hdfs_rebuild.specs.declared.block_plan.BlockPipeline.{BlockPipeline};
     ghost use Rattle.hdfs_wire.specs.Outgoing.{ArePacketSizes};
     ghost use Rattle.hdfs_block_writer.specs.BlockWriters.{length_of, size_of, HasFailed, MayGoOn, SendsFull, Holds, Stands};
-    ghost use Rattle.hdfs_block_writer.specs.Written.{IsNew, OpensLink, OpensNone, BeginsWhole, Wrote, StaysFull, GaveUp, Fails, Ends, Closes, WaitsForLast, LetsGo};
+    ghost use Rattle.hdfs_block_writer.specs.Written.{IsNew, OpensLink, OpensNone, BeginsWhole, Wrote, StaysFull, GaveUp, GoesOnAnswered, Fails, Ends, Closes, ClosesAnswered, WaitsForLast, LetsGo};
 
     /// Opens the pipeline of a block, which goes on behind the bytes that the block has. `packet_size` is the most bytes that a packet has
     /// with its header and checksums; 0 stands for one chunk. `settings` say how many packets wait for their acknowledgement, and how the
@@ -128,6 +128,7 @@ impl BlockWriter {
         ensures full { OnOk result (StaysFull self.old self.new) }
         ensures wrote { OnOk result (Wrote (C.shown cluster.old) self.old [] (C.shown cluster.new) self.new) }
         ensures err { IfErr result (λ fault. Fails (C.shown cluster.old) self.old fault (C.shown cluster.new) self.new) }
+        ensures answered { OnOk result (GoesOnAnswered C.may_answer (name_of namenode.old) self.old self.new) }
         ensures client { SameClient namenode.old namenode.new }
     {
         let Some(packet) = self.packet.take() else {
@@ -157,6 +158,7 @@ impl BlockWriter {
         ensures stands { OnOk result (Stands (C.shown cluster.new) self.new) }
         ensures wrote { OnOk result (Wrote (C.shown cluster.old) self.old [] (C.shown cluster.new) self.new) }
         ensures err { IfErr result (λ fault. Fails (C.shown cluster.old) self.old fault (C.shown cluster.new) self.new) }
+        ensures answered { OnOk result (GoesOnAnswered C.may_answer (name_of namenode.old) self.old self.new) }
         ensures client { SameClient namenode.old namenode.new }
     {
         if !self.has_full_packet() {
@@ -182,6 +184,7 @@ impl BlockWriter {
         ensures wrote { IfOk result (λ n. (0 < n) × (n ≤ length bytes.now)
             × Wrote (C.shown cluster.old) self.old (take n bytes.now) (C.shown cluster.new) self.new) }
         ensures err { IfErr result (λ fault. Fails (C.shown cluster.old) self.old fault (C.shown cluster.new) self.new) }
+        ensures answered { OnOk result (GoesOnAnswered C.may_answer (name_of namenode.old) self.old self.new) }
         ensures client { SameClient namenode.old namenode.new }
     {
         let Ok(count) = self.fill(bytes) else {
@@ -207,6 +210,7 @@ impl BlockWriter {
         ensures stands { OnOk result (Stands (C.shown cluster.new) self.new) }
         ensures wrote { OnOk result (Wrote (C.shown cluster.old) self.old bytes.now (C.shown cluster.new) self.new) }
         ensures err { IfErr result (λ fault. Fails (C.shown cluster.old) self.old fault (C.shown cluster.new) self.new) }
+        ensures answered { OnOk result (GoesOnAnswered C.may_answer (name_of namenode.old) self.old self.new) }
         ensures client { SameClient namenode.old namenode.new }
     {
         let mut rest = bytes;
@@ -239,6 +243,7 @@ impl BlockWriter {
 
         // Over a told picture these bytes are carried too, whatever datanodes fail, and nothing changes but the block.
         ensures wrote { IfOk result (λ n. Wrote (C.shown cluster.old) self.old (take n bytes.now) (C.shown cluster.new) self.new) }
+        ensures answered { OnOk result (GoesOnAnswered C.may_answer (name_of namenode.old) self.old self.new) }
         ensures client { SameClient namenode.old namenode.new }
     {
         if self.has_failed() {
@@ -264,6 +269,7 @@ impl BlockWriter {
         ensures closed { IfOk result (λ block. Closes (C.shown cluster.old) self.old block (C.shown cluster.new)) }
         ensures last { OnOk result (WaitsForLast C.shown C.ends cluster.old self.old cluster.new) }
         ensures err { IfErr result (λ fault. GaveUp (C.shown cluster.old) self.old fault (C.shown cluster.new)) }
+        ensures answered { IfOk result (ClosesAnswered C.may_answer (name_of namenode.old) self.old) }
         ensures client { SameClient namenode.old namenode.new }
     {
         let Ok(packet) = self.last_packet() else {
@@ -297,6 +303,7 @@ impl BlockWriter {
         ensures last { OnOk result (WaitsForLast C.shown C.ends cluster.old self cluster.new) }
         ensures err { IfErr result (λ fault. GaveUp (C.shown cluster.old) self fault (C.shown cluster.new)) }
         ensures failed { HasFailed self → (result ≡ Err faults.Failed) × (cluster.new ≡ cluster.old) }
+        ensures answered { IfOk result (ClosesAnswered C.may_answer (name_of namenode.old) self) }
         ensures client { SameClient namenode.old namenode.new }
     {
         let closed = self.flush_and_end(cluster, namenode);
@@ -317,6 +324,7 @@ impl BlockWriter {
         ensures last { OnOk result (WaitsForLast C.shown C.ends cluster.old self.old cluster.new) }
         ensures err { IfErr result (λ fault. GaveUp (C.shown cluster.old) self.old fault (C.shown cluster.new)) }
         ensures failed { HasFailed self.old → (result ≡ Err faults.Failed) × (cluster.new ≡ cluster.old) }
+        ensures answered { IfOk result (ClosesAnswered C.may_answer (name_of namenode.old) self.old) }
         ensures client { SameClient namenode.old namenode.new }
     {
         if self.pipe.is_none() {

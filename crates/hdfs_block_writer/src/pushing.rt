@@ -47,13 +47,14 @@ fn bytes_of(packet: &Option<WritePacket>) -> u64
 }
 
 impl BlockWriter {
-    ghost use Rattle.hdfs_cluster.specs.Requests.{LetsWriteBlock};
+    ghost use Rattle.hdfs_cluster.specs.Requests.{LetsGoOn};
     ghost use Rattle.hdfs_namenode.specs.Asked.{ReachesAll};
     ghost use Rattle.hdfs_namenode.specs.Clients.{SameClient, name_of, proxy_of};
     ghost use Rattle.hdfs_pipeline.specs.Pipelines.{Done};
     ghost use Rattle.hdfs_block_reader.specs.Carrying.{total};
+    ghost use Rattle.hdfs_rebuild.specs.Plans.{StaysAnswered};
     ghost use Rattle.hdfs_block_writer.specs.OpenPipelines.{Finishes, IsStanding};
-    ghost use Rattle.hdfs_block_writer.specs.Pushing.{CanPush, FallsEnded, FallsFor, FinishesNot, IsEnding, Pushes, PushesNot, PushesOnce, ReceivesAll, ReceivesOnce, RebuildsEnded, Settles};
+    ghost use Rattle.hdfs_block_writer.specs.Pushing.{CanPush, FallsEnded, FallsFor, FinishesNot, IsEnding, Pushes, PushesNot, PushesOnce, ReceivesAll, ReceivesOnce, RebuildsEnded, Settles, plan_in};
 
     /// Rebuilds a pipeline of the block that has ended, and whose link is ended first. Its packets are sent again. Behind them the block
     /// has `unsent` bytes.
@@ -65,12 +66,13 @@ impl BlockWriter {
         unsent: u64,
     ) -> Result<BlockPipeline, WriteFault>
         requires reaches { ReachesAll (proxy_of namenode.old) (C.shown cluster.old) }
-        requires allowed { LetsWriteBlock C.allows C.may_answer (name_of namenode.old) pipe.plan.src pipe.plan.block.b }
+        requires allowed { LetsGoOn C.allows C.may_answer (name_of namenode.old) pipe.plan.src pipe.plan.block }
         requires standing { IsStanding self.now.settings (C.shown cluster.old) pipe [] }
         requires ended { IsSome pipe.core.end × (pipe.core.end ≡ Some Done → ⊥) }
         requires few { (total pipe.core.pushed + unsent ≤ self.now.length) × (self.now.length < 2 ^ 63) }
         ensures ok { IfOk result (λ pipe'. RebuildsEnded self.now.settings (C.shown cluster.old) pipe (C.shown cluster.new) pipe') }
         ensures err { IfErr result (λ fault. FallsEnded self.now.settings (C.shown cluster.old) pipe fault (C.shown cluster.new)) }
+        ensures answered { IfOk result (λ pipe'. StaysAnswered C.may_answer (name_of namenode.old) pipe.plan pipe'.plan) }
         ensures client { SameClient namenode.old namenode.new }
     {
         let BlockPipeline { plan, core, link } = pipe;
@@ -112,12 +114,13 @@ impl BlockWriter {
         packet: WritePacket,
     ) -> Result<PushedOnce, WriteFault>
         requires reaches { ReachesAll (proxy_of namenode.old) (C.shown cluster.old) }
-        requires allowed { LetsWriteBlock C.allows C.may_answer (name_of namenode.old) pipe.plan.src pipe.plan.block.b }
+        requires allowed { LetsGoOn C.allows C.may_answer (name_of namenode.old) pipe.plan.src pipe.plan.block }
         requires can { CanPush self.now.settings (C.shown cluster.old) pipe self.now.length packet }
         ensures ok { IfOk result (λ pushed.
             PushesOnce self.now.settings (C.shown cluster.old) pipe packet pushed (C.shown cluster.new)) }
         ensures err { IfErr result (λ fault.
             PushesNot self.now.settings (C.shown cluster.old) pipe packet fault (C.shown cluster.new)) }
+        ensures answered { IfOk result (λ pushed. StaysAnswered C.may_answer (name_of namenode.old) pipe.plan pushed.pipe.plan) }
         ensures client { SameClient namenode.old namenode.new }
     {
         match drive_push(&mut pipe.core, cluster, pipe.link, packet) {
@@ -146,11 +149,12 @@ impl BlockWriter {
         packet: WritePacket,
     ) -> Result<BlockPipeline, WriteFault>
         requires reaches { ReachesAll (proxy_of namenode.old) (C.shown cluster.old) }
-        requires allowed { LetsWriteBlock C.allows C.may_answer (name_of namenode.old) pipe.plan.src pipe.plan.block.b }
+        requires allowed { LetsGoOn C.allows C.may_answer (name_of namenode.old) pipe.plan.src pipe.plan.block }
         requires can { CanPush self.now.settings (C.shown cluster.old) pipe self.now.length packet }
         ensures ok { IfOk result (λ pipe'. Pushes self.now.settings (C.shown cluster.old) pipe packet (C.shown cluster.new) pipe') }
         ensures err { IfErr result (λ fault.
             PushesNot self.now.settings (C.shown cluster.old) pipe packet fault (C.shown cluster.new)) }
+        ensures answered { IfOk result (λ pipe'. StaysAnswered C.may_answer (name_of namenode.old) pipe.plan pipe'.plan) }
         ensures client { SameClient namenode.old namenode.new }
     {
         let mut pushed = PushedOnce {
@@ -175,13 +179,14 @@ impl BlockWriter {
         pipe: BlockPipeline,
     ) -> Result<Settled, WriteFault>
         requires reaches { ReachesAll (proxy_of namenode.old) (C.shown cluster.old) }
-        requires allowed { LetsWriteBlock C.allows C.may_answer (name_of namenode.old) pipe.plan.src pipe.plan.block.b }
+        requires allowed { LetsGoOn C.allows C.may_answer (name_of namenode.old) pipe.plan.src pipe.plan.block }
         requires standing { IsStanding self.now.settings (C.shown cluster.old) pipe [] }
         requires ending { IsEnding pipe }
         requires few { (total pipe.core.pushed ≤ self.now.length) × (self.now.length < 2 ^ 63) }
         ensures ok { IfOk result (λ settled. Settles self.now.settings (C.shown cluster.old) pipe settled (C.shown cluster.new)) }
         ensures last { IfOk result (λ settled. ReceivesOnce C.shown C.ends cluster.old pipe settled cluster.new) }
         ensures err { IfErr result (λ fault. FallsFor self.now.settings (C.shown cluster.old) pipe [] fault (C.shown cluster.new)) }
+        ensures answered { IfOk result (λ settled. StaysAnswered C.may_answer (name_of namenode.old) pipe.plan (plan_in settled)) }
         ensures client { SameClient namenode.old namenode.new }
     {
         let BlockPipeline { plan, core, link } = pipe;
@@ -223,13 +228,14 @@ impl BlockWriter {
         pipe: BlockPipeline,
     ) -> Result<BlockPlan, WriteFault>
         requires reaches { ReachesAll (proxy_of namenode.old) (C.shown cluster.old) }
-        requires allowed { LetsWriteBlock C.allows C.may_answer (name_of namenode.old) pipe.plan.src pipe.plan.block.b }
+        requires allowed { LetsGoOn C.allows C.may_answer (name_of namenode.old) pipe.plan.src pipe.plan.block }
         requires standing { IsStanding self.now.settings (C.shown cluster.old) pipe [] }
         requires ending { IsEnding pipe }
         requires few { (total pipe.core.pushed ≤ self.now.length) × (self.now.length < 2 ^ 63) }
         ensures finishes { IfOk result (λ plan. Finishes self.now.settings (C.shown cluster.old) pipe (C.shown cluster.new) plan) }
         ensures last { OnOk result (ReceivesAll C.shown C.ends cluster.old pipe cluster.new) }
         ensures err { IfErr result (λ fault. FinishesNot self.now.settings (C.shown cluster.old) pipe fault (C.shown cluster.new)) }
+        ensures answered { IfOk result (StaysAnswered C.may_answer (name_of namenode.old) pipe.plan) }
         ensures client { SameClient namenode.old namenode.new }
     {
         let mut pipe = pipe;

@@ -1,19 +1,20 @@
 -- What a cluster is asked for, and what its client has leave to ask for. A cluster says once and for all which requests it allows, and a
 -- call that makes one wants leave for it. So a function over any cluster makes no request but those that its own clauses give it leave for.
-use Rattle.std.specs.Prelude.{◌≡◌, ◌⊎◌, ℕ, ◌-◌, ◌^◌, Bool, true, false, List, [], Contains, length, Option, Some, None}
+use Rattle.std.specs.Prelude.{◌≡◌, ◌≢◌, ◌⊎◌, ℕ, ◌+◌, ◌-◌, ◌^◌, ◌==◌, Bool, true, false, List, [], ◌∷◌, Contains, length, map, Option, Some, None, IfSome, if◌then◌else◌, slice_get}
+use Rattle.std.specs.List.{list_any}
 use Rattle.hdfs_cluster.specs.declared.asks.Answer.{Answer}
 use Rattle.hdfs_cluster.specs.declared.asks.Answer.TheVariants as answers
 use Rattle.hdfs_cluster.specs.declared.asks.Ask.{Ask}
 use Rattle.hdfs_cluster.specs.declared.asks.Ask.TheVariants as asks
 use Rattle.hdfs_cluster.specs.declared.messages.Appended.{Appended}
 use Rattle.hdfs_cluster.specs.declared.messages.Block.{Block}
-use Rattle.hdfs_cluster.specs.declared.messages.DatanodeId.{DatanodeId}
 use Rattle.hdfs_cluster.specs.declared.messages.DatanodeInfo.{DatanodeInfo}
 use Rattle.hdfs_cluster.specs.declared.messages.FileStatusMsg.{FileStatusMsg}
 use Rattle.hdfs_cluster.specs.declared.messages.LocatedBlock.{LocatedBlock}
 use Rattle.hdfs_cluster.specs.declared.messages.LocatedBlocks.{LocatedBlocks}
 use Rattle.hdfs_cluster.specs.declared.messages.ReadAsk.{ReadAsk}
 use Rattle.hdfs_cluster.specs.declared.messages.Setup.{Setup}
+use Rattle.hdfs_cluster.specs.declared.messages.Stage.TheVariants as stages
 use Rattle.hdfs_cluster.specs.declared.messages.Token.{Token}
 use Rattle.hdfs_cluster.specs.declared.messages.Transfer.{Transfer}
 
@@ -55,12 +56,6 @@ abbrev pub IsAnsweredLocated : (Ask → Answer → Type 0) → List ℕ → List
 IsAnsweredLocated may_answer client path file_id true located = IsAdded may_answer client path file_id located
 IsAnsweredLocated may_answer client path file_id false located = IsReopened may_answer client path located
 
--- a block that was answered to the writer of its file, whatever its generation stamp and its length are by now
-pub record IsAnsweredBlock (may_answer : Ask → Answer → Type 0) (client path : List ℕ) (file_id : Option ℕ) (created : Bool) (block : Block) : Type 0 where
-  pub located : LocatedBlock
-  pub answered : IsAnsweredLocated may_answer client path file_id created located
-  pub same : IsSameBlock located.b block
-
 -- the generation stamp and the token that were answered where a block is to have another pipeline
 pub record IsStamped (may_answer : Ask → Answer → Type 0) (client : List ℕ) (block : Block) (stamp : ℕ) (token : Token) : Type 0 where
   pub named : Block
@@ -70,13 +65,95 @@ pub record IsStamped (may_answer : Ask → Answer → Type 0) (client : List ℕ
   pub stamp_is : stamp ≡ located.b.generation_stamp
   pub token_is : token ≡ located.block_token
 
--- the first pipeline of a block is set up as the block was answered: on its datanodes, with its generation stamp and its token
+-- the generation stamp and the token of a pipeline of a block that was answered so first: those of that answer, or of one to have another
+abbrev pub IsStampOf : (Ask → Answer → Type 0) → List ℕ → LocatedBlock → ℕ → Token → Type 0
+IsStampOf may_answer client first stamp token =
+    ((stamp ≡ first.b.generation_stamp) × (token ≡ first.block_token)) ⊎ IsStamped may_answer client first.b stamp token
+
+-- the name of a block that was answered so first, with a generation stamp that was answered for it, whatever its length is
+pub record IsNamed (may_answer : Ask → Answer → Type 0) (client : List ℕ) (first : LocatedBlock) (named : Block) : Type 0 where
+  pub same : IsSameBlock first.b named
+  pub token : Token
+  pub stamped : IsStampOf may_answer client first named.generation_stamp token
+
+-- it was answered where a datanode more was wanted for a block of the file at a path, whatever others were named
+pub record IsEnlarged (may_answer : Ask → Answer → Type 0) (client path : List ℕ) (block : Block) (located : LocatedBlock) : Type 0 where
+  pub named : Block
+  pub existing : List DatanodeInfo
+  pub excluded : List DatanodeInfo
+  pub storages : List (List ℕ)
+  pub answered : may_answer (asks.GetAdditionalDatanode path named existing excluded 1 client storages) (answers.GetAdditionalDatanode located)
+  pub same : IsSameBlock block named
+
+-- the items but those at some places, where the first item has this one
+abbrev pub without : {T : Type 0} → ℕ → List ℕ → List T → List T
+without at places [] = []
+without at places (item ∷ items) =
+    if list_any (λ place. place == at) places then without (at + 1) places items else item ∷ without (at + 1) places items
+
+-- The datanodes of a pipeline of a block that was answered so first, with the types and the ids of their storages: they were answered
+-- together, with the block or where a datanode more was wanted for it, or they are what is left of such without those at some places.
+pub data ArePlaced (may_answer : Ask → Answer → Type 0) (client path : List ℕ) (first : LocatedBlock)
+    : List DatanodeInfo → List ℕ → List (List ℕ) → Type 0 where
+  AsFirst : ArePlaced may_answer client path first first.locs first.storage_types first.storage_ids
+  Enlarged : (located : LocatedBlock) → IsEnlarged may_answer client path first.b located
+      → ArePlaced may_answer client path first located.locs located.storage_types located.storage_ids
+  Left : (places : List ℕ) (nodes : List DatanodeInfo) (types : List ℕ) (ids : List (List ℕ))
+      → ArePlaced may_answer client path first nodes types ids
+      → ArePlaced may_answer client path first (without 0 places nodes) (without 0 places types) (without 0 places ids)
+
+-- A pipeline of a block that was answered so first, whatever its length is by now: its name, its token, and its datanodes with their
+-- storages were answered for it.
+pub record IsPipelineOf (may_answer : Ask → Answer → Type 0) (client path : List ℕ) (first pipeline : LocatedBlock) : Type 0 where
+  pub same : IsSameBlock first.b pipeline.b
+  pub stamped : IsStampOf may_answer client first pipeline.b.generation_stamp pipeline.block_token
+  pub placed : ArePlaced may_answer client path first pipeline.locs pipeline.storage_types pipeline.storage_ids
+
+-- a block that was answered to the writer of its file, with a generation stamp that was answered for it, whatever its length is by now
+pub record IsAnsweredBlock (may_answer : Ask → Answer → Type 0) (client path : List ℕ) (file_id : Option ℕ) (block : Block) : Type 0 where
+  pub created : Bool
+  pub first : LocatedBlock
+  pub answered : IsAnsweredLocated may_answer client path file_id created first
+  pub named : IsNamed may_answer client first block
+
+-- The first pipeline of a block is set up as the block was answered: on its datanodes, in their storages, with its generation stamp and its
+-- token, and with just its bytes. It is new where it has none, else it is gone on with behind those. How many bytes have a checksum together
+-- is free.
 pub record IsFirstSetup (located : LocatedBlock) (client : List ℕ) (setup : Setup) : Type 0 where
   pub block : setup.block ≡ located.b
+  pub stage : setup.stage ≡ (if located.b.num_bytes == 0 then stages.Create else stages.Append)
   pub nodes : setup.locs ≡ located.locs
+  pub types : setup.storage_types ≡ located.storage_types
+  pub ids : setup.storage_ids ≡ located.storage_ids
   pub stamp : setup.stamp ≡ located.b.generation_stamp
+  pub bytes : (setup.min_bytes ≡ located.b.num_bytes) × (setup.max_bytes ≡ located.b.num_bytes)
   pub token : setup.token ≡ located.block_token
   pub named : setup.client ≡ client
+
+-- A later pipeline of a block that was answered so first: the block is named so, and is to be gone on with behind a pipeline that has
+-- failed; its new generation stamp and its token were answered for that, and its datanodes with their storages for it.
+pub record IsLaterSetup (may_answer : Ask → Answer → Type 0) (client path : List ℕ) (first : LocatedBlock) (setup : Setup) : Type 0 where
+  pub block : IsNamed may_answer client first setup.block
+  pub stage : setup.stage ≡ stages.Recovery
+  pub stamped : IsStamped may_answer client first.b setup.stamp setup.token
+  pub placed : ArePlaced may_answer client path first setup.locs setup.storage_types setup.storage_ids
+  pub named : setup.client ≡ client
+
+-- A datanode is given a block that was answered so first, with the token of an answer where one more was wanted for it. It is one of the
+-- datanodes of that answer, and so is the one that gives the block, another one.
+pub record IsGivenSo (may_answer : Ask → Answer → Type 0) (client path : List ℕ) (first : LocatedBlock) (transfer : Transfer) : Type 0 where
+  pub block : IsNamed may_answer client first transfer.block
+  pub located : LocatedBlock
+  pub enlarged : IsEnlarged may_answer client path first.b located
+  pub token : transfer.token ≡ located.block_token
+  pub source : ℕ
+  pub gives : slice_get located.locs source ≡ Some transfer.source
+  pub place : ℕ
+  pub target : DatanodeInfo
+  pub takes : slice_get located.locs place ≡ Some target
+  pub alone : transfer.targets ≡ target ∷ []
+  pub apart : source ≢ place
+  pub named : transfer.client ≡ client
 
 -- the id that a status tells
 abbrev pub id_in : Option FileStatusMsg → Option ℕ
@@ -105,35 +182,50 @@ abbrev pub IsAnsweredId : (Ask → Answer → Type 0) → List ℕ → List ℕ 
 IsAnsweredId may_answer client path file_id =
     IsIdOfCreated may_answer client path file_id ⊎ IsIdOfAppended may_answer client path file_id
 
--- Leave to write a block of the file at a path in the name of a client behind its first pipeline: to set up others, with a generation stamp
--- and a token that were answered, to have it given to one datanode, and to ask for what a rebuild asks for. One datanode more is asked for,
--- and as many storages are named as datanodes.
-pub record LetsWriteBlock (allows : Request → Type 0) (may_answer : Ask → Answer → Type 0) (client path : List ℕ) (block : Block) : Type 0 where
-  pub sets_up : (setup : Setup) → IsSameBlock block setup.block → setup.client ≡ client → IsStamped may_answer client block setup.stamp setup.token
-      → allows (SetupOf setup)
-  pub gives : (transfer : Transfer) → IsSameBlock block transfer.block → transfer.client ≡ client → length transfer.targets ≡ 1
-      → allows (TransferOf transfer)
-  pub restamps : (named : Block) → IsSameBlock block named → allows (AskOf (asks.UpdateBlockForPipeline named client))
-  pub adds : (named : Block) (existing excluded : List DatanodeInfo) (storages : List (List ℕ)) → IsSameBlock block named
+-- The last block of a file that is named where a block more is asked for, or where the file is closed: none, or one that was answered.
+abbrev pub IsAnsweredLast : (Ask → Answer → Type 0) → List ℕ → List ℕ → Option ℕ → Option Block → Type 0
+IsAnsweredLast may_answer client path file_id last = IfSome last (IsAnsweredBlock may_answer client path file_id)
+
+-- Leave to write a block of the file at a path, which was answered so first, in the name of a client behind its first pipeline: to set up
+-- later ones, to have it given to a datanode that was added, and to ask for what a rebuild asks for. The block is named by generation stamps
+-- that were answered for it. One datanode more is asked for, beside such as were answered for it, and those of a pipeline are; as many
+-- storages are named as datanodes.
+pub record LetsWriteBlock (allows : Request → Type 0) (may_answer : Ask → Answer → Type 0) (client path : List ℕ) (first : LocatedBlock)
+    : Type 0 where
+  pub sets_up : (setup : Setup) → IsLaterSetup may_answer client path first setup → allows (SetupOf setup)
+  pub gives : (transfer : Transfer) → IsGivenSo may_answer client path first transfer → allows (TransferOf transfer)
+  pub restamps : (named : Block) → IsNamed may_answer client first named → allows (AskOf (asks.UpdateBlockForPipeline named client))
+  pub adds : (named : Block) (existing excluded : List DatanodeInfo) (types : List ℕ) (storages : List (List ℕ))
+      → IsNamed may_answer client first named → ArePlaced may_answer client path first existing types storages
       → length storages ≡ length existing → allows (AskOf (asks.GetAdditionalDatanode path named existing excluded 1 client storages))
-  pub names : (before now : Block) (nodes : List DatanodeId) (storages : List (List ℕ)) → IsSameBlock block before → IsSameBlock block now
-      → length storages ≡ length nodes → allows (AskOf (asks.UpdatePipeline client before now nodes storages))
+  pub names : (before now : Block) (token : Token) (nodes : List DatanodeInfo) (types : List ℕ) (storages : List (List ℕ))
+      → IsNamed may_answer client first before → IsSameBlock first.b now → IsStamped may_answer client first.b now.generation_stamp token
+      → ArePlaced may_answer client path first nodes types storages → length storages ≡ length nodes
+      → allows (AskOf (asks.UpdatePipeline client before now (map (λ node. node.id) nodes) storages))
+
+-- leave to write a block on behind a pipeline of it that was answered so
+pub record LetsGoOn (allows : Request → Type 0) (may_answer : Ask → Answer → Type 0) (client path : List ℕ) (pipeline : LocatedBlock) : Type 0 where
+  pub first : LocatedBlock
+  pub lets : LetsWriteBlock allows may_answer client path first
+  pub answered : IsPipelineOf may_answer client path first pipeline
 
 -- leave to write any block of the file at a path, which has this id, that was answered to the client
 abbrev pub LetsWriteBlocks : (Request → Type 0) → (Ask → Answer → Type 0) → List ℕ → List ℕ → Option ℕ → Type 0
 LetsWriteBlocks allows may_answer client path file_id =
-    (block : Block) → (created : Bool) → IsAnsweredBlock may_answer client path file_id created block
-    → LetsWriteBlock allows may_answer client path block
+    (first : LocatedBlock) (created : Bool) → IsAnsweredLocated may_answer client path file_id created first
+    → LetsWriteBlock allows may_answer client path first
 
--- Leave to write the file at a path, which has this id: a block more is asked for behind any block, on any datanode, and the first pipeline of
--- one that was answered is set up.
+-- Leave to write the file at a path, which has this id: a block more is asked for behind none or one that was answered, on any datanode, and
+-- the first pipeline of one that was answered is set up.
 pub record LetsWrite (allows : Request → Type 0) (may_answer : Ask → Answer → Type 0) (client path : List ℕ) (file_id : Option ℕ) : Type 0 where
-  pub adds : (previous : Option Block) → allows (AskOf (asks.AddBlock path client previous [] file_id))
+  pub adds : (previous : Option Block) → IsAnsweredLast may_answer client path file_id previous
+      → allows (AskOf (asks.AddBlock path client previous [] file_id))
   pub opens : (located : LocatedBlock) (created : Bool) → IsAnsweredLocated may_answer client path file_id created located
       → (setup : Setup) → IsFirstSetup located client setup → allows (SetupOf setup)
   pub blocks : LetsWriteBlocks allows may_answer client path file_id
 
--- Leave to close the file at a path, which has this id, behind any block.
+-- leave to close the file at a path, which has this id, behind none of its blocks or one that was answered
 pub record LetsClose (allows : Request → Type 0) (may_answer : Ask → Answer → Type 0) (client path : List ℕ) (file_id : Option ℕ) : Type 0 where
-  pub completes : (last : Option Block) → allows (AskOf (asks.Complete path client last file_id))
+  pub completes : (last : Option Block) → IsAnsweredLast may_answer client path file_id last
+      → allows (AskOf (asks.Complete path client last file_id))
   pub blocks : LetsWriteBlocks allows may_answer client path file_id

@@ -1,5 +1,5 @@
 -- A cluster that allows all requests lets any command be run, and one that may answer anything may have answered what a session has open.
-use Rattle.std.proofs.Common.{◌≡◌, ℕ, Bool, true, false, List, [], Option, Some, None, inr, refl}
+use Rattle.std.proofs.Common.{◌≡◌, ℕ, Bool, true, false, List, [], map, Option, Some, None, inl, inr, refl}
 use Rattle.hdfs_cluster.specs.declared.asks.Answer.{Answer}
 use Rattle.hdfs_cluster.specs.declared.asks.Answer.TheVariants as answers
 use Rattle.hdfs_cluster.specs.declared.asks.Ask.{Ask}
@@ -7,30 +7,32 @@ use Rattle.hdfs_cluster.specs.declared.messages.Block.{Block}
 use Rattle.hdfs_cluster.specs.declared.messages.FileStatusMsg.{FileStatusMsg}
 use Rattle.hdfs_cluster.specs.declared.messages.LocatedBlock.{LocatedBlock}
 use Rattle.hdfs_cluster.specs.declared.asks.Ask.TheVariants as asks
-use Rattle.hdfs_cluster.specs.Requests.{Request, AskOf, ReadOf, SetupOf, TransferOf, IsAnsweredBlock, IsAnsweredId, IsAnsweredLocated, IsReopened, LetsClose, LetsWriteBlocks, id_in}
+use Rattle.hdfs_cluster.specs.Requests.{Request, AskOf, ReadOf, SetupOf, TransferOf, AsFirst, IsAnsweredId, IsAnsweredLast, IsAnsweredLocated, IsReopened, LetsClose, LetsWriteBlocks, id_in}
+use Rattle.hdfs_rebuild.specs.declared.block_plan.BlockPlan.{BlockPlan}
 use Rattle.hdfs_model.specs.declared.commands.Command.{Command}
 use Rattle.hdfs_model.specs.declared.commands.Command.TheVariants as commands
 use Rattle.hdfs_namenode.specs.Clients.{name_of}
 use Rattle.hdfs_file_writer.specs.Tails.{Tail, Bare, Finished, Reopened, Going}
-use Rattle.hdfs_file_writer.specs.Writers.{IsAnsweredTail, file_id_of, path_of, tail_of}
+use Rattle.hdfs_file_writer.specs.Writers.{IsAnsweredPlan, IsAnsweredTail, file_id_of, path_of, tail_of}
 use Rattle.hdfs_commands.specs.Asking.{AreAnswered, LetsAny, LetsAt}
 use Rattle.hdfs_commands.specs.declared.session.Session.{Session}
 use Rattle.hdfs_commands.specs.Opening.{appending, creating}
 
 module _ {allows : Request → Type 0} (may_answer : Ask → Answer → Type 0) (all : (request : Request) → allows request) where
   lets_blocks : (client path : List ℕ) (file_id : Option ℕ) → LetsWriteBlocks allows may_answer client path file_id
-  lets_blocks client path file_id block created answered = record {
-    sets_up = λ setup same name stamped. all (SetupOf setup);
-    gives = λ transfer same name one. all (TransferOf transfer);
-    restamps = λ named same. all (AskOf (asks.UpdateBlockForPipeline named client));
-    adds = λ named existing excluded storages same many.
+  lets_blocks client path file_id first created answered = record {
+    sets_up = λ setup later. all (SetupOf setup);
+    gives = λ transfer given. all (TransferOf transfer);
+    restamps = λ named is. all (AskOf (asks.UpdateBlockForPipeline named client));
+    adds = λ named existing excluded types storages is placed many.
         all (AskOf (asks.GetAdditionalDatanode path named existing excluded 1 client storages));
-    names = λ before now nodes storages one two many. all (AskOf (asks.UpdatePipeline client before now nodes storages));
+    names = λ before now token nodes types storages is same stamped placed many.
+        all (AskOf (asks.UpdatePipeline client before now (map (λ node. node.id) nodes) storages));
   }
 
   lets_close : (client path : List ℕ) (file_id : Option ℕ) → LetsClose allows may_answer client path file_id
   lets_close client path file_id = record {
-    completes = λ last. all (AskOf (asks.Complete path client last file_id));
+    completes = λ last answered. all (AskOf (asks.Complete path client last file_id));
     blocks = lets_blocks client path file_id;
   }
 
@@ -46,7 +48,7 @@ module _ {allows : Request → Type 0} (may_answer : Ask → Answer → Type 0) 
     closes = λ appended answered encrypted. lets_close client path (id_in appended.stat);
   }
   lets_at client path (commands.Write name bytes) = λ file_id answered. record {
-    adds = λ previous. all (AskOf (asks.AddBlock path client previous [] file_id));
+    adds = λ previous answered. all (AskOf (asks.AddBlock path client previous [] file_id));
     opens = λ located created answered setup first. all (SetupOf setup);
     blocks = lets_blocks client path file_id;
   }
@@ -120,21 +122,31 @@ module _ {may_answer : Ask → Answer → Type 0} (all : (ask : Ask) (answer : A
   }
   any_located client path file_id false located = any_reopened client path located
 
-  any_block : (client path : List ℕ) (file_id : Option ℕ) (created : Bool) (block : Block) → IsAnsweredBlock may_answer client path file_id created block
-  any_block client path file_id created block = record {
-    located = located_at block;
-    answered = any_located client path file_id created (located_at block);
-    same = (refl, refl);
+  any_plan : (client path : List ℕ) (file_id : Option ℕ) (plan : BlockPlan) → IsAnsweredPlan may_answer client path file_id plan
+  any_plan client path file_id plan = record {
+    first = plan.block;
+    answered = any_located client path file_id plan.created plan.block;
+    pipeline = record { same = (refl, refl); stamped = inl (refl, refl); placed = AsFirst };
+  }
+
+  any_last : (client path : List ℕ) (file_id : Option ℕ) (last : Option Block) → IsAnsweredLast may_answer client path file_id last
+  any_last client path file_id None = tt
+  any_last client path file_id (Some block) = record {
+    created = false;
+    first = located_at block;
+    answered = any_reopened client path (located_at block);
+    named = record { same = (refl, refl); token = (located_at block).block_token; stamped = inl (refl, refl) };
   }
 
   any_tail : (client path : List ℕ) (file_id : Option ℕ) (tail : Tail) → IsAnsweredTail may_answer client path file_id tail
   any_tail client path file_id Bare = tt
   any_tail client path file_id (Finished id length) = tt
   any_tail client path file_id (Reopened located) = any_reopened client path located
-  any_tail client path file_id (Going block) = λ pipe is. any_block client path file_id pipe.plan.created pipe.plan.block.b
+  any_tail client path file_id (Going block) = λ pipe is. any_plan client path file_id pipe.plan
 
   pub answers_any : (session : Session) → AreAnswered may_answer session
   answers_any session path writer is = record {
     id = any_id (name_of session.namenode) (path_of writer) (file_id_of writer);
     block = any_tail (name_of session.namenode) (path_of writer) (file_id_of writer) (tail_of writer);
+    last = λ fine. any_last (name_of session.namenode) (path_of writer) (file_id_of writer) writer.last;
   }

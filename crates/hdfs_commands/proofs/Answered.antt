@@ -8,12 +8,15 @@ use Rattle.hdfs_cluster.specs.declared.asks.Answer.TheVariants as answers
 use Rattle.hdfs_cluster.specs.declared.asks.Ask.{Ask}
 use Rattle.hdfs_cluster.specs.declared.asks.Ask.TheVariants as asks
 use Rattle.hdfs_cluster.specs.declared.messages.Appended.{Appended}
+use Rattle.hdfs_cluster.specs.declared.messages.Block.{Block}
 use Rattle.hdfs_cluster.specs.declared.messages.LocatedBlock.{LocatedBlock}
-use Rattle.hdfs_cluster.specs.Requests.{IsAnsweredId, id_in}
+use Rattle.hdfs_block_writer.specs.declared.block_writer.BlockWriter.{BlockWriter}
+use Rattle.hdfs_cluster.specs.Requests.{IsAnsweredId, IsAnsweredLast, id_in}
+use Rattle.hdfs_cluster.specs.Shown.{Shown}
 use Rattle.hdfs_namenode.specs.Clients.{name_of}
 use Rattle.hdfs_file_writer.specs.declared.file_writer.FileWriter.{FileWriter}
 use Rattle.hdfs_file_writer.specs.Tails.{Tail, Bare}
-use Rattle.hdfs_file_writer.specs.Writers.{IsAnswered, IsAnsweredTail, file_id_of, path_of, tail_of, tail_opened}
+use Rattle.hdfs_file_writer.specs.Writers.{IsAnswered, IsAnsweredTail, Stands, file_id_of, has_failed, path_of, tail_by, tail_of, tail_opened}
 use Rattle.hdfs_commands.specs.Asking.{AreAnswered}
 use Rattle.hdfs_commands.specs.Session.{writer_of}
 use Rattle.hdfs_commands.specs.declared.session.Session.{Session}
@@ -36,11 +39,23 @@ answered_put {may_answer} session session' path put name puts here answered othe
     by true at = subst (λ (o : Option FileWriter). IfSome o (IsAnswered may_answer (name_of session.namenode))) at here
     by false at = answered other writer at
 
--- the writer of a file with a path and an id that were answered, whose last block was
+-- a writer writes no block whose last one isn't being written
+not_going : (going : Option BlockWriter) (reopened block : Option LocatedBlock) (last : Option Block) → tail_by going reopened last ≡ tail_opened block None
+    → going ≡ None
+not_going None reopened block last is = refl
+not_going (Some writer) reopened None last is = absurd (cc is)
+not_going (Some writer) reopened (Some located) last is = absurd (cc is)
+
+-- so a new one has no block that is done
+none_done : {shown : Shown} (writer : FileWriter) (block : Option LocatedBlock) → Stands shown writer → has_failed writer ≡ false
+    → tail_of writer ≡ tail_opened block None → writer.last ≡ None
+none_done writer block stands fine is = stands.done fine (not_going writer.going writer.reopened block writer.last is)
+
+-- the writer of a file with a path and an id that were answered, whose last block was, and where none is done
 answered_writer : {may_answer : Ask → Answer → Type 0} {client : List ℕ} (writer : FileWriter) (path : List ℕ) (file_id : Option ℕ) (tail : Tail)
-    → path_of writer ≡ path → file_id_of writer ≡ file_id → tail_of writer ≡ tail → IsAnsweredId may_answer client path file_id
+    → path_of writer ≡ path → file_id_of writer ≡ file_id → tail_of writer ≡ tail → writer.last ≡ None → IsAnsweredId may_answer client path file_id
     → IsAnsweredTail may_answer client path file_id tail → IsAnswered may_answer client writer
-answered_writer {may_answer} {client} writer path file_id tail at id is answered block = record {
+answered_writer {may_answer} {client} writer path file_id tail at id is none answered block = record {
   id =
       subst (λ (p : List ℕ). IsAnsweredId may_answer client p writer.file_id) (sym at)
       (subst (λ (i : Option ℕ). IsAnsweredId may_answer client path i) (sym id) answered);
@@ -48,20 +63,22 @@ answered_writer {may_answer} {client} writer path file_id tail at id is answered
       subst (λ (p : List ℕ). IsAnsweredTail may_answer client p writer.file_id (tail_of writer)) (sym at)
       (subst (λ (i : Option ℕ). IsAnsweredTail may_answer client path i (tail_of writer)) (sym id)
       (subst (IsAnsweredTail may_answer client path file_id) (sym is) block));
+  last = λ fine. subst (IsAnsweredLast may_answer client writer.path writer.file_id) (sym none) tt;
 }
 
 -- that of a new file
-pub answered_created : {may_answer : Ask → Answer → Type 0} {client : List ℕ} (writer : FileWriter) (path : List ℕ) (file_id : Option ℕ)
-    → path_of writer ≡ path → file_id_of writer ≡ file_id → tail_of writer ≡ Bare → IsAnsweredId may_answer client path file_id
-    → IsAnswered may_answer client writer
-answered_created writer path file_id at id is answered = answered_writer writer path file_id Bare at id is answered tt
+pub answered_created : {may_answer : Ask → Answer → Type 0} {client : List ℕ} {shown : Shown} (writer : FileWriter) (path : List ℕ) (file_id : Option ℕ)
+    → Stands shown writer → has_failed writer ≡ false → path_of writer ≡ path → file_id_of writer ≡ file_id → tail_of writer ≡ Bare
+    → IsAnsweredId may_answer client path file_id → IsAnswered may_answer client writer
+answered_created writer path file_id stands fine at id is answered =
+    answered_writer writer path file_id Bare at id is (none_done writer None stands fine is) answered tt
 
 -- that of a file that was opened to be gone on with
-pub answered_appended : {may_answer : Ask → Answer → Type 0} {client : List ℕ} (writer : FileWriter) (path : List ℕ) (appended : Appended)
-    → path_of writer ≡ path → file_id_of writer ≡ id_in appended.stat → tail_of writer ≡ tail_opened appended.block None
+pub answered_appended : {may_answer : Ask → Answer → Type 0} {client : List ℕ} {shown : Shown} (writer : FileWriter) (path : List ℕ)
+    (appended : Appended) → Stands shown writer → has_failed writer ≡ false → path_of writer ≡ path → file_id_of writer ≡ id_in appended.stat → tail_of writer ≡ tail_opened appended.block None
     → may_answer (asks.Append path client 4) (answers.Append appended) → IsAnswered may_answer client writer
-answered_appended {may_answer} {client} writer path appended at id is answered =
-    answered_writer writer path (id_in appended.stat) (tail_opened appended.block None) at id is
+answered_appended {may_answer} {client} writer path appended stands fine at id is answered =
+    answered_writer writer path (id_in appended.stat) (tail_opened appended.block None) at id is (none_done writer appended.block stands fine is)
     (inr (record { appended = appended; answered = answered; is = refl })) (opened appended.block refl)
   where
     opened : (block : Option LocatedBlock) → appended.block ≡ block → IsAnsweredTail may_answer client path (id_in appended.stat) (tail_opened block None)

@@ -14,7 +14,7 @@ use Rattle.hdfs_cluster.specs.Failures.{NodesFailTimes}
 use Rattle.hdfs_cluster.specs.Files.{File}
 use Rattle.hdfs_cluster.specs.Namenode.{IsToWrite}
 use Rattle.hdfs_cluster.specs.Picture.{Picture}
-use Rattle.hdfs_cluster.specs.Requests.{IsAnsweredBlock, IsAnsweredId, IsReopened}
+use Rattle.hdfs_cluster.specs.Requests.{IsAnsweredId, IsAnsweredLast, IsAnsweredLocated, IsPipelineOf, IsReopened}
 use Rattle.hdfs_cluster.specs.Shown.{SameNodes, Shown}
 use Rattle.hdfs_cluster.specs.Stores.{AgreesAt}
 use Rattle.hdfs_cluster.specs.Writing.{SameRecords}
@@ -110,18 +110,33 @@ pub record IsPlanOf (path : List ℕ) (sizes : WriteSizes) (plan : BlockPlan) : 
   pub src : plan.src ≡ path
   pub replication : plan.replication ≡ sizes.replication
 
+-- A block that is being written was answered to the client, as one more or as the last one, by whether its writer has it as a new one; and
+-- so was its pipeline.
+pub record IsAnsweredPlan (may_answer : Ask → Answer → Type 0) (client path : List ℕ) (file_id : Option ℕ) (plan : BlockPlan) : Type 0 where
+  pub first : LocatedBlock
+  pub answered : IsAnsweredLocated may_answer client path file_id plan.created first
+  pub pipeline : IsPipelineOf may_answer client plan.src first plan.block
+
 -- The last block of its file was answered to the client: one that is to be gone on with as the last one when the file was opened, and one
--- that is being written so, or as one more, by whether its writer has it as a new one.
+-- that is being written with its pipeline.
 abbrev pub IsAnsweredTail : (Ask → Answer → Type 0) → List ℕ → List ℕ → Option ℕ → Tail → Type 0
 IsAnsweredTail may_answer client path file_id (Reopened located) = IsReopened may_answer client path located
 IsAnsweredTail may_answer client path file_id (Going block) = (pipe : BlockPipeline) → block.pipe ≡ Some pipe
-    → IsAnsweredBlock may_answer client path file_id pipe.plan.created pipe.plan.block.b
+    → IsAnsweredPlan may_answer client path file_id pipe.plan
 IsAnsweredTail may_answer client path file_id tail = Unit {0}
 
--- The file's id and the block that is written were answered to the client, of the file at its path.
+-- The file's id, the block that is written and, unless a call has failed, the last one that is done were answered to the client, of the file
+-- at its path.
 pub record IsAnswered (may_answer : Ask → Answer → Type 0) (client : List ℕ) (writer : FileWriter) : Type 0 where
   pub id : IsAnsweredId may_answer client writer.path writer.file_id
   pub block : IsAnsweredTail may_answer client writer.path writer.file_id (tail_of writer)
+  pub last : writer.failed ≡ false → IsAnsweredLast may_answer client writer.path writer.file_id writer.last
+
+-- A block that its file's writer can open, as a new one or not: it was answered so, is to be written, and has room for a byte.
+pub record IsToOpen (may_answer : Ask → Answer → Type 0) (client : List ℕ) (writer : FileWriter) (created : Bool) (located : LocatedBlock) : Type 0 where
+  pub answered : IsAnsweredLocated may_answer client writer.path writer.file_id created located
+  pub block : IsToWrite located
+  pub room : located.b.num_bytes < writer.sizes.block_size
 
 -- how often the pipeline of a block that is being written was rebuilt
 abbrev pub rebuilds_by : Option BlockWriter → ℕ

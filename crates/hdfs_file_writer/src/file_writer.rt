@@ -32,7 +32,7 @@ pub struct FileWriter {
 }
 
 impl FileWriter {
-    ghost use Rattle.hdfs_cluster.specs.Requests.{LetsClose, LetsWrite};
+    ghost use Rattle.hdfs_cluster.specs.Requests.{IsAnsweredLast, LetsClose, LetsWrite};
     ghost use Rattle.hdfs_namenode.specs.Asked.{ReachesAll};
     ghost use Rattle.hdfs_namenode.specs.Clients.{SameClient, name_of, proxy_of};
     ghost use Rattle.hdfs_file_writer.specs.Tails.{Bare};
@@ -258,6 +258,7 @@ impl FileWriter {
     ) -> Result<(), HdfsError>
         requires reaches { ReachesAll (proxy_of namenode.old) (C.shown cluster.old) }
         requires allowed { LetsClose C.allows C.may_answer (name_of namenode.old) (path_of self.now) (file_id_of self.now) }
+        requires answered { IsAnsweredLast C.may_answer (name_of namenode.old) (path_of self.now) (file_id_of self.now) self.now.last }
         requires between { IsBetweenBlocks self.now }
         ensures closed { OnOk result (Closed (C.shown cluster.old) self.now (C.shown cluster.new)) }
         ensures err { IfErr result (λ error. FailsToClose (C.shown cluster.old) self.now error (C.shown cluster.new)) }

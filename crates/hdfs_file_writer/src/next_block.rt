@@ -10,13 +10,13 @@ use hdfs_rebuild::BlockPlan;
 use hdfs_wire::NoMemory;
 
 impl FileWriter {
-    ghost use Rattle.hdfs_cluster.specs.Requests.{IsAdded, IsAnsweredId, IsAnsweredLocated, IsFirstSetup, LetsWrite, LetsWriteBlocks, SetupOf};
+    ghost use Rattle.hdfs_cluster.specs.Requests.{IsAdded, IsAnsweredLast, IsFirstSetup, LetsWrite, LetsWriteBlocks, SetupOf};
     ghost use Rattle.hdfs_cluster.specs.declared.messages.Setup.{Setup};
     ghost use Rattle.hdfs_namenode.specs.Asked.{ReachesAll};
     ghost use Rattle.hdfs_namenode.specs.Clients.{SameClient, name_of, proxy_of};
     ghost use Rattle.hdfs_file_writer.specs.Tails.{IsFull};
     ghost use Rattle.hdfs_cluster.specs.Namenode.{IsToWrite};
-    ghost use Rattle.hdfs_file_writer.specs.Writers.{plan_of, path_of, file_id_of, tail_of, IsAnswered, IsAtWork, MayBegin, Stands, Keeps, IsBetweenBlocks, HasRoom, Wrote, Adds, FailsOtherwise};
+    ghost use Rattle.hdfs_file_writer.specs.Writers.{plan_of, path_of, file_id_of, tail_of, IsAnswered, IsAtWork, IsToOpen, MayBegin, Stands, Keeps, IsBetweenBlocks, HasRoom, Wrote, Adds, FailsOtherwise};
 
     /// Ends the block that is being written, or leaves the one that was to be gone on with.
     pub(crate) fn finish_block<C: Cluster>(
@@ -32,6 +32,7 @@ impl FileWriter {
         ensures keeps { Keeps self.old self.new × (self.new.failed ≡ false) × SameClient namenode.old namenode.new }
         ensures between { OnOk result (IsBetweenBlocks self.new × (IsFull self.old.sizes.block_size (tail_of self.old)
             → IsFull self.old.sizes.block_size (tail_of self.new))) }
+        ensures answered { OnOk result (IsAnswered C.may_answer (name_of namenode.old) self.new) }
         ensures idle { self.old.going ≡ None → cluster.new ≡ cluster.old }
         ensures wrote { OnOk result (Wrote (C.shown cluster.old) self.old [] (C.shown cluster.new) self.new) }
         ensures err { IfErr result (λ error. FailsOtherwise (C.shown cluster.old) self.old error (C.shown cluster.new)) }
@@ -78,12 +79,9 @@ impl FileWriter {
         created: bool,
     ) -> Result<(), HdfsError>
         requires begins { MayBegin self.old }
-        requires block { IsToWrite located }
-        requires room { located.b.num_bytes < self.old.sizes.block_size }
+        requires located { IsToOpen C.may_answer (name_of namenode.now) self.old created located }
         requires allowed { (setup : Setup) → IsFirstSetup located (name_of namenode.now) setup → C.allows (SetupOf setup) }
-        requires id { IsAnsweredId C.may_answer (name_of namenode.now) (path_of self.old) (file_id_of self.old) }
-        requires answered { IsAnsweredLocated C.may_answer (name_of namenode.now) (path_of self.old) (file_id_of self.old)
-            created located }
+        requires answered { IsAnswered C.may_answer (name_of namenode.now) self.old }
         ensures fine { self.new.failed ≡ false }
         ensures keeps { Keeps self.old self.new }
         ensures stands { OnOk result (Stands (C.shown cluster.new) self.new × HasRoom self.new) }
@@ -122,6 +120,7 @@ impl FileWriter {
     ) -> Result<LocatedBlock, HdfsError>
         requires reaches { ReachesAll (proxy_of namenode.old) (C.shown cluster.old) }
         requires allowed { LetsWrite C.allows C.may_answer (name_of namenode.old) (path_of self.now) (file_id_of self.now) }
+        requires answered { IsAnsweredLast C.may_answer (name_of namenode.old) (path_of self.now) (file_id_of self.now) self.now.last }
         requires between { IsBetweenBlocks self.now }
         requires full { IsFull self.now.sizes.block_size (tail_of self.now) }
         ensures adds { IfOk result (λ located. Adds (C.shown cluster.old) self.now located (C.shown cluster.new)) }
@@ -149,7 +148,7 @@ impl FileWriter {
     ) -> Result<(), HdfsError>
         requires reaches { ReachesAll (proxy_of namenode.old) (C.shown cluster.old) }
         requires allowed { LetsWrite C.allows C.may_answer (name_of namenode.old) (path_of self.old) (file_id_of self.old) }
-        requires id { IsAnsweredId C.may_answer (name_of namenode.old) (path_of self.old) (file_id_of self.old) }
+        requires answered { IsAnswered C.may_answer (name_of namenode.old) self.old }
         requires begins { MayBegin self.old }
         requires full { IsFull self.old.sizes.block_size (tail_of self.old) }
         ensures fine { self.new.failed ≡ false }

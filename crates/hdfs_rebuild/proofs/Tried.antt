@@ -22,6 +22,11 @@ pub ok_by : {T E : Type 0} (P Q : T → Type 0) (r : Result T E) → ((x : T) �
 ok_by P Q (Ok x) h is = h x is
 ok_by P Q (Err e) h is = tt
 
+-- by two of them
+pub ok_both : {T E : Type 0} {P Q R : T → Type 0} (r : Result T E) → IfOk r P → IfOk r Q → ((x : T) → P x → Q x → R x) → IfOk r R
+ok_both (Ok x) is so h = h x is so
+ok_both (Err e) is so h = tt
+
 pub err_by : {T E : Type 0} (P Q : E → Type 0) (r : Result T E) → ((e : E) → P e → Q e) → IfErr r P → IfErr r Q
 err_by P Q (Ok x) h is = tt
 err_by P Q (Err e) h is = h e is

@@ -116,14 +116,16 @@ pub record Recovered (task : Task) (before : Standing) (rebuilt : BlockPipeline)
       × IsListed q rebuilt.plan.block.b.block_id (uuids rebuilt.plan.block.locs) known.bytes
       × OnlyBlockOf before.plan.block.b.block_id p q × HasStamp q rebuilt.plan.block.b
 
--- Why an attempt comes to no link. Want of memory alone is free.
+-- Why an attempt comes to no link. Want of memory alone is free. Where no datanode is left of a pipeline that was rebuilt as often as it may
+-- be, the limit comes.
 abbrev pub HasRebuildCause : Task → Standing → WriteFault → Shown → Type 0
 HasRebuildCause task before faults.NoMemory new = Unit {0}
 HasRebuildCause task before faults.Failed new = ⊥
 HasRebuildCause task before faults.Link new = Rose before.shown.counts.links new.counts.links
 HasRebuildCause task before faults.Setup new = Rose before.shown.counts.links new.counts.links
 HasRebuildCause task before (faults.BadAck seqno) new = Rose before.shown.counts.links new.counts.links
-HasRebuildCause task before faults.AllNodes new = (left_of before ≡ []) × (new ≡ before.shown)
+HasRebuildCause task before faults.AllNodes new =
+    (left_of before ≡ []) × (before.plan.rebuilds < task.settings.rebuild_limit) × (new ≡ before.shown)
 HasRebuildCause task before faults.NoReplacement new = IsDue before.plan task.settings (left_of before)
     × ((policy_of task.settings.replace).1 ≡ false) × HelpLacks before.plan before.shown new × KeepsEntry before.plan before.shown new
 HasRebuildCause task before (faults.RebuildLimit rebuilds) new =

@@ -1,7 +1,8 @@
 -- A block that is being written: the datanodes of its pipeline without those that failed, and what stays of it.
-use Rattle.std.specs.Prelude.{◌≡◌, ◌⊎◌, ℕ, ◌+◌, ◌≤◌, ◌==◌, not, false, List, [], ◌∷◌, length, Option, Some, None, if◌then◌else◌, slice_get}
-use Rattle.std.specs.List.{list_any}
+use Rattle.std.specs.Prelude.{◌≡◌, ◌⊎◌, ℕ, ◌+◌, ◌≤◌, not, false, List, [], ◌∷◌, length, Option, Some, None, slice_get}
 use Rattle.hdfs_wire.specs.Outgoing.{Outgoing}
+use Rattle.hdfs_cluster.specs.declared.asks.Answer.{Answer}
+use Rattle.hdfs_cluster.specs.declared.asks.Ask.{Ask}
 use Rattle.hdfs_cluster.specs.declared.messages.DatanodeInfo.{DatanodeInfo}
 use Rattle.hdfs_cluster.specs.declared.messages.LocatedBlock.{LocatedBlock}
 use Rattle.hdfs_cluster.specs.declared.messages.Block.{Block}
@@ -9,6 +10,8 @@ use Rattle.hdfs_cluster.specs.declared.picture.BlockEntry.{BlockEntry}
 use Rattle.hdfs_cluster.specs.Effects.{HasOneMore, IsBeingWritten}
 use Rattle.hdfs_cluster.specs.Namenode.{IsToWrite}
 use Rattle.hdfs_cluster.specs.Picture.{Picture}
+use Rattle.hdfs_cluster.specs.Requests.{IsPipelineOf}
+pub use Rattle.hdfs_cluster.specs.Requests.{without}
 use Rattle.hdfs_cluster.specs.Sending.{uuids}
 use Rattle.hdfs_names.specs.Replacements.{ShouldReplace}
 use Rattle.hdfs_names.specs.Shown.{shown as policy_of}
@@ -19,12 +22,6 @@ use Rattle.hdfs_rebuild.specs.declared.block_plan.BlockPlan.{BlockPlan}
 use Rattle.hdfs_rebuild.specs.declared.block_plan.RebuildSettings.{RebuildSettings}
 use Rattle.hdfs_block_reader.specs.Carrying.{FollowFrom, total}
 use Rattle.hdfs_block_reader.specs.Rebuilding.{BlockWaits}
-
--- the items but those at some places, where the first item has this one
-abbrev pub without : {T : Type 0} → ℕ → List ℕ → List T → List T
-without at places [] = []
-without at places (item ∷ items) =
-    if list_any (λ place. place == at) places then without (at + 1) places items else item ∷ without (at + 1) places items
 
 -- the block without the datanodes at some places, and their storages
 abbrev pub block_without : List ℕ → LocatedBlock → LocatedBlock
@@ -76,6 +73,11 @@ pub record KeepsPlan (plan plan' : BlockPlan) : Type 0 where
   pub replication : plan'.replication ≡ plan.replication
   pub created : plan'.created ≡ plan.created
   pub chunk : plan'.chunk ≡ plan.chunk
+
+-- whatever block it is of: where its pipeline was answered so by one plan, it was by the other
+abbrev pub StaysAnswered : (Ask → Answer → Type 0) → List ℕ → BlockPlan → BlockPlan → Type 0
+StaysAnswered may_answer client plan plan' = (first : LocatedBlock)
+    → IsPipelineOf may_answer client plan.src first plan.block → IsPipelineOf may_answer client plan'.src first plan'.block
 
 -- a datanode more is due, where these are left
 abbrev pub IsDue : BlockPlan → RebuildSettings → List DatanodeInfo → Type 0

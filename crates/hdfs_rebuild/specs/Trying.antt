@@ -1,11 +1,16 @@
 -- The steps of one attempt to rebuild a pipeline.
 use Rattle.std.specs.Prelude.{◌≡◌, ◌≢◌, ◌⊎◌, ℕ, ℤ, ◌+◌, ◌<◌, List, [], ◌∷◌, ◌++◌, length, slice_index_or, All, Some}
 use Rattle.hdfs_wire.specs.Outgoing.{Outgoing}
+use Rattle.hdfs_cluster.specs.declared.asks.Answer.{Answer}
+use Rattle.hdfs_cluster.specs.declared.asks.Ask.{Ask}
+use Rattle.hdfs_cluster.specs.declared.messages.LocatedBlock.{LocatedBlock}
+use Rattle.hdfs_cluster.specs.declared.messages.Stage.TheVariants as stages
 use Rattle.hdfs_cluster.specs.declared.picture.OpenWrite.{OpenWrite}
 use Rattle.hdfs_cluster.specs.Counts.{Rose}
 use Rattle.hdfs_cluster.specs.Namenode.{IsToWrite}
 use Rattle.hdfs_cluster.specs.Picture.{Picture}
 use Rattle.hdfs_cluster.specs.Pipes.{FollowsOn}
+use Rattle.hdfs_cluster.specs.Requests.{IsNamed, IsPipelineOf, IsStamped, LetsWriteBlock, Request}
 use Rattle.hdfs_cluster.specs.Sending.{uuids}
 use Rattle.hdfs_cluster.specs.Shown.{Shown, Later, SameReads, IsUnused}
 use Rattle.hdfs_pipeline.specs.Driving.{Drove, IsGoing, StopsShort}
@@ -25,9 +30,9 @@ use Rattle.hdfs_rebuild.specs.declared.block_plan.RebuildSettings.{RebuildSettin
 use Rattle.hdfs_rebuild.specs.declared.opening.Opening.{Opening}
 use Rattle.hdfs_rebuild.specs.declared.replay.SentAgain.{SentAgain}
 use Rattle.hdfs_rebuild.specs.Between.{KeepsLinks, OnlyBlockOf, Touches}
-use Rattle.hdfs_rebuild.specs.Opening.{setup_for}
+use Rattle.hdfs_rebuild.specs.Opening.{setup_for, with_stamp_of}
 use Rattle.hdfs_block_reader.specs.Carrying.{AreSlices, FollowFrom, LinkCarries}
-use Rattle.hdfs_rebuild.specs.Plans.{HasStamp, Known, Waits, block_without, nodes_at, without}
+use Rattle.hdfs_rebuild.specs.Plans.{HasStamp, Known, StaysAnswered, Waits, block_without, nodes_at, without}
 use Rattle.hdfs_block_reader.specs.Rebuilding.{IsListed}
 use Rattle.hdfs_rebuild.specs.Replacing.{Completes}
 use Rattle.hdfs_rebuild.specs.Resuming.{AskFails, Restamps}
@@ -38,12 +43,28 @@ pub record LeavesOut (plan : BlockPlan) (settings : RebuildSettings) (failed : L
   pub within : plan.rebuilds < settings.rebuild_limit
   pub block : IsToWrite plan'.block
 
--- none is left, the pipeline was rebuilt as often as it may be, or memory was wanting
+-- none is left, though it may be rebuilt once more; the pipeline was rebuilt as often as it may be; or memory was wanting
 abbrev pub LeavesNone : BlockPlan → RebuildSettings → List ℕ → WriteFault → Type 0
 LeavesNone plan settings failed fault =
     (fault ≡ faults.NoMemory)
-    ⊎ ((fault ≡ faults.AllNodes) × (without 0 failed plan.block.locs ≡ []))
+    ⊎ ((fault ≡ faults.AllNodes) × (without 0 failed plan.block.locs ≡ []) × (plan.rebuilds < settings.rebuild_limit))
     ⊎ ((fault ≡ faults.RebuildLimit plan.rebuilds) × (plan.rebuilds ≡ settings.rebuild_limit))
+
+-- the next pipeline of a block has a generation stamp and a token of its own, and where the one before was answered, so was it
+pub record IsRenewed (may_answer : Ask → Answer → Type 0) (client : List ℕ) (plan plan' : BlockPlan) : Type 0 where
+  pub stamped : IsStamped may_answer client plan'.block.b plan'.block.b.generation_stamp plan'.block.block_token
+  pub stays : StaysAnswered may_answer client plan plan'
+
+-- Leave to set up the pipeline of a plan, which was answered, behind one that has failed: it is opened as a later one of its block, which has
+-- a generation stamp so far that was answered for it too.
+pub record LetsResume (allows : Request → Type 0) (may_answer : Ask → Answer → Type 0) (client : List ℕ) (plan : BlockPlan) (opening : Opening)
+    : Type 0 where
+  pub first : LocatedBlock
+  pub lets : LetsWriteBlock allows may_answer client plan.src first
+  pub answered : IsPipelineOf may_answer client plan.src first plan.block
+  pub stamped : IsStamped may_answer client plan.block.b plan.block.b.generation_stamp plan.block.block_token
+  pub before : IsNamed may_answer client first (with_stamp_of plan.block.b opening.stamp)
+  pub stage : opening.stage ≡ stages.Recovery
 
 -- The plan of the next pipeline: the datanodes that have failed are left out, one more is added where that is due, and the block has a
 -- greater generation stamp.
@@ -111,6 +132,11 @@ pub record FallsAgain (course : Course) (old : Shown) (fallen : Fallen) (new : S
 abbrev pub Resumed : Course → Shown → Attempt → Shown → Type 0
 Resumed course old (attempts.Stands rebuilt) new = StandsAgain course old rebuilt new
 Resumed course old (attempts.Fell fallen) new = FallsAgain course old fallen new
+
+-- the plan of what came of an attempt
+abbrev pub plan_of : Attempt → BlockPlan
+plan_of (attempts.Stands rebuilt) = rebuilt.plan
+plan_of (attempts.Fell fallen) = fallen.plan
 
 -- what came of the next pipeline of a plan, with the plan
 abbrev pub with_plan : BlockPlan → Resumption → Attempt

@@ -3,7 +3,7 @@
 ghost use Rattle.std.specs.Prelude.{◌≡◌, ◌<◌, ◌≤◌, ◌++◌, ◌^◌, [], Some, None, IsSome, IfOk, IfErr, length, map};
 ghost use Rattle.hdfs_cluster.specs.declared.picture.OpenWrite.{OpenWrite};
 ghost use Rattle.hdfs_cluster.specs.Namenode.{IsToWrite};
-ghost use Rattle.hdfs_cluster.specs.Requests.{AskOf, IsStamped, LetsWriteBlock};
+ghost use Rattle.hdfs_cluster.specs.Requests.{AskOf, LetsGoOn};
 ghost use Rattle.hdfs_cluster.specs.declared.asks.Ask.TheVariants as asks;
 ghost use Rattle.hdfs_namenode.specs.Asked.{ReachesAll};
 ghost use Rattle.hdfs_namenode.specs.Clients.{SameClient, name_of, proxy_of};
@@ -13,10 +13,10 @@ ghost use Rattle.hdfs_pipeline.specs.Places.{ArePlaces};
 ghost use Rattle.hdfs_block_reader.specs.Carrying.{total};
 ghost use Rattle.hdfs_rebuild.specs.Attempts.{task_of, standing, fallen_at, Attempted, GaveNone, GivesNoPlan, RebuiltAfter, GaveNoneAfter};
 ghost use Rattle.hdfs_rebuild.specs.Between.{KeepsLinks};
-ghost use Rattle.hdfs_rebuild.specs.Plans.{CanRebuild, IsReplay};
+ghost use Rattle.hdfs_rebuild.specs.Plans.{CanRebuild, IsReplay, StaysAnswered};
 ghost use Rattle.hdfs_rebuild.specs.Opening.{with_stamp_of};
 ghost use Rattle.hdfs_rebuild.specs.Resuming.{SendsAndNames, SendsOrNamesNot};
-ghost use Rattle.hdfs_rebuild.specs.Trying.{LeavesOut, LeavesNone, GivesPlan, Resumed, ResumedNot, FallsFrom, Collects, CollectsNot, course_of, with_plan};
+ghost use Rattle.hdfs_rebuild.specs.Trying.{IsRenewed, LeavesOut, LeavesNone, LetsResume, GivesPlan, Resumed, ResumedNot, FallsFrom, Collects, CollectsNot, course_of, plan_of, with_plan};
 
 use crate::block_plan::{
     BlockPipeline, BlockPlan, RebuildSettings, WriteFault, copy_at, nodes_without,
@@ -171,9 +171,7 @@ fn resume_by<C: Cluster>(
     replay: List<WritePacket>,
 ) -> Result<Resumption, WriteFault>
     requires reaches { ReachesAll (proxy_of namenode.old) (C.shown cluster.old) }
-    requires allowed { LetsWriteBlock C.allows C.may_answer (name_of namenode.old) plan.now.src plan.now.block.b }
-    requires stamped { IsStamped C.may_answer (name_of namenode.old) plan.now.block.b plan.now.block.b.generation_stamp
-        plan.now.block.block_token }
+    requires allowed { LetsResume C.allows C.may_answer (name_of namenode.old) plan.now opening }
     requires block { IsToWrite plan.now.block }
     requires packets { (1 ≤ opening.window) × (opening.window ≤ 1000) × IsReplay opening.window replay }
     ensures ok { IfOk result (λ resumed. Resumed (course_of plan.now opening (name_of namenode.old) replay)
@@ -224,9 +222,7 @@ fn resume<C: Cluster>(
     replay: List<WritePacket>,
 ) -> Result<Attempt, WriteFault>
     requires reaches { ReachesAll (proxy_of namenode.old) (C.shown cluster.old) }
-    requires allowed { LetsWriteBlock C.allows C.may_answer (name_of namenode.old) plan.src plan.block.b }
-    requires stamped { IsStamped C.may_answer (name_of namenode.old) plan.block.b plan.block.b.generation_stamp
-        plan.block.block_token }
+    requires allowed { LetsResume C.allows C.may_answer (name_of namenode.old) plan opening }
     requires block { IsToWrite plan.block }
     requires packets { (1 ≤ opening.window) × (opening.window ≤ 1000) × IsReplay opening.window replay }
     ensures ok { IfOk result (λ attempt. Resumed (course_of plan opening (name_of namenode.old) replay)
@@ -254,7 +250,7 @@ fn next_plan<C: Cluster>(
     failed: &[u32],
 ) -> Result<BlockPlan, WriteFault>
     requires reaches { ReachesAll (proxy_of namenode.old) (C.shown cluster.old) }
-    requires allowed { LetsWriteBlock C.allows C.may_answer (name_of namenode.old) plan.src plan.block.b }
+    requires allowed { LetsGoOn C.allows C.may_answer (name_of namenode.old) plan.src plan.block }
     requires block { IsToWrite plan.block × ArePlaces (length plan.block.locs) failed.now }
     requires rebuilds { plan.rebuilds ≤ settings.now.rebuild_limit }
     ensures links { KeepsLinks (C.shown cluster.old) (C.shown cluster.new) }
@@ -262,8 +258,7 @@ fn next_plan<C: Cluster>(
     ensures err { IfErr result (λ fault.
         GivesNoPlan settings.now (standing plan failed.now (C.shown cluster.old)) fault (C.shown cluster.new)) }
     ensures client { SameClient namenode.old namenode.new }
-    ensures stamped { IfOk result (λ plan'. IsStamped C.may_answer (name_of namenode.old) plan'.block.b
-        plan'.block.b.generation_stamp plan'.block.block_token) }
+    ensures answered { IfOk result (IsRenewed C.may_answer (name_of namenode.old) plan) }
 {
     let Ok(excluded) = copy_at(alloc, plan.block.locs.as_slice(), failed) else {
         drop(plan);
@@ -291,12 +286,13 @@ fn try_once<C: Cluster>(
     unsent: u64,
 ) -> Result<Attempt, WriteFault>
     requires reaches { ReachesAll (proxy_of namenode.old) (C.shown cluster.old) }
-    requires allowed { LetsWriteBlock C.allows C.may_answer (name_of namenode.old) fallen.plan.src fallen.plan.block.b }
+    requires allowed { LetsGoOn C.allows C.may_answer (name_of namenode.old) fallen.plan.src fallen.plan.block }
     requires can { CanRebuild fallen settings.now unsent }
     ensures ok { IfOk result (λ attempt. Attempted (task_of settings.now (name_of namenode.old) fallen.replay unsent)
         (fallen_at fallen (C.shown cluster.old)) attempt (C.shown cluster.new)) }
     ensures err { IfErr result (λ fault. GaveNone (task_of settings.now (name_of namenode.old) fallen.replay unsent)
         (fallen_at fallen (C.shown cluster.old)) fault (C.shown cluster.new)) }
+    ensures answered { IfOk result (λ attempt. StaysAnswered C.may_answer (name_of namenode.old) fallen.plan (plan_of attempt)) }
     ensures client { SameClient namenode.old namenode.new }
 {
     let Fallen {
@@ -327,12 +323,13 @@ pub fn rebuild<C: Cluster>(
     unsent: u64,
 ) -> Result<BlockPipeline, WriteFault>
     requires reaches { ReachesAll (proxy_of namenode.old) (C.shown cluster.old) }
-    requires allowed { LetsWriteBlock C.allows C.may_answer (name_of namenode.old) fallen.plan.src fallen.plan.block.b }
+    requires allowed { LetsGoOn C.allows C.may_answer (name_of namenode.old) fallen.plan.src fallen.plan.block }
     requires can { CanRebuild fallen settings.now unsent }
     ensures ok { IfOk result (λ rebuilt. RebuiltAfter (task_of settings.now (name_of namenode.old) fallen.replay unsent)
         (fallen_at fallen (C.shown cluster.old)) rebuilt (C.shown cluster.new)) }
     ensures err { IfErr result (λ fault. GaveNoneAfter (task_of settings.now (name_of namenode.old) fallen.replay unsent)
         (fallen_at fallen (C.shown cluster.old)) fault (C.shown cluster.new)) }
+    ensures answered { IfOk result (λ rebuilt. StaysAnswered C.may_answer (name_of namenode.old) fallen.plan rebuilt.plan) }
     ensures client { SameClient namenode.old namenode.new }
 {
     let mut fallen = fallen;

@@ -3,10 +3,11 @@
 ghost use Rattle.std.specs.Prelude.{◌≡◌, ◌<◌, [], ◌∷◌, IfOk, OnOk, IfErr, length};
 ghost use Rattle.hdfs_cluster.specs.Effects.{HasOneMore};
 ghost use Rattle.hdfs_cluster.specs.Namenode.{IsToWrite};
-ghost use Rattle.hdfs_cluster.specs.Requests.{LetsWriteBlock};
+ghost use Rattle.hdfs_cluster.specs.Requests.{IsEnlarged, LetsGoOn};
 ghost use Rattle.hdfs_namenode.specs.Asked.{ReachesAll};
 ghost use Rattle.hdfs_namenode.specs.Clients.{SameClient, name_of, proxy_of};
 ghost use Rattle.hdfs_rebuild.specs.Between.{KeepsLinks};
+ghost use Rattle.hdfs_rebuild.specs.Plans.{StaysAnswered};
 ghost use Rattle.hdfs_rebuild.specs.Replacing.{place_of, place_beside, with_nodes, fault_of_none, fault_of_transfer, GivesToAdded, GivesBlock, GivesNoBlock, AddsNode, AddsNone, Completes, CompletesNot};
 
 use crate::block_plan::{BlockPlan, RebuildSettings, WriteFault, access_to};
@@ -127,7 +128,8 @@ fn give_block<C: Cluster>(
     requires some { 0 < length plan.now.block.locs }
     requires types { length plan.now.block.storage_types ≡ length plan.now.block.locs }
     requires one { HasOneMore plan.now.block.locs located.now.locs }
-    requires allowed { LetsWriteBlock C.allows C.may_answer client.now plan.now.src plan.now.block.b }
+    requires allowed { LetsGoOn C.allows C.may_answer client.now plan.now.src plan.now.block }
+    requires enlarged { IsEnlarged C.may_answer client.now plan.now.src plan.now.block.b located.now }
     ensures ok { OnOk result (GivesBlock plan.now located.now client.now (C.shown cluster.old) (C.shown cluster.new)) }
     ensures err { IfErr result (λ fault. GivesNoBlock plan.now located.now client.now (C.shown cluster.old) fault (C.shown cluster.new)) }
 {
@@ -149,11 +151,12 @@ fn add_datanode<C: Cluster>(
     excluded: &[DatanodeInfo],
 ) -> Result<LocatedBlock, WriteFault>
     requires reaches { ReachesAll (proxy_of namenode.old) (C.shown cluster.old) }
-    requires allowed { LetsWriteBlock C.allows C.may_answer (name_of namenode.old) plan.now.src plan.now.block.b }
+    requires allowed { LetsGoOn C.allows C.may_answer (name_of namenode.old) plan.now.src plan.now.block }
     requires block { IsToWrite plan.now.block }
     ensures links { KeepsLinks (C.shown cluster.old) (C.shown cluster.new) }
     ensures adds { IfOk result (λ located. AddsNode plan.now excluded.now (C.shown cluster.old) located (C.shown cluster.new)) }
     ensures err { IfErr result (λ fault. AddsNone plan.now (C.shown cluster.old) fault (C.shown cluster.new)) }
+    ensures answered { IfOk result (IsEnlarged C.may_answer (name_of namenode.old) plan.now.src plan.now.block.b) }
     ensures client { SameClient namenode.old namenode.new }
 {
     let located = match namenode.get_additional_datanode(
@@ -188,11 +191,12 @@ pub(crate) fn complete<C: Cluster>(
     excluded: &[DatanodeInfo],
 ) -> Result<BlockPlan, WriteFault>
     requires reaches { ReachesAll (proxy_of namenode.old) (C.shown cluster.old) }
-    requires allowed { LetsWriteBlock C.allows C.may_answer (name_of namenode.old) plan.src plan.block.b }
+    requires allowed { LetsGoOn C.allows C.may_answer (name_of namenode.old) plan.src plan.block }
     requires block { IsToWrite plan.block }
     ensures links { KeepsLinks (C.shown cluster.old) (C.shown cluster.new) }
     ensures completes { IfOk result (λ plan'. Completes plan settings.now excluded.now (C.shown cluster.old) plan' (C.shown cluster.new)) }
     ensures err { IfErr result (λ fault. CompletesNot plan settings.now (C.shown cluster.old) fault (C.shown cluster.new)) }
+    ensures answered { IfOk result (StaysAnswered C.may_answer (name_of namenode.old) plan) }
     ensures client { SameClient namenode.old namenode.new }
 {
     let left = plan.block.locs.as_slice().len();

@@ -9,9 +9,9 @@ use Rattle.hdfs_rebuild.specs.Plans.{nodes_at}
 use Rattle.hdfs_rebuild.specs.Replacing.{Completes}
 use Rattle.hdfs_rebuild.specs.Resuming.{Restamps, RestampsNot}
 use Rattle.hdfs_rebuild.specs.Trying.{GivesPlan}
-use Rattle.hdfs_rebuild.proofs.Allowed.{completed_keeps, left_keeps, lets_plan}
+use Rattle.hdfs_rebuild.proofs.Allowed.{completed_keeps, left_keeps, lets_go_on, named_over, stays_left, stays_restamped}
 use Rattle.hdfs_rebuild.proofs.Stepping.{keeps_links_trans}
-use Rattle.hdfs_rebuild.proofs.Tried.{ok_by, err_by, incomplete, unstamped}
+use Rattle.hdfs_rebuild.proofs.Tried.{ok_both, ok_by, err_by, incomplete, unstamped}
 use Rattle.hdfs_cluster.specs.Requests.{IsStamped}
 use Rattle.std.specs.Prelude.{IfOk}
 use Rattle.hdfs_rebuild.proofs.attempts.next_plan.Goals as goal
@@ -22,12 +22,15 @@ restamp-requires g c = record {
       reaches_later (proxy_of c.args.namenode.now) (proxy_of c.complete.new.namenode) (g.C.Cluster.shown c.args.cluster.now)
       (g.C.Cluster.shown c.complete.new.cluster) c.in_ok-plan-2.ensures.client.service c.in_ok-plan-2.ensures.links.later c.requires.reaches;
   allowed =
-      (lets_plan c.in_ok-plan-2.ensures.client.name (completed_keeps c.in_ok-plan.ensures.ok c.in_ok-plan-2.ensures.completes)
-      c.requires.allowed).restamps c.in_ok-plan-2.plan.block.b (refl, refl);
+      let lets = lets_go_on c.args.plan c.in_ok-plan-2.plan c.in_ok-plan-2.ensures.client.name (completed_keeps c.in_ok-plan.ensures.ok c.in_ok-plan-2.ensures.completes).src
+      (λ first answered. c.in_ok-plan-2.ensures.answered first (stays_left c.args.plan c.in_ok-plan.plan c.in_ok-plan.ensures.ok first answered))
+      c.requires.allowed in
+      lets.lets.restamps c.in_ok-plan-2.plan.block.b (named_over lets.answered);
 }
 
 pub complete-requires-clause-allowed : goal.complete-requires-clause-allowed
-complete-requires-clause-allowed g c = lets_plan refl (left_keeps c.in_ok-plan.ensures.ok) c.requires.allowed
+complete-requires-clause-allowed g c =
+    lets_go_on c.args.plan c.in_ok-plan.plan refl (left_keeps c.in_ok-plan.ensures.ok).src (stays_left c.args.plan c.in_ok-plan.plan c.in_ok-plan.ensures.ok) c.requires.allowed
 
 pub returns-in_err-plan-2-clause-err : goal.returns-in_err-plan-2-clause-err
 returns-in_err-plan-2-clause-err g c =
@@ -82,7 +85,15 @@ returns-clause-err g c =
     c.restamp.ensures.links fault not)
     c.restamp.ensures.err
 
-pub returns-clause-stamped : goal.returns-clause-stamped
-returns-clause-stamped g c =
-    subst (λ (client : List ℕ). IfOk c.restamp.result (λ plan. IsStamped g.C.Cluster.may_answer client plan.block.b plan.block.b.generation_stamp plan.block.block_token))
-    c.in_ok-plan-2.ensures.client.name c.restamp.ensures.stamped
+pub returns-clause-answered : goal.returns-clause-answered
+returns-clause-answered g c =
+    let a = g.C.Cluster.shown c.complete.new.cluster in
+    let n = g.C.Cluster.shown c.restamp.new.cluster in
+    ok_both c.restamp.result c.restamp.ensures.restamps
+    (subst (λ (client : List ℕ). IfOk c.restamp.result (λ plan. IsStamped g.C.Cluster.may_answer client plan.block.b plan.block.b.generation_stamp plan.block.block_token))
+    c.in_ok-plan-2.ensures.client.name c.restamp.ensures.stamped)
+    (λ plan restamps stamped. record {
+      stamped = stamped;
+      stays = λ first answered. stays_restamped c.in_ok-plan-2.plan plan restamps stamped first
+          (c.in_ok-plan-2.ensures.answered first (stays_left c.args.plan c.in_ok-plan.plan c.in_ok-plan.ensures.ok first answered));
+    })

@@ -5,7 +5,7 @@ use Rattle.hdfs_cluster.specs.Pipes.{WriteOpened}
 use Rattle.hdfs_namenode.specs.Clients.{name_of, proxy_of}
 use Rattle.hdfs_namenode.proofs.Services.{reaches_later, same_service_refl}
 use Rattle.hdfs_rebuild.specs.Opening.{setup_for}
-use Rattle.hdfs_rebuild.proofs.Allowed.{lets_name}
+use Rattle.hdfs_rebuild.proofs.Allowed.{lets_name, lets_set_up}
 use Rattle.hdfs_rebuild.proofs.Attempting.{opens_none}
 use Rattle.hdfs_rebuild.proofs.Ending.{falls}
 use Rattle.hdfs_rebuild.proofs.Replaying.{never_done}
@@ -28,10 +28,10 @@ replay_and_name-requires-clause-reaches g c =
 
 pub open_pipeline-requires-clause-allowed : goal.open_pipeline-requires-clause-allowed
 open_pipeline-requires-clause-allowed g c =
-    c.requires.allowed.sets_up (setup_for c.args.plan.now c.args.opening c.client_name-client.result.now) (refl, refl) c.client_name-client.ensures c.requires.stamped
+    lets_set_up c.args.plan.now c.args.opening c.client_name-client.ensures c.requires.allowed
 
 pub replay_and_name-requires-clause-allowed : goal.replay_and_name-requires-clause-allowed
-replay_and_name-requires-clause-allowed g c = lets_name c.args.plan.now c.args.opening.stamp c.requires.block c.requires.allowed
+replay_and_name-requires-clause-allowed g c = lets_name c.args.plan.now c.args.opening c.requires.block c.requires.allowed
 
 pub collect-requires-clause-ended : goal.collect-requires-clause-ended
 collect-requires-clause-ended g c =

@@ -1,15 +1,14 @@
 -- The goals of try_once.
-use Rattle.std.proofs.Common.{◌≡◌, ℕ, List, refl, subst, sym}
+use Rattle.std.proofs.Common.{◌≡◌, ℕ, List, refl, subst}
 use Rattle.std.specs.Prelude.{IfOk}
 use Rattle.hdfs_namenode.specs.Clients.{name_of, proxy_of}
 use Rattle.hdfs_namenode.proofs.Services.{reaches_later, same_client_trans}
 use Rattle.hdfs_rebuild.specs.declared.opening.Opening.{Opening}
 use Rattle.hdfs_rebuild.specs.Attempts.{Attempted, GaveNone, opening_of, standing, task_of}
-use Rattle.hdfs_rebuild.specs.Plans.{nodes_at}
-use Rattle.hdfs_rebuild.specs.Trying.{GivesPlan, Resumed, ResumedNot, course_of}
-use Rattle.hdfs_rebuild.proofs.Allowed.{lets_plan, next_keeps}
+use Rattle.hdfs_rebuild.specs.Plans.{StaysAnswered, nodes_at}
+use Rattle.hdfs_rebuild.specs.Trying.{GivesPlan, Resumed, ResumedNot, course_of, plan_of}
+use Rattle.hdfs_rebuild.proofs.Allowed.{lets_resume, next_keeps, stays_attempted}
 use Rattle.hdfs_rebuild.proofs.Tried.{ok_by, err_by, to_resume, tried, untried}
-use Rattle.hdfs_cluster.specs.Requests.{IsStamped}
 use Rattle.hdfs_rebuild.proofs.attempts.try_once.Goals as goal
 
 pub resume-requires-clause-reaches : goal.resume-requires-clause-reaches
@@ -18,7 +17,9 @@ resume-requires-clause-reaches g c =
     (g.C.Cluster.shown c.next_plan.new.cluster) c.in_ok-plan.ensures.client.service c.in_ok-plan.ensures.links.later c.requires.reaches
 
 pub resume-requires-clause-allowed : goal.resume-requires-clause-allowed
-resume-requires-clause-allowed g c = lets_plan c.in_ok-plan.ensures.client.name (next_keeps c.in_ok-plan.ensures.ok) c.requires.allowed
+resume-requires-clause-allowed g c =
+    lets_resume c.args.fallen.plan c.in_ok-plan.plan _ _ c.in_ok-plan.ensures.client.name (next_keeps c.in_ok-plan.ensures.ok) c.in_ok-plan.ensures.answered
+    c.rebuilt-opening.ensures c.requires.allowed
 
 pub resume-requires-clause-block : goal.resume-requires-clause-block
 resume-requires-clause-block g c =
@@ -66,8 +67,13 @@ returns-clause-err g c =
     c.in_ok-plan.plan given.restamps z)
     c.resume.ensures.err
 
-pub resume-requires-clause-stamped : goal.resume-requires-clause-stamped
-resume-requires-clause-stamped g c =
-    let plan = c.in_ok-plan.plan in
-    subst (λ (client : List ℕ). IsStamped g.C.Cluster.may_answer client plan.block.b plan.block.b.generation_stamp plan.block.block_token)
-    (sym c.in_ok-plan.ensures.client.name) c.in_ok-plan.ensures.stamped
+pub returns-clause-answered : goal.returns-clause-answered
+returns-clause-answered g c =
+    let n = g.C.Cluster.shown c.next_plan.new.cluster in
+    let z = g.C.Cluster.shown c.resume.new.cluster in
+    let client = name_of c.args.namenode.now in
+    let course = course_of c.in_ok-plan.plan c.rebuilt-opening.result (name_of c.next_plan.new.namenode) c.args.fallen.replay in
+    ok_by (λ attempt. Resumed course n attempt z) (λ attempt. StaysAnswered g.C.Cluster.may_answer client c.args.fallen.plan (plan_of attempt))
+    c.resume.result
+    (λ attempt resumed. stays_attempted c.args.fallen.plan c.in_ok-plan.plan course n z attempt refl resumed c.in_ok-plan.ensures.answered.stays)
+    c.resume.ensures.ok

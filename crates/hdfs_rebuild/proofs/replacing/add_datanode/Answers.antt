@@ -1,5 +1,5 @@
 -- A datanode is asked for, and is given the block; or none is added.
-use Rattle.std.proofs.Common.{List, refl, sym, ◌∙◌, subst}
+use Rattle.std.proofs.Common.{List, ℕ, refl, sym, ◌∙◌, subst}
 use Rattle.hdfs_cluster.specs.declared.messages.DatanodeInfo.{DatanodeInfo}
 use Rattle.hdfs_cluster.specs.Effects.{HasOneMore}
 use Rattle.hdfs_namenode.specs.Clients.{proxy_of}
@@ -7,7 +7,8 @@ use Rattle.hdfs_namenode.proofs.Services.{reaches_service}
 use Rattle.hdfs_rebuild.specs.declared.block_plan.WriteFault.{WriteFault}
 use Rattle.hdfs_rebuild.specs.Replacing.{AddsNone}
 use Rattle.hdfs_rebuild.proofs.Added.{apart, asked_so, given_none, gives_links, gives_no_links, none_answered, waits_given}
-use Rattle.hdfs_rebuild.proofs.Allowed.{allowed_as, lets_block}
+use Rattle.hdfs_cluster.specs.Requests.{IsEnlarged, LetsGoOn}
+use Rattle.hdfs_rebuild.proofs.Allowed.{allowed_as, named_over}
 use Rattle.hdfs_rebuild.proofs.Asks.{asked_links}
 use Rattle.hdfs_rebuild.proofs.Stepping.{keeps_links_trans}
 use Rattle.hdfs_rebuild.proofs.replacing.add_datanode.Goals as goal
@@ -20,10 +21,29 @@ pub get_additional_datanode-requires-clause-allowed : goal.get_additional_datano
 get_additional_datanode-requires-clause-allowed g c =
     let plan = c.args.plan.now in
     allowed_as g.C.Cluster.allows (cc (c.as_str.ensures, c.as_slice.ensures, c.as_slice-2.ensures))
-    (c.requires.allowed.adds plan.block.b plan.block.locs c.args.excluded.now plan.block.storage_ids (refl, refl) c.requires.block.ids)
+    (c.requires.allowed.lets.adds plan.block.b plan.block.locs c.args.excluded.now plan.block.storage_types plan.block.storage_ids
+    (named_over c.requires.allowed.answered) c.requires.allowed.answered.placed c.requires.block.ids)
 
 pub give_block-requires-clause-allowed : goal.give_block-requires-clause-allowed
-give_block-requires-clause-allowed g c = lets_block (c.client_name.ensures ∙ c.in-Ok.ensures.keeps.name) refl refl refl c.requires.allowed
+give_block-requires-clause-allowed g c =
+    subst (λ (name : List ℕ). LetsGoOn g.C.Cluster.allows g.C.Cluster.may_answer name c.args.plan.now.src c.args.plan.now.block)
+    (sym (c.client_name.ensures ∙ c.in-Ok.ensures.keeps.name)) c.requires.allowed
+
+-- it was answered for the plan's block
+enlarged : goal.give_block-requires-clause-enlarged
+enlarged g c =
+    subst (λ (name : List ℕ). IsEnlarged g.C.Cluster.may_answer name c.args.plan.now.src c.args.plan.now.block.b c.in-Ok.located)
+    (sym (c.client_name.ensures ∙ c.in-Ok.ensures.keeps.name)) (record {
+      named = c.args.plan.now.block.b;
+      existing = c.args.plan.now.block.locs;
+      excluded = c.args.excluded.now;
+      storages = c.args.plan.now.block.storage_ids;
+      answered = rw (← c.as_str.ensures, ← c.as_slice.ensures, ← c.as_slice-2.ensures) c.in-Ok.ensures.answered;
+      same = (refl, refl);
+    })
+
+pub give_block-requires-clause-enlarged : goal.give_block-requires-clause-enlarged
+give_block-requires-clause-enlarged = enlarged
 
 pub returns-in-Err-clause-links : goal.returns-in-Err-clause-links
 returns-in-Err-clause-links g c = asked_links (c.in-Err.ensures.came c.requires.reaches)

@@ -3,9 +3,11 @@ use Rattle.std.proofs.Common.{List, refl, rules, subst, sym}
 use Rattle.std.proofs.lemmas.Bool.{false≢true}
 use Rattle.hdfs_cluster.specs.declared.messages.DatanodeInfo.{DatanodeInfo}
 use Rattle.hdfs_rebuild.specs.declared.block_plan.BlockPlan.{BlockPlan}
-use Rattle.hdfs_rebuild.specs.Plans.{IsDue}
+use Rattle.hdfs_namenode.specs.Clients.{name_of}
+use Rattle.hdfs_rebuild.specs.Plans.{IsDue, StaysAnswered}
 use Rattle.hdfs_rebuild.specs.Replacing.{Completes}
 use Rattle.hdfs_rebuild.proofs.Added.{completes_as_is, completes_with, completes_without}
+use Rattle.hdfs_rebuild.proofs.Allowed.{stays_enlarged}
 use Rattle.hdfs_rebuild.proofs.replacing.complete.Goals as goal
 
 pub returns-then-not-should_replace-clause-completes : goal.returns-then-not-should_replace-clause-completes
@@ -30,3 +32,8 @@ returns-in-Err-NoReplacement-clause-completes g c =
     let none = rw c.in-Err-NoReplacement.field-0-is at c.in-Err-NoReplacement.ensures.err in
     completes_without c.args.plan c.args.settings.now c.args.excluded.now c.requires.block (g.C.Cluster.shown c.args.cluster.now)
     (g.C.Cluster.shown c.add_datanode.new.cluster) due (search rules) none
+
+pub returns-in-Ok-clause-answered : goal.returns-in-Ok-clause-answered
+returns-in-Ok-clause-answered g c =
+    subst (StaysAnswered g.C.Cluster.may_answer (name_of c.args.namenode.now) c.args.plan) (sym c.with_nodes.ensures)
+    (stays_enlarged c.args.plan c.in-Ok.located c.in-Ok.ensures.answered)

@@ -5,7 +5,7 @@ use Rattle.hdfs_rebuild.proofs.Allowed.{lets_give}
 use Rattle.hdfs_rebuild.proofs.replacing.give_block.Goals as goal
 
 pub transfer-given-requires-clause-allowed : goal.transfer-given-requires-clause-allowed
-transfer-given-requires-clause-allowed g c = lets_give c.in_ok-transfer.ensures c.requires.allowed
+transfer-given-requires-clause-allowed g c = lets_give c.args.plan.now c.in_ok-transfer.ensures c.requires.enlarged c.requires.allowed
 
 pub returns-in_err-transfer-clause-err : goal.returns-in_err-transfer-clause-err
 returns-in_err-transfer-clause-err g c =

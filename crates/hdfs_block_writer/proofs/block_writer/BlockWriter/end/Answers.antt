@@ -3,7 +3,7 @@ use Rattle.std.proofs.Common.{rules, ◌≡◌, [], Some, arith}
 use Rattle.std.proofs.lemmas.Result.{err_from_is_err_and}
 use Rattle.hdfs_namenode.specs.Clients.{proxy_of}
 use Rattle.hdfs_namenode.proofs.Services.{reaches_later, same_client_trans}
-use Rattle.hdfs_block_writer.proofs.Allowed.{lets_pipe}
+use Rattle.hdfs_block_writer.proofs.Allowed.{closes_by, lets_pipe, stays_then}
 use Rattle.hdfs_block_writer.proofs.Closed.{can_push_last, closes, ending, few, last_not_pushed, not_finished}
 use Rattle.hdfs_block_writer.proofs.Received.{waits_for_last}
 use Rattle.hdfs_block_writer.proofs.Sent.{is_open, pipe_of}
@@ -51,7 +51,8 @@ finish-requires-clause-reaches g c =
 pub finish-requires-clause-allowed : goal.finish-requires-clause-allowed
 finish-requires-clause-allowed g c =
     let piped : c.args.self.now.pipe ≡ Some c.in-Some.pipe = search rules in
-    lets_pipe c.push.ensures.client.name c.in_ok-pipe.ensures.ok.continues.keeps (c.requires.allowed c.in-Some.pipe piped)
+    lets_pipe c.in-Some.pipe.plan c.in_ok-pipe.pipe.plan c.push.ensures.client.name c.in_ok-pipe.ensures.ok.continues.keeps
+    c.in_ok-pipe.ensures.answered (c.requires.allowed c.in-Some.pipe piped)
 
 pub finish-requires-clause-ending : goal.finish-requires-clause-ending
 finish-requires-clause-ending g c =
@@ -102,3 +103,10 @@ pub returns-in_err-plan-clause-client : goal.returns-in_err-plan-clause-client
 returns-in_err-plan-clause-client g c =
     same_client_trans c.args.namenode.now c.push.new.namenode
     c.finish.new.namenode c.push.ensures.client c.finish.ensures.client
+
+pub returns-clause-answered : goal.returns-clause-answered
+returns-clause-answered g c =
+    let piped : c.args.self.now.pipe ≡ Some c.in-Some.pipe = search rules in
+    closes_by c.args.self.now c.in-Some.pipe c.in_ok-plan.plan c.named.result c.args.self.now.length piped c.named.ensures
+    (stays_then c.in-Some.pipe.plan c.in_ok-pipe.pipe.plan c.in_ok-plan.plan c.push.ensures.client.name c.in_ok-pipe.ensures.answered
+    c.in_ok-plan.ensures.answered)

@@ -1,19 +1,21 @@
 -- The goals of BlockWriter::finish.
 use Rattle.std.proofs.Common.{[], subst}
 use Rattle.std.proofs.lemmas.Result.{err_from_is_err_and}
-use Rattle.hdfs_namenode.specs.Clients.{SameClient, proxy_of}
+use Rattle.hdfs_namenode.specs.Clients.{SameClient, name_of, proxy_of}
 use Rattle.hdfs_namenode.proofs.Services.{reaches_later, same_client_refl, same_client_trans}
+use Rattle.hdfs_rebuild.specs.Plans.{StaysAnswered}
 use Rattle.hdfs_block_writer.specs.declared.pushing.Settled.{Settled}
-use Rattle.hdfs_block_writer.specs.Pushing.{ReceivesOnce, Settles}
+use Rattle.hdfs_block_writer.specs.Pushing.{ReceivesOnce, Settles, plan_in}
 use Rattle.hdfs_block_writer.proofs.PushingOn.{few_still, fewer_waits, finished_then, first_wait, not_finished, waits_again}
 use Rattle.hdfs_block_writer.proofs.Received.{all_received}
-use Rattle.hdfs_block_writer.proofs.Allowed.{lets_pipe}
+use Rattle.hdfs_block_writer.proofs.Allowed.{lets_pipe, stays_then}
 use Rattle.hdfs_block_writer.proofs.block_writer.BlockWriter.finish.Goals as goal
 
 pub loop-plan-init : goal.loop-plan-init
 loop-plan-init g c = record {
   reaches = c.requires.reaches;
   client = same_client_refl c.args.namenode.now;
+  answered = λ first answered. answered;
   waits = first_wait c.args.self.now.settings (g.C.Cluster.shown c.args.cluster.now) c.args.pipe c.requires.standing c.requires.ending;
 }
 
@@ -86,9 +88,20 @@ loop-plan-preserved g c =
           reaches_later (proxy_of c.args.namenode.now) (proxy_of c.finish_once.new.namenode) (g.C.Cluster.shown c.args.cluster.now)
           (g.C.Cluster.shown c.finish_once.new.cluster) client.service w.continues.own.later c.requires.reaches;
       client = client;
+      answered =
+          stays_then c.args.pipe.plan c.loop-plan.pipe.plan c.in-Rebuilt.rebuilt.plan c.loop-plan.invariant.client.name c.loop-plan.invariant.answered
+          (subst (λ (s : Settled). StaysAnswered g.C.Cluster.may_answer (name_of c.loop-plan.namenode) c.loop-plan.pipe.plan (plan_in s)) c.in-Rebuilt.is
+          c.in_ok-plan.ensures.answered);
       waits = w;
     }
 
 pub finish_once-requires-clause-allowed : goal.finish_once-requires-clause-allowed
 finish_once-requires-clause-allowed g c =
-    lets_pipe c.loop-plan.invariant.client.name c.loop-plan.invariant.waits.continues.keeps c.requires.allowed
+    lets_pipe c.args.pipe.plan c.loop-plan.pipe.plan c.loop-plan.invariant.client.name c.loop-plan.invariant.waits.continues.keeps
+    c.loop-plan.invariant.answered c.requires.allowed
+
+pub returns-in-Done-clause-answered : goal.returns-in-Done-clause-answered
+returns-in-Done-clause-answered g c =
+    stays_then c.args.pipe.plan c.loop-plan.pipe.plan c.in-Done.plan c.loop-plan.invariant.client.name c.loop-plan.invariant.answered
+    (subst (λ (s : Settled). StaysAnswered g.C.Cluster.may_answer (name_of c.loop-plan.namenode) c.loop-plan.pipe.plan (plan_in s)) c.in-Done.is
+    c.in_ok-plan.ensures.answered)

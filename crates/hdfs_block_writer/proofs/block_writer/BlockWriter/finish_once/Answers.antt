@@ -11,7 +11,7 @@ use Rattle.hdfs_block_writer.proofs.EndedRebuilt.{bad_is, recovers_is}
 use Rattle.hdfs_block_writer.proofs.Finished.{done_is, finishes, fewer_bytes, once_bad, once_given_up, once_rebuilt, once_stopped}
 use Rattle.hdfs_block_writer.proofs.Received.{receives}
 use Rattle.hdfs_block_writer.proofs.Standing.{can_rebuild_standing, standing_drove}
-use Rattle.hdfs_rebuild.proofs.Allowed.{lets_block}
+use Rattle.hdfs_block_writer.proofs.Allowed.{lets_lengthened, stays_from}
 use Rattle.hdfs_block_writer.proofs.block_writer.BlockWriter.finish_once.Goals as goal
 
 pub returns-in-Err-clause-err : goal.returns-in-Err-clause-err
@@ -137,6 +137,15 @@ returns-in_ok-rebuilt-in-Ok-Recover-clause-ok g c =
 
 pub rebuild-requires-clause-allowed : goal.rebuild-requires-clause-allowed
 rebuild-requires-clause-allowed g c =
-    let is = c.with_length-plan.ensures in
-    lets_block refl (ap (λ (p : BlockPlan). p.src) is) (ap (λ (p : BlockPlan). p.block.b.pool_id) is) (ap (λ (p : BlockPlan). p.block.b.block_id) is)
-    c.requires.allowed
+    lets_lengthened c.args.pipe.plan c.with_length-plan.result c.args.self.now.length c.with_length-plan.ensures c.requires.allowed
+
+pub returns-then-is_empty-clause-answered : goal.returns-then-is_empty-clause-answered
+returns-then-is_empty-clause-answered g c first answered = answered
+
+pub returns-in-Ok-Success-clause-answered : goal.returns-in-Ok-Success-clause-answered
+returns-in-Ok-Success-clause-answered g c first answered = answered
+
+pub returns-in_ok-rebuilt-in-Ok-Recover-clause-answered : goal.returns-in_ok-rebuilt-in-Ok-Recover-clause-answered
+returns-in_ok-rebuilt-in-Ok-Recover-clause-answered g c =
+    stays_from c.args.pipe.plan c.with_length-plan.result c.in_ok-rebuilt-in-Ok-Recover.rebuilt.plan c.args.self.now.length c.with_length-plan.ensures
+    c.in_ok-rebuilt-in-Ok-Recover.ensures.answered

@@ -2,6 +2,7 @@
 use Rattle.std.proofs.Common.{rules, ◌≡◌, ◌+◌, Some, None, length, arith, ap, refl}
 use Rattle.std.proofs.lemmas.Result.{err_from_is_err_and}
 use Rattle.hdfs_block_writer.specs.Packing.{filling_of}
+use Rattle.hdfs_block_writer.proofs.Allowed.{goes_by, goes_same}
 use Rattle.hdfs_block_writer.proofs.Sent.{can_push, holds_same, holds_sent, not_pushed, stays_full, wrote_sent}
 use Rattle.hdfs_block_writer.proofs.block_writer.BlockWriter.flush.Goals as goal
 
@@ -79,3 +80,13 @@ returns-in_err-pipe-clause-err g c =
           (ap filling_of is) (held.0.packet c.in-Some.packet is).next.begins
           (g.C.Cluster.shown c.args.cluster.now) (g.C.Cluster.shown c.push.new.cluster) c.in_err-pipe.field-0.0 c.in_err-pipe.ensures.err;
     })
+
+pub returns-in_default-clause-answered : goal.returns-in_default-clause-answered
+returns-in_default-clause-answered g c = goes_same c.args.self.now (record c.args.self.now { packet = c.take.new.self }) refl
+
+pub returns-clause-answered : goal.returns-clause-answered
+returns-clause-answered g c =
+    let w = c.args.self.now in
+    let piped : w.pipe ≡ Some c.in-Some-take.pipe = search rules in
+    goes_by w (record w { pipe = c.replace.new.self; packet = c.take.new.self; seqno = w.seqno + 1 }) c.in-Some-take.pipe c.in_ok-pipe.pipe piped
+    c.replace.ensures.after c.in_ok-pipe.ensures.answered

@@ -1,13 +1,14 @@
 -- The goals of BlockWriter::flush_and_end.
 use Rattle.std.proofs.Common.{rules, [], IsSome}
 use Rattle.std.proofs.lemmas.Result.{err_from_is_err_and}
+use Rattle.hdfs_namenode.specs.Clients.{name_of}
 use Rattle.hdfs_namenode.proofs.Services.{same_client_trans}
-use Rattle.hdfs_block_writer.specs.Written.{Closes, GaveUp, WaitsForLast}
-use Rattle.hdfs_block_writer.proofs.Allowed.{may_go_on}
+use Rattle.hdfs_block_writer.specs.Written.{Closes, ClosesAnswered, GaveUp, WaitsForLast}
+use Rattle.hdfs_block_writer.proofs.Allowed.{closes_then, may_go_on}
 use Rattle.hdfs_block_writer.proofs.Closed.{closes_after}
 use Rattle.hdfs_block_writer.proofs.Received.{last_after, on_ok_by}
 use Rattle.hdfs_rebuild.proofs.Tried.{err_by, ok_by}
-use Rattle.hdfs_block_writer.proofs.Wrote.{gave_up_after}
+use Rattle.hdfs_block_writer.proofs.Wrote.{gave_up_after, some_after}
 use Rattle.hdfs_block_writer.proofs.block_writer.BlockWriter.flush_and_end.Goals as goal
 
 pub flush-requires-clause-holds : goal.flush-requires-clause-holds
@@ -21,7 +22,7 @@ returns-in_err-flush-clause-err g c =
 pub end-requires-clause-allowed : goal.end-requires-clause-allowed
 end-requires-clause-allowed g c =
     let some : IsSome c.args.self.now.pipe = search rules in
-    may_go_on c.args.self.now c.flush.new.self c.flush.ensures.client.name some c.in_ok-flush.ensures.wrote.stays c.requires.allowed
+    may_go_on c.args.self.now c.flush.new.self c.flush.ensures.client.name some c.in_ok-flush.ensures.wrote.stays c.in_ok-flush.ensures.answered c.requires.allowed
 
 pub returns-clause-closed : goal.returns-clause-closed
 returns-clause-closed g c =
@@ -52,3 +53,13 @@ pub returns-clause-client : goal.returns-clause-client
 returns-clause-client g c =
     same_client_trans c.args.namenode.now c.flush.new.namenode
     c.end.new.namenode c.flush.ensures.client c.end.ensures.client
+
+pub returns-clause-answered : goal.returns-clause-answered
+returns-clause-answered g c =
+    let some : IsSome c.args.self.now.pipe = search rules in
+    let still = some_after (g.C.Cluster.shown c.args.cluster.now) (g.C.Cluster.shown c.flush.new.cluster) c.args.self.now c.flush.new.self []
+    c.in_ok-flush.ensures.wrote some in
+    ok_by (ClosesAnswered g.C.Cluster.may_answer (name_of c.flush.new.namenode) c.flush.new.self)
+    (ClosesAnswered g.C.Cluster.may_answer (name_of c.args.namenode.now) c.args.self.now) c.end.result
+    (λ block closes. closes_then c.args.self.now c.flush.new.self block c.flush.ensures.client.name still c.in_ok-flush.ensures.answered closes)
+    c.end.ensures.answered

@@ -1,6 +1,7 @@
 -- The goals of BlockWriter::flush_full.
-use Rattle.std.proofs.Common.{sym, ◌∙◌}
+use Rattle.std.proofs.Common.{refl, sym, ◌∙◌}
 use Rattle.std.proofs.lemmas.Bool.{false≢true}
+use Rattle.hdfs_block_writer.proofs.Allowed.{goes_same}
 use Rattle.hdfs_block_writer.proofs.Sent.{pipe_of, stands_empty, stands_from}
 use Rattle.hdfs_block_writer.proofs.block_writer.BlockWriter.flush_full.Goals as goal
 
@@ -16,3 +17,6 @@ pub returns-then-not-has_full_packet-clause-stands : goal.returns-then-not-has_f
 returns-then-not-has_full_packet-clause-stands g c =
     stands_from (g.C.Cluster.shown c.args.cluster.now) c.args.self.now c.requires.holds c.requires.full
     (λ packet is full. false≢true (sym c.if-not-has_full_packet.true ∙ c.has_full_packet.ensures.1 (packet, is, full)))
+
+pub returns-then-not-has_full_packet-clause-answered : goal.returns-then-not-has_full_packet-clause-answered
+returns-then-not-has_full_packet-clause-answered g c = goes_same c.args.self.now c.args.self.now refl

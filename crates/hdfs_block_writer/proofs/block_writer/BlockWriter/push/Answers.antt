@@ -5,7 +5,7 @@ use Rattle.hdfs_wire.specs.Outgoing.{Outgoing}
 use Rattle.hdfs_namenode.specs.Clients.{SameClient, proxy_of}
 use Rattle.hdfs_namenode.proofs.Services.{reaches_later, same_client_refl, same_client_trans}
 use Rattle.hdfs_block_writer.specs.Pushing.{CanPush, PushesNot, PushesOnce}
-use Rattle.hdfs_block_writer.proofs.Allowed.{lets_pipe}
+use Rattle.hdfs_block_writer.proofs.Allowed.{lets_pipe, stays_then}
 use Rattle.hdfs_block_writer.proofs.PushingOn.{PushedSoFar, first_try, fewer_turns, later_so_far, not_again, still_more, tried_again, turns_left}
 use Rattle.hdfs_block_writer.proofs.block_writer.BlockWriter.push.Goals as goal
 
@@ -13,6 +13,7 @@ pub loop-packet-init : goal.loop-packet-init
 loop-packet-init g c = record {
   reaches = c.requires.reaches;
   client = same_client_refl c.args.namenode.now;
+  answered = λ first answered. answered;
   so_far = (refl, first_try c.args.self.now.settings (g.C.Cluster.shown c.args.cluster.now) c.args.pipe c.args.self.now.length c.args.packet c.requires.can);
 }
 
@@ -85,6 +86,9 @@ loop-packet-preserved g c =
           (later_so_far c.args.self.now.settings (g.C.Cluster.shown c.args.cluster.now) c.args.pipe c.args.self.now.length c.args.packet
           c.in_ok-pushed.pushed.back (g.C.Cluster.shown c.push_once.new.cluster) c.in_ok-pushed.pushed.pipe next) c.requires.reaches;
       client = client;
+      answered =
+          stays_then c.args.pipe.plan c.loop-packet.pushed.pipe.plan c.in_ok-pushed.pushed.pipe.plan c.loop-packet.invariant.client.name
+          c.loop-packet.invariant.answered c.in_ok-pushed.ensures.answered;
       so_far = next;
     }
 
@@ -93,4 +97,8 @@ push_once-requires-clause-allowed g c =
     let t = still_more c.args.self.now.settings (g.C.Cluster.shown c.args.cluster.now) c.args.pipe c.args.self.now.length c.args.packet
     (g.C.Cluster.shown c.loop-packet.cluster) c.loop-packet.pushed.pipe c.loop-packet.pushed.back c.in-Some.packet c.in-Some.is
     c.loop-packet.invariant.so_far in
-    lets_pipe c.loop-packet.invariant.client.name t.1.continues.keeps c.requires.allowed
+    lets_pipe c.args.pipe.plan c.loop-packet.pushed.pipe.plan c.loop-packet.invariant.client.name t.1.continues.keeps c.loop-packet.invariant.answered
+    c.requires.allowed
+
+pub returns-in_default-clause-answered : goal.returns-in_default-clause-answered
+returns-in_default-clause-answered g c = c.loop-packet.invariant.answered

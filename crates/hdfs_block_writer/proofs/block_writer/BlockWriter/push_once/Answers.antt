@@ -48,3 +48,9 @@ pub returns-in-Err-clause-err : goal.returns-in-Err-clause-err
 returns-in-Err-clause-err g c =
     push_stopped c.args.self.now.settings (g.C.Cluster.shown c.args.cluster.now) (g.C.Cluster.shown c.drive_push.new.cluster)
     (g.C.Cluster.shown c.end_write.new.self) c.args.pipe c.args.packet c.in-Err.ensures.err c.end_write.ensures.ended
+
+pub returns-then-not-has_ended-clause-answered : goal.returns-then-not-has_ended-clause-answered
+returns-then-not-has_ended-clause-answered g c first answered = answered
+
+pub returns-in_ok-pipe-in-Ok-clause-answered : goal.returns-in_ok-pipe-in-Ok-clause-answered
+returns-in_ok-pipe-in-Ok-clause-answered g c first answered = c.in_ok-pipe-in-Ok.ensures.answered first answered

@@ -5,12 +5,12 @@ use Rattle.hdfs_namenode.proofs.Services.{reaches_same, same_service_refl}
 use Rattle.hdfs_block_reader.specs.Carrying.{total}
 use Rattle.hdfs_rebuild.specs.declared.block_plan.BlockPlan.{BlockPlan}
 use Rattle.hdfs_rebuild.specs.Attempts.{GaveNoneAfter, RebuiltAfter, standing, task_of}
-use Rattle.hdfs_rebuild.specs.Plans.{CanRebuild}
+use Rattle.hdfs_rebuild.specs.Plans.{CanRebuild, StaysAnswered}
 use Rattle.hdfs_rebuild.proofs.Tried.{err_by, ok_by}
 use Rattle.hdfs_block_writer.specs.Pushing.{FallsEnded, RebuildsEnded}
 use Rattle.hdfs_block_writer.proofs.EndedRebuilt.{bad_is, ended_bad, ended_given_up, ended_rebuilt, ended_same, ended_stopped, recovers_is}
 use Rattle.hdfs_block_writer.proofs.Standing.{can_rebuild_standing, standing_drove}
-use Rattle.hdfs_rebuild.proofs.Allowed.{lets_block}
+use Rattle.hdfs_block_writer.proofs.Allowed.{lets_lengthened, stays_from}
 use Rattle.hdfs_block_writer.proofs.block_writer.BlockWriter.rebuild_ended.Goals as goal
 
 pub returns-in-Err-clause-err : goal.returns-in-Err-clause-err
@@ -86,6 +86,12 @@ returns-in-Ok-Bad-clause-err g c =
 
 pub rebuild-requires-clause-allowed : goal.rebuild-requires-clause-allowed
 rebuild-requires-clause-allowed g c =
-    let is = c.with_length-plan.ensures in
-    lets_block refl (ap (λ (p : BlockPlan). p.src) is) (ap (λ (p : BlockPlan). p.block.b.pool_id) is) (ap (λ (p : BlockPlan). p.block.b.block_id) is)
-    c.requires.allowed
+    lets_lengthened c.args.pipe.plan c.with_length-plan.result c.args.self.now.length c.with_length-plan.ensures c.requires.allowed
+
+pub returns-in-Ok-Recover-clause-answered : goal.returns-in-Ok-Recover-clause-answered
+returns-in-Ok-Recover-clause-answered g c =
+    let client = name_of c.args.namenode.now in
+    ok_by (λ pipe. StaysAnswered g.C.Cluster.may_answer client c.with_length-plan.result pipe.plan)
+    (λ pipe. StaysAnswered g.C.Cluster.may_answer client c.args.pipe.plan pipe.plan) c.rebuild.result
+    (λ pipe stays. stays_from c.args.pipe.plan c.with_length-plan.result pipe.plan c.args.self.now.length c.with_length-plan.ensures stays)
+    c.rebuild.ensures.answered

@@ -4,7 +4,7 @@ use Rattle.std.proofs.lemmas.Result.{err_from_is_err_and}
 use Rattle.std.proofs.lemmas.List.{length-drop, take_rest, length-take-le}
 use Rattle.hdfs_namenode.specs.Clients.{proxy_of}
 use Rattle.hdfs_namenode.proofs.Services.{reaches_later, same_client_refl, same_client_trans}
-use Rattle.hdfs_block_writer.proofs.Allowed.{may_go_on}
+use Rattle.hdfs_block_writer.proofs.Allowed.{goes_same, goes_then, may_go_on}
 use Rattle.hdfs_block_writer.proofs.Wrote.{wrote_refl, wrote_trans, fails_after, some_after, pieces_join}
 use Rattle.hdfs_block_writer.proofs.block_writer.BlockWriter.write_all.Goals as goal
 
@@ -14,6 +14,7 @@ pieces-init g c = record {
   client = same_client_refl c.args.namenode.now;
   stands = c.requires.stands;
   some = c.requires.open;
+  answered = goes_same c.args.self.now c.args.self.now refl;
   allowed = c.requires.allowed;
   room = c.requires.room;
   told = ([], refl, wrote_refl (g.C.Cluster.shown c.args.cluster.now) c.args.self.now);
@@ -39,7 +40,9 @@ pieces-preserved g c =
           same_client_trans c.args.namenode.now c.pieces.namenode c.write_piece.new.namenode before.client c.write_piece.ensures.client;
       stands = now.stands;
       some = some_after t u c.pieces.self c.write_piece.new.self (take n rest) wrote before.some;
-      allowed = may_go_on c.pieces.self c.write_piece.new.self c.write_piece.ensures.client.name before.some wrote.stays before.allowed;
+      answered = goes_then c.args.self.now c.pieces.self c.write_piece.new.self before.client.name before.some before.answered now.answered;
+      allowed =
+          may_go_on c.pieces.self c.write_piece.new.self c.write_piece.ensures.client.name before.some wrote.stays now.answered before.allowed;
       room = omega (arith, before.room, taken, wrote.length, wrote.keeps.block_size, length-take-le n rest taken, length-drop n rest, ap length (take_rest rest n));
       told = (
         told.0 ++ take n rest,

@@ -3,7 +3,7 @@ use Rattle.std.proofs.Common.{◌≡◌, ℕ, ◌+◌, ◌≤◌, List, ◌++◌
 use Rattle.hdfs_namenode.specs.Asked.{ReachesAll}
 use Rattle.hdfs_namenode.specs.Clients.{SameClient, name_of, proxy_of}
 use Rattle.hdfs_block_writer.specs.BlockWriters.{MayGoOn, Stands}
-use Rattle.hdfs_block_writer.specs.Written.{Wrote}
+use Rattle.hdfs_block_writer.specs.Written.{GoesOnAnswered, Wrote}
 use Rattle.hdfs_block_writer.proofs.block_writer.BlockWriter.write_all.Given as goal
 
 abbrev pub invariant-pieces : goal.invariant-pieces
@@ -12,6 +12,7 @@ invariant-pieces g l = record {
   client : SameClient l.fn.namenode l.namenode;
   stands : Stands (g.C.Cluster.shown l.cluster) l.self;
   some : IsSome l.self.pipe;
+  answered : GoesOnAnswered g.C.Cluster.may_answer (name_of l.fn.namenode) l.fn.self l.self;
   allowed : MayGoOn g.C.Cluster.allows g.C.Cluster.may_answer (name_of l.namenode) l.self;
   room : l.self.length + length l.rest ≤ l.self.block_size;
   told : (done : List ℕ) × (l.fn.bytes ≡ done ++ l.rest) × Wrote (g.C.Cluster.shown l.fn.cluster) l.fn.self done (g.C.Cluster.shown l.cluster) l.self;

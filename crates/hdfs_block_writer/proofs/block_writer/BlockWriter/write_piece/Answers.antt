@@ -1,9 +1,10 @@
 -- The goals of BlockWriter::write_piece.
-use Rattle.std.proofs.Common.{[], take, sym, ◌∙◌, subst}
+use Rattle.std.proofs.Common.{[], IsSome, take, refl, sym, ◌∙◌, subst}
 use Rattle.std.proofs.lemmas.List.{append-nil}
 use Rattle.std.proofs.lemmas.Result.{err_from_is_err_and}
 use Rattle.std.specs.Prelude.{ℕ, List}
 use Rattle.hdfs_block_writer.specs.Written.{Wrote}
+use Rattle.hdfs_block_writer.proofs.Allowed.{goes_same, goes_then}
 use Rattle.hdfs_block_writer.proofs.Sent.{pipe_of, holds_filled, is_open}
 use Rattle.hdfs_block_writer.proofs.Wrote.{ended_fails, fill_wrote, wrote_trans, fails_after}
 use Rattle.hdfs_block_writer.proofs.block_writer.BlockWriter.write_piece.Goals as goal
@@ -57,3 +58,11 @@ returns-in_err-flush_full-clause-err g c =
     rw (p.1, p.2)
     (fails_after a a w c.fill.new.self more filled (g.C.Cluster.shown c.flush_full.new.cluster) c.flush_full.new.self
     c.in_err-flush_full.field-0.0 c.in_err-flush_full.ensures.err)
+
+pub flush_full-requires-clause-allowed : goal.flush_full-requires-clause-allowed
+flush_full-requires-clause-allowed g c pipe is = c.requires.allowed pipe (sym c.in-Ok.ensures.fills.pipe ∙ is)
+
+pub returns-clause-answered : goal.returns-clause-answered
+returns-clause-answered g c =
+    goes_then c.args.self.now c.fill.new.self c.flush_full.new.self refl (subst IsSome (sym c.in-Ok.ensures.fills.pipe) c.requires.open)
+    (goes_same c.args.self.now c.fill.new.self c.in-Ok.ensures.fills.pipe) c.in_ok-flush_full.ensures.answered

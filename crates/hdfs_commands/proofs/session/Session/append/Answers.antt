@@ -381,7 +381,8 @@ returns-clause-answered g c =
     (put_by asked.writers c.keep.new.writers session.writers (string_bytes c.in_ok-key.key) c.args.path writer (on.writers ∙ prepares.writers)
     (c.in_ok-key.ensures.ok ∙ c.as_str.ensures) c.in_ok-keep.ensures.put)
     (subst (λ (client : List ℕ). IsAnswered g.C.Cluster.may_answer client writer) prepares.remembers.name
-    (answered_appended writer c.args.path c.in_ok-block.field-0 c.appended-writer.ensures.path.0
+    (answered_appended writer c.args.path c.in_ok-block.field-0 (c.appended-writer.ensures.stands (g.C.Cluster.shown c.args.cluster.now))
+    c.appended-writer.ensures.idle.1 c.appended-writer.ensures.path.0
     (c.appended-writer.ensures.path.2 ∙ sym (ap id_in c.in-Some.is)) c.appended-writer.ensures.tail c.in_ok-block.ensures.answered))
     c.requires.answered
 
@@ -389,5 +390,6 @@ pub refuse_opened-requires-clause-answered : goal.refuse_opened-requires-clause-
 refuse_opened-requires-clause-answered g c =
     let writer = c.appended-writer.result in
     subst (λ (client : List ℕ). IsAnswered g.C.Cluster.may_answer client writer) (sym c.ask_append.ensures.asked.remembers.name)
-    (answered_appended writer c.args.path c.in_ok-block.field-0 c.appended-writer.ensures.path.0
+    (answered_appended writer c.args.path c.in_ok-block.field-0 (c.appended-writer.ensures.stands (g.C.Cluster.shown c.args.cluster.now))
+    c.appended-writer.ensures.idle.1 c.appended-writer.ensures.path.0
     (c.appended-writer.ensures.path.2 ∙ sym (ap id_in c.in-Some.is)) c.appended-writer.ensures.tail c.in_ok-block.ensures.answered)

@@ -338,7 +338,8 @@ returns-clause-answered g c =
     (put_by asked.writers c.keep.new.writers session.writers (string_bytes c.in_ok-key.key) c.args.path writer (on.writers ∙ prepares.writers)
     (c.in_ok-key.ensures.ok ∙ c.as_str.ensures) c.in_ok-keep.ensures.put)
     (subst (λ (client : List ℕ). IsAnswered g.C.Cluster.may_answer client writer) prepares.remembers.name
-    (answered_created writer c.args.path (id_in c.in_ok-status.status) c.new-writer.ensures.path.0 (c.new-writer.ensures.path.2 ∙ c.file_id_of-file_id.ensures)
+    (answered_created writer c.args.path (id_in c.in_ok-status.status) (c.new-writer.ensures.stands (g.C.Cluster.shown c.args.cluster.now))
+    c.new-writer.ensures.idle.1 c.new-writer.ensures.path.0 (c.new-writer.ensures.path.2 ∙ c.file_id_of-file_id.ensures)
     c.new-writer.ensures.tail
     (inl (record {
       masked = options.permission;

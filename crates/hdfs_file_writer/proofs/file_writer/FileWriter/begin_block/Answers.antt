@@ -1,8 +1,8 @@
 -- The goals of FileWriter::begin_block.
-use Rattle.std.proofs.Common.{[], Some, List, ℕ, sym, subst, true}
+use Rattle.std.proofs.Common.{arith, [], Some, List, ℕ, sym, subst, true}
 use Rattle.hdfs_file_writer.proofs.Joining.{wrote_trans, fails_after}
 use Rattle.hdfs_file_writer.specs.Writers.{IsAnswered}
-use Rattle.hdfs_cluster.specs.Requests.{IsAdded, IsAnsweredId, IsFirstSetup}
+use Rattle.hdfs_cluster.specs.Requests.{IsAdded, IsFirstSetup}
 use Rattle.hdfs_file_writer.proofs.file_writer.FileWriter.begin_block.Goals as goal
 
 pub returns-in-Ok-open_block-clause-wrote : goal.returns-in-Ok-open_block-clause-wrote
@@ -21,15 +21,21 @@ returns-in-Err-open_block-clause-err g c =
     fails_after s m (g.C.Cluster.shown c.open_block.new.cluster) w (record w { reopened = Some c.in-Ok.located }) [] c.in-Err-open_block.error
     c.in-Ok.ensures.adds.wrote c.in-Err-open_block.ensures.err
 
+pub next_block-requires-clause-answered : goal.next_block-requires-clause-answered
+next_block-requires-clause-answered g c = c.requires.answered.last c.requires.begins.fine
+
+pub open_block-requires-clause-located : goal.open_block-requires-clause-located
+open_block-requires-clause-located g c = record {
+  answered =
+      subst (λ (client : List ℕ). IsAdded g.C.Cluster.may_answer client c.args.self.now.path c.args.self.now.file_id c.in-Ok.located)
+      (sym c.next_block.ensures.client.name) c.in-Ok.ensures.answered;
+  block = c.in-Ok.ensures.adds.block;
+  room = omega (arith, c.in-Ok.ensures.adds.empty, c.requires.begins.sizes.limited.block);
+}
+
 pub open_block-requires-clause-answered : goal.open_block-requires-clause-answered
 open_block-requires-clause-answered g c =
-    subst (λ (client : List ℕ). IsAdded g.C.Cluster.may_answer client c.args.self.now.path c.args.self.now.file_id c.in-Ok.located)
-    (sym c.next_block.ensures.client.name) c.in-Ok.ensures.answered
-
-pub open_block-requires-clause-id : goal.open_block-requires-clause-id
-open_block-requires-clause-id g c =
-    subst (λ (client : List ℕ). IsAnsweredId g.C.Cluster.may_answer client c.args.self.now.path c.args.self.now.file_id)
-    (sym c.next_block.ensures.client.name) c.requires.id
+    subst (λ (client : List ℕ). IsAnswered g.C.Cluster.may_answer client c.args.self.now) (sym c.next_block.ensures.client.name) c.requires.answered
 
 pub returns-in-Ok-open_block-clause-answered : goal.returns-in-Ok-open_block-clause-answered
 returns-in-Ok-open_block-clause-answered g c =

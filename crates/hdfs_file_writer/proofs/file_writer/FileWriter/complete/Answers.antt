@@ -1,14 +1,16 @@
 -- The goals of FileWriter::complete.
-use Rattle.std.proofs.Common.{◌≢◌, ℕ, ◌≤◌, List, refl, sym, subst, ◌∙◌, ap, arith}
-use Rattle.std.specs.Prelude.{Ok}
+use Rattle.std.proofs.Common.{◌≡◌, ◌≢◌, ℕ, ◌≤◌, List, refl, sym, subst, ◌∙◌, ap, arith}
+use Rattle.std.specs.Prelude.{Ok, option_copied}
 use Rattle.hdfs_cluster.specs.declared.errors.HdfsError.TheVariants as errors
 use Rattle.hdfs_cluster.specs.declared.asks.Answer.TheVariants as answers
+use Rattle.hdfs_cluster.specs.declared.asks.Ask.TheVariants as asks
 use Rattle.hdfs_namenode.specs.Asked.{as_answer}
 use Rattle.hdfs_namenode.specs.Clients.{name_of, proxy_of}
 use Rattle.hdfs_namenode.proofs.Relayed.{came_as}
 use Rattle.hdfs_namenode.proofs.Services.{reaches_later, reaches_service, same_client_refl, same_client_trans}
 use Rattle.hdfs_file_writer.specs.Writers.{FailsToClose}
 use Rattle.hdfs_file_writer.proofs.Closing.{asks_first, asked_true, asked_false, asked_error, asked_nodes, no_memory, not_closed}
+use Rattle.hdfs_rebuild.proofs.Allowed.{allowed_as}
 use Rattle.hdfs_file_writer.proofs.file_writer.FileWriter.complete.Goals as goal
 
 pub loop-init : goal.loop-init
@@ -100,3 +102,10 @@ returns-in-Ok-clause-err g c =
     let all : c.loop.counter ≢ 0 = λ none. absurd (omega (arith, none, most)) in
     subst (λ (path : List ℕ). FailsToClose s w (errors.OperationFailed path) m) (sym c.in-Ok.ensures)
     (not_closed c.requires.between (g.met.C.Cluster.sound c.loop.cluster) c.loop.invariant.asking all most)
+
+pub complete-requires-clause-allowed : goal.complete-requires-clause-allowed
+complete-requires-clause-allowed g c =
+    let w = c.args.self.now in
+    let asked : asks.Complete c.as_str.result.now (name_of c.loop.namenode) (option_copied c.as_ref.result) w.file_id
+    ≡ asks.Complete w.path (name_of c.args.namenode.now) w.last w.file_id = cc (c.as_str.ensures, c.as_ref.ensures.value, c.loop.invariant.client.name) in
+    allowed_as g.C.Cluster.allows asked (c.requires.allowed.completes w.last c.requires.answered)

@@ -1,5 +1,6 @@
 -- The goals of FileWriter::end.
-use Rattle.std.proofs.Common.{[], ap, subst}
+use Rattle.std.proofs.Common.{ℕ, List, [], ap, sym, subst}
+use Rattle.hdfs_cluster.specs.Requests.{IsAnsweredLast}
 use Rattle.hdfs_cluster.specs.Shown.{SameNodes, Shown}
 use Rattle.hdfs_namenode.specs.Clients.{proxy_of}
 use Rattle.hdfs_namenode.proofs.Services.{reaches_later}
@@ -40,3 +41,9 @@ pub returns-in-Err-complete-clause-err : goal.returns-in-Err-complete-clause-err
 returns-in-Err-complete-clause-err g c = λ fine.
     fails_to_close_after (g.C.Cluster.shown c.args.cluster.now) (g.C.Cluster.shown c.finish_block.new.cluster) (g.C.Cluster.shown c.complete.new.cluster)
     c.args.self.now c.finish_block.new.self [] c.in-Err-complete.error c.in-Ok.ensures.wrote c.in-Err-complete.ensures.err
+
+pub complete-requires-clause-answered : goal.complete-requires-clause-answered
+complete-requires-clause-answered g c =
+    let x = c.finish_block.new.self in
+    subst (λ (client : List ℕ). IsAnsweredLast g.C.Cluster.may_answer client x.path x.file_id x.last)
+    (sym c.finish_block.ensures.keeps.2.name) (c.in-Ok.ensures.answered.last c.finish_block.ensures.keeps.1)

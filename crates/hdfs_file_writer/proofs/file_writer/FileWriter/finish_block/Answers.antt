@@ -6,7 +6,7 @@ use Rattle.hdfs_cluster.specs.declared.messages.Block.{Block}
 use Rattle.hdfs_cluster.specs.declared.messages.LocatedBlock.{LocatedBlock}
 use Rattle.hdfs_file_writer.specs.Tails.{IsFull}
 use Rattle.hdfs_file_writer.specs.Writers.{tail_by, tail_of, IsBetweenBlocks, Wrote, FailsOtherwise}
-use Rattle.hdfs_file_writer.proofs.Allowed.{answered_going, may_go_on}
+use Rattle.hdfs_file_writer.proofs.Allowed.{answered_closed, answered_going, answered_idle, answered_left, answered_reopened, may_go_on}
 use Rattle.hdfs_file_writer.proofs.Filling.{settled_full, ended_full}
 use Rattle.hdfs_file_writer.proofs.Joining.{wrote_nothing}
 use Rattle.hdfs_file_writer.proofs.Standing.{ended_wrote, gave_up_fails, settled_wrote}
@@ -95,3 +95,28 @@ returns-in-Err-clause-err g c =
     subst (λ (e : HdfsError). FailsOtherwise s w e t) (sym c.error_of.ensures)
     (gave_up_fails s t (g.met.C.Cluster.sound c.args.cluster.now) (g.met.C.Cluster.sound c.close.new.cluster) w block going (c.requires.stands.is_open c.requires.fine block going)
     (c.requires.stands.going block going) c.in-Err.fault c.in-Err.ensures.err)
+
+pub returns-in-Some-clause-answered : goal.returns-in-Some-clause-answered
+returns-in-Some-clause-answered g c =
+    let w = c.args.self.now in
+    let reopened : w.reopened ≡ Some c.in-Some.located = sym c.take.ensures.value ∙ c.in-Some.is in
+    let none : w.going ≡ None = c.requires.stands.apart (subst IsSome (sym reopened) refl) in
+    answered_idle w (record w { last = Some c.in-Some.located.b; reopened = c.take.new.self }) (record { path = refl; file_id = refl; sizes = refl })
+    none c.take.ensures.after c.requires.answered
+    (λ fine. answered_left c.in-Some.located (answered_reopened w none reopened c.requires.answered))
+
+pub returns-in-None-take-clause-answered : goal.returns-in-None-take-clause-answered
+returns-in-None-take-clause-answered g c =
+    let w = c.args.self.now in
+    answered_idle w (record w { going = c.take-2.new.self; reopened = c.take.new.self }) (record { path = refl; file_id = refl; sizes = refl })
+    c.take-2.ensures.after c.take.ensures.after c.requires.answered c.requires.answered.last
+
+pub returns-in-Ok-clause-answered : goal.returns-in-Ok-clause-answered
+returns-in-Ok-clause-answered g c =
+    let w = c.args.self.now in
+    let block = c.in-Some-take.block in
+    let going : w.going ≡ Some block = sym c.take-2.ensures.value ∙ c.in-Some-take.is in
+    answered_idle w (record w { last = Some c.in-Ok.block; going = c.take-2.new.self; reopened = c.take.new.self })
+    (record { path = refl; file_id = refl; sizes = refl }) c.take-2.ensures.after c.take.ensures.after c.requires.answered
+    (λ fine. answered_closed block c.in-Ok.block (c.requires.stands.is_open c.requires.fine block going) (answered_going w going c.requires.answered)
+    c.in-Ok.ensures.answered)

@@ -1,17 +1,24 @@
 -- The goals of FileWriter::make_room.
-use Rattle.std.proofs.Common.{[], sym, ◌∙◌, subst, ◌≡◌, None, IsSome, List, ℕ, refl, false}
+use Rattle.std.proofs.Common.{[], sym, ◌∙◌, subst, ◌≡◌, None, Some, Option, IsSome, List, ℕ, refl, false}
 use Rattle.std.proofs.lemmas.Bool.{false≢true}
+use Rattle.std.specs.Prelude.{IfSome}
+use Rattle.hdfs_cluster.specs.declared.messages.LocatedBlock.{LocatedBlock}
+use Rattle.hdfs_cluster.specs.Namenode.{IsToWrite}
 use Rattle.hdfs_namenode.specs.Clients.{proxy_of, name_of}
-use Rattle.hdfs_namenode.proofs.Services.{reaches_later}
+use Rattle.hdfs_namenode.proofs.Services.{reaches_later, same_client_trans}
 use Rattle.hdfs_file_writer.specs.declared.file_writer.FileWriter.{FileWriter}
 use Rattle.hdfs_file_writer.specs.declared.sizes.WriteSizes.{WriteSizes}
 use Rattle.hdfs_file_writer.specs.Tails.{IsFull}
-use Rattle.hdfs_file_writer.specs.Writers.{HasRoom, tail_of, Wrote, IsAnswered}
+use Rattle.hdfs_file_writer.specs.Writers.{HasRoom, IsToOpen, tail_of, Wrote, IsAnswered}
 use Rattle.hdfs_file_writer.proofs.Joining.{wrote_nothing, wrote_trans, fails_after}
 use Rattle.hdfs_file_writer.proofs.Standing.{full_without_room}
-use Rattle.hdfs_file_writer.proofs.Allowed.{answered_reopened, id_kept}
-use Rattle.hdfs_cluster.specs.Requests.{IsAnsweredId, IsReopened, LetsWriteBlocks}
+use Rattle.hdfs_file_writer.proofs.Allowed.{answered_idle, answered_reopened}
+use Rattle.hdfs_cluster.specs.Requests.{LetsWriteBlocks}
 use Rattle.hdfs_file_writer.proofs.file_writer.FileWriter.make_room.Goals as goal
+
+-- a block that is to be gone on with is to be written
+to_write : {reopened : Option LocatedBlock} {located : LocatedBlock} → reopened ≡ Some located → IfSome reopened IsToWrite → IsToWrite located
+to_write is fine = subst (λ (o : Option LocatedBlock). IfSome o IsToWrite) is fine
 
 pub returns-then-has_room-clause-wrote : goal.returns-then-has_room-clause-wrote
 returns-then-has_room-clause-wrote g c = wrote_nothing (g.C.Cluster.shown c.args.cluster.now) c.args.self.now
@@ -47,30 +54,35 @@ returns-in-Err-begin_block-clause-err g c =
     fails_after s m (g.C.Cluster.shown c.begin_block.new.cluster) c.args.self.now c.finish_block.new.self [] c.in-Err-begin_block.error
     (subst (λ (w : FileWriter). Wrote s w [] m c.finish_block.new.self) same c.in-Ok-finish_block.ensures.wrote) c.in-Err-begin_block.ensures.err
 
+pub open_block-requires-clause-located : goal.open_block-requires-clause-located
+open_block-requires-clause-located g c =
+    let w = c.args.self.now in
+    let some = c.in-Some.ensures.some in
+    let none : w.going ≡ None = c.requires.works.stands.apart (subst IsSome (sym some.0) refl) in
+    subst (λ (x : FileWriter). IsToOpen g.C.Cluster.may_answer (name_of c.args.namenode.now) x false c.in-Some.located) (sym some.2)
+    (record {
+      answered = answered_reopened w none some.0 c.requires.answered;
+      block = to_write some.0 c.requires.works.stands.reopened;
+      room = some.1;
+    })
+
 pub open_block-requires-clause-answered : goal.open_block-requires-clause-answered
 open_block-requires-clause-answered g c =
     let w = c.args.self.now in
     let some = c.in-Some.ensures.some in
     let none : w.going ≡ None = c.requires.works.stands.apart (subst IsSome (sym some.0) refl) in
-    subst (λ (x : FileWriter). IsReopened g.C.Cluster.may_answer (name_of c.args.namenode.now) x.path c.in-Some.located) (sym some.2)
-    (answered_reopened w none some.0 c.requires.answered)
-
-pub open_block-requires-clause-id : goal.open_block-requires-clause-id
-open_block-requires-clause-id g c =
-    subst (λ (x : FileWriter). IsAnsweredId g.C.Cluster.may_answer (name_of c.args.namenode.now) x.path x.file_id) (sym c.in-Some.ensures.some.2)
-    c.requires.answered.id
+    subst (IsAnswered g.C.Cluster.may_answer (name_of c.args.namenode.now)) (sym some.2)
+    (answered_idle w (record w { reopened = None }) (record { path = refl; file_id = refl; sizes = refl }) none refl c.requires.answered
+    c.requires.answered.last)
 
 pub finish_block-requires-clause-answered : goal.finish_block-requires-clause-answered
 finish_block-requires-clause-answered g c =
     subst (IsAnswered g.C.Cluster.may_answer (name_of c.args.namenode.now)) (sym (c.take_reopened.ensures.none c.in-None.is)) c.requires.answered
 
-pub begin_block-requires-clause-id : goal.begin_block-requires-clause-id
-begin_block-requires-clause-id g c =
-    subst (λ (client : List ℕ). IsAnsweredId g.C.Cluster.may_answer client c.finish_block.new.self.path c.finish_block.new.self.file_id)
-    (sym c.finish_block.ensures.keeps.2.name)
-    (id_kept c.take_reopened.new.self c.finish_block.new.self c.finish_block.ensures.keeps.0
-    (subst (λ (x : FileWriter). IsAnsweredId g.C.Cluster.may_answer (name_of c.args.namenode.now) x.path x.file_id)
-    (sym (c.take_reopened.ensures.none c.in-None.is)) c.requires.answered.id))
+pub begin_block-requires-clause-answered : goal.begin_block-requires-clause-answered
+begin_block-requires-clause-answered g c =
+    subst (λ (client : List ℕ). IsAnswered g.C.Cluster.may_answer client c.finish_block.new.self) (sym c.finish_block.ensures.keeps.2.name)
+    c.in-Ok-finish_block.ensures.answered
 
 pub returns-in-Ok-begin_block-clause-answered : goal.returns-in-Ok-begin_block-clause-answered
 returns-in-Ok-begin_block-clause-answered g c =
@@ -88,3 +100,7 @@ pub finish_block-requires-clause-allowed : goal.finish_block-requires-clause-all
 finish_block-requires-clause-allowed g c =
     subst (λ (x : FileWriter). LetsWriteBlocks g.C.Cluster.allows g.C.Cluster.may_answer (name_of c.args.namenode.now) x.path x.file_id)
     (sym (c.take_reopened.ensures.none c.in-None.is)) c.requires.allowed.blocks
+
+pub returns-in-Ok-begin_block-clause-client : goal.returns-in-Ok-begin_block-clause-client
+returns-in-Ok-begin_block-clause-client g c =
+    same_client_trans c.args.namenode.now c.finish_block.new.namenode c.begin_block.new.namenode c.finish_block.ensures.keeps.2 c.begin_block.ensures.keeps.1

@@ -8,6 +8,7 @@ use Rattle.std.specs.Prelude.{option_copied}
 use Rattle.hdfs_cluster.specs.declared.asks.Ask.{Ask}
 use Rattle.hdfs_cluster.specs.declared.asks.Ask.TheVariants as asks
 use Rattle.hdfs_cluster.specs.declared.asks.Answer.TheVariants as answers
+use Rattle.hdfs_rebuild.proofs.Allowed.{allowed_as}
 use Rattle.hdfs_file_writer.proofs.file_writer.FileWriter.next_block.Goals as goal
 
 pub add_block-requires-clause-service : goal.add_block-requires-clause-service
@@ -34,3 +35,10 @@ returns-in-Ok-clause-answered g c =
       previous = w.last;
       answered = subst (λ (ask : Ask). g.C.Cluster.may_answer ask (answers.AddBlock c.in-Ok.located)) asked c.in-Ok.ensures.answered;
     }
+
+pub add_block-requires-clause-allowed : goal.add_block-requires-clause-allowed
+add_block-requires-clause-allowed g c =
+    let w = c.args.self.now in
+    let asked : asks.AddBlock c.as_str.result.now (name_of c.args.namenode.now) (option_copied c.as_ref.result) [] w.file_id
+    ≡ asks.AddBlock w.path (name_of c.args.namenode.now) w.last [] w.file_id = cc (c.as_str.ensures, c.as_ref.ensures.value) in
+    allowed_as g.C.Cluster.allows asked (c.requires.allowed.adds w.last c.requires.answered)

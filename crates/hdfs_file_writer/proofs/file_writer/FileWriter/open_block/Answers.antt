@@ -8,7 +8,7 @@ use Rattle.hdfs_block_writer.specs.Written.{BeginsWhole, IsNew}
 use Rattle.hdfs_file_writer.specs.Writers.{FailsOtherwise, plan_of}
 use Rattle.hdfs_file_writer.proofs.Standing.{begun_stands, opened_wrote, unopened_fails}
 use Rattle.hdfs_file_writer.proofs.Allowed.{answered_new, answered_with}
-use Rattle.hdfs_cluster.specs.Requests.{IsAnsweredBlock, IsFirstSetup}
+use Rattle.hdfs_cluster.specs.Requests.{IsAnsweredLocated, IsFirstSetup}
 use Rattle.hdfs_cluster.specs.declared.messages.LocatedBlock.{LocatedBlock}
 use Rattle.hdfs_file_writer.proofs.file_writer.FileWriter.open_block.Goals as goal
 
@@ -19,7 +19,7 @@ replicated-requires-clause-allowed g c =
     let located : plan.block ≡ c.args.located = ap (λ (x : BlockPlan). x.block) c.in-Ok.ensures in
     c.requires.allowed (setup_of plan.block plan.chunk client)
     (subst (λ (x : LocatedBlock). IsFirstSetup x client (setup_of plan.block plan.chunk client)) located
-    (record { block = refl; nodes = refl; stamp = refl; token = refl; named = refl }))
+    (record { block = refl; stage = refl; nodes = refl; types = refl; ids = refl; stamp = refl; bytes = (refl, refl); token = refl; named = refl }))
 
 pub returns-in-Ok-replicated-clause-stands : goal.returns-in-Ok-replicated-clause-stands
 returns-in-Ok-replicated-clause-stands g c =
@@ -29,7 +29,7 @@ returns-in-Ok-replicated-clause-stands g c =
     let created = c.args.created in
     let new : IsNew (plan_of w c.args.located created) w.sizes.rebuilding w.sizes.block_size w.sizes.packet_size block =
     subst (λ (x : BlockPlan). IsNew x w.sizes.rebuilding w.sizes.block_size w.sizes.packet_size block) c.in-Ok.ensures c.in-Ok-replicated.ensures.new in
-    let room = c.requires.room in (
+    let room = c.requires.located.room in (
       begun_stands (g.C.Cluster.shown c.replicated.new.cluster) (g.C.Cluster.shown c.args.cluster.now) w (record w { going = Some block }) block c.args.located created
           (setup_of plan.block plan.chunk (name_of c.args.namenode.now)) c.requires.begins.sizes c.requires.begins.plain c.requires.begins.fine
           (record { path = refl; file_id = refl; sizes = refl }) refl c.requires.begins.between.done c.in-Ok-replicated.ensures.stands new c.in-Ok-replicated.ensures.opened,
@@ -65,7 +65,7 @@ pub returns-in-Ok-replicated-clause-answered : goal.returns-in-Ok-replicated-cla
 returns-in-Ok-replicated-clause-answered g c =
     let w = c.args.self.now in
     let block = c.in-Ok-replicated.block in
-    answered_with w (record w { going = Some block }) block (record { path = refl; file_id = refl; sizes = refl }) refl c.requires.id
+    answered_with w (record w { going = Some block }) block (record { path = refl; file_id = refl; sizes = refl }) refl refl refl c.requires.answered
     (answered_new g.C.Cluster.may_answer (name_of c.args.namenode.now) w.path w.file_id c.in-Ok.plan block c.in-Ok-replicated.ensures.new
-    (subst (λ (x : BlockPlan). IsAnsweredBlock g.C.Cluster.may_answer (name_of c.args.namenode.now) w.path w.file_id x.created x.block.b) (sym c.in-Ok.ensures)
-    (record { located = c.args.located; answered = c.requires.answered; same = (refl, refl) })))
+    (subst (λ (x : BlockPlan). IsAnsweredLocated g.C.Cluster.may_answer (name_of c.args.namenode.now) w.path w.file_id x.created x.block) (sym c.in-Ok.ensures)
+    c.requires.located.answered))

@@ -1,6 +1,6 @@
 -- The goals of FileWriter::refuse: no block is being written, so that no call touches a datanode.
-use Rattle.std.proofs.Common.{[], Some, refl, sym, ap, subst, ◌∙◌}
-use Rattle.hdfs_cluster.specs.Requests.{LetsWriteBlocks}
+use Rattle.std.proofs.Common.{ℕ, List, [], Some, refl, sym, ap, subst, ◌∙◌}
+use Rattle.hdfs_cluster.specs.Requests.{IsAnsweredLast, LetsWriteBlocks}
 use Rattle.hdfs_cluster.specs.Shown.{SameNodes, Shown}
 use Rattle.hdfs_namenode.specs.Clients.{proxy_of, name_of}
 use Rattle.hdfs_namenode.proofs.Services.{reaches_later, same_client_trans}
@@ -79,3 +79,8 @@ pub finish_block-requires-clause-allowed : goal.finish_block-requires-clause-all
 finish_block-requires-clause-allowed g c =
     subst (λ (x : FileWriter). LetsWriteBlocks g.C.Cluster.allows g.C.Cluster.may_answer (name_of c.args.namenode.now) x.path x.file_id)
     (sym (c.take_reopened.ensures.none c.in-None.is)) c.requires.allowed.blocks
+
+pub next_block-requires-clause-answered : goal.next_block-requires-clause-answered
+next_block-requires-clause-answered g c =
+    subst (λ (client : List ℕ). IsAnsweredLast g.C.Cluster.may_answer client c.finish_block.new.self.path c.finish_block.new.self.file_id c.finish_block.new.self.last)
+    (sym c.finish_block.ensures.keeps.2.name) (c.in-Ok.ensures.answered.last c.finish_block.ensures.keeps.1)

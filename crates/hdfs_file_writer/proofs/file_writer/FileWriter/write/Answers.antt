@@ -4,7 +4,7 @@ use Rattle.std.proofs.lemmas.Bool.{eqb-true}
 use Rattle.std.proofs.lemmas.List.{nil_from_length}
 use Rattle.hdfs_file_writer.specs.Writers.{Wrote, IsAnswered}
 use Rattle.hdfs_file_writer.proofs.Joining.{wrote_nothing}
-use Rattle.hdfs_file_writer.proofs.Allowed.{answered_idle}
+use Rattle.hdfs_file_writer.proofs.Allowed.{answered_failed}
 use Rattle.hdfs_namenode.specs.Clients.{name_of}
 use Rattle.hdfs_file_writer.proofs.file_writer.FileWriter.write.Goals as goal
 
@@ -20,7 +20,7 @@ pub returns-then-not-are_limited-clause-answered : goal.returns-then-not-are_lim
 returns-then-not-are_limited-clause-answered g c =
     let w = c.args.self.now in
     subst (IsAnswered g.C.Cluster.may_answer (name_of c.args.namenode.now)) (sym c.let_go.ensures)
-    (answered_idle w (record w { failed = true; reopened = None; going = None }) (record { path = refl; file_id = refl; sizes = refl }) refl refl
+    (answered_failed w (record w { failed = true; reopened = None; going = None }) (record { path = refl; file_id = refl; sizes = refl }) refl refl refl
     c.requires.answered)
 
 pub returns-in-Err-clause-answered : goal.returns-in-Err-clause-answered
@@ -28,6 +28,6 @@ returns-in-Err-clause-answered g c =
     let w = c.write_all.new.self in
     let kept = c.write_all.ensures.keeps.0 in
     subst (IsAnswered g.C.Cluster.may_answer (name_of c.args.namenode.now)) (sym c.let_go-in-Err.ensures)
-    (answered_idle c.args.self.now (record w { failed = true; reopened = None; going = None })
-    (record { path = kept.path; file_id = kept.file_id; sizes = kept.sizes }) refl refl
+    (answered_failed c.args.self.now (record w { failed = true; reopened = None; going = None })
+    (record { path = kept.path; file_id = kept.file_id; sizes = kept.sizes }) refl refl refl
     c.requires.answered)

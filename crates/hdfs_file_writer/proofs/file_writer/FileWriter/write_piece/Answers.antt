@@ -1,9 +1,10 @@
 -- The goals of FileWriter::write_piece.
-use Rattle.std.proofs.Common.{◌≡◌, [], ◌-◌, length, take, Some, refl, sym, subst, arith}
+use Rattle.std.proofs.Common.{◌≡◌, ℕ, List, [], ◌-◌, length, take, Some, refl, sym, subst, arith}
 use Rattle.hdfs_cluster.specs.declared.errors.HdfsError.{HdfsError}
 use Rattle.hdfs_namenode.specs.Clients.{proxy_of, name_of}
 use Rattle.hdfs_namenode.proofs.Services.{reaches_later, same_client_trans}
 use Rattle.hdfs_block_writer.specs.BlockWriters.{length_of, size_of}
+use Rattle.hdfs_block_writer.specs.Written.{GoesOnAnswered}
 use Rattle.hdfs_block_writer.specs.declared.block_writer.BlockWriter.{BlockWriter}
 use Rattle.hdfs_file_writer.specs.Faults.{error_of}
 use Rattle.hdfs_file_writer.specs.Writers.{FailsOtherwise}
@@ -71,9 +72,11 @@ returns-in-Ok-write-clause-answered g c =
     let w = c.make_room.new.self in
     let block = c.in-Some.block in
     let answered = c.in-Ok.ensures.answered in
-    answered_with w (record w { going = Some c.write.new.self }) c.write.new.self (record { path = refl; file_id = refl; sizes = refl }) refl answered.id
+    answered_with w (record w { going = Some c.write.new.self }) c.write.new.self (record { path = refl; file_id = refl; sizes = refl }) refl refl refl answered
     (answered_pipe g.C.Cluster.may_answer (name_of c.args.namenode.now) w.path w.file_id (g.C.Cluster.shown c.make_room.new.cluster) (g.C.Cluster.shown c.write.new.cluster)
     block c.write.new.self (c.in-Ok.ensures.stands.0.is_open c.in-Ok.ensures.fine block c.in-Some.is) c.in-Ok-write.ensures.wrote.stays
+    (subst (λ (name : List ℕ). GoesOnAnswered g.C.Cluster.may_answer name block c.write.new.self) c.make_room.ensures.client.name
+    c.in-Ok-write.ensures.answered)
     (answered_going w c.in-Some.is answered))
 
 pub returns-in-Ok-write-clause-keeps : goal.returns-in-Ok-write-clause-keeps
