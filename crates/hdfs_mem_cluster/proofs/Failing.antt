@@ -89,6 +89,10 @@ class_for_names old (asks.GetListing src from located) class h = ⊎_elim (class
 class_for_names old (asks.GetAclStatus src) class h = class_for_any _ _ class h
 class_for_names old (asks.Mkdirs src masked parents) class h = class_for_any (Some Directory) _ class h
 class_for_names old (asks.Delete src recursive) class h = ⊎_elim (class_for_any _ _ class) (λ full. same_class class _ full.1 refl) h
+class_for_names old (asks.Rename src dst overwrite) class h = ⊎_elim (class_for_any _ _ class) (λ taken. class_for_any _ _ class taken.1) h
+class_for_names old (asks.SetPermission src permission) class h = same_class class (class_for h.0) h.2 (class_for_no_file h.0)
+class_for_names old (asks.SetReplication src replication) class h = class_for_any _ _ class h
+class_for_names old (asks.GetContentSummary path) class h = class_for_any _ _ class h
 class_for_names old ask class h = class_for_any _ _ class h.2
 
 about_fine : (p q : Picture) (i : ℕ) (ask : Ask) (result : Result Answer AskFault) → AnswersAbout p i ask result q → is_failure result ≡ false

@@ -15,7 +15,7 @@ use Rattle.hdfs_mem_namenode.specs.Adding.{with_directories}
 use Rattle.hdfs_mem_namenode.proofs.Fronts.{front_is_path, not_above_itself}
 use Rattle.hdfs_mem_namenode.proofs.Naming.{bytes_eq_flip}
 
-parent_root : (path : List ℕ) → ancestors path ≡ [] → parent_of path ≡ root
+pub parent_root : (path : List ℕ) → ancestors path ≡ [] → parent_of path ≡ root
 parent_root path none = ap (λ (paths : List (List ℕ)). get_or paths (length paths - 1) root) none
 
 last_of : (paths : List (List ℕ)) (path : List ℕ) → get_or (paths ++ path ∷ []) (length (paths ++ path ∷ []) - 1) root ≡ path
@@ -23,7 +23,7 @@ last_of paths path =
     let end : length (paths ++ path ∷ []) - 1 ≡ length paths + 0 = omega (arith, length-append paths (path ∷ [])) in
     ap (λ (n : ℕ). get_or (paths ++ path ∷ []) n root) end ∙ get_or-append-add paths (path ∷ []) 0 root
 
-parent_push : (path front : List ℕ) → ancestors path ≡ ancestors front ++ front ∷ [] → parent_of path ≡ front
+pub parent_push : (path front : List ℕ) → ancestors path ≡ ancestors front ++ front ∷ [] → parent_of path ≡ front
 parent_push path front above = ap (λ (paths : List (List ℕ)). get_or paths (length paths - 1) root) above ∙ last_of (ancestors front) front
 
 or_false : (a b : Bool) → (a || (b || false)) ≡ (a || b)
@@ -31,7 +31,7 @@ or_false true b = refl
 or_false false true = refl
 or_false false false = refl
 
-any_front : (test : List ℕ → Bool) (path front : List ℕ) → ancestors path ≡ ancestors front ++ front ∷ [] → list_any test (ancestors path) ≡ (list_any test (ancestors front) || test front)
+pub any_front : (test : List ℕ → Bool) (path front : List ℕ) → ancestors path ≡ ancestors front ++ front ∷ [] → list_any test (ancestors path) ≡ (list_any test (ancestors front) || test front)
 any_front test path front above = ap (list_any test) above ∙ list_any-append test (ancestors front) (front ∷ []) ∙ or_false (list_any test (ancestors front)) (test front)
 
 above_front : (path front q : List ℕ) → ancestors path ≡ ancestors front ++ front ∷ [] → list_any (bytes_eq q) (ancestors path) ≡ (list_any (bytes_eq q) (ancestors front) || bytes_eq front q)

@@ -9,8 +9,10 @@ pub mod Directories
 pub mod EachOnce
 pub mod FileChanges
 pub mod Fronts
+pub mod Gathering
 pub mod Keys
 pub mod Locating
+pub mod Moving
 pub mod Naming
 pub mod NewDirectories
 pub mod NewFiles

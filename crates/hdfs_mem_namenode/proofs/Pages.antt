@@ -16,11 +16,11 @@ abbrev pub last_from : List ℕ → List (List ℕ) → List ℕ
 last_from from [] = from
 last_from from (text ∷ texts) = last_from text texts
 
-rises_append : (from : List ℕ) (a b : List (List ℕ)) → Rises from a → Rises (last_from from a) b → Rises from (a ++ b)
+pub rises_append : (from : List ℕ) (a b : List (List ℕ)) → Rises from a → Rises (last_from from a) b → Rises from (a ++ b)
 rises_append from [] b f g = g
 rises_append from (x ∷ a) b f g = (f.0, rises_append x a b f.1 g)
 
-last_push : (from : List ℕ) (a : List (List ℕ)) (x : List ℕ) → last_from from (a ++ x ∷ []) ≡ x
+pub last_push : (from : List ℕ) (a : List (List ℕ)) (x : List ℕ) → last_from from (a ++ x ∷ []) ≡ x
 last_push from [] x = refl
 last_push from (y ∷ a) x = last_push y a x
 

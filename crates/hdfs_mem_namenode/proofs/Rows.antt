@@ -13,9 +13,10 @@ use Rattle.hdfs_cluster.specs.Files.{Directory}
 use Rattle.hdfs_cluster.specs.Namenode.{IsOwnOf, ServesTold, StandsForAny}
 use Rattle.hdfs_cluster.specs.Picture.{Picture, SameButActive, SamePicture, kinds_in}
 use Rattle.hdfs_mem_namenode.specs.Adding.{Space}
-use Rattle.hdfs_mem_namenode.specs.Answering.{AnswersAbout, StandsForWritten, space_in}
+use Rattle.hdfs_mem_namenode.specs.Answering.{AnswersAbout, StandsForRefusal, StandsForWritten, space_in}
 use Rattle.hdfs_mem_namenode.specs.Changing.{SameSpace, StandsForKept, mkdirs_refusal}
 use Rattle.hdfs_mem_namenode.specs.Looking.{look_refusal}
+use Rattle.hdfs_mem_namenode.specs.Renaming.{StandsForUnmoved}
 use Rattle.hdfs_mem_namenode.specs.Rows.{AnswersNames, NamesRefusal, NamesRow, still_answer, still_path}
 
 pub same_space : (old : Space) → SameSpace old old
@@ -29,6 +30,10 @@ module _ (old : Space) (src : List ℕ) where
   still_row (asks.GetAclStatus path) at entry is = absurd (cc)
   still_row (asks.Mkdirs path masked parents) at entry is = absurd (cc)
   still_row (asks.Delete path recursive) at entry is = absurd (cc)
+  still_row (asks.Rename path dst overwrite) at entry is = absurd (cc)
+  still_row (asks.SetPermission path permission) at entry is = absurd (cc)
+  still_row (asks.SetReplication path replication) at entry is = absurd (cc)
+  still_row (asks.GetContentSummary path) at entry is = absurd (cc)
   still_row ask at entry is = record { src = src; asked = at; entry = entry; is = is; answered = refl; same = same_space old }
 
   pub still_refused : (ask : Ask) (class : List ℕ) → still_path ask ≡ Some src → StandsForAny (kinds_in old.names src) (look_refusal (kinds_in old.names) src) class → NamesRefusal old ask class
@@ -37,6 +42,10 @@ module _ (old : Space) (src : List ℕ) where
   still_refused (asks.GetAclStatus path) class at stands = absurd (cc)
   still_refused (asks.Mkdirs path masked parents) class at stands = absurd (cc)
   still_refused (asks.Delete path recursive) class at stands = absurd (cc)
+  still_refused (asks.Rename path dst overwrite) class at stands = absurd (cc)
+  still_refused (asks.SetPermission path permission) class at stands = absurd (cc)
+  still_refused (asks.SetReplication path replication) class at stands = absurd (cc)
+  still_refused (asks.GetContentSummary path) class at stands = absurd (cc)
   still_refused ask class at stands = (src, at, stands)
 
 -- what refuses a directory, or keeps one
@@ -54,6 +63,30 @@ module _ (old new : Space) (same : SameSpace old new) (src : List ℕ) where
   err_kept recursive (faults.BadReply fault) h = absurd h
   err_kept recursive (faults.Exception class message) h = (h.1, same, h.0)
   err_kept recursive (faults.Fatal class message) h = absurd h
+
+-- why no file moves, or why none has its permission set
+module _ (old new : Space) (same : SameSpace old new) (src : List ℕ) where
+  pub err_moved : (dst : List ℕ) (overwrite : Bool) (fault : AskFault) → StandsForUnmoved (kinds_in old.names) src dst fault → AnswersNames old (asks.Rename src dst overwrite) (Err fault) new
+  err_moved dst overwrite faults.NoMemory h = same
+  err_moved dst overwrite faults.Broken h = absurd h
+  err_moved dst overwrite (faults.BadReply fault) h = absurd h
+  err_moved dst overwrite (faults.Exception class message) h = (h.1, same, h.0)
+  err_moved dst overwrite (faults.Fatal class message) h = absurd h
+
+  pub err_permission : (permission : ℕ) (fault : AskFault) → StandsForRefusal (kinds_in old.names) src fault → AnswersNames old (asks.SetPermission src permission) (Err fault) new
+  err_permission permission faults.NoMemory h = same
+  err_permission permission faults.Broken h = absurd h
+  err_permission permission (faults.BadReply fault) h = absurd h
+  err_permission permission (faults.Exception class message) h = (h.3, same, (h.0, h.1, h.2))
+  err_permission permission (faults.Fatal class message) h = absurd h
+
+  pub err_replication : (replication : ℕ) (fault : AskFault) → StandsForWritten (kinds_in old.names src) (look_refusal (kinds_in old.names) src) fault
+      → AnswersNames old (asks.SetReplication src replication) (Err fault) new
+  err_replication replication faults.NoMemory h = same
+  err_replication replication faults.Broken h = absurd h
+  err_replication replication (faults.BadReply fault) h = absurd h
+  err_replication replication (faults.Exception class message) h = (h.1, same, h.0)
+  err_replication replication (faults.Fatal class message) h = absurd h
 
 -- where no answer comes, nothing changed
 module _ (p q : Picture) (bytes : KeepsBytes p q) (active : q.active ≡ p.active) where
@@ -134,6 +167,10 @@ row_closed old new (asks.GetListing src from located) h = (let is = h.asked in a
 row_closed old new (asks.GetAclStatus src) h = (let is = h.asked in absurd (cc))
 row_closed old new (asks.Mkdirs src masked parents) h = (let is = h.asked in absurd (cc))
 row_closed old new (asks.Delete src recursive) h = (let is = h.asked in absurd (cc))
+row_closed old new (asks.Rename path dst overwrite) h = (let is = h.asked in absurd (cc))
+row_closed old new (asks.SetPermission path permission) h = (let is = h.asked in absurd (cc))
+row_closed old new (asks.SetReplication path replication) h = (let is = h.asked in absurd (cc))
+row_closed old new (asks.GetContentSummary path) h = (let is = h.asked in absurd (cc))
 row_closed old new ask h = still_closed ask h.answered
 
 pub about_not_false : (p q : Picture) (i : ℕ) (ask : Ask) (answer : Answer) → AnswersAbout p i ask (Ok answer) q → answer ≡ answers.Complete false → ⊥

@@ -1,11 +1,14 @@
 pub mod Adding
 pub mod Answering
 pub mod Changing
+pub mod Counting
 pub mod Listing
 pub mod Looking
 pub mod Memory
 pub mod Pipelines
+pub mod Renaming
 pub mod Rows
+pub mod Setting
 pub mod Soundness
 pub mod Spaces
 pub mod Totals

@@ -8,12 +8,15 @@ use Rattle.hdfs_cluster.specs.declared.asks.AskFault.{AskFault}
 use Rattle.hdfs_cluster.specs.declared.asks.AskFault.TheVariants as faults
 use Rattle.hdfs_cluster.specs.declared.picture.Entry.{Entry}
 use Rattle.hdfs_cluster.specs.Files.{Directory}
-use Rattle.hdfs_cluster.specs.Namenode.{StandsForAny}
+use Rattle.hdfs_cluster.specs.Namenode.{StandsForAny, StandsForNoFile}
 use Rattle.hdfs_cluster.specs.Picture.{kinds_in}
 use Rattle.hdfs_mem_namenode.specs.Adding.{Space}
 use Rattle.hdfs_mem_namenode.specs.Changing.{DeletesOrNot, IsNotEmpty, MakesDirectory, SameSpace, mkdirs_refusal, not_empty}
+use Rattle.hdfs_mem_namenode.specs.Counting.{Counts}
 use Rattle.hdfs_mem_namenode.specs.Listing.{Lists}
 use Rattle.hdfs_mem_namenode.specs.Looking.{Informs, TellsAcl, above_refusal, look_refusal}
+use Rattle.hdfs_mem_namenode.specs.Renaming.{IsMoveRefusal, MayMove, moved}
+use Rattle.hdfs_mem_namenode.specs.Setting.{ChangesFile, ChangesOrNot, with_permission, with_replication}
 
 -- The path of an ask that sets times, an owner or an access control list. None of these are kept.
 abbrev pub still_path : Ask → Option (List ℕ)
@@ -50,14 +53,35 @@ pub record Deletes (old : Space) (src : List ℕ) (recursive deleted : Bool) (ne
   pub done : DeletesOrNot old.names old.table src recursive new.names new.table deleted
   pub held : (node : List ℕ) (id : ℕ) → new.held node id ≡ old.held node id
 
+-- the blocks stay, and so does what datanodes hold
+pub record SameBlocks (old new : Space) : Type 0 where
+  pub table : (id : ℕ) → new.table id ≡ old.table id
+  pub held : (node : List ℕ) (id : ℕ) → new.held node id ≡ old.held node id
+
+-- A closed file has moved onto a free path in a directory, with its blocks.
+pub record Renames (old : Space) (src dst : List ℕ) (new : Space) : Type 0 where
+  pub may : MayMove (kinds_in old.names) src dst
+  pub named : (q : List ℕ) → new.names q ≡ moved old.names src dst q
+  pub blocks : SameBlocks old new
+
 -- the row of an ask about names
 abbrev pub NamesRow : Space → Ask → Answer → Space → Type 0
-NamesRow old (asks.GetFileInfo src) (answers.GetFileInfo status) new = Informs old.names old.table src status × SameSpace old new
-NamesRow old (asks.GetListing src from located) (answers.GetListing page) new = Lists old.names old.table src from page × SameSpace old new
-NamesRow old (asks.GetAclStatus src) (answers.GetAclStatus status) new = TellsAcl old.names src status × SameSpace old new
+NamesRow old (asks.GetFileInfo src) (answers.GetFileInfo status) new =
+    Informs old.names old.table src status × SameSpace old new
+NamesRow old (asks.GetListing src from located) (answers.GetListing page) new =
+    Lists old.names old.table src from page × SameSpace old new
+NamesRow old (asks.GetAclStatus src) (answers.GetAclStatus status) new =
+    TellsAcl old.names src status × SameSpace old new
 NamesRow old (asks.Mkdirs src masked parents) (answers.Mkdirs true) new =
     (mkdirs_refusal (kinds_in old.names) src parents ≡ None) × MakesDirectory old src new
 NamesRow old (asks.Delete src recursive) (answers.Delete deleted) new = Deletes old src recursive deleted new
+NamesRow old (asks.Rename src dst overwrite) answers.Rename new = Renames old src dst new
+NamesRow old (asks.SetPermission src permission) answers.SetPermission new =
+    ChangesFile old.names src (with_permission permission) new.names × SameBlocks old new
+NamesRow old (asks.SetReplication src replication) (answers.SetReplication done) new =
+    ChangesOrNot old.names src (with_replication replication) done new.names × SameBlocks old new
+NamesRow old (asks.GetContentSummary path) (answers.GetContentSummary summary) new =
+    Counts old.names old.table path summary × SameSpace old new
 NamesRow old ask answer new = StandsStill old ask answer new
 
 -- a name from which a directory is listed isn't UTF-8
@@ -77,8 +101,14 @@ abbrev pub NamesRefusal : Space → Ask → List ℕ → Type 0
 NamesRefusal old (asks.GetFileInfo src) class = IsAboveRefusal old src class
 NamesRefusal old (asks.GetListing src from located) class = IsAboveRefusal old src class ⊎ (class ≡ bad_argument)
 NamesRefusal old (asks.GetAclStatus src) class = IsLookRefusal old src class
-NamesRefusal old (asks.Mkdirs src masked parents) class = StandsForAny (Some Directory) (mkdirs_refusal (kinds_in old.names) src parents) class
-NamesRefusal old (asks.Delete src recursive) class = IsAboveRefusal old src class ⊎ (IsNotEmpty old.names src recursive × (class ≡ not_empty))
+NamesRefusal old (asks.Mkdirs src masked parents) class =
+    StandsForAny (Some Directory) (mkdirs_refusal (kinds_in old.names) src parents) class
+NamesRefusal old (asks.Delete src recursive) class =
+    IsAboveRefusal old src class ⊎ (IsNotEmpty old.names src recursive × (class ≡ not_empty))
+NamesRefusal old (asks.Rename src dst overwrite) class = IsMoveRefusal (kinds_in old.names) src dst class
+NamesRefusal old (asks.SetPermission src permission) class = StandsForNoFile (kinds_in old.names) src class
+NamesRefusal old (asks.SetReplication src replication) class = IsLookRefusal old src class
+NamesRefusal old (asks.GetContentSummary path) class = IsLookRefusal old path class
 NamesRefusal old ask class = (src : List ℕ) × (still_path ask ≡ Some src) × IsLookRefusal old src class
 
 -- The active namenode answers an ask about names by its row, or with an exception that has no message. For that, and for want of memory,
@@ -86,5 +116,6 @@ NamesRefusal old ask class = (src : List ℕ) × (still_path ask ≡ Some src) �
 abbrev pub AnswersNames : Space → Ask → Result Answer AskFault → Space → Type 0
 AnswersNames old ask (Ok answer) new = NamesRow old ask answer new
 AnswersNames old ask (Err faults.NoMemory) new = SameSpace old new
-AnswersNames old ask (Err (faults.Exception class message)) new = (message ≡ []) × SameSpace old new × NamesRefusal old ask class
+AnswersNames old ask (Err (faults.Exception class message)) new =
+    (message ≡ []) × SameSpace old new × NamesRefusal old ask class
 AnswersNames old ask (Err fault) new = ⊥

@@ -65,7 +65,7 @@ fn whole_nodes(
 
 impl Namespace {
     /// The closed file at a path, or the class of the exception for why there is none.
-    fn closed_file(&self, src: &str) -> Result<&FileEntry, &'static str>
+    pub(crate) fn closed_file(&self, src: &str) -> Result<&FileEntry, &'static str>
         ensures { MatchResult result (λ file. (get_by_text self.now.names src.now ≡ Some (entries.File file.now))
             × (append_refusal (kinds_in (get_by_text self.now.names)) src.now ≡ None))
             (λ class. StandsForAny (kinds_in (get_by_text self.now.names) src.now)

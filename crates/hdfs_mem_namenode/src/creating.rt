@@ -159,7 +159,12 @@ impl Namespace {
     }
 
     /// The class of the exception for why a file isn't created.
-    fn refuses(&self, src: &str, overwrite: bool, create_parent: bool) -> Option<&'static str>
+    pub(crate) fn refuses(
+        &self,
+        src: &str,
+        overwrite: bool,
+        create_parent: bool,
+    ) -> Option<&'static str>
         ensures { MatchOption result (create_refusal (kinds_in (get_by_text self.now.names)) src.now overwrite create_parent ≡ None)
             (λ class. StandsForAny (kinds_in (get_by_text self.now.names) src.now)
             (create_refusal (kinds_in (get_by_text self.now.names)) src.now overwrite create_parent) class.now) }

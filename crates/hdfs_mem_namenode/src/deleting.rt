@@ -35,8 +35,10 @@ fn keys_below(
     names: &BTreeMap<String, Entry>,
     front: &str,
 ) -> Result<Vec<Text>, NoMemory>
-    ensures front { IfOk result (λ keys. All (λ key. ((x : List ℕ) × (key ≡ front.now ++ x)) × IsSome (get_by_text names.now key)) keys.items) }
-    ensures all { IfOk result (λ keys. (x : List ℕ) → IsSome (get_by_text names.now (front.now ++ x)) → Contains keys.items (front.now ++ x)) }
+    ensures front { IfOk result (λ keys. All (λ key.
+        ((x : List ℕ) × (key ≡ front.now ++ x)) × IsSome (get_by_text names.now key)) keys.items) }
+    ensures all { IfOk result (λ keys. (x : List ℕ) → IsSome (get_by_text names.now (front.now ++ x))
+        → Contains keys.items (front.now ++ x)) }
 {
     let mut keys = Vec::new(alloc);
     let mut start = String::from_str(alloc, front)?;
@@ -68,7 +70,8 @@ fn push_path(alloc: Global, keys: &mut Vec<Text>, path: &str) -> Result<(), NoMe
 
 /// Forgets what is kept for these paths.
 fn forget<V: Drop>(map: &mut BTreeMap<String, V>, keys: &[Text])
-    ensures { (q : List ℕ) → get_by_text map.new q ≡ (if list_any (bytes_eq q) keys.now then None else get_by_text map.old q) }
+    ensures { (q : List ℕ) → get_by_text map.new q
+        ≡ (if list_any (bytes_eq q) keys.now then None else get_by_text map.old q) }
 {
     for key in keys {
         map.remove(key.as_str());
@@ -105,7 +108,8 @@ impl Namespace {
     fn remove_all(&mut self, keys: &[Text])
         requires root { list_any (bytes_eq root) keys.now ≡ false }
         requires closed { IsClosed (get_by_text self.old.names) keys.now }
-        ensures names { (q : List ℕ) → get_by_text self.new.names q ≡ (if list_any (bytes_eq q) keys.now then None else get_by_text self.old.names q) }
+        ensures names { (q : List ℕ) → get_by_text self.new.names q
+            ≡ (if list_any (bytes_eq q) keys.now then None else get_by_text self.old.names q) }
         ensures table { (id : ℕ) → table_of self.new.table.entries id
             ≡ (if frees (get_by_text self.old.names) keys.now id then None else table_of self.old.table.entries id) }
     {
@@ -120,7 +124,8 @@ impl Namespace {
     fn delete_there(&mut self, alloc: Global, src: &str, recursive: bool) -> Result<(), AskFault>
         requires there { IsSome (get_by_text self.old.names src.now) }
         requires not_root { src.now ≢ root }
-        ensures done { OnOk result (DeletesFrom (get_by_text self.old.names) (table_of self.old.table.entries) src.now recursive
+        ensures done { OnOk result (DeletesFrom (get_by_text self.old.names)
+            (table_of self.old.table.entries) src.now recursive
             (get_by_text self.new.names) (table_of self.new.table.entries)) }
         ensures excused { IfErr result (StandsForKept (get_by_text self.old.names) src.now recursive) }
         ensures err { OnErr result ((self.new.names ≡ self.old.names) × (self.new.table ≡ self.old.table)) }
@@ -137,7 +142,8 @@ impl Namespace {
 
     /// Deletes what stands at a path with all that stands below it, if something does. The root stays.
     pub fn delete(&mut self, alloc: Global, src: &str, recursive: bool) -> Result<bool, AskFault>
-        ensures done { IfOk result (DeletesOrNot (get_by_text self.old.names) (table_of self.old.table.entries) src.now recursive
+        ensures done { IfOk result (DeletesOrNot (get_by_text self.old.names)
+            (table_of self.old.table.entries) src.now recursive
             (get_by_text self.new.names) (table_of self.new.table.entries)) }
         ensures excused { IfErr result (StandsForKept (get_by_text self.old.names) src.now recursive) }
         ensures err { OnErr result ((self.new.names ≡ self.old.names) × (self.new.table ≡ self.old.table)) }

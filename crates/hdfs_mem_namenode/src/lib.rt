@@ -5,6 +5,7 @@ mod adding;
 mod appending;
 mod blocks;
 mod closing;
+mod counting;
 mod creating;
 mod deleting;
 mod listing;
@@ -14,6 +15,8 @@ mod namenode;
 mod names;
 mod namespace;
 mod pipelines;
+mod renaming;
+mod setting;
 mod totals;
 
 pub use namenode::{STANDBY, exception, last_answer};

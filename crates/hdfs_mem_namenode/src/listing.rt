@@ -32,7 +32,7 @@ pub(crate) fn front_of(alloc: Global, dir: &str) -> Result<String, NoMemory>
 }
 
 /// Two texts, one behind the other.
-fn joined(alloc: Global, front: &str, back: &str) -> Result<String, NoMemory>
+pub(crate) fn joined(alloc: Global, front: &str, back: &str) -> Result<String, NoMemory>
     ensures { IfOk result (λ text. string_bytes text ≡ front.now ++ back.now) }
 {
     let mut text = String::from_str(alloc, front)?;
@@ -42,7 +42,8 @@ fn joined(alloc: Global, front: &str, back: &str) -> Result<String, NoMemory>
 
 /// What stands before the first slash of a text, if it has one.
 fn first_part(text: &str) -> Option<&str>
-    ensures { MatchOption result (list_any is_slash text.now ≡ false) (λ part. (rest : List ℕ) × (text.now ≡ part.now ++ 47 ∷ rest)) }
+    ensures { MatchOption result (list_any is_slash text.now ≡ false)
+        (λ part. (rest : List ℕ) × (text.now ≡ part.now ++ 47 ∷ rest)) }
 {
     match text.split_once('/') {
         None => None,
@@ -52,7 +53,8 @@ fn first_part(text: &str) -> Option<&str>
 
 /// What stands behind the front of a path, if it begins so.
 pub(crate) fn behind<'a>(path: &'a str, front: &str) -> Option<&'a str>
-    ensures { MatchOption result ((rest : List ℕ) → path.now ≡ front.now ++ rest → ⊥) (λ rest. path.now ≡ front.now ++ rest.now) }
+    ensures { MatchOption result ((rest : List ℕ) → path.now ≡ front.now ++ rest → ⊥)
+        (λ rest. path.now ≡ front.now ++ rest.now) }
 {
     path.strip_prefix(front)
 }
@@ -70,9 +72,12 @@ pub(crate) fn first_from<'a>(
     names: &'a BTreeMap<String, Entry>,
     start: &String,
 ) -> Option<(&'a str, &'a Entry)>
-    ensures { MatchOption result ((q : List ℕ) → IsSome (get_by_text names.now q) → is_before q (string_bytes start.now) ≡ true)
-        (λ found. (get_by_text names.now found.0.now ≡ Some found.1.now) × (is_before found.0.now (string_bytes start.now) ≡ false)
-        × ((q : List ℕ) → IsSome (get_by_text names.now q) → is_before q (string_bytes start.now) ≡ false → is_before q found.0.now ≡ false)) }
+    ensures { MatchOption result ((q : List ℕ) → IsSome (get_by_text names.now q)
+        → is_before q (string_bytes start.now) ≡ true)
+        (λ found. (get_by_text names.now found.0.now ≡ Some found.1.now)
+        × (is_before found.0.now (string_bytes start.now) ≡ false)
+        × ((q : List ℕ) → IsSome (get_by_text names.now q) → is_before q (string_bytes start.now) ≡ false
+        → is_before q found.0.now ≡ false)) }
 {
     match names.range(start..).next() {
         None => None,
@@ -89,7 +94,8 @@ impl Namespace {
         after: &str,
     ) -> Result<Option<Child<'_>>, NoMemory>
         ensures { IfOk result (λ next. MatchOption next (NoneBehind (get_by_text self.now.names) front.now after.now)
-            (λ child. (child.path.now ≡ front.now ++ child.name.now) × (get_by_text self.now.names child.path.now ≡ Some child.entry.now)
+            (λ child. (child.path.now ≡ front.now ++ child.name.now)
+            × (get_by_text self.now.names child.path.now ≡ Some child.entry.now)
             × IsNext (get_by_text self.now.names) front.now after.now child.name.now)) }
     {
         let mut start = joined(alloc, front, after)?;
@@ -164,7 +170,8 @@ impl Namespace {
 
     /// What stands at a path, or in the directory there behind a name.
     pub fn listing(&self, alloc: Global, src: &str, from: &str) -> Result<Option<DirList>, AskFault>
-        ensures lists { IfOk result (Lists (get_by_text self.now.names) (table_of self.now.table.entries) src.now from.now) }
+        ensures lists { IfOk result (Lists (get_by_text self.now.names)
+            (table_of self.now.table.entries) src.now from.now) }
         ensures excused { IfErr result (StandsForWritten (kinds_in (get_by_text self.now.names) src.now)
             (above_refusal (kinds_in (get_by_text self.now.names)) src.now)) }
     {

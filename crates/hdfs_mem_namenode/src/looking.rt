@@ -115,7 +115,8 @@ impl Namespace {
         name: &str,
     ) -> Result<FileStatusMsg, NoMemory>
         requires { get_by_text self.now.names path.now ≡ Some entry.now }
-        ensures { IfOk result (TellsOf (get_by_text self.now.names) (table_of self.now.table.entries) path.now name.now) }
+        ensures { IfOk result (TellsOf (get_by_text self.now.names)
+            (table_of self.now.table.entries) path.now name.now) }
     {
         status_of(alloc, entry, name, self.length_at(path, entry))
     }

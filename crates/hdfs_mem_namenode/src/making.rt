@@ -23,7 +23,8 @@ use std::collections::BTreeMap;
 /// Puts a directory at a path at which nothing stands, and directories above it.
 fn name_dir(alloc: Global, names: &mut BTreeMap<String, Entry>, src: &str) -> Result<(), NoMemory>
     requires { get_by_text names.old src.now ≡ None }
-    ensures ok { OnOk result ((q : List ℕ) → get_by_text names.new q ≡ with_parents (get_by_text names.old) entries.Dir src.now entries.Dir q) }
+    ensures ok { OnOk result ((q : List ℕ) → get_by_text names.new q
+        ≡ with_parents (get_by_text names.old) entries.Dir src.now entries.Dir q) }
     ensures err { OnErr result ((q : List ℕ) → get_by_text names.new q ≡ get_by_text names.old q) }
 {
     names.insert(String::from_str(alloc, src)?, Entry::Dir)?;
@@ -39,8 +40,10 @@ fn name_dir(alloc: Global, names: &mut BTreeMap<String, Entry>, src: &str) -> Re
 impl Namespace {
     /// The class of the exception for why no directory is made.
     fn refuses_dir(&self, src: &str, create_parent: bool) -> Option<&'static str>
-        ensures { MatchOption result (mkdirs_refusal (kinds_in (get_by_text self.now.names)) src.now create_parent ≡ None)
-            (λ class. StandsForAny (Some Directory) (mkdirs_refusal (kinds_in (get_by_text self.now.names)) src.now create_parent) class.now) }
+        ensures { MatchOption result
+            (mkdirs_refusal (kinds_in (get_by_text self.now.names)) src.now create_parent ≡ None)
+            (λ class. StandsForAny (Some Directory)
+            (mkdirs_refusal (kinds_in (get_by_text self.now.names)) src.now create_parent) class.now) }
     {
         if self.is_file(src) {
             return Some(ALREADY_EXISTS);
@@ -58,8 +61,10 @@ impl Namespace {
     fn put_dir(&mut self, alloc: Global, src: &str) -> Result<(), NoMemory>
         requires named { is_path src.now ≡ true }
         requires free { get_by_text self.old.names src.now ≡ None }
-        requires above { list_any (λ ancestor. is_file (kinds_in (get_by_text self.old.names) ancestor)) (ancestors src.now) ≡ false }
-        ensures names { OnOk result ((q : List ℕ) → get_by_text self.new.names q ≡ with_parents (get_by_text self.old.names) entries.Dir src.now entries.Dir q) }
+        requires above { list_any (λ ancestor. is_file (kinds_in (get_by_text self.old.names) ancestor))
+            (ancestors src.now) ≡ false }
+        ensures names { OnOk result ((q : List ℕ) → get_by_text self.new.names q
+            ≡ with_parents (get_by_text self.old.names) entries.Dir src.now entries.Dir q) }
         ensures err { OnErr result ((q : List ℕ) → get_by_text self.new.names q ≡ get_by_text self.old.names q) }
         ensures table { self.new.table ≡ self.old.table }
     {
@@ -70,9 +75,12 @@ impl Namespace {
 
     /// Makes a directory, and those above it. One that is there stays. There is no memory for one at what is no path.
     pub fn mkdirs(&mut self, alloc: Global, src: &str, create_parent: bool) -> Result<(), AskFault>
-        ensures allowed { OnOk result (mkdirs_refusal (kinds_in (get_by_text self.old.names)) src.now create_parent ≡ None) }
-        ensures names { OnOk result ((q : List ℕ) → get_by_text self.new.names q ≡ with_parents (get_by_text self.old.names) entries.Dir src.now entries.Dir q) }
-        ensures excused { IfErr result (StandsForWritten (Some Directory) (mkdirs_refusal (kinds_in (get_by_text self.old.names)) src.now create_parent)) }
+        ensures allowed { OnOk result
+            (mkdirs_refusal (kinds_in (get_by_text self.old.names)) src.now create_parent ≡ None) }
+        ensures names { OnOk result ((q : List ℕ) → get_by_text self.new.names q
+            ≡ with_parents (get_by_text self.old.names) entries.Dir src.now entries.Dir q) }
+        ensures excused { IfErr result (StandsForWritten (Some Directory)
+            (mkdirs_refusal (kinds_in (get_by_text self.old.names)) src.now create_parent)) }
         ensures err { OnErr result ((q : List ℕ) → get_by_text self.new.names q ≡ get_by_text self.old.names q) }
         ensures table { self.new.table ≡ self.old.table }
     {

@@ -258,7 +258,7 @@ impl Namespace {
     }
 
     /// Why nothing stands at a path: a file stands above it, or it is missing.
-    fn absent(&self, alloc: Global, src: &str) -> Result<AskFault, NoMemory>
+    pub(crate) fn absent(&self, alloc: Global, src: &str) -> Result<AskFault, NoMemory>
         requires { get_by_text self.now.names src.now ≡ None }
         ensures { IfOk result (StandsForRefusal (kinds_in (get_by_text self.now.names)) src.now) }
     {

@@ -27,6 +27,10 @@ pub fn is_about_names(ask: &Ask) -> bool
             | Ask::GetAclStatus { .. }
             | Ask::Mkdirs { .. }
             | Ask::Delete { .. }
+            | Ask::Rename { .. }
+            | Ask::SetPermission { .. }
+            | Ask::SetReplication { .. }
+            | Ask::GetContentSummary { .. }
             | Ask::SetTimes { .. }
             | Ask::SetOwner { .. }
             | Ask::ModifyAclEntries { .. }
@@ -102,7 +106,8 @@ impl Namespace {
         located: bool,
     ) -> Result<Answer, AskFault>
         ensures answers { (held : List ℕ → ℕ → List ℕ)
-            → AnswersNames (space_with self.now held) (asks.GetListing src.now from.now located) result (space_with self.now held) }
+            → AnswersNames (space_with self.now held) (asks.GetListing src.now from.now located) result
+            (space_with self.now held) }
         ensures shape { IfOk result (IsShaped (asks.GetListing src.now from.now located)) }
     {
         let Ok(from) = str::from_utf8(from) else {
@@ -139,7 +144,8 @@ impl Namespace {
         parents: bool,
     ) -> Result<Answer, AskFault>
         ensures answers { (held : List ℕ → ℕ → List ℕ)
-            → AnswersNames (space_with self.old held) (asks.Mkdirs src.now masked parents) result (space_with self.new held) }
+            → AnswersNames (space_with self.old held) (asks.Mkdirs src.now masked parents) result
+            (space_with self.new held) }
         ensures shape { IfOk result (IsShaped (asks.Mkdirs src.now masked parents)) }
     {
         match self.mkdirs(alloc, src, parents) {
@@ -156,7 +162,8 @@ impl Namespace {
         recursive: bool,
     ) -> Result<Answer, AskFault>
         ensures answers { (held : List ℕ → ℕ → List ℕ)
-            → AnswersNames (space_with self.old held) (asks.Delete src.now recursive) result (space_with self.new held) }
+            → AnswersNames (space_with self.old held) (asks.Delete src.now recursive) result
+            (space_with self.new held) }
         ensures shape { IfOk result (IsShaped (asks.Delete src.now recursive)) }
     {
         match self.delete(alloc, src, recursive) {
@@ -165,10 +172,78 @@ impl Namespace {
         }
     }
 
+    /// `rename2`, of a closed file onto a free path
+    fn answer_rename(
+        &mut self,
+        alloc: Global,
+        src: &str,
+        dst: &str,
+        overwrite_dest: bool,
+    ) -> Result<Answer, AskFault>
+        ensures answers { (held : List ℕ → ℕ → List ℕ) → AnswersNames (space_with self.old held)
+            (asks.Rename src.now dst.now overwrite_dest) result (space_with self.new held) }
+        ensures shape { IfOk result (IsShaped (asks.Rename src.now dst.now overwrite_dest)) }
+    {
+        match self.rename(alloc, src, dst) {
+            Ok(()) => Ok(Answer::Rename),
+            Err(fault) => Err(fault),
+        }
+    }
+
+    /// `setPermission`
+    fn answer_permission(
+        &mut self,
+        alloc: Global,
+        src: &str,
+        permission: u32,
+    ) -> Result<Answer, AskFault>
+        ensures answers { (held : List ℕ → ℕ → List ℕ)
+            → AnswersNames (space_with self.old held) (asks.SetPermission src.now permission) result
+            (space_with self.new held) }
+        ensures shape { IfOk result (IsShaped (asks.SetPermission src.now permission)) }
+    {
+        match self.set_permission(alloc, src, permission) {
+            Ok(()) => Ok(Answer::SetPermission),
+            Err(fault) => Err(fault),
+        }
+    }
+
+    /// `setReplication`
+    fn answer_replication(
+        &mut self,
+        alloc: Global,
+        src: &str,
+        replication: u32,
+    ) -> Result<Answer, AskFault>
+        ensures answers { (held : List ℕ → ℕ → List ℕ)
+            → AnswersNames (space_with self.old held) (asks.SetReplication src.now replication) result
+            (space_with self.new held) }
+        ensures shape { IfOk result (IsShaped (asks.SetReplication src.now replication)) }
+    {
+        match self.set_replication(alloc, src, replication) {
+            Ok(done) => Ok(Answer::SetReplication(done)),
+            Err(fault) => Err(fault),
+        }
+    }
+
+    /// `getContentSummary`
+    fn answer_summary(&self, alloc: Global, path: &str) -> Result<Answer, AskFault>
+        ensures answers { (held : List ℕ → ℕ → List ℕ)
+            → AnswersNames (space_with self.now held) (asks.GetContentSummary path.now) result
+            (space_with self.now held) }
+        ensures shape { IfOk result (IsShaped (asks.GetContentSummary path.now)) }
+    {
+        match self.content_summary(alloc, path) {
+            Ok(summary) => Ok(Answer::GetContentSummary(summary)),
+            Err(fault) => Err(fault),
+        }
+    }
+
     /// What the active namenode answers to an ask about names.
     pub fn answer_names(&mut self, alloc: Global, ask: &Ask) -> Result<Answer, AskFault>
         requires { spec.is_about_names ask.now ≡ true }
-        ensures answers { (held : List ℕ → ℕ → List ℕ) → AnswersNames (space_with self.old held) ask.now result (space_with self.new held) }
+        ensures answers { (held : List ℕ → ℕ → List ℕ) → AnswersNames
+            (space_with self.old held) ask.now result (space_with self.new held) }
         ensures shape { IfOk result (IsShaped ask.now) }
     {
         match ask {
@@ -185,6 +260,18 @@ impl Namespace {
                 create_parent,
             } => self.answer_mkdirs(alloc, src.as_str(), *masked, *create_parent),
             Ask::Delete { src, recursive } => self.answer_delete(alloc, src.as_str(), *recursive),
+            Ask::Rename {
+                src,
+                dst,
+                overwrite_dest,
+            } => self.answer_rename(alloc, src.as_str(), dst.as_str(), *overwrite_dest),
+            Ask::SetPermission { src, permission } => {
+                self.answer_permission(alloc, src.as_str(), *permission)
+            }
+            Ask::SetReplication { src, replication } => {
+                self.answer_replication(alloc, src.as_str(), *replication)
+            }
+            Ask::GetContentSummary { path } => self.answer_summary(alloc, path.as_str()),
             _ => self.answer_still(alloc, ask),
         }
     }
