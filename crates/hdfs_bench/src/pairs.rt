@@ -27,7 +27,7 @@ fn limits(count: usize, window: usize) -> Result<(u32, u32), Fault> {
 }
 
 /// Two threads send so many packets and a last one over these two ends. It counts those that were sent.
-fn pass<O: PacketOut + Send + Drop, A: AckIn + Send + Drop, R: Threads + Wait + Sync>(
+fn pass<O: PacketOut + Send + Drop, A: AckIn + Send + Drop, R: Threads + Wait + Clock + Sync>(
     rt: &R,
     alloc: Global,
     out: O,
@@ -44,7 +44,7 @@ fn pass<O: PacketOut + Send + Drop, A: AckIn + Send + Drop, R: Threads + Wait + 
 }
 
 /// Two threads over a node in memory.
-pub(crate) fn pass_by_two<R: Threads + Wait + Sync>(
+pub(crate) fn pass_by_two<R: Threads + Wait + Clock + Sync>(
     rt: &R,
     alloc: Global,
     count: usize,

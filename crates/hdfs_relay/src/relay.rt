@@ -15,6 +15,7 @@ use hdfs_wire::NoMemory;
 use std::alloc::Global;
 use std::sync::Wait;
 use std::thread::Threads;
+use std::time::Clock;
 
 /// A text that tells of an end, and its status.
 #[derive(Drop)]
@@ -52,7 +53,11 @@ fn end_text(alloc: Global, sent: u64, end: &PipelineEnd) -> Result<String, NoMem
 }
 
 /// Sends the packets to a node in memory, by two threads.
-fn run<R: Threads + Wait + Sync>(rt: &R, alloc: Global, asked: Relay) -> Result<PairEnd, NoMemory>
+fn run<R: Threads + Wait + Clock + Sync>(
+    rt: &R,
+    alloc: Global,
+    asked: Relay,
+) -> Result<PairEnd, NoMemory>
     requires { (1 ≤ asked.window) × (asked.window ≤ 1000) }
     ensures within { IfOk result (λ ended. ended.sent ≤ asked.packets + 1) }
     ensures all { IfOk result (λ ended. ended.end ≡ ends.Success → ended.sent ≡ asked.packets + 1) }
@@ -69,7 +74,11 @@ fn run<R: Threads + Wait + Sync>(rt: &R, alloc: Global, asked: Relay) -> Result<
 }
 
 /// Runs the pair, and tells of its end.
-fn relay<R: Threads + Wait + Sync>(rt: &R, alloc: Global, asked: Relay) -> Result<Told, NoMemory>
+fn relay<R: Threads + Wait + Clock + Sync>(
+    rt: &R,
+    alloc: Global,
+    asked: Relay,
+) -> Result<Told, NoMemory>
     requires { (1 ≤ asked.window) × (asked.window ≤ 1000) }
     ensures told { IfOk result (λ told. TellsEnd asked.packets (string_bytes told.text) told.status) }
     ensures status { IfOk result (λ told. told.status ≤ 2) }
@@ -118,7 +127,7 @@ fn refuse<K: Sink>(sink: &mut K) -> u8
 /// | 2 | the pair ended otherwise: `sent N` and `end recover` or `end bad` were written |
 /// | 3 | for want of memory; nothing was written |
 /// | 5 | only where the sink failed; what was written is a prefix of such a text |
-pub fn top_relay<K: Sink, R: Threads + Wait + Sync>(
+pub fn top_relay<K: Sink, R: Threads + Wait + Clock + Sync>(
     rt: &R,
     alloc: Global,
     words: &[String],

@@ -17,6 +17,7 @@ use std::alloc::Global;
 use std::process::ExitCode;
 use std::sync::Wait;
 use std::thread::Threads;
+use std::time::Clock;
 
 // The given status of a text that was printed, or that of a failed sink.
 fn status_of(good: u8, printed: Result<(), IoFailed>) -> u8 {
@@ -55,7 +56,7 @@ fn run_session<K: Sink>(rt: &HostRuntime, words: &[String], sink: &mut K, note: 
 }
 
 // Relays packets, and notes words that are refused.
-fn run_relay<K: Sink, R: Threads + Wait + Sync>(
+fn run_relay<K: Sink, R: Threads + Wait + Clock + Sync>(
     rt: &R,
     alloc: Global,
     words: &[String],
@@ -70,7 +71,7 @@ fn run_relay<K: Sink, R: Threads + Wait + Sync>(
 }
 
 // Does what words say, with leave to start threads, and answers the status.
-fn answer<K: Sink, R: Threads + Wait + Sync>(
+fn answer<K: Sink, R: Threads + Wait + Clock + Sync>(
     rt: &HostRuntime,
     leave: &R,
     words: &[String],
@@ -93,7 +94,7 @@ fn answer<K: Sink, R: Threads + Wait + Sync>(
 }
 
 // Runs the words of the command line over standard input and output, and complains on standard error.
-fn run<R: Threads + Wait + Sync>(rt: &HostRuntime, leave: &R) -> u8 {
+fn run<R: Threads + Wait + Clock + Sync>(rt: &HostRuntime, leave: &R) -> u8 {
     let mut sink = StdSink::new(rt.stdout());
     let words = match words(rt) {
         Ok(words) => words,

@@ -17,11 +17,12 @@ use std::alloc::Global;
 use std::io;
 use std::sync::Wait;
 use std::thread::Threads;
+use std::time::Clock;
 use told::put_end;
 
 /// A pair of four packets over a node in memory, with a window of two packets. `late` says whether one of its threads
 /// has looked for the other in vain.
-fn shake_hands<R: Threads + Wait + Sync>(
+fn shake_hands<R: Threads + Wait + Clock + Sync>(
     rt: &R,
     alloc: Global,
     late: &mut bool,
@@ -191,7 +192,7 @@ const RELAYS: [RelayRow; 11] = [
     },
 ];
 
-fn run_odd<R: Threads + Wait + Sync>(
+fn run_odd<R: Threads + Wait + Clock + Sync>(
     rt: &R,
     alloc: Global,
     row: &OddRow,
@@ -206,7 +207,7 @@ fn run_odd<R: Threads + Wait + Sync>(
     run_pair(rt, alloc, &mut link, packets, 3, window)
 }
 
-fn run_short<R: Threads + Wait + Sync>(
+fn run_short<R: Threads + Wait + Clock + Sync>(
     rt: &R,
     alloc: Global,
     row: &ShortRow,
@@ -220,7 +221,7 @@ fn run_short<R: Threads + Wait + Sync>(
     run_pair(rt, alloc, &mut link, packets, 3, 1)
 }
 
-fn run_long<R: Threads + Wait + Sync>(
+fn run_long<R: Threads + Wait + Clock + Sync>(
     rt: &R,
     alloc: Global,
     row: &LongRow,
@@ -245,11 +246,15 @@ fn print(host: &HostRuntime, name: &str, ended: &Result<PairEnd, NoMemory>) -> i
     }
 }
 
-fn print_odd<R: Threads + Wait + Sync>(host: &HostRuntime, rt: &R, row: &OddRow) -> io::Result<()> {
+fn print_odd<R: Threads + Wait + Clock + Sync>(
+    host: &HostRuntime,
+    rt: &R,
+    row: &OddRow,
+) -> io::Result<()> {
     print(host, row.name, &run_odd(rt, host.alloc(), row))
 }
 
-fn print_short<R: Threads + Wait + Sync>(
+fn print_short<R: Threads + Wait + Clock + Sync>(
     host: &HostRuntime,
     rt: &R,
     row: &ShortRow,
@@ -257,7 +262,7 @@ fn print_short<R: Threads + Wait + Sync>(
     print(host, row.name, &run_short(rt, host.alloc(), row))
 }
 
-fn print_long<R: Threads + Wait + Sync>(
+fn print_long<R: Threads + Wait + Clock + Sync>(
     host: &HostRuntime,
     rt: &R,
     row: &LongRow,
@@ -266,7 +271,7 @@ fn print_long<R: Threads + Wait + Sync>(
 }
 
 /// Two threads shake hands.
-fn print_pair<R: Threads + Wait + Sync>(host: &HostRuntime, rt: &R) -> io::Result<()> {
+fn print_pair<R: Threads + Wait + Clock + Sync>(host: &HostRuntime, rt: &R) -> io::Result<()> {
     let mut late = false;
     let ended = shake_hands(rt, host.alloc(), &mut late);
     println!(host; "gate_holds_first_ack: late {late}")?;
@@ -284,7 +289,7 @@ fn print_alone<R: Wait + Sync>(host: &HostRuntime, rt: &R, most: usize) -> io::R
 }
 
 /// The command, for some words.
-fn print_relay<R: Threads + Wait + Sync>(
+fn print_relay<R: Threads + Wait + Clock + Sync>(
     host: &HostRuntime,
     rt: &R,
     row: &RelayRow,

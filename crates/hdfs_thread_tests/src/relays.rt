@@ -5,6 +5,7 @@ use hdfs_wire::{List, NoMemory};
 use std::alloc::Global;
 use std::sync::Wait;
 use std::thread::Threads;
+use std::time::Clock;
 
 /// The words of a line.
 fn words(alloc: Global, line: &str) -> Result<Vec<String>, NoMemory> {
@@ -28,7 +29,7 @@ fn put_lines(out: &mut String, bytes: &[u8]) -> Result<(), NoMemory> {
 }
 
 /// The status of a line's words, and what was written by a sink that fails at this call, if it isn't 0.
-pub(crate) fn put_relay<R: Threads + Wait + Sync>(
+pub(crate) fn put_relay<R: Threads + Wait + Clock + Sync>(
     rt: &R,
     alloc: Global,
     out: &mut String,

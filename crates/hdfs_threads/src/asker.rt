@@ -13,6 +13,7 @@ use hdfs_cluster::LinkFault;
 use hdfs_wire::NoMemory;
 use std::sync::Wait;
 use std::sync::ledger::Ledger;
+use std::time::Clock;
 
 impl<J: Job, W: Ledger, X: Ledger, A: Ledger, Y: Ledger, Z: Ledger> Shared<J, W, X, A, Y, Z> {
     /// Asks for an acknowledgement, and tells what came.
@@ -40,7 +41,7 @@ impl<J: Job, W: Ledger, X: Ledger, A: Ledger, Y: Ledger, Z: Ledger> Shared<J, W,
     }
 
     /// Asks for acknowledgements until it is over.
-    fn ask_all<I: AckIn, G: Gate, R: Wait>(
+    fn ask_all<I: AckIn, G: Gate, R: Wait + Clock>(
         &self,
         rt: &R,
         gate: &G,
@@ -107,7 +108,7 @@ impl<
     ghost later = { λ acks acks'. (I.shown acks).failures ≤ (I.shown acks').failures };
 
     /// It asks, and tells the sender where there was no memory.
-    fn run<R: Wait>(&mut self, rt: &R, acks: &mut I) -> Result<(), NoMemory> {
+    fn run<R: Wait + Clock>(&mut self, rt: &R, acks: &mut I) -> Result<(), NoMemory> {
         let asked = self.shared.ask_all(rt, self.gate, acks, &mut self.shares);
         if asked.is_err() {
             self.shared.starve(rt);

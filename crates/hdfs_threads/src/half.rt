@@ -5,6 +5,7 @@ ghost use Rattle.std.specs.Prelude.{IfOk, OnOk};
 use hdfs_wire::NoMemory;
 use std::sync::Wait;
 use std::thread::{Threads, join_mut};
+use std::time::Clock;
 
 /// What one of the two threads does with its end of the connection.
 pub(crate) trait Half<E> {
@@ -18,7 +19,7 @@ pub(crate) trait Half<E> {
     ghost later: { E → E → Type 0 };
 
     /// Runs it, until it is over or there is no memory.
-    fn run<R: Wait>(&mut self, rt: &R, end: &mut E) -> Result<(), NoMemory>
+    fn run<R: Wait + Clock>(&mut self, rt: &R, end: &mut E) -> Result<(), NoMemory>
         requires { begins self.old }
         ensures done { OnOk result (done self.old end.old self.new end.new) }
         ensures later { later end.old end.new };
@@ -30,7 +31,7 @@ pub(crate) fn run_both<
     E,
     P: Half<D> + Send + Drop,
     Q: Half<E> + Drop,
-    R: Threads + Wait + Sync,
+    R: Threads + Wait + Clock + Sync,
 >(rt: &R, mut asker: P, acks: &mut D, mut sender: Q, out: &mut E) -> Result<(P, Q), NoMemory>
     requires { P.begins asker × Q.begins sender }
     ensures done { IfOk result (λ r. P.done asker acks.old r.0 acks.new × Q.done sender out.old r.1 out.new) }

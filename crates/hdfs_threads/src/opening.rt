@@ -41,6 +41,8 @@ pub(crate) struct Beginning {
     pub(crate) alloc: Global,
     pub(crate) core: PipelineCore,
     pub(crate) packets: Vec<WritePacket>,
+    /// So many packets are enough to wake the other thread.
+    pub(crate) enough: usize,
     pub(crate) blanks: Blanks,
 }
 
@@ -77,6 +79,7 @@ pub(crate) fn open<J: Job, W: Ledger, X: Ledger, A: Ledger, Y: Ledger, Z: Ledger
         alloc,
         core,
         packets,
+        enough,
         blanks,
     } = begin;
     let Blanks {
@@ -99,7 +102,7 @@ pub(crate) fn open<J: Job, W: Ledger, X: Ledger, A: Ledger, Y: Ledger, Z: Ledger
         over: over_book,
     };
     Opened {
-        shared: Shared::new(alloc, packets, Pair::new(alloc, core, books)),
+        shared: Shared::new(alloc, packets, Pair::new(alloc, core, books), enough),
         sender: SenderShares {
             wrote,
             failed: write_failed,

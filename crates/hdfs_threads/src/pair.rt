@@ -1,6 +1,6 @@
 //! What two threads share under their lock: a pipeline, its history, and a book for each count.
 
-ghost use Rattle.std.specs.Prelude.{◌≡◌, ℕ, ◌+◌, ◌<◌, ◌≤◌, List, [], ◌∷◌, length, IfOk, OnOk, OnErr, true};
+ghost use Rattle.std.specs.Prelude.{◌≡◌, ℕ, ◌+◌, ◌<◌, ◌≤◌, ◌≢◌, List, [], ◌∷◌, length, None, IfOk, OnOk, OnErr, true};
 ghost use Rattle.hdfs_wire.specs.Outgoing.{Outgoing};
 ghost use Rattle.hdfs_pipeline.specs.Pipelines.{empty_pipeline, has_room};
 ghost use Rattle.hdfs_pipeline.specs.Cores.{Stands};
@@ -345,6 +345,42 @@ impl<J: Job, W: Ledger, X: Ledger, A: Ledger, Y: Ledger, Z: Ledger> Pair<J, W, X
             && !self.core.has_ended()
             && counts.sent == 0
             && !(self.pushed == count && counts.waiting == 0)
+    }
+
+    /// Whether so few of the `count` packets were sent that others may gather before one is asked for: fewer than
+    /// `enough`, and one is left to be sent.
+    pub(crate) fn has_few(&self, count: usize, enough: usize) -> bool
+        ensures { result ≡ true → (self.now.core.end ≡ None) × (self.now.core.sent < enough) }
+    {
+        let counts = self.core.counts();
+        !self.starved
+            && !self.core.has_ended()
+            && counts.sent < enough
+            && !(self.pushed == count && counts.sent == counts.waiting)
+    }
+
+    /// Whether the other thread is woken for a packet that was sent: for the first that it can ask for, where there are
+    /// enough, and behind the last of the `count` packets.
+    pub(crate) fn wakes_asker(&self, count: usize, enough: usize) -> bool
+        ensures ended { self.now.core.end ≢ None → result ≡ true }
+        ensures first { self.now.core.sent ≡ 1 → result ≡ true }
+        ensures enough { self.now.core.sent ≡ enough → result ≡ true }
+        ensures last { self.now.pushed ≡ count → self.now.core.sent ≡ length self.now.core.pushed → result ≡ true }
+    {
+        let counts = self.core.counts();
+        self.core.has_ended()
+            || counts.sent == 1
+            || counts.sent == enough
+            || (self.pushed == count && counts.sent == counts.waiting)
+    }
+
+    /// Whether the sender is woken for an acknowledgement: where packets are left to be pushed and no more than `enough`
+    /// wait for theirs, and at an end.
+    pub(crate) fn wakes_sender(&self, count: usize, enough: usize) -> bool
+        ensures ended { self.now.core.end ≢ None → result ≡ true }
+        ensures room { self.now.pushed < count → length self.now.core.pushed ≡ enough → result ≡ true }
+    {
+        self.core.has_ended() || (self.pushed < count && self.core.counts().waiting == enough)
     }
 
     /// While the sender's hand is empty, one of the two threads goes on: never do both wait.

@@ -22,6 +22,7 @@ use std::marker::Brand;
 use std::sync::Wait;
 use std::sync::ledger::Ledger;
 use std::thread::Threads;
+use std::time::Clock;
 
 /// A run whose job and ledgers are those of its types.
 fn run_counted<
@@ -34,7 +35,7 @@ fn run_counted<
     A: Ledger + Send + Sync,
     Y: Ledger + Send + Sync,
     Z: Ledger + Send + Sync,
-    R: Threads + Wait + Sync,
+    R: Threads + Wait + Clock + Sync,
 >(rt: &R, link: &mut Link<O, I, G>, begin: Beginning) -> Result<PairEnd, NoMemory>
     requires core { (begin.core ≡ empty_pipeline J.window J.nodes) × Stands begin.core [] }
     requires packets { (begin.packets.items ≡ J.packets) × IsLastBehind J.packets }
@@ -77,11 +78,21 @@ fn run_counted<
     Ok(ended)
 }
 
+/// Half of the window, rounded down: so many packets are enough to wake a thread for.
+fn half_of(window: u32) -> usize {
+    (window / 2) as usize
+}
+
 /// Sends the packets over a pipeline of so many nodes, in which at most `window` of them wait for their
 /// acknowledgement: a thread sends them, and another takes the acknowledgements. The answer is the end, how many
 /// packets were sent, and all that happened. It may wait for ever, where `out` or `acks` does, or where no thread can
 /// be made.
-pub fn run_pair<O: PacketOut + Send, A: AckIn + Send, G: Gate + Sync, R: Threads + Wait + Sync>(
+pub fn run_pair<
+    O: PacketOut + Send,
+    A: AckIn + Send,
+    G: Gate + Sync,
+    R: Threads + Wait + Clock + Sync,
+>(
     rt: &R,
     alloc: Global,
     link: &mut Link<O, A, G>,
@@ -103,6 +114,7 @@ pub fn run_pair<O: PacketOut + Send, A: AckIn + Send, G: Gate + Sync, R: Threads
         alloc,
         core,
         packets,
+        enough: half_of(window),
         blanks: Blanks::new(),
     };
     run_counted::<O, A, G, Brand, Brand, Brand, Brand, Brand, Brand, R>(rt, link, begin)

@@ -13,6 +13,7 @@ use hdfs_cluster::LinkFault;
 use hdfs_wire::{NoMemory, WritePacket};
 use std::sync::Wait;
 use std::sync::ledger::Ledger;
+use std::time::Clock;
 
 impl<J: Job, W: Ledger, X: Ledger, A: Ledger, Y: Ledger, Z: Ledger> Shared<J, W, X, A, Y, Z> {
     /// Sends a packet, and tells how that went. False where it couldn't be sent.
@@ -113,7 +114,7 @@ impl<
     ghost later = { λ out out'. (O.shown out).failures ≤ (O.shown out').failures };
 
     /// It sends, and tells the other thread where there was no memory.
-    fn run<R: Wait>(&mut self, rt: &R, out: &mut O) -> Result<(), NoMemory> {
+    fn run<R: Wait + Clock>(&mut self, rt: &R, out: &mut O) -> Result<(), NoMemory> {
         let Ok(sent) = self.shared.send_all(rt, self.gate, out, &mut self.shares) else {
             self.shared.starve(rt);
             return Err(NoMemory);
