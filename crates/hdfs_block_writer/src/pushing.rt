@@ -72,7 +72,8 @@ impl BlockWriter {
         requires few { (total pipe.core.pushed + unsent ≤ self.now.length) × (self.now.length < 2 ^ 63) }
         ensures ok { IfOk result (λ pipe'. RebuildsEnded self.now.settings (C.shown cluster.old) pipe (C.shown cluster.new) pipe') }
         ensures err { IfErr result (λ fault. FallsEnded self.now.settings (C.shown cluster.old) pipe fault (C.shown cluster.new)) }
-        ensures answered { IfOk result (λ pipe'. StaysAnswered C.may_answer (name_of namenode.old) pipe.plan pipe'.plan) }
+        ensures answered { IfOk result (λ pipe'.
+            StaysAnswered C.may_answer (name_of namenode.old) pipe.plan pipe'.plan) }
         ensures client { SameClient namenode.old namenode.new }
     {
         let BlockPipeline { plan, core, link } = pipe;
@@ -120,7 +121,8 @@ impl BlockWriter {
             PushesOnce self.now.settings (C.shown cluster.old) pipe packet pushed (C.shown cluster.new)) }
         ensures err { IfErr result (λ fault.
             PushesNot self.now.settings (C.shown cluster.old) pipe packet fault (C.shown cluster.new)) }
-        ensures answered { IfOk result (λ pushed. StaysAnswered C.may_answer (name_of namenode.old) pipe.plan pushed.pipe.plan) }
+        ensures answered { IfOk result (λ pushed.
+            StaysAnswered C.may_answer (name_of namenode.old) pipe.plan pushed.pipe.plan) }
         ensures client { SameClient namenode.old namenode.new }
     {
         match drive_push(&mut pipe.core, cluster, pipe.link, packet) {
@@ -154,7 +156,8 @@ impl BlockWriter {
         ensures ok { IfOk result (λ pipe'. Pushes self.now.settings (C.shown cluster.old) pipe packet (C.shown cluster.new) pipe') }
         ensures err { IfErr result (λ fault.
             PushesNot self.now.settings (C.shown cluster.old) pipe packet fault (C.shown cluster.new)) }
-        ensures answered { IfOk result (λ pipe'. StaysAnswered C.may_answer (name_of namenode.old) pipe.plan pipe'.plan) }
+        ensures answered { IfOk result (λ pipe'.
+            StaysAnswered C.may_answer (name_of namenode.old) pipe.plan pipe'.plan) }
         ensures client { SameClient namenode.old namenode.new }
     {
         let mut pushed = PushedOnce {
@@ -186,7 +189,8 @@ impl BlockWriter {
         ensures ok { IfOk result (λ settled. Settles self.now.settings (C.shown cluster.old) pipe settled (C.shown cluster.new)) }
         ensures last { IfOk result (λ settled. ReceivesOnce C.shown C.ends cluster.old pipe settled cluster.new) }
         ensures err { IfErr result (λ fault. FallsFor self.now.settings (C.shown cluster.old) pipe [] fault (C.shown cluster.new)) }
-        ensures answered { IfOk result (λ settled. StaysAnswered C.may_answer (name_of namenode.old) pipe.plan (plan_in settled)) }
+        ensures answered { IfOk result (λ settled.
+            StaysAnswered C.may_answer (name_of namenode.old) pipe.plan (plan_in settled)) }
         ensures client { SameClient namenode.old namenode.new }
     {
         let BlockPipeline { plan, core, link } = pipe;

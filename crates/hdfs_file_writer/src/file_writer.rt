@@ -258,7 +258,8 @@ impl FileWriter {
     ) -> Result<(), HdfsError>
         requires reaches { ReachesAll (proxy_of namenode.old) (C.shown cluster.old) }
         requires allowed { LetsClose C.allows C.may_answer (name_of namenode.old) (path_of self.now) (file_id_of self.now) }
-        requires answered { IsAnsweredLast C.may_answer (name_of namenode.old) (path_of self.now) (file_id_of self.now) self.now.last }
+        requires answered { IsAnsweredLast C.may_answer (name_of namenode.old) (path_of self.now) (file_id_of self.now)
+            self.now.last }
         requires between { IsBetweenBlocks self.now }
         ensures closed { OnOk result (Closed (C.shown cluster.old) self.now (C.shown cluster.new)) }
         ensures err { IfErr result (λ error. FailsToClose (C.shown cluster.old) self.now error (C.shown cluster.new)) }

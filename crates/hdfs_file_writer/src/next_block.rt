@@ -120,7 +120,8 @@ impl FileWriter {
     ) -> Result<LocatedBlock, HdfsError>
         requires reaches { ReachesAll (proxy_of namenode.old) (C.shown cluster.old) }
         requires allowed { LetsWrite C.allows C.may_answer (name_of namenode.old) (path_of self.now) (file_id_of self.now) }
-        requires answered { IsAnsweredLast C.may_answer (name_of namenode.old) (path_of self.now) (file_id_of self.now) self.now.last }
+        requires answered { IsAnsweredLast C.may_answer (name_of namenode.old) (path_of self.now) (file_id_of self.now)
+            self.now.last }
         requires between { IsBetweenBlocks self.now }
         requires full { IsFull self.now.sizes.block_size (tail_of self.now) }
         ensures adds { IfOk result (λ located. Adds (C.shown cluster.old) self.now located (C.shown cluster.new)) }

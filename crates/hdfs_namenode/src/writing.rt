@@ -209,8 +209,9 @@ impl NamenodeProtocol {
             (asks.GetAdditionalDatanode src.now blk.now existings.now excludes.now num_additional_nodes
             (name_of self.old) existing_storage_uuids.now)
             (as_answer answers.GetAdditionalDatanode result) (C.shown cluster.new) }
-        ensures answered { IfOk result (λ located. C.may_answer (asks.GetAdditionalDatanode src.now blk.now existings.now excludes.now
-            num_additional_nodes (name_of self.old) existing_storage_uuids.now) (answers.GetAdditionalDatanode located)) }
+        ensures answered { IfOk result (λ located. C.may_answer
+            (asks.GetAdditionalDatanode src.now blk.now existings.now excludes.now num_additional_nodes
+            (name_of self.old) existing_storage_uuids.now) (answers.GetAdditionalDatanode located)) }
         ensures shape { IfOk result (λ located. IsToWrite located × HasOneMore existings.now located.locs) }
         ensures keeps { SameClient self.old self.new }
     {

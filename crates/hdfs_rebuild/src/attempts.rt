@@ -292,7 +292,8 @@ fn try_once<C: Cluster>(
         (fallen_at fallen (C.shown cluster.old)) attempt (C.shown cluster.new)) }
     ensures err { IfErr result (λ fault. GaveNone (task_of settings.now (name_of namenode.old) fallen.replay unsent)
         (fallen_at fallen (C.shown cluster.old)) fault (C.shown cluster.new)) }
-    ensures answered { IfOk result (λ attempt. StaysAnswered C.may_answer (name_of namenode.old) fallen.plan (plan_of attempt)) }
+    ensures answered { IfOk result (λ attempt.
+        StaysAnswered C.may_answer (name_of namenode.old) fallen.plan (plan_of attempt)) }
     ensures client { SameClient namenode.old namenode.new }
 {
     let Fallen {
@@ -329,7 +330,8 @@ pub fn rebuild<C: Cluster>(
         (fallen_at fallen (C.shown cluster.old)) rebuilt (C.shown cluster.new)) }
     ensures err { IfErr result (λ fault. GaveNoneAfter (task_of settings.now (name_of namenode.old) fallen.replay unsent)
         (fallen_at fallen (C.shown cluster.old)) fault (C.shown cluster.new)) }
-    ensures answered { IfOk result (λ rebuilt. StaysAnswered C.may_answer (name_of namenode.old) fallen.plan rebuilt.plan) }
+    ensures answered { IfOk result (λ rebuilt.
+        StaysAnswered C.may_answer (name_of namenode.old) fallen.plan rebuilt.plan) }
     ensures client { SameClient namenode.old namenode.new }
 {
     let mut fallen = fallen;
