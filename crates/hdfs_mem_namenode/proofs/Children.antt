@@ -1,13 +1,11 @@
 -- From where the next name in a directory is sought: no name that is sought stands before it, and it stands behind the last name.
-use Rattle.std.proofs.Common.{◌≡◌, ℕ, ◌<◌, Bool, true, false, List, [], ◌∷◌, ◌++◌, Option, IsSome, String, append_assoc, refl, sym, ◌∙◌, ap, subst}
+use Rattle.std.proofs.Common.{◌≡◌, ℕ, Bool, true, false, List, [], ◌∷◌, ◌++◌, Option, IsSome, append_assoc, refl, sym, ◌∙◌, ap, subst}
 use Rattle.std.proofs.lemmas.Bool.{false≢true}
-use Rattle.std.specs.BTreeMap.{BTreeMap, get_by_text}
 use Rattle.std.specs.List.{list_any}
 use Rattle.hdfs_cluster.specs.declared.picture.Entry.{Entry}
 use Rattle.hdfs_names.specs.Paths.{is_slash}
 use Rattle.hdfs_mem_namenode.specs.Listing.{IsNameIn, IsNext, NoneBehind, is_before}
 use Rattle.hdfs_mem_namenode.proofs.Bytes.{before_from, before_front, before_trans, before_upto, begins_so, between_slash, zero_behind, zero_next}
-use Rattle.hdfs_mem_namenode.proofs.Keys.{count_from, fewer_from}
 
 pub record Starts (names : List ℕ → Option Entry) (front after start : List ℕ) : Type 0 where
   pub begins : (x : List ℕ) × (start ≡ front ++ x)
@@ -67,10 +65,3 @@ module _ (names : List ℕ → Option Entry) (front after : List ℕ) where
                   let to_part : is_before other (part ++ 48 ∷ []) ≡ true = sym (before_front front other (part ++ 48 ∷ [])) ∙ ap (is_before (front ++ other)) (sym (append_assoc front part (48 ∷ []))) ∙ is_true in
                   absurd (false≢true (sym named.plain ∙ between_slash part rest other from_part to_part))
               by other named after_path false is_false = refl
-
--- fewer keys stand behind the next name
-pub fewer_behind : {A : Type 0} (m : BTreeMap (String A) Entry) (front last path name : List ℕ) → path ≡ front ++ name → IsSome (get_by_text m path) → IsNext (get_by_text m) front last name
-    → count_from m.entries ((front ++ name) ++ 0 ∷ []) < count_from m.entries ((front ++ last) ++ 0 ∷ [])
-fewer_behind m front last path name is some next =
-    fewer_from m ((front ++ last) ++ 0 ∷ []) ((front ++ name) ++ 0 ∷ []) (front ++ name) (subst (λ (p : List ℕ). IsSome (get_by_text m p)) is some)
-    (zero_next (front ++ last) (front ++ name) (before_front front last name ∙ next.behind)) (zero_behind (front ++ name))

@@ -18,6 +18,7 @@ pub mod NewDirectories
 pub mod NewFiles
 pub mod Numbers
 pub mod Pages
+pub mod Ranging
 pub mod Removing
 pub mod Rows
 pub mod Sizing

@@ -1,7 +1,8 @@
 //! What stands in a directory of a cluster in memory, page by page.
-ghost use Rattle.std.specs.Prelude.{◌≡◌, true, IsSome, ◌++◌, ◌∷◌, ℕ, List, [], false, Some, None, string_bytes, IfOk, IfErr, MatchOption};
-ghost use Rattle.std.specs.BTreeMap.{get_by_text};
-ghost use Rattle.std.specs.List.{list_any};
+ghost use Rattle.std.specs.Prelude.{◌≡◌, not, true, IsSome, ◌++◌, ◌∷◌, ℕ, List, [], false, Some, None, string_bytes, IfOk, IfErr, MatchOption};
+ghost use Rattle.std.specs.BTreeMap.{IsOrdered, get_by_text};
+ghost use Rattle.std.specs.List.{filter, list_any};
+ghost use Rattle.std.specs.String.{string_cmp};
 ghost use Rattle.hdfs_cluster.specs.declared.messages.FileStatusMsg.{FileStatusMsg};
 ghost use Rattle.hdfs_cluster.specs.Picture.{kinds_in};
 ghost use Rattle.hdfs_names.specs.Paths.{is_slash};
@@ -16,6 +17,7 @@ use hdfs_cluster::{AskFault, DirList, Entry};
 use hdfs_wire::{List, NoMemory};
 use std::alloc::Global;
 use std::collections::BTreeMap;
+use std::collections::btree_map::Range;
 
 /// How many entries a page has at most.
 const PAGE: usize = 1000;
@@ -85,6 +87,14 @@ pub(crate) fn first_from<'a>(
     }
 }
 
+/// What stands at the paths from a text on, byte by byte.
+fn entries_from<'a>(names: &'a BTreeMap<String, Entry>, start: &String) -> Range<'a, String, Entry>
+    ensures entries { result ≡ filter (λ e. not (is_before (string_bytes e.0) (string_bytes start.now))) names.now.entries }
+    ensures ordered { IsOrdered string_cmp names.now }
+{
+    names.range(start..)
+}
+
 impl Namespace {
     /// What stands in the directory whose paths begin so, by the first name behind this one. What lies in its directories is passed over.
     fn next_child(
@@ -113,18 +123,29 @@ impl Namespace {
         Ok(None)
     }
 
-    /// How many names in the directory whose paths begin so stand behind this one.
+    /// How many names in the directory whose paths begin so stand behind this one. They are counted as they stand in the map; what lies in
+    /// its directories is passed over.
     fn count_behind(&self, alloc: Global, front: &str, after: &str) -> Result<u32, NoMemory>
         ensures { IfOk result (CountsBehind (get_by_text self.now.names) front.now after.now) }
     {
-        let mut last = after;
+        let mut start = joined(alloc, front, after)?;
+        start.push_str("\0")?;
+        let mut rest = entries_from(&self.names, &start);
         let mut count: u32 = 0;
-        while let Some(child) = self.next_child(alloc, front, last)? {
-            let Some(more) = count.checked_add(1) else {
-                return Err(NoMemory);
+        while let Some((path, _)) = rest.next() {
+            let Some(name) = behind(path.as_str(), front) else {
+                return Ok(count);
             };
-            count = more;
-            last = child.name;
+            let Some(part) = first_part(name) else {
+                let Some(more) = count.checked_add(1) else {
+                    return Err(NoMemory);
+                };
+                count = more;
+                continue;
+            };
+            let mut past = joined(alloc, front, part)?;
+            past.push_str("0")?;
+            rest = entries_from(&self.names, &past);
         }
         Ok(count)
     }
