@@ -23,7 +23,7 @@ use Rattle.hdfs_cluster.proofs.Frames.{told_weaker}
 use Rattle.hdfs_file_writer.specs.Writers as files
 use Rattle.hdfs_file_writer.specs.declared.file_writer.FileWriter.{FileWriter}
 use Rattle.hdfs_commands.specs.Acting.{Acts, IsReady, world_at}
-use Rattle.hdfs_commands.specs.Looking.{OnlyLooks}
+use Rattle.hdfs_file_reader.specs.Looking.{OnlyLooks}
 use Rattle.hdfs_commands.specs.Preparing.{Remembers}
 use Rattle.hdfs_commands.specs.Session.{Carried, CarriesFile, CarriesOpen, IsSized, Stands, after, defaults_known, opened_of, writer_of}
 use Rattle.hdfs_commands.specs.declared.session.Session.{Session}

@@ -2,7 +2,6 @@
 use Rattle.std.proofs.Common.{◌≡◌, ◌⊎◌, inl, inr, ⊎_elim, ℕ, ◌+◌, ◌-◌, ◌<◌, ◌≤◌, Bool, true, false, cond, List, [], length, get_or, Option, Some, None, is_some, refl, sym, ◌∙◌, ap, subst, arith}
 use Rattle.std.proofs.lemmas.Bool.{false≢true}
 use Rattle.hdfs_cluster.specs.declared.messages.LocatedBlocks.{LocatedBlocks}
-use Rattle.hdfs_cluster.specs.declared.asks.Ask.TheVariants as asks
 use Rattle.hdfs_model.specs.declared.commands.Command.{Command}
 use Rattle.hdfs_model.specs.declared.commands.Command.TheVariants as commands
 use Rattle.hdfs_model.specs.declared.commands.Reply.TheVariants as replies
@@ -14,26 +13,29 @@ use Rattle.hdfs_cluster.specs.declared.errors.TransferFault.TheVariants as trans
 use Rattle.hdfs_cluster.specs.Files.{State, Content, NoFile, NotDirectory, Missing, NotFile}
 use Rattle.hdfs_cluster.specs.Reading.{range_of}
 use Rattle.hdfs_model.specs.Steps.{World, Done, content_of, step, target_of}
-use Rattle.hdfs_cluster.specs.Picture.{Picture, SameFiles, kinds}
+use Rattle.hdfs_cluster.specs.Picture.{Picture, SameFiles, Told, kinds}
 use Rattle.hdfs_cluster.specs.Namenode.{Locates, IsNoFile, StandsForNoFile, class_for, is_taken}
-use Rattle.hdfs_cluster.specs.Shown.{Shown, Later, OnlyReads}
+use Rattle.hdfs_cluster.specs.Shown.{Shown, Later}
 use Rattle.hdfs_cluster.specs.Stores.{Agrees}
 use Rattle.hdfs_cluster.specs.Failures.{CallsRose}
 use Rattle.hdfs_cluster.specs.Lost.{AllFailed, ByteLost, FileLost}
 use Rattle.hdfs_model.specs.Causes.{HasLength, IsEncryptedAt, OpensEncrypted, Cause, Tells, IsEarly}
 use Rattle.hdfs_cluster.proofs.Frames.{never_fall_refl, told_after, rose_since}
 use Rattle.hdfs_namenode.specs.Asked.{exception_error}
-use Rattle.hdfs_namenode.specs.Relaying.{RefusedBy, TellsAsk}
-use Rattle.hdfs_commands.specs.Meeting.{Meets, IsClosed}
-use Rattle.hdfs_commands.specs.Ranges.{Stored, FailsAt}
-use Rattle.hdfs_commands.proofs.Agreeing.{agrees_moved, agrees_files, is_told, byte_lost, locates_blocks, stores_blocks}
+use Rattle.hdfs_commands.specs.Meeting.{Meets}
+use Rattle.hdfs_file_reader.specs.Looking.{IsClosed}
+use Rattle.hdfs_file_reader.specs.Files.{LosesByte}
+use Rattle.hdfs_file_reader.specs.Looking.{FilesStay, LacksBlocks}
+use Rattle.hdfs_file_reader.specs.Ranges.{Stored, FailsAt}
+use Rattle.hdfs_commands.proofs.Agreeing.{agrees_moved, agrees_files, is_told}
+use Rattle.hdfs_file_reader.proofs.Staying.{byte_lost, locates_blocks, stores_blocks}
 use Rattle.hdfs_commands.proofs.Refusing.{rose_cause}
 use Rattle.hdfs_commands.proofs.Stepping.{Found, found_file, is_closed, refused_read, done_read, bad_range}
 
 -- what holds of an error over any cluster
-pub tells_from-FailsAt : (name : List ℕ) (offset len : ℕ) (old new : Shown) (e : HdfsError) → FailsAt (λ byte. offset < offset + len) e → Tells (commands.Read name offset len) old new e
+pub tells_from-FailsAt : (name : List ℕ) (offset len : ℕ) (old new : Shown) (e : HdfsError) → FailsAt (λ byte. 0 < len) e → Tells (commands.Read name offset len) old new e
 tells_from-FailsAt name offset len old new errors.NoMemory h = (tt, (tt, tt))
-tells_from-FailsAt name offset len old new (errors.DataTransferError (transfer.Read byte)) h = ((offset, len, (refl, refl), omega (arith, h)), (tt, tt))
+tells_from-FailsAt name offset len old new (errors.DataTransferError (transfer.Read byte)) h = ((offset, len, (refl, refl), h), (tt, tt))
 tells_from-FailsAt name offset len old new e h = absurd h
 
 -- an error of datanodes is no refusal
@@ -59,10 +61,9 @@ module _ (w : World) (s s' : Shown) (state : State) (name path : List ℕ) (offs
       (told.0, told.1, is_closed w s state name path meets told.0 told.1)
 
   -- a file that the namenode doesn't know isn't there
-  pub missing_cause : ((p : Picture) → s.picture ≡ Some p → IsClosed p path → IsNoFile p path) → Cause w state command s s' (errors.FileNotFound name)
-  missing_cause h =
+  missing_cause : IsNoFile closed_there.0 path → Cause w state command s s' (errors.FileNotFound name)
+  missing_cause lacking =
       let t = closed_there in
-      let lacking = h t.0 t.1 t.2 in
       ((lacking.0, refused_read w s state name path meets t.0 t.1 offset len lacking.0 lacking.1), tt)
 
   exception_cause : (class message : List ℕ) → (p : Picture) → s.picture ≡ Some p → StandsForNoFile (kinds p) path class ⊎ CallsRose s.counts s' → Cause w state command s s' (exception_error class message)
@@ -73,20 +74,21 @@ module _ (w : World) (s s' : Shown) (state : State) (name path : List ℕ) (offs
       by_test false is = (⊎_elim (λ stands. inl (stands.0, refused_read w s state name path meets p told offset len stands.0 stands.1, stands.2)) (λ rose. inr rose) h, tt)
 
   -- why the look-up fails
-  pub looked_cause : (from count : ℕ) (e : HdfsError) → TellsAsk s s' e
-      → ((p : Picture) → s.picture ≡ Some p → IsClosed p path → (e ≡ errors.NoMemory) ⊎ RefusedBy p (asks.GetBlockLocations path from count) e ⊎ CallsRose s.counts s')
-      → Cause w state command s s' e
-  looked_cause from count e tells why =
+  pub looked_cause : (e : HdfsError) → ((p : Picture) → s.picture ≡ Some p → IsClosed p path → LacksBlocks p name path s e s') → Cause w state command s s' e
+  looked_cause e why =
       let t = closed_there in
       ⊎_elim
+      (λ missing. subst (Cause w state command s s') (sym missing.0) (missing_cause missing.1))
+      (λ asked. ⊎_elim
       (λ memory. subst (Cause w state command s s') (sym memory) (tt, tt))
       (λ more. ⊎_elim
       (λ refused. subst (Cause w state command s s') (sym refused.3) (exception_cause refused.0 refused.1 t.0 t.1 (inl refused.2)))
-      (λ rose. rose_cause w state command s s s' e (never_fall_refl s.counts) tells rose)
+      (λ rose. rose_cause w state command s s s' e (never_fall_refl s.counts) asked.0 rose)
       more)
+      asked.1)
       (why t.0 t.1 t.2)
 
-  module _ (files : (p : Picture) → s.picture ≡ Some p → IsClosed p path → (q : Picture) × (s'.picture ≡ Some q) × SameFiles p q) where
+  module _ (files : FilesStay path s s') where
     -- the files agree behind the look-up
     pub agrees_looked : Agrees s'.picture state.files
     agrees_looked =
@@ -142,20 +144,19 @@ module _ (w : World) (s s' : Shown) (state : State) (name path : List ℕ) (offs
             stored = stores_blocks here.0 after.0 after.2 f.file.blocks f.content.bytes f.stored;
           }
 
-      pub read_done : (out : List ℕ) → offset + len ≤ found.file_length → ((content : List ℕ) → Stored s' found.blocks content → offset + len ≤ length content → out ≡ range_of content offset (offset + len - offset)) → step w state command ≡ Done (replies.Bytes out) state
+      pub read_done : (out : List ℕ) → offset + len ≤ found.file_length → ((content : List ℕ) → Stored s' found.blocks content → offset + len ≤ length content → out ≡ range_of content offset len) → step w state command ≡ Done (replies.Bytes out) state
       read_done out within gives =
           let f = here.3 in
           let inside : offset + len ≤ length f.content.bytes = omega (arith, within, f.long) in
-          let count : offset + len - offset ≡ len = omega arith in
-          let is : out ≡ range_of f.content.bytes offset len = gives f.content.bytes stored inside ∙ ap (range_of f.content.bytes offset) count in
+          let is : out ≡ range_of f.content.bytes offset len = gives f.content.bytes stored inside in
           done_read w s state name path meets here.0 here.1 found here.2 f offset len inside ∙ ap (λ (bytes : List ℕ). Done (replies.Bytes bytes) state) (sym is)
 
-      module _ (u : Shown) (later : Later s s') (only : OnlyReads s' u) (within : offset + len ≤ found.file_length) where
+      module _ (u : Shown) (later : Later s s') (stay : Told SameFiles s'.picture u.picture) (within : offset + len ≤ found.file_length) where
         file_lost : (byte : ℕ) → ((content : List ℕ) (st : Stored s' found.blocks content) → ByteLost st.picture st.ids offset (offset + len) (AllFailed s'.counts u.counts st.picture) byte) → FileLost s.counts u path offset (offset + len) byte
         unfolding after stored here
         file_lost byte h =
             let f = here.3 in
-            let last = told_after SameFiles s'.picture u.picture after.0 only.files after.1 in
+            let last = told_after SameFiles s'.picture u.picture after.0 stay after.1 in
             let lost = byte_lost after.0 last.0 last.2 f.file.blocks offset (offset + len) s'.counts u.counts byte (h f.content.bytes stored) in
             record {
               picture = last.0;
@@ -177,14 +178,14 @@ module _ (w : World) (s s' : Shown) (state : State) (name path : List ℕ) (offs
               };
             }
 
-        pub blocks_cause : (e : HdfsError) → ((content : List ℕ) (st : Stored s' found.blocks content) → FailsAt (ByteLost st.picture st.ids offset (offset + len) (AllFailed s'.counts u.counts st.picture)) e) → Cause w state command s u e
-        blocks_cause errors.NoMemory h = (tt, tt)
-        blocks_cause (errors.DataTransferError (transfer.Read byte)) h =
+        pub blocks_cause : (e : HdfsError) → FailsAt (λ byte. 0 < len) e → LosesByte s' found.blocks offset (offset + len) e u → Cause w state command s u e
+        blocks_cause errors.NoMemory fails h = (tt, tt)
+        blocks_cause (errors.DataTransferError (transfer.Read byte)) fails h =
             let f = here.3 in
             let done = done_read w s state name path meets here.0 here.1 found here.2 f offset len (omega (arith, within, f.long)) in
-            let lost = subst (λ (q : List ℕ). FileLost s.counts u q offset (offset + len) byte) (sym meets.called) (file_lost byte h) in
+            let lost = subst (λ (q : List ℕ). FileLost s.counts u q offset (offset + len) byte) (sym meets.called) (file_lost byte (λ content st. h content st byte refl)) in
             (((replies.Bytes (range_of f.content.bytes offset len), state, done), lost), tt)
-        blocks_cause e h = absurd (h here.3.content.bytes stored)
+        blocks_cause e fails h = absurd fails
 
-      pub agrees_read : (u : Shown) → OnlyReads s' u → Agrees u.picture state.files
-      agrees_read u only = agrees_files s'.picture u.picture state.files only.files agrees_looked
+      pub agrees_read : (u : Shown) → Told SameFiles s'.picture u.picture → Agrees u.picture state.files
+      agrees_read u stay = agrees_files s'.picture u.picture state.files stay agrees_looked

@@ -11,7 +11,7 @@ use Rattle.hdfs_namenode.specs.Clients.{defaults_of as known_of, proxy_of}
 use Rattle.hdfs_namenode.specs.declared.protocol.NamenodeProtocol.{NamenodeProtocol}
 use Rattle.hdfs_namenode.proofs.Services.{reaches_same}
 use Rattle.hdfs_commands.specs.Acting.{Acts, IsReady}
-use Rattle.hdfs_commands.specs.Finding.{SameButKnown}
+use Rattle.hdfs_file_reader.specs.Transferring.{SameButKnown}
 use Rattle.hdfs_commands.specs.Meeting.{KnowsDefaults}
 use Rattle.hdfs_commands.specs.Session.{after, Carried, CarriesOpen, IsSized, OnlyOwnLinks, Stands}
 use Rattle.hdfs_commands.specs.declared.session.Session.{Session}

@@ -31,19 +31,18 @@ use Rattle.hdfs_file_writer.specs.declared.file_writer.FileWriter.{FileWriter}
 use Rattle.hdfs_file_writer.proofs.Others.{agrees_others, carries_others}
 use Rattle.hdfs_commands.specs.Acting.{Acts, IsReady, world_at}
 use Rattle.hdfs_commands.specs.Encrypted.{OnlyTouches}
-use Rattle.hdfs_commands.specs.Looking.{OnlyLooks}
+use Rattle.hdfs_file_reader.specs.Looking.{OnlyLooks}
 use Rattle.hdfs_commands.specs.Preparing.{HasDefaults, Prepares, Remembers, sizes_by}
 use Rattle.hdfs_commands.specs.Session.{CarriesFile, CarriesOpen, Stands, after, opened_of, writer_of}
 use Rattle.hdfs_commands.specs.Whole.{KeepsBlocksWhole}
 use Rattle.hdfs_commands.specs.declared.session.Session.{Session}
 use Rattle.hdfs_commands.proofs.Acted.{idle_acts, reads_same, spares_but}
 use Rattle.hdfs_commands.proofs.Failing.{append_opens, others_open}
-use Rattle.hdfs_commands.proofs.Looking.{looks_from-Leaves}
+use Rattle.hdfs_file_reader.proofs.Looking.{looks_from-Leaves, looks_trans}
 use Rattle.hdfs_commands.proofs.OneFile.{apart_by_test}
 use Rattle.hdfs_namenode.specs.Relaying.{Came}
 use Rattle.hdfs_commands.specs.Opening.{appending}
 use Rattle.hdfs_commands.proofs.Opening.{Over}
-use Rattle.hdfs_commands.proofs.Prepared.{looks_trans}
 use Rattle.hdfs_commands.proofs.Sized.{remembers_trans}
 use Rattle.hdfs_commands.proofs.Starting.{OpensFile, appended_opens, appended_over}
 use Rattle.hdfs_commands.proofs.WholeBeside.{keeps_failed, stays_elsewhere}

@@ -31,7 +31,7 @@ use Rattle.hdfs_file_writer.specs.Writers as files
 use Rattle.hdfs_file_writer.specs.declared.file_writer.FileWriter.{FileWriter}
 use Rattle.std.proofs.lemmas.Bool.{false≢true}
 use Rattle.hdfs_commands.specs.Acting.{Acts, IsReady, world_at}
-use Rattle.hdfs_commands.specs.Looking.{OnlyLooks}
+use Rattle.hdfs_file_reader.specs.Looking.{OnlyLooks}
 use Rattle.hdfs_commands.specs.Preparing.{AreTold, LacksDefaults, Prepares, Remembers}
 use Rattle.hdfs_commands.specs.Session.{CarriesFile, CarriesOpen, Stands, after, defaults_known, writer_of}
 use Rattle.hdfs_commands.specs.declared.session.Session.{Session}
@@ -39,8 +39,7 @@ use Rattle.hdfs_commands.proofs.Still.{carries_stays}
 use Rattle.hdfs_commands.proofs.Acted.{failed_acts, spares_but}
 use Rattle.hdfs_commands.proofs.Agreeing.{agrees_but, agrees_files, is_told}
 use Rattle.hdfs_commands.proofs.Opening.{Over}
-use Rattle.hdfs_commands.proofs.Prepared.{looks_refl, looks_trans}
-use Rattle.hdfs_commands.proofs.Looking.{looks_from-Leaves}
+use Rattle.hdfs_file_reader.proofs.Looking.{looks_from-Leaves, looks_refl, looks_trans}
 use Rattle.hdfs_commands.proofs.Refusing.{ask_not_early, ask_tells, exception_cause, rose_cause}
 use Rattle.hdfs_commands.proofs.Sized.{remembers_refl, remembers_trans}
 

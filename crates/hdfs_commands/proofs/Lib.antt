@@ -16,7 +16,7 @@ mod Encrypting
 mod Failing
 mod Limited
 mod Links
-mod Looking
+mod LookedUp
 mod Lost
 mod Moved
 pub mod OneFile
@@ -24,13 +24,10 @@ pub mod Onward
 mod OpenFiles
 mod Opening
 mod Owing
-mod Parts
-mod Pieces
 mod Planting
 mod Prepared
 mod ReadActs
 mod Ranging
-mod Readers
 mod Refusing
 mod SendActs
 mod SendFails

@@ -5,7 +5,7 @@ use Rattle.hdfs_cluster.specs.declared.errors.HdfsError.TheVariants as errors
 use Rattle.hdfs_model.specs.Owing.{IsNotOwed}
 use Rattle.hdfs_cluster.specs.Shown.{Shown}
 use Rattle.hdfs_namenode.specs.Relaying.{TellsAsk}
-use Rattle.hdfs_commands.specs.Ranges.{FailsAt}
+use Rattle.hdfs_file_reader.specs.Ranges.{FailsAt}
 
 -- an error of an ask
 pub ask_not_owed : (old new : Shown) (error : HdfsError) → TellsAsk old new error → IsNotOwed error

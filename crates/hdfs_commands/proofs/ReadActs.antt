@@ -20,8 +20,8 @@ use Rattle.hdfs_cluster.specs.Stores.{Agrees}
 use Rattle.hdfs_model.proofs.Completing.{cause_completes}
 use Rattle.hdfs_cluster.proofs.Frames.{told_after}
 use Rattle.hdfs_commands.specs.Acting.{Acts, IsReady, world_at}
-use Rattle.hdfs_commands.specs.Finding.{AsksOn}
-use Rattle.hdfs_commands.specs.Meeting.{KnowsDefaults, KnowsWorld, Meets, IsClosed}
+use Rattle.hdfs_commands.specs.Meeting.{AsksOn, KnowsDefaults, KnowsWorld, Meets}
+use Rattle.hdfs_file_reader.specs.Looking.{IsClosed}
 use Rattle.hdfs_commands.specs.Session.{Stands, Carried, defaults_known, settings_of, opened_of, scene_of, after}
 use Rattle.hdfs_commands.specs.declared.session.Session.{Session}
 use Rattle.hdfs_namenode.specs.Clients as clients

@@ -44,8 +44,7 @@ use Rattle.hdfs_commands.proofs.Moved.{HasMore}
 use Rattle.hdfs_namenode.specs.Relaying.{Came}
 use Rattle.hdfs_commands.specs.Opening.{appending, creating}
 use Rattle.hdfs_commands.proofs.Opening.{Over, append_over, create_over, made, was_made, was_reopened}
-use Rattle.hdfs_commands.proofs.Prepared.{looks_trans}
-use Rattle.hdfs_commands.proofs.Looking.{looks_from-Leaves}
+use Rattle.hdfs_file_reader.proofs.Looking.{looks_from-Leaves, looks_trans}
 use Rattle.hdfs_commands.proofs.Refusing.{append_step, create_step, kinds_same}
 use Rattle.hdfs_commands.proofs.Sized.{sized_by}
 use Rattle.hdfs_commands.proofs.WithWriting.{clear_to_create, closed_to_append}

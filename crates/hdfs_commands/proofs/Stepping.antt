@@ -20,7 +20,8 @@ use Rattle.hdfs_cluster.specs.Picture.{Picture, kinds, entry_kind}
 use Rattle.hdfs_cluster.specs.Namenode.{Locates, LocatesBlocks}
 use Rattle.hdfs_cluster.specs.Shown.{Shown}
 use Rattle.hdfs_cluster.specs.Stores.{AgreesAt, StoresBlocks}
-use Rattle.hdfs_commands.specs.Meeting.{Meets, IsClosed}
+use Rattle.hdfs_commands.specs.Meeting.{Meets}
+use Rattle.hdfs_file_reader.specs.Looking.{IsClosed}
 use Rattle.hdfs_commands.proofs.Agreeing.{agrees_told}
 
 -- The same kind of thing stands at a path in the picture and in the files.

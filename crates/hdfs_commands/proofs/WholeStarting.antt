@@ -30,7 +30,7 @@ use Rattle.hdfs_file_writer.specs.Writers.{sizes_of, tail_of, tail_opened}
 use Rattle.hdfs_file_writer.specs.declared.file_writer.FileWriter.{FileWriter}
 use Rattle.hdfs_file_writer.specs.declared.sizes.WriteSizes.{WriteSizes}
 use Rattle.hdfs_commands.specs.Acting.{world_at}
-use Rattle.hdfs_commands.specs.Meeting.{IsClosed}
+use Rattle.hdfs_file_reader.specs.Looking.{IsClosed}
 use Rattle.hdfs_commands.specs.Preparing.{Prepares, sizes_by}
 use Rattle.hdfs_commands.specs.Session.{opened_of, settings_of, writer_of}
 use Rattle.hdfs_commands.specs.Whole.{AreFilled, AreWhole, KeepsBlocksWhole, KeepsWhole}

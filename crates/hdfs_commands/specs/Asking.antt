@@ -20,7 +20,7 @@ use Rattle.hdfs_model.specs.Owing.{is_misplaced}
 use Rattle.hdfs_model.specs.Steps.{path_of}
 use Rattle.hdfs_names.specs.Paths.{absolute, is_path}
 use Rattle.hdfs_namenode.specs.Clients.{client_name, name_of}
-use Rattle.hdfs_block_reader.specs.Reader.{LetsRead}
+use Rattle.hdfs_file_reader.specs.Files.{LetsReadFile}
 use Rattle.hdfs_file_writer.specs.Writers.{IsAnswered}
 use Rattle.hdfs_file_writer.specs.declared.file_writer.FileWriter.{FileWriter}
 use Rattle.hdfs_commands.specs.Encrypted.{tells_encryption}
@@ -43,13 +43,6 @@ pub record LetsAppend (allows : Request → Type 0) (may_answer : Ask → Answer
   pub opens : allows (AskOf (appending path client 4))
   pub closes : (appended : Appended) → may_answer (appending path client 4) (answers.Append appended) → tells_encryption appended.stat ≡ true
       → LetsClose allows may_answer client path (id_in appended.stat)
-
--- A read of so many bytes: all blocks of the file; where there are some bytes the defaults; and the blocks that were answered, from the
--- datanodes that are listed for them, in no client's name.
-pub record LetsReadFile (allows : Request → Type 0) (may_answer : Ask → Answer → Type 0) (path : List ℕ) (len : ℕ) : Type 0 where
-  pub locates : allows (AskOf (asks.GetBlockLocations path 0 (2 ^ 63 - 1)))
-  pub defaults : 0 < len → allows (AskOf asks.GetServerDefaults)
-  pub reads : (block : LocatedBlock) → IsLocated may_answer path block → (end : ℕ) → LetsRead allows block [] end
 
 -- what a command may ask for at a path, in the name of a client
 abbrev pub LetsAt : (Request → Type 0) → (Ask → Answer → Type 0) → List ℕ → List ℕ → Command → Type 0

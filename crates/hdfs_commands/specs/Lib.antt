@@ -1,11 +1,9 @@
 pub mod Acting
 pub mod Asking
 pub mod Encrypted
-pub mod Finding
-pub mod Looking
 pub mod Meeting
 pub mod Opening
 pub mod Preparing
-pub mod Ranges
+pub mod Refusing
 pub mod Session
 pub mod Whole

@@ -12,7 +12,8 @@ use Rattle.hdfs_namenode.specs.Asked.{SameService}
 use Rattle.hdfs_namenode.specs.Clients.{name_of, proxy_of}
 use Rattle.hdfs_namenode.specs.Relaying.{TellsAsk}
 use Rattle.hdfs_file_writer.specs.declared.sizes.WriteSizes.{WriteSizes}
-use Rattle.hdfs_commands.specs.Looking.{OnlyLooks}
+use Rattle.hdfs_file_reader.specs.Looking.{OnlyLooks}
+use Rattle.hdfs_file_reader.specs.Transferring.{AskedInVain}
 use Rattle.hdfs_commands.specs.Meeting.{KnowsDefaults}
 use Rattle.hdfs_commands.specs.Session.{defaults_known, rebuilding_by, settings_of}
 use Rattle.hdfs_commands.specs.declared.session.Session.{Session}
@@ -42,11 +43,6 @@ pub record HasDefaults (old : Shown) (session session' : Session) (defaults : Se
   pub limited : are_defaults defaults ≡ true
   pub known : defaults_known session' ≡ Some defaults
   pub told : AreTold old (defaults_known session) defaults
-
--- they were asked for in vain, over a told picture only where a namenode has failed
-abbrev pub AskedInVain : Shown → HdfsError → Shown → Type 0
-AskedInVain old error new =
-    TellsAsk old new error × ((p : Picture) → old.picture ≡ Some p → (error ≡ errors.NoMemory) ⊎ CallsRose old.counts new)
 
 -- why there are none: they were asked for in vain, or they are out of their limits
 abbrev pub LacksDefaults : Shown → Session → HdfsError → Shown → Type 0

@@ -20,7 +20,7 @@ pub(crate) fn tells_encryption(status: &Option<FileStatusMsg>) -> bool
 
 impl Session {
     ghost use Rattle.hdfs_commands.specs.Encrypted.{OnlyAsked, OnlyTouches};
-    ghost use Rattle.hdfs_commands.specs.Looking.{OnlyLooks};
+    ghost use Rattle.hdfs_file_reader.specs.Looking.{OnlyLooks};
     ghost use Rattle.hdfs_file_writer.specs.Writers.{IsAnswered, Stands as FileStands, file_id_of, has_failed as file_has_failed, link_of, path_of};
     ghost use Rattle.hdfs_namenode.specs.Asked.{ReachesAll};
     ghost use Rattle.hdfs_cluster.specs.Requests.{AskOf, LetsClose};

@@ -2,8 +2,6 @@
 #![tactic(auto)]
 
 mod encrypted;
-mod finding;
-mod locate;
 mod reading;
 mod session;
 mod writing;

@@ -9,7 +9,6 @@ ghost use Rattle.hdfs_cluster.specs.Shown.{Later, SameReads};
 ghost use Rattle.hdfs_model.specs.Steps.{path_of};
 ghost use Rattle.hdfs_cluster.specs.declared.errors.HdfsError.TheVariants as errors;
 
-use crate::reading::read_file;
 use hdfs_cluster::{ArgFault, Cluster, HdfsError};
 use hdfs_connections::ConnectionCache;
 use hdfs_file_writer::FileWriter;
@@ -122,16 +121,7 @@ impl Session {
                 path: name,
                 offset,
                 len,
-            } => read_file(
-                self.alloc,
-                cluster,
-                &mut self.connections,
-                &mut self.namenode,
-                name,
-                path.as_str(),
-                *offset,
-                *len,
-            ),
+            } => self.read(cluster, name, path.as_str(), *offset, *len),
         }
     }
 

@@ -22,7 +22,7 @@ use Rattle.hdfs_commands.proofs.Encrypting.{encrypted_acts, encrypted_whole}
 use Rattle.hdfs_commands.proofs.Failing.{append_opens, lacks_acts, refused_acts, starved_acts, unkept_acts, unstated_acts}
 use Rattle.hdfs_commands.proofs.Moved.{kept_by, put_by}
 use Rattle.hdfs_commands.proofs.Opening.{was_reopened}
-use Rattle.hdfs_commands.proofs.Looking.{looks_from-Leaves}
+use Rattle.hdfs_file_reader.proofs.Looking.{looks_from-Leaves}
 use Rattle.hdfs_commands.proofs.Owing.{ask_not_owed}
 use Rattle.hdfs_commands.proofs.Prepared.{reaches_prepared}
 use Rattle.hdfs_commands.proofs.Sized.{remembers_trans, remembers_with, sizes_still}

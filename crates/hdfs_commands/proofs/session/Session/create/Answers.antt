@@ -23,9 +23,9 @@ use Rattle.hdfs_commands.specs.Session.{after}
 use Rattle.hdfs_commands.proofs.Failing.{create_opens, lacks_acts, options_acts, refused_acts, starved_acts, unkept_acts, unsupported_acts}
 use Rattle.hdfs_commands.proofs.Moved.{kept_by, put_by}
 use Rattle.hdfs_commands.proofs.Opening.{was_made, was_plain}
-use Rattle.hdfs_commands.proofs.Looking.{looks_from-Leaves}
+use Rattle.hdfs_file_reader.proofs.Looking.{looks_from-Leaves, looks_trans}
 use Rattle.hdfs_commands.proofs.Owing.{ask_not_owed}
-use Rattle.hdfs_commands.proofs.Prepared.{looks_trans, reaches_prepared}
+use Rattle.hdfs_commands.proofs.Prepared.{reaches_prepared}
 use Rattle.hdfs_commands.proofs.Sized.{remembers_trans, remembers_with, sizes_still}
 use Rattle.hdfs_commands.proofs.Sizing.{are_sizes_by}
 use Rattle.hdfs_commands.proofs.Starting.{created_acts, created_over}

@@ -1,7 +1,8 @@
 -- The goals of Session::defaults.
 use Rattle.std.proofs.Common.{inl, inr, refl, sym, ◌∙◌}
 use Rattle.std.proofs.lemmas.Result.{err_from_is_err_and}
-use Rattle.hdfs_commands.proofs.Prepared.{are_told, lacks_by, prepared}
+use Rattle.hdfs_commands.proofs.Prepared.{are_told, prepared}
+use Rattle.hdfs_file_reader.proofs.Transfers.{lacks_by}
 use Rattle.hdfs_commands.proofs.session.Session.defaults.Goals as goal
 
 pub returns-in_err-defaults-clause-prepares : goal.returns-in_err-defaults-clause-prepares

@@ -2,7 +2,7 @@
 use Rattle.std.proofs.Common.{refl}
 use Rattle.hdfs_namenode.specs.Clients.{proxy_of}
 use Rattle.hdfs_namenode.proofs.Services.{reaches_service}
-use Rattle.hdfs_commands.proofs.Looking.{looks_from-Leaves}
+use Rattle.hdfs_file_reader.proofs.Looking.{looks_from-Leaves}
 use Rattle.hdfs_commands.proofs.Sized.{remembers_asked}
 use Rattle.hdfs_commands.proofs.session.Session.refuse_created.Goals as goal
 

@@ -6,8 +6,9 @@ use Rattle.hdfs_cluster.specs.declared.errors.ArgFault.TheVariants as args
 use Rattle.hdfs_cluster.specs.declared.errors.HdfsError.TheVariants as errors
 use Rattle.hdfs_names.specs.Paths.{is_path}
 use Rattle.hdfs_model.specs.Owing.{is_misplaced}
-use Rattle.hdfs_commands.specs.Acting.{world_at}
-use Rattle.hdfs_commands.specs.Session.{opened_of}
+use Rattle.hdfs_commands.specs.Acting.{Acts, world_at}
+use Rattle.hdfs_commands.specs.Session.{after, opened_of, writer_of}
+use Rattle.hdfs_commands.specs.declared.session.Session.{Session}
 use Rattle.hdfs_commands.proofs.Asking.{lets_there}
 use Rattle.hdfs_commands.proofs.Early.{fact_true, owed_result, state_acts, target_acts}
 use Rattle.hdfs_commands.proofs.Connected.{connected_acts}
@@ -37,13 +38,17 @@ returns-in-Read-clause-acts g c =
     let command = c.args.command.now in
     let placed = c.is_placed.ensures.0 c.if-not-is_placed.false in
     let called = c.as_str-in-Read.ensures ∙ ok.0 in
-    connected_acts command (g.C.Cluster.shown c.args.cluster.now) session (g.C.Cluster.shown c.read_file.new.cluster) session c.read_file.new.connections c.read_file.new.namenode c.read_file.ensures.client.same
-    (read_knows (g.C.Cluster.shown c.args.cluster.now) (g.C.Cluster.shown c.read_file.new.cluster) session command c.in-Read.name c.as_str-in-Read.result.now c.in-Read.offset c.in-Read.len (sym c.in-Read.is) (ap is_path c.as_str-in-Read.ensures ∙ ok.1) called
-    (subst (λ (p : List ℕ). is_misplaced command (opened_of session p) ≡ false) (c.as_str.ensures ∙ sym c.as_str-in-Read.ensures) placed) c.read_file.new.namenode c.read_file.ensures.client)
-    c.read_file.result
-    (read_command (g.C.Cluster.shown c.args.cluster.now) (g.C.Cluster.shown c.read_file.new.cluster) session command _ c.as_str-in-Read.result.now _ _ (search rules) (ap is_path c.as_str-in-Read.ensures ∙ ok.1) called
+    let then = c.read.new.self in
+    let s = g.C.Cluster.shown c.args.cluster.now in
+    let t = g.C.Cluster.shown c.read.new.cluster in
+    subst (λ (x : Session). Acts command s session t (after x c.read.result) c.read.result) (sym c.read.ensures.kept)
+    (connected_acts command s session t session then.connections then.namenode c.read.ensures.client.same
+    (read_knows s t session command c.in-Read.name c.as_str-in-Read.result.now c.in-Read.offset c.in-Read.len (sym c.in-Read.is) (ap is_path c.as_str-in-Read.ensures ∙ ok.1) called
+    (subst (λ (p : List ℕ). is_misplaced command (opened_of session p) ≡ false) (c.as_str.ensures ∙ sym c.as_str-in-Read.ensures) placed) then.namenode c.read.ensures.client)
+    c.read.result
+    (read_command s t session command _ c.as_str-in-Read.result.now _ _ (search rules) (ap is_path c.as_str-in-Read.ensures ∙ ok.1) called
     (subst (λ (p : List ℕ). is_misplaced command (opened_of session p) ≡ false) (c.as_str.ensures ∙ sym c.as_str-in-Read.ensures) placed)
-    c.read_file.result c.requires.stands c.read_file.ensures.anywhere c.read_file.ensures.links c.read_file.ensures.files c.read_file.ensures.ok c.read_file.ensures.err)
+    c.read.result c.requires.stands c.read.ensures.anywhere c.read.ensures.links c.read.ensures.files c.read.ensures.ok c.read.ensures.err))
 
 pub returns-in-Read-clause-owed : goal.returns-in-Read-clause-owed
 returns-in-Read-clause-owed g c =
@@ -51,8 +56,8 @@ returns-in-Read-clause-owed g c =
     let session = c.args.self.now in
     let command = c.args.command.now in
     let placed = c.is_placed.ensures.0 c.if-not-is_placed.false in
-    owed_result (world_at session (g.C.Cluster.shown c.args.cluster.now)) (opened_of session) command c.read_file.result (ap is_path (sym ok.0) ∙ ok.1)
-    (subst (λ (p : List ℕ). is_misplaced command (opened_of session p) ≡ false) (c.as_str.ensures ∙ ok.0) placed) c.read_file.ensures.owed
+    owed_result (world_at session (g.C.Cluster.shown c.args.cluster.now)) (opened_of session) command c.read.result (ap is_path (sym ok.0) ∙ ok.1)
+    (subst (λ (p : List ℕ). is_misplaced command (opened_of session p) ≡ false) (c.as_str.ensures ∙ ok.0) placed) c.read.ensures.owed
 
 pub returns-in_err-path-clause-whole : goal.returns-in_err-path-clause-whole
 returns-in_err-path-clause-whole g c =
@@ -70,10 +75,10 @@ returns-in-Read-clause-whole g c =
     let command = c.args.command.now in
     let placed = c.is_placed.ensures.0 c.if-not-is_placed.false in
     let called = c.as_str-in-Read.ensures ∙ ok.0 in
-    read_whole (g.C.Cluster.shown c.args.cluster.now) (g.C.Cluster.shown c.read_file.new.cluster) session (record session { connections = c.read_file.new.connections; namenode = c.read_file.new.namenode }) command c.in-Read.name c.as_str-in-Read.result.now c.in-Read.offset c.in-Read.len (sym c.in-Read.is)
+    read_whole (g.C.Cluster.shown c.args.cluster.now) (g.C.Cluster.shown c.read.new.cluster) session c.read.new.self command c.in-Read.name c.as_str-in-Read.result.now c.in-Read.offset c.in-Read.len (sym c.in-Read.is)
     (ap is_path c.as_str-in-Read.ensures ∙ ok.1) called
     (subst (λ (p : List ℕ). is_misplaced command (opened_of session p) ≡ false) (c.as_str.ensures ∙ sym c.as_str-in-Read.ensures) placed)
-    (λ r. refl) c.read_file.ensures.files c.read_file.result
+    (λ r. ap (λ (x : Session). writer_of x r) c.read.ensures.kept) c.read.ensures.files c.read.result
 
 pub returns-in-Create-clause-whole : goal.returns-in-Create-clause-whole
 returns-in-Create-clause-whole g c =
@@ -123,8 +128,8 @@ close-requires-clause-allowed g c =
     (c.is_placed.ensures.0 c.if-not-is_placed.false))
     c.requires.stands.name c.requires.allowed
 
-pub read_file-requires-clause-allowed : goal.read_file-requires-clause-allowed
-read_file-requires-clause-allowed g c =
+pub read-requires-clause-allowed : goal.read-requires-clause-allowed
+read-requires-clause-allowed g c =
     lets_there g.C.Cluster.allows g.C.Cluster.may_answer c.args.self.now c.args.command.now (commands.Read c.in-Read.name c.in-Read.offset c.in-Read.len) c.as_str-in-Read.result.now
     (c.in-Read.is) (c.as_str-in-Read.ensures ∙ c.in_ok-path.ensures.ok.0) (ap is_path c.as_str-in-Read.ensures ∙ c.in_ok-path.ensures.ok.1)
     (subst (λ (p : List ℕ). is_misplaced c.args.command.now (opened_of c.args.self.now p) ≡ false) (c.as_str.ensures ∙ sym c.as_str-in-Read.ensures)
@@ -133,6 +138,5 @@ read_file-requires-clause-allowed g c =
 
 pub returns-in-Read-clause-answered : goal.returns-in-Read-clause-answered
 returns-in-Read-clause-answered g c =
-    let session = c.args.self.now in
-    answered_same session (record session { connections = c.read_file.new.connections; namenode = c.read_file.new.namenode })
-    c.read_file.ensures.client.same.name (λ q. refl) c.requires.answered
+    answered_same c.args.self.now c.read.new.self
+    c.read.ensures.client.same.name (λ r. ap (λ (x : Session). writer_of x r) c.read.ensures.kept) c.requires.answered

@@ -1,0 +1,9 @@
+pub mod Counting
+pub mod Looking
+mod Parts
+mod Pieces
+mod Readers
+pub mod Ranged
+pub mod Services
+pub mod Staying
+pub mod Transfers

@@ -1,0 +1,4 @@
+pub mod Looking
+pub mod Transferring
+pub mod Ranges
+pub mod Files
