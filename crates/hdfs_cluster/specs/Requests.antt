@@ -56,19 +56,22 @@ abbrev pub IsAnsweredLocated : (Ask → Answer → Type 0) → List ℕ → List
 IsAnsweredLocated may_answer client path file_id true located = IsAdded may_answer client path file_id located
 IsAnsweredLocated may_answer client path file_id false located = IsReopened may_answer client path located
 
--- the generation stamp and the token that were answered where a block is to have another pipeline
-pub record IsStamped (may_answer : Ask → Answer → Type 0) (client : List ℕ) (block : Block) (stamp : ℕ) (token : Token) : Type 0 where
+-- the generation stamp and the token that were answered where a block, which was named with this generation stamp before, is to have another
+-- pipeline
+pub record IsStamped (may_answer : Ask → Answer → Type 0) (client : List ℕ) (block : Block) (before stamp : ℕ) (token : Token) : Type 0 where
   pub named : Block
   pub located : LocatedBlock
   pub answered : may_answer (asks.UpdateBlockForPipeline named client) (answers.UpdateBlockForPipeline located)
   pub same : IsSameBlock block named
+  pub before_is : before ≡ named.generation_stamp
   pub stamp_is : stamp ≡ located.b.generation_stamp
   pub token_is : token ≡ located.block_token
 
 -- the generation stamp and the token of a pipeline of a block that was answered so first: those of that answer, or of one to have another
 abbrev pub IsStampOf : (Ask → Answer → Type 0) → List ℕ → LocatedBlock → ℕ → Token → Type 0
 IsStampOf may_answer client first stamp token =
-    ((stamp ≡ first.b.generation_stamp) × (token ≡ first.block_token)) ⊎ IsStamped may_answer client first.b stamp token
+    ((stamp ≡ first.b.generation_stamp) × (token ≡ first.block_token))
+    ⊎ ((before : ℕ) × IsStamped may_answer client first.b before stamp token)
 
 -- the name of a block that was answered so first, with a generation stamp that was answered for it, whatever its length is
 pub record IsNamed (may_answer : Ask → Answer → Type 0) (client : List ℕ) (first : LocatedBlock) (named : Block) : Type 0 where
@@ -131,11 +134,11 @@ pub record IsFirstSetup (located : LocatedBlock) (client : List ℕ) (setup : Se
   pub named : setup.client ≡ client
 
 -- A later pipeline of a block that was answered so first: the block is named so, and is to be gone on with behind a pipeline that has
--- failed; its new generation stamp and its token were answered for that, and its datanodes with their storages for it.
+-- failed; its new generation stamp and its token were answered to just that name, and its datanodes with their storages for it.
 pub record IsLaterSetup (may_answer : Ask → Answer → Type 0) (client path : List ℕ) (first : LocatedBlock) (setup : Setup) : Type 0 where
   pub block : IsNamed may_answer client first setup.block
   pub stage : setup.stage ≡ stages.Recovery
-  pub stamped : IsStamped may_answer client first.b setup.stamp setup.token
+  pub stamped : IsStamped may_answer client first.b setup.block.generation_stamp setup.stamp setup.token
   pub placed : ArePlaced may_answer client path first setup.locs setup.storage_types setup.storage_ids
   pub named : setup.client ≡ client
 
@@ -188,7 +191,7 @@ IsAnsweredLast may_answer client path file_id last = IfSome last (IsAnsweredBloc
 
 -- Leave to write a block of the file at a path, which was answered so first, in the name of a client behind its first pipeline: to set up
 -- later ones, to have it given to a datanode that was added, and to ask for what a rebuild asks for. The block is named by generation stamps
--- that were answered for it. One datanode more is asked for, beside such as were answered for it, and those of a pipeline are; as many
+-- that were answered for it, and by that of its new pipeline behind the one to which that was answered. One datanode more is asked for, beside such as were answered for it, and those of a pipeline are; as many
 -- storages are named as datanodes.
 pub record LetsWriteBlock (allows : Request → Type 0) (may_answer : Ask → Answer → Type 0) (client path : List ℕ) (first : LocatedBlock)
     : Type 0 where
@@ -199,7 +202,8 @@ pub record LetsWriteBlock (allows : Request → Type 0) (may_answer : Ask → An
       → IsNamed may_answer client first named → ArePlaced may_answer client path first existing types storages
       → length storages ≡ length existing → allows (AskOf (asks.GetAdditionalDatanode path named existing excluded 1 client storages))
   pub names : (before now : Block) (token : Token) (nodes : List DatanodeInfo) (types : List ℕ) (storages : List (List ℕ))
-      → IsNamed may_answer client first before → IsSameBlock first.b now → IsStamped may_answer client first.b now.generation_stamp token
+      → IsNamed may_answer client first before → IsSameBlock first.b now
+      → IsStamped may_answer client first.b before.generation_stamp now.generation_stamp token
       → ArePlaced may_answer client path first nodes types storages → length storages ≡ length nodes
       → allows (AskOf (asks.UpdatePipeline client before now (map (λ node. node.id) nodes) storages))
 

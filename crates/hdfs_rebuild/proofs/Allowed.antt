@@ -25,7 +25,7 @@ use Rattle.hdfs_rebuild.specs.declared.block_plan.RebuildSettings.{RebuildSettin
 use Rattle.hdfs_rebuild.specs.declared.opening.Opening.{Opening}
 use Rattle.hdfs_rebuild.specs.Opening.{rebuilt_of, setup_for, with_stamp_of}
 use Rattle.hdfs_rebuild.specs.Plans.{KeepsPlan, StaysAnswered, block_without}
-use Rattle.hdfs_rebuild.specs.Replacing.{Completes, GivesToAdded, place_beside, place_of, with_nodes}
+use Rattle.hdfs_rebuild.specs.Replacing.{Completes, GivesToAdded, GoesOnWith, place_beside, place_of, with_nodes}
 use Rattle.hdfs_rebuild.specs.Resuming.{Restamps, with_stamp}
 use Rattle.hdfs_rebuild.specs.Trying.{Course, GivesPlan, IsRenewed, LeavesOut, LetsResume, Resumed, plan_of}
 use Rattle.hdfs_rebuild.proofs.Trying.{keeps_going_on, keeps_plan_trans, keeps_with_stamp}
@@ -36,13 +36,14 @@ allowed_as allows {ask} {ask'} same leave = subst (λ (a : Ask). allows (AskOf a
 
 module _ {may_answer : Ask → Answer → Type 0} {client : List ℕ} where
   -- a generation stamp that was answered for a block is answered for the same block by another name
-  pub stamped_as : {block named : Block} {stamp : ℕ} {token : Token} → IsSameBlock block named → IsStamped may_answer client named stamp token
-      → IsStamped may_answer client block stamp token
+  pub stamped_as : {block named : Block} {before stamp : ℕ} {token : Token} → IsSameBlock block named
+      → IsStamped may_answer client named before stamp token → IsStamped may_answer client block before stamp token
   stamped_as same stamped = record {
     named = stamped.named;
     located = stamped.located;
     answered = stamped.answered;
     same = (stamped.same.0 ∙ same.0, stamped.same.1 ∙ same.1);
+    before_is = stamped.before_is;
     stamp_is = stamped.stamp_is;
     token_is = stamped.token_is;
   }
@@ -90,12 +91,17 @@ module _ {may_answer : Ask → Answer → Type 0} {client : List ℕ} where
 
   -- with another generation stamp
   pub stays_restamped : (plan plan' : BlockPlan) {old new : Shown} → Restamps plan old plan' new
-      → IsStamped may_answer client plan'.block.b plan'.block.b.generation_stamp plan'.block.block_token → StaysAnswered may_answer client plan plan'
+      → IsStamped may_answer client plan'.block.b plan.block.b.generation_stamp plan'.block.b.generation_stamp plan'.block.block_token
+      → StaysAnswered may_answer client plan plan'
   stays_restamped plan plan' restamps stamped first answered =
       subst (λ (p : BlockPlan). IsPipelineOf may_answer client p.src first p.block) (sym restamps.is) (record {
         same = answered.same;
-        stamped = inr (stamped_as answered.same
-            (subst (λ (p : BlockPlan). IsStamped may_answer client p.block.b p.block.b.generation_stamp p.block.block_token) restamps.is stamped));
+        stamped = inr (
+          plan.block.b.generation_stamp,
+          stamped_as answered.same
+              (subst (λ (p : BlockPlan). IsStamped may_answer client p.block.b plan.block.b.generation_stamp p.block.b.generation_stamp p.block.block_token)
+              restamps.is stamped),
+        );
         placed = answered.placed;
       })
 
@@ -141,6 +147,20 @@ pub next_keeps : {plan plan' : BlockPlan} {settings : RebuildSettings} {failed :
 next_keeps {plan} {plan'} gives =
     keeps_plan_trans plan gives.whole plan' (completed_keeps gives.leaves gives.completes)
     (subst (KeepsPlan gives.whole) (sym gives.restamps.is) (keeps_with_stamp gives.whole gives.restamps.stamp gives.restamps.token))
+
+-- the plan to which a datanode was added where that was due names the block as before
+whole_names : (settings : RebuildSettings) (plan plan' : BlockPlan) (old new : Shown) → GoesOnWith plan settings old plan' new
+    → plan'.block.b ≡ plan.block.b
+whole_names settings plan plan' old new (inl none) = ap (λ (p : BlockPlan). p.block.b) none.1
+whole_names settings plan plan' old new (inr (inl alone)) = ap (λ (p : BlockPlan). p.block.b) alone.2
+whole_names settings plan plan' old new (inr (inr added)) = ap (λ (p : BlockPlan). p.block.b) added.1.2
+
+pub names_on : {plan left whole : BlockPlan} {settings : RebuildSettings} {failed : List ℕ} {excluded : List DatanodeInfo} {old new : Shown}
+    → LeavesOut plan settings failed left → Completes left settings excluded old whole new
+    → whole.block.b.generation_stamp ≡ plan.block.b.generation_stamp
+names_on {plan} {left} {whole} {settings} {failed} {excluded} {old} {new} leaves completes =
+    ap (λ (b : Block). b.generation_stamp)
+    (whole_names settings left whole old new completes.how ∙ ap (λ (p : BlockPlan). p.block.b) leaves.is)
 
 -- leave to open the next pipeline of a block
 pub lets_resume : {allows : Request → Type 0} {may_answer : Ask → Answer → Type 0} {client client' : List ℕ} (plan plan' : BlockPlan) {opening : Opening}

@@ -50,19 +50,20 @@ LeavesNone plan settings failed fault =
     ⊎ ((fault ≡ faults.AllNodes) × (without 0 failed plan.block.locs ≡ []) × (plan.rebuilds < settings.rebuild_limit))
     ⊎ ((fault ≡ faults.RebuildLimit plan.rebuilds) × (plan.rebuilds ≡ settings.rebuild_limit))
 
--- the next pipeline of a block has a generation stamp and a token of its own, and where the one before was answered, so was it
+-- the next pipeline of a block has a generation stamp and a token that were answered to the name that it had before, and where the one
+-- before was answered, so was it
 pub record IsRenewed (may_answer : Ask → Answer → Type 0) (client : List ℕ) (plan plan' : BlockPlan) : Type 0 where
-  pub stamped : IsStamped may_answer client plan'.block.b plan'.block.b.generation_stamp plan'.block.block_token
+  pub stamped : IsStamped may_answer client plan'.block.b plan.block.b.generation_stamp plan'.block.b.generation_stamp plan'.block.block_token
   pub stays : StaysAnswered may_answer client plan plan'
 
 -- Leave to set up the pipeline of a plan, which was answered, behind one that has failed: it is opened as a later one of its block, which has
--- a generation stamp so far that was answered for it too.
+-- a generation stamp so far that was answered for it too, and to which the next one was.
 pub record LetsResume (allows : Request → Type 0) (may_answer : Ask → Answer → Type 0) (client : List ℕ) (plan : BlockPlan) (opening : Opening)
     : Type 0 where
   pub first : LocatedBlock
   pub lets : LetsWriteBlock allows may_answer client plan.src first
   pub answered : IsPipelineOf may_answer client plan.src first plan.block
-  pub stamped : IsStamped may_answer client plan.block.b plan.block.b.generation_stamp plan.block.block_token
+  pub stamped : IsStamped may_answer client plan.block.b opening.stamp plan.block.b.generation_stamp plan.block.block_token
   pub before : IsNamed may_answer client first (with_stamp_of plan.block.b opening.stamp)
   pub stage : opening.stage ≡ stages.Recovery
 

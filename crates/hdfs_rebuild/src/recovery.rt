@@ -39,7 +39,7 @@ pub(crate) fn restamp<C: Cluster>(
     ensures err { IfErr result (λ fault. RestampsNot plan (C.shown cluster.old) fault (C.shown cluster.new)) }
     ensures client { SameClient namenode.old namenode.new }
     ensures stamped { IfOk result (λ plan'. IsStamped C.may_answer (name_of namenode.old) plan'.block.b
-        plan'.block.b.generation_stamp plan'.block.block_token) }
+        plan.block.b.generation_stamp plan'.block.b.generation_stamp plan'.block.block_token) }
 {
     match namenode.update_block_for_pipeline(cluster, &plan.block.b) {
         Ok(located) => Ok(with_stamp(plan, located)),

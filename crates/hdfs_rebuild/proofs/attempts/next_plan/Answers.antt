@@ -2,14 +2,14 @@
 use Rattle.std.proofs.Common.{◌≡◌, List, refl, subst, ℕ}
 use Rattle.std.proofs.lemmas.Result.{err_from_is_err_and}
 use Rattle.hdfs_cluster.specs.declared.messages.DatanodeInfo.{DatanodeInfo}
-use Rattle.hdfs_namenode.specs.Clients.{proxy_of}
+use Rattle.hdfs_namenode.specs.Clients.{name_of, proxy_of}
 use Rattle.hdfs_namenode.proofs.Services.{reaches_later, same_client_trans}
 use Rattle.hdfs_rebuild.specs.Attempts.{GivesNoPlan, standing}
 use Rattle.hdfs_rebuild.specs.Plans.{nodes_at}
 use Rattle.hdfs_rebuild.specs.Replacing.{Completes}
 use Rattle.hdfs_rebuild.specs.Resuming.{Restamps, RestampsNot}
 use Rattle.hdfs_rebuild.specs.Trying.{GivesPlan}
-use Rattle.hdfs_rebuild.proofs.Allowed.{completed_keeps, left_keeps, lets_go_on, named_over, stays_left, stays_restamped}
+use Rattle.hdfs_rebuild.proofs.Allowed.{completed_keeps, left_keeps, lets_go_on, named_over, names_on, stays_left, stays_restamped}
 use Rattle.hdfs_rebuild.proofs.Stepping.{keeps_links_trans}
 use Rattle.hdfs_rebuild.proofs.Tried.{ok_both, ok_by, err_by, incomplete, unstamped}
 use Rattle.hdfs_cluster.specs.Requests.{IsStamped}
@@ -87,13 +87,14 @@ returns-clause-err g c =
 
 pub returns-clause-answered : goal.returns-clause-answered
 returns-clause-answered g c =
-    let a = g.C.Cluster.shown c.complete.new.cluster in
-    let n = g.C.Cluster.shown c.restamp.new.cluster in
+    let whole = c.in_ok-plan-2.plan in
     ok_both c.restamp.result c.restamp.ensures.restamps
-    (subst (λ (client : List ℕ). IfOk c.restamp.result (λ plan. IsStamped g.C.Cluster.may_answer client plan.block.b plan.block.b.generation_stamp plan.block.block_token))
-    c.in_ok-plan-2.ensures.client.name c.restamp.ensures.stamped)
+    (subst (λ (client : List ℕ). IfOk c.restamp.result (λ plan. IsStamped g.C.Cluster.may_answer client plan.block.b whole.block.b.generation_stamp
+    plan.block.b.generation_stamp plan.block.block_token)) c.in_ok-plan-2.ensures.client.name c.restamp.ensures.stamped)
     (λ plan restamps stamped. record {
-      stamped = stamped;
-      stays = λ first answered. stays_restamped c.in_ok-plan-2.plan plan restamps stamped first
+      stamped =
+          subst (λ (before : ℕ). IsStamped g.C.Cluster.may_answer (name_of c.args.namenode.now) plan.block.b before plan.block.b.generation_stamp
+          plan.block.block_token) (names_on c.in_ok-plan.ensures.ok c.in_ok-plan-2.ensures.completes) stamped;
+      stays = λ first answered. stays_restamped whole plan restamps stamped first
           (c.in_ok-plan-2.ensures.answered first (stays_left c.args.plan c.in_ok-plan.plan c.in_ok-plan.ensures.ok first answered));
     })

@@ -26,13 +26,15 @@ returns-in-Err-clause-err g c = restamped_not c.args.plan c.fault_of_ask.ensures
 
 pub returns-in-Ok-clause-stamped : goal.returns-in-Ok-clause-stamped
 returns-in-Ok-clause-stamped g c =
-    subst (λ (plan : BlockPlan). IsStamped g.C.Cluster.may_answer (name_of c.args.namenode.now) plan.block.b plan.block.b.generation_stamp plan.block.block_token)
+    subst (λ (plan : BlockPlan). IsStamped g.C.Cluster.may_answer (name_of c.args.namenode.now) plan.block.b c.args.plan.block.b.generation_stamp plan.block.b.generation_stamp
+    plan.block.block_token)
     (sym c.with_stamp.ensures)
     (record {
       named = c.args.plan.block.b;
       located = c.in-Ok.located;
       answered = c.in-Ok.ensures.answered;
       same = (refl, refl);
+      before_is = refl;
       stamp_is = refl;
       token_is = refl;
     })
