@@ -3,3 +3,5 @@ pub mod Asking
 pub mod Renaming
 pub mod Numbers
 pub mod Building
+pub mod Walking
+pub mod Fetching

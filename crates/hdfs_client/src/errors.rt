@@ -5,7 +5,7 @@ ghost use Rattle.hdfs_cluster.specs.declared.errors.HdfsError.TheVariants as err
 
 use hdfs_cluster::HdfsError;
 use hdfs_wire::NoMemory;
-use std::alloc::AllocFailed;
+use std::alloc::{AllocError, AllocFailed};
 use thiserror::Error;
 
 /// Why a call of a client failed that has more causes than an ask has.
@@ -34,6 +34,14 @@ impl From<NoMemory> for ClientError {
     ghost from_gives = { λ _ e. e ≡ client_errors.Hdfs errors.NoMemory };
 
     fn from(_: NoMemory) -> Self {
+        ClientError::Hdfs(HdfsError::NoMemory)
+    }
+}
+
+impl From<AllocError> for ClientError {
+    ghost from_gives = { λ _ e. e ≡ client_errors.Hdfs errors.NoMemory };
+
+    fn from(_: AllocError) -> Self {
         ClientError::Hdfs(HdfsError::NoMemory)
     }
 }

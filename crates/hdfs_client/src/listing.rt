@@ -1,10 +1,11 @@
 //! Listing of directories.
-ghost use Rattle.std.specs.Prelude.{◌≡◌, ◌+◌, ◌≤◌, ◌<◌, true, false, Ok, IfOk, IfErr, OnOk, vec_len};
+ghost use Rattle.std.specs.Prelude.{◌≡◌, ◌+◌, ◌-◌, ◌≤◌, ◌&&◌, true, false, [], IfOk, IfErr, IfSome, OnOk, reverse, vec_len};
 ghost use Rattle.hdfs_cluster.specs.declared.asks.Ask.TheVariants as asks;
 ghost use Rattle.hdfs_cluster.specs.declared.asks.Answer.TheVariants as answers;
 ghost use Rattle.hdfs_namenode.specs.Asked.{as_answer};
 ghost use Rattle.hdfs_cluster.specs.declared.errors.HdfsError.TheVariants as errors;
-ghost use Rattle.hdfs_client.specs.Listing.{IsListFault};
+ghost use Rattle.hdfs_client.specs.Listing.{HasAll, HasSome, IsAnswered, IsListFault, has_more, last_name};
+ghost use Rattle.hdfs_client.specs.Paging.{Takes, TakesMore};
 
 use crate::client::Client;
 use crate::errors::ClientError;
@@ -14,8 +15,9 @@ use hdfs_wire::Blob;
 use std::alloc::Global;
 
 impl Client {
-    ghost use Rattle.hdfs_client.specs.Clients.{AsksAt, IsClientOf, LetsAt};
-    ghost use Rattle.hdfs_client.specs.Listing.{LetsList};
+    ghost use Rattle.hdfs_client.specs.Clients.{AsksAt, IsClientOf, LetsAt, mounts_of};
+    ghost use Rattle.hdfs_client.specs.Listing.{IsMoreThan, LetsList, LetsListAt, Lists};
+    ghost use Rattle.hdfs_client.specs.Paging.{IsFront, IsOver, IsTooLarge, Opens, Pages};
 
     /// What stands in a directory, in the namenode's order, and what stands below each directory in it right behind that where `recursive`
     /// says so; of a file, the file alone. It ends whatever a cluster tells.
@@ -29,52 +31,77 @@ impl Client {
         limit: u64,
     ) -> Result<Vec<FileStatus>, ClientError>
         requires client { IsClientOf self.old (C.shown cluster.old) }
-        requires allowed { LetsList C.allows }
+        requires allowed { LetsList C.allows C.may_answer (mounts_of self.old) recursive path.now }
+        ensures listed { IfOk result (λ found. Lists (HasAll C.may_answer (mounts_of self.old)) recursive path.now found.items) }
         ensures count { IfOk result (λ found. vec_len found ≤ limit) }
-        ensures err { IfErr result (IsListFault limit) }
+        ensures err { IfErr result (IsListFault limit (IsMoreThan C.may_answer (mounts_of self.old) recursive path.now limit)) }
         ensures client { IsClientOf self.new (C.shown cluster.new) }
     {
         let mut found = Vec::new(self.alloc);
-        let mut pending = Vec::new(self.alloc);
-        self.put_entries(cluster, path, limit, 0, &mut pending)?;
+        let mut pending = self.entries(cluster, path, limit, 0)?;
+        pending.reverse();
         'pending: while let Some(status) = pending.pop() {
-            if recursive && status.isdir {
-                let given = found.len() as u64 + 1;
-                self.put_entries(cluster, status.path.as_str(), limit, given, &mut pending)?;
-            }
+            let given = found.len() as u64 + 1;
+            self.open(cluster, &status, recursive, limit, given, &mut pending)?;
             found.push(status)?;
         }
         Ok(found)
     }
 
-    /// Puts what stands in a directory on those that are to be given, the first one on top. So many are given already.
-    fn put_entries<C: Cluster>(
+    /// Puts what stands in a directory on what is to be given, the first one on top, where that is wanted. So many are given already.
+    fn open<C: Cluster>(
         &mut self,
         cluster: &mut C,
-        path: &str,
+        status: &FileStatus,
+        recursive: bool,
         limit: u64,
         given: u64,
         pending: &mut Vec<FileStatus>,
     ) -> Result<(), ClientError>
         requires client { IsClientOf self.old (C.shown cluster.old) }
-        requires allowed { LetsList C.allows }
+        requires allowed { (recursive && status.now.isdir) ≡ true → LetsListAt C.allows (mounts_of self.old) status.now.path }
         requires room { given + vec_len pending.old ≤ limit }
+        ensures opened { OnOk result (Opens (HasAll C.may_answer (mounts_of self.old)) recursive status.now
+            (reverse pending.old.items) (reverse pending.new.items)) }
         ensures count { OnOk result (given + vec_len pending.new ≤ limit) }
-        ensures err { IfErr result (IsListFault limit) }
+        ensures err { IfErr result (IsListFault limit (IsTooLarge (HasSome C.may_answer (mounts_of self.old)) recursive status.now
+            (limit - (given + vec_len pending.old)))) }
+        ensures mounts { mounts_of self.new ≡ mounts_of self.old }
         ensures client { IsClientOf self.new (C.shown cluster.new) }
     {
-        let given = given + pending.len() as u64;
-        let mut entries = Vec::new(self.alloc);
-        let mut start = Blob::new(self.alloc);
-        'pages: while self.put_page(cluster, path, limit, given, &mut start, &mut entries)? {}
-        'entries: while let Some(entry) = entries.pop() {
-            pending.push(entry)?;
+        if recursive && status.isdir {
+            let given = given + pending.len() as u64;
+            let mut own = self.entries(cluster, status.path.as_str(), limit, given)?;
+            own.reverse();
+            pending.append(&mut own)?;
         }
         Ok(())
     }
 
-    /// Puts a page behind some entries, from a name on, and answers whether another one is to come: one does where it says so and isn't
-    /// empty. `start` is its last name then.
+    /// What stands in a directory. So many are given already, or are to be.
+    fn entries<C: Cluster>(
+        &mut self,
+        cluster: &mut C,
+        path: &str,
+        limit: u64,
+        given: u64,
+    ) -> Result<Vec<FileStatus>, ClientError>
+        requires client { IsClientOf self.old (C.shown cluster.old) }
+        requires allowed { LetsListAt C.allows (mounts_of self.old) path.now }
+        requires room { given ≤ limit }
+        ensures has { IfOk result (λ own. HasAll C.may_answer (mounts_of self.old) path.now own.items) }
+        ensures count { IfOk result (λ own. given + vec_len own ≤ limit) }
+        ensures err { IfErr result (IsListFault limit (IsOver (HasSome C.may_answer (mounts_of self.old)) path.now (limit - given))) }
+        ensures mounts { mounts_of self.new ≡ mounts_of self.old }
+        ensures client { IsClientOf self.new (C.shown cluster.new) }
+    {
+        let mut own = Vec::new(self.alloc);
+        let mut start = Blob::new(self.alloc);
+        'pages: while self.put_page(cluster, path, limit, given, &mut start, &mut own)? {}
+        Ok(own)
+    }
+
+    /// Puts a page behind some entries, from a name on, and answers whether another one is to come. `start` is its last name then.
     fn put_page<C: Cluster>(
         &mut self,
         cluster: &mut C,
@@ -82,29 +109,47 @@ impl Client {
         limit: u64,
         given: u64,
         start: &mut Blob,
-        entries: &mut Vec<FileStatus>,
+        own: &mut Vec<FileStatus>,
     ) -> Result<bool, ClientError>
         requires client { IsClientOf self.old (C.shown cluster.old) }
-        requires allowed { LetsList C.allows }
-        requires room { given + vec_len entries.old ≤ limit }
-        ensures count { OnOk result (given + vec_len entries.new ≤ limit) }
-        ensures more { IfOk result (λ more. more ≡ true → vec_len entries.old < vec_len entries.new) }
-        ensures err { IfErr result (IsListFault limit) }
+        requires allowed { LetsListAt C.allows (mounts_of self.old) path.now }
+        requires room { given + vec_len own.old ≤ limit }
+        requires front { IsFront C.may_answer (mounts_of self.old) path.now start.old own.old.items }
+        ensures came { IfOk result (Pages C.may_answer (mounts_of self.old) path.now start.new own.old.items own.new.items) }
+        ensures count { OnOk result (given + vec_len own.new ≤ limit) }
+        ensures err { IfErr result (IsListFault limit (IsOver (HasSome C.may_answer (mounts_of self.old)) path.now (limit - given))) }
+        ensures mounts { mounts_of self.new ≡ mounts_of self.old }
         ensures client { IsClientOf self.new (C.shown cluster.new) }
     {
-        let before = entries.len();
         let page = self.page(cluster, path, start.as_slice())?;
-        let Some(page) = page else {
-            return Err(ClientError::Hdfs(not_found(self.alloc, path)));
-        };
-        let more = page.remaining_entries > 0;
+        let more = has_more(&page);
         set_start(self.alloc, &page, start)?;
-        take_page(self.alloc, path, page, limit, given, entries)?;
-        Ok(more && before < entries.len())
+        take_page(self.alloc, path, page, limit, given, own)?;
+        Ok(more)
     }
 
     /// A page of a directory, from a name on.
     fn page<C: Cluster>(
+        &mut self,
+        cluster: &mut C,
+        path: &str,
+        start: &[u8],
+    ) -> Result<DirList, HdfsError>
+        requires client { IsClientOf self.old (C.shown cluster.old) }
+        requires allowed { LetsListAt C.allows (mounts_of self.old) path.now }
+        ensures answered { IfOk result (IsAnswered C.may_answer (mounts_of self.old) path.now start.now) }
+        ensures mounts { mounts_of self.new ≡ mounts_of self.old }
+        ensures client { IsClientOf self.new (C.shown cluster.new) }
+    {
+        match self.ask_page(cluster, path, start) {
+            Ok(Some(page)) => Ok(page),
+            Ok(None) => Err(not_found(self.alloc, path)),
+            Err(error) => Err(error),
+        }
+    }
+
+    /// Asks for a page of a directory, from a name on.
+    fn ask_page<C: Cluster>(
         &mut self,
         cluster: &mut C,
         path: &str,
@@ -114,6 +159,7 @@ impl Client {
         requires allowed { LetsAt C.allows (λ at. asks.GetListing at start.now false) self.old path.now }
         ensures asked { AsksAt C.serves false (λ at. asks.GetListing at start.now false) self.old path.now cluster.old
             (as_answer answers.GetListing result) self.new cluster.new }
+        ensures answered { IfOk result (λ found. IfSome found (IsAnswered C.may_answer (mounts_of self.old) path.now start.now)) }
         ensures client { IsClientOf self.new (C.shown cluster.new) }
     {
         let to = self.resolve(path)?;
@@ -121,9 +167,17 @@ impl Client {
     }
 }
 
+/// Whether another page is to come behind this one.
+fn has_more(page: &DirList) -> bool
+    ensures { result ≡ has_more page.now }
+{
+    page.remaining_entries > 0 && page.partial_listing.as_slice().len() > 0
+}
+
 /// The name from which the next page goes on.
 fn set_start(alloc: Global, page: &DirList, start: &mut Blob) -> Result<(), HdfsError>
-    ensures { IfErr result (λ e. e ≡ errors.NoMemory) }
+    ensures ok { OnOk result (start.new ≡ last_name start.old page.now.partial_listing) }
+    ensures err { IfErr result (λ e. e ≡ errors.NoMemory) }
 {
     if let Some(last) = page.partial_listing.as_slice().last() {
         *start = last.path.copy(alloc)?;
@@ -131,24 +185,27 @@ fn set_start(alloc: Global, page: &DirList, start: &mut Blob) -> Result<(), Hdfs
     Ok(())
 }
 
-/// Puts the entries of a page behind others. So many are given already.
+/// Puts the entries of a page behind others. So many are given already, or are to be.
 fn take_page(
     alloc: Global,
     path: &str,
     page: DirList,
     limit: u64,
     given: u64,
-    entries: &mut Vec<FileStatus>,
+    own: &mut Vec<FileStatus>,
 ) -> Result<(), ClientError>
-    requires { given + vec_len entries.old ≤ limit }
-    ensures count { OnOk result (given + vec_len entries.new ≤ limit) }
-    ensures err { IfErr result (IsListFault limit) }
+    requires { given + vec_len own.old ≤ limit }
+    ensures taken { OnOk result (Takes path.now page.partial_listing [] own.old.items own.new.items) }
+    ensures count { OnOk result (given + vec_len own.new ≤ limit) }
+    ensures err { IfErr result (IsListFault limit (TakesMore path.now page.partial_listing own.old.items (limit - given))) }
 {
-    'messages: for message in page.partial_listing.into_vec() {
-        if limit - given <= entries.len() as u64 {
+    let mut left = page.partial_listing.into_vec();
+    left.reverse();
+    'messages: while let Some(message) = left.pop() {
+        own.push(file_status(alloc, path, message)?)?;
+        if limit - given < own.len() as u64 {
             return Err(ClientError::TooMany { limit });
         }
-        entries.push(file_status(alloc, path, message)?)?;
     }
     Ok(())
 }

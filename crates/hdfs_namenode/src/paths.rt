@@ -82,6 +82,8 @@ impl NamenodeProtocol {
         requires allowed { C.allows (AskOf (asks.GetListing src.now start_after.now need_location)) }
         ensures asked { AskedOnce C.serves false (asks.GetListing src.now start_after.now need_location) (through self.old cluster.old)
             (as_answer answers.GetListing result) (through self.new cluster.new) }
+        ensures answered { IfOk result (λ page. C.may_answer
+            (asks.GetListing src.now start_after.now need_location) (answers.GetListing page)) }
         ensures keeps { SameClient self.old self.new }
     {
         let ask = Ask::GetListing {

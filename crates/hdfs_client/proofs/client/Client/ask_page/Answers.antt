@@ -1,7 +1,7 @@
 -- One ask of the service to which the path leads.
 use Rattle.std.proofs.Common.{false, refl}
 use Rattle.hdfs_client.proofs.Asking.{asks_at, asks_nothing, client_later, for_memory, is_service}
-use Rattle.hdfs_client.proofs.client.Client.page.Goals as goal
+use Rattle.hdfs_client.proofs.client.Client.ask_page.Goals as goal
 
 pub returns-in_err-to-clause-asked : goal.returns-in_err-to-clause-asked
 returns-in_err-to-clause-asked g c =
