@@ -3,3 +3,4 @@ pub mod Asking
 pub mod Renaming
 pub mod Numbers
 pub mod Building
+pub mod ByReaders

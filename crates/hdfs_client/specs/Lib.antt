@@ -7,3 +7,4 @@ pub mod Places
 pub mod Services
 pub mod Building
 pub mod Listing
+pub mod Readers
