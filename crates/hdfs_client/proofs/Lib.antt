@@ -5,3 +5,4 @@ pub mod Numbers
 pub mod Building
 pub mod Walking
 pub mod Fetching
+pub mod ByReaders

@@ -8,3 +8,4 @@ pub mod Services
 pub mod Building
 pub mod Listing
 pub mod Paging
+pub mod Readers

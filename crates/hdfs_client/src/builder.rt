@@ -14,6 +14,7 @@ use crate::build_error::BuildError;
 use crate::client::Client;
 use crate::places::{Place, place_at};
 use crate::service_plan::{ServicePlan, service_of};
+use hdfs_connections::ConnectionCache;
 use hdfs_namenode::{NameServiceProxy, NamenodeProtocol};
 use hdfs_names::{Configuration, MountLink, MountTable, NamesFault, build_home_dir};
 use hdfs_wire::{List, Text};
@@ -193,6 +194,7 @@ fn client_of<G: Rng>(
         services,
         addresses: service.namenodes.into_vec(),
         replacement: config.get_replace_datanode_on_failure_policy(),
+        connections: ConnectionCache::new(alloc),
     })
 }
 

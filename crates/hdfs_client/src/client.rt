@@ -4,12 +4,14 @@ ghost use Rattle.std.specs.List.{list_all};
 ghost use Rattle.hdfs_client.specs.Linked.{are_linked, is_linked, is_nothing, is_rooted, is_table};
 
 use hdfs_cluster::Cluster;
+use hdfs_connections::ConnectionCache;
 use hdfs_namenode::NamenodeProtocol;
 use hdfs_names::{MountLink, MountTable, NamenodeAddress, ReplaceDatanodeOnFailure, Resolved};
 use hdfs_wire::NoMemory;
 use std::alloc::Global;
 
-/// A client of a file system: it asks the name services to which its mounts lead.
+/// A client of a file system: it asks the name services to which its mounts lead, and reads from datanodes over the connections that it
+/// keeps.
 #[derive(Drop)]
 pub struct Client {
     pub(crate) alloc: Global,
@@ -17,6 +19,8 @@ pub struct Client {
     pub(crate) services: Vec<NamenodeProtocol>,
     pub(crate) addresses: Vec<NamenodeAddress>,
     pub(crate) replacement: ReplaceDatanodeOnFailure,
+    // those over which blocks were read
+    pub(crate) connections: ConnectionCache,
     ghost rooted: { is_rooted mounts.home_dir ≡ true },
     ghost caught: { mounts.fallback.viewfs_path ≡ [] },
     ghost linked: { are_linked (vec_len services) mounts ≡ true },
@@ -49,6 +53,7 @@ impl Client {
             services,
             addresses,
             replacement,
+            connections: ConnectionCache::new(alloc),
         })
     }
 

@@ -1,4 +1,4 @@
-//! A client of a file system, over any cluster: paths, mounts, and the calls about what stands at a path.
+//! A client of a file system, over any cluster: paths, mounts, the calls about what stands at a path, and files that are read.
 #![tactic(auto)]
 
 mod acl_messages;
@@ -9,9 +9,11 @@ mod builder;
 mod client;
 mod constructors;
 mod errors;
+mod file_reader;
 mod listing;
 mod paths;
 mod places;
+mod reading;
 mod service_plan;
 mod status;
 
@@ -19,4 +21,5 @@ pub use build_error::BuildError;
 pub use builder::ClientBuilder;
 pub use client::Client;
 pub use errors::ClientError;
+pub use file_reader::FileReader;
 pub use status::FileStatus;
