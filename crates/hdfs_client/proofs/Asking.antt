@@ -43,12 +43,12 @@ pub found_at : (services : List NamenodeProtocol) (k : ℕ) (namenode : Namenode
     → slice_get services k ≡ Some namenode
 found_at services k namenode low is = slice_get-get_or services k namenode low ∙ ap (λ (n : NamenodeProtocol). Some n) (sym is)
 
-put_there : (services : List NamenodeProtocol) (k : ℕ) (namenode : NamenodeProtocol) → k < length services → slice_get (set services k namenode) k ≡ Some namenode
+pub put_there : (services : List NamenodeProtocol) (k : ℕ) (namenode : NamenodeProtocol) → k < length services → slice_get (set services k namenode) k ≡ Some namenode
 put_there services k namenode low =
     slice_get-get_or (set services k namenode) k namenode (omega (arith, length-set services k namenode))
     ∙ ap (λ (n : NamenodeProtocol). Some n) (get_or-set_same services k namenode namenode low)
 
-put_elsewhere : (services : List NamenodeProtocol) (k other : ℕ) (namenode : NamenodeProtocol) → other ≢ k
+pub put_elsewhere : (services : List NamenodeProtocol) (k other : ℕ) (namenode : NamenodeProtocol) → other ≢ k
     → slice_get (set services k namenode) other ≡ slice_get services other
 put_elsewhere [] k other namenode apart = refl
 put_elsewhere (first ∷ services) zero zero namenode apart = absurd (apart refl)

@@ -3,3 +3,9 @@ pub mod Asking
 pub mod Renaming
 pub mod Numbers
 pub mod Building
+pub mod InLimits
+pub mod Begun
+pub mod Quiet
+pub mod Kept
+pub mod Serving
+pub mod Written

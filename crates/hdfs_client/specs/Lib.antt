@@ -7,3 +7,5 @@ pub mod Places
 pub mod Services
 pub mod Building
 pub mod Listing
+pub mod Opening
+pub mod Writing

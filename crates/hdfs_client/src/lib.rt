@@ -10,13 +10,16 @@ mod client;
 mod constructors;
 mod errors;
 mod listing;
+mod opening;
 mod paths;
 mod places;
 mod service_plan;
 mod status;
+mod writing;
 
 pub use build_error::BuildError;
 pub use builder::ClientBuilder;
 pub use client::Client;
 pub use errors::ClientError;
 pub use status::FileStatus;
+pub use writing::FileWriter;
