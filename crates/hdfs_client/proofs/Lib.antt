@@ -6,3 +6,9 @@ pub mod Building
 pub mod Walking
 pub mod Fetching
 pub mod ByReaders
+pub mod InLimits
+pub mod Begun
+pub mod Quiet
+pub mod Kept
+pub mod Serving
+pub mod Written

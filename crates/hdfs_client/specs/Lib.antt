@@ -9,3 +9,5 @@ pub mod Building
 pub mod Listing
 pub mod Paging
 pub mod Readers
+pub mod Opening
+pub mod Writing

@@ -11,11 +11,13 @@ mod constructors;
 mod errors;
 mod file_reader;
 mod listing;
+mod opening;
 mod paths;
 mod places;
 mod reading;
 mod service_plan;
 mod status;
+mod writing;
 
 pub use build_error::BuildError;
 pub use builder::ClientBuilder;
@@ -23,3 +25,4 @@ pub use client::Client;
 pub use errors::ClientError;
 pub use file_reader::FileReader;
 pub use status::FileStatus;
+pub use writing::FileWriter;

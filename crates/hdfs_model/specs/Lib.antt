@@ -3,6 +3,7 @@ pub mod Causes
 pub mod Folds
 pub mod Headline
 pub mod Limits
+pub mod Opening
 pub mod Owing
 pub mod Scenes
 pub mod Sessions

@@ -1,0 +1,101 @@
+-- A client that has used one of its services stays a client of its cluster, and its writers stay its own.
+use Rattle.std.proofs.Common.{◌≡◌, ◌≢◌, ◌⊎◌, inl, inr, ℕ, zero, suc, ◌<◌, ◌==◌, length, Bool, true, false, List, [], ◌∷◌, get_or, set, Option, Some, slice_get, refl, sym, ◌∙◌, ap, subst, arith}
+use Rattle.std.proofs.lemmas.Bool.{cases_Bool, false≢true}
+use Rattle.std.proofs.lemmas.Bool.Decides.{Decides-eqb}
+use Rattle.hdfs_cluster.specs.Shown.{Later, Shown}
+use Rattle.hdfs_file_writer.specs.declared.file_writer.FileWriter as inner
+use Rattle.hdfs_names.specs.declared.mounts.Resolved.{Resolved}
+use Rattle.hdfs_namenode.specs.Asked.{IsServiceOf, SameService}
+use Rattle.hdfs_namenode.specs.Clients.{proxy_of}
+use Rattle.hdfs_namenode.specs.declared.protocol.NamenodeProtocol.{NamenodeProtocol}
+use Rattle.hdfs_namenode.proofs.Services.{same_service_refl, service_later}
+use Rattle.hdfs_client.specs.Clients.{IsClientOf, SameBut, addresses_of, leads_to, mounts_of, replacement_of, service_at, services_of}
+use Rattle.hdfs_client.specs.Writing.{OpensAt, open_of, service_of}
+use Rattle.hdfs_client.specs.declared.client.Client.{Client}
+use Rattle.hdfs_client.specs.declared.writing.FileWriter.{FileWriter}
+use Rattle.hdfs_client.proofs.Asking.{found_at, put_elsewhere, put_there, same_some}
+
+-- the service of this number, by what an index gives
+pub at_service : (client : Client) (k : ℕ) (namenode : NamenodeProtocol) → k < client.services.len → namenode ≡ get_or (services_of client) k namenode
+    → service_at client k ≡ Some namenode
+at_service client k namenode low is = found_at (services_of client) k namenode (subst (λ (n : ℕ). k < n) client.services.ok.0 low) is
+
+-- One of a client's services was used: which one, and what it is then.
+pub record Used (client : Client) (k : ℕ) (before after : NamenodeProtocol) (client' : Client) : Type 0 where
+  pub was : service_at client k ≡ Some before
+  pub is : service_at client' k ≡ Some after
+  pub others : SameBut k client client'
+
+pub used : (client client' : Client) (k : ℕ) (before after : NamenodeProtocol) → k < client.services.len → before ≡ get_or (services_of client) k before
+    → services_of client' ≡ set (services_of client) k after
+    → (mounts_of client' ≡ mounts_of client) × (addresses_of client' ≡ addresses_of client) × (replacement_of client' ≡ replacement_of client)
+    → Used client k before after client'
+used client client' k before after low is put rest =
+    let within : k < length (services_of client) = subst (λ (n : ℕ). k < n) client.services.ok.0 low in record {
+      was = found_at (services_of client) k before within is;
+      is = ap (λ (services : List NamenodeProtocol). slice_get services k) put ∙ put_there (services_of client) k after within;
+      others = record {
+        others = λ other apart. ap (λ (services : List NamenodeProtocol). slice_get services other) put
+            ∙ put_elsewhere (services_of client) k other after apart;
+        mounts = rest.0;
+        addresses = rest.1;
+        replacement = rest.2;
+      };
+    }
+
+pub below_some : (services : List NamenodeProtocol) (k : ℕ) (namenode : NamenodeProtocol) → slice_get services k ≡ Some namenode → k < length services
+below_some [] k namenode is = absurd (cc is)
+below_some (first ∷ services) zero namenode is = omega arith
+below_some (first ∷ services) (suc k) namenode is = let h = below_some services k namenode is in omega (arith, h)
+
+-- the same of one that is known to be there
+pub used_at : (client client' : Client) (k : ℕ) (namenode before after : NamenodeProtocol) → service_at client k ≡ Some namenode
+    → before ≡ get_or (services_of client) k before → services_of client' ≡ set (services_of client) k after
+    → (mounts_of client' ≡ mounts_of client) × (addresses_of client' ≡ addresses_of client) × (replacement_of client' ≡ replacement_of client)
+    → Used client k before after client'
+used_at client client' k namenode before after at =
+    used client client' k before after (subst (λ (n : ℕ). k < n) (sym client.services.ok.0) (below_some (services_of client) k namenode at))
+
+-- what is so of a file that is open, and of its service, once that stands in its place again
+pub of_put : (P : NamenodeProtocol → inner.FileWriter → Type 0) (services : List NamenodeProtocol) (k : ℕ) (after : NamenodeProtocol) {file : inner.FileWriter}
+    → k < length services → P after file → (other : inner.FileWriter) → Some file ≡ Some other
+    → (namenode : NamenodeProtocol) × (slice_get (set services k after) k ≡ Some namenode) × P namenode other
+of_put P services k after {file} within so other there =
+    let same : file ≡ other = cc in
+    (after, put_there services k after within, subst (P after) same so)
+
+-- it stays a client of the cluster
+pub client_goes : {client client' : Client} {k : ℕ} {before after : NamenodeProtocol} {old new : Shown} → IsClientOf client old
+    → Used client k before after client' → SameService (proxy_of before) (proxy_of after) → Later old new → IsClientOf client' new
+client_goes {client} {client'} {k} {before} {after} {old} {new} of at same later = record {
+  many = later.namenodes ∙ of.many ∙ ap length (sym at.others.addresses);
+  each = λ i namenode is. by i namenode is (cases_Bool (i == k));
+}
+  where
+    by : (i : ℕ) (namenode : NamenodeProtocol) → service_at client' i ≡ Some namenode → ((i == k) ≡ true) ⊎ ((i == k) ≡ false) → IsServiceOf (proxy_of namenode) new
+    by i namenode is (inl here) =
+        let there : service_at client' i ≡ Some after = ap (λ (n : ℕ). service_at client' n) ((Decides-eqb i k).0 here) ∙ at.is in
+        subst (λ (n : NamenodeProtocol). IsServiceOf (proxy_of n) new) (same_some namenode after (service_at client' i) is there)
+        (service_later (proxy_of before) (proxy_of after) old new same later (of.each k before at.was))
+    by i namenode is (inr apart) =
+        let other : i ≢ k = λ e. false≢true (sym apart ∙ (Decides-eqb i k).1 e) in
+        service_later (proxy_of namenode) (proxy_of namenode) old new (same_service_refl (proxy_of namenode)) later
+        (of.each i namenode (sym (at.others.others i other) ∙ is))
+
+-- a file was opened so
+pub opens_at : (Opens : List ℕ → NamenodeProtocol → inner.FileWriter → NamenodeProtocol → Type 0) {client client' : Client} {src : List ℕ} {to : Resolved}
+    {before after : NamenodeProtocol} {file : inner.FileWriter} (writer : FileWriter) → leads_to client src ≡ Some to → Used client to.service before after client'
+    → open_of writer ≡ Some file → service_of writer ≡ to.service → Opens to.path before file after → OpensAt Opens client src writer client'
+opens_at Opens {client} {client'} {src} {to} {before} {after} {file} writer leads at opened service opens = record {
+  to = to;
+  leads = leads;
+  before = before;
+  was = at.was;
+  after = after;
+  is = at.is;
+  file = file;
+  opened = opened;
+  service = service;
+  opens = opens;
+  others = at.others;
+}

@@ -1,0 +1,58 @@
+-- A file is opened by the service to which the path leads.
+use Rattle.std.proofs.Common.{◌≡◌, ℕ, ◌<◌, length, List, false, refl, sym, subst}
+use Rattle.hdfs_client.specs.Clients.{services_of}
+use Rattle.hdfs_file_writer.specs.Writers.{IsAnswered, Stands}
+use Rattle.hdfs_file_writer.specs.declared.file_writer.FileWriter as inner
+use Rattle.hdfs_namenode.specs.Asked.{ReachesAll}
+use Rattle.hdfs_namenode.specs.Clients.{name_of, proxy_of}
+use Rattle.hdfs_namenode.specs.declared.protocol.NamenodeProtocol.{NamenodeProtocol}
+use Rattle.hdfs_rebuild.specs.declared.block_plan.RebuildSettings.{RebuildSettings}
+use Rattle.hdfs_client.specs.Opening.{OpensBy}
+use Rattle.hdfs_client.proofs.Kept.{goes_reaches}
+use Rattle.hdfs_client.proofs.Serving.{at_service, client_goes, of_put, opens_at, used}
+use Rattle.hdfs_client.proofs.client.Client.append.Goals as goal
+
+pub append_by-requires-clause-allowed : goal.append_by-requires-clause-allowed
+append_by-requires-clause-allowed g c =
+    c.requires.allowed c.in_ok-to.to c.index_mut-namenode.result.now c.in_ok-to.ensures.0
+    (at_service c.args.self.now c.in_ok-to.to.service c.index_mut-namenode.result.now c.in_ok-to.ensures.1 c.index_mut-namenode.ensures.value)
+
+pub returns-in_err-file-clause-client : goal.returns-in_err-file-clause-client
+returns-in_err-file-clause-client g c =
+    client_goes c.requires.client.0
+    (used c.args.self.now _ c.in_ok-to.to.service c.index_mut-namenode.result.now c.append_by.new.namenode c.in_ok-to.ensures.1
+    c.index_mut-namenode.ensures.value refl (refl, refl, refl)) c.append_by.ensures.keeps.0.service c.append_by.ensures.keeps.1
+
+pub returns-clause-opened : goal.returns-clause-opened
+returns-clause-opened g c =
+    opens_at _ _ c.in_ok-to.ensures.0
+    (used c.args.self.now _ c.in_ok-to.to.service c.index_mut-namenode.result.now c.append_by.new.namenode c.in_ok-to.ensures.1
+    c.index_mut-namenode.ensures.value refl (refl, refl, refl)) refl refl
+    (subst (λ (r : RebuildSettings). OpensBy g.C.Cluster.serves c.in_ok-to.to.path r c.index_mut-namenode.result.now c.args.cluster.now
+    c.in_ok-file.file c.append_by.new.namenode c.append_by.new.cluster) c.rebuilding-rebuilding.ensures c.in_ok-file.ensures.opened)
+
+pub returns-clause-begins : goal.returns-clause-begins
+returns-clause-begins g c =
+    opens_at _ _ c.in_ok-to.ensures.0
+    (used c.args.self.now _ c.in_ok-to.to.service c.index_mut-namenode.result.now c.append_by.new.namenode c.in_ok-to.ensures.1
+    c.index_mut-namenode.ensures.value refl (refl, refl, refl)) refl refl c.in_ok-file.ensures.begins
+
+pub returns-clause-stands : goal.returns-clause-stands
+returns-clause-stands g c =
+    let client = c.args.self.now in
+    let k = c.in_ok-to.to.service in
+    let within : k < length (services_of client) = subst (λ (n : ℕ). k < n) client.services.ok.0 c.in_ok-to.ensures.1 in
+    let was = at_service client k c.index_mut-namenode.result.now c.in_ok-to.ensures.1 c.index_mut-namenode.ensures.value in
+    let keeps = c.append_by.ensures.keeps in
+    let reaches = goes_reaches keeps (c.requires.client.1 c.in_ok-to.to c.index_mut-namenode.result.now c.in_ok-to.ensures.0 was) in (
+      of_put (λ namenode file. ReachesAll (proxy_of namenode) (g.C.Cluster.shown c.append_by.new.cluster) × Stands (g.C.Cluster.shown c.append_by.new.cluster) file)
+          (services_of client) k c.append_by.new.namenode within (reaches, c.in_ok-file.ensures.stands),
+      of_put (λ namenode file. IsAnswered g.C.Cluster.may_answer (name_of namenode) file) (services_of client) k c.append_by.new.namenode within
+          (subst (λ (n : List ℕ). IsAnswered g.C.Cluster.may_answer n c.in_ok-file.file) (sym keeps.0.name) c.in_ok-file.ensures.answered),
+    )
+
+pub returns-clause-client : goal.returns-clause-client
+returns-clause-client g c =
+    client_goes c.requires.client.0
+    (used c.args.self.now _ c.in_ok-to.to.service c.index_mut-namenode.result.now c.append_by.new.namenode c.in_ok-to.ensures.1
+    c.index_mut-namenode.ensures.value refl (refl, refl, refl)) c.append_by.ensures.keeps.0.service c.append_by.ensures.keeps.1

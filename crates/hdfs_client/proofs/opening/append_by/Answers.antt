@@ -1,0 +1,106 @@
+-- The goals of append_by: the defaults, the ask, and the writer.
+use Rattle.std.proofs.Common.{◌≡◌, ℕ, true, Option, Some, None, Ok, refl, sym, ◌∙◌, ap, subst}
+use Rattle.std.specs.Prelude.{unwrap_or}
+use Rattle.hdfs_cluster.specs.declared.asks.Answer.TheVariants as answers
+use Rattle.hdfs_cluster.specs.declared.asks.Ask.{Ask}
+use Rattle.hdfs_cluster.specs.declared.asks.Ask.TheVariants as asks
+use Rattle.hdfs_cluster.specs.declared.messages.Appended.{Appended}
+use Rattle.hdfs_cluster.specs.declared.messages.FileStatusMsg.{FileStatusMsg}
+use Rattle.hdfs_cluster.specs.declared.messages.LocatedBlock.{LocatedBlock}
+use Rattle.hdfs_file_writer.specs.Writers.{tail_opened}
+use Rattle.hdfs_client.specs.Opening.{sizes_by}
+use Rattle.hdfs_namenode.specs.Asked.{AskedOnce}
+use Rattle.hdfs_namenode.specs.Clients.{through}
+use Rattle.hdfs_namenode.proofs.Relayed.{came_as}
+use Rattle.hdfs_client.proofs.Begun.{begun_again}
+use Rattle.hdfs_client.proofs.Kept.{goes_reaches, goes_trans, going_on, name_from-client}
+use Rattle.hdfs_client.proofs.opening.append_by.Goals as goal
+
+whole : (a : Appended) (block : Option LocatedBlock) (stat : Option FileStatusMsg) → a.block ≡ block → a.stat ≡ stat → a ≡ record { block = block; stat = stat }
+whole a block stat one two =
+    ap (λ (b : Option LocatedBlock). record { block = b; stat = a.stat }) one ∙ ap (λ (s : Option FileStatusMsg). record { block = block; stat = s }) two
+
+pub returns-in_err-block-clause-keeps : goal.returns-in_err-block-clause-keeps
+returns-in_err-block-clause-keeps g c =
+    let first = c.in_ok-defaults.ensures.keeps in
+    goes_trans first (name_from-client c.append.ensures.keeps, (c.append.ensures.came (goes_reaches first c.requires.reaches)).relays.leaves.later)
+
+pub returns-in_err-from_str-clause-keeps : goal.returns-in_err-from_str-clause-keeps
+returns-in_err-from_str-clause-keeps g c =
+    let first = c.in_ok-defaults.ensures.keeps in
+    goes_trans first (name_from-client c.append.ensures.keeps, (c.append.ensures.came (goes_reaches first c.requires.reaches)).relays.leaves.later)
+
+pub returns-in_default-clause-keeps : goal.returns-in_default-clause-keeps
+returns-in_default-clause-keeps g c =
+    let first = c.in_ok-defaults.ensures.keeps in
+    goes_trans first (name_from-client c.append.ensures.keeps, (c.append.ensures.came (goes_reaches first c.requires.reaches)).relays.leaves.later)
+
+pub refuse_opened-requires-clause-reaches : goal.refuse_opened-requires-clause-reaches
+refuse_opened-requires-clause-reaches g c =
+    let first = c.in_ok-defaults.ensures.keeps in
+    let reaches = goes_reaches first c.requires.reaches in
+    goes_reaches (name_from-client c.append.ensures.keeps, (c.append.ensures.came reaches).relays.leaves.later) reaches
+
+pub refuse_opened-requires-clause-stands : goal.refuse_opened-requires-clause-stands
+refuse_opened-requires-clause-stands g c =
+    (c.appended-writer.ensures.stands (g.C.Cluster.shown c.append.new.cluster), c.appended-writer.ensures.idle.1)
+
+pub returns-then-told-clause-keeps : goal.returns-then-told-clause-keeps
+returns-then-told-clause-keeps g c =
+    let first = c.in_ok-defaults.ensures.keeps in
+    goes_trans first (goes_trans
+    (name_from-client c.append.ensures.keeps, (c.append.ensures.came (goes_reaches first c.requires.reaches)).relays.leaves.later)
+    c.refuse_opened.ensures.keeps)
+
+pub returns-clause-opened : goal.returns-clause-opened
+returns-clause-opened g c =
+    let first = c.in_ok-defaults.ensures.keeps in
+    let d = c.in_ok-defaults.defaults in
+    let stat = c.in-Some.stat in
+    let is : c.in_ok-block.field-0 ≡ record { block = c.in_ok-block.block; stat = Some stat } =
+    whole c.in_ok-block.field-0 c.in_ok-block.block (Some stat) c.in_ok-block.block-is c.in-Some.is in
+    record {
+      defaults = d;
+      between = c.limited_defaults.new.namenode;
+      mid = c.limited_defaults.new.cluster;
+      knows = c.in_ok-defaults.ensures.knows;
+      block = c.in_ok-block.block;
+      status = stat;
+      asked = subst (λ (a : Ask). AskedOnce g.C.Cluster.serves true a (through c.limited_defaults.new.namenode c.limited_defaults.new.cluster)
+          (Ok (answers.Append (record { block = c.in_ok-block.block; stat = Some stat }))) (through c.append.new.self c.append.new.cluster))
+          (going_on c.as_str.ensures first.0.name)
+          (subst (λ (x : Appended). AskedOnce g.C.Cluster.serves true (asks.Append c.as_str.result.now c.limited_defaults.new.namenode.client 4)
+          (through c.limited_defaults.new.namenode c.limited_defaults.new.cluster) (Ok (answers.Append x)) (through c.append.new.self c.append.new.cluster))
+          is c.in_ok-block.ensures.asked);
+      plain = sym c.told_by-told.ensures.encrypted ∙ c.if-told.false;
+      fresh = record {
+        at = c.appended-writer.ensures.path.0;
+        id = c.appended-writer.ensures.path.2 ∙ c.told_by-told.ensures.id;
+        with = c.appended-writer.ensures.path.1 ∙ c.sizes_by-sizes.ensures
+            ∙ ap (λ (x : ℕ). sizes_by c.args.rebuilding d x c.unwrap_or-2.result) c.unwrap_or.ensures
+            ∙ ap (λ (x : ℕ). sizes_by c.args.rebuilding d (unwrap_or stat.block_replication 0) x) c.unwrap_or-2.ensures;
+        stands = c.appended-writer.ensures.tail ∙ ap (λ (b : Option LocatedBlock). tail_opened b None) c.in_ok-block.block-is;
+        idle = c.appended-writer.ensures.idle.0;
+        fine = c.appended-writer.ensures.idle.1;
+      };
+    }
+
+pub returns-clause-begins : goal.returns-clause-begins
+returns-clause-begins g c =
+    let first = c.in_ok-defaults.ensures.keeps in
+    let is : c.in_ok-block.field-0 ≡ record { block = c.in_ok-block.block; stat = Some c.in-Some.stat } =
+    whole c.in_ok-block.field-0 c.in_ok-block.block (Some c.in-Some.stat) c.in_ok-block.block-is c.in-Some.is in
+    begun_again (g.C.Cluster.shown c.args.cluster.now) (g.C.Cluster.shown c.limited_defaults.new.cluster) (g.C.Cluster.shown c.append.new.cluster)
+    c.in_ok-defaults.ensures.picture c.args.path c.args.namenode.now.client c.appended-writer.result c.in_ok-block.block (Some c.in-Some.stat)
+    (g.met.C.Cluster.sound c.limited_defaults.new.cluster)
+    (c.appended-writer.ensures.tail ∙ ap (λ (b : Option LocatedBlock). tail_opened b None) c.in_ok-block.block-is)
+    (came_as (going_on c.as_str.ensures first.0.name) (ap (λ (x : Appended). Ok (answers.Append x)) is)
+    (c.in_ok-block.ensures.came (goes_reaches first c.requires.reaches)))
+
+pub returns-clause-stands : goal.returns-clause-stands
+returns-clause-stands g c = c.appended-writer.ensures.stands (g.C.Cluster.shown c.append.new.cluster)
+
+pub returns-clause-keeps : goal.returns-clause-keeps
+returns-clause-keeps g c =
+    let first = c.in_ok-defaults.ensures.keeps in
+    goes_trans first (name_from-client c.append.ensures.keeps, (c.append.ensures.came (goes_reaches first c.requires.reaches)).relays.leaves.later)

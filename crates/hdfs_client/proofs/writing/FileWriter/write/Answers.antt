@@ -1,0 +1,43 @@
+-- A write by the service whose file it is.
+use Rattle.std.proofs.Common.{◌≡◌, ℕ, List, refl, sym, subst}
+use Rattle.hdfs_file_writer.specs.Writers.{IsAnswered, Stands}
+use Rattle.hdfs_namenode.specs.Asked.{ReachesAll}
+use Rattle.hdfs_namenode.specs.Clients.{name_of, proxy_of}
+use Rattle.hdfs_namenode.specs.declared.protocol.NamenodeProtocol.{NamenodeProtocol}
+use Rattle.hdfs_namenode.proofs.Services.{reaches_later}
+use Rattle.hdfs_client.specs.Clients.{service_at, services_of}
+use Rattle.hdfs_client.proofs.Asking.{found_at, same_some}
+use Rattle.hdfs_client.proofs.Serving.{below_some, client_goes, of_put, used_at}
+use Rattle.hdfs_client.proofs.Written.{write_later}
+use Rattle.hdfs_client.proofs.writing.FileWriter.write.Goals as goal
+
+pub returns-clause-client : goal.returns-clause-client
+returns-clause-client g c =
+    let by = c.requires.writer.0 c.in-Some.file c.in-Some.is in
+    client_goes c.requires.client
+    (used_at c.args.client.now _ c.args.self.now.service by.0 c.index_mut.result.now c.write.new.namenode by.1 c.index_mut.ensures.value refl (refl, refl, refl))
+    c.write.ensures.stands.2.service
+    (write_later g.C.Cluster.shown c.args.cluster.now c.write.new.cluster c.in-Some.file c.args.bytes.now c.write.result c.write.new.self
+    c.write.ensures.idle c.write.ensures.wrote c.write.ensures.err)
+
+pub returns-clause-writer : goal.returns-clause-writer
+returns-clause-writer g c =
+    let s = g.C.Cluster.shown c.args.cluster.now in
+    let t = g.C.Cluster.shown c.write.new.cluster in
+    let client = c.args.client.now in
+    let k = c.args.self.now.service in
+    let by = c.requires.writer.0 c.in-Some.file c.in-Some.is in
+    let answered = c.requires.writer.1 c.in-Some.file c.in-Some.is in
+    let within = below_some (services_of client) k by.0 by.1 in
+    let later = write_later g.C.Cluster.shown c.args.cluster.now c.write.new.cluster c.in-Some.file c.args.bytes.now c.write.result c.write.new.self
+        c.write.ensures.idle c.write.ensures.wrote c.write.ensures.err in
+    let same = c.write.ensures.stands.2 in
+    let is : c.index_mut.result.now ≡ by.0 = same_some by.0 c.index_mut.result.now (service_at client k) by.1
+        (found_at (services_of client) k c.index_mut.result.now within c.index_mut.ensures.value) in
+    let reaches : ReachesAll (proxy_of c.index_mut.result.now) s = subst (λ (n : NamenodeProtocol). ReachesAll (proxy_of n) s) (sym is) by.2.0 in (
+      of_put (λ namenode file. ReachesAll (proxy_of namenode) t × Stands t file) (services_of client) k c.write.new.namenode within
+          (reaches_later (proxy_of c.index_mut.result.now) (proxy_of c.write.new.namenode) s t same.service later reaches, c.write.ensures.stands.0),
+      of_put (λ namenode file. IsAnswered g.C.Cluster.may_answer (name_of namenode) file) (services_of client) k c.write.new.namenode within
+          (subst (λ (n : List ℕ). IsAnswered g.C.Cluster.may_answer n c.write.new.self) (sym same.name) c.write.ensures.answered),
+      (used_at client _ k by.0 c.index_mut.result.now c.write.new.namenode by.1 c.index_mut.ensures.value refl (refl, refl, refl)).others,
+    )

@@ -1,0 +1,102 @@
+-- Files that a client writes: how one is opened, and what a writer is between calls.
+use Rattle.std.specs.Prelude.{◌≡◌, ℕ, Bool, List, Option, Some, None, if◌then◌else◌}
+use Rattle.hdfs_cluster.specs.declared.asks.Answer.{Answer}
+use Rattle.hdfs_cluster.specs.declared.asks.Ask.{Ask}
+use Rattle.hdfs_cluster.specs.declared.errors.ArgFault.TheVariants as args
+use Rattle.hdfs_cluster.specs.declared.errors.HdfsError.{HdfsError}
+use Rattle.hdfs_cluster.specs.declared.errors.HdfsError.TheVariants as errors
+use Rattle.hdfs_cluster.specs.Requests.{Request, LetsClose, LetsWrite}
+use Rattle.hdfs_cluster.specs.Shown.{Shown}
+use Rattle.hdfs_file_writer.specs.Writers as files
+use Rattle.hdfs_file_writer.specs.declared.file_writer.FileWriter as inner
+use Rattle.hdfs_model.specs.Opening as opening
+use Rattle.hdfs_model.specs.declared.commands.WriteOptions.{WriteOptions}
+use Rattle.hdfs_names.specs.declared.mounts.Resolved.{Resolved}
+use Rattle.hdfs_namenode.specs.Asked.{ReachesAll}
+use Rattle.hdfs_namenode.specs.Clients.{name_of, proxy_of}
+use Rattle.hdfs_namenode.specs.declared.protocol.NamenodeProtocol.{NamenodeProtocol}
+use Rattle.hdfs_rebuild.specs.declared.block_plan.RebuildSettings.{RebuildSettings}
+use Rattle.hdfs_client.specs.Clients.{SameBut, leads_to, replacement_of, service_at}
+use Rattle.hdfs_client.specs.declared.client.Client.{Client}
+use Rattle.hdfs_client.specs.declared.writing.FileWriter.{FileWriter}
+
+-- the writer of the file, until it is to be closed
+abbrev pub open_of : FileWriter → Option inner.FileWriter
+open_of writer = writer.file
+
+-- whether the file was closed
+abbrev pub is_closed : FileWriter → Bool
+is_closed writer = writer.closed
+
+-- the number of the service whose file it writes
+abbrev pub service_of : FileWriter → ℕ
+service_of writer = writer.service
+
+-- why a writer takes no byte that isn't open any more
+abbrev pub why_shut : FileWriter → HdfsError
+why_shut writer = if writer.closed then errors.InvalidArgument args.State else errors.Failed
+
+-- how a client goes on where a datanode of a pipeline fails: at most 8 rebuilds of a block, and 100 packets that wait
+abbrev pub rebuilding_of : Client → RebuildSettings
+rebuilding_of client = record { replace = replacement_of client; rebuild_limit = 8; window = 100 }
+
+-- the service to which a path leads is all namenodes of the cluster, and is asked plainly
+abbrev pub ReachesWhole : Client → List ℕ → Shown → Type 0
+ReachesWhole client src shown = (to : Resolved) (namenode : NamenodeProtocol) → leads_to client src ≡ Some to
+    → service_at client to.service ≡ Some namenode → ReachesAll (proxy_of namenode) shown
+
+-- leave for what is asked in the name of a client at the path where another one leads
+abbrev pub LetsThere : (List ℕ → List ℕ → Type 0) → Client → List ℕ → Type 0
+LetsThere Lets client src = (to : Resolved) (namenode : NamenodeProtocol) → leads_to client src ≡ Some to
+    → service_at client to.service ≡ Some namenode → Lets (name_of namenode) to.path
+
+-- leave to create a file at a path
+abbrev pub LetsCreate : (Request → Type 0) → (Ask → Answer → Type 0) → Client → List ℕ → WriteOptions → Type 0
+LetsCreate allows may_answer client src options = LetsThere (λ name at. opening.LetsCreate allows may_answer name at options) client src
+
+-- leave to go on with the file at a path
+abbrev pub LetsAppend : (Request → Type 0) → (Ask → Answer → Type 0) → Client → List ℕ → Type 0
+LetsAppend allows may_answer client src = LetsThere (opening.LetsAppend allows may_answer) client src
+
+-- A client has opened a file by the service to which a path leads, in this way, and this is its writer.
+pub record OpensAt (Opens : List ℕ → NamenodeProtocol → inner.FileWriter → NamenodeProtocol → Type 0) (client : Client) (src : List ℕ)
+    (writer : FileWriter) (client' : Client) : Type 0 where
+  pub to : Resolved
+  pub leads : leads_to client src ≡ Some to
+  pub before : NamenodeProtocol
+  pub was : service_at client to.service ≡ Some before
+  pub after : NamenodeProtocol
+  pub is : service_at client' to.service ≡ Some after
+  pub file : inner.FileWriter
+  pub opened : open_of writer ≡ Some file
+  pub service : service_of writer ≡ to.service
+  pub opens : Opens to.path before file after
+  pub others : SameBut to.service client client'
+
+-- what is so of an open writer and of the service whose file it writes
+abbrev pub OfOpen : (NamenodeProtocol → inner.FileWriter → Type 0) → Client → FileWriter → Type 0
+OfOpen P client writer = (file : inner.FileWriter) → open_of writer ≡ Some file
+    → (namenode : NamenodeProtocol) × (service_at client (service_of writer) ≡ Some namenode) × P namenode file
+
+-- A writer is one of a client over a cluster: while it is open its service is all namenodes of that, and it stands as its last call left it.
+abbrev pub IsWriterOf : Client → Shown → FileWriter → Type 0
+IsWriterOf client shown writer = OfOpen (λ namenode file. ReachesAll (proxy_of namenode) shown × files.Stands shown file) client writer
+
+-- the file's id and the blocks that an open writer writes were answered to its client
+abbrev pub IsAnsweredTo : (Ask → Answer → Type 0) → Client → FileWriter → Type 0
+IsAnsweredTo may_answer client writer = OfOpen (λ namenode file. files.IsAnswered may_answer (name_of namenode) file) client writer
+
+-- leave to write the file of an open writer
+abbrev pub LetsWriteOf : (Request → Type 0) → (Ask → Answer → Type 0) → Client → FileWriter → Type 0
+LetsWriteOf allows may_answer client writer =
+    OfOpen (λ namenode file. LetsWrite allows may_answer (name_of namenode) (files.path_of file) (files.file_id_of file)) client writer
+
+-- leave to close the file of an open writer
+abbrev pub LetsCloseOf : (Request → Type 0) → (Ask → Answer → Type 0) → Client → FileWriter → Type 0
+LetsCloseOf allows may_answer client writer =
+    OfOpen (λ namenode file. LetsClose allows may_answer (name_of namenode) (files.path_of file) (files.file_id_of file)) client writer
+
+-- it is open still, and of its file this is so before and behind
+abbrev pub GoesOn : (inner.FileWriter → inner.FileWriter → Type 0) → FileWriter → FileWriter → Type 0
+GoesOn P writer writer' = (file : inner.FileWriter) → open_of writer ≡ Some file
+    → (file' : inner.FileWriter) × (open_of writer' ≡ Some file') × P file file'

@@ -1,0 +1,222 @@
+//! How a service of a client opens a file to be written: a new one, and one that is gone on with.
+ghost use Rattle.std.specs.Prelude.{◌≡◌, ◌≤◌, ◌⊎◌, Option, Some, None, IfOk, IfErr, IfSome, true, false, unwrap_or};
+ghost use Rattle.hdfs_cluster.specs.Picture.{SameButActive, Told};
+ghost use Rattle.hdfs_cluster.specs.Requests.{AskOf, IsAnsweredId, LetsClose, id_in};
+ghost use Rattle.hdfs_cluster.specs.Shown.{Later};
+ghost use Rattle.hdfs_cluster.specs.declared.asks.Ask.TheVariants as asks;
+ghost use Rattle.hdfs_cluster.specs.declared.errors.ArgFault.TheVariants as args;
+ghost use Rattle.hdfs_cluster.specs.declared.errors.Feature.TheVariants as features;
+ghost use Rattle.hdfs_cluster.specs.declared.errors.HdfsError.TheVariants as errors;
+ghost use Rattle.hdfs_client.specs.Opening as spec;
+ghost use Rattle.hdfs_client.specs.Opening.{BeginsAgain, BeginsNew, CreatesBy, IsOpenFault, KeepsName, KnowsDefaults, OpensBy};
+ghost use Rattle.hdfs_file_writer.specs.Writers.{IsAnswered, Stands, file_id_of, has_failed, path_of};
+ghost use Rattle.hdfs_model.specs.Limits.{are_options};
+ghost use Rattle.hdfs_model.specs.Opening as asking;
+ghost use Rattle.hdfs_model.specs.Opening.{LetsAppend, LetsCreate};
+ghost use Rattle.hdfs_namenode.specs.Asked.{ReachesAll};
+ghost use Rattle.hdfs_namenode.specs.Clients.{name_of, proxy_of};
+
+use hdfs_cluster::{
+    Appended, ArgFault, Cluster, Feature, FileStatusMsg, HdfsError, ServerDefaults,
+};
+use hdfs_file_writer::{FileWriter, WriteSizes};
+use hdfs_model::WriteOptions;
+use hdfs_namenode::NamenodeProtocol;
+use hdfs_rebuild::RebuildSettings;
+use hdfs_wire::Text;
+use std::alloc::Global;
+
+/// The flag of a new file (upstream's `CREATE`).
+const CREATE: u32 = 1;
+
+/// The flag of a new file that may take the place of an older one (upstream's `CREATE` and `OVERWRITE`).
+const OVERWRITE: u32 = 3;
+
+/// The flag of a file that is gone on with (upstream's `APPEND`).
+const APPEND: u32 = 4;
+
+/// What an answer tells of a file.
+#[derive(Clone, Copy)]
+struct ToldFile {
+    file_id: Option<u64>,
+    encrypted: bool,
+}
+
+/// The flag of a new file with these options.
+fn create_flag(options: &WriteOptions) -> u32
+    ensures { result ≡ asking.create_flag options.now }
+{
+    if options.overwrite { OVERWRITE } else { CREATE }
+}
+
+/// What a status tells of its file.
+fn told_by(status: Option<FileStatusMsg>) -> ToldFile
+    ensures id { result.file_id ≡ id_in status }
+    ensures encrypted { result.encrypted ≡ asking.tells_encryption status }
+{
+    match &status {
+        Some(status) => ToldFile {
+            file_id: status.file_id,
+            encrypted: status.encryption.is_some(),
+        },
+        None => ToldFile {
+            file_id: None,
+            encrypted: false,
+        },
+    }
+}
+
+/// With what a file is written that has this replication and block size.
+fn sizes_by(
+    rebuilding: RebuildSettings,
+    defaults: &ServerDefaults,
+    replication: u32,
+    block_size: u64,
+) -> WriteSizes
+    ensures { result ≡ spec.sizes_by rebuilding defaults.now replication block_size }
+{
+    WriteSizes {
+        replication,
+        block_size,
+        chunk: defaults.bytes_per_checksum,
+        packet_size: defaults.write_packet_size,
+        rebuilding,
+        encrypted: defaults.encrypt_data_transfer,
+    }
+}
+
+/// The cluster's defaults, for which a service is asked once.
+fn limited_defaults<C: Cluster>(
+    cluster: &mut C,
+    namenode: &mut NamenodeProtocol,
+) -> Result<ServerDefaults, HdfsError>
+    requires reaches { ReachesAll (proxy_of namenode.old) (C.shown cluster.old) }
+    requires allowed { C.allows (AskOf asks.GetServerDefaults) }
+    ensures knows { IfOk result (λ defaults. KnowsDefaults C.serves namenode.old cluster.old defaults namenode.new cluster.new) }
+    ensures picture { Told SameButActive (C.shown cluster.old).picture (C.shown cluster.new).picture }
+    ensures err { IfErr result IsOpenFault }
+    ensures keeps { KeepsName namenode.old namenode.new × Later (C.shown cluster.old) (C.shown cluster.new) }
+{
+    let defaults = namenode.get_cached_server_defaults(cluster)?;
+    if !defaults.are_limited() {
+        return Err(HdfsError::InvalidArgument(ArgFault::Defaults));
+    }
+    Ok(defaults)
+}
+
+/// Refuses to write a file that was just created: it is deleted again, as far as a namenode does that.
+fn refuse_created<C: Cluster>(
+    cluster: &mut C,
+    namenode: &mut NamenodeProtocol,
+    path: &str,
+) -> HdfsError
+    requires reaches { ReachesAll (proxy_of namenode.old) (C.shown cluster.old) }
+    requires allowed { C.allows (AskOf (asks.Delete path.now false)) }
+    ensures is { result ≡ errors.UnsupportedFeature features.Encryption }
+    ensures keeps { KeepsName namenode.old namenode.new × Later (C.shown cluster.old) (C.shown cluster.new) }
+{
+    drop(namenode.delete(cluster, path, false));
+    HdfsError::UnsupportedFeature(Feature::Encryption)
+}
+
+/// Creates a file at a path, and answers its writer.
+///
+/// Errors: `InvalidArgument(Defaults)` where the cluster's defaults are out of their limits; `UnsupportedFeature(Encryption)` where the new
+/// file is encrypted, which is deleted again then; those of an ask.
+pub(crate) fn create_by<C: Cluster>(
+    alloc: Global,
+    cluster: &mut C,
+    namenode: &mut NamenodeProtocol,
+    path: Text,
+    options: &WriteOptions,
+    rebuilding: RebuildSettings,
+) -> Result<FileWriter, HdfsError>
+    requires reaches { ReachesAll (proxy_of namenode.old) (C.shown cluster.old) }
+    requires allowed { LetsCreate C.allows C.may_answer (name_of namenode.old) path options.now }
+    requires limits { (are_options options.now ≡ true) × (1 ≤ rebuilding.window) × (rebuilding.window ≤ 1000) }
+    ensures created { IfOk result (λ writer. CreatesBy C.serves path options.now rebuilding namenode.old cluster.old writer
+        namenode.new cluster.new) }
+    ensures begins { IfOk result (λ writer. BeginsNew (C.shown cluster.old) path options.now writer (C.shown cluster.new)) }
+    ensures stands { IfOk result (Stands (C.shown cluster.new)) }
+    ensures answered { IfOk result (IsAnswered C.may_answer (name_of namenode.old)) }
+    ensures err { IfErr result IsOpenFault }
+    ensures keeps { KeepsName namenode.old namenode.new × Later (C.shown cluster.old) (C.shown cluster.new) }
+{
+    let defaults = limited_defaults(cluster, namenode)?;
+    let replication = options.replication.unwrap_or(defaults.replication);
+    let block_size = options.block_size.unwrap_or(defaults.block_size);
+    let status = namenode.create(
+        cluster,
+        path.as_str(),
+        options.permission,
+        create_flag(options),
+        options.create_parent,
+        replication,
+        block_size,
+    )?;
+    let told = told_by(status);
+    if told.encrypted {
+        return Err(refuse_created(cluster, namenode, path.as_str()));
+    }
+    let sizes = sizes_by(rebuilding, &defaults, replication, block_size);
+    Ok(FileWriter::new(alloc, path, told.file_id, sizes))
+}
+
+/// Refuses to write a file that was just opened: it is closed again, as far as a namenode does that.
+fn refuse_opened<C: Cluster>(
+    cluster: &mut C,
+    namenode: &mut NamenodeProtocol,
+    writer: FileWriter,
+) -> HdfsError
+    requires reaches { ReachesAll (proxy_of namenode.old) (C.shown cluster.old) }
+    requires stands { Stands (C.shown cluster.old) writer × (has_failed writer ≡ false) }
+    requires allowed { LetsClose C.allows C.may_answer (name_of namenode.old) (path_of writer) (file_id_of writer) }
+    requires answered { IsAnswered C.may_answer (name_of namenode.old) writer }
+    ensures is { result ≡ errors.UnsupportedFeature features.Encryption }
+    ensures keeps { KeepsName namenode.old namenode.new × Later (C.shown cluster.old) (C.shown cluster.new) }
+{
+    drop(writer.close(cluster, namenode));
+    HdfsError::UnsupportedFeature(Feature::Encryption)
+}
+
+/// Opens the file at a path, to be gone on with, and answers its writer. `name` is the path as the caller names it.
+///
+/// Errors: `FileNotFound` with that name where no status comes of it; `InvalidArgument(Defaults)` where the cluster's defaults are out of their
+/// limits; `UnsupportedFeature(Encryption)` where the file is encrypted, which is closed again then; those of an ask.
+pub(crate) fn append_by<C: Cluster>(
+    alloc: Global,
+    cluster: &mut C,
+    namenode: &mut NamenodeProtocol,
+    path: Text,
+    name: &str,
+    rebuilding: RebuildSettings,
+) -> Result<FileWriter, HdfsError>
+    requires reaches { ReachesAll (proxy_of namenode.old) (C.shown cluster.old) }
+    requires allowed { LetsAppend C.allows C.may_answer (name_of namenode.old) path }
+    requires limits { (1 ≤ rebuilding.window) × (rebuilding.window ≤ 1000) }
+    ensures opened { IfOk result (λ writer. OpensBy C.serves path rebuilding namenode.old cluster.old writer namenode.new cluster.new) }
+    ensures begins { IfOk result (λ writer. BeginsAgain (C.shown cluster.old) path writer (C.shown cluster.new)) }
+    ensures stands { IfOk result (Stands (C.shown cluster.new)) }
+    ensures answered { IfOk result (IsAnswered C.may_answer (name_of namenode.old)) }
+    ensures err { IfErr result (λ error. IsOpenFault error ⊎ (error ≡ errors.FileNotFound name.now)) }
+    ensures keeps { KeepsName namenode.old namenode.new × Later (C.shown cluster.old) (C.shown cluster.new) }
+{
+    let defaults = limited_defaults(cluster, namenode)?;
+    let Appended { block, stat } = namenode.append(cluster, path.as_str(), APPEND)?;
+    let Some(stat) = stat else {
+        drop(block);
+        return Err(HdfsError::FileNotFound(Text::from_str(alloc, name)?));
+    };
+    let sizes = sizes_by(
+        rebuilding,
+        &defaults,
+        stat.block_replication.unwrap_or(0),
+        stat.blocksize.unwrap_or(0),
+    );
+    let told = told_by(Some(stat));
+    let writer = FileWriter::appended(alloc, path, told.file_id, sizes, block);
+    if told.encrypted {
+        return Err(refuse_opened(cluster, namenode, writer));
+    }
+    Ok(writer)
+}

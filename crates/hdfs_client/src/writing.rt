@@ -1,0 +1,231 @@
+//! Files that a client writes.
+ghost use Rattle.std.specs.Prelude.{◌≡◌, ◌⊎◌, length, Some, None, Ok, Err, IfOk, IfErr, OnOk, is_ok, true, false, if◌then◌else◌};
+ghost use Rattle.hdfs_cluster.specs.declared.errors.ArgFault.TheVariants as args;
+ghost use Rattle.hdfs_cluster.specs.declared.errors.HdfsError.TheVariants as errors;
+ghost use Rattle.hdfs_model.specs.Limits.{are_options};
+
+use crate::client::Client;
+use crate::opening::{append_by, create_by};
+use hdfs_cluster::{ArgFault, Cluster, HdfsError};
+use hdfs_file_writer as files;
+use hdfs_model::WriteOptions;
+use hdfs_rebuild::RebuildSettings;
+use hdfs_wire::NoMemory;
+
+/// How often the pipeline of a block is rebuilt at most.
+const REBUILD_LIMIT: u32 = 8;
+
+/// How many packets of a block wait for their acknowledgement at most.
+const WINDOW: u32 = 100;
+
+/// Writes a file of a client, which gives it by `create` or `append`, and is handed to each call. A writer that is let go leaves its file
+/// open, and its link too; `abandon` ends the link.
+#[derive(Drop)]
+pub struct FileWriter {
+    pub(crate) service: usize,
+    // none once it was to be closed
+    pub(crate) file: Option<files::FileWriter>,
+    pub(crate) closed: bool,
+}
+
+impl Client {
+    ghost use Rattle.hdfs_client.specs.Clients.{IsClientOf, SameBut};
+    ghost use Rattle.hdfs_client.specs.Opening.{BeginsAgain, BeginsNew, CreatesBy, IsOpenFault, OpensBy};
+    ghost use Rattle.hdfs_client.specs.Writing.{IsAnsweredTo, IsWriterOf, LetsAppend, LetsCreate, OpensAt, ReachesWhole, rebuilding_of};
+
+    /// Whether files at a path can be written over a cluster for now: the service to which it leads is all namenodes of the cluster, has no
+    /// observers, and isn't to be in step.
+    pub fn is_whole<C: Cluster>(&self, cluster: &C, path: &str) -> Result<bool, NoMemory>
+        requires client { IsClientOf self.now (C.shown cluster.now) }
+        ensures { IfOk result (λ whole. whole ≡ true → ReachesWhole self.now path.now (C.shown cluster.now)) }
+    {
+        let to = self.resolve(path)?;
+        Ok(self.services[to.service].reaches_all(cluster))
+    }
+
+    /// How it goes on where a datanode of a pipeline fails.
+    fn rebuilding(&self) -> RebuildSettings
+        ensures { result ≡ rebuilding_of self.now }
+    {
+        RebuildSettings {
+            replace: self.replacement,
+            rebuild_limit: REBUILD_LIMIT,
+            window: WINDOW,
+        }
+    }
+
+    /// Creates a file at a path, and answers its writer (upstream's `create`).
+    ///
+    /// Errors: `InvalidArgument(Options)` where an option is out of its limits, before anything is asked; `InvalidArgument(Defaults)` where
+    /// the cluster's defaults are out of theirs; `UnsupportedFeature(Encryption)` where the new file is encrypted, which is deleted again
+    /// then; those of an ask.
+    pub fn create<C: Cluster>(
+        &mut self,
+        cluster: &mut C,
+        path: &str,
+        options: &WriteOptions,
+    ) -> Result<FileWriter, HdfsError>
+        requires client { IsClientOf self.old (C.shown cluster.old) × ReachesWhole self.old path.now (C.shown cluster.old) }
+        requires allowed { LetsCreate C.allows C.may_answer self.old path.now options.now }
+        ensures refused { are_options options.now ≡ false → (result ≡ Err (errors.InvalidArgument args.Options))
+            × (self.new ≡ self.old) × (cluster.new ≡ cluster.old) }
+        ensures created { IfOk result (λ writer. OpensAt (λ at before file after. CreatesBy C.serves at options.now
+            (rebuilding_of self.old) before cluster.old file after cluster.new) self.old path.now writer self.new) }
+        ensures begins { IfOk result (λ writer. OpensAt (λ at before file after. BeginsNew (C.shown cluster.old) at options.now file
+            (C.shown cluster.new)) self.old path.now writer self.new) }
+        ensures stands { IfOk result (λ writer. IsWriterOf self.new (C.shown cluster.new) writer
+            × IsAnsweredTo C.may_answer self.new writer) }
+        ensures err { are_options options.now ≡ true → IfErr result IsOpenFault }
+        ensures client { IsClientOf self.new (C.shown cluster.new) }
+    {
+        if !options.are_limited() {
+            return Err(HdfsError::InvalidArgument(ArgFault::Options));
+        }
+        let to = self.resolve(path)?;
+        let service = to.service;
+        let rebuilding = self.rebuilding();
+        let namenode = &mut self.services[service];
+        let file = create_by(self.alloc, cluster, namenode, to.path, options, rebuilding)?;
+        Ok(FileWriter {
+            service,
+            file: Some(file),
+            closed: false,
+        })
+    }
+
+    /// Opens the file at a path, to be gone on with, and answers its writer (upstream's `append`).
+    ///
+    /// Errors: `FileNotFound` with the path as it was given where nothing is told of the file; `InvalidArgument(Defaults)` where the cluster's
+    /// defaults are out of their limits; `UnsupportedFeature(Encryption)` where the file is encrypted, which is closed again then; those of
+    /// an ask.
+    pub fn append<C: Cluster>(
+        &mut self,
+        cluster: &mut C,
+        path: &str,
+    ) -> Result<FileWriter, HdfsError>
+        requires client { IsClientOf self.old (C.shown cluster.old) × ReachesWhole self.old path.now (C.shown cluster.old) }
+        requires allowed { LetsAppend C.allows C.may_answer self.old path.now }
+        ensures opened { IfOk result (λ writer. OpensAt (λ at before file after. OpensBy C.serves at
+            (rebuilding_of self.old) before cluster.old file after cluster.new) self.old path.now writer self.new) }
+        ensures begins { IfOk result (λ writer. OpensAt (λ at before file after. BeginsAgain (C.shown cluster.old) at file
+            (C.shown cluster.new)) self.old path.now writer self.new) }
+        ensures stands { IfOk result (λ writer. IsWriterOf self.new (C.shown cluster.new) writer
+            × IsAnsweredTo C.may_answer self.new writer) }
+        ensures err { IfErr result (λ error. IsOpenFault error ⊎ (error ≡ errors.FileNotFound path.now)) }
+        ensures client { IsClientOf self.new (C.shown cluster.new) }
+    {
+        let to = self.resolve(path)?;
+        let service = to.service;
+        let rebuilding = self.rebuilding();
+        let namenode = &mut self.services[service];
+        let file = append_by(self.alloc, cluster, namenode, to.path, path, rebuilding)?;
+        Ok(FileWriter {
+            service,
+            file: Some(file),
+            closed: false,
+        })
+    }
+}
+
+impl FileWriter {
+    ghost use Rattle.hdfs_client.specs.Clients.{IsClientOf, SameBut};
+    ghost use Rattle.hdfs_client.specs.Writing.{GoesOn, IsAnsweredTo, IsWriterOf, LetsCloseOf, LetsWriteOf, is_closed, open_of, service_of, why_shut};
+    ghost use Rattle.hdfs_file_writer.specs.Writers as inner;
+    ghost use Rattle.hdfs_file_writer.specs.declared.file_writer.FileWriter.{FileWriter as Inner};
+
+    /// Takes the bytes, and answers how many they are (upstream's `write`). A block that is full is ended, and the next one begun, once a byte
+    /// comes that it has no room for.
+    ///
+    /// Errors: `InvalidArgument(State)` where the file was closed; `Failed` after an error; those of a writer of a file
+    /// (`hdfs_file_writer::FileWriter::write`). After an error the writer has failed, and its link is ended.
+    pub fn write<C: Cluster>(
+        &mut self,
+        client: &mut Client,
+        cluster: &mut C,
+        bytes: &[u8],
+    ) -> Result<usize, HdfsError>
+        requires client { IsClientOf client.old (C.shown cluster.old) }
+        requires writer { IsWriterOf client.old (C.shown cluster.old) self.old × IsAnsweredTo C.may_answer client.old self.old }
+        requires allowed { LetsWriteOf C.allows C.may_answer client.old self.old }
+        ensures shut { open_of self.old ≡ None → (result ≡ Err (why_shut self.old)) × (self.new ≡ self.old) × (client.new ≡ client.old)
+            × (cluster.new ≡ cluster.old) }
+        ensures count { IfOk result (λ n. n ≡ length bytes.now) }
+        ensures wrote { OnOk result (GoesOn (λ file file'. inner.Wrote (C.shown cluster.old) file bytes.now (C.shown cluster.new) file')
+            self.old self.new) }
+        ensures err { IfErr result (λ error. (file : Inner) → open_of self.old ≡ Some file → inner.has_failed file ≡ false
+            → inner.AreLimited (inner.sizes_of file) → inner.Fails (C.shown cluster.old) file error (C.shown cluster.new)) }
+        ensures writer { IsWriterOf client.new (C.shown cluster.new) self.new × IsAnsweredTo C.may_answer client.new self.new
+            × SameBut (service_of self.old) client.old client.new }
+        ensures client { IsClientOf client.new (C.shown cluster.new) }
+    {
+        let Some(file) = &mut self.file else {
+            return Err(self.why_shut());
+        };
+        file.write(cluster, &mut client.services[self.service], bytes)
+    }
+
+    /// Why a writer takes no byte that isn't open any more.
+    fn why_shut(&self) -> HdfsError
+        ensures { result ≡ why_shut self.now }
+    {
+        if self.closed {
+            HdfsError::InvalidArgument(ArgFault::State)
+        } else {
+            HdfsError::Failed
+        }
+    }
+
+    /// Ends the block that is being written, and closes the file (upstream's `close`). A file that was closed is closed, and nothing is asked.
+    ///
+    /// Errors: `Failed` after an error; those of a writer of a file (`hdfs_file_writer::FileWriter::close`). Whatever comes of it, the
+    /// writer's link is ended.
+    pub fn close<C: Cluster>(
+        &mut self,
+        client: &mut Client,
+        cluster: &mut C,
+    ) -> Result<(), HdfsError>
+        requires client { IsClientOf client.old (C.shown cluster.old) }
+        requires writer { IsWriterOf client.old (C.shown cluster.old) self.old × IsAnsweredTo C.may_answer client.old self.old }
+        requires allowed { LetsCloseOf C.allows C.may_answer client.old self.old }
+        ensures again { open_of self.old ≡ None → (result ≡ (if is_closed self.old then Ok tt else Err errors.Failed))
+            × (self.new ≡ self.old) × (client.new ≡ client.old) × (cluster.new ≡ cluster.old) }
+        ensures closed { OnOk result ((file : Inner) → open_of self.old ≡ Some file
+            → inner.Closed (C.shown cluster.old) file (C.shown cluster.new)) }
+        ensures err { IfErr result (λ error. (file : Inner) → open_of self.old ≡ Some file → inner.has_failed file ≡ false
+            → inner.FailsToClose (C.shown cluster.old) file error (C.shown cluster.new)) }
+        ensures shut { (open_of self.new ≡ None) × (is_closed self.new ≡ is_ok result) }
+        ensures others { SameBut (service_of self.old) client.old client.new }
+        ensures client { IsClientOf client.new (C.shown cluster.new) }
+    {
+        let Some(file) = self.file.take() else {
+            return self.close_again();
+        };
+        let closed = file.close(cluster, &mut client.services[self.service]);
+        self.closed = closed.is_ok();
+        closed
+    }
+
+    /// What a close comes to of a writer that isn't open any more.
+    fn close_again(&self) -> Result<(), HdfsError>
+        ensures { result ≡ (if is_closed self.now then Ok tt else Err errors.Failed) }
+    {
+        if self.closed {
+            Ok(())
+        } else {
+            Err(HdfsError::Failed)
+        }
+    }
+
+    /// Gives the writer up: its link is ended, and nothing else is done. The file stays open.
+    pub fn abandon<C: Cluster>(mut self, cluster: &mut C)
+        requires { (file : Inner) → open_of self ≡ Some file → inner.Stands (C.shown cluster.old) file }
+        ensures shut { open_of self ≡ None → cluster.new ≡ cluster.old }
+        ensures left { (file : Inner) → open_of self ≡ Some file
+            → inner.OnlyOwnLink (C.shown cluster.old) (inner.link_of file) (C.shown cluster.new) None
+            × inner.LeavesFile (C.shown cluster.old) file (C.shown cluster.new) }
+    {
+        if let Some(file) = self.file.take() {
+            file.abandon(cluster);
+        }
+    }
+}
