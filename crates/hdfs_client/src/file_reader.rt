@@ -66,7 +66,8 @@ impl FileReader {
     ) -> Result<Blob, HdfsError>
         requires client { IsClientOf client.old (C.shown cluster.old) }
         requires stands { Stands self.old × ReadsBy client.old self.old }
-        requires defaults { 0 < len → position_of self.old < length_of self.old → C.allows (AskOf asks.GetServerDefaults) }
+        requires defaults { 0 < len → position_of self.old < length_of self.old
+            → C.allows (AskOf asks.GetServerDefaults) }
         requires blocks { LetsReadBlocks C.allows (blocks_of self.old) }
         ensures moved { self.new ≡ at_position self.old (min (length_of self.old) (position_of self.old + len)) }
         ensures stands { Stands self.new × ReadsBy client.new self.new }
@@ -96,7 +97,8 @@ impl FileReader {
         requires blocks { LetsReadBlocks C.allows (blocks_of self.now) }
         ensures range { length_of self.now < offset + len → IfErr result (EndsBehind offset len (length_of self.now))
             × (cluster.new ≡ cluster.old) }
-        ensures reads { ReadsRange (C.shown cluster.old) client.old self.now offset len result (C.shown cluster.new) client.new }
+        ensures reads { ReadsRange (C.shown cluster.old) client.old self.now offset len result
+            (C.shown cluster.new) client.new }
         ensures by { ReadsBy client.new self.now }
         ensures client { IsClientOf client.new (C.shown cluster.new) }
     {

@@ -56,11 +56,13 @@ impl Client {
         requires client { IsClientOf self.old (C.shown cluster.old) }
         requires there { service < vec_len self.old.services }
         requires whole { IsWholeFile file.now }
-        requires defaults { 0 < len → offset + len ≤ files.length_of file.now → C.allows (AskOf asks.GetServerDefaults) }
+        requires defaults { 0 < len → offset + len ≤ files.length_of file.now
+            → C.allows (AskOf asks.GetServerDefaults) }
         requires blocks { LetsReadBlocks C.allows (files.blocks_of file.now) }
         ensures range { files.length_of file.now < offset + len
             → IfErr result (EndsBehind offset len (files.length_of file.now)) × (cluster.new ≡ cluster.old) }
-        ensures reads { ReadsBlocks (C.shown cluster.old) self.old file.now service offset len result (C.shown cluster.new) self.new }
+        ensures reads { ReadsBlocks (C.shown cluster.old) self.old file.now service offset len result
+            (C.shown cluster.new) self.new }
         ensures there { vec_len self.new.services ≡ vec_len self.old.services }
         ensures client { IsClientOf self.new (C.shown cluster.new) }
     {

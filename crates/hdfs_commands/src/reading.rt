@@ -36,19 +36,24 @@ impl Session {
     ) -> Result<Reply, HdfsError>
         requires reaches { ReachesAll (proxy_of self.old.namenode) (C.shown cluster.old) }
         requires allowed { LetsReadFile C.allows C.may_answer path.now len }
-        ensures anywhere { Applies (commands.Read name.now offset len) (C.shown cluster.old) (C.shown cluster.new) result }
+        ensures anywhere { Applies (commands.Read name.now offset len)
+            (C.shown cluster.old) (C.shown cluster.new) result }
         ensures links { SameLinks (C.shown cluster.old) (C.shown cluster.new) }
         ensures owed { IfErr result IsNotOwed }
         ensures files { FilesStay path.now (C.shown cluster.old) (C.shown cluster.new) }
-        ensures ok { IfOk result (λ reply. (world : World) (state : State) → Meets world (C.shown cluster.old) state name.now path.now
+        ensures ok { IfOk result (λ reply. (world : World) (state : State)
+            → Meets world (C.shown cluster.old) state name.now path.now
             → KnowsWorld world (C.shown cluster.old) (defaults_of self.old.namenode)
-            → (step world state (commands.Read name.now offset len) ≡ Done reply state) × Agrees (C.shown cluster.new).picture state.files
+            → (step world state (commands.Read name.now offset len) ≡ Done reply state)
+            × Agrees (C.shown cluster.new).picture state.files
             × MeetsNoEncryption world state (commands.Read name.now offset len)) }
-        ensures err { IfErr result (λ e. (world : World) (state : State) → Meets world (C.shown cluster.old) state name.now path.now
+        ensures err { IfErr result (λ e. (world : World) (state : State)
+            → Meets world (C.shown cluster.old) state name.now path.now
             → KnowsWorld world (C.shown cluster.old) (defaults_of self.old.namenode)
             → Cause world state (commands.Read name.now offset len) (C.shown cluster.old) (C.shown cluster.new) e
             × Agrees (C.shown cluster.new).picture state.files) }
-        ensures client { AsksOn path.now (C.shown cluster.old) self.old.namenode (C.shown cluster.new) self.new.namenode }
+        ensures client { AsksOn path.now
+            (C.shown cluster.old) self.old.namenode (C.shown cluster.new) self.new.namenode }
         ensures plain { IfErr result (IsRangeOf C.may_answer path.now offset len) }
         ensures kept { self.new ≡ record self.old { connections = self.new.connections; namenode = self.new.namenode } }
     {

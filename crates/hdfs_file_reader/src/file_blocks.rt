@@ -53,7 +53,8 @@ impl FileBlocks {
     /// Where a range ends. One that ends behind the file is refused.
     fn end_of_range(&self, offset: u64, len: u64) -> Result<u64, HdfsError>
         ensures ok { IfOk result (λ end. (end ≡ offset + len) × (offset + len ≤ length_of self.now)) }
-        ensures err { IfErr result (λ e. EndsBehind offset len (length_of self.now) e × (length_of self.now < offset + len)) }
+        ensures err { IfErr result (λ e. EndsBehind offset len (length_of self.now) e
+            × (length_of self.now < offset + len)) }
     {
         let length = self.located.file_length;
         if offset > length || len > length - offset {
@@ -87,7 +88,8 @@ impl FileBlocks {
             × (cluster.new ≡ cluster.old) × (namenode.new ≡ namenode.old) × (connections.new ≡ connections.old) }
         ensures err { IfErr result (λ e. LacksRange (length_of self.now) offset len
             (C.shown cluster.old) namenode.old e (C.shown cluster.new) namenode.new) }
-        ensures count { IfOk result (λ bytes. (offset + len ≤ length_of self.now) × (IsWholeFile self.now → length bytes ≡ len)) }
+        ensures count { IfOk result (λ bytes. (offset + len ≤ length_of self.now)
+            × (IsWholeFile self.now → length bytes ≡ len)) }
         ensures plain { OnOk result (MayMove len namenode.new) }
         ensures idle { len ≡ 0 → (cluster.new ≡ cluster.old) × (namenode.new ≡ namenode.old) }
         ensures known { IfSome (defaults_of namenode.old) (λ _.

@@ -40,13 +40,15 @@ fn append_next<C: Cluster>(
     ensures more { IfOk result (λ more. MatchBool more
         (wanted_of reader.old < wanted_of reader.new) (wanted_of reader.new ≡ end_of reader.new)) }
     ensures on { OnOk result (GoesOn reader.old reader.new) }
-    ensures count { OnOk result (length out.new.items ≡ length out.old.items + (wanted_of reader.new - wanted_of reader.old)) }
+    ensures count { OnOk result (length out.new.items
+        ≡ length out.old.items + (wanted_of reader.new - wanted_of reader.old)) }
     ensures err { IfErr result (FailsToRead (C.shown cluster.old) (C.shown cluster.new) reader.old reader.new) }
 
     // over a told picture
     ensures reads { Reads (C.shown cluster.old) (C.shown cluster.new) reader.old reader.new }
     ensures bytes { OnOk result ((block : List ℕ) → ShowsBlock (C.shown cluster.old) reader.old block
-        → out.new.items ≡ out.old.items ++ range_of block (wanted_of reader.old) (wanted_of reader.new - wanted_of reader.old)) }
+        → out.new.items
+        ≡ out.old.items ++ range_of block (wanted_of reader.old) (wanted_of reader.new - wanted_of reader.old)) }
 {
     match reader.next(cluster, connections) {
         Ok(Some(bytes)) => match out.extend_from_slice(&bytes) {
@@ -76,11 +78,13 @@ fn read_all<C: Cluster>(
     ensures keeps { Keeps (C.shown cluster.old) (C.shown cluster.new) reader.old reader.new }
     ensures err { IfErr result (FailsToRead (C.shown cluster.old) (C.shown cluster.new) reader.old reader.new) }
     ensures idle { link_of reader.new ≡ None }
-    ensures count { OnOk result (length out.new.items ≡ length out.old.items + (end_of reader.old - wanted_of reader.old)) }
+    ensures count { OnOk result (length out.new.items
+        ≡ length out.old.items + (end_of reader.old - wanted_of reader.old)) }
 
     // over a told picture
     ensures bytes { OnOk result ((block : List ℕ) → ShowsBlock (C.shown cluster.old) reader.old block
-        → out.new.items ≡ out.old.items ++ range_of block (wanted_of reader.old) (end_of reader.old - wanted_of reader.old)) }
+        → out.new.items
+        ≡ out.old.items ++ range_of block (wanted_of reader.old) (end_of reader.old - wanted_of reader.old)) }
 {
     'pieces: while append_next(cluster, connections, out, reader)? {}
     Ok(())

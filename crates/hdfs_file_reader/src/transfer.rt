@@ -28,7 +28,8 @@ pub(crate) fn allow_transfer<C: Cluster>(
     ensures known { IfSome (defaults_of namenode.old)
         (λ _. (cluster.new ≡ cluster.old) × (namenode.new ≡ namenode.old)) }
     ensures ok { OnOk result (MayMove len namenode.new) }
-    ensures err { IfErr result (λ error. LacksTransfer len (C.shown cluster.old) namenode.old error (C.shown cluster.new) namenode.new) }
+    ensures err { IfErr result (λ error. LacksTransfer len
+        (C.shown cluster.old) namenode.old error (C.shown cluster.new) namenode.new) }
 
     // where it asks all namenodes of the cluster
     ensures picture { ReachesAll (proxy_of namenode.old) (C.shown cluster.old)
