@@ -11,7 +11,8 @@ use std::alloc::Global;
 
 /// The ask of a step: for defaults, or to create a file (its flag, whether parents are made, its permission bits and its replication),
 /// to go on with one, or to close one that has no block. Of those about names a listing has the name behind which it begins, `mkdirs`
-/// whether directories are made above, and `delete` whether all below goes too.
+/// whether directories are made above, `delete` whether all below goes too, and `rename` the other path and whether what stands there is
+/// overwritten.
 fn ask_of(alloc: Global, words: &Words<'_>) -> Result<Ask, NoMemory> {
     let src = Text::from_str(alloc, words[3])?;
     let client_name = Text::new(alloc);
@@ -52,6 +53,20 @@ fn ask_of(alloc: Global, words: &Words<'_>) -> Result<Ask, NoMemory> {
             src,
             recursive: is_true(words[4]),
         },
+        "rename" => Ask::Rename {
+            src,
+            dst: Text::from_str(alloc, words[4])?,
+            overwrite_dest: is_true(words[5]),
+        },
+        "setPermission" => Ask::SetPermission {
+            src,
+            permission: octal(words[4]),
+        },
+        "setReplication" => Ask::SetReplication {
+            src,
+            replication: small(words[4]),
+        },
+        "getContentSummary" => Ask::GetContentSummary { path: src },
         "setTimes" => Ask::SetTimes {
             src,
             mtime: 1,

@@ -2,7 +2,7 @@
 use crate::steps::Said;
 use hdfs_cluster::{
     Answer, AskFault, DatanodeInfo, DirList, FileStatusMsg, HdfsError, LinkFault, LocatedBlock,
-    LocatedBlocks,
+    LocatedBlocks, Summary,
 };
 use std::str;
 
@@ -59,6 +59,16 @@ fn tell_page(page: &Option<DirList>, said: &mut Said) {
     }
 }
 
+/// How many bytes, files and directories there are, the quota of these, and how many bytes all replicas have, with their quota.
+fn tell_summary(summary: &Summary, said: &mut Said) {
+    said.number(summary.length);
+    said.number(summary.file_count);
+    said.number(summary.directory_count);
+    said.number(summary.quota);
+    said.number(summary.space_consumed);
+    said.number(summary.space_quota);
+}
+
 /// What a namenode gives: whether a file is closed, what stands at a path or in a directory, that there are defaults or another answer, or
 /// why there is none.
 pub(crate) fn tell_given(given: &Result<Answer, AskFault>, said: &mut Said) {
@@ -69,6 +79,8 @@ pub(crate) fn tell_given(given: &Result<Answer, AskFault>, said: &mut Said) {
         Ok(Answer::GetListing(page)) => tell_page(page, said),
         Ok(Answer::Mkdirs(done)) => said.truth(*done),
         Ok(Answer::Delete(done)) => said.truth(*done),
+        Ok(Answer::SetReplication(done)) => said.truth(*done),
+        Ok(Answer::GetContentSummary(summary)) => tell_summary(summary, said),
         Ok(_) => said.word("answer"),
         Err(fault) => tell_ask_fault(fault, said),
     }
