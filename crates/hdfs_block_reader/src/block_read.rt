@@ -49,7 +49,8 @@ impl BlockRead {
         ensures block { IfOk result (λ reader. block_of reader ≡ block) }
         ensures range { IfOk result (λ reader. (wanted_of reader ≡ offset) × (end_of reader ≡ offset + len)) }
         ensures client { IfOk result (λ reader. client_of reader ≡ client.now) }
-        ensures idle { IfOk result (λ reader. (link_of reader ≡ None) × (given_up_of reader ≡ []) × (moved_of reader ≡ false)
+        ensures idle { IfOk result (λ reader. (link_of reader ≡ None) × (given_up_of reader ≡ [])
+            × (moved_of reader ≡ false)
             × (has_failed reader ≡ false)) }
         ensures stands { IfOk result (λ reader. (shown : Shown) → Stands shown reader) }
         ensures err { IfErr result (λ e. e ≡ errors.NoMemory) }
@@ -153,7 +154,8 @@ impl BlockRead {
     fn finish_at_end<C: Cluster>(&mut self, cluster: &mut C, cache: &mut ConnectionCache)
         requires { Holds (C.shown cluster.old) self.old }
         ensures goes { Goes (C.shown cluster.old) (C.shown cluster.new) self.old self.new }
-        ensures same { (self.new.wanted ≡ self.old.wanted) × (self.new.failed ≡ self.old.failed) × (self.new.moved ≡ self.old.moved) }
+        ensures same { (self.new.wanted ≡ self.old.wanted) × (self.new.failed ≡ self.old.failed)
+            × (self.new.moved ≡ self.old.moved) }
         ensures idle { self.new.wanted ≡ self.new.end → self.new.link ≡ None }
         ensures cached { KeepsConnections self.old self.new cache.old cache.new }
     {
@@ -407,7 +409,8 @@ impl BlockRead {
         ensures failed { self.new.failed ≡ self.old.failed }
         ensures piece { IfOk result (λ piece. MatchOption piece
             ((tried_of self.new ≡ node_count self.old.block) × (self.new.wanted ≡ self.old.wanted))
-            (λ bytes. (self.new.wanted ≡ self.old.wanted + length bytes) × (0 < length bytes) × (self.new.moved ≡ true))) }
+            (λ bytes. (self.new.wanted ≡ self.old.wanted + length bytes) × (0 < length bytes)
+            × (self.new.moved ≡ true))) }
         ensures cached { KeepsConnections self.old self.new cache.old cache.new }
         ensures bytes { IfOk result (λ piece. (block : List ℕ) → ShowsBlock (C.shown cluster.old) self.old block
             → IsPieceOf block self.old.wanted piece) }

@@ -64,7 +64,8 @@ impl BlockWriter {
         packet_size: u32,
     ) -> Result<BlockWriter, WriteFault>
         requires plan { IsToWrite plan.block × (plan.rebuilds ≤ settings.now.rebuild_limit) }
-        requires sizes { ArePacketSizes plan.chunk packet_size × (1 ≤ settings.now.window) × (settings.now.window ≤ 1000) }
+        requires sizes { ArePacketSizes plan.chunk packet_size × (1 ≤ settings.now.window)
+            × (settings.now.window ≤ 1000) }
         requires size { (plan.block.b.num_bytes ≤ block_size) × (block_size < 2 ^ 63) }
         requires allowed { C.allows (SetupOf (setup_of plan.block plan.chunk (name_of namenode.now))) }
         ensures stands { IfOk result (λ writer. Stands (C.shown cluster.new) writer) }
@@ -101,7 +102,8 @@ impl BlockWriter {
 
     /// Ends the link, and has failed from now on.
     fn fail<C: Cluster>(&mut self, cluster: &mut C)
-        requires { (pipe : BlockPipeline) → self.old.pipe ≡ Some pipe → IsSome ((C.shown cluster.old).writes pipe.link) }
+        requires { (pipe : BlockPipeline) → self.old.pipe ≡ Some pipe
+            → IsSome ((C.shown cluster.old).writes pipe.link) }
         ensures failed { self.new ≡ record self.old { pipe = None; packet = None } }
         ensures ended { (pipe : BlockPipeline) → self.old.pipe ≡ Some pipe
             → WriteEnded (C.shown cluster.old) pipe.link (C.shown cluster.new) }
@@ -127,7 +129,8 @@ impl BlockWriter {
         ensures holds { OnOk result (Holds (C.shown cluster.new) self.new × (self.new.packet ≡ None)) }
         ensures full { OnOk result (StaysFull self.old self.new) }
         ensures wrote { OnOk result (Wrote (C.shown cluster.old) self.old [] (C.shown cluster.new) self.new) }
-        ensures err { IfErr result (λ fault. Fails (C.shown cluster.old) self.old fault (C.shown cluster.new) self.new) }
+        ensures err { IfErr result (λ fault. Fails (C.shown cluster.old) self.old fault (C.shown cluster.new)
+            self.new) }
         ensures answered { OnOk result (GoesOnAnswered C.may_answer (name_of namenode.old) self.old self.new) }
         ensures client { SameClient namenode.old namenode.new }
     {
@@ -157,7 +160,8 @@ impl BlockWriter {
         requires full { SendsFull self.old }
         ensures stands { OnOk result (Stands (C.shown cluster.new) self.new) }
         ensures wrote { OnOk result (Wrote (C.shown cluster.old) self.old [] (C.shown cluster.new) self.new) }
-        ensures err { IfErr result (λ fault. Fails (C.shown cluster.old) self.old fault (C.shown cluster.new) self.new) }
+        ensures err { IfErr result (λ fault. Fails (C.shown cluster.old) self.old fault (C.shown cluster.new)
+            self.new) }
         ensures answered { OnOk result (GoesOnAnswered C.may_answer (name_of namenode.old) self.old self.new) }
         ensures client { SameClient namenode.old namenode.new }
     {
@@ -183,7 +187,8 @@ impl BlockWriter {
         ensures stands { OnOk result (Stands (C.shown cluster.new) self.new) }
         ensures wrote { IfOk result (λ n. (0 < n) × (n ≤ length bytes.now)
             × Wrote (C.shown cluster.old) self.old (take n bytes.now) (C.shown cluster.new) self.new) }
-        ensures err { IfErr result (λ fault. Fails (C.shown cluster.old) self.old fault (C.shown cluster.new) self.new) }
+        ensures err { IfErr result (λ fault. Fails (C.shown cluster.old) self.old fault (C.shown cluster.new)
+            self.new) }
         ensures answered { OnOk result (GoesOnAnswered C.may_answer (name_of namenode.old) self.old self.new) }
         ensures client { SameClient namenode.old namenode.new }
     {
@@ -209,7 +214,8 @@ impl BlockWriter {
         requires room { self.old.length + length bytes.now ≤ self.old.block_size }
         ensures stands { OnOk result (Stands (C.shown cluster.new) self.new) }
         ensures wrote { OnOk result (Wrote (C.shown cluster.old) self.old bytes.now (C.shown cluster.new) self.new) }
-        ensures err { IfErr result (λ fault. Fails (C.shown cluster.old) self.old fault (C.shown cluster.new) self.new) }
+        ensures err { IfErr result (λ fault. Fails (C.shown cluster.old) self.old fault (C.shown cluster.new)
+            self.new) }
         ensures answered { OnOk result (GoesOnAnswered C.may_answer (name_of namenode.old) self.old self.new) }
         ensures client { SameClient namenode.old namenode.new }
     {
@@ -237,12 +243,14 @@ impl BlockWriter {
         requires stands { Stands (C.shown cluster.old) self.old }
         ensures stands { Stands (C.shown cluster.new) self.new }
         ensures count { IfOk result (λ n. n ≡ min (length bytes.now) (size_of self.old - length_of self.old)) }
-        ensures err { IfErr result (λ fault. Fails (C.shown cluster.old) self.old fault (C.shown cluster.new) self.new) }
+        ensures err { IfErr result (λ fault. Fails (C.shown cluster.old) self.old fault (C.shown cluster.new)
+            self.new) }
         ensures failed { HasFailed self.old
             → (result ≡ Err faults.Failed) × (self.new ≡ self.old) × (cluster.new ≡ cluster.old) }
 
         // Over a told picture these bytes are carried too, whatever datanodes fail, and nothing changes but the block.
-        ensures wrote { IfOk result (λ n. Wrote (C.shown cluster.old) self.old (take n bytes.now) (C.shown cluster.new) self.new) }
+        ensures wrote { IfOk result (λ n. Wrote (C.shown cluster.old) self.old (take n bytes.now) (C.shown cluster.new)
+            self.new) }
         ensures answered { OnOk result (GoesOnAnswered C.may_answer (name_of namenode.old) self.old self.new) }
         ensures client { SameClient namenode.old namenode.new }
     {

@@ -48,7 +48,8 @@ impl BlockWriter {
         requires kept { IsKept self.old }
         requires space { HasRoom self.old }
         ensures same { self.new ≡ record self.old { packet = None } }
-        ensures next { IfOk result (λ packet. IsNext self.old.chunk self.old.packet_size (start_of self.old) self.old.seqno packet) }
+        ensures next { IfOk result (λ packet. IsNext self.old.chunk self.old.packet_size (start_of self.old)
+            self.old.seqno packet) }
         ensures payload { IfOk result (λ packet. packet.payload ≡ filling_of self.old.packet) }
         ensures room { IfOk result (λ packet. length packet.payload < packet.limit) }
     {
@@ -78,7 +79,8 @@ impl BlockWriter {
 
     /// Whether the packet has no room left.
     pub(crate) fn has_full_packet(&self) -> bool
-        ensures { IsTrue result ↔ ((packet : Outgoing) × (self.now.packet ≡ Some packet) × (length packet.payload ≡ packet.limit)) }
+        ensures { IsTrue result ↔ ((packet : Outgoing) × (self.now.packet ≡ Some packet)
+            × (length packet.payload ≡ packet.limit)) }
     {
         match &self.packet {
             Some(packet) => packet.is_full(),

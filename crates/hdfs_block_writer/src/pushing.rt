@@ -70,8 +70,10 @@ impl BlockWriter {
         requires standing { IsStanding self.now.settings (C.shown cluster.old) pipe [] }
         requires ended { IsSome pipe.core.end × (pipe.core.end ≡ Some Done → ⊥) }
         requires few { (total pipe.core.pushed + unsent ≤ self.now.length) × (self.now.length < 2 ^ 63) }
-        ensures ok { IfOk result (λ pipe'. RebuildsEnded self.now.settings (C.shown cluster.old) pipe (C.shown cluster.new) pipe') }
-        ensures err { IfErr result (λ fault. FallsEnded self.now.settings (C.shown cluster.old) pipe fault (C.shown cluster.new)) }
+        ensures ok { IfOk result (λ pipe'. RebuildsEnded self.now.settings (C.shown cluster.old) pipe
+            (C.shown cluster.new) pipe') }
+        ensures err { IfErr result (λ fault. FallsEnded self.now.settings (C.shown cluster.old) pipe fault
+            (C.shown cluster.new)) }
         ensures answered { IfOk result (λ pipe'.
             StaysAnswered C.may_answer (name_of namenode.old) pipe.plan pipe'.plan) }
         ensures client { SameClient namenode.old namenode.new }
@@ -153,7 +155,8 @@ impl BlockWriter {
         requires reaches { ReachesAll (proxy_of namenode.old) (C.shown cluster.old) }
         requires allowed { LetsGoOn C.allows C.may_answer (name_of namenode.old) pipe.plan.src pipe.plan.block }
         requires can { CanPush self.now.settings (C.shown cluster.old) pipe self.now.length packet }
-        ensures ok { IfOk result (λ pipe'. Pushes self.now.settings (C.shown cluster.old) pipe packet (C.shown cluster.new) pipe') }
+        ensures ok { IfOk result (λ pipe'. Pushes self.now.settings (C.shown cluster.old) pipe packet
+            (C.shown cluster.new) pipe') }
         ensures err { IfErr result (λ fault.
             PushesNot self.now.settings (C.shown cluster.old) pipe packet fault (C.shown cluster.new)) }
         ensures answered { IfOk result (λ pipe'.
@@ -186,9 +189,11 @@ impl BlockWriter {
         requires standing { IsStanding self.now.settings (C.shown cluster.old) pipe [] }
         requires ending { IsEnding pipe }
         requires few { (total pipe.core.pushed ≤ self.now.length) × (self.now.length < 2 ^ 63) }
-        ensures ok { IfOk result (λ settled. Settles self.now.settings (C.shown cluster.old) pipe settled (C.shown cluster.new)) }
+        ensures ok { IfOk result (λ settled. Settles self.now.settings (C.shown cluster.old) pipe settled
+            (C.shown cluster.new)) }
         ensures last { IfOk result (λ settled. ReceivesOnce C.shown C.ends cluster.old pipe settled cluster.new) }
-        ensures err { IfErr result (λ fault. FallsFor self.now.settings (C.shown cluster.old) pipe [] fault (C.shown cluster.new)) }
+        ensures err { IfErr result (λ fault. FallsFor self.now.settings (C.shown cluster.old) pipe [] fault
+            (C.shown cluster.new)) }
         ensures answered { IfOk result (λ settled.
             StaysAnswered C.may_answer (name_of namenode.old) pipe.plan (plan_in settled)) }
         ensures client { SameClient namenode.old namenode.new }
@@ -236,9 +241,11 @@ impl BlockWriter {
         requires standing { IsStanding self.now.settings (C.shown cluster.old) pipe [] }
         requires ending { IsEnding pipe }
         requires few { (total pipe.core.pushed ≤ self.now.length) × (self.now.length < 2 ^ 63) }
-        ensures finishes { IfOk result (λ plan. Finishes self.now.settings (C.shown cluster.old) pipe (C.shown cluster.new) plan) }
+        ensures finishes { IfOk result (λ plan. Finishes self.now.settings (C.shown cluster.old) pipe
+            (C.shown cluster.new) plan) }
         ensures last { OnOk result (ReceivesAll C.shown C.ends cluster.old pipe cluster.new) }
-        ensures err { IfErr result (λ fault. FinishesNot self.now.settings (C.shown cluster.old) pipe fault (C.shown cluster.new)) }
+        ensures err { IfErr result (λ fault. FinishesNot self.now.settings (C.shown cluster.old) pipe fault
+            (C.shown cluster.new)) }
         ensures answered { IfOk result (StaysAnswered C.may_answer (name_of namenode.old) pipe.plan) }
         ensures client { SameClient namenode.old namenode.new }
     {

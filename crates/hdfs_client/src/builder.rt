@@ -157,7 +157,8 @@ fn home_at(
         place.now.host) ≡ true) }
     ensures rooted { IfOk result (λ home. is_rooted home ≡ true) }
     ensures err { IfErr result (λ e. (e ≡ build_errors.NoMemory)
-        ⊎ ((e ≡ build_errors.Home) × (is_absolute_or_empty (home_root_of config.now place.now.scheme place.now.host) ≡ false))) }
+        ⊎ ((e ≡ build_errors.Home) × (is_absolute_or_empty (home_root_of config.now place.now.scheme place.now.host)
+        ≡ false))) }
 {
     match build_home_dir(
         alloc,

@@ -32,9 +32,11 @@ impl Client {
     ) -> Result<Vec<FileStatus>, ClientError>
         requires client { IsClientOf self.old (C.shown cluster.old) }
         requires allowed { LetsList C.allows C.may_answer (mounts_of self.old) recursive path.now }
-        ensures listed { IfOk result (λ found. Lists (HasAll C.may_answer (mounts_of self.old)) recursive path.now found.items) }
+        ensures listed { IfOk result (λ found. Lists (HasAll C.may_answer (mounts_of self.old)) recursive path.now
+            found.items) }
         ensures count { IfOk result (λ found. vec_len found ≤ limit) }
-        ensures err { IfErr result (IsListFault limit (IsMoreThan C.may_answer (mounts_of self.old) recursive path.now limit)) }
+        ensures err { IfErr result (IsListFault limit (IsMoreThan C.may_answer (mounts_of self.old) recursive path.now
+            limit)) }
         ensures client { IsClientOf self.new (C.shown cluster.new) }
     {
         let mut found = Vec::new(self.alloc);
@@ -59,12 +61,14 @@ impl Client {
         pending: &mut Vec<FileStatus>,
     ) -> Result<(), ClientError>
         requires client { IsClientOf self.old (C.shown cluster.old) }
-        requires allowed { (recursive && status.now.isdir) ≡ true → LetsListAt C.allows (mounts_of self.old) status.now.path }
+        requires allowed { (recursive && status.now.isdir) ≡ true
+            → LetsListAt C.allows (mounts_of self.old) status.now.path }
         requires room { given + vec_len pending.old ≤ limit }
         ensures opened { OnOk result (Opens (HasAll C.may_answer (mounts_of self.old)) recursive status.now
             (reverse pending.old.items) (reverse pending.new.items)) }
         ensures count { OnOk result (given + vec_len pending.new ≤ limit) }
-        ensures err { IfErr result (IsListFault limit (IsTooLarge (HasSome C.may_answer (mounts_of self.old)) recursive status.now
+        ensures err { IfErr result (IsListFault limit (IsTooLarge (HasSome C.may_answer (mounts_of self.old)) recursive
+            status.now
             (limit - (given + vec_len pending.old)))) }
         ensures mounts { mounts_of self.new ≡ mounts_of self.old }
         ensures client { IsClientOf self.new (C.shown cluster.new) }
@@ -91,7 +95,8 @@ impl Client {
         requires room { given ≤ limit }
         ensures has { IfOk result (λ own. HasAll C.may_answer (mounts_of self.old) path.now own.items) }
         ensures count { IfOk result (λ own. given + vec_len own ≤ limit) }
-        ensures err { IfErr result (IsListFault limit (IsOver (HasSome C.may_answer (mounts_of self.old)) path.now (limit - given))) }
+        ensures err { IfErr result (IsListFault limit (IsOver (HasSome C.may_answer (mounts_of self.old)) path.now
+            (limit - given))) }
         ensures mounts { mounts_of self.new ≡ mounts_of self.old }
         ensures client { IsClientOf self.new (C.shown cluster.new) }
     {
@@ -115,9 +120,11 @@ impl Client {
         requires allowed { LetsListAt C.allows (mounts_of self.old) path.now }
         requires room { given + vec_len own.old ≤ limit }
         requires front { IsFront C.may_answer (mounts_of self.old) path.now start.old own.old.items }
-        ensures came { IfOk result (Pages C.may_answer (mounts_of self.old) path.now start.new own.old.items own.new.items) }
+        ensures came { IfOk result (Pages C.may_answer (mounts_of self.old) path.now start.new own.old.items
+            own.new.items) }
         ensures count { OnOk result (given + vec_len own.new ≤ limit) }
-        ensures err { IfErr result (IsListFault limit (IsOver (HasSome C.may_answer (mounts_of self.old)) path.now (limit - given))) }
+        ensures err { IfErr result (IsListFault limit (IsOver (HasSome C.may_answer (mounts_of self.old)) path.now
+            (limit - given))) }
         ensures mounts { mounts_of self.new ≡ mounts_of self.old }
         ensures client { IsClientOf self.new (C.shown cluster.new) }
     {
@@ -159,7 +166,8 @@ impl Client {
         requires allowed { LetsAt C.allows (λ at. asks.GetListing at start.now false) self.old path.now }
         ensures asked { AsksAt C.serves false (λ at. asks.GetListing at start.now false) self.old path.now cluster.old
             (as_answer answers.GetListing result) self.new cluster.new }
-        ensures answered { IfOk result (λ found. IfSome found (IsAnswered C.may_answer (mounts_of self.old) path.now start.now)) }
+        ensures answered { IfOk result (λ found. IfSome found
+            (IsAnswered C.may_answer (mounts_of self.old) path.now start.now)) }
         ensures client { IsClientOf self.new (C.shown cluster.new) }
     {
         let to = self.resolve(path)?;
@@ -197,7 +205,8 @@ fn take_page(
     requires { given + vec_len own.old ≤ limit }
     ensures taken { OnOk result (Takes path.now page.partial_listing [] own.old.items own.new.items) }
     ensures count { OnOk result (given + vec_len own.new ≤ limit) }
-    ensures err { IfErr result (IsListFault limit (TakesMore path.now page.partial_listing own.old.items (limit - given))) }
+    ensures err { IfErr result (IsListFault limit (TakesMore path.now page.partial_listing own.old.items
+        (limit - given))) }
 {
     let mut left = page.partial_listing.into_vec();
     left.reverse();

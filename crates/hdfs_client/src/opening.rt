@@ -1,10 +1,9 @@
 //! How a service of a client opens a file to be written: a new one, and one that is gone on with.
-ghost use Rattle.std.specs.Prelude.{◌≡◌, ◌≤◌, ◌⊎◌, Option, Some, None, IfOk, IfErr, IfSome, true, false, unwrap_or};
+ghost use Rattle.std.specs.Prelude.{◌≡◌, ◌≤◌, ◌⊎◌, Option, Some, None, IfOk, IfErr, true, false};
 ghost use Rattle.hdfs_cluster.specs.Picture.{SameButActive, Told};
-ghost use Rattle.hdfs_cluster.specs.Requests.{AskOf, IsAnsweredId, LetsClose, id_in};
+ghost use Rattle.hdfs_cluster.specs.Requests.{AskOf, LetsClose, id_in};
 ghost use Rattle.hdfs_cluster.specs.Shown.{Later};
 ghost use Rattle.hdfs_cluster.specs.declared.asks.Ask.TheVariants as asks;
-ghost use Rattle.hdfs_cluster.specs.declared.errors.ArgFault.TheVariants as args;
 ghost use Rattle.hdfs_cluster.specs.declared.errors.Feature.TheVariants as features;
 ghost use Rattle.hdfs_cluster.specs.declared.errors.HdfsError.TheVariants as errors;
 ghost use Rattle.hdfs_client.specs.Opening as spec;
@@ -92,7 +91,8 @@ fn limited_defaults<C: Cluster>(
 ) -> Result<ServerDefaults, HdfsError>
     requires reaches { ReachesAll (proxy_of namenode.old) (C.shown cluster.old) }
     requires allowed { C.allows (AskOf asks.GetServerDefaults) }
-    ensures knows { IfOk result (λ defaults. KnowsDefaults C.serves namenode.old cluster.old defaults namenode.new cluster.new) }
+    ensures knows { IfOk result (λ defaults. KnowsDefaults C.serves namenode.old cluster.old defaults namenode.new
+        cluster.new) }
     ensures picture { Told SameButActive (C.shown cluster.old).picture (C.shown cluster.new).picture }
     ensures err { IfErr result IsOpenFault }
     ensures keeps { KeepsName namenode.old namenode.new × Later (C.shown cluster.old) (C.shown cluster.new) }
@@ -134,9 +134,11 @@ pub(crate) fn create_by<C: Cluster>(
     requires reaches { ReachesAll (proxy_of namenode.old) (C.shown cluster.old) }
     requires allowed { LetsCreate C.allows C.may_answer (name_of namenode.old) path options.now }
     requires limits { (are_options options.now ≡ true) × (1 ≤ rebuilding.window) × (rebuilding.window ≤ 1000) }
-    ensures created { IfOk result (λ writer. CreatesBy C.serves path options.now rebuilding namenode.old cluster.old writer
+    ensures created { IfOk result (λ writer. CreatesBy C.serves path options.now rebuilding namenode.old cluster.old
+        writer
         namenode.new cluster.new) }
-    ensures begins { IfOk result (λ writer. BeginsNew (C.shown cluster.old) path options.now writer (C.shown cluster.new)) }
+    ensures begins { IfOk result (λ writer. BeginsNew (C.shown cluster.old) path options.now writer
+        (C.shown cluster.new)) }
     ensures stands { IfOk result (Stands (C.shown cluster.new)) }
     ensures answered { IfOk result (IsAnswered C.may_answer (name_of namenode.old)) }
     ensures err { IfErr result IsOpenFault }
@@ -194,7 +196,8 @@ pub(crate) fn append_by<C: Cluster>(
     requires reaches { ReachesAll (proxy_of namenode.old) (C.shown cluster.old) }
     requires allowed { LetsAppend C.allows C.may_answer (name_of namenode.old) path }
     requires limits { (1 ≤ rebuilding.window) × (rebuilding.window ≤ 1000) }
-    ensures opened { IfOk result (λ writer. OpensBy C.serves path rebuilding namenode.old cluster.old writer namenode.new cluster.new) }
+    ensures opened { IfOk result (λ writer. OpensBy C.serves path rebuilding namenode.old cluster.old writer
+        namenode.new cluster.new) }
     ensures begins { IfOk result (λ writer. BeginsAgain (C.shown cluster.old) path writer (C.shown cluster.new)) }
     ensures stands { IfOk result (Stands (C.shown cluster.new)) }
     ensures answered { IfOk result (IsAnswered C.may_answer (name_of namenode.old)) }

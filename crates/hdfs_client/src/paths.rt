@@ -82,7 +82,8 @@ impl Client {
         requires client { IsClientOf self.old (C.shown cluster.old) }
         requires allowed { LetsAt C.allows (λ at. asks.Mkdirs at permission create_parent) self.old path.now }
         ensures refused { is_permission permission ≡ false
-            → (result ≡ Err (errors.InvalidArgument args.Options)) × (self.new ≡ self.old) × (cluster.new ≡ cluster.old) }
+            → (result ≡ Err (errors.InvalidArgument args.Options)) × (self.new ≡ self.old)
+            × (cluster.new ≡ cluster.old) }
         ensures asked { is_permission permission ≡ true → Gives C.serves true
             (λ at. asks.Mkdirs at permission create_parent) answers.Mkdirs
             self.old path.now cluster.old self.new cluster.new (λ made. result ≡ done made) }

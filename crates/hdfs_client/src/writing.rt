@@ -65,13 +65,15 @@ impl Client {
         path: &str,
         options: &WriteOptions,
     ) -> Result<FileWriter, HdfsError>
-        requires client { IsClientOf self.old (C.shown cluster.old) × ReachesWhole self.old path.now (C.shown cluster.old) }
+        requires client { IsClientOf self.old (C.shown cluster.old)
+            × ReachesWhole self.old path.now (C.shown cluster.old) }
         requires allowed { LetsCreate C.allows C.may_answer self.old path.now options.now }
         ensures refused { are_options options.now ≡ false → (result ≡ Err (errors.InvalidArgument args.Options))
             × (self.new ≡ self.old) × (cluster.new ≡ cluster.old) }
         ensures created { IfOk result (λ writer. OpensAt (λ at before file after. CreatesBy C.serves at options.now
             (rebuilding_of self.old) before cluster.old file after cluster.new) self.old path.now writer self.new) }
-        ensures begins { IfOk result (λ writer. OpensAt (λ at before file after. BeginsNew (C.shown cluster.old) at options.now file
+        ensures begins { IfOk result (λ writer. OpensAt (λ at before file after.
+            BeginsNew (C.shown cluster.old) at options.now file
             (C.shown cluster.new)) self.old path.now writer self.new) }
         ensures stands { IfOk result (λ writer. IsWriterOf self.new (C.shown cluster.new) writer
             × IsAnsweredTo C.may_answer self.new writer) }
@@ -103,11 +105,13 @@ impl Client {
         cluster: &mut C,
         path: &str,
     ) -> Result<FileWriter, HdfsError>
-        requires client { IsClientOf self.old (C.shown cluster.old) × ReachesWhole self.old path.now (C.shown cluster.old) }
+        requires client { IsClientOf self.old (C.shown cluster.old)
+            × ReachesWhole self.old path.now (C.shown cluster.old) }
         requires allowed { LetsAppend C.allows C.may_answer self.old path.now }
         ensures opened { IfOk result (λ writer. OpensAt (λ at before file after. OpensBy C.serves at
             (rebuilding_of self.old) before cluster.old file after cluster.new) self.old path.now writer self.new) }
-        ensures begins { IfOk result (λ writer. OpensAt (λ at before file after. BeginsAgain (C.shown cluster.old) at file
+        ensures begins { IfOk result (λ writer. OpensAt (λ at before file after.
+            BeginsAgain (C.shown cluster.old) at file
             (C.shown cluster.new)) self.old path.now writer self.new) }
         ensures stands { IfOk result (λ writer. IsWriterOf self.new (C.shown cluster.new) writer
             × IsAnsweredTo C.may_answer self.new writer) }
@@ -145,16 +149,22 @@ impl FileWriter {
         bytes: &[u8],
     ) -> Result<usize, HdfsError>
         requires client { IsClientOf client.old (C.shown cluster.old) }
-        requires writer { IsWriterOf client.old (C.shown cluster.old) self.old × IsAnsweredTo C.may_answer client.old self.old }
+        requires writer { IsWriterOf client.old (C.shown cluster.old) self.old
+            × IsAnsweredTo C.may_answer client.old self.old }
         requires allowed { LetsWriteOf C.allows C.may_answer client.old self.old }
-        ensures shut { open_of self.old ≡ None → (result ≡ Err (why_shut self.old)) × (self.new ≡ self.old) × (client.new ≡ client.old)
+        ensures shut { open_of self.old ≡ None → (result ≡ Err (why_shut self.old)) × (self.new ≡ self.old)
+            × (client.new ≡ client.old)
             × (cluster.new ≡ cluster.old) }
         ensures count { IfOk result (λ n. n ≡ length bytes.now) }
-        ensures wrote { OnOk result (GoesOn (λ file file'. inner.Wrote (C.shown cluster.old) file bytes.now (C.shown cluster.new) file')
+        ensures wrote { OnOk result (GoesOn (λ file file'. inner.Wrote (C.shown cluster.old) file bytes.now
+            (C.shown cluster.new) file')
             self.old self.new) }
-        ensures err { IfErr result (λ error. (file : Inner) → open_of self.old ≡ Some file → inner.has_failed file ≡ false
-            → inner.AreLimited (inner.sizes_of file) → inner.Fails (C.shown cluster.old) file error (C.shown cluster.new)) }
-        ensures writer { IsWriterOf client.new (C.shown cluster.new) self.new × IsAnsweredTo C.may_answer client.new self.new
+        ensures err { IfErr result (λ error. (file : Inner) → open_of self.old ≡ Some file
+            → inner.has_failed file ≡ false
+            → inner.AreLimited (inner.sizes_of file) → inner.Fails (C.shown cluster.old) file error
+            (C.shown cluster.new)) }
+        ensures writer { IsWriterOf client.new (C.shown cluster.new) self.new
+            × IsAnsweredTo C.may_answer client.new self.new
             × SameBut (service_of self.old) client.old client.new }
         ensures client { IsClientOf client.new (C.shown cluster.new) }
     {
@@ -185,13 +195,15 @@ impl FileWriter {
         cluster: &mut C,
     ) -> Result<(), HdfsError>
         requires client { IsClientOf client.old (C.shown cluster.old) }
-        requires writer { IsWriterOf client.old (C.shown cluster.old) self.old × IsAnsweredTo C.may_answer client.old self.old }
+        requires writer { IsWriterOf client.old (C.shown cluster.old) self.old
+            × IsAnsweredTo C.may_answer client.old self.old }
         requires allowed { LetsCloseOf C.allows C.may_answer client.old self.old }
         ensures again { open_of self.old ≡ None → (result ≡ (if is_closed self.old then Ok tt else Err errors.Failed))
             × (self.new ≡ self.old) × (client.new ≡ client.old) × (cluster.new ≡ cluster.old) }
         ensures closed { OnOk result ((file : Inner) → open_of self.old ≡ Some file
             → inner.Closed (C.shown cluster.old) file (C.shown cluster.new)) }
-        ensures err { IfErr result (λ error. (file : Inner) → open_of self.old ≡ Some file → inner.has_failed file ≡ false
+        ensures err { IfErr result (λ error. (file : Inner) → open_of self.old ≡ Some file
+            → inner.has_failed file ≡ false
             → inner.FailsToClose (C.shown cluster.old) file error (C.shown cluster.new)) }
         ensures shut { (open_of self.new ≡ None) × (is_closed self.new ≡ is_ok result) }
         ensures others { SameBut (service_of self.old) client.old client.new }

@@ -16,7 +16,7 @@ use Rattle.hdfs_file_writer.specs.Tails.{Tail, Bare, Finished, Reopened, Going}
 use Rattle.hdfs_file_writer.specs.Writers.{IsAnsweredPlan, IsAnsweredTail, file_id_of, path_of, tail_of}
 use Rattle.hdfs_commands.specs.Asking.{AreAnswered, LetsAny, LetsAt}
 use Rattle.hdfs_commands.specs.declared.session.Session.{Session}
-use Rattle.hdfs_commands.specs.Opening.{appending, creating}
+use Rattle.hdfs_model.specs.Opening.{appending, creating}
 
 module _ {allows : Request → Type 0} (may_answer : Ask → Answer → Type 0) (all : (request : Request) → allows request) where
   lets_blocks : (client path : List ℕ) (file_id : Option ℕ) → LetsWriteBlocks allows may_answer client path file_id

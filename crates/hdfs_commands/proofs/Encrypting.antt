@@ -41,7 +41,7 @@ use Rattle.hdfs_commands.proofs.Failing.{append_opens, others_open}
 use Rattle.hdfs_file_reader.proofs.Looking.{looks_from-Leaves, looks_trans}
 use Rattle.hdfs_commands.proofs.OneFile.{apart_by_test}
 use Rattle.hdfs_namenode.specs.Relaying.{Came}
-use Rattle.hdfs_commands.specs.Opening.{appending}
+use Rattle.hdfs_model.specs.Opening.{appending}
 use Rattle.hdfs_commands.proofs.Opening.{Over}
 use Rattle.hdfs_commands.proofs.Sized.{remembers_trans}
 use Rattle.hdfs_commands.proofs.Starting.{OpensFile, appended_opens, appended_over}

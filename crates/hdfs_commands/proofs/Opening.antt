@@ -28,8 +28,8 @@ use Rattle.hdfs_cluster.specs.Stores.{AgreesAt}
 use Rattle.hdfs_cluster.proofs.Repeating.{append_repeats, create_repeats}
 use Rattle.hdfs_namenode.specs.Relaying.{Came}
 use Rattle.hdfs_namenode.proofs.Relayed.{relayed_row}
-use Rattle.hdfs_commands.specs.Encrypted.{tells_encryption}
-use Rattle.hdfs_commands.specs.Opening.{appending, creating}
+use Rattle.hdfs_model.specs.Opening.{tells_encryption}
+use Rattle.hdfs_model.specs.Opening.{appending, creating}
 use Rattle.hdfs_commands.proofs.Agreeing.{agrees_files}
 use Rattle.hdfs_file_writer.specs.Tails.{Tail, FileCarries}
 use Rattle.hdfs_file_writer.proofs.Creating.{created_others}

@@ -42,7 +42,7 @@ use Rattle.hdfs_commands.proofs.Agreeing.{agrees_files, agrees_told, is_told}
 use Rattle.hdfs_commands.proofs.Begun.{Begun, closed_at, create_begun, open_begun}
 use Rattle.hdfs_commands.proofs.Moved.{HasMore}
 use Rattle.hdfs_namenode.specs.Relaying.{Came}
-use Rattle.hdfs_commands.specs.Opening.{appending, creating}
+use Rattle.hdfs_model.specs.Opening.{appending, creating}
 use Rattle.hdfs_commands.proofs.Opening.{Over, append_over, create_over, made, was_made, was_reopened}
 use Rattle.hdfs_file_reader.proofs.Looking.{looks_from-Leaves, looks_trans}
 use Rattle.hdfs_commands.proofs.Refusing.{append_step, create_step, kinds_same}

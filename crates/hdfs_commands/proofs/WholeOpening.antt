@@ -23,7 +23,7 @@ use Rattle.hdfs_file_writer.proofs.Creating.{created_keeps}
 use Rattle.hdfs_file_writer.proofs.Placing.{at_id, at_path}
 use Rattle.hdfs_file_writer.proofs.WholeBlocks.{IsKept, before_last, none_between, size_kept, whole_kept}
 use Rattle.hdfs_commands.proofs.Begun.{opened_named, opened_only}
-use Rattle.hdfs_commands.specs.Opening.{appending, creating}
+use Rattle.hdfs_model.specs.Opening.{appending, creating}
 use Rattle.hdfs_commands.proofs.Opening.{made, may_be_made, may_be_reopened}
 use Rattle.hdfs_commands.proofs.WholeBeside.{StaysAt, stays_elsewhere, stays_named}
 

@@ -40,7 +40,7 @@ use Rattle.hdfs_commands.proofs.Begun.{opened_only}
 use Rattle.hdfs_commands.proofs.Moved.{HasMore, none_from}
 use Rattle.hdfs_commands.proofs.OneFile.{not_same, same_test}
 use Rattle.hdfs_namenode.specs.Relaying.{Came}
-use Rattle.hdfs_commands.specs.Opening.{appending, creating}
+use Rattle.hdfs_model.specs.Opening.{appending, creating}
 use Rattle.hdfs_commands.proofs.Opening.{made, was_made, was_reopened}
 use Rattle.hdfs_commands.proofs.ReadActs.{meets}
 use Rattle.hdfs_commands.proofs.Failing.{may_be_done}

@@ -1,20 +1,13 @@
 -- What a session may ask a cluster for, command by command. It asks for nothing else, whatever comes of it, but that any namenode may always
 -- be asked for its state, and to be in step (`keeps_up`). It names no block and no file's id but those that it was answered, for this path.
 -- How often is not said.
-use Rattle.std.specs.Prelude.{◌≡◌, ℕ, ◌<◌, ◌-◌, ◌^◌, true, false, List, [], Option, Some, unwrap_or}
+use Rattle.std.specs.Prelude.{◌≡◌, ℕ, ◌-◌, true, false, List, Option, Some}
 use Rattle.hdfs_cluster.specs.declared.asks.Answer.{Answer}
-use Rattle.hdfs_cluster.specs.declared.asks.Answer.TheVariants as answers
 use Rattle.hdfs_cluster.specs.declared.asks.Ask.{Ask}
-use Rattle.hdfs_cluster.specs.declared.asks.Ask.TheVariants as asks
-use Rattle.hdfs_cluster.specs.declared.messages.Appended.{Appended}
-use Rattle.hdfs_cluster.specs.declared.messages.FileStatusMsg.{FileStatusMsg}
-use Rattle.hdfs_cluster.specs.declared.messages.LocatedBlock.{LocatedBlock}
-use Rattle.hdfs_cluster.specs.declared.messages.ServerDefaults.{ServerDefaults}
-use Rattle.hdfs_cluster.specs.Requests.{Request, AskOf, IsAnsweredId, IsLocated, LetsClose, LetsWrite, id_in}
+use Rattle.hdfs_cluster.specs.Requests.{Request, IsAnsweredId, LetsClose, LetsWrite}
 use Rattle.hdfs_model.specs.declared.commands.Command.{Command}
 use Rattle.hdfs_model.specs.declared.commands.Command.TheVariants as commands
 use Rattle.hdfs_model.specs.declared.commands.Settings.{Settings}
-use Rattle.hdfs_model.specs.declared.commands.WriteOptions.{WriteOptions}
 use Rattle.hdfs_model.specs.Limits.{are_options}
 use Rattle.hdfs_model.specs.Owing.{is_misplaced}
 use Rattle.hdfs_model.specs.Steps.{path_of}
@@ -23,26 +16,9 @@ use Rattle.hdfs_namenode.specs.Clients.{client_name, name_of}
 use Rattle.hdfs_file_reader.specs.Files.{LetsReadFile}
 use Rattle.hdfs_file_writer.specs.Writers.{IsAnswered}
 use Rattle.hdfs_file_writer.specs.declared.file_writer.FileWriter.{FileWriter}
-use Rattle.hdfs_commands.specs.Encrypted.{tells_encryption}
-use Rattle.hdfs_commands.specs.Opening.{appending, creating}
+use Rattle.hdfs_model.specs.Opening.{LetsAppend, LetsCreate}
 use Rattle.hdfs_commands.specs.Session.{has_failed, opened_of, settings_of, writer_of}
 use Rattle.hdfs_commands.specs.declared.session.Session.{Session}
-
--- a new file: the cluster's defaults, the file with its options, and that it is deleted again where it was answered to be encrypted
-pub record LetsCreate (allows : Request → Type 0) (may_answer : Ask → Answer → Type 0) (client path : List ℕ) (options : WriteOptions) : Type 0 where
-  pub defaults : allows (AskOf asks.GetServerDefaults)
-  pub creates : (defaults : ServerDefaults) → allows (AskOf (creating path client options
-      (unwrap_or options.replication defaults.replication) (unwrap_or options.block_size defaults.block_size)))
-  pub deletes : (replication block_size : ℕ) (status : Option FileStatusMsg)
-      → may_answer (creating path client options replication block_size) (answers.Create status) → tells_encryption status ≡ true
-      → allows (AskOf (asks.Delete path false))
-
--- a file that is gone on with: the defaults, the file, and that it is closed again where it was answered to be encrypted
-pub record LetsAppend (allows : Request → Type 0) (may_answer : Ask → Answer → Type 0) (client path : List ℕ) : Type 0 where
-  pub defaults : allows (AskOf asks.GetServerDefaults)
-  pub opens : allows (AskOf (appending path client 4))
-  pub closes : (appended : Appended) → may_answer (appending path client 4) (answers.Append appended) → tells_encryption appended.stat ≡ true
-      → LetsClose allows may_answer client path (id_in appended.stat)
 
 -- what a command may ask for at a path, in the name of a client
 abbrev pub LetsAt : (Request → Type 0) → (Ask → Answer → Type 0) → List ℕ → List ℕ → Command → Type 0

@@ -1,16 +1,10 @@
 -- Files that are refused since they are encrypted.
-use Rattle.std.specs.Prelude.{◌≡◌, ℕ, Bool, false, is_some, Option, Some, None}
-use Rattle.hdfs_cluster.specs.declared.messages.FileStatusMsg.{FileStatusMsg}
+use Rattle.std.specs.Prelude.{◌≡◌, ℕ}
 use Rattle.hdfs_cluster.specs.Shown.{Later, SameNodes, SameReads, Shown}
 use Rattle.hdfs_file_writer.specs.Writers.{TouchesFile}
 use Rattle.hdfs_file_writer.specs.declared.file_writer.FileWriter.{FileWriter}
 use Rattle.hdfs_commands.specs.Preparing.{Remembers}
 use Rattle.hdfs_commands.specs.declared.session.Session.{Session}
-
--- a status tells encryption information
-abbrev pub tells_encryption : Option FileStatusMsg → Bool
-tells_encryption None = false
-tells_encryption (Some status) = is_some status.encryption
 
 -- asks that leave all links, and of a told picture all but a writer's file
 pub record OnlyTouches (old : Shown) (writer : FileWriter) (new : Shown) : Type 0 where

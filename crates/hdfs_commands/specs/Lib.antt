@@ -2,7 +2,6 @@ pub mod Acting
 pub mod Asking
 pub mod Encrypted
 pub mod Meeting
-pub mod Opening
 pub mod Preparing
 pub mod Refusing
 pub mod Session

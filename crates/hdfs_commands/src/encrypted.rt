@@ -1,6 +1,6 @@
 //! Files that can't be written, since they are encrypted.
 ghost use Rattle.std.specs.Prelude.{◌≡◌, None, false};
-ghost use Rattle.hdfs_commands.specs.Encrypted as spec;
+ghost use Rattle.hdfs_model.specs.Opening as spec;
 ghost use Rattle.hdfs_cluster.specs.declared.errors.Feature.TheVariants as features;
 ghost use Rattle.hdfs_cluster.specs.declared.errors.HdfsError.TheVariants as errors;
 
@@ -48,7 +48,8 @@ impl Session {
         requires reaches { ReachesAll (proxy_of self.old.namenode) (C.shown cluster.old) }
         requires stands { FileStands (C.shown cluster.old) writer }
         requires fresh { (link_of writer ≡ None) × (file_has_failed writer ≡ false) }
-        requires allowed { LetsClose C.allows C.may_answer (name_of self.old.namenode) (path_of writer) (file_id_of writer) }
+        requires allowed { LetsClose C.allows C.may_answer (name_of self.old.namenode) (path_of writer)
+            (file_id_of writer) }
         requires answered { IsAnswered C.may_answer (name_of self.old.namenode) writer }
         ensures is { result ≡ errors.UnsupportedFeature features.Encryption }
         ensures touches { OnlyTouches (C.shown cluster.old) writer (C.shown cluster.new) }

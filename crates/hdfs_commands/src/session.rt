@@ -48,7 +48,8 @@ impl Session {
         settings: &Settings,
     ) -> Result<Session, HdfsError>
         requires { 0 < (C.shown cluster.now).namenodes }
-        ensures settings { IfOk result (λ session. (settings_of session ≡ settings.now) × (are_settings settings.now ≡ true)) }
+        ensures settings { IfOk result (λ session. (settings_of session ≡ settings.now)
+            × (are_settings settings.now ≡ true)) }
         ensures stands { IfOk result (Stands (C.shown cluster.now)) }
         ensures fresh { IfOk result (λ session. has_failed session ≡ false) }
         ensures none { IfOk result (λ session. ((path : List ℕ) → writer_of session path ≡ None)
@@ -72,7 +73,8 @@ impl Session {
 
     /// The path at which a command is done.
     fn target(&self, command: &Command) -> Result<Text, HdfsError>
-        ensures ok { IfOk result (λ path. (path ≡ absolute (settings_of self.now).home (path_of command.now)) × (is_path path ≡ true)) }
+        ensures ok { IfOk result (λ path. (path ≡ absolute (settings_of self.now).home (path_of command.now))
+            × (is_path path ≡ true)) }
         ensures err { IfErr result (λ e. (e ≡ errors.NoMemory)
             ⊎ ((e ≡ errors.InvalidPath (path_of command.now))
             × (is_path (absolute (settings_of self.now).home (path_of command.now)) ≡ false))) }
@@ -102,8 +104,10 @@ impl Session {
         requires fine { has_failed self.old ≡ false }
         requires allowed { LetsPlaced C.allows C.may_answer self.old command.now }
         requires answered { AreAnswered C.may_answer self.old }
-        ensures acts { Acts command.now (C.shown cluster.old) self.old (C.shown cluster.new) (after self.new result) result }
-        ensures whole { KeepsBlocksWhole command.now (C.shown cluster.old) self.old (C.shown cluster.new) self.new result }
+        ensures acts { Acts command.now (C.shown cluster.old) self.old (C.shown cluster.new) (after self.new result)
+            result }
+        ensures whole { KeepsBlocksWhole command.now (C.shown cluster.old) self.old (C.shown cluster.new) self.new
+            result }
         ensures owed { IfErr result (Owed (world_at self.old (C.shown cluster.old)) (opened_of self.old) command.now) }
         ensures keeps { (settings_of self.new ≡ settings_of self.old) × (has_failed self.new ≡ false) }
         ensures answered { AreAnswered C.may_answer self.new }
@@ -188,7 +192,8 @@ impl Session {
             → (C.shown cluster.new).writes link ≡ (C.shown cluster.old).writes link }
         ensures none { (link : ℕ) → ((C.shown cluster.old).writes link ≡ None) ⊎ HasLink self link
             → (C.shown cluster.new).writes link ≡ None }
-        ensures keeps { Later (C.shown cluster.old) (C.shown cluster.new) × SameReads (C.shown cluster.old) (C.shown cluster.new)
+        ensures keeps { Later (C.shown cluster.old) (C.shown cluster.new)
+            × SameReads (C.shown cluster.old) (C.shown cluster.new)
             × ((C.shown cluster.new).last ≡ (C.shown cluster.old).last) }
         ensures files { (state : State) → CarriesOpen (C.shown cluster.old) self state
             → LeavesFiles (C.shown cluster.old) (C.shown cluster.new) state }

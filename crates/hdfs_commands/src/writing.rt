@@ -6,7 +6,7 @@ ghost use Rattle.std.specs.Str.{bytes_eq};
 ghost use Rattle.hdfs_cluster.specs.Requests.{AskOf, IsAnsweredId, LetsClose, LetsWrite, id_in};
 ghost use Rattle.hdfs_cluster.specs.declared.asks.Ask.TheVariants as asks;
 ghost use Rattle.hdfs_model.specs.Limits.{are_options};
-ghost use Rattle.hdfs_commands.specs.Opening.{appending, create_flag, creating};
+ghost use Rattle.hdfs_model.specs.Opening.{LetsAppend, LetsCreate, appending, create_flag, creating};
 ghost use Rattle.hdfs_cluster.specs.declared.asks.Answer.TheVariants as answers;
 ghost use Rattle.hdfs_model.specs.declared.commands.Command.TheVariants as Command;
 ghost use Rattle.hdfs_cluster.specs.Namenode.{IsToWrite};
@@ -58,7 +58,8 @@ fn keep(
     writer: FileWriter,
 ) -> Result<(), NoMemory>
     ensures put { OnOk result ((other : List ℕ)
-        → get_by_text writers.new other ≡ update bytes_eq (get_by_text writers.old) (string_bytes path) (Some writer) other) }
+        → get_by_text writers.new other ≡ update bytes_eq (get_by_text writers.old) (string_bytes path) (Some writer)
+        other) }
     ensures err { OnErr result (IsUnchanged writers.old writers.new) }
 {
     match writers.insert(path, writer) {
@@ -75,7 +76,7 @@ fn keep(
 
 impl Session {
     ghost use Rattle.hdfs_commands.specs.Acting.{Acts};
-    ghost use Rattle.hdfs_commands.specs.Asking.{AreAnswered, LetsAppend, LetsCreate};
+    ghost use Rattle.hdfs_commands.specs.Asking.{AreAnswered};
     ghost use Rattle.hdfs_commands.specs.Encrypted.{OnlyAsked};
     ghost use Rattle.hdfs_commands.specs.Preparing.{HasDefaults, LacksDefaults, Prepares, sizes_by};
     ghost use Rattle.hdfs_commands.specs.Session.{settings_of, has_failed, opened_of, after, Stands};
@@ -128,7 +129,8 @@ impl Session {
             (unwrap_or options.now.replication defaults.now.replication)
             (unwrap_or options.now.block_size defaults.now.block_size))
             (as_answer answers.Create result) (C.shown cluster.new) }
-        ensures answered { IfOk result (λ status. C.may_answer (creating path.now (name_of self.old.namenode) options.now
+        ensures answered { IfOk result (λ status. C.may_answer
+            (creating path.now (name_of self.old.namenode) options.now
             (unwrap_or options.now.replication defaults.now.replication)
             (unwrap_or options.now.block_size defaults.now.block_size)) (answers.Create status)) }
         ensures asked { OnlyAsked self.old self.new }
@@ -177,9 +179,11 @@ impl Session {
             → LetsCreate C.allows C.may_answer (name_of self.old.namenode) path options.now }
         requires answered { AreAnswered C.may_answer self.old }
         ensures acts { (name : List ℕ) → absolute (settings_of self.old).home name ≡ path
-            → Acts (Command.Create name options.now) (C.shown cluster.old) self.old (C.shown cluster.new) (after self.new result) result }
+            → Acts (Command.Create name options.now) (C.shown cluster.old) self.old (C.shown cluster.new)
+            (after self.new result) result }
         ensures whole { (name : List ℕ) → absolute (settings_of self.old).home name ≡ path
-            → KeepsBlocksWhole (Command.Create name options.now) (C.shown cluster.old) self.old (C.shown cluster.new) self.new result }
+            → KeepsBlocksWhole (Command.Create name options.now) (C.shown cluster.old) self.old (C.shown cluster.new)
+            self.new result }
         ensures owed { IfErr result IsNotOwed }
         ensures keeps { (settings_of self.new ≡ settings_of self.old) × (has_failed self.new ≡ false) }
         ensures answered { AreAnswered C.may_answer self.new }
@@ -218,9 +222,11 @@ impl Session {
         requires allowed { LetsAppend C.allows C.may_answer (name_of self.old.namenode) path }
         requires answered { AreAnswered C.may_answer self.old }
         ensures acts { absolute (settings_of self.old).home name.now ≡ path
-            → Acts (Command.Append name.now) (C.shown cluster.old) self.old (C.shown cluster.new) (after self.new result) result }
+            → Acts (Command.Append name.now) (C.shown cluster.old) self.old (C.shown cluster.new)
+            (after self.new result) result }
         ensures whole { absolute (settings_of self.old).home name.now ≡ path
-            → KeepsBlocksWhole (Command.Append name.now) (C.shown cluster.old) self.old (C.shown cluster.new) self.new result }
+            → KeepsBlocksWhole (Command.Append name.now) (C.shown cluster.old) self.old (C.shown cluster.new) self.new
+            result }
         ensures owed { IfErr result IsNotOwed }
         ensures keeps { (settings_of self.new ≡ settings_of self.old) × (has_failed self.new ≡ false) }
         ensures answered { AreAnswered C.may_answer self.new }
@@ -263,9 +269,11 @@ impl Session {
             → LetsWrite C.allows C.may_answer (name_of self.old.namenode) path.now file_id }
         requires answered { AreAnswered C.may_answer self.old }
         ensures acts { (name : List ℕ) → absolute (settings_of self.old).home name ≡ path.now
-            → Acts (Command.Write name bytes.now) (C.shown cluster.old) self.old (C.shown cluster.new) (after self.new result) result }
+            → Acts (Command.Write name bytes.now) (C.shown cluster.old) self.old (C.shown cluster.new)
+            (after self.new result) result }
         ensures whole { (name : List ℕ) → absolute (settings_of self.old).home name ≡ path.now
-            → KeepsBlocksWhole (Command.Write name bytes.now) (C.shown cluster.old) self.old (C.shown cluster.new) self.new result }
+            → KeepsBlocksWhole (Command.Write name bytes.now) (C.shown cluster.old) self.old (C.shown cluster.new)
+            self.new result }
         ensures owed { IfErr result IsNotOwed }
         ensures keeps { (settings_of self.new ≡ settings_of self.old) × (has_failed self.new ≡ false) }
         ensures answered { AreAnswered C.may_answer self.new }
@@ -295,9 +303,11 @@ impl Session {
             → LetsClose C.allows C.may_answer (name_of self.old.namenode) path.now file_id }
         requires answered { AreAnswered C.may_answer self.old }
         ensures acts { (name : List ℕ) → absolute (settings_of self.old).home name ≡ path.now
-            → Acts (Command.Close name) (C.shown cluster.old) self.old (C.shown cluster.new) (after self.new result) result }
+            → Acts (Command.Close name) (C.shown cluster.old) self.old (C.shown cluster.new) (after self.new result)
+            result }
         ensures whole { (name : List ℕ) → absolute (settings_of self.old).home name ≡ path.now
-            → KeepsBlocksWhole (Command.Close name) (C.shown cluster.old) self.old (C.shown cluster.new) self.new result }
+            → KeepsBlocksWhole (Command.Close name) (C.shown cluster.old) self.old (C.shown cluster.new) self.new
+            result }
         ensures owed { IfErr result IsNotOwed }
         ensures keeps { (settings_of self.new ≡ settings_of self.old) × (has_failed self.new ≡ false) }
         ensures answered { AreAnswered C.may_answer self.new }

@@ -97,15 +97,18 @@ impl FileWriter {
         bytes: &[u8],
     ) -> Result<usize, HdfsError>
         requires reaches { ReachesAll (proxy_of namenode.old) (C.shown cluster.old) }
-        requires allowed { LetsWrite C.allows C.may_answer (name_of namenode.old) (path_of self.old) (file_id_of self.old) }
+        requires allowed { LetsWrite C.allows C.may_answer (name_of namenode.old) (path_of self.old)
+            (file_id_of self.old) }
         requires answered { IsAnswered C.may_answer (name_of namenode.old) self.old }
         requires works { IsAtWork (C.shown cluster.old) self.old }
         requires bytes { 0 < length bytes.now }
         ensures stands { OnOk result (Stands (C.shown cluster.new) self.new) }
         ensures answered { OnOk result (IsAnswered C.may_answer (name_of namenode.old) self.new) }
         ensures count { IfOk result (λ n. (0 < n) × (n ≤ length bytes.now)) }
-        ensures wrote { IfOk result (λ n. Wrote (C.shown cluster.old) self.old (take n bytes.now) (C.shown cluster.new) self.new) }
-        ensures err { IfErr result (λ error. FailsOtherwise (C.shown cluster.old) self.old error (C.shown cluster.new)) }
+        ensures wrote { IfOk result (λ n. Wrote (C.shown cluster.old) self.old (take n bytes.now) (C.shown cluster.new)
+            self.new) }
+        ensures err { IfErr result (λ error. FailsOtherwise (C.shown cluster.old) self.old error
+            (C.shown cluster.new)) }
         ensures keeps { Keeps self.old self.new × (self.new.failed ≡ false) × SameClient namenode.old namenode.new }
     {
         match self.make_room(cluster, namenode) {
@@ -140,11 +143,13 @@ impl FileWriter {
         bytes: &[u8],
     ) -> Result<usize, HdfsError>
         requires reaches { ReachesAll (proxy_of namenode.old) (C.shown cluster.old) }
-        requires allowed { LetsWrite C.allows C.may_answer (name_of namenode.old) (path_of self.old) (file_id_of self.old) }
+        requires allowed { LetsWrite C.allows C.may_answer (name_of namenode.old) (path_of self.old)
+            (file_id_of self.old) }
         requires answered { IsAnswered C.may_answer (name_of namenode.old) self.old }
         requires stands { Stands (C.shown cluster.old) self.old }
 
-        ensures stands { Stands (C.shown cluster.new) self.new × Keeps self.old self.new × SameClient namenode.old namenode.new }
+        ensures stands { Stands (C.shown cluster.new) self.new × Keeps self.old self.new
+            × SameClient namenode.old namenode.new }
         ensures count { IfOk result (λ n. (n ≡ length bytes.now)
             × (bytes.now ≢ [] → AreLimited (sizes_of self.old) × ((sizes_of self.old).encrypted ≡ false))) }
         ensures idle { IsIdle self.old bytes.now cluster.old result self.new cluster.new }
@@ -194,7 +199,8 @@ impl FileWriter {
     /// on with that has.
     fn refuse<C: Cluster>(&mut self, cluster: &mut C, namenode: &mut NamenodeProtocol) -> HdfsError
         requires reaches { ReachesAll (proxy_of namenode.old) (C.shown cluster.old) }
-        requires allowed { LetsWrite C.allows C.may_answer (name_of namenode.old) (path_of self.old) (file_id_of self.old) }
+        requires allowed { LetsWrite C.allows C.may_answer (name_of namenode.old) (path_of self.old)
+            (file_id_of self.old) }
         requires answered { IsAnswered C.may_answer (name_of namenode.old) self.old }
         requires stands { Stands (C.shown cluster.old) self.old }
         requires fine { self.old.failed ≡ false }
@@ -230,14 +236,16 @@ impl FileWriter {
         bytes: &[u8],
     ) -> Result<(), HdfsError>
         requires reaches { ReachesAll (proxy_of namenode.old) (C.shown cluster.old) }
-        requires allowed { LetsWrite C.allows C.may_answer (name_of namenode.old) (path_of self.old) (file_id_of self.old) }
+        requires allowed { LetsWrite C.allows C.may_answer (name_of namenode.old) (path_of self.old)
+            (file_id_of self.old) }
         requires answered { IsAnswered C.may_answer (name_of namenode.old) self.old }
         requires works { IsAtWork (C.shown cluster.old) self.old }
         ensures fine { self.new.failed ≡ false }
         ensures stands { OnOk result (Stands (C.shown cluster.new) self.new) }
         ensures answered { OnOk result (IsAnswered C.may_answer (name_of namenode.old) self.new) }
         ensures wrote { OnOk result (Wrote (C.shown cluster.old) self.old bytes.now (C.shown cluster.new) self.new) }
-        ensures err { IfErr result (λ error. FailsOtherwise (C.shown cluster.old) self.old error (C.shown cluster.new)) }
+        ensures err { IfErr result (λ error. FailsOtherwise (C.shown cluster.old) self.old error
+            (C.shown cluster.new)) }
         ensures keeps { Keeps self.old self.new × SameClient namenode.old namenode.new }
     {
         let mut rest = bytes;
@@ -257,7 +265,8 @@ impl FileWriter {
         namenode: &mut NamenodeProtocol,
     ) -> Result<(), HdfsError>
         requires reaches { ReachesAll (proxy_of namenode.old) (C.shown cluster.old) }
-        requires allowed { LetsClose C.allows C.may_answer (name_of namenode.old) (path_of self.now) (file_id_of self.now) }
+        requires allowed { LetsClose C.allows C.may_answer (name_of namenode.old) (path_of self.now)
+            (file_id_of self.now) }
         requires answered { IsAnsweredLast C.may_answer (name_of namenode.old) (path_of self.now) (file_id_of self.now)
             self.now.last }
         requires between { IsBetweenBlocks self.now }
@@ -320,7 +329,8 @@ impl FileWriter {
         namenode: &mut NamenodeProtocol,
     ) -> Result<(), HdfsError>
         requires reaches { ReachesAll (proxy_of namenode.old) (C.shown cluster.old) }
-        requires allowed { LetsClose C.allows C.may_answer (name_of namenode.old) (path_of self.old) (file_id_of self.old) }
+        requires allowed { LetsClose C.allows C.may_answer (name_of namenode.old) (path_of self.old)
+            (file_id_of self.old) }
         requires answered { IsAnswered C.may_answer (name_of namenode.old) self.old }
         requires stands { Stands (C.shown cluster.old) self.old }
         ensures failed { self.old.failed ≡ true → (result ≡ Err errors.Failed) × (cluster.new ≡ cluster.old) }

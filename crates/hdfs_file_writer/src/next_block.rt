@@ -25,7 +25,8 @@ impl FileWriter {
         namenode: &mut NamenodeProtocol,
     ) -> Result<(), HdfsError>
         requires reaches { ReachesAll (proxy_of namenode.old) (C.shown cluster.old) }
-        requires allowed { LetsWriteBlocks C.allows C.may_answer (name_of namenode.old) (path_of self.old) (file_id_of self.old) }
+        requires allowed { LetsWriteBlocks C.allows C.may_answer (name_of namenode.old) (path_of self.old)
+            (file_id_of self.old) }
         requires answered { IsAnswered C.may_answer (name_of namenode.old) self.old }
         requires stands { Stands (C.shown cluster.old) self.old }
         requires fine { self.old.failed ≡ false }
@@ -35,7 +36,8 @@ impl FileWriter {
         ensures answered { OnOk result (IsAnswered C.may_answer (name_of namenode.old) self.new) }
         ensures idle { self.old.going ≡ None → cluster.new ≡ cluster.old }
         ensures wrote { OnOk result (Wrote (C.shown cluster.old) self.old [] (C.shown cluster.new) self.new) }
-        ensures err { IfErr result (λ error. FailsOtherwise (C.shown cluster.old) self.old error (C.shown cluster.new)) }
+        ensures err { IfErr result (λ error. FailsOtherwise (C.shown cluster.old) self.old error
+            (C.shown cluster.new)) }
     {
         match self.reopened.take() {
             Some(located) => {
@@ -80,7 +82,8 @@ impl FileWriter {
     ) -> Result<(), HdfsError>
         requires begins { MayBegin self.old }
         requires located { IsToOpen C.may_answer (name_of namenode.now) self.old created located }
-        requires allowed { (setup : Setup) → IsFirstSetup located (name_of namenode.now) setup → C.allows (SetupOf setup) }
+        requires allowed { (setup : Setup) → IsFirstSetup located (name_of namenode.now) setup
+            → C.allows (SetupOf setup) }
         requires answered { IsAnswered C.may_answer (name_of namenode.now) self.old }
         ensures fine { self.new.failed ≡ false }
         ensures keeps { Keeps self.old self.new }
@@ -88,7 +91,8 @@ impl FileWriter {
         ensures answered { OnOk result (IsAnswered C.may_answer (name_of namenode.now) self.new) }
         ensures wrote { OnOk result (Wrote (C.shown cluster.old) (record self.old { reopened = Some located }) []
             (C.shown cluster.new) self.new) }
-        ensures err { IfErr result (λ error. FailsOtherwise (C.shown cluster.old) (record self.old { reopened = Some located }) error
+        ensures err { IfErr result (λ error. FailsOtherwise (C.shown cluster.old)
+            (record self.old { reopened = Some located }) error
             (C.shown cluster.new)) }
     {
         let plan = match self.plan(located, created) {
@@ -119,14 +123,17 @@ impl FileWriter {
         namenode: &mut NamenodeProtocol,
     ) -> Result<LocatedBlock, HdfsError>
         requires reaches { ReachesAll (proxy_of namenode.old) (C.shown cluster.old) }
-        requires allowed { LetsWrite C.allows C.may_answer (name_of namenode.old) (path_of self.now) (file_id_of self.now) }
+        requires allowed { LetsWrite C.allows C.may_answer (name_of namenode.old) (path_of self.now)
+            (file_id_of self.now) }
         requires answered { IsAnsweredLast C.may_answer (name_of namenode.old) (path_of self.now) (file_id_of self.now)
             self.now.last }
         requires between { IsBetweenBlocks self.now }
         requires full { IsFull self.now.sizes.block_size (tail_of self.now) }
         ensures adds { IfOk result (λ located. Adds (C.shown cluster.old) self.now located (C.shown cluster.new)) }
-        ensures answered { IfOk result (IsAdded C.may_answer (name_of namenode.old) (path_of self.now) (file_id_of self.now)) }
-        ensures err { IfErr result (λ error. FailsOtherwise (C.shown cluster.old) self.now error (C.shown cluster.new)) }
+        ensures answered { IfOk result (IsAdded C.may_answer (name_of namenode.old) (path_of self.now)
+            (file_id_of self.now)) }
+        ensures err { IfErr result (λ error. FailsOtherwise (C.shown cluster.old) self.now error
+            (C.shown cluster.new)) }
         ensures client { SameClient namenode.old namenode.new }
     {
         match namenode.add_block(
@@ -148,7 +155,8 @@ impl FileWriter {
         namenode: &mut NamenodeProtocol,
     ) -> Result<(), HdfsError>
         requires reaches { ReachesAll (proxy_of namenode.old) (C.shown cluster.old) }
-        requires allowed { LetsWrite C.allows C.may_answer (name_of namenode.old) (path_of self.old) (file_id_of self.old) }
+        requires allowed { LetsWrite C.allows C.may_answer (name_of namenode.old) (path_of self.old)
+            (file_id_of self.old) }
         requires answered { IsAnswered C.may_answer (name_of namenode.old) self.old }
         requires begins { MayBegin self.old }
         requires full { IsFull self.old.sizes.block_size (tail_of self.old) }
@@ -157,7 +165,8 @@ impl FileWriter {
         ensures stands { OnOk result (Stands (C.shown cluster.new) self.new × HasRoom self.new) }
         ensures answered { OnOk result (IsAnswered C.may_answer (name_of namenode.old) self.new) }
         ensures wrote { OnOk result (Wrote (C.shown cluster.old) self.old [] (C.shown cluster.new) self.new) }
-        ensures err { IfErr result (λ error. FailsOtherwise (C.shown cluster.old) self.old error (C.shown cluster.new)) }
+        ensures err { IfErr result (λ error. FailsOtherwise (C.shown cluster.old) self.old error
+            (C.shown cluster.new)) }
     {
         let located = match self.next_block(cluster, namenode) {
             Ok(located) => located,
@@ -174,7 +183,8 @@ impl FileWriter {
         ensures some { IfSome result (λ located. (self.old.reopened ≡ Some located)
             × (located.b.num_bytes < self.old.sizes.block_size) × (self.new ≡ record self.old { reopened = None })) }
         ensures none { result ≡ None → self.new ≡ self.old }
-        ensures full { result ≡ None → IfSome self.old.reopened (λ located. self.old.sizes.block_size ≤ located.b.num_bytes) }
+        ensures full { result ≡ None → IfSome self.old.reopened
+            (λ located. self.old.sizes.block_size ≤ located.b.num_bytes) }
     {
         match self.reopened.take() {
             Some(located) if located.b.num_bytes < self.sizes.block_size => Some(located),
@@ -192,7 +202,8 @@ impl FileWriter {
         namenode: &mut NamenodeProtocol,
     ) -> Result<(), HdfsError>
         requires reaches { ReachesAll (proxy_of namenode.old) (C.shown cluster.old) }
-        requires allowed { LetsWrite C.allows C.may_answer (name_of namenode.old) (path_of self.old) (file_id_of self.old) }
+        requires allowed { LetsWrite C.allows C.may_answer (name_of namenode.old) (path_of self.old)
+            (file_id_of self.old) }
         requires answered { IsAnswered C.may_answer (name_of namenode.old) self.old }
         requires works { IsAtWork (C.shown cluster.old) self.old }
         ensures fine { self.new.failed ≡ false }
@@ -200,7 +211,8 @@ impl FileWriter {
         ensures stands { OnOk result (Stands (C.shown cluster.new) self.new × HasRoom self.new) }
         ensures answered { OnOk result (IsAnswered C.may_answer (name_of namenode.old) self.new) }
         ensures wrote { OnOk result (Wrote (C.shown cluster.old) self.old [] (C.shown cluster.new) self.new) }
-        ensures err { IfErr result (λ error. FailsOtherwise (C.shown cluster.old) self.old error (C.shown cluster.new)) }
+        ensures err { IfErr result (λ error. FailsOtherwise (C.shown cluster.old) self.old error
+            (C.shown cluster.new)) }
         ensures client { SameClient namenode.old namenode.new }
     {
         if self.has_room() {

@@ -195,7 +195,8 @@ impl Cluster for MemCluster {
         ensures err { IfErr result (λ fault. NotAcknowledged (shown_of self.old) link fault (shown_of self.new)) }
 
         // A fault line acts at exactly its acknowledgement.
-        ensures asks { IfOk result (λ ack. IfSome ((shown_of self.old).writes link) (λ write. AsksAck self.old link write ack self.new)) }
+        ensures asks { IfOk result (λ ack. IfSome ((shown_of self.old).writes link)
+            (λ write. AsksAck self.old link write ack self.new)) }
         ensures counted { OnErr result (CountsNothing self.old self.new) }
     {
         let Some(open) = self.links.get_mut(link as usize) else {
@@ -219,11 +220,13 @@ impl Cluster for MemCluster {
     fn transfer(&mut self, transfer: &Transfer) -> Result<(), LinkFault>
         requires { IsTransfer transfer.now }
         ensures ok { OnOk result (Transferred (shown_of self.old) transfer.now (shown_of self.new)) }
-        ensures err { IfErr result (λ fault. NotTransferred (shown_of self.old) transfer.now fault (shown_of self.new)) }
+        ensures err { IfErr result (λ fault. NotTransferred (shown_of self.old) transfer.now fault
+            (shown_of self.new)) }
 
         // A fault line acts at exactly its transfer.
         ensures asks { AsksTransfer self.old result self.new }
-        ensures kept { IfErr result (λ fault. fault ≢ link_faults.NoMemory → SamePicture (picture_of self.old) (picture_of self.new)) }
+        ensures kept { IfErr result (λ fault. fault ≢ link_faults.NoMemory
+            → SamePicture (picture_of self.old) (picture_of self.new)) }
     {
         if let Some(fault) = transfer_failure(self.faults.next_set_up()) {
             self.faults.transfer();

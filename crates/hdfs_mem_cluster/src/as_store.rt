@@ -42,7 +42,8 @@ impl Store for MemCluster {
     fn load(&mut self, line: Line) -> Result<(), AddFault>
         ensures ok { OnOk result (Loads (shown_of self.old) line (shown_of self.new)) }
         ensures refused { IsErrOf result AddFault.Refused → SameShown (shown_of self.old) (shown_of self.new) }
-        ensures exact { (state : State) → Agrees (shown_of self.old).picture state.files → IsDecided (shown_of self.old) state.files line
+        ensures exact { (state : State) → Agrees (shown_of self.old).picture state.files
+            → IsDecided (shown_of self.old) state.files line
             → MatchResult result (λ done. takes (shown_of self.old).loaded state.files line ≡ true)
             (λ fault. fault ≡ AddFault.Refused → takes (shown_of self.old).loaded state.files line ≡ false) }
         ensures err { OnErr result (LoadsNothing (shown_of self.old) (shown_of self.new)) }

@@ -39,7 +39,8 @@ fn all_calls(
     calls: u64,
 ) -> Result<List<u64>, NoMemory>
     ensures len { IfOk result (λ all. length all ≡ config.now.settings.namenodes) }
-    ensures each { IfOk result (λ all. (i : ℕ) → slice_index all i ≡ namenode_faults config.now.settings calls faults.now i) }
+    ensures each { IfOk result (λ all. (i : ℕ) → slice_index all i
+        ≡ namenode_faults config.now.settings calls faults.now i) }
 {
     let mut all = List::new(alloc);
     for number in 0..config.settings.namenodes {
@@ -52,7 +53,8 @@ fn all_calls(
 /// How often each of the first so many datanodes has failed.
 fn all_faults(alloc: Global, faults: &FaultPlan, count: u32) -> Result<List<u64>, NoMemory>
     ensures len { IfOk result (λ all. length all ≡ count) }
-    ensures each { IfOk result (λ all. (k : ℕ) → k < count → slice_index all k ≡ node_faults_of faults.now (uuid_of k)) }
+    ensures each { IfOk result (λ all. (k : ℕ) → k < count → slice_index all k
+        ≡ node_faults_of faults.now (uuid_of k)) }
 {
     let mut all = List::new(alloc);
     for number in 0..count {
@@ -69,8 +71,10 @@ impl MemCluster {
     /// them, nor has a namenode that isn't active; and no namenode has failed before a fault was loaded.
     pub fn seen(&self) -> Result<Counts, NoMemory>
         ensures sees { IfOk result (Sees self.now) }
-        ensures planned { (d : Items ℕ) → (shown_of self.now).counts.nodes d ≤ node_fault_count (shown_of self.now).loaded.lines d }
-        ensures planned_calls { (i : ℕ) → NeedsFault (shown_of self.now).loaded.lines ((shown_of self.now).counts.calls i) }
+        ensures planned { (d : Items ℕ) → (shown_of self.now).counts.nodes d
+            ≤ node_fault_count (shown_of self.now).loaded.lines d }
+        ensures planned_calls { (i : ℕ) → NeedsFault (shown_of self.now).loaded.lines
+            ((shown_of self.now).counts.calls i) }
         ensures planned_asks { (i : ℕ) → i ≢ (picture_of self.now).active
             → (shown_of self.now).counts.calls i ≤ ask_fault_count (shown_of self.now).loaded.lines i }
         ensures planned_links { (shown_of self.now).counts.links ≤ link_fault_count (shown_of self.now).loaded.lines }

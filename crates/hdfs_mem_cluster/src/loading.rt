@@ -63,7 +63,8 @@ impl MemCluster {
     fn take_file(&mut self, path: Text, attributes: Attributes, bytes: Blob) -> Result<(), NoMemory>
         requires { accepts (get_by_text self.old.space.names) path attributes (length bytes) ≡ true }
         ensures loads { OnOk result (Loads (shown_of self.old) (lines.File path attributes bytes) (shown_of self.new)) }
-        ensures cut { OnOk result (CutsLine (nodes_of self.new) (picture_of self.new) (lines.File path attributes bytes)) }
+        ensures cut { OnOk result (CutsLine (nodes_of self.new) (picture_of self.new)
+            (lines.File path attributes bytes)) }
         ensures err { OnErr result (LoadsNothing (shown_of self.old) (shown_of self.new)) }
         ensures counted { CountsNothing self.old self.new }
     {
@@ -94,11 +95,13 @@ impl MemCluster {
         bytes: Blob,
     ) -> Result<(), AddFault>
         ensures loads { OnOk result (Loads (shown_of self.old) (lines.File path attributes bytes) (shown_of self.new)) }
-        ensures cut { OnOk result (CutsLine (nodes_of self.new) (picture_of self.new) (lines.File path attributes bytes)) }
+        ensures cut { OnOk result (CutsLine (nodes_of self.new) (picture_of self.new)
+            (lines.File path attributes bytes)) }
         ensures refused { IsErrOf result AddFault.Refused → SameShown (shown_of self.old) (shown_of self.new) }
         ensures exact { MatchResult result
             (λ done. accepts (get_by_text self.old.space.names) path attributes (length bytes) ≡ true)
-            (λ fault. fault ≡ AddFault.Refused → accepts (get_by_text self.old.space.names) path attributes (length bytes) ≡ false) }
+            (λ fault. fault ≡ AddFault.Refused → accepts (get_by_text self.old.space.names) path attributes
+            (length bytes) ≡ false) }
         ensures err { OnErr result (LoadsNothing (shown_of self.old) (shown_of self.new)) }
         ensures counted { CountsNothing self.old self.new }
     {

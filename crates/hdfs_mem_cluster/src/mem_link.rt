@@ -49,9 +49,11 @@ impl MemLink {
         packet: &WritePacket,
     ) -> Result<bool, NoMemory>
         requires { OnWrite (λ write. Unit {0}) self.old }
-        ensures ok { IfOk result (λ broke. OnWrites (λ old new. SendsOn link packet.now broke (among nodes.old faults.old old)
+        ensures ok { IfOk result (λ broke. OnWrites (λ old new.
+            SendsOn link packet.now broke (among nodes.old faults.old old)
             (among nodes.new faults.new new)) self.old self.new) }
-        ensures err { OnErr result (OnWrites (UnsentOn nodes.old nodes.new) self.old self.new × (faults.new ≡ faults.old)) }
+        ensures err { OnErr result (OnWrites (UnsentOn nodes.old nodes.new) self.old self.new
+            × (faults.new ≡ faults.old)) }
         ensures rest { SameNodes nodes.old nodes.new }
     {
         match self {

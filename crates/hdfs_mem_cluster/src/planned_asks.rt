@@ -148,7 +148,8 @@ fn answer_planned(
     kind: &AskKind,
 ) -> Result<Answered, NoMemory>
     ensures is { IfOk result (λ answered. answered.result ≡ spec.planned_answer kind.now ask.now) }
-    ensures does { OnOk result ((links : Slab MemLink) → DoesPlanned (map line_of known.now.loaded.now) nodes.old.count kind.now
+    ensures does { OnOk result ((links : Slab MemLink) → DoesPlanned (map line_of known.now.loaded.now) nodes.old.count
+        kind.now
         (picture_at space.old nodes.old known.now.config.now.settings links) i ask.now
         (picture_at space.new nodes.new known.now.config.now.settings links)) }
     ensures last { IfOk result (λ answered. answered.last ≡ last_of answered.result) }
@@ -173,7 +174,8 @@ fn answer_unplanned(
     i: u32,
     ask: &Ask,
 ) -> Result<Answered, NoMemory>
-    ensures responds { IfOk result (λ answered. (links : Slab MemLink) → Responds (map line_of known.now.loaded.now) nodes.old.count
+    ensures responds { IfOk result (λ answered. (links : Slab MemLink)
+        → Responds (map line_of known.now.loaded.now) nodes.old.count
         (picture_at space.old nodes.old known.now.config.now.settings links) i ask.now answered.result
         (picture_at space.new nodes.new known.now.config.now.settings links)) }
     ensures last { IfOk result (λ answered. answered.last ≡ last_of answered.result) }
@@ -204,7 +206,8 @@ pub(crate) fn answer(
         (picture_at space.old nodes.old known.now.config.now.settings links) i ask.now answered.result
         (picture_at space.new nodes.new known.now.config.now.settings links)) }
     ensures last { IfOk result (λ answered. answered.last ≡ last_of answered.result) }
-    ensures failed { IfOk result (λ answered. answered.failed ≡ own_failure (option_copied kind.entry) answered.result) }
+    ensures failed { IfOk result (λ answered. answered.failed
+        ≡ own_failure (option_copied kind.entry) answered.result) }
     ensures answered { IfOk result (λ answered. is_answered answered.result ≡ true) }
     ensures shape { IfOk result (λ answered. IfOk answered.result (IsShaped ask.now)) }
     ensures err { OnErr result ((links : Slab MemLink)

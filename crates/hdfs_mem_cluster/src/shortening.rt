@@ -46,7 +46,8 @@ fn stays_whole(
     cut: &str,
     len: u64,
 ) -> Result<bool, NoMemory>
-    ensures whole { IfOk result (λ whole. whole ≡ leaves_whole (held_in nodes.old) id cut.now len entry.now.length entry.now.nodes) }
+    ensures whole { IfOk result (λ whole. whole ≡ leaves_whole (held_in nodes.old) id cut.now len entry.now.length
+        entry.now.nodes) }
     ensures same { SameHeld nodes.old nodes.new }
     ensures rest { SameNodes nodes.old nodes.new }
 {
@@ -168,7 +169,8 @@ impl MemCluster {
     ) -> Result<(), AddFault>
         ensures loads { OnOk result (Loads (shown_of self.old) (lines.Short path block node len) (shown_of self.new)) }
         ensures refused { IsErrOf result AddFault.Refused → SameShown (shown_of self.old) (shown_of self.new) }
-        ensures exact { (state : State) → Agrees (shown_of self.old).picture state.files → AreLoaded (shown_of self.old) state.files
+        ensures exact { (state : State) → Agrees (shown_of self.old).picture state.files
+            → AreLoaded (shown_of self.old) state.files
             → MatchResult result
             (λ done. takes (shown_of self.old).loaded state.files (lines.Short path block node len) ≡ true)
             (λ fault. fault ≡ AddFault.Refused

@@ -31,14 +31,17 @@ fn store_block(
     replication: u32,
     bytes: Bytes,
 ) -> Result<u64, NoMemory>
-    ensures added { IfOk result (λ id. AddsBlock (table_of space.old.table.entries) (table_of space.new.table.entries) id (length bytes)
+    ensures added { IfOk result (λ id. AddsBlock (table_of space.old.table.entries) (table_of space.new.table.entries)
+        id (length bytes)
         (lowest (min replication nodes.old.count))) }
-    ensures held { IfOk result (λ id. All (λ node. held_in nodes.new node id ≡ bytes) (lowest (min replication nodes.old.count))) }
+    ensures held { IfOk result (λ id. All (λ node. held_in nodes.new node id ≡ bytes)
+        (lowest (min replication nodes.old.count))) }
     ensures kept { KeepsBlocks (table_of space.old.table.entries) (table_of space.new.table.entries)
         (held_in nodes.old) (held_in nodes.new) }
     ensures names { (space.new.names ≡ space.old.names) × (space.new.grown ≡ space.old.grown) }
     ensures rest { SameNodes nodes.old nodes.new }
-    ensures links { (d : List ℕ) (block link : ℕ) → undisturbed_in nodes.new d block link ≡ undisturbed_in nodes.old d block link }
+    ensures links { (d : List ℕ) (block link : ℕ) → undisturbed_in nodes.new d block link
+        ≡ undisturbed_in nodes.old d block link }
 {
     let listed = nodes.lowest(alloc, replication)?;
     let id = space.add_block(bytes.len() as u64, listed)?;
@@ -62,7 +65,8 @@ fn store_bytes(
     ensures new { IfOk result (AreNew (get_by_text space.old.names)) }
     ensures names { (space.new.names ≡ space.old.names) × (space.new.grown ≡ space.old.grown) }
     ensures rest { SameNodes nodes.old nodes.new }
-    ensures links { (d : List ℕ) (block link : ℕ) → undisturbed_in nodes.new d block link ≡ undisturbed_in nodes.old d block link }
+    ensures links { (d : List ℕ) (block link : ℕ) → undisturbed_in nodes.new d block link
+        ≡ undisturbed_in nodes.old d block link }
 {
     let mut ids = List::new(alloc);
     let mut left = bytes;
@@ -91,10 +95,12 @@ pub(crate) fn store_file(
         (record { bytes = bytes; attributes = attributes.now })).files) }
     ensures cut { OnOk result ((file : FileEntry)
         × Names (get_by_text space.old.names) (get_by_text space.new.names) (string_bytes path) (entries.File file)
-        × IsCut (table_of space.new.table.entries) (held_in nodes.new) (lowest (min attributes.now.replication nodes.old.count))
+        × IsCut (table_of space.new.table.entries) (held_in nodes.new)
+        (lowest (min attributes.now.replication nodes.old.count))
         attributes.now.block_size file.blocks bytes) }
     ensures rest { SameNodes nodes.old nodes.new }
-    ensures links { (d : List ℕ) (block link : ℕ) → undisturbed_in nodes.new d block link ≡ undisturbed_in nodes.old d block link }
+    ensures links { (d : List ℕ) (block link : ℕ) → undisturbed_in nodes.new d block link
+        ≡ undisturbed_in nodes.old d block link }
     ensures kept { KeepsBlocks (table_of space.old.table.entries) (table_of space.new.table.entries)
         (held_in nodes.old) (held_in nodes.new) }
     ensures err { OnErr result (space.new.names.entries ≡ space.old.names.entries) }

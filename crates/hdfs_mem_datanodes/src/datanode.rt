@@ -59,7 +59,8 @@ impl Datanode {
     /// Takes the bytes that another datanode holds of a block. It disturbs all links there.
     pub(crate) fn give(&mut self, alloc: Global, block: u64, bytes: Bytes) -> Result<(), NoMemory>
         ensures given { OnOk result (IsGiven bytes (get nat_cmp self.new.blocks block)) }
-        ensures err { OnErr result (SameReplica (get nat_cmp self.old.blocks block) (get nat_cmp self.new.blocks block)) }
+        ensures err { OnErr result (SameReplica (get nat_cmp self.old.blocks block)
+            (get nat_cmp self.new.blocks block)) }
         ensures rest { ChangesBlock block self.old self.new }
     {
         self.make(alloc, block)?;
@@ -84,9 +85,11 @@ impl Datanode {
 
     /// Keeps the first so many bytes of a block alone. It disturbs all links there.
     pub(crate) fn cut(&mut self, alloc: Global, block: u64, len: u64) -> Result<(), NoMemory>
-        ensures bytes { OnOk result (held_by (get nat_cmp self.new.blocks block) ≡ take len (held_by (get nat_cmp self.old.blocks block))) }
+        ensures bytes { OnOk result (held_by (get nat_cmp self.new.blocks block)
+            ≡ take len (held_by (get nat_cmp self.old.blocks block))) }
         ensures links { OnOk result ((link : ℕ) → undisturbed_by (get nat_cmp self.new.blocks block) link ≡ false) }
-        ensures err { OnErr result (SameReplica (get nat_cmp self.old.blocks block) (get nat_cmp self.new.blocks block)) }
+        ensures err { OnErr result (SameReplica (get nat_cmp self.old.blocks block)
+            (get nat_cmp self.new.blocks block)) }
         ensures rest { ChangesBlock block self.old self.new }
     {
         match self.blocks.get_mut(&block) {

@@ -96,8 +96,10 @@ impl Datanodes {
     ) -> Result<(), NoMemory>
         ensures held { OnOk result (held_in self.new uuid.now block ≡ bytes) }
         ensures nodes { (d : List ℕ) → d ≢ uuid.now → node_at self.new d ≡ node_at self.old d }
-        ensures others { (d : List ℕ) (other : ℕ) → other ≢ block → held_in self.new d other ≡ held_in self.old d other }
-        ensures links { (d : List ℕ) (other link : ℕ) → undisturbed_in self.new d other link ≡ undisturbed_in self.old d other link }
+        ensures others { (d : List ℕ) (other : ℕ) → other ≢ block
+            → held_in self.new d other ≡ held_in self.old d other }
+        ensures links { (d : List ℕ) (other link : ℕ) → undisturbed_in self.new d other link
+            ≡ undisturbed_in self.old d other link }
         ensures rest { SameNodes self.old self.new }
     {
         match self.by_uuid.get_mut(uuid) {
@@ -114,9 +116,12 @@ impl Datanodes {
         block: u64,
         bytes: &Bytes,
     ) -> Result<(), NoMemory>
-        ensures held { OnOk result (All (λ node. held_in self.new node block ≡ bytes.now) (lowest (min most self.old.count))) }
-        ensures others { (d : List ℕ) (other : ℕ) → other ≢ block → held_in self.new d other ≡ held_in self.old d other }
-        ensures links { (d : List ℕ) (other link : ℕ) → undisturbed_in self.new d other link ≡ undisturbed_in self.old d other link }
+        ensures held { OnOk result (All (λ node. held_in self.new node block ≡ bytes.now)
+            (lowest (min most self.old.count))) }
+        ensures others { (d : List ℕ) (other : ℕ) → other ≢ block
+            → held_in self.new d other ≡ held_in self.old d other }
+        ensures links { (d : List ℕ) (other link : ℕ) → undisturbed_in self.new d other link
+            ≡ undisturbed_in self.old d other link }
         ensures rest { SameNodes self.old self.new }
     {
         for number in 0..most.min(self.count) {
@@ -178,7 +183,8 @@ impl Datanodes {
         block: u64,
         piece: Piece,
     ) -> Result<(), NoMemory>
-        ensures offered { OnOk result (whole_in self.new uuid.now block ≡ put (held_in self.old uuid.now block) piece.at piece.bytes) }
+        ensures offered { OnOk result (whole_in self.new uuid.now block
+            ≡ put (held_in self.old uuid.now block) piece.at piece.bytes) }
         ensures others { (d : List ℕ) → d ≢ uuid.now → node_at self.new d ≡ node_at self.old d }
         ensures same { SameHeld self.old self.new }
         ensures rest { SameNodes self.old self.new }
@@ -218,7 +224,8 @@ impl Datanodes {
         ensures own { OnOk result (undisturbed_in self.new uuid.now block link ≡ true) }
         ensures others { (d : List ℕ) (b other : ℕ) → (link ≡ other → ⊥)
             → undisturbed_in self.new d b other ≡ undisturbed_in self.old d b other }
-        ensures kept { (d : List ℕ) (b : ℕ) → undisturbed_in self.old d b link ≡ true → undisturbed_in self.new d b link ≡ true }
+        ensures kept { (d : List ℕ) (b : ℕ) → undisturbed_in self.old d b link ≡ true
+            → undisturbed_in self.new d b link ≡ true }
         ensures bytes { (d : List ℕ) (b : ℕ) → held_in self.new d b ≡ held_in self.old d b }
         ensures rest { SameNodes self.old self.new }
     {

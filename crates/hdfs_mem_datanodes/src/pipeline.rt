@@ -23,8 +23,10 @@ impl Datanodes {
         block: u64,
         link: u64,
     ) -> Result<Vec<Held>, NoMemory>
-        ensures base { IfOk result (λ base. base.items ≡ map (λ node. held_in self.old node.id.datanode_uuid block) locs.now) }
-        ensures entered { OnOk result ((d : List ℕ) → is_named locs.now d ≡ true → undisturbed_in self.new d block link ≡ true) }
+        ensures base { IfOk result (λ base. base.items ≡ map (λ node. held_in self.old node.id.datanode_uuid block)
+            locs.now) }
+        ensures entered { OnOk result ((d : List ℕ) → is_named locs.now d ≡ true
+            → undisturbed_in self.new d block link ≡ true) }
         ensures others { (d : List ℕ) (b other : ℕ) → (link ≡ other → ⊥)
             → undisturbed_in self.new d b other ≡ undisturbed_in self.old d b other }
         ensures bytes { (d : List ℕ) (b : ℕ) → held_in self.new d b ≡ held_in self.old d b }
@@ -66,7 +68,8 @@ impl Datanodes {
         ensures bytes { (d : List ℕ) (b : ℕ) → held_in self.new d b
             ≡ (if is_on locs.now block d b then whole_in self.old d b else held_in self.old d b) }
         ensures links { (d : List ℕ) (b other : ℕ) → undisturbed_in self.new d b other
-            ≡ (if is_on locs.now block d b then undisturbed_in self.old d b other && link == other else undisturbed_in self.old d b other) }
+            ≡ (if is_on locs.now block d b then undisturbed_in self.old d b other && link == other else
+            undisturbed_in self.old d b other) }
         ensures rest { SameNodes self.old self.new }
     {
         for node in locs {

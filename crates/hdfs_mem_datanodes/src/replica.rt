@@ -123,7 +123,8 @@ impl Replica {
     pub(crate) fn cut(&mut self, alloc: Global, len: u64) -> Result<(), NoMemory>
         ensures bytes { OnOk result (bytes_of self.new ≡ take len (bytes_of self.old)) }
         ensures links { OnOk result ((link : ℕ) → is_undisturbed self.new link ≡ false) }
-        ensures err { OnErr result ((bytes_of self.new ≡ bytes_of self.old) × (self.new.undisturbed ≡ self.old.undisturbed)) }
+        ensures err { OnErr result ((bytes_of self.new ≡ bytes_of self.old)
+            × (self.new.undisturbed ≡ self.old.undisturbed)) }
     {
         let bytes = self.read(alloc)?;
         let count = bytes.len().min(len as usize);
@@ -162,7 +163,8 @@ impl Replica {
     /// Notes a link that is opened: no other one has written since.
     pub(crate) fn enter(&mut self, link: u64) -> Result<(), NoMemory>
         ensures own { OnOk result (is_undisturbed self.new link ≡ true) }
-        ensures others { (other : ℕ) → (link ≡ other → ⊥) → is_undisturbed self.new other ≡ is_undisturbed self.old other }
+        ensures others { (other : ℕ) → (link ≡ other → ⊥) → is_undisturbed self.new other
+            ≡ is_undisturbed self.old other }
         ensures kept { is_undisturbed self.old link ≡ true → is_undisturbed self.new link ≡ true }
         ensures bytes { bytes_of self.new ≡ bytes_of self.old }
     {

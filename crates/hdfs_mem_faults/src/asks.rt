@@ -61,7 +61,8 @@ impl Asks {
 
     /// How the next ask of a namenode fails.
     pub(crate) fn next(&self, number: u32) -> Option<&AskKind>
-        ensures { option_copied result ≡ next_kind (ask_kind_at (asks_at self.now number)) (asks_in (asks_at self.now number)) }
+        ensures { option_copied result ≡ next_kind (ask_kind_at (asks_at self.now number))
+            (asks_in (asks_at self.now number)) }
     {
         match self.by_number.get(&number) {
             Some(tally) => tally.next(),

@@ -26,7 +26,8 @@ impl FaultPlan {
     pub fn new(alloc: Global, nodes: u32) -> Result<FaultPlan, NoMemory>
         ensures new { IfOk result IsNew }
         ensures there { IfOk result (λ plan. (k : ℕ) → k < nodes → has_node plan (uuid_of k) ≡ true) }
-        ensures others { IfOk result (λ plan. (d : List ℕ) → ((k : ℕ) → k < nodes → d ≢ uuid_of k) → has_node plan d ≡ false) }
+        ensures others { IfOk result (λ plan. (d : List ℕ) → ((k : ℕ) → k < nodes → d ≢ uuid_of k)
+            → has_node plan d ≡ false) }
     {
         let mut plan = FaultPlan {
             nodes: Nodes::new(alloc),
@@ -40,7 +41,8 @@ impl FaultPlan {
     /// Sees to it that the datanodes with the numbers below `nodes` are there. No count and no plan changes.
     pub fn add_nodes(&mut self, alloc: Global, nodes: u32) -> Result<(), NoMemory>
         ensures there { OnOk result ((k : ℕ) → k < nodes → has_node self.new (uuid_of k) ≡ true) }
-        ensures others { (d : List ℕ) → ((k : ℕ) → k < nodes → d ≢ uuid_of k) → has_node self.new d ≡ has_node self.old d }
+        ensures others { (d : List ℕ) → ((k : ℕ) → k < nodes → d ≢ uuid_of k)
+            → has_node self.new d ≡ has_node self.old d }
         ensures rest { AddsNodes self.old self.new }
     {
         self.nodes.add(alloc, nodes)

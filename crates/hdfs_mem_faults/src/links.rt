@@ -34,7 +34,8 @@ fn at_once(kind: Option<LinkKind>) -> u64
 
 /// Notes a link whose set-up fails so, where its next acknowledgement is to be bad.
 fn note(bad: &mut BTreeSet<u64>, link: u64, kind: Option<LinkKind>) -> Result<(), NoMemory>
-    ensures ok { OnOk result ((l : ℕ) → contains nat_cmp bad.new l ≡ (contains nat_cmp bad.old l || (is_bad_ack kind && (link == l)))) }
+    ensures ok { OnOk result ((l : ℕ) → contains nat_cmp bad.new l
+        ≡ (contains nat_cmp bad.old l || (is_bad_ack kind && (link == l)))) }
     ensures len { OnOk result (btree_set_len bad.new ≤ btree_set_len bad.old + one_if (is_bad_ack kind)) }
     ensures err { OnErr result (IsUnchanged bad.old bad.new) }
 {

@@ -48,7 +48,8 @@ impl Nodes {
     /// Sees to it that the first so many datanodes are there.
     pub(crate) fn add(&mut self, alloc: Global, count: u32) -> Result<(), NoMemory>
         ensures there { OnOk result ((k : ℕ) → k < count → is_some (node_at self.new (uuid_of k)) ≡ true) }
-        ensures others { (d : List ℕ) → ((k : ℕ) → k < count → d ≢ uuid_of k) → node_at self.new d ≡ node_at self.old d }
+        ensures others { (d : List ℕ) → ((k : ℕ) → k < count → d ≢ uuid_of k)
+            → node_at self.new d ≡ node_at self.old d }
         ensures rest { (d : List ℕ) → AddsOnly (node_at self.old d) (node_at self.new d) }
     {
         for number in 0..count {
@@ -65,7 +66,8 @@ impl Nodes {
         number: u32,
         nth: u64,
     ) -> Result<(), NoMemory>
-        ensures ok { OnOk result (PlansCall (node_at self.old (uuid_of number)) fault nth (node_at self.new (uuid_of number))) }
+        ensures ok { OnOk result (PlansCall (node_at self.old (uuid_of number)) fault nth
+            (node_at self.new (uuid_of number))) }
         ensures others { (d : List ℕ) → d ≢ uuid_of number → node_at self.new d ≡ node_at self.old d }
         ensures err { OnErr result ((d : List ℕ) → SameNode (node_at self.old d) (node_at self.new d)) }
     {

@@ -25,7 +25,8 @@ use std::alloc::Global;
 impl Namespace {
     /// The next id under which no block is listed and these datanodes hold nothing.
     fn free_id(&self, nodes: &Datanodes, uuids: &[Text]) -> Option<u64>
-        ensures { IfSome result (λ id. (self.now.next_block ≤ id) × All (λ node. held_in nodes.now node id ≡ []) uuids.now) }
+        ensures { IfSome result (λ id. (self.now.next_block ≤ id)
+            × All (λ node. held_in nodes.now node id ≡ []) uuids.now) }
     {
         let mut id = self.next_block;
         while nodes.may_hold_any(uuids, id) {
@@ -43,11 +44,13 @@ impl Namespace {
         id: u64,
         entry: BlockEntry,
     ) -> Result<(), NoMemory>
-        requires takes { CanTake (get_by_text self.old.names) (table_of self.old.table.entries) src.now previous.now sum }
+        requires takes { CanTake (get_by_text self.old.names) (table_of self.old.table.entries) src.now previous.now
+            sum }
         requires free { self.old.next_block ≤ id }
         requires empty { entry.length ≡ 0 }
         ensures names { OnOk result ((file : FileEntry) → get_by_text self.old.names src.now ≡ Some (entries.File file)
-            → (q : List ℕ) → get_by_text self.new.names q ≡ with_entry (get_by_text self.old.names) src.now (with_more file id) q) }
+            → (q : List ℕ) → get_by_text self.new.names q ≡ with_entry (get_by_text self.old.names) src.now
+            (with_more file id) q) }
         ensures table { OnOk result ((b : ℕ) → table_of self.new.table.entries b
             ≡ with_block (with_length (table_of self.old.table.entries) previous.now) id entry b) }
         ensures err { OnErr result (((q : List ℕ) → get_by_text self.new.names q ≡ get_by_text self.old.names q)
@@ -142,11 +145,14 @@ impl Namespace {
         src: &str,
         previous: &Option<Block>,
     ) -> Result<LocatedBlock, AskFault>
-        ensures added { IfOk result (λ block. (file : FileEntry) × (get_by_text self.old.names src.now ≡ Some (entries.File file))
+        ensures added { IfOk result (λ block. (file : FileEntry)
+            × (get_by_text self.old.names src.now ≡ Some (entries.File file))
             × (GivesLast (space_of self.old nodes.now) file previous.now (space_of self.new nodes.now) block
-            ⊎ AddsLast (space_of self.old nodes.now) nodes.now.count src.now file previous.now (space_of self.new nodes.now) block)) }
+            ⊎ AddsLast (space_of self.old nodes.now) nodes.now.count src.now file previous.now
+            (space_of self.new nodes.now) block)) }
         ensures shape { IfOk result (λ block. IsToWrite block × (block.b.num_bytes ≡ 0)) }
-        ensures stray { IfErr result (StandsForStray ((file : FileEntry) → get_by_text self.old.names src.now ≡ Some (entries.File file)
+        ensures stray { IfErr result (StandsForStray ((file : FileEntry)
+            → get_by_text self.old.names src.now ≡ Some (entries.File file)
             → file.is_open ≡ true → HasBlock file.blocks previous.now → ⊥)) }
         ensures err { OnErr result (((q : List ℕ) → get_by_text self.new.names q ≡ get_by_text self.old.names q)
             × ((b : ℕ) → table_of self.new.table.entries b ≡ table_of self.old.table.entries b)) }

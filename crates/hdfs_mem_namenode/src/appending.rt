@@ -94,7 +94,8 @@ impl Namespace {
     fn open(&mut self, src: &str)
         requires { (file : FileEntry) × (get_by_text self.old.names src.now ≡ Some (entries.File file)) }
         ensures names { (file : FileEntry) → get_by_text self.old.names src.now ≡ Some (entries.File file)
-            → (q : List ℕ) → get_by_text self.new.names q ≡ with_entry (get_by_text self.old.names) src.now (with_open file true) q }
+            → (q : List ℕ) → get_by_text self.new.names q ≡ with_entry (get_by_text self.old.names) src.now
+            (with_open file true) q }
         ensures table { self.new.table ≡ self.old.table }
     {
         set_open(&mut self.names, src, true);
@@ -110,7 +111,8 @@ impl Namespace {
         id: u64,
     ) -> Result<LocatedBlock, NoMemory>
         requires { HasOne (get_by_text self.old.names) src.now id }
-        ensures reopened { IfOk result (Reopened (space_of self.old nodes.old) src.now id (space_of self.new nodes.new)) }
+        ensures reopened { IfOk result (Reopened (space_of self.old nodes.old) src.now id
+            (space_of self.new nodes.new)) }
         ensures shape { IfOk result IsToWrite }
         ensures err { OnErr result ((self.new.names ≡ self.old.names) × (self.new.table ≡ self.old.table)) }
         ensures same { SameHeld nodes.old nodes.new }
@@ -143,7 +145,8 @@ impl Namespace {
         src: &str,
     ) -> Result<Appended, AskFault>
         ensures allowed { OnOk result (append_refusal (kinds_in (get_by_text self.old.names)) src.now ≡ None) }
-        ensures opened { IfOk result (λ appended. (file : FileEntry) × (get_by_text self.old.names src.now ≡ Some (entries.File file))
+        ensures opened { IfOk result (λ appended. (file : FileEntry)
+            × (get_by_text self.old.names src.now ≡ Some (entries.File file))
             × HasStatus file appended.stat
             × OpensAgain (space_of self.old nodes.old) src.now file (space_of self.new nodes.new) appended.block) }
         ensures shape { IfOk result (λ appended. IfSome appended.block IsToWrite) }

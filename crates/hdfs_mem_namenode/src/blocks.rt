@@ -78,7 +78,8 @@ pub(crate) fn set_pipeline(
     nodes: List<Text>,
 )
     ensures { (entry : BlockEntry) → table_of table.old.entries id ≡ Some entry
-        → (b : ℕ) → table_of table.new.entries b ≡ with_block (table_of table.old.entries) id (with_pipeline entry stamp nodes) b }
+        → (b : ℕ) → table_of table.new.entries b ≡ with_block (table_of table.old.entries) id
+        (with_pipeline entry stamp nodes) b }
 {
     if let Some(entry) = table.get_mut(&id) {
         entry.stamp = stamp;
@@ -99,7 +100,8 @@ fn set_open_at(entry: &mut Entry, is_open: bool)
 /// Opens or closes the file at a path.
 pub(crate) fn set_open(names: &mut BTreeMap<String, Entry>, src: &str, is_open: bool)
     ensures { (file : FileEntry) → get_by_text names.old src.now ≡ Some (entries.File file)
-        → (q : List ℕ) → get_by_text names.new q ≡ with_entry (get_by_text names.old) src.now (with_open file is_open) q }
+        → (q : List ℕ) → get_by_text names.new q ≡ with_entry (get_by_text names.old) src.now (with_open file is_open)
+        q }
 {
     if let Some(entry) = names.get_mut(src) {
         set_open_at(entry, is_open);
@@ -129,7 +131,8 @@ pub(crate) fn retried(
 
 /// Puts a block behind those of what stands at a path, where it is a file.
 fn push_id_at(entry: &mut Entry, id: u64) -> Result<(), NoMemory>
-    ensures ok { OnOk result ((file : FileEntry) → entry.old ≡ entries.File file → entry.new ≡ entries.File (with_more file id)) }
+    ensures ok { OnOk result ((file : FileEntry) → entry.old ≡ entries.File file
+        → entry.new ≡ entries.File (with_more file id)) }
     ensures err { OnErr result (entry.new ≡ entry.old) }
 {
     match entry {
@@ -159,7 +162,8 @@ pub(crate) fn push_id(
 
 /// The block with a number among those of a file.
 pub(crate) fn kth_id(ids: &[u64], number: u32) -> Option<u64>
-    ensures { MatchOption result (length ids.now ≤ number) (λ id. (number < length ids.now) × (slice_index_or ids.now number 0 ≡ id)) }
+    ensures { MatchOption result (length ids.now ≤ number) (λ id. (number < length ids.now)
+        × (slice_index_or ids.now number 0 ≡ id)) }
 {
     match ids.get(number as usize) {
         None => None,

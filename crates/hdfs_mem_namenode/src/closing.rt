@@ -18,7 +18,8 @@ use std::alloc::Global;
 impl Namespace {
     /// The file at a path.
     pub(crate) fn file(&self, src: &str) -> Option<&FileEntry>
-        ensures { MatchOption result ((file : FileEntry) → get_by_text self.now.names src.now ≡ Some (entries.File file) → ⊥)
+        ensures { MatchOption result ((file : FileEntry) → get_by_text self.now.names src.now
+            ≡ Some (entries.File file) → ⊥)
             (λ file. get_by_text self.now.names src.now ≡ Some (entries.File file.now)) }
     {
         match self.names.get(src) {
@@ -32,8 +33,10 @@ impl Namespace {
     fn close(&mut self, src: &str, last: &Option<Block>, sum: u64)
         requires { CanTake (get_by_text self.old.names) (table_of self.old.table.entries) src.now last.now sum }
         ensures names { (file : FileEntry) → get_by_text self.old.names src.now ≡ Some (entries.File file)
-            → (q : List ℕ) → get_by_text self.new.names q ≡ with_entry (get_by_text self.old.names) src.now (with_open file false) q }
-        ensures table { (id : ℕ) → table_of self.new.table.entries id ≡ with_length (table_of self.old.table.entries) last.now id }
+            → (q : List ℕ) → get_by_text self.new.names q ≡ with_entry (get_by_text self.old.names) src.now
+            (with_open file false) q }
+        ensures table { (id : ℕ) → table_of self.new.table.entries id
+            ≡ with_length (table_of self.old.table.entries) last.now id }
     {
         set_length(&mut self.table, last);
         set_total(&mut self.totals, src, sum);
@@ -50,10 +53,13 @@ impl Namespace {
         ensures done { OnOk result ((file : FileEntry) × (get_by_text self.old.names src.now ≡ Some (entries.File file))
             × IsLast file.blocks last.now
             × ((q : List ℕ) → get_by_text self.new.names q
-            ≡ (if file.is_open then with_entry (get_by_text self.old.names) src.now (with_open file false) q else get_by_text self.old.names q))
+            ≡ (if file.is_open then with_entry (get_by_text self.old.names) src.now (with_open file false) q else
+            get_by_text self.old.names q))
             × ((id : ℕ) → table_of self.new.table.entries id
-            ≡ (if file.is_open then with_length (table_of self.old.table.entries) last.now id else table_of self.old.table.entries id))) }
-        ensures stray { IfErr result (StandsForStray ((file : FileEntry) → get_by_text self.old.names src.now ≡ Some (entries.File file)
+            ≡ (if file.is_open then with_length (table_of self.old.table.entries) last.now id else table_of
+            self.old.table.entries id))) }
+        ensures stray { IfErr result (StandsForStray ((file : FileEntry)
+            → get_by_text self.old.names src.now ≡ Some (entries.File file)
             → IsLast file.blocks last.now → ⊥)) }
         ensures err { OnErr result (((q : List ℕ) → get_by_text self.new.names q ≡ get_by_text self.old.names q)
             × (self.new.table ≡ self.old.table)) }

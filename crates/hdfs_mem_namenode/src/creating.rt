@@ -62,7 +62,8 @@ pub(crate) fn make_parents(
     names: &mut BTreeMap<String, Entry>,
     path: &str,
 ) -> Result<(), NoMemory>
-    ensures ok { OnOk result ((q : List ℕ) → get_by_text names.new q ≡ with_directories (get_by_text names.old) entries.Dir path.now q) }
+    ensures ok { OnOk result ((q : List ℕ) → get_by_text names.new q
+        ≡ with_directories (get_by_text names.old) entries.Dir path.now q) }
     ensures err { OnErr result ((q : List ℕ) → get_by_text names.new q ≡ get_by_text names.old q) }
 {
     let Some(front) = nearest_ancestor(path) else {
@@ -90,7 +91,8 @@ fn name_file(
 ) -> Result<Option<Entry>, NoMemory>
     ensures old { IfOk result (λ old. old ≡ get_by_text names.old src.now) }
     ensures new { OnOk result (get_by_text names.old src.now ≡ None
-        → (q : List ℕ) → get_by_text names.new q ≡ with_parents (get_by_text names.old) entries.Dir src.now (entries.File file) q) }
+        → (q : List ℕ) → get_by_text names.new q ≡ with_parents (get_by_text names.old) entries.Dir src.now
+        (entries.File file) q) }
     ensures over { OnOk result (IsSome (get_by_text names.old src.now)
         → (q : List ℕ) → get_by_text names.new q ≡ with_entry (get_by_text names.old) src.now file q) }
     ensures err { OnErr result ((q : List ℕ) → get_by_text names.new q ≡ get_by_text names.old q) }
@@ -120,7 +122,8 @@ pub(crate) fn unlist_all(table: &mut BTreeMap<u64, BlockEntry>, ids: &[u64])
 
 /// Takes the blocks of what stood at a path out of the table.
 fn unlist(table: &mut BTreeMap<u64, BlockEntry>, old: &Option<Entry>)
-    ensures { (id : ℕ) → table_of table.new.entries id ≡ table_without (table_of table.old.entries) (blocks_at old.now) id }
+    ensures { (id : ℕ) → table_of table.new.entries id ≡ table_without (table_of table.old.entries) (blocks_at old.now)
+        id }
 {
     match old {
         None => {}
@@ -165,7 +168,8 @@ impl Namespace {
         overwrite: bool,
         create_parent: bool,
     ) -> Option<&'static str>
-        ensures { MatchOption result (create_refusal (kinds_in (get_by_text self.now.names)) src.now overwrite create_parent ≡ None)
+        ensures { MatchOption result (create_refusal (kinds_in (get_by_text self.now.names)) src.now overwrite
+            create_parent ≡ None)
             (λ class. StandsForAny (kinds_in (get_by_text self.now.names) src.now)
             (create_refusal (kinds_in (get_by_text self.now.names)) src.now overwrite create_parent) class.now) }
     {
@@ -185,7 +189,8 @@ impl Namespace {
     fn put(&mut self, alloc: Global, src: &str, file: FileEntry) -> Result<(), NoMemory>
         requires named { is_path src.now ≡ true }
         requires free { is_dir (get_by_text self.old.names src.now) ≡ false }
-        requires above { list_any (λ ancestor. is_file (kinds_in (get_by_text self.old.names) ancestor)) (ancestors src.now) ≡ false }
+        requires above { list_any (λ ancestor. is_file (kinds_in (get_by_text self.old.names) ancestor))
+            (ancestors src.now) ≡ false }
         requires empty { file.blocks ≡ [] }
         ensures names { OnOk result ((q : List ℕ) → get_by_text self.new.names q
             ≡ with_parents (get_by_text self.old.names) entries.Dir src.now (entries.File file) q) }
@@ -213,9 +218,11 @@ impl Namespace {
     ) -> Result<FileStatusMsg, AskFault>
         ensures status { IfOk result (λ status.
             HasStatus (new_file attributes.permission attributes.replication attributes.block_size) (Some status)) }
-        ensures allowed { OnOk result (create_refusal (kinds_in (get_by_text self.old.names)) src.now overwrite create_parent ≡ None) }
+        ensures allowed { OnOk result (create_refusal (kinds_in (get_by_text self.old.names)) src.now overwrite
+            create_parent ≡ None) }
         ensures names { OnOk result ((q : List ℕ) → get_by_text self.new.names q
-            ≡ with_parents (get_by_text self.old.names) entries.Dir src.now (entries.File (new_file attributes.permission attributes.replication attributes.block_size)) q) }
+            ≡ with_parents (get_by_text self.old.names) entries.Dir src.now
+            (entries.File (new_file attributes.permission attributes.replication attributes.block_size)) q) }
         ensures table { OnOk result ((id : ℕ) → table_of self.new.table.entries id
             ≡ table_without (table_of self.old.table.entries) (blocks_at (get_by_text self.old.names src.now)) id) }
         ensures excused { IfErr result (StandsForWritten (kinds_in (get_by_text self.old.names) src.now)

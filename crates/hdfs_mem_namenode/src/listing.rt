@@ -89,7 +89,8 @@ pub(crate) fn first_from<'a>(
 
 /// What stands at the paths from a text on, byte by byte.
 fn entries_from<'a>(names: &'a BTreeMap<String, Entry>, start: &String) -> Range<'a, String, Entry>
-    ensures entries { result ≡ filter (λ e. not (is_before (string_bytes e.0) (string_bytes start.now))) names.now.entries }
+    ensures entries { result ≡ filter (λ e. not (is_before (string_bytes e.0) (string_bytes start.now)))
+        names.now.entries }
     ensures ordered { IsOrdered string_cmp names.now }
 {
     names.range(start..)

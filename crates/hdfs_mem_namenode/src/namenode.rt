@@ -200,7 +200,8 @@ fn locate(
     file: &FileEntry,
 ) -> Result<LocatedBlocks, NoMemory>
     requires { is_length (total (table_of table.now.entries) file.now.blocks) ≡ true }
-    ensures rows { IfOk result (λ found. LocatesBlocks (table_of table.now.entries) 0 found.file_length file.now.blocks found.blocks) }
+    ensures rows { IfOk result (λ found. LocatesBlocks (table_of table.now.entries) 0 found.file_length file.now.blocks
+        found.blocks) }
     ensures length { IfOk result (λ found. found.file_length < 2 ^ 63) }
     ensures follow { IfOk result (λ found. Follow 0 found.file_length found.blocks) }
     ensures encryption { IfOk result (λ found. is_some found.encryption ≡ file.now.attributes.encrypted) }
@@ -226,7 +227,8 @@ fn locate(
 impl Namespace {
     /// The blocks of the file at a path.
     pub fn locations(&self, alloc: Global, src: &str) -> Result<LocatedBlocks, AskFault>
-        ensures located { IfOk result (LocatesFile (get_by_text self.now.names) (table_of self.now.table.entries) src.now) }
+        ensures located { IfOk result (LocatesFile (get_by_text self.now.names) (table_of self.now.table.entries)
+            src.now) }
         ensures allowed { OnOk result (no_file (kinds_in (get_by_text self.now.names)) src.now ≡ None) }
         ensures excused { IfErr result (StandsForRefusal (kinds_in (get_by_text self.now.names)) src.now) }
         ensures length { IfOk result (λ found. found.file_length < 2 ^ 63) }
@@ -270,7 +272,8 @@ impl Namespace {
     }
 
     pub(crate) fn is_below_file(&self, src: &str) -> bool
-        ensures { result ≡ list_any (λ ancestor. is_file (kinds_in (get_by_text self.now.names) ancestor)) (ancestors src.now) }
+        ensures { result ≡ list_any (λ ancestor. is_file (kinds_in (get_by_text self.now.names) ancestor))
+            (ancestors src.now) }
     {
         let mut path = src;
         while let Some(front) = nearest_ancestor(path) {

@@ -98,7 +98,8 @@ impl Namespace {
 
     /// Lists a new block on these datanodes, and answers its id.
     pub fn add_block(&mut self, length: u64, nodes: List<Text>) -> Result<u64, NoMemory>
-        ensures added { IfOk result (λ id. AddsBlock (table_of self.old.table.entries) (table_of self.new.table.entries) id length nodes) }
+        ensures added { IfOk result (λ id. AddsBlock (table_of self.old.table.entries)
+            (table_of self.new.table.entries) id length nodes) }
         ensures ids { IfOk result (λ id. (id ≡ self.old.next_block) × (self.new.next_block ≡ id + 256)) }
         ensures names { (self.new.names ≡ self.old.names) × (self.new.grown ≡ self.old.grown) }
         ensures kept { Keeps (table_of self.old.table.entries) (table_of self.new.table.entries) }
@@ -129,8 +130,10 @@ impl Namespace {
         requires counted { is_counted (table_of self.old.table.entries) (Some entry)
             (get_by_text self.old.totals (string_bytes path)) ≡ true }
         requires new { AreNew (get_by_text self.old.names) (blocks_at (Some entry)) }
-        ensures ok { OnOk result (Names (get_by_text self.old.names) (get_by_text self.new.names) (string_bytes path) entry) }
-        ensures err { OnErr result ((self.new.names.entries ≡ self.old.names.entries) × (self.new.grown ≡ self.old.grown)) }
+        ensures ok { OnOk result (Names (get_by_text self.old.names) (get_by_text self.new.names) (string_bytes path)
+            entry) }
+        ensures err { OnErr result ((self.new.names.entries ≡ self.old.names.entries)
+            × (self.new.grown ≡ self.old.grown)) }
         ensures grown { OnOk result (self.new.grown ≡ true) }
         ensures table { self.new.table ≡ self.old.table }
     {
@@ -142,8 +145,10 @@ impl Namespace {
     /// Makes a directory at a free path.
     pub fn add_dir(&mut self, path: String) -> Result<(), NoMemory>
         requires { IsPlace (get_by_text self.old.names) (string_bytes path) }
-        ensures ok { OnOk result (Names (get_by_text self.old.names) (get_by_text self.new.names) (string_bytes path) entries.Dir) }
-        ensures err { OnErr result ((self.new.names.entries ≡ self.old.names.entries) × (self.new.grown ≡ self.old.grown)) }
+        ensures ok { OnOk result (Names (get_by_text self.old.names) (get_by_text self.new.names) (string_bytes path)
+            entries.Dir) }
+        ensures err { OnErr result ((self.new.names.entries ≡ self.old.names.entries)
+            × (self.new.grown ≡ self.old.grown)) }
         ensures grown { OnOk result (self.new.grown ≡ true) }
         ensures table { self.new.table ≡ self.old.table }
     {
@@ -162,8 +167,10 @@ impl Namespace {
         requires sums { total (table_of self.old.table.entries) file.blocks ≡ Some sum }
         requires sized { is_length (total (table_of self.old.table.entries) file.blocks) ≡ true }
         requires new { AreNew (get_by_text self.old.names) file.blocks }
-        ensures ok { OnOk result (Names (get_by_text self.old.names) (get_by_text self.new.names) (string_bytes path) (entries.File file)) }
-        ensures err { OnErr result ((self.new.names.entries ≡ self.old.names.entries) × (self.new.grown ≡ self.old.grown)) }
+        ensures ok { OnOk result (Names (get_by_text self.old.names) (get_by_text self.new.names) (string_bytes path)
+            (entries.File file)) }
+        ensures err { OnErr result ((self.new.names.entries ≡ self.old.names.entries)
+            × (self.new.grown ≡ self.old.grown)) }
         ensures grown { OnOk result (self.new.grown ≡ true) }
         ensures table { self.new.table ≡ self.old.table }
     {

@@ -33,7 +33,8 @@ fn copy_uuids(alloc: Global, nodes: &[DatanodeId]) -> Result<List<Text>, NoMemor
 
 /// Puts a text into a set.
 fn put(alloc: Global, set: &mut BTreeSet<String>, text: &Text) -> Result<(), NoMemory>
-    ensures { OnOk result ((other : List ℕ) → contains_text set.new other ≡ (bytes_eq other text.now || contains_text set.old other)) }
+    ensures { OnOk result ((other : List ℕ) → contains_text set.new other
+        ≡ (bytes_eq other text.now || contains_text set.old other)) }
 {
     set.insert(String::from_str(alloc, text.as_str())?)?;
     Ok(())
@@ -41,7 +42,8 @@ fn put(alloc: Global, set: &mut BTreeSet<String>, text: &Text) -> Result<(), NoM
 
 /// Puts the uuids of datanodes into a set.
 fn bar(alloc: Global, barred: &mut BTreeSet<String>, nodes: &[DatanodeInfo]) -> Result<(), NoMemory>
-    ensures { OnOk result ((uuid : List ℕ) → contains_text barred.new uuid ≡ (is_named nodes.now uuid || contains_text barred.old uuid)) }
+    ensures { OnOk result ((uuid : List ℕ) → contains_text barred.new uuid
+        ≡ (is_named nodes.now uuid || contains_text barred.old uuid)) }
 {
     for node in nodes {
         put(alloc, barred, &node.id.datanode_uuid)?;
@@ -55,7 +57,8 @@ fn bar_hosts(
     barred: &mut BTreeSet<String>,
     nodes: &[DatanodeInfo],
 ) -> Result<(), NoMemory>
-    ensures { OnOk result ((uuid : List ℕ) → contains_text barred.new uuid ≡ (is_addressed nodes.now uuid || contains_text barred.old uuid)) }
+    ensures { OnOk result ((uuid : List ℕ) → contains_text barred.new uuid
+        ≡ (is_addressed nodes.now uuid || contains_text barred.old uuid)) }
 {
     for node in nodes {
         put(alloc, barred, &node.id.ip_addr)?;
@@ -69,7 +72,8 @@ fn barred(
     existing: &[DatanodeInfo],
     excludes: &[DatanodeInfo],
 ) -> Result<BTreeSet<String>, NoMemory>
-    ensures { IfOk result (λ barred. (uuid : List ℕ) → contains_text barred uuid ≡ is_barred existing.now excludes.now uuid) }
+    ensures { IfOk result (λ barred. (uuid : List ℕ) → contains_text barred uuid
+        ≡ is_barred existing.now excludes.now uuid) }
 {
     let mut barred = BTreeSet::new(alloc);
     bar_hosts(alloc, &mut barred, existing)?;
@@ -86,7 +90,8 @@ fn lowest_free(
     barred: &BTreeSet<String>,
 ) -> Result<Option<Text>, NoMemory>
     ensures { IfOk result (λ found. MatchOption found (AreBarred (contains_text barred.now) nodes.now.count)
-        (λ uuid. (number : ℕ) × IsLowestFree (contains_text barred.now) nodes.now.count number × (uuid ≡ uuid_of number))) }
+        (λ uuid. (number : ℕ) × IsLowestFree (contains_text barred.now) nodes.now.count number
+        × (uuid ≡ uuid_of number))) }
 {
     for number in 0..nodes.count {
         let uuid = uuid(alloc, number)?;
@@ -162,10 +167,12 @@ impl Namespace {
         excludes: &[DatanodeInfo],
     ) -> Result<Option<LocatedBlock>, AskFault>
         ensures written { OnOk result (IsOfOpen (get_by_text self.now.names) src.now block.now.block_id) }
-        ensures added { IfOk result (λ found. MatchOption found (AreBarred (is_barred existing.now excludes.now) nodes.now.count)
+        ensures added { IfOk result (λ found. MatchOption found
+            (AreBarred (is_barred existing.now excludes.now) nodes.now.count)
             (λ located. (located.b ≡ block.now) × AddsLowest nodes.now.count existing.now excludes.now located.locs)) }
         ensures shape { IfOk result (λ found. IfSome found IsToWrite) }
-        ensures stray { IfErr result (StandsForStray (IsOfOpen (get_by_text self.now.names) src.now block.now.block_id → ⊥)) }
+        ensures stray { IfErr result (StandsForStray (IsOfOpen (get_by_text self.now.names) src.now block.now.block_id
+            → ⊥)) }
     {
         if !self.is_being_written(src, block.block_id) {
             return Err(exception(alloc, NOT_FOUND)?);
@@ -185,7 +192,8 @@ impl Namespace {
         new_block: &Block,
         new_nodes: &[DatanodeId],
     ) -> Result<(), AskFault>
-        ensures renewed { OnOk result (Renews (table_of self.old.table.entries) old_block.now new_block.now new_nodes.now
+        ensures renewed { OnOk result (Renews (table_of self.old.table.entries) old_block.now new_block.now
+            new_nodes.now
             (table_of self.new.table.entries)) }
         ensures stray { IfErr result (StandsForStray ((old_block.now.block_id ≡ new_block.now.block_id)
             × IsSome (table_of self.old.table.entries old_block.now.block_id) → ⊥)) }

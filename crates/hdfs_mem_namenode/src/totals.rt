@@ -18,7 +18,8 @@ pub(crate) fn make_room(
     path: &str,
 ) -> Result<(), NoMemory>
     ensures room { OnOk result (is_some (get_by_text totals.new path.now) ≡ true) }
-    ensures kept { (q : List ℕ) → is_some (get_by_text totals.old q) ≡ true → get_by_text totals.new q ≡ get_by_text totals.old q }
+    ensures kept { (q : List ℕ) → is_some (get_by_text totals.old q) ≡ true
+        → get_by_text totals.new q ≡ get_by_text totals.old q }
     ensures others { (q : List ℕ) → (path.now ≡ q → ⊥) → get_by_text totals.new q ≡ get_by_text totals.old q }
 {
     if !totals.contains_key(path) {
@@ -56,7 +57,8 @@ impl Namespace {
     /// None where they aren't below 2^63.
     pub(crate) fn sum_with(&self, src: &str, named: &Option<Block>) -> Option<u64>
         requires { HasNamed (get_by_text self.now.names) src.now named.now }
-        ensures { IfSome result (CanTake (get_by_text self.now.names) (table_of self.now.table.entries) src.now named.now) }
+        ensures { IfSome result (CanTake (get_by_text self.now.names) (table_of self.now.table.entries) src.now
+            named.now) }
     {
         let sum = *self.totals.get(src)?;
         match named {

@@ -49,7 +49,8 @@ impl NamenodeProtocol {
         requires service { IsServiceOf (proxy_of self.old) (C.shown cluster.old) }
         requires allowed { C.allows (AskOf
             (asks.SetOwner src.now (option_copied username) (option_copied groupname))) }
-        ensures asked { AskedOnce C.serves true (asks.SetOwner src.now (option_copied username.entry) (option_copied groupname.entry))
+        ensures asked { AskedOnce C.serves true (asks.SetOwner src.now (option_copied username.entry)
+            (option_copied groupname.entry))
             (through self.old cluster.old) (as_answer (λ _. answers.SetOwner) result) (through self.new cluster.new) }
         ensures keeps { SameClient self.old self.new }
     {
@@ -118,7 +119,8 @@ impl NamenodeProtocol {
     ) -> Result<(), HdfsError>
         requires service { IsServiceOf (proxy_of self.old) (C.shown cluster.old) }
         requires allowed { C.allows (AskOf (asks.ModifyAclEntries src.now acl_spec.now)) }
-        ensures asked { AskedOnce C.serves true (asks.ModifyAclEntries src.now acl_spec.now) (through self.old cluster.old)
+        ensures asked { AskedOnce C.serves true (asks.ModifyAclEntries src.now acl_spec.now)
+            (through self.old cluster.old)
             (as_answer (λ _. answers.ModifyAclEntries) result) (through self.new cluster.new) }
         ensures keeps { SameClient self.old self.new }
     {
@@ -139,7 +141,8 @@ impl NamenodeProtocol {
     ) -> Result<(), HdfsError>
         requires service { IsServiceOf (proxy_of self.old) (C.shown cluster.old) }
         requires allowed { C.allows (AskOf (asks.RemoveAclEntries src.now acl_spec.now)) }
-        ensures asked { AskedOnce C.serves true (asks.RemoveAclEntries src.now acl_spec.now) (through self.old cluster.old)
+        ensures asked { AskedOnce C.serves true (asks.RemoveAclEntries src.now acl_spec.now)
+            (through self.old cluster.old)
             (as_answer (λ _. answers.RemoveAclEntries) result) (through self.new cluster.new) }
         ensures keeps { SameClient self.old self.new }
     {

@@ -59,9 +59,11 @@ impl NamenodeProtocol {
             → GivesCopy (key_of self.old) result × (self.new ≡ self.old) × (cluster.new ≡ cluster.old)) }
         ensures due { IfSome (defaults_of self.old) (λ defaults. defaults.encrypt_data_transfer ≡ true
             → IsDue moment (key_of self.old)
-            → AsksForKey C.serves (key_of self.old) (through self.old cluster.old) result (key_of self.new) (through self.new cluster.new)
+            → AsksForKey C.serves (key_of self.old) (through self.old cluster.old) result (key_of self.new)
+            (through self.new cluster.new)
             × (defaults_of self.new ≡ Some defaults)) }
-        ensures first { defaults_of self.old ≡ None → AsksForBoth C.serves moment (key_of self.old) (through self.old cluster.old) result
+        ensures first { defaults_of self.old ≡ None → AsksForBoth C.serves moment (key_of self.old)
+            (through self.old cluster.old) result
             (defaults_of self.new) (key_of self.new) (through self.new cluster.new) }
         ensures keeps { SameButKept self.old self.new }
     {
@@ -83,7 +85,8 @@ impl NamenodeProtocol {
         ensures lasts { defaults.encrypt_data_transfer ≡ true → IsLasting moment (key_of self.old)
             → GivesCopy (key_of self.old) result × (self.new ≡ self.old) × (cluster.new ≡ cluster.old) }
         ensures due { defaults.encrypt_data_transfer ≡ true → IsDue moment (key_of self.old)
-            → AsksForKey C.serves (key_of self.old) (through self.old cluster.old) result (key_of self.new) (through self.new cluster.new) }
+            → AsksForKey C.serves (key_of self.old) (through self.old cluster.old) result (key_of self.new)
+            (through self.new cluster.new) }
         ensures defaults { defaults_of self.new ≡ defaults_of self.old }
         ensures keeps { SameButKept self.old self.new }
     {

@@ -49,7 +49,8 @@ impl NamenodeProtocol {
     ) -> Result<(), HdfsError>
         requires service { IsServiceOf (proxy_of self.old) (C.shown cluster.old) }
         requires allowed { C.allows (AskOf (asks.RenewLease (name_of self.old) namespaces.now)) }
-        ensures asked { AskedOnce C.serves true (asks.RenewLease (name_of self.old) namespaces.now) (through self.old cluster.old)
+        ensures asked { AskedOnce C.serves true (asks.RenewLease (name_of self.old) namespaces.now)
+            (through self.old cluster.old)
             (as_answer (λ _. answers.RenewLease) result) (through self.new cluster.new) }
         ensures keeps { SameClient self.old self.new }
     {
@@ -68,7 +69,8 @@ impl NamenodeProtocol {
     pub fn add_file_lease(&mut self, file_id: u64, namespace: Option<&str>) -> Result<(), NoMemory>
         ensures more { OnOk result (held (leases_of self.new) (option_copied namespace.entry) file_id
             ≡ held (leases_of self.old) (option_copied namespace.entry) file_id + 1) }
-        ensures others { HoldsSameBut (option_copied namespace.entry) file_id (leases_of self.old) (leases_of self.new) }
+        ensures others { HoldsSameBut (option_copied namespace.entry) file_id (leases_of self.old)
+            (leases_of self.new) }
         ensures err { OnErr result (HoldsSame (leases_of self.old) (leases_of self.new)) }
         ensures last { last_of (leases_of self.new) ≡ last_of (leases_of self.old) }
         ensures keeps { ChangesLeases self.old self.new }
@@ -80,7 +82,8 @@ impl NamenodeProtocol {
     pub fn remove_file_lease(&mut self, file_id: u64, namespace: Option<&str>)
         ensures fewer { held (leases_of self.new) (option_copied namespace.entry) file_id
             ≡ held (leases_of self.old) (option_copied namespace.entry) file_id - 1 }
-        ensures others { HoldsSameBut (option_copied namespace.entry) file_id (leases_of self.old) (leases_of self.new) }
+        ensures others { HoldsSameBut (option_copied namespace.entry) file_id (leases_of self.old)
+            (leases_of self.new) }
         ensures last { last_of (leases_of self.new) ≡ last_of (leases_of self.old) }
         ensures keeps { ChangesLeases self.old self.new }
     {
@@ -101,7 +104,8 @@ impl NamenodeProtocol {
         ensures idle { IsIdle (leases_of self.old) → (result ≡ Ok Idle) × (last_of (leases_of self.new) ≡ None)
             × (through self.new cluster.new ≡ through self.old cluster.old) }
         ensures first { ¬ IsIdle (leases_of self.old) → last_of (leases_of self.old) ≡ None → (result ≡ Ok Waiting)
-            × (last_of (leases_of self.new) ≡ Some moment) × (through self.new cluster.new ≡ through self.old cluster.old) }
+            × (last_of (leases_of self.new) ≡ Some moment) × (through self.new cluster.new
+            ≡ through self.old cluster.old) }
         ensures waits { (last : ℕ) → ¬ IsIdle (leases_of self.old) → last_of (leases_of self.old) ≡ Some last
             → (moment - last) / 1000 ≤ 30 → (result ≡ Ok Waiting) × (last_of (leases_of self.new) ≡ Some last)
             × (through self.new cluster.new ≡ through self.old cluster.old) }
@@ -122,8 +126,10 @@ impl NamenodeProtocol {
     fn renew<C: Cluster>(&mut self, cluster: &mut C, moment: u64) -> Result<LeaseTurn, HdfsError>
         requires service { IsServiceOf (proxy_of self.old) (C.shown cluster.old) }
         requires allowed { LetsRenew C.allows (name_of self.old) }
-        ensures renews { (last : ℕ) → last_of (leases_of self.old) ≡ Some last → Renews C.serves moment last (name_of self.old)
-            (leases_of self.old) (through self.old cluster.old) result (last_of (leases_of self.new)) (through self.new cluster.new) }
+        ensures renews { (last : ℕ) → last_of (leases_of self.old) ≡ Some last
+            → Renews C.serves moment last (name_of self.old)
+            (leases_of self.old) (through self.old cluster.old) result (last_of (leases_of self.new))
+            (through self.new cluster.new) }
         ensures held { HoldsSame (leases_of self.old) (leases_of self.new) }
         ensures keeps { SameButLeases self.old self.new }
     {

@@ -21,7 +21,8 @@ impl NameServiceProxy {
         requires { IsServiceOf self.old (C.shown cluster.old) }
         ensures syncs { SyncsFirst C.serves write (record { cluster = cluster.old; proxy = self.old }) result
             (record { cluster = cluster.new; proxy = self.new }) }
-        ensures cause { IfErr result (HasNoAnswer C.shown C.serves (order_of self.old) asks.Msync cluster.old cluster.new) }
+        ensures cause { IfErr result (HasNoAnswer C.shown C.serves (order_of self.old) asks.Msync cluster.old
+            cluster.new) }
         ensures later { Later (C.shown cluster.old) (C.shown cluster.new) }
         ensures keeps { SameService self.old self.new }
     {
@@ -102,7 +103,8 @@ impl NameServiceProxy {
     fn observer<C: Cluster>(&mut self, cluster: &mut C) -> Result<Option<u32>, HdfsError>
         requires service { IsServiceOf self.old (C.shown cluster.old) }
         requires observes { self.old.find_observer ≡ true }
-        ensures observes { Observes C.serves self.old.observer (record { cluster = cluster.old; proxy = self.old }) result
+        ensures observes { Observes C.serves self.old.observer (record { cluster = cluster.old; proxy = self.old })
+            result
             (record { cluster = cluster.new; proxy = self.new }) }
         ensures below { IfOk result (λ observer. IfSome observer (λ i. i < (C.shown cluster.new).namenodes)) }
         ensures memory { IfErr result (λ error. error ≡ errors.NoMemory) }

@@ -25,7 +25,8 @@ impl NamenodeProtocol {
     ) -> Result<Option<LocatedBlocks>, HdfsError>
         requires service { IsServiceOf (proxy_of self.old) (C.shown cluster.old) }
         requires allowed { C.allows (AskOf (asks.GetBlockLocations src.now offset length)) }
-        ensures asked { AskedOnce C.serves false (asks.GetBlockLocations src.now offset length) (through self.old cluster.old)
+        ensures asked { AskedOnce C.serves false (asks.GetBlockLocations src.now offset length)
+            (through self.old cluster.old)
             (as_answer answers.GetBlockLocations result) (through self.new cluster.new) }
         ensures came { ReachesAll (proxy_of self.old) (C.shown cluster.old) → Came (C.shown cluster.old)
             (asks.GetBlockLocations src.now offset length)
@@ -80,7 +81,8 @@ impl NamenodeProtocol {
     ) -> Result<Option<DirList>, HdfsError>
         requires service { IsServiceOf (proxy_of self.old) (C.shown cluster.old) }
         requires allowed { C.allows (AskOf (asks.GetListing src.now start_after.now need_location)) }
-        ensures asked { AskedOnce C.serves false (asks.GetListing src.now start_after.now need_location) (through self.old cluster.old)
+        ensures asked { AskedOnce C.serves false (asks.GetListing src.now start_after.now need_location)
+            (through self.old cluster.old)
             (as_answer answers.GetListing result) (through self.new cluster.new) }
         ensures answered { IfOk result (λ page. C.may_answer
             (asks.GetListing src.now start_after.now need_location) (answers.GetListing page)) }
@@ -133,7 +135,8 @@ impl NamenodeProtocol {
     ) -> Result<bool, HdfsError>
         requires service { IsServiceOf (proxy_of self.old) (C.shown cluster.old) }
         requires allowed { C.allows (AskOf (asks.Mkdirs src.now masked create_parent)) }
-        ensures asked { AskedOnce C.serves true (asks.Mkdirs src.now masked create_parent) (through self.old cluster.old)
+        ensures asked { AskedOnce C.serves true (asks.Mkdirs src.now masked create_parent)
+            (through self.old cluster.old)
             (as_answer answers.Mkdirs result) (through self.new cluster.new) }
         ensures keeps { SameClient self.old self.new }
     {
@@ -161,7 +164,8 @@ impl NamenodeProtocol {
     ) -> Result<(), HdfsError>
         requires service { IsServiceOf (proxy_of self.old) (C.shown cluster.old) }
         requires allowed { C.allows (AskOf (asks.Rename src.now dst.now overwrite_dest)) }
-        ensures asked { AskedOnce C.serves true (asks.Rename src.now dst.now overwrite_dest) (through self.old cluster.old)
+        ensures asked { AskedOnce C.serves true (asks.Rename src.now dst.now overwrite_dest)
+            (through self.old cluster.old)
             (as_answer (λ _. answers.Rename) result) (through self.new cluster.new) }
         ensures keeps { SameClient self.old self.new }
     {

@@ -111,7 +111,8 @@ impl NamenodeProtocol {
             (as_answer answers.GetServerDefaults result) (through self.new cluster.new) }
         ensures came { ReachesAll (proxy_of self.old) (C.shown cluster.old) → Came (C.shown cluster.old)
             asks.GetServerDefaults (as_answer answers.GetServerDefaults result) (C.shown cluster.new) }
-        ensures answered { IfOk result (λ defaults. C.may_answer asks.GetServerDefaults (answers.GetServerDefaults defaults)) }
+        ensures answered { IfOk result (λ defaults. C.may_answer asks.GetServerDefaults
+            (answers.GetServerDefaults defaults)) }
         ensures keeps { SameClient self.old self.new }
     {
         let answer = self.ask(cluster, Ask::GetServerDefaults, false)?;
@@ -130,8 +131,10 @@ impl NamenodeProtocol {
     ) -> Result<ServerDefaults, HdfsError>
         requires service { IsServiceOf (proxy_of self.old) (C.shown cluster.old) }
         requires allowed { C.allows (AskOf asks.GetServerDefaults) }
-        ensures known { IfSome (defaults_of self.old) (λ kept. (result ≡ Ok kept) × (cluster.new ≡ cluster.old) × (self.new ≡ self.old)) }
-        ensures asked { defaults_of self.old ≡ None → Asked C.serves false asks.GetServerDefaults (through self.old cluster.old)
+        ensures known { IfSome (defaults_of self.old) (λ kept. (result ≡ Ok kept) × (cluster.new ≡ cluster.old)
+            × (self.new ≡ self.old)) }
+        ensures asked { defaults_of self.old ≡ None → Asked C.serves false asks.GetServerDefaults
+            (through self.old cluster.old)
             (as_answer answers.GetServerDefaults result) (through self.new cluster.new) }
         ensures came { ReachesAll (proxy_of self.old) (C.shown cluster.old)
             → CameCached (defaults_of self.old) (C.shown cluster.old) result (C.shown cluster.new) }

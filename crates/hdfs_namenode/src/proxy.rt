@@ -122,7 +122,8 @@ impl NameServiceProxy {
             (record { cluster = cluster.new; proxy = self.new }) }
         ensures shape { IfOk result (IsShaped ask.now) }
         ensures answered { IfOk result (C.may_answer ask.now) }
-        ensures cause { IfErr result (HasNoAnswer C.shown C.serves (order_of self.old) ask.now cluster.old cluster.new) }
+        ensures cause { IfErr result (HasNoAnswer C.shown C.serves (order_of self.old) ask.now cluster.old
+            cluster.new) }
         ensures later { Later (C.shown cluster.old) (C.shown cluster.new) }
         ensures keeps { SameService self.old self.new }
     {

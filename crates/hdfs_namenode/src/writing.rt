@@ -72,7 +72,8 @@ impl NamenodeProtocol {
     ) -> Result<Appended, HdfsError>
         requires service { IsServiceOf (proxy_of self.old) (C.shown cluster.old) }
         requires allowed { C.allows (AskOf (asks.Append src.now (name_of self.old) flag)) }
-        ensures asked { AskedOnce C.serves true (asks.Append src.now (name_of self.old) flag) (through self.old cluster.old)
+        ensures asked { AskedOnce C.serves true (asks.Append src.now (name_of self.old) flag)
+            (through self.old cluster.old)
             (as_answer answers.Append result) (through self.new cluster.new) }
         ensures came { ReachesAll (proxy_of self.old) (C.shown cluster.old) → Came (C.shown cluster.old)
             (asks.Append src.now (name_of self.old) flag) (as_answer answers.Append result) (C.shown cluster.new) }
@@ -138,7 +139,8 @@ impl NamenodeProtocol {
         requires service { IsServiceOf (proxy_of self.old) (C.shown cluster.old) }
         requires allowed { C.allows (AskOf
             (asks.Complete src.now (name_of self.old) (option_copied last) file_id)) }
-        ensures asked { AskedOnce C.serves true (asks.Complete src.now (name_of self.old) (option_copied last.entry) file_id)
+        ensures asked { AskedOnce C.serves true (asks.Complete src.now (name_of self.old) (option_copied last.entry)
+            file_id)
             (through self.old cluster.old) (as_answer answers.Complete result) (through self.new cluster.new) }
         ensures came { ReachesAll (proxy_of self.old) (C.shown cluster.old) → Came (C.shown cluster.old)
             (asks.Complete src.now (name_of self.old) (option_copied last.entry) file_id)
@@ -165,12 +167,14 @@ impl NamenodeProtocol {
     ) -> Result<LocatedBlock, HdfsError>
         requires service { IsServiceOf (proxy_of self.old) (C.shown cluster.old) }
         requires allowed { C.allows (AskOf (asks.UpdateBlockForPipeline block.now (name_of self.old))) }
-        ensures asked { AskedOnce C.serves true (asks.UpdateBlockForPipeline block.now (name_of self.old)) (through self.old cluster.old)
+        ensures asked { AskedOnce C.serves true (asks.UpdateBlockForPipeline block.now (name_of self.old))
+            (through self.old cluster.old)
             (as_answer answers.UpdateBlockForPipeline result) (through self.new cluster.new) }
         ensures came { ReachesAll (proxy_of self.old) (C.shown cluster.old) → Came (C.shown cluster.old)
             (asks.UpdateBlockForPipeline block.now (name_of self.old))
             (as_answer answers.UpdateBlockForPipeline result) (C.shown cluster.new) }
-        ensures answered { IfOk result (λ located. C.may_answer (asks.UpdateBlockForPipeline block.now (name_of self.old))
+        ensures answered { IfOk result (λ located. C.may_answer
+            (asks.UpdateBlockForPipeline block.now (name_of self.old))
             (answers.UpdateBlockForPipeline located)) }
         ensures keeps { SameClient self.old self.new }
     {
@@ -202,7 +206,8 @@ impl NamenodeProtocol {
         requires allowed { C.allows (AskOf
             (asks.GetAdditionalDatanode src.now blk.now existings.now excludes.now num_additional_nodes
             (name_of self.old) existing_storage_uuids.now)) }
-        ensures asked { AskedOnce C.serves true (asks.GetAdditionalDatanode src.now blk.now existings.now excludes.now num_additional_nodes
+        ensures asked { AskedOnce C.serves true (asks.GetAdditionalDatanode src.now blk.now existings.now excludes.now
+            num_additional_nodes
             (name_of self.old) existing_storage_uuids.now) (through self.old cluster.old)
             (as_answer answers.GetAdditionalDatanode result) (through self.new cluster.new) }
         ensures came { ReachesAll (proxy_of self.old) (C.shown cluster.old) → Came (C.shown cluster.old)
@@ -244,8 +249,10 @@ impl NamenodeProtocol {
         requires service { IsServiceOf (proxy_of self.old) (C.shown cluster.old) }
         requires allowed { C.allows (AskOf
             (asks.UpdatePipeline (name_of self.old) old_block.now new_block.now new_nodes.now storage_ids.now)) }
-        ensures asked { AskedOnce C.serves true (asks.UpdatePipeline (name_of self.old) old_block.now new_block.now new_nodes.now
-            storage_ids.now) (through self.old cluster.old) (as_answer (λ _. answers.UpdatePipeline) result) (through self.new cluster.new) }
+        ensures asked { AskedOnce C.serves true (asks.UpdatePipeline (name_of self.old) old_block.now new_block.now
+            new_nodes.now
+            storage_ids.now) (through self.old cluster.old) (as_answer (λ _. answers.UpdatePipeline) result)
+            (through self.new cluster.new) }
         ensures came { ReachesAll (proxy_of self.old) (C.shown cluster.old) → Came (C.shown cluster.old)
             (asks.UpdatePipeline (name_of self.old) old_block.now new_block.now new_nodes.now storage_ids.now)
             (as_answer (λ _. answers.UpdatePipeline) result) (C.shown cluster.new) }
@@ -284,7 +291,8 @@ impl NamenodeProtocol {
         last: Option<&Block>,
         file_id: Option<u64>,
     ) -> Result<Ask, NoMemory>
-        ensures { IfOk result (λ ask. ask ≡ asks.Complete src.now (name_of self.now) (option_copied last.entry) file_id) }
+        ensures { IfOk result (λ ask. ask ≡ asks.Complete src.now (name_of self.now) (option_copied last.entry)
+            file_id) }
     {
         Ok(Ask::Complete {
             src: Text::from_str(self.alloc, src)?,
@@ -324,7 +332,8 @@ impl NamenodeProtocol {
         num_additional_nodes: u32,
         existing_storage_uuids: &[Text],
     ) -> Result<Ask, NoMemory>
-        ensures { IfOk result (λ ask. ask ≡ asks.GetAdditionalDatanode src.now blk.now existings.now excludes.now num_additional_nodes
+        ensures { IfOk result (λ ask. ask ≡ asks.GetAdditionalDatanode src.now blk.now existings.now excludes.now
+            num_additional_nodes
             (name_of self.now) existing_storage_uuids.now) }
     {
         Ok(Ask::GetAdditionalDatanode {

@@ -19,7 +19,8 @@ fn read_ack<C: Cluster>(core: &mut PipelineCore, cluster: &mut C, link: u64) -> 
     ensures drove { OnOk result (Drove link [] core.old (C.shown cluster.old) core.new (C.shown cluster.new)) }
     ensures happened { OnOk result (Happened link core.old (C.shown cluster.old) core.new (C.shown cluster.new)) }
     ensures read { OnOk result (core.new.end ≡ None → length core.new.pushed + 1 ≡ length core.old.pushed) }
-    ensures same_next { (packet : Outgoing) → FollowsOn (C.shown cluster.old) link packet → FollowsOn (C.shown cluster.new) link packet }
+    ensures same_next { (packet : Outgoing) → FollowsOn (C.shown cluster.old) link packet
+        → FollowsOn (C.shown cluster.new) link packet }
     ensures err { OnErr result (StopsShort link [] core.old (C.shown cluster.old) (C.shown cluster.new)) }
 {
     match cluster.ack(link) {
@@ -46,7 +47,8 @@ fn send_packet<C: Cluster>(
     requires going { IsGoing (C.shown cluster.old) link core.old }
     requires room { IsTrue (has_room core.old) }
     requires next { FollowsOn (C.shown cluster.old) link packet }
-    ensures drove { OnOk result (Drove link (packet ∷ []) core.old (C.shown cluster.old) core.new (C.shown cluster.new)) }
+    ensures drove { OnOk result (Drove link (packet ∷ []) core.old (C.shown cluster.old) core.new
+        (C.shown cluster.new)) }
     ensures happened { OnOk result (Happened link core.old (C.shown cluster.old) core.new (C.shown cluster.new)) }
     ensures sent { OnOk result (core.new.end ≡ None → EndsWith (C.shown cluster.new) link packet) }
     ensures behind { OnOk result (core.new.pushed ≡ core.old.pushed ++ packet ∷ []) }
@@ -87,7 +89,8 @@ fn make_room<C: Cluster>(
     ensures room { OnOk result (core.new.end ≡ None → IsTrue (has_room core.new)) }
     ensures kept { IsTrue (has_room core.old) → core.new ≡ core.old }
     ensures one { OnOk result (core.new.end ≡ None → length core.old.pushed ≤ length core.new.pushed + 1) }
-    ensures same_next { (packet : Outgoing) → FollowsOn (C.shown cluster.old) link packet → FollowsOn (C.shown cluster.new) link packet }
+    ensures same_next { (packet : Outgoing) → FollowsOn (C.shown cluster.old) link packet
+        → FollowsOn (C.shown cluster.new) link packet }
     ensures err { OnErr result (StopsShort link [] core.old (C.shown cluster.old) (C.shown cluster.new)) }
 {
     if core.has_ended() || !core.is_full() {
@@ -108,13 +111,16 @@ pub fn drive_push<C: Cluster>(
 ) -> Result<Option<WritePacket>, NoMemory>
     requires drives { Drives (C.shown cluster.old) link core.old }
     requires next { IsNext (C.shown cluster.old) link core.old packet }
-    ensures drove { IfOk result (λ back. Drove link (taken_in packet back) core.old (C.shown cluster.old) core.new (C.shown cluster.new)) }
-    ensures happened { IfOk result (λ back. Happened link core.old (C.shown cluster.old) core.new (C.shown cluster.new)) }
+    ensures drove { IfOk result (λ back. Drove link (taken_in packet back) core.old (C.shown cluster.old) core.new
+        (C.shown cluster.new)) }
+    ensures happened { IfOk result (λ back. Happened link core.old (C.shown cluster.old) core.new
+        (C.shown cluster.new)) }
     ensures back { IfOk result (λ back. IsGivenBack packet back core.old core.new) }
     ensures sent { IfOk result (λ back. core.new.end ≡ None → EndsWith (C.shown cluster.new) link packet) }
 
     // No acknowledgement is read while there is room, and else that of one packet alone.
-    ensures prompt { IfOk result (λ back. (IsTrue (has_room core.old) → core.new.pushed ≡ core.old.pushed ++ taken_in packet back)
+    ensures prompt { IfOk result (λ back. (IsTrue (has_room core.old)
+        → core.new.pushed ≡ core.old.pushed ++ taken_in packet back)
         × (core.new.end ≡ None → length core.old.pushed ≤ length core.new.pushed)) }
     ensures err { OnErr result (StopsShort link (packet ∷ []) core.old (C.shown cluster.old) (C.shown cluster.new)) }
 {
@@ -152,7 +158,8 @@ pub fn drive_end<C: Cluster>(
     requires drives { Drives (C.shown cluster.old) link core }
     requires last { core.end ≡ None → EndsInLast core.pushed }
     ensures ended { (C.shown cluster.new).writes link ≡ None }
-    ensures drove { IfOk result (λ end. DroveToEnd C.shown (λ before. C.ends before link cluster.new) link core cluster.old end) }
+    ensures drove { IfOk result (λ end. DroveToEnd C.shown (λ before. C.ends before link cluster.new) link core
+        cluster.old end) }
     ensures err { OnErr result (StoppedShort C.shown C.ends link core cluster.old cluster.new) }
 {
     let read = read_all(&mut core, cluster, link);

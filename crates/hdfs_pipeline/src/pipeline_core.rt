@@ -234,8 +234,10 @@ impl PipelineCore {
         ensures is { result ≡ end_of self }
 
         // It is the end of all that happened, and hands back what isn't acknowledged.
-        ensures stands { (events : List Event) → Stands self events → result ≡ end_of (run_of self.window self.nodes events) }
-        ensures whole { (events : List Event) → Stands self events → HandsBack (run_of self.window self.nodes events) result }
+        ensures stands { (events : List Event) → Stands self events
+            → result ≡ end_of (run_of self.window self.nodes events) }
+        ensures whole { (events : List Event) → Stands self events
+            → HandsBack (run_of self.window self.nodes events) result }
     {
         let PipelineCore {
             packets,

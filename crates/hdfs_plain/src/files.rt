@@ -45,7 +45,8 @@ pub struct PlainFiles {
 impl PlainFile {
     /// The same file with more bytes behind its own.
     pub(crate) fn with_more(&self, alloc: Global, more: &[u8]) -> Result<PlainFile, NoMemory>
-        ensures { IfOk result (λ file. content_in file ≡ record (content_in self.now) { bytes = self.now.bytes ++ more.now }) }
+        ensures { IfOk result (λ file. content_in file ≡ record
+            (content_in self.now) { bytes = self.now.bytes ++ more.now }) }
     {
         let mut bytes = Vec::from_slice(alloc, self.bytes.as_slice())?;
         bytes.extend_from_slice(more)?;
@@ -135,7 +136,8 @@ impl PlainFiles {
 
     /// Whether a line may be loaded behind those that were, into files of a cluster with these settings.
     pub fn takes(&self, settings: &MemSettings, before: &[Line], line: &Line) -> bool
-        ensures { result ≡ takes (record { settings = Some settings.now; lines = before.now }) (files_of self.now) line.now }
+        ensures { result ≡ takes (record { settings = Some settings.now; lines = before.now }) (files_of self.now)
+            line.now }
     {
         match line {
             Line::Dir { path } => self.is_free(path.as_str()),
@@ -212,7 +214,8 @@ impl PlainFiles {
 
     /// Loads a line that may be loaded.
     pub fn load(&mut self, line: &Line) -> Result<(), NoMemory>
-        ensures { IfOk result (λ done. (state : spec.State) → Holds self.old state → Holds self.new (with_line state line.now)) }
+        ensures { IfOk result (λ done. (state : spec.State) → Holds self.old state
+            → Holds self.new (with_line state line.now)) }
     {
         match line {
             Line::Dir { path } => {

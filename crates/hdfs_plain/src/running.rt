@@ -96,7 +96,8 @@ pub fn run(
     commands: &[Command],
 ) -> Result<PlainFold, NoMemory>
     ensures { IfOk result (λ answer. (state : State) → Holds files.old state
-        → (last : State) × (fold (world_of world.now) state commands.now ≡ folded_of answer last) × Holds files.new last) }
+        → (last : State) × (fold (world_of world.now) state commands.now ≡ folded_of answer last)
+        × Holds files.new last) }
 {
     let mut replies = Vec::new(files.alloc);
     for command in commands {

@@ -62,7 +62,8 @@ impl PlainFiles {
 
     // Why no file is created at a path.
     fn refuses_create(&self, path: &str, overwrite: bool, parents: bool) -> Option<PlainRefusal>
-        ensures { option_map refusal_of result ≡ refusals.create_refusal (kinds_of (files_of self.now)) path.now overwrite parents }
+        ensures { option_map refusal_of result ≡ refusals.create_refusal (kinds_of (files_of self.now)) path.now
+            overwrite parents }
     {
         if self.is_in_the_way(path, overwrite) {
             return Some(PlainRefusal::Exists);
@@ -83,9 +84,11 @@ impl PlainFiles {
         path: &str,
         options: &WriteOptions,
     ) -> Result<PlainOutcome, NoMemory>
-        ensures { IfOk result (λ outcome. (state : State) → Holds self.old state → Comes outcome (spec.create_file state path.now
+        ensures { IfOk result (λ outcome. (state : State) → Holds self.old state
+            → Comes outcome (spec.create_file state path.now
             (spec.created (world_of world.now) options.now)
-            (refusals.create_refusal (kinds_of state.files) path.now options.now.overwrite options.now.create_parent)) state self.new) }
+            (refusals.create_refusal (kinds_of state.files) path.now options.now.overwrite options.now.create_parent))
+            state self.new) }
     {
         if let Some(why) = self.refuses_create(path, options.overwrite, options.create_parent) {
             return Ok(PlainOutcome::Refused(why));
@@ -103,7 +106,8 @@ impl PlainFiles {
 
     // Why a path has no file.
     fn lacks_file(&self, path: &str) -> Option<PlainRefusal>
-        ensures { option_map refusal_of result ≡ option_map refusals.Lacks (no_file (kinds_of (files_of self.now)) path.now) }
+        ensures { option_map refusal_of result ≡ option_map refusals.Lacks
+            (no_file (kinds_of (files_of self.now)) path.now) }
     {
         if self.has_file_above(path) {
             return Some(PlainRefusal::NotDirectory);
@@ -117,7 +121,8 @@ impl PlainFiles {
 
     /// Opens a closed file that the session hasn't open.
     pub(crate) fn append(&mut self, path: &str) -> Result<PlainOutcome, NoMemory>
-        ensures { IfOk result (λ outcome. (state : State) → Holds self.old state → Comes outcome (spec.append_file state path.now
+        ensures { IfOk result (λ outcome. (state : State) → Holds self.old state
+            → Comes outcome (spec.append_file state path.now
             (refusals.append_refusal (kinds_of state.files) path.now)) state self.new) }
     {
         if let Some(why) = self.lacks_file(path) {

@@ -22,11 +22,13 @@ pub fn run_words<S: Source, K: Sink>(
 ) -> u8
     // each status, over any source and sink
     ensures statuses { result ≤ 5 }
-    ensures ran { RanNew (map string_bytes words.now) (record { source = S.shown source.old; sink = K.shown sink.old }) result
+    ensures ran { RanNew (map string_bytes words.now) (record { source = S.shown source.old; sink = K.shown sink.old })
+        result
         (record { source = S.shown source.new; sink = K.shown sink.new }) }
 
     // over a source that tells its bytes
-    ensures refused { result ≡ 1 → IsSession (map string_bytes words.now) → (bytes : List ℕ) → (S.shown source.old).left ≡ Some bytes
+    ensures refused { result ≡ 1 → IsSession (map string_bytes words.now) → (bytes : List ℕ)
+        → (S.shown source.old).left ≡ Some bytes
         → PrintsRefusal bytes (K.shown sink.old) (K.shown sink.new) }
     ensures done { result ≡ 0 → (bytes : List ℕ) → (S.shown source.old).left ≡ Some bytes
         → PrintsReplies bytes (K.shown sink.old) (K.shown sink.new) }
@@ -34,7 +36,8 @@ pub fn run_words<S: Source, K: Sink>(
         → PrintsFault bytes (K.shown sink.old) (K.shown sink.new) }
 
     // Without a fault line, and where no read and no write failed, the script decides.
-    ensures complete { IsSession (map string_bytes words.now) → (bytes : List ℕ) → (S.shown source.old).left ≡ Some bytes
+    ensures complete { IsSession (map string_bytes words.now) → (bytes : List ℕ)
+        → (S.shown source.old).left ≡ Some bytes
         → FaultlessDecides bytes (record { source = S.shown source.old; sink = K.shown sink.old }) result
         (record { source = S.shown source.new; sink = K.shown sink.new }) }
 

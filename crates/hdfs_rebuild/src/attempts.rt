@@ -115,12 +115,15 @@ fn replay_and_name<C: Cluster>(
 ) -> Result<SentAgain, WriteFault>
     requires reaches { ReachesAll (proxy_of namenode.old) (C.shown cluster.old) }
     requires allowed { C.allows (AskOf (asks.UpdatePipeline (name_of namenode.old)
-        (with_stamp_of plan.now.block.b stamp) plan.now.block.b (map (λ node. node.id) plan.now.block.locs) plan.now.block.storage_ids)) }
+        (with_stamp_of plan.now.block.b stamp) plan.now.block.b (map (λ node. node.id) plan.now.block.locs)
+        plan.now.block.storage_ids)) }
     requires going { IsGoing (C.shown cluster.old) task.link task.core }
     requires packets { (task.core.pushed ≡ []) × IsReplay task.core.window task.replay }
     requires fresh { (write : OpenWrite) → (C.shown cluster.old).writes task.link ≡ Some write → write.end ≡ None }
-    ensures ok { IfOk result (λ sent. SendsAndNames task stamp plan.now (C.shown cluster.old) sent (C.shown cluster.new)) }
-    ensures err { IfErr result (λ fault. SendsOrNamesNot task stamp plan.now (C.shown cluster.old) fault (C.shown cluster.new)) }
+    ensures ok { IfOk result (λ sent. SendsAndNames task stamp plan.now (C.shown cluster.old) sent
+        (C.shown cluster.new)) }
+    ensures err { IfErr result (λ fault. SendsOrNamesNot task stamp plan.now (C.shown cluster.old) fault
+        (C.shown cluster.new)) }
     ensures client { SameClient namenode.old namenode.new }
 {
     let Resending { core, link, replay } = task;
@@ -254,7 +257,8 @@ fn next_plan<C: Cluster>(
     requires block { IsToWrite plan.block × ArePlaces (length plan.block.locs) failed.now }
     requires rebuilds { plan.rebuilds ≤ settings.now.rebuild_limit }
     ensures links { KeepsLinks (C.shown cluster.old) (C.shown cluster.new) }
-    ensures ok { IfOk result (λ plan'. GivesPlan plan settings.now failed.now (C.shown cluster.old) plan' (C.shown cluster.new)) }
+    ensures ok { IfOk result (λ plan'. GivesPlan plan settings.now failed.now (C.shown cluster.old) plan'
+        (C.shown cluster.new)) }
     ensures err { IfErr result (λ fault.
         GivesNoPlan settings.now (standing plan failed.now (C.shown cluster.old)) fault (C.shown cluster.new)) }
     ensures client { SameClient namenode.old namenode.new }
@@ -328,7 +332,8 @@ pub fn rebuild<C: Cluster>(
     requires can { CanRebuild fallen settings.now unsent }
     ensures ok { IfOk result (λ rebuilt. RebuiltAfter (task_of settings.now (name_of namenode.old) fallen.replay unsent)
         (fallen_at fallen (C.shown cluster.old)) rebuilt (C.shown cluster.new)) }
-    ensures err { IfErr result (λ fault. GaveNoneAfter (task_of settings.now (name_of namenode.old) fallen.replay unsent)
+    ensures err { IfErr result (λ fault. GaveNoneAfter (task_of settings.now (name_of namenode.old) fallen.replay
+        unsent)
         (fallen_at fallen (C.shown cluster.old)) fault (C.shown cluster.new)) }
     ensures answered { IfOk result (λ rebuilt.
         StaysAnswered C.may_answer (name_of namenode.old) fallen.plan rebuilt.plan) }

@@ -129,7 +129,8 @@ pub(crate) fn access_to(
     token: &Token,
     client: &str,
 ) -> Result<Access, NoMemory>
-    ensures { IfOk result (λ access. (access.block ≡ block.now) × (access.token ≡ token.now) × (access.client ≡ client.now)) }
+    ensures { IfOk result (λ access. (access.block ≡ block.now) × (access.token ≡ token.now)
+        × (access.client ≡ client.now)) }
 {
     let client = Text::from_str(alloc, client)?;
     let block = block.copy(alloc)?;

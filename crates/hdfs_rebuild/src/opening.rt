@@ -70,7 +70,8 @@ pub(crate) fn with_stamp_of(alloc: Global, block: &Block, stamp: u64) -> Result<
 
 /// The storages of a plan's datanodes, with their types, in memory of their own.
 fn storages(alloc: Global, plan: &BlockPlan) -> Result<(List<u32>, List<Text>), NoMemory>
-    ensures { IfOk result (λ copied. (copied.0 ≡ plan.now.block.storage_types) × (copied.1 ≡ plan.now.block.storage_ids)) }
+    ensures { IfOk result (λ copied. (copied.0 ≡ plan.now.block.storage_types)
+        × (copied.1 ≡ plan.now.block.storage_ids)) }
 {
     let mut storage_types = Vec::new(alloc);
     storage_types.extend_from_slice(plan.block.storage_types.as_slice())?;

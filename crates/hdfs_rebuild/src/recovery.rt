@@ -82,9 +82,11 @@ pub(crate) fn name_pipeline<C: Cluster>(
 ) -> Result<(), WriteFault>
     requires reaches { ReachesAll (proxy_of namenode.old) (C.shown cluster.old) }
     requires allowed { C.allows (AskOf (asks.UpdatePipeline (name_of namenode.old)
-        (with_stamp_of plan.now.block.b stamp) plan.now.block.b (map (λ node. node.id) plan.now.block.locs) plan.now.block.storage_ids)) }
+        (with_stamp_of plan.now.block.b stamp) plan.now.block.b (map (λ node. node.id) plan.now.block.locs)
+        plan.now.block.storage_ids)) }
     ensures links { KeepsLinks (C.shown cluster.old) (C.shown cluster.new) }
-    ensures names { OnOk result (NamesSo (NamesIt stamp plan.now) plan.now (C.shown cluster.old) (C.shown cluster.new)) }
+    ensures names { OnOk result (NamesSo (NamesIt stamp plan.now) plan.now (C.shown cluster.old)
+        (C.shown cluster.new)) }
     ensures err { IfErr result (λ fault. NamesNot stamp plan.now (C.shown cluster.old) fault (C.shown cluster.new)) }
     ensures client { SameClient namenode.old namenode.new }
 {

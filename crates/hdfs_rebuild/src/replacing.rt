@@ -131,7 +131,8 @@ fn give_block<C: Cluster>(
     requires allowed { LetsGoOn C.allows C.may_answer client.now plan.now.src plan.now.block }
     requires enlarged { IsEnlarged C.may_answer client.now plan.now.src plan.now.block.b located.now }
     ensures ok { OnOk result (GivesBlock plan.now located.now client.now (C.shown cluster.old) (C.shown cluster.new)) }
-    ensures err { IfErr result (λ fault. GivesNoBlock plan.now located.now client.now (C.shown cluster.old) fault (C.shown cluster.new)) }
+    ensures err { IfErr result (λ fault. GivesNoBlock plan.now located.now client.now (C.shown cluster.old) fault
+        (C.shown cluster.new)) }
 {
     let transfer = transfer_to_added(alloc, plan, located, client)?;
     let given = cluster.transfer(&transfer);
@@ -154,7 +155,8 @@ fn add_datanode<C: Cluster>(
     requires allowed { LetsGoOn C.allows C.may_answer (name_of namenode.old) plan.now.src plan.now.block }
     requires block { IsToWrite plan.now.block }
     ensures links { KeepsLinks (C.shown cluster.old) (C.shown cluster.new) }
-    ensures adds { IfOk result (λ located. AddsNode plan.now excluded.now (C.shown cluster.old) located (C.shown cluster.new)) }
+    ensures adds { IfOk result (λ located. AddsNode plan.now excluded.now (C.shown cluster.old) located
+        (C.shown cluster.new)) }
     ensures err { IfErr result (λ fault. AddsNone plan.now (C.shown cluster.old) fault (C.shown cluster.new)) }
     ensures answered { IfOk result (IsEnlarged C.may_answer (name_of namenode.old) plan.now.src plan.now.block.b) }
     ensures client { SameClient namenode.old namenode.new }
@@ -194,8 +196,10 @@ pub(crate) fn complete<C: Cluster>(
     requires allowed { LetsGoOn C.allows C.may_answer (name_of namenode.old) plan.src plan.block }
     requires block { IsToWrite plan.block }
     ensures links { KeepsLinks (C.shown cluster.old) (C.shown cluster.new) }
-    ensures completes { IfOk result (λ plan'. Completes plan settings.now excluded.now (C.shown cluster.old) plan' (C.shown cluster.new)) }
-    ensures err { IfErr result (λ fault. CompletesNot plan settings.now (C.shown cluster.old) fault (C.shown cluster.new)) }
+    ensures completes { IfOk result (λ plan'. Completes plan settings.now excluded.now (C.shown cluster.old) plan'
+        (C.shown cluster.new)) }
+    ensures err { IfErr result (λ fault. CompletesNot plan settings.now (C.shown cluster.old) fault
+        (C.shown cluster.new)) }
     ensures answered { IfOk result (StaysAnswered C.may_answer (name_of namenode.old) plan) }
     ensures client { SameClient namenode.old namenode.new }
 {

@@ -56,7 +56,8 @@ pub(crate) fn options(
     overwrite: &[u8],
     parent: &[u8],
 ) -> Result<WriteOptions, Wrong>
-    ensures { result_ok result ≡ spec.options_of permission.now replication.now block_size.now overwrite.now parent.now }
+    ensures { result_ok result ≡ spec.options_of permission.now replication.now block_size.now overwrite.now
+        parent.now }
 {
     let Some(permission) = number(8, U32_MOST, permission) else {
         return Err(Wrong {

@@ -32,7 +32,8 @@ fn is_number(base: u8, text: &[u8]) -> bool
 fn value(base: u8, digits: &[u8]) -> Option<u64>
     requires base { 1 ≤ base }
     requires digits { list_all (spec.is_digit base) digits.now ≡ true }
-    ensures { MatchOption result (2 ^ 64 ≤ spec.value_from base 0 digits.now) (λ value. spec.value_from base 0 digits.now ≡ value) }
+    ensures { MatchOption result (2 ^ 64 ≤ spec.value_from base 0 digits.now)
+        (λ value. spec.value_from base 0 digits.now ≡ value) }
 {
     let mut value: u64 = 0;
     for c in digits {

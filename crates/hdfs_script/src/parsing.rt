@@ -140,7 +140,8 @@ fn read_lines(
 ) -> Result<Option<u64>, NoMemory>
     requires { length bytes.now ≤ script_limit }
     ensures bad { IfOk result (λ bad. bad ≡ first_out first_place 1 (bad_from limit 1 (line_entries bytes.now))) }
-    ensures gains { OnOk result (Gains read.old 1 (good_front first_place (bad_from limit 1 (line_entries bytes.now))) read.new) }
+    ensures gains { OnOk result (Gains read.old 1 (good_front first_place (bad_from limit 1 (line_entries bytes.now)))
+        read.new) }
 {
     let mut place = FIRST_PLACE;
     let mut number = 1;

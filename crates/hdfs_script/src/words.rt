@@ -48,7 +48,8 @@ pub(crate) fn is_word(text: &[u8]) -> bool
 
 /// A word as text.
 pub(crate) fn word(text: &[u8]) -> Option<&str>
-    ensures { MatchOption result (spec.is_word text.now ≡ false) (λ word. (spec.is_word text.now ≡ true) × (word.now ≡ text.now)) }
+    ensures { MatchOption result (spec.is_word text.now ≡ false) (λ word. (spec.is_word text.now ≡ true)
+        × (word.now ≡ text.now)) }
 {
     if !is_word(text) {
         return None;

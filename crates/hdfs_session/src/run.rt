@@ -24,7 +24,8 @@ pub fn run_session<C: Cluster>(
 ) -> Result<Vec<Reply>, Fault>
     requires namenode { 0 < (C.shown cluster.old).namenodes }
     requires allowed { All (Lets C.allows C.may_answer settings.now) commands.now }
-    ensures settings { are_settings settings.now ≡ false → StopsAtOnce settings.now result × (cluster.new ≡ cluster.old) }
+    ensures settings { are_settings settings.now ≡ false → StopsAtOnce settings.now result
+        × (cluster.new ≡ cluster.old) }
     ensures start { IfErr result (λ fault. fault.at ≡ 0 → IsNotBegun settings.now fault.error) }
     ensures anywhere { Runs commands.now (C.shown cluster.old) (C.shown cluster.new) result }
     ensures ran { are_settings settings.now ≡ true → let old = C.shown cluster.old in

@@ -177,7 +177,8 @@ impl Sink for MemSink {
 
         // It fails at its numbered calls, takes a step of what there is, and keeps its step.
         ensures exact { fails_next (sink_calls self.old) ≡ true → IsErr result }
-        ensures calls { (sink_calls self.new ≡ called (sink_calls self.old)) × (sink_step self.new ≡ sink_step self.old) }
+        ensures calls { (sink_calls self.new ≡ called (sink_calls self.old))
+            × (sink_step self.new ≡ sink_step self.old) }
         ensures step { IfOk result (λ n. n ≡ min (length bytes.now) (sink_step self.old)) }
     {
         self.failing.begin()?;

@@ -49,7 +49,8 @@ fn read_piece<S: Source>(
     ensures cause { HasReadCause (S.shown source.old) result (S.shown source.new) }
     ensures taken { OnErr result (TookAtMost room (S.shown source.old) (S.shown source.new)) }
     ensures count { IfOk result (λ count. (count ≤ room) × (vec_len bytes.new ≡ vec_len bytes.old + count)) }
-    ensures bytes { IfOk result (λ count. (front : List ℕ) × (length front ≡ count) × (bytes.new.items ≡ bytes.old.items ++ front)
+    ensures bytes { IfOk result (λ count. (front : List ℕ) × (length front ≡ count)
+        × (bytes.new.items ≡ bytes.old.items ++ front)
         × Took (S.shown source.old) front (S.shown source.new)) }
     ensures dry { IfOk result (λ count. count ≡ 0 → IsDry (S.shown source.new)) }
 {

@@ -35,5 +35,6 @@ pub trait Sink {
         ensures bytes { WriteAppends (shown self.old).written (shown self.new).written result bytes.now }
         ensures cause { HasCause (shown self.old).failures (shown self.new).failures result }
         ensures fine { IfOk result (λ n. 0 < n → (shown self.new).failures ≡ (shown self.old).failures) }
-        ensures stuck { IfOk result (λ n. n ≡ 0 → 0 < length bytes.now → Rose (shown self.old).failures (shown self.new).failures) };
+        ensures stuck { IfOk result (λ n. n ≡ 0 → 0 < length bytes.now
+            → Rose (shown self.old).failures (shown self.new).failures) };
 }

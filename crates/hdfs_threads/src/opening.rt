@@ -69,7 +69,8 @@ pub(crate) fn open<J: Job, W: Ledger, X: Ledger, A: Ledger, Y: Ledger, Z: Ledger
 ) -> Opened<J, W, X, A, Y, Z>
     requires core { (begin.core ≡ empty_pipeline J.window J.nodes) × Stands begin.core [] }
     requires packets { begin.packets.items ≡ J.packets }
-    requires sender { Names begin.blanks.wrote.name W.name W.parts × Names begin.blanks.write_failed.name X.name X.parts }
+    requires sender { Names begin.blanks.wrote.name W.name W.parts
+        × Names begin.blanks.write_failed.name X.name X.parts }
     requires asker { Names begin.blanks.acked.name A.name A.parts × Names begin.blanks.ack_failed.name Y.name Y.parts
         × Names begin.blanks.over.name Z.name Z.parts }
     ensures sender { (result.sender.wrote.share.amount ≡ 0) × (result.sender.failed.share.amount ≡ 0) }

@@ -39,7 +39,8 @@ fn run_counted<
 >(rt: &R, link: &mut Link<O, I, G>, begin: Beginning) -> Result<PairEnd, NoMemory>
     requires core { (begin.core ≡ empty_pipeline J.window J.nodes) × Stands begin.core [] }
     requires packets { (begin.packets.items ≡ J.packets) × IsLastBehind J.packets }
-    requires sender { Names begin.blanks.wrote.name W.name W.parts × Names begin.blanks.write_failed.name X.name X.parts }
+    requires sender { Names begin.blanks.wrote.name W.name W.parts
+        × Names begin.blanks.write_failed.name X.name X.parts }
     requires asker { Names begin.blanks.acked.name A.name A.parts × Names begin.blanks.ack_failed.name Y.name Y.parts
         × Names begin.blanks.over.name Z.name Z.parts }
     ensures ends { IfOk result (λ r. EndsWith J.window J.nodes J.packets r.history r.end) }

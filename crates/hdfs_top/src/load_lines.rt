@@ -38,10 +38,12 @@ fn first_file(lines: &[NumberedLine]) -> Option<u64>
 fn load_line<C: Store>(store: &mut C, numbered: NumberedLine) -> Result<(), LoadFault>
     ensures loaded { OnOk result (Loads (C.shown store.old) numbered.line (C.shown store.new)) }
     ensures taken { OnOk result ((state : State) → Agrees (C.shown store.old).picture state.files
-        → IsDecided (C.shown store.old) state.files numbered.line → takes (C.shown store.old).loaded state.files numbered.line ≡ true) }
+        → IsDecided (C.shown store.old) state.files numbered.line
+        → takes (C.shown store.old).loaded state.files numbered.line ≡ true) }
     ensures counts { SameCounts (C.shown store.old).counts (C.shown store.new).counts }
     ensures refused { (number : ℕ) → result ≡ Err (LoadFault.Refused number) → (number ≡ numbered.number)
-        × ((state : State) → Agrees (C.shown store.old).picture state.files → IsDecided (C.shown store.old) state.files numbered.line
+        × ((state : State) → Agrees (C.shown store.old).picture state.files
+        → IsDecided (C.shown store.old) state.files numbered.line
         → takes (C.shown store.old).loaded state.files numbered.line ≡ false) }
 {
     let NumberedLine { number, line } = numbered;
@@ -56,9 +58,12 @@ fn load_line<C: Store>(store: &mut C, numbered: NumberedLine) -> Result<(), Load
 fn load_lines<C: Store>(store: &mut C, lines: List<NumberedLine>) -> Result<(), LoadFault>
     ensures loaded { OnOk result (LoadsAll (C.shown store.old) lines (C.shown store.new)) }
     ensures counts { SameCounts (C.shown store.old).counts (C.shown store.new).counts }
-    ensures refused { (number : ℕ) → result ≡ Err (LoadFault.Refused number) → (state : State) → Fits (C.shown store.old) state
-        → AreLoaded (C.shown store.old) state.files → first_untaken true (C.shown store.old).loaded state lines ≡ Some number }
-    ensures faults { (number : ℕ) → result ≡ Err (LoadFault.Refused number) → (state : State) → Fits (C.shown store.old) state
+    ensures refused { (number : ℕ) → result ≡ Err (LoadFault.Refused number) → (state : State)
+        → Fits (C.shown store.old) state
+        → AreLoaded (C.shown store.old) state.files → first_untaken true (C.shown store.old).loaded state lines
+        ≡ Some number }
+    ensures faults { (number : ℕ) → result ≡ Err (LoadFault.Refused number) → (state : State)
+        → Fits (C.shown store.old) state
         → spec.first_file lines ≡ None → ⊥ }
 {
     for numbered in lines.into_vec() {
@@ -70,7 +75,8 @@ fn load_lines<C: Store>(store: &mut C, lines: List<NumberedLine>) -> Result<(), 
 // Where a store that isn't fresh refuses a script before a line is loaded: it takes no setting, no file, and nothing of a bad script.
 fn refused_unloaded(fresh: bool, read: &Parsed) -> Option<u64>
     ensures fresh { fresh ≡ true → result ≡ None }
-    ensures held { fresh ≡ false → result ≡ or_else read.now.sets (or_else (spec.first_file read.now.lines) read.now.bad) }
+    ensures held { fresh ≡ false → result ≡ or_else read.now.sets
+        (or_else (spec.first_file read.now.lines) read.now.bad) }
 {
     if fresh {
         return None;

@@ -36,7 +36,8 @@ fn run_source<S: Source, K: Sink, C: Store>(
 ) -> u8
     requires namenode { 0 < (C.shown store.old).namenodes }
     requires allowed { LetsAny C.allows C.may_answer }
-    ensures ran { RanSession (outside (S.shown source.old) (K.shown sink.old) (C.shown store.old) (C.is_fresh store.old)) result
+    ensures ran { RanSession (outside (S.shown source.old) (K.shown sink.old) (C.shown store.old)
+        (C.is_fresh store.old)) result
         (outside (S.shown source.new) (K.shown sink.new) (C.shown store.new) (C.is_fresh store.new)) }
     ensures noted { result ≡ 2 → NotesFault
         (outside (S.shown source.old) (K.shown sink.old) (C.shown store.old) (C.is_fresh store.old)) note.new

@@ -26,7 +26,8 @@ use std::alloc::Global;
 // Prints what a session answered that stopped, but nothing for want of memory.
 fn tell_stop<K: Sink>(sink: &mut K, fault: &Fault) -> u8
     ensures { ((fault.now.error ≡ errors.NoMemory) × PrintsWhole 3 (K.shown sink.old) [] result (K.shown sink.new))
-        ⊎ ((fault.now.error ≢ errors.NoMemory) × Concludes 2 (K.shown sink.old) (fault_text fault.now) result (K.shown sink.new)) }
+        ⊎ ((fault.now.error ≢ errors.NoMemory) × Concludes 2 (K.shown sink.old) (fault_text fault.now) result
+        (K.shown sink.new)) }
 {
     match fault.error {
         HdfsError::NoMemory => 3,
@@ -48,7 +49,8 @@ fn run_commands<K: Sink, C: Store>(
     ensures ran { (given : ScriptSettings) → settings.now ≡ session_settings given → are_settings settings.now ≡ true
         → RanCommands given commands.now (stage (C.shown store.old) (K.shown sink.old)) result
         (stage (C.shown store.new) (K.shown sink.new)) }
-    ensures noted { result ≡ 2 → (given : ScriptSettings) → settings.now ≡ session_settings given → are_settings settings.now ≡ true
+    ensures noted { result ≡ 2 → (given : ScriptSettings) → settings.now ≡ session_settings given
+        → are_settings settings.now ≡ true
         → NotesStop given commands.now (stage (C.shown store.old) (K.shown sink.old)) result note.new
         (stage (C.shown store.new) (K.shown sink.new)) }
 {
@@ -78,7 +80,8 @@ fn run_parsed<K: Sink, C: Store>(
     ensures ran { (bytes : List ℕ) (source left : SourceShown) → Parses bytes read → Gave source bytes left
         → RanSession (outside source (K.shown sink.old) (C.shown store.old) (C.is_fresh store.old)) result
         (outside left (K.shown sink.new) (C.shown store.new) (C.is_fresh store.new)) }
-    ensures noted { result ≡ 2 → (bytes : List ℕ) (source left : SourceShown) → Parses bytes read → Gave source bytes left
+    ensures noted { result ≡ 2 → (bytes : List ℕ) (source left : SourceShown) → Parses bytes read
+        → Gave source bytes left
         → NotesFault (outside source (K.shown sink.old) (C.shown store.old) (C.is_fresh store.old)) note.new
         (outside left (K.shown sink.new) (C.shown store.new) (C.is_fresh store.new)) }
 {

@@ -15,7 +15,7 @@ use Rattle.hdfs_file_writer.specs.Writers.{file_id_of, IsAnswered}
 use Rattle.hdfs_namenode.specs.Clients.{name_of, proxy_of}
 use Rattle.hdfs_namenode.proofs.Services.{reaches_later}
 use Rattle.hdfs_commands.specs.Acting.{Acts}
-use Rattle.hdfs_commands.specs.Opening.{appending}
+use Rattle.hdfs_model.specs.Opening.{appending}
 use Rattle.hdfs_commands.specs.Preparing.{sizes_by}
 use Rattle.hdfs_commands.specs.Session.{after}
 use Rattle.hdfs_commands.proofs.Encrypting.{encrypted_acts, encrypted_whole}
@@ -30,7 +30,7 @@ use Rattle.hdfs_commands.proofs.Starting.{appended_acts, appended_over}
 use Rattle.hdfs_commands.proofs.WholeOpening.{appending_spares}
 use Rattle.hdfs_commands.proofs.WholeStarting.{appended_whole, late_whole, prepared_whole, refused_whole}
 use Rattle.hdfs_commands.proofs.Answered.{answered_appended, answered_put, answered_same}
-use Rattle.hdfs_commands.specs.Encrypted.{tells_encryption}
+use Rattle.hdfs_model.specs.Opening.{tells_encryption}
 use Rattle.hdfs_commands.proofs.session.Session.append.Goals as goal
 
 pub defaults-requires-clause-allowed : goal.defaults-requires-clause-allowed

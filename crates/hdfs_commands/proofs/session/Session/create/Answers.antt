@@ -16,8 +16,8 @@ use Rattle.hdfs_cluster.proofs.Repeating.{create_repeats}
 use Rattle.hdfs_namenode.specs.Clients.{proxy_of}
 use Rattle.hdfs_namenode.proofs.Services.{reaches_later}
 use Rattle.hdfs_commands.specs.Acting.{Acts}
-use Rattle.hdfs_commands.specs.Asking.{LetsCreate}
-use Rattle.hdfs_commands.specs.Opening.{create_flag, creating}
+use Rattle.hdfs_model.specs.Opening.{LetsCreate}
+use Rattle.hdfs_model.specs.Opening.{create_flag, creating}
 use Rattle.hdfs_commands.specs.Preparing.{sizes_by}
 use Rattle.hdfs_commands.specs.Session.{after}
 use Rattle.hdfs_commands.proofs.Failing.{create_opens, lacks_acts, options_acts, refused_acts, starved_acts, unkept_acts, unsupported_acts}
