@@ -57,8 +57,13 @@ const DEFAULT_PERMISSION: u32 = 0o644;
 impl WriteOptions {
     /// The cluster's block size and replication, permission 644 in octal, no older file, and directories are made.
     pub fn default() -> WriteOptions
-        ensures { result ≡ record { block_size = None; replication = None; permission = 420; overwrite = false;
-            create_parent = true } }
+        ensures { result ≡ record {
+          block_size = None;
+          replication = None;
+          permission = 420;
+          overwrite = false;
+          create_parent = true;
+        } }
     {
         WriteOptions {
             block_size: None,

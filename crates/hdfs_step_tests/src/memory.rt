@@ -4,6 +4,7 @@ mod asking;
 mod calling;
 mod case;
 mod failing;
+mod files;
 mod loading;
 mod making;
 mod planning;

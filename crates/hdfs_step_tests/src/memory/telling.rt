@@ -16,6 +16,12 @@ pub(crate) fn tell_error(error: &HdfsError, said: &mut Said) {
         HdfsError::NoMemory => said.fails("NoMemory"),
         HdfsError::AlreadyExists(_) => said.fails("AlreadyExists"),
         HdfsError::IOError(_) => said.fails("IOError"),
+        HdfsError::FileNotFound(path) => {
+            said.fails("FileNotFound");
+            said.word(path.as_str());
+        }
+        HdfsError::InvalidArgument(_) => said.fails("InvalidArgument"),
+        HdfsError::DataTransferError(_) => said.fails("DataTransferError"),
         _ => said.fails("otherwise"),
     }
 }

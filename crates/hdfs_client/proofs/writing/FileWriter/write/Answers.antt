@@ -30,10 +30,10 @@ returns-clause-writer g c =
     let answered = c.requires.writer.1 c.in-Some.file c.in-Some.is in
     let within = below_some (services_of client) k by.0 by.1 in
     let later = write_later g.C.Cluster.shown c.args.cluster.now c.write.new.cluster c.in-Some.file c.args.bytes.now c.write.result c.write.new.self
-        c.write.ensures.idle c.write.ensures.wrote c.write.ensures.err in
+    c.write.ensures.idle c.write.ensures.wrote c.write.ensures.err in
     let same = c.write.ensures.stands.2 in
     let is : c.index_mut.result.now ≡ by.0 = same_some by.0 c.index_mut.result.now (service_at client k) by.1
-        (found_at (services_of client) k c.index_mut.result.now within c.index_mut.ensures.value) in
+    (found_at (services_of client) k c.index_mut.result.now within c.index_mut.ensures.value) in
     let reaches : ReachesAll (proxy_of c.index_mut.result.now) s = subst (λ (n : NamenodeProtocol). ReachesAll (proxy_of n) s) (sym is) by.2.0 in (
       of_put (λ namenode file. ReachesAll (proxy_of namenode) t × Stands t file) (services_of client) k c.write.new.namenode within
           (reaches_later (proxy_of c.index_mut.result.now) (proxy_of c.write.new.namenode) s t same.service later reaches, c.write.ensures.stands.0),
