@@ -1,10 +1,7 @@
 -- Over a told picture a file that a client has opened is carried by its writer: a new one without bytes, and one that is gone on with with its
 -- own.
-use Rattle.std.proofs.Common.{◌≡◌, ℕ, List, [], Option, Some, None, Ok, refl, sym, ◌∙◌, ap, subst}
-use Rattle.std.specs.Prelude.{cond, if◌then◌else◌}
-use Rattle.hdfs_cluster.specs.declared.asks.Answer.{Answer}
+use Rattle.std.proofs.Common.{◌≡◌, ℕ, List, [], Option, Some, None, Ok, sym, ◌∙◌, ap, subst}
 use Rattle.hdfs_cluster.specs.declared.asks.Answer.TheVariants as answers
-use Rattle.hdfs_cluster.specs.declared.messages.Appended.{Appended}
 use Rattle.hdfs_cluster.specs.declared.messages.FileStatusMsg.{FileStatusMsg}
 use Rattle.hdfs_cluster.specs.declared.messages.LocatedBlock.{LocatedBlock}
 use Rattle.hdfs_cluster.specs.declared.picture.Entry.{Entry}
@@ -16,7 +13,6 @@ use Rattle.hdfs_cluster.specs.Namenode.{Row, new_file}
 use Rattle.hdfs_cluster.specs.Picture.{Picture, SameButActive, Told}
 use Rattle.hdfs_cluster.specs.Shown.{Shown}
 use Rattle.hdfs_cluster.specs.Sound.{IsFileAt, IsSound}
-use Rattle.hdfs_cluster.specs.Stores.{StoresBlocks}
 use Rattle.hdfs_cluster.proofs.Frames.{told_after}
 use Rattle.hdfs_cluster.proofs.Repeating.{append_repeats, create_repeats}
 use Rattle.hdfs_file_writer.specs.Tails.{Tail, Bare, FileCarries}

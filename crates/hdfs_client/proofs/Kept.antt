@@ -1,12 +1,11 @@
 -- What stays of a service that is asked more than once.
-use Rattle.std.proofs.Common.{◌≡◌, ℕ, Bool, List, refl, sym, ◌∙◌}
-use Rattle.hdfs_cluster.specs.declared.asks.Ask.{Ask}
+use Rattle.std.proofs.Common.{◌≡◌, ℕ, List, ◌∙◌}
 use Rattle.hdfs_cluster.specs.declared.asks.Ask.TheVariants as asks
 use Rattle.hdfs_cluster.specs.Shown.{Later, Shown}
 use Rattle.hdfs_cluster.proofs.Frames.{later_trans}
 use Rattle.hdfs_model.specs.Opening.{appending, create_flag, creating}
 use Rattle.hdfs_model.specs.declared.commands.WriteOptions.{WriteOptions}
-use Rattle.hdfs_namenode.specs.Asked.{ReachesAll, SameService}
+use Rattle.hdfs_namenode.specs.Asked.{ReachesAll}
 use Rattle.hdfs_namenode.specs.Clients.{SameClient, proxy_of}
 use Rattle.hdfs_namenode.specs.declared.protocol.NamenodeProtocol.{NamenodeProtocol}
 use Rattle.hdfs_namenode.proofs.Services.{reaches_later, same_service_trans}

@@ -12,3 +12,4 @@ pub mod Quiet
 pub mod Kept
 pub mod Serving
 pub mod Written
+pub mod Answered

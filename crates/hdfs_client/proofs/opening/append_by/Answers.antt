@@ -1,5 +1,5 @@
 -- The goals of append_by: the defaults, the ask, and the writer.
-use Rattle.std.proofs.Common.{◌≡◌, ℕ, true, Option, Some, None, Ok, refl, sym, ◌∙◌, ap, subst}
+use Rattle.std.proofs.Common.{◌≡◌, ℕ, true, List, Option, Some, None, Ok, refl, sym, ◌∙◌, ap, subst}
 use Rattle.std.specs.Prelude.{unwrap_or}
 use Rattle.hdfs_cluster.specs.declared.asks.Answer.TheVariants as answers
 use Rattle.hdfs_cluster.specs.declared.asks.Ask.{Ask}
@@ -7,11 +7,13 @@ use Rattle.hdfs_cluster.specs.declared.asks.Ask.TheVariants as asks
 use Rattle.hdfs_cluster.specs.declared.messages.Appended.{Appended}
 use Rattle.hdfs_cluster.specs.declared.messages.FileStatusMsg.{FileStatusMsg}
 use Rattle.hdfs_cluster.specs.declared.messages.LocatedBlock.{LocatedBlock}
-use Rattle.hdfs_file_writer.specs.Writers.{tail_opened}
+use Rattle.hdfs_cluster.specs.Requests.{id_in}
+use Rattle.hdfs_file_writer.specs.Writers.{IsAnswered, tail_opened}
 use Rattle.hdfs_client.specs.Opening.{sizes_by}
 use Rattle.hdfs_namenode.specs.Asked.{AskedOnce}
 use Rattle.hdfs_namenode.specs.Clients.{through}
 use Rattle.hdfs_namenode.proofs.Relayed.{came_as}
+use Rattle.hdfs_client.proofs.Answered.{answered_appended}
 use Rattle.hdfs_client.proofs.Begun.{begun_again}
 use Rattle.hdfs_client.proofs.Kept.{goes_reaches, goes_trans, going_on, name_from-client}
 use Rattle.hdfs_client.proofs.opening.append_by.Goals as goal
@@ -104,3 +106,21 @@ pub returns-clause-keeps : goal.returns-clause-keeps
 returns-clause-keeps g c =
     let first = c.in_ok-defaults.ensures.keeps in
     goes_trans first (name_from-client c.append.ensures.keeps, (c.append.ensures.came (goes_reaches first c.requires.reaches)).relays.leaves.later)
+
+pub returns-clause-answered : goal.returns-clause-answered
+returns-clause-answered g c =
+    let writer = c.appended-writer.result in
+    subst (λ (client : List ℕ). IsAnswered g.C.Cluster.may_answer client writer) c.in_ok-defaults.ensures.keeps.0.name
+    (answered_appended writer c.args.path c.in_ok-block.field-0 (c.appended-writer.ensures.stands (g.C.Cluster.shown c.append.new.cluster))
+    c.appended-writer.ensures.idle.1 c.appended-writer.ensures.path.0
+    (c.appended-writer.ensures.path.2 ∙ c.told_by-told.ensures.id ∙ sym (ap id_in c.in-Some.is)) c.appended-writer.ensures.tail
+    (subst (λ (a : Ask). g.C.Cluster.may_answer a (answers.Append c.in_ok-block.field-0)) (going_on c.as_str.ensures refl) c.in_ok-block.ensures.answered))
+
+pub refuse_opened-requires-clause-answered : goal.refuse_opened-requires-clause-answered
+refuse_opened-requires-clause-answered g c =
+    let writer = c.appended-writer.result in
+    subst (λ (client : List ℕ). IsAnswered g.C.Cluster.may_answer client writer) (sym c.append.ensures.keeps.name)
+    (answered_appended writer c.args.path c.in_ok-block.field-0 (c.appended-writer.ensures.stands (g.C.Cluster.shown c.append.new.cluster))
+    c.appended-writer.ensures.idle.1 c.appended-writer.ensures.path.0
+    (c.appended-writer.ensures.path.2 ∙ c.told_by-told.ensures.id ∙ sym (ap id_in c.in-Some.is)) c.appended-writer.ensures.tail
+    (subst (λ (a : Ask). g.C.Cluster.may_answer a (answers.Append c.in_ok-block.field-0)) (going_on c.as_str.ensures refl) c.in_ok-block.ensures.answered))

@@ -1,0 +1,54 @@
+-- What a writer was answered, where its file was opened to be gone on with.
+use Rattle.std.proofs.Common.{◌≡◌, ℕ, false, List, Option, Some, None, inr, refl, sym, subst}
+use Rattle.hdfs_cluster.specs.declared.asks.Answer.{Answer}
+use Rattle.hdfs_cluster.specs.declared.asks.Answer.TheVariants as answers
+use Rattle.hdfs_cluster.specs.declared.asks.Ask.{Ask}
+use Rattle.hdfs_cluster.specs.declared.asks.Ask.TheVariants as asks
+use Rattle.hdfs_cluster.specs.declared.messages.Appended.{Appended}
+use Rattle.hdfs_cluster.specs.declared.messages.LocatedBlock.{LocatedBlock}
+use Rattle.hdfs_cluster.specs.Requests.{IsAnsweredId, IsAnsweredLast, id_in}
+use Rattle.hdfs_cluster.specs.Shown.{Shown}
+use Rattle.hdfs_file_writer.specs.declared.file_writer.FileWriter.{FileWriter}
+use Rattle.hdfs_file_writer.specs.Tails.{Tail}
+use Rattle.hdfs_file_writer.specs.Writers.{IsAnswered, IsAnsweredTail, Stands, file_id_of, has_failed, path_of, tail_by, tail_of, tail_opened}
+
+-- what ends so only where it is none is none
+none_by : {A : Type 0} (ends : Option A → Tail) (tail : Tail) (going : Option A) → ((writer : A) → ends (Some writer) ≡ tail → ⊥) → ends going ≡ tail → going ≡ None
+none_by ends tail None apart is = refl
+none_by ends tail (Some writer) apart is = absurd (apart writer is)
+
+-- a new writer writes no block, so that it has none that is done
+none_done : {shown : Shown} (writer : FileWriter) (block : Option LocatedBlock) → Stands shown writer → has_failed writer ≡ false
+    → tail_of writer ≡ tail_opened block None → writer.last ≡ None
+none_done writer None stands fine is =
+    stands.done fine (none_by (λ going. tail_by going writer.reopened writer.last) (tail_opened None None) writer.going (λ one same. cc same) is)
+none_done writer (Some located) stands fine is =
+    stands.done fine (none_by (λ going. tail_by going writer.reopened writer.last) (tail_opened (Some located) None) writer.going (λ one same. cc same) is)
+
+-- the writer of a file with a path and an id that were answered, whose last block was, and where none is done
+answered_writer : {may_answer : Ask → Answer → Type 0} {client : List ℕ} (writer : FileWriter) (path : List ℕ) (file_id : Option ℕ) (tail : Tail)
+    → path_of writer ≡ path → file_id_of writer ≡ file_id → tail_of writer ≡ tail → writer.last ≡ None → IsAnsweredId may_answer client path file_id
+    → IsAnsweredTail may_answer client path file_id tail → IsAnswered may_answer client writer
+answered_writer {may_answer} {client} writer path file_id tail at id is none answered block = record {
+  id =
+      subst (λ (p : List ℕ). IsAnsweredId may_answer client p writer.file_id) (sym at)
+      (subst (λ (i : Option ℕ). IsAnsweredId may_answer client path i) (sym id) answered);
+  block =
+      subst (λ (p : List ℕ). IsAnsweredTail may_answer client p writer.file_id (tail_of writer)) (sym at)
+      (subst (λ (i : Option ℕ). IsAnsweredTail may_answer client path i (tail_of writer)) (sym id)
+      (subst (IsAnsweredTail may_answer client path file_id) (sym is) block));
+  last = λ fine. subst (IsAnsweredLast may_answer client writer.path writer.file_id) (sym none) tt;
+}
+
+-- that of a file that was opened to be gone on with
+pub answered_appended : {may_answer : Ask → Answer → Type 0} {client : List ℕ} {shown : Shown} (writer : FileWriter) (path : List ℕ)
+    (appended : Appended) → Stands shown writer → has_failed writer ≡ false → path_of writer ≡ path → file_id_of writer ≡ id_in appended.stat
+    → tail_of writer ≡ tail_opened appended.block None
+    → may_answer (asks.Append path client 4) (answers.Append appended) → IsAnswered may_answer client writer
+answered_appended {may_answer} {client} writer path appended stands fine at id is answered =
+    answered_writer writer path (id_in appended.stat) (tail_opened appended.block None) at id is (none_done writer appended.block stands fine is)
+    (inr (record { appended = appended; answered = answered; is = refl })) (opened appended.block refl)
+  where
+    opened : (block : Option LocatedBlock) → appended.block ≡ block → IsAnsweredTail may_answer client path (id_in appended.stat) (tail_opened block None)
+    opened None is = tt
+    opened (Some located) is = record { appended = appended; answered = answered; is = is }
