@@ -3,7 +3,7 @@
 //! Words: `crc32c SIZE TIMES`, `crc32 SIZE TIMES`, `frames COUNT PIECE`, `packets SIZE TIMES`, `checks SIZE TIMES`,
 //! `stars STARS LENGTH`, `products FIRST TIMES`, `quotients FIRST TIMES`, `pipeline WINDOW TIMES`,
 //! `pair`, `turns` or `late` with `COUNT WINDOW`,
-//! `files_0`, `files_1`, `files_2` or `files_3` with `COUNT SIZE`, or `encode` or `decode` with a code, as in
+//! `files_0`, `files_1`, `files_2` or `files_3` with `COUNT SIZE`, `names_made`, `names_listed` or `names_deleted` with `COUNT TIMES`, or `encode` or `decode` with a code, as in
 //! `encode_6_3 SIZE TIMES`, the code being one of `_3_2`, `_6_3` and `_10_4`.
 #![tactic(auto)]
 
@@ -11,6 +11,7 @@ mod elements;
 mod fault;
 mod frames;
 mod globs;
+mod names;
 mod packets;
 mod pairs;
 mod pipelines;
@@ -22,6 +23,7 @@ use elements::{products, quotients};
 use fault::Fault;
 use frames::{count_frames, stream};
 use globs::match_stars;
+use names::count_names;
 use packets::{checked_bytes, payload_bytes};
 use pairs::{pass_by_turns, pass_by_two, pass_late};
 use pipelines::count_events;
@@ -44,6 +46,9 @@ fn measure(alloc: Global, name: &str, first: usize, second: usize) -> Result<u64
     }
     if let Some(replication) = name.strip_prefix("files_") {
         return write_files(alloc, replication.parse()?, first, second);
+    }
+    if let Some(deed) = name.strip_prefix("names_") {
+        return count_names(alloc, deed, first, second);
     }
     match name {
         "products" => Ok(products(first, second)),

@@ -236,6 +236,18 @@ impl FileWriter {
             → inner.OnlyOwnLink (C.shown cluster.old) (inner.link_of file) (C.shown cluster.new) None
             × inner.LeavesFile (C.shown cluster.old) file (C.shown cluster.new) }
     {
+        self.leave(cluster);
+        drop(self);
+    }
+
+    /// Ends the link of an open writer.
+    fn leave<C: Cluster>(&mut self, cluster: &mut C)
+        requires { (file : Inner) → open_of self.old ≡ Some file → inner.Stands (C.shown cluster.old) file }
+        ensures shut { open_of self.old ≡ None → cluster.new ≡ cluster.old }
+        ensures left { (file : Inner) → open_of self.old ≡ Some file
+            → inner.OnlyOwnLink (C.shown cluster.old) (inner.link_of file) (C.shown cluster.new) None
+            × inner.LeavesFile (C.shown cluster.old) file (C.shown cluster.new) }
+    {
         if let Some(file) = self.file.take() {
             file.abandon(cluster);
         }

@@ -10,6 +10,7 @@ mod making;
 mod planning;
 mod reading;
 mod seeing;
+mod storing;
 mod telling;
 mod writing;
 

@@ -2,7 +2,7 @@
 ghost use Rattle.hdfs_cluster.specs.Loading.{AreValid};
 
 use crate::memory::planning::{self, Plans};
-use crate::memory::{asking, calling, files, loading, reading, seeing, writing};
+use crate::memory::{asking, calling, files, loading, reading, seeing, storing, writing};
 use crate::steps::{Said, Stage, Words, small};
 use hdfs_cluster::{MemSettings, ServerDefaults};
 use hdfs_mem_cluster::MemCluster;
@@ -118,6 +118,7 @@ impl Stage for Case {
             ),
             "read" => reading::read_back(self.alloc, cluster, words, said),
             "readFile" | "readRange" => files::take(self.alloc, cluster, words, said),
+            "storeFile" | "goOn" => storing::take(self.alloc, cluster, words, said),
             "plan" | "tally" => planning::take(self.alloc, &mut *self.plans, words, said),
             _ => self.call(words, said),
         }

@@ -39,7 +39,7 @@ fn addresses(alloc: Global, namenodes: u32) -> Result<Vec<NamenodeAddress>, NoMe
 }
 
 /// A client of one service of so many namenodes.
-fn client_of(alloc: Global, namenodes: u32) -> Result<Client, NoMemory> {
+pub(crate) fn client_of(alloc: Global, namenodes: u32) -> Result<Client, NoMemory> {
     let service = NameServiceProxy::new(0, namenodes.max(1), false, false);
     let mut services = Vec::new(alloc);
     services.push(NamenodeProtocol::new(alloc, service, [0; 16])?)?;

@@ -1,8 +1,8 @@
 -- The link is ended of a writer that is open.
-use Rattle.std.proofs.Common.{◌≡◌, Some, None, subst, sym}
+use Rattle.std.proofs.Common.{◌≡◌, None, subst, sym}
 use Rattle.hdfs_file_writer.specs.Writers.{LeavesFile, OnlyOwnLink, link_of}
 use Rattle.hdfs_file_writer.specs.declared.file_writer.FileWriter.{FileWriter}
-use Rattle.hdfs_client.proofs.writing.FileWriter.abandon.Goals as goal
+use Rattle.hdfs_client.proofs.writing.FileWriter.leave.Goals as goal
 
 pub abandon-requires : goal.abandon-requires
 abandon-requires g c = record { stands = c.requires c.in-Some.file (sym c.in-Some.ensures.value) }
