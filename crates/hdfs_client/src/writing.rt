@@ -1,5 +1,5 @@
 //! Files that a client writes.
-ghost use Rattle.std.specs.Prelude.{◌≡◌, ◌⊎◌, length, Some, None, Ok, Err, IfOk, IfErr, OnOk, is_ok, true, false, if◌then◌else◌};
+ghost use Rattle.std.specs.Prelude.{◌≡◌, ◌⊎◌, length, Some, None, Ok, Err, IfOk, IfErr, OnErr, OnOk, is_ok, true, false, if◌then◌else◌};
 ghost use Rattle.hdfs_cluster.specs.declared.errors.ArgFault.TheVariants as args;
 ghost use Rattle.hdfs_cluster.specs.declared.errors.HdfsError.TheVariants as errors;
 ghost use Rattle.hdfs_model.specs.Limits.{are_options};
@@ -159,6 +159,10 @@ impl FileWriter {
         ensures wrote { OnOk result (GoesOn (λ file file'. inner.Wrote (C.shown cluster.old) file bytes.now
             (C.shown cluster.new) file')
             self.old self.new) }
+        ensures state { GoesOn (λ file file'. inner.IsIdle file bytes.now cluster.old result file' cluster.new
+            × (OnOk result (inner.has_failed file' ≡ false)) × (OnErr result (inner.has_failed file' ≡ true)))
+            self.old self.new }
+        ensures still { (is_closed self.new ≡ is_closed self.old) × (service_of self.new ≡ service_of self.old) }
         ensures err { IfErr result (λ error. (file : Inner) → open_of self.old ≡ Some file
             → inner.has_failed file ≡ false
             → inner.AreLimited (inner.sizes_of file) → inner.Fails (C.shown cluster.old) file error
@@ -202,6 +206,8 @@ impl FileWriter {
             × (self.new ≡ self.old) × (client.new ≡ client.old) × (cluster.new ≡ cluster.old) }
         ensures closed { OnOk result ((file : Inner) → open_of self.old ≡ Some file
             → inner.Closed (C.shown cluster.old) file (C.shown cluster.new)) }
+        ensures failed { (file : Inner) → open_of self.old ≡ Some file → inner.has_failed file ≡ true
+            → (result ≡ Err errors.Failed) × (cluster.new ≡ cluster.old) }
         ensures err { IfErr result (λ error. (file : Inner) → open_of self.old ≡ Some file
             → inner.has_failed file ≡ false
             → inner.FailsToClose (C.shown cluster.old) file error (C.shown cluster.new)) }

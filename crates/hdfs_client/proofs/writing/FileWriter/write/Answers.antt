@@ -1,6 +1,7 @@
 -- A write by the service whose file it is.
 use Rattle.std.proofs.Common.{◌≡◌, ℕ, List, refl, sym, subst}
-use Rattle.hdfs_file_writer.specs.Writers.{IsAnswered, Stands}
+use Rattle.hdfs_file_writer.specs.Writers.{IsAnswered, IsIdle, Stands}
+use Rattle.hdfs_file_writer.specs.declared.file_writer.FileWriter.{FileWriter}
 use Rattle.hdfs_namenode.specs.Asked.{ReachesAll}
 use Rattle.hdfs_namenode.specs.Clients.{name_of, proxy_of}
 use Rattle.hdfs_namenode.specs.declared.protocol.NamenodeProtocol.{NamenodeProtocol}
@@ -40,4 +41,16 @@ returns-clause-writer g c =
       of_put (λ namenode file. IsAnswered g.C.Cluster.may_answer (name_of namenode) file) (services_of client) k c.write.new.namenode within
           (subst (λ (n : List ℕ). IsAnswered g.C.Cluster.may_answer n c.write.new.self) (sym same.name) c.write.ensures.answered),
       (used_at client _ k by.0 c.index_mut.result.now c.write.new.namenode by.1 c.index_mut.ensures.value refl (refl, refl, refl)).others,
+    )
+
+pub returns-clause-state : goal.returns-clause-state
+returns-clause-state g c = λ file is.
+    let same : c.in-Some.file ≡ file = cc (c.in-Some.is, is) in (
+      c.write.new.self,
+      refl,
+      (
+        subst (λ (f : FileWriter). IsIdle f c.args.bytes.now c.args.cluster.now c.write.result c.write.new.self c.write.new.cluster) same c.write.ensures.idle,
+        c.write.ensures.fails.0,
+        c.write.ensures.fails.1,
+      ),
     )
