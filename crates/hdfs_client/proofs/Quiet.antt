@@ -7,7 +7,7 @@ use Rattle.hdfs_cluster.specs.declared.errors.HdfsError.{HdfsError}
 use Rattle.hdfs_cluster.specs.declared.errors.HdfsError.TheVariants as errors
 use Rattle.hdfs_cluster.specs.declared.messages.ServerDefaults.{ServerDefaults}
 use Rattle.hdfs_cluster.specs.Effects.{KeepsBytes}
-use Rattle.hdfs_cluster.specs.Failures.{CallsRose, IsOfAsk}
+use Rattle.hdfs_cluster.specs.Failures.{CallsRose}
 use Rattle.hdfs_cluster.specs.Namenode.{Row}
 use Rattle.hdfs_cluster.specs.Picture.{Picture, SameButActive, Told}
 use Rattle.hdfs_cluster.specs.Repeating.{DoneOrNot}
@@ -16,13 +16,6 @@ use Rattle.hdfs_cluster.proofs.Frames.{later_refl, same_files_refl, told_refl}
 use Rattle.hdfs_cluster.proofs.Repeating.{defaults_repeats}
 use Rattle.hdfs_namenode.specs.Relaying.{Came, CameCached}
 use Rattle.hdfs_namenode.proofs.Relayed.{relayed_done}
-use Rattle.hdfs_client.specs.Opening.{IsOpenFault}
-
--- an error of an ask is one why a file isn't opened
-pub of_ask : (error : HdfsError) → IsOfAsk error → IsOpenFault error
-of_ask (errors.InvalidArgument fault) is = absurd is
-of_ask (errors.UnsupportedFeature feature) is = absurd is
-of_ask error is = is
 
 -- an ask for the defaults by its row leaves the picture, but for which namenode is active
 row_leaves : (p q : Picture) (answer : Answer) → Row p asks.GetServerDefaults answer q → SameButActive p q
@@ -68,11 +61,3 @@ module _ {s t : Shown} where
         by_known None is = quiet_asked (came.asked is)
         by_known (Some kept) is = subst (Quiet s) (sym (came.known kept is).1)
             (record { later = later_refl s; picture = told_refl SameButActive s.picture active_refl })
-
-    -- where there are none, they weren't known, and the error is one of an ask
-    pub fails_by : {error : HdfsError} → CameCached known s (Err error) t → IsOpenFault error
-    fails_by {error} came = by_known known refl
-      where
-        by_known : (o : Option ServerDefaults) → known ≡ o → IsOpenFault error
-        by_known None is = of_ask error (came.asked is).relays.tells.0
-        by_known (Some kept) is = absurd (cc (came.known kept is).0)

@@ -10,7 +10,7 @@ use Rattle.hdfs_namenode.specs.Clients.{proxy_of}
 use Rattle.hdfs_namenode.specs.declared.protocol.NamenodeProtocol.{NamenodeProtocol}
 use Rattle.hdfs_namenode.proofs.Services.{same_service_refl, service_later}
 use Rattle.hdfs_client.specs.Clients.{IsClientOf, SameBut, addresses_of, leads_to, mounts_of, replacement_of, service_at, services_of}
-use Rattle.hdfs_client.specs.Writing.{OpensAt, open_of, service_of}
+use Rattle.hdfs_client.specs.Writing.{FailsAt, OpensAt, open_of, service_of}
 use Rattle.hdfs_client.specs.declared.client.Client.{Client}
 use Rattle.hdfs_client.specs.declared.writing.FileWriter.{FileWriter}
 use Rattle.hdfs_client.proofs.Asking.{found_at, put_elsewhere, put_there, same_some}
@@ -97,5 +97,20 @@ opens_at Opens {client} {client'} {src} {to} {before} {after} {file} writer lead
   opened = opened;
   service = service;
   opens = opens;
+  others = at.others;
+}
+
+-- none was opened so
+pub fails_at : (Fails : List ℕ → NamenodeProtocol → NamenodeProtocol → Type 0) {client client' : Client} {src : List ℕ} {to : Resolved}
+    {before after : NamenodeProtocol} → leads_to client src ≡ Some to → Used client to.service before after client' → Fails to.path before after
+    → FailsAt Fails client src client'
+fails_at Fails {client} {client'} {src} {to} {before} {after} leads at fails = record {
+  to = to;
+  leads = leads;
+  before = before;
+  was = at.was;
+  after = after;
+  is = at.is;
+  fails = fails;
   others = at.others;
 }

@@ -1,5 +1,5 @@
 -- How a service of a client opens a file to be written: a new one, and one that is gone on with.
-use Rattle.std.specs.Prelude.{◌≡◌, ℕ, true, false, List, [], Option, Some, None, is_some, unwrap_or, Result, Ok}
+use Rattle.std.specs.Prelude.{◌≡◌, ◌⊎◌, ℕ, true, false, List, [], Option, Some, None, is_some, unwrap_or, Result, Ok, Err, IfErr, OnOk}
 use Rattle.hdfs_cluster.specs.declared.asks.Answer.{Answer}
 use Rattle.hdfs_cluster.specs.declared.asks.Answer.TheVariants as answers
 use Rattle.hdfs_cluster.specs.declared.asks.Ask.{Ask}
@@ -9,12 +9,12 @@ use Rattle.hdfs_cluster.specs.declared.errors.ArgFault.TheVariants as args
 use Rattle.hdfs_cluster.specs.declared.errors.Feature.TheVariants as features
 use Rattle.hdfs_cluster.specs.declared.errors.HdfsError.{HdfsError}
 use Rattle.hdfs_cluster.specs.declared.errors.HdfsError.TheVariants as errors
+use Rattle.hdfs_cluster.specs.declared.messages.Appended.{Appended}
 use Rattle.hdfs_cluster.specs.declared.messages.FileStatusMsg.{FileStatusMsg}
 use Rattle.hdfs_cluster.specs.declared.messages.LocatedBlock.{LocatedBlock}
 use Rattle.hdfs_cluster.specs.declared.messages.ServerDefaults.{ServerDefaults}
 use Rattle.hdfs_cluster.specs.declared.picture.FileEntry.{FileEntry}
 use Rattle.hdfs_cluster.specs.Effects.{Creates, Opens}
-use Rattle.hdfs_cluster.specs.Failures.{IsOfAsk}
 use Rattle.hdfs_cluster.specs.Limits.{are_defaults}
 use Rattle.hdfs_cluster.specs.Namenode.{new_file}
 use Rattle.hdfs_cluster.specs.Picture.{Picture, SameButActive}
@@ -23,10 +23,10 @@ use Rattle.hdfs_cluster.specs.Shown.{Shown}
 use Rattle.hdfs_cluster.specs.Sound.{IsFileAt}
 use Rattle.hdfs_cluster.specs.Stores.{StoresBlocks}
 use Rattle.hdfs_file_writer.specs.Tails.{Tail, Bare, FileCarries}
-use Rattle.hdfs_file_writer.specs.Writers.{file_id_of, has_failed, link_of, path_of, sizes_of, tail_of, tail_opened}
+use Rattle.hdfs_file_writer.specs.Writers.{Closed, FailsToClose, file_id_of, has_failed, link_of, path_of, sizes_of, tail_of, tail_opened}
 use Rattle.hdfs_file_writer.specs.declared.file_writer.FileWriter.{FileWriter}
 use Rattle.hdfs_file_writer.specs.declared.sizes.WriteSizes.{WriteSizes}
-use Rattle.hdfs_model.specs.Opening.{appending, creating, tells_encryption}
+use Rattle.hdfs_model.specs.Opening.{AnswersDefaults, appending, creating, tells_encryption}
 use Rattle.hdfs_model.specs.declared.commands.WriteOptions.{WriteOptions}
 use Rattle.hdfs_namenode.specs.Asked.{Asked, AskedOnce, SameService}
 use Rattle.hdfs_namenode.specs.Clients.{defaults_of, leases_of, name_of, proxy_of, through}
@@ -39,13 +39,42 @@ pub record KeepsName (before after : NamenodeProtocol) : Type 0 where
   pub name : name_of after ≡ name_of before
   pub leases : leases_of after ≡ leases_of before
 
--- A service knows the cluster's defaults: it knew them, and asked for nothing, or it asked for them, and these were answered.
-pub record KnowsDefaults {C : Type 0} (serves : C → ℕ → Ask → Result Answer AskFault → C → Type 0) (before : NamenodeProtocol) (old : C)
+-- these defaults of the cluster were answered, or a service has kept them
+abbrev pub IsKnown : (Ask → Answer → Type 0) → NamenodeProtocol → ServerDefaults → Type 0
+IsKnown may_answer namenode defaults = AnswersDefaults may_answer defaults ⊎ (defaults_of namenode ≡ Some defaults)
+
+-- A service has the cluster's defaults: it knew them, and asked for nothing, or it asked for them, and these were answered.
+pub record HasDefaults {C : Type 0} (serves : C → ℕ → Ask → Result Answer AskFault → C → Type 0) (before : NamenodeProtocol) (old : C)
     (defaults : ServerDefaults) (after : NamenodeProtocol) (new : C) : Type 0 where
   pub known : (kept : ServerDefaults) → defaults_of before ≡ Some kept → (defaults ≡ kept) × (new ≡ old)
   pub asked : defaults_of before ≡ None
       → Asked serves false asks.GetServerDefaults (through before old) (Ok (answers.GetServerDefaults defaults)) (through after new)
+
+-- it has such that are in their limits
+pub record KnowsDefaults {C : Type 0} (serves : C → ℕ → Ask → Result Answer AskFault → C → Type 0) (before : NamenodeProtocol) (old : C)
+    (defaults : ServerDefaults) (after : NamenodeProtocol) (new : C) : Type 0 where
+  pub has : HasDefaults serves before old defaults after new
   pub limited : are_defaults defaults ≡ true
+
+-- it has none: it knew none, and has asked for them in vain
+pub record AsksInVain {C : Type 0} (serves : C → ℕ → Ask → Result Answer AskFault → C → Type 0) (before : NamenodeProtocol) (old : C)
+    (error : HdfsError) (after : NamenodeProtocol) (new : C) : Type 0 where
+  pub unknown : defaults_of before ≡ None
+  pub asked : Asked serves false asks.GetServerDefaults (through before old) (Err error) (through after new)
+
+-- it has such that are out of their limits
+pub record HasBadDefaults {C : Type 0} (serves : C → ℕ → Ask → Result Answer AskFault → C → Type 0) (before : NamenodeProtocol) (old : C)
+    (error : HdfsError) (after : NamenodeProtocol) (new : C) : Type 0 where
+  pub defaults : ServerDefaults
+  pub has : HasDefaults serves before old defaults after new
+  pub unlimited : are_defaults defaults ≡ false
+  pub is : error ≡ errors.InvalidArgument args.Defaults
+
+-- why no file is asked for at all
+abbrev pub LacksDefaults : {C : Type 0} → (C → ℕ → Ask → Result Answer AskFault → C → Type 0) → NamenodeProtocol → C → HdfsError → NamenodeProtocol → C
+    → Type 0
+LacksDefaults serves before old error after new =
+    AsksInVain serves before old error after new ⊎ HasBadDefaults serves before old error after new
 
 -- with what a file is written that has this replication and block size
 abbrev pub sizes_by : RebuildSettings → ServerDefaults → ℕ → ℕ → WriteSizes
@@ -97,11 +126,81 @@ pub record OpensBy {C : Type 0} (serves : C → ℕ → Ask → Result Answer As
   pub fresh : IsFresh path status.file_id (sizes_by rebuilding defaults
       (unwrap_or status.block_replication 0) (unwrap_or status.blocksize 0)) (tail_opened block None) writer
 
--- Why a file isn't opened to be written: the cluster's defaults are out of their limits, the file is encrypted, or an ask failed.
-abbrev pub IsOpenFault : HdfsError → Type 0
-IsOpenFault (errors.InvalidArgument args.Defaults) = Unit {0}
-IsOpenFault (errors.UnsupportedFeature features.Encryption) = Unit {0}
-IsOpenFault error = IsOfAsk error
+-- A file that was created was answered to be encrypted: it is refused, behind an ask to delete it again, whatever came of that.
+pub record RefusesCreated {C : Type 0} (serves : C → ℕ → Ask → Result Answer AskFault → C → Type 0) (path : List ℕ) (ask : Ask)
+    (before : NamenodeProtocol) (old : C) (error : HdfsError) (after : NamenodeProtocol) (new : C) : Type 0 where
+  pub status : Option FileStatusMsg
+  pub between : NamenodeProtocol
+  pub mid : C
+  pub asked : AskedOnce serves true ask (through before old) (Ok (answers.Create status)) (through between mid)
+  pub encrypted : tells_encryption status ≡ true
+  pub outcome : Result Answer HdfsError
+  pub deleted : AskedOnce serves true (asks.Delete path false) (through between mid) outcome (through after new)
+  pub is : error ≡ errors.UnsupportedFeature features.Encryption
+
+-- Behind its defaults a service creates no file: just this ask for it failed, or the file is encrypted.
+pub record CreateFails {C : Type 0} (serves : C → ℕ → Ask → Result Answer AskFault → C → Type 0) (path : List ℕ) (options : WriteOptions)
+    (before : NamenodeProtocol) (old : C) (error : HdfsError) (after : NamenodeProtocol) (new : C) : Type 0 where
+  pub defaults : ServerDefaults
+  pub between : NamenodeProtocol
+  pub mid : C
+  pub knows : KnowsDefaults serves before old defaults between mid
+  pub why : let ask = creating path (name_of before) options (unwrap_or options.replication defaults.replication)
+      (unwrap_or options.block_size defaults.block_size) in
+      AskedOnce serves true ask (through between mid) (Err error) (through after new)
+      ⊎ RefusesCreated serves path ask between mid error after new
+
+-- why a service creates no file: it has no defaults, or behind them so
+abbrev pub FailsToCreate : {C : Type 0} → (C → ℕ → Ask → Result Answer AskFault → C → Type 0) → List ℕ → WriteOptions → NamenodeProtocol → C → HdfsError
+    → NamenodeProtocol → C → Type 0
+FailsToCreate serves path options before old error after new =
+    LacksDefaults serves before old error after new ⊎ CreateFails serves path options before old error after new
+
+-- A file was opened of which nothing is told: it isn't there, by the name that the caller has for it.
+pub record LacksStatus {C : Type 0} (serves : C → ℕ → Ask → Result Answer AskFault → C → Type 0) (ask : Ask) (name : List ℕ)
+    (before : NamenodeProtocol) (old : C) (error : HdfsError) (after : NamenodeProtocol) (new : C) : Type 0 where
+  pub block : Option LocatedBlock
+  pub asked : AskedOnce serves true ask (through before old) (Ok (answers.Append (record { block = block; stat = None }))) (through after new)
+  pub is : (error ≡ errors.FileNotFound name) ⊎ (error ≡ errors.NoMemory)
+
+-- a writer was closed, or this is why not
+pub record ClosesAgain (old : Shown) (writer : FileWriter) (new : Shown) : Type 0 where
+  pub result : Result Unit HdfsError
+  pub closed : OnOk result (Closed old writer new)
+  pub failed : IfErr result (λ error. FailsToClose old writer error new)
+
+-- A file that was opened was answered to be encrypted: it is refused, and closed again, as far as that is done.
+pub record RefusesOpened {C : Type 0} (shown : C → Shown) (serves : C → ℕ → Ask → Result Answer AskFault → C → Type 0) (path : List ℕ) (ask : Ask)
+    (before : NamenodeProtocol) (old : C) (error : HdfsError) (new : C) : Type 0 where
+  pub appended : Appended
+  pub between : NamenodeProtocol
+  pub mid : C
+  pub asked : AskedOnce serves true ask (through before old) (Ok (answers.Append appended)) (through between mid)
+  pub encrypted : tells_encryption appended.stat ≡ true
+  pub writer : FileWriter
+  pub at : path_of writer ≡ path
+  pub id : file_id_of writer ≡ id_in appended.stat
+  pub stands : tail_of writer ≡ tail_opened appended.block None
+  pub closes : ClosesAgain (shown mid) writer (shown new)
+  pub is : error ≡ errors.UnsupportedFeature features.Encryption
+
+-- Behind its defaults a service opens no file: just this ask for it failed, or nothing is told of the file, or it is encrypted.
+pub record AppendFails {C : Type 0} (shown : C → Shown) (serves : C → ℕ → Ask → Result Answer AskFault → C → Type 0) (path name : List ℕ)
+    (before : NamenodeProtocol) (old : C) (error : HdfsError) (after : NamenodeProtocol) (new : C) : Type 0 where
+  pub defaults : ServerDefaults
+  pub between : NamenodeProtocol
+  pub mid : C
+  pub knows : KnowsDefaults serves before old defaults between mid
+  pub why : let ask = appending path (name_of before) 4 in
+      AskedOnce serves true ask (through between mid) (Err error) (through after new)
+      ⊎ LacksStatus serves ask name between mid error after new
+      ⊎ RefusesOpened shown serves path ask between mid error new
+
+-- why a service opens no file to be gone on with: it has no defaults, or behind them so
+abbrev pub FailsToAppend : {C : Type 0} → (C → Shown) → (C → ℕ → Ask → Result Answer AskFault → C → Type 0) → List ℕ → List ℕ → NamenodeProtocol → C
+    → HdfsError → NamenodeProtocol → C → Type 0
+FailsToAppend shown serves path name before old error after new =
+    LacksDefaults serves before old error after new ⊎ AppendFails shown serves path name before old error after new
 
 -- Over a told picture: behind an ask that changed nothing, a file was created at a path, with the options' permission bits and the writer's
 -- replication and block size. It has no bytes, and its writer carries it.

@@ -1,5 +1,5 @@
 -- Files that a client writes: how one is opened, and what a writer is between calls.
-use Rattle.std.specs.Prelude.{◌≡◌, ℕ, Bool, List, Option, Some, if◌then◌else◌}
+use Rattle.std.specs.Prelude.{◌≡◌, ◌⊎◌, ℕ, Bool, List, Option, Some, if◌then◌else◌}
 use Rattle.hdfs_cluster.specs.declared.asks.Answer.{Answer}
 use Rattle.hdfs_cluster.specs.declared.asks.Ask.{Ask}
 use Rattle.hdfs_cluster.specs.declared.errors.ArgFault.TheVariants as args
@@ -17,6 +17,7 @@ use Rattle.hdfs_namenode.specs.Clients.{name_of, proxy_of}
 use Rattle.hdfs_namenode.specs.declared.protocol.NamenodeProtocol.{NamenodeProtocol}
 use Rattle.hdfs_rebuild.specs.declared.block_plan.RebuildSettings.{RebuildSettings}
 use Rattle.hdfs_client.specs.Clients.{SameBut, leads_to, replacement_of, service_at}
+use Rattle.hdfs_client.specs.Opening.{IsKnown}
 use Rattle.hdfs_client.specs.declared.client.Client.{Client}
 use Rattle.hdfs_client.specs.declared.writing.FileWriter.{FileWriter}
 
@@ -50,9 +51,11 @@ abbrev pub LetsThere : (List ℕ → List ℕ → Type 0) → Client → List �
 LetsThere Lets client src = (to : Resolved) (namenode : NamenodeProtocol) → leads_to client src ≡ Some to
     → service_at client to.service ≡ Some namenode → Lets (name_of namenode) to.path
 
--- leave to create a file at a path
+-- leave to create a file at a path, with defaults that were answered, or that its service knows
 abbrev pub LetsCreate : (Request → Type 0) → (Ask → Answer → Type 0) → Client → List ℕ → WriteOptions → Type 0
-LetsCreate allows may_answer client src options = LetsThere (λ name at. opening.LetsCreate allows may_answer name at options) client src
+LetsCreate allows may_answer client src options = (to : Resolved) (namenode : NamenodeProtocol) → leads_to client src ≡ Some to
+    → service_at client to.service ≡ Some namenode
+    → opening.LetsCreate allows may_answer (IsKnown may_answer namenode) (name_of namenode) to.path options
 
 -- leave to go on with the file at a path
 abbrev pub LetsAppend : (Request → Type 0) → (Ask → Answer → Type 0) → Client → List ℕ → Type 0
@@ -72,6 +75,21 @@ pub record OpensAt (Opens : List ℕ → NamenodeProtocol → inner.FileWriter �
   pub service : service_of writer ≡ to.service
   pub opens : Opens to.path before file after
   pub others : SameBut to.service client client'
+
+-- a client has opened no file by the service to which a path leads, in this way
+pub record FailsAt (Fails : List ℕ → NamenodeProtocol → NamenodeProtocol → Type 0) (client : Client) (src : List ℕ) (client' : Client) : Type 0 where
+  pub to : Resolved
+  pub leads : leads_to client src ≡ Some to
+  pub before : NamenodeProtocol
+  pub was : service_at client to.service ≡ Some before
+  pub after : NamenodeProtocol
+  pub is : service_at client' to.service ≡ Some after
+  pub fails : Fails to.path before after
+  pub others : SameBut to.service client client'
+
+-- the same, or there was no memory for it
+abbrev pub OpensNone : (HdfsError → List ℕ → NamenodeProtocol → NamenodeProtocol → Type 0) → Client → List ℕ → HdfsError → Client → Type 0
+OpensNone Fails client src error client' = (error ≡ errors.NoMemory) ⊎ FailsAt (Fails error) client src client'
 
 -- what is so of an open writer and of the service whose file it writes
 abbrev pub OfOpen : (NamenodeProtocol → inner.FileWriter → Type 0) → Client → FileWriter → Type 0

@@ -1,19 +1,21 @@
 //! How a service of a client opens a file to be written: a new one, and one that is gone on with.
-ghost use Rattle.std.specs.Prelude.{◌≡◌, ◌≤◌, ◌⊎◌, Option, Some, None, IfOk, IfErr, true, false};
+ghost use Rattle.std.specs.Prelude.{◌≡◌, ◌≤◌, Option, Some, None, Result, IfOk, IfErr, true, false};
 ghost use Rattle.hdfs_cluster.specs.Picture.{SameButActive, Told};
 ghost use Rattle.hdfs_cluster.specs.Requests.{AskOf, LetsClose, id_in};
 ghost use Rattle.hdfs_cluster.specs.Shown.{Later};
+ghost use Rattle.hdfs_cluster.specs.declared.asks.Answer.{Answer};
 ghost use Rattle.hdfs_cluster.specs.declared.asks.Ask.TheVariants as asks;
 ghost use Rattle.hdfs_cluster.specs.declared.errors.Feature.TheVariants as features;
+ghost use Rattle.hdfs_cluster.specs.declared.errors.HdfsError.{HdfsError};
 ghost use Rattle.hdfs_cluster.specs.declared.errors.HdfsError.TheVariants as errors;
 ghost use Rattle.hdfs_client.specs.Opening as spec;
-ghost use Rattle.hdfs_client.specs.Opening.{BeginsAgain, BeginsNew, CreatesBy, IsOpenFault, KeepsName, KnowsDefaults, OpensBy};
+ghost use Rattle.hdfs_client.specs.Opening.{BeginsAgain, BeginsNew, ClosesAgain, CreatesBy, FailsToAppend, FailsToCreate, IsKnown, KeepsName, KnowsDefaults, LacksDefaults, OpensBy};
 ghost use Rattle.hdfs_file_writer.specs.Writers.{IsAnswered, Stands, file_id_of, has_failed, path_of};
 ghost use Rattle.hdfs_model.specs.Limits.{are_options};
 ghost use Rattle.hdfs_model.specs.Opening as asking;
 ghost use Rattle.hdfs_model.specs.Opening.{LetsAppend, LetsCreate};
-ghost use Rattle.hdfs_namenode.specs.Asked.{ReachesAll};
-ghost use Rattle.hdfs_namenode.specs.Clients.{name_of, proxy_of};
+ghost use Rattle.hdfs_namenode.specs.Asked.{AskedOnce, ReachesAll};
+ghost use Rattle.hdfs_namenode.specs.Clients.{name_of, proxy_of, through};
 
 use hdfs_cluster::{
     Appended, ArgFault, Cluster, Feature, FileStatusMsg, HdfsError, ServerDefaults,
@@ -94,7 +96,9 @@ fn limited_defaults<C: Cluster>(
     ensures knows { IfOk result (λ defaults. KnowsDefaults C.serves namenode.old cluster.old defaults namenode.new
         cluster.new) }
     ensures picture { Told SameButActive (C.shown cluster.old).picture (C.shown cluster.new).picture }
-    ensures err { IfErr result IsOpenFault }
+    ensures known { IfOk result (IsKnown C.may_answer namenode.old) }
+    ensures err { IfErr result (λ error. LacksDefaults C.serves namenode.old cluster.old error namenode.new
+        cluster.new) }
     ensures keeps { KeepsName namenode.old namenode.new × Later (C.shown cluster.old) (C.shown cluster.new) }
 {
     let defaults = namenode.get_cached_server_defaults(cluster)?;
@@ -113,6 +117,8 @@ fn refuse_created<C: Cluster>(
     requires reaches { ReachesAll (proxy_of namenode.old) (C.shown cluster.old) }
     requires allowed { C.allows (AskOf (asks.Delete path.now false)) }
     ensures is { result ≡ errors.UnsupportedFeature features.Encryption }
+    ensures deleted { (outcome : Result Answer HdfsError) × AskedOnce C.serves true (asks.Delete path.now false)
+        (through namenode.old cluster.old) outcome (through namenode.new cluster.new) }
     ensures keeps { KeepsName namenode.old namenode.new × Later (C.shown cluster.old) (C.shown cluster.new) }
 {
     drop(namenode.delete(cluster, path, false));
@@ -132,7 +138,8 @@ pub(crate) fn create_by<C: Cluster>(
     rebuilding: RebuildSettings,
 ) -> Result<FileWriter, HdfsError>
     requires reaches { ReachesAll (proxy_of namenode.old) (C.shown cluster.old) }
-    requires allowed { LetsCreate C.allows C.may_answer (name_of namenode.old) path options.now }
+    requires allowed { LetsCreate C.allows C.may_answer (IsKnown C.may_answer namenode.old) (name_of namenode.old)
+        path options.now }
     requires limits { (are_options options.now ≡ true) × (1 ≤ rebuilding.window) × (rebuilding.window ≤ 1000) }
     ensures created { IfOk result (λ writer. CreatesBy C.serves path options.now rebuilding namenode.old cluster.old
         writer
@@ -141,7 +148,8 @@ pub(crate) fn create_by<C: Cluster>(
         (C.shown cluster.new)) }
     ensures stands { IfOk result (Stands (C.shown cluster.new)) }
     ensures answered { IfOk result (IsAnswered C.may_answer (name_of namenode.old)) }
-    ensures err { IfErr result IsOpenFault }
+    ensures err { IfErr result (λ error. FailsToCreate C.serves path options.now namenode.old cluster.old error
+        namenode.new cluster.new) }
     ensures keeps { KeepsName namenode.old namenode.new × Later (C.shown cluster.old) (C.shown cluster.new) }
 {
     let defaults = limited_defaults(cluster, namenode)?;
@@ -175,6 +183,7 @@ fn refuse_opened<C: Cluster>(
     requires allowed { LetsClose C.allows C.may_answer (name_of namenode.old) (path_of writer) (file_id_of writer) }
     requires answered { IsAnswered C.may_answer (name_of namenode.old) writer }
     ensures is { result ≡ errors.UnsupportedFeature features.Encryption }
+    ensures closes { ClosesAgain (C.shown cluster.old) writer (C.shown cluster.new) }
     ensures keeps { KeepsName namenode.old namenode.new × Later (C.shown cluster.old) (C.shown cluster.new) }
 {
     drop(writer.close(cluster, namenode));
@@ -201,7 +210,8 @@ pub(crate) fn append_by<C: Cluster>(
     ensures begins { IfOk result (λ writer. BeginsAgain (C.shown cluster.old) path writer (C.shown cluster.new)) }
     ensures stands { IfOk result (Stands (C.shown cluster.new)) }
     ensures answered { IfOk result (IsAnswered C.may_answer (name_of namenode.old)) }
-    ensures err { IfErr result (λ error. IsOpenFault error ⊎ (error ≡ errors.FileNotFound name.now)) }
+    ensures err { IfErr result (λ error. FailsToAppend C.shown C.serves path name.now namenode.old cluster.old error
+        namenode.new cluster.new) }
     ensures keeps { KeepsName namenode.old namenode.new × Later (C.shown cluster.old) (C.shown cluster.new) }
 {
     let defaults = limited_defaults(cluster, namenode)?;

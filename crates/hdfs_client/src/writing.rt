@@ -1,5 +1,5 @@
 //! Files that a client writes.
-ghost use Rattle.std.specs.Prelude.{◌≡◌, ◌⊎◌, length, Some, None, Ok, Err, IfOk, IfErr, OnErr, OnOk, is_ok, true, false, if◌then◌else◌};
+ghost use Rattle.std.specs.Prelude.{◌≡◌, ◌↔◌, IsTrue, length, Some, None, Ok, Err, IfOk, IfErr, OnErr, OnOk, is_ok, true, false, if◌then◌else◌};
 ghost use Rattle.hdfs_cluster.specs.declared.errors.ArgFault.TheVariants as args;
 ghost use Rattle.hdfs_cluster.specs.declared.errors.HdfsError.TheVariants as errors;
 ghost use Rattle.hdfs_model.specs.Limits.{are_options};
@@ -30,14 +30,14 @@ pub struct FileWriter {
 
 impl Client {
     ghost use Rattle.hdfs_client.specs.Clients.{IsClientOf, SameBut};
-    ghost use Rattle.hdfs_client.specs.Opening.{BeginsAgain, BeginsNew, CreatesBy, IsOpenFault, OpensBy};
-    ghost use Rattle.hdfs_client.specs.Writing.{IsAnsweredTo, IsWriterOf, LetsAppend, LetsCreate, OpensAt, ReachesWhole, rebuilding_of};
+    ghost use Rattle.hdfs_client.specs.Opening.{BeginsAgain, BeginsNew, CreatesBy, FailsToAppend, FailsToCreate, OpensBy};
+    ghost use Rattle.hdfs_client.specs.Writing.{IsAnsweredTo, IsWriterOf, LetsAppend, LetsCreate, OpensAt, OpensNone, ReachesWhole, rebuilding_of};
 
     /// Whether files at a path can be written over a cluster for now: the service to which it leads is all namenodes of the cluster, has no
     /// observers, and isn't to be in step.
     pub fn is_whole<C: Cluster>(&self, cluster: &C, path: &str) -> Result<bool, NoMemory>
         requires client { IsClientOf self.now (C.shown cluster.now) }
-        ensures { IfOk result (λ whole. whole ≡ true → ReachesWhole self.now path.now (C.shown cluster.now)) }
+        ensures { IfOk result (λ whole. IsTrue whole ↔ ReachesWhole self.now path.now (C.shown cluster.now)) }
     {
         let to = self.resolve(path)?;
         Ok(self.services[to.service].reaches_all(cluster))
@@ -77,7 +77,9 @@ impl Client {
             (C.shown cluster.new)) self.old path.now writer self.new) }
         ensures stands { IfOk result (λ writer. IsWriterOf self.new (C.shown cluster.new) writer
             × IsAnsweredTo C.may_answer self.new writer) }
-        ensures err { are_options options.now ≡ true → IfErr result IsOpenFault }
+        ensures err { are_options options.now ≡ true → IfErr result (λ error. OpensNone (λ error at before after.
+            FailsToCreate C.serves at options.now before cluster.old error after cluster.new) self.old path.now error
+            self.new) }
         ensures client { IsClientOf self.new (C.shown cluster.new) }
     {
         if !options.are_limited() {
@@ -115,7 +117,9 @@ impl Client {
             (C.shown cluster.new)) self.old path.now writer self.new) }
         ensures stands { IfOk result (λ writer. IsWriterOf self.new (C.shown cluster.new) writer
             × IsAnsweredTo C.may_answer self.new writer) }
-        ensures err { IfErr result (λ error. IsOpenFault error ⊎ (error ≡ errors.FileNotFound path.now)) }
+        ensures err { IfErr result (λ error. OpensNone (λ error at before after.
+            FailsToAppend C.shown C.serves at path.now before cluster.old error after cluster.new) self.old path.now error
+            self.new) }
         ensures client { IsClientOf self.new (C.shown cluster.new) }
     {
         let to = self.resolve(path)?;

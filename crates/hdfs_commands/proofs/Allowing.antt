@@ -1,4 +1,5 @@
 -- A cluster that allows all requests lets any command be run, and one that may answer anything may have answered what a session has open.
+use Rattle.std.specs.Prelude.{IfSome}
 use Rattle.std.proofs.Common.{◌≡◌, ℕ, Bool, true, false, List, [], map, Option, Some, None, inl, inr, refl}
 use Rattle.hdfs_cluster.specs.declared.asks.Answer.{Answer}
 use Rattle.hdfs_cluster.specs.declared.asks.Answer.TheVariants as answers
@@ -11,12 +12,13 @@ use Rattle.hdfs_cluster.specs.Requests.{Request, AskOf, ReadOf, SetupOf, Transfe
 use Rattle.hdfs_rebuild.specs.declared.block_plan.BlockPlan.{BlockPlan}
 use Rattle.hdfs_model.specs.declared.commands.Command.{Command}
 use Rattle.hdfs_model.specs.declared.commands.Command.TheVariants as commands
-use Rattle.hdfs_namenode.specs.Clients.{name_of}
+use Rattle.hdfs_cluster.specs.declared.messages.ServerDefaults.{ServerDefaults}
+use Rattle.hdfs_namenode.specs.Clients.{defaults_of, name_of}
 use Rattle.hdfs_file_writer.specs.Tails.{Tail, Bare, Finished, Reopened, Going}
 use Rattle.hdfs_file_writer.specs.Writers.{IsAnsweredPlan, IsAnsweredTail, file_id_of, path_of, tail_of}
 use Rattle.hdfs_commands.specs.Asking.{AreAnswered, LetsAny, LetsAt}
 use Rattle.hdfs_commands.specs.declared.session.Session.{Session}
-use Rattle.hdfs_model.specs.Opening.{appending, creating}
+use Rattle.hdfs_model.specs.Opening.{AnswersDefaults, appending, creating}
 
 module _ {allows : Request → Type 0} (may_answer : Ask → Answer → Type 0) (all : (request : Request) → allows request) where
   lets_blocks : (client path : List ℕ) (file_id : Option ℕ) → LetsWriteBlocks allows may_answer client path file_id
@@ -39,7 +41,7 @@ module _ {allows : Request → Type 0} (may_answer : Ask → Answer → Type 0) 
   lets_at : (client path : List ℕ) (command : Command) → LetsAt allows may_answer client path command
   lets_at client path (commands.Create name options) = λ fine. record {
     defaults = all (AskOf asks.GetServerDefaults);
-    creates = λ defaults. all (AskOf (creating path client options _ _));
+    creates = λ defaults known limited. all (AskOf (creating path client options _ _));
     deletes = λ replication block_size status answered encrypted. all (AskOf (asks.Delete path false));
   }
   lets_at client path (commands.Append name) = record {
@@ -144,9 +146,16 @@ module _ {may_answer : Ask → Answer → Type 0} (all : (ask : Ask) (answer : A
   any_tail client path file_id (Reopened located) = any_reopened client path located
   any_tail client path file_id (Going block) = λ pipe is. any_plan client path file_id pipe.plan
 
+  any_defaults : (known : Option ServerDefaults) → IfSome known (AnswersDefaults may_answer)
+  any_defaults None = tt
+  any_defaults (Some defaults) = all asks.GetServerDefaults (answers.GetServerDefaults defaults)
+
   pub answers_any : (session : Session) → AreAnswered may_answer session
-  answers_any session path writer is = record {
-    id = any_id (name_of session.namenode) (path_of writer) (file_id_of writer);
-    block = any_tail (name_of session.namenode) (path_of writer) (file_id_of writer) (tail_of writer);
-    last = λ fine. any_last (name_of session.namenode) (path_of writer) (file_id_of writer) writer.last;
+  answers_any session = record {
+    files = λ path writer is. record {
+      id = any_id (name_of session.namenode) (path_of writer) (file_id_of writer);
+      block = any_tail (name_of session.namenode) (path_of writer) (file_id_of writer) (tail_of writer);
+      last = λ fine. any_last (name_of session.namenode) (path_of writer) (file_id_of writer) writer.last;
+    };
+    defaults = any_defaults (defaults_of session.namenode);
   }

@@ -13,7 +13,10 @@ use Rattle.hdfs_cluster.specs.declared.messages.LocatedBlock.{LocatedBlock}
 use Rattle.hdfs_block_writer.specs.declared.block_writer.BlockWriter.{BlockWriter}
 use Rattle.hdfs_cluster.specs.Requests.{IsAnsweredId, IsAnsweredLast, id_in}
 use Rattle.hdfs_cluster.specs.Shown.{Shown}
-use Rattle.hdfs_namenode.specs.Clients.{name_of}
+use Rattle.hdfs_cluster.specs.declared.messages.ServerDefaults.{ServerDefaults}
+use Rattle.hdfs_model.specs.Opening.{AnswersDefaults}
+use Rattle.hdfs_namenode.specs.Clients.{KeepsAnswered, SameClient, defaults_of, name_of}
+use Rattle.hdfs_namenode.specs.declared.protocol.NamenodeProtocol.{NamenodeProtocol}
 use Rattle.hdfs_file_writer.specs.declared.file_writer.FileWriter.{FileWriter}
 use Rattle.hdfs_file_writer.specs.Tails.{Tail, Bare}
 use Rattle.hdfs_file_writer.specs.Writers.{IsAnswered, IsAnsweredTail, Stands, file_id_of, has_failed, path_of, tail_by, tail_of, tail_opened}
@@ -21,23 +24,49 @@ use Rattle.hdfs_commands.specs.Asking.{AreAnswered}
 use Rattle.hdfs_commands.specs.Session.{writer_of}
 use Rattle.hdfs_commands.specs.declared.session.Session.{Session}
 
+-- the defaults that are known were answered, by what is known of them
+pub keeps_known : (may_answer : Ask → Answer → Type 0) (namenode namenode' : NamenodeProtocol) (defaults : ServerDefaults)
+    → defaults_of namenode ≡ Some defaults → defaults_of namenode' ≡ Some defaults → KeepsAnswered may_answer namenode → KeepsAnswered may_answer namenode'
+keeps_known may_answer namenode namenode' defaults was is =
+    subst (λ (known : Option ServerDefaults). IfSome known (AnswersDefaults may_answer)) (was ∙ sym is)
+
+-- a client that knows what it knew
+pub keeps_same : (may_answer : Ask → Answer → Type 0) (namenode namenode' : NamenodeProtocol) → SameClient namenode namenode'
+    → KeepsAnswered may_answer namenode → KeepsAnswered may_answer namenode'
+keeps_same may_answer namenode namenode' same =
+    subst (λ (known : Option ServerDefaults). IfSome known (AnswersDefaults may_answer)) (sym same.defaults)
+
 -- with the same writers
 pub answered_same : {may_answer : Ask → Answer → Type 0} (session session' : Session) → name_of session'.namenode ≡ name_of session.namenode
-    → ((path : List ℕ) → writer_of session' path ≡ writer_of session path) → AreAnswered may_answer session → AreAnswered may_answer session'
-answered_same {may_answer} session session' name same answered path writer is =
-    subst (λ (client : List ℕ). IsAnswered may_answer client writer) (sym name) (answered path writer (sym (same path) ∙ is))
+    → ((path : List ℕ) → writer_of session' path ≡ writer_of session path) → KeepsAnswered may_answer session'.namenode → AreAnswered may_answer session
+    → AreAnswered may_answer session'
+answered_same {may_answer} session session' name same keeps answered = record {
+  files = λ path writer is.
+      subst (λ (client : List ℕ). IsAnswered may_answer client writer) (sym name) (answered.files path writer (sym (same path) ∙ is));
+  defaults = keeps;
+}
 
 -- with another one at a path, or none
 pub answered_put : {may_answer : Ask → Answer → Type 0} (session session' : Session) (path : List ℕ) (put : Option FileWriter)
     → name_of session'.namenode ≡ name_of session.namenode
     → ((other : List ℕ) → writer_of session' other ≡ cond (bytes_eq path other) put (writer_of session other))
-    → IfSome put (IsAnswered may_answer (name_of session.namenode)) → AreAnswered may_answer session → AreAnswered may_answer session'
-answered_put {may_answer} session session' path put name puts here answered other writer is =
-    subst (λ (client : List ℕ). IsAnswered may_answer client writer) (sym name) (by (bytes_eq path other) (sym (puts other) ∙ is))
+    → IfSome put (IsAnswered may_answer (name_of session.namenode)) → KeepsAnswered may_answer session'.namenode → AreAnswered may_answer session
+    → AreAnswered may_answer session'
+answered_put {may_answer} session session' path put name puts here keeps answered = record {
+  files = λ other writer is.
+      subst (λ (client : List ℕ). IsAnswered may_answer client writer) (sym name) (by other writer (bytes_eq path other) (sym (puts other) ∙ is));
+  defaults = keeps;
+}
   where
-    by : (b : Bool) → cond b put (writer_of session other) ≡ Some writer → IsAnswered may_answer (name_of session.namenode) writer
-    by true at = subst (λ (o : Option FileWriter). IfSome o (IsAnswered may_answer (name_of session.namenode))) at here
-    by false at = answered other writer at
+    by : (other : List ℕ) (writer : FileWriter) (b : Bool) → cond b put (writer_of session other) ≡ Some writer
+        → IsAnswered may_answer (name_of session.namenode) writer
+    by other writer true at = subst (λ (o : Option FileWriter). IfSome o (IsAnswered may_answer (name_of session.namenode))) at here
+    by other writer false at = answered.files other writer at
+
+-- the defaults that a session has asked for were answered
+pub had_answered : (may_answer : Ask → Answer → Type 0) (namenode : NamenodeProtocol) (defaults : ServerDefaults) → defaults_of namenode ≡ Some defaults
+    → KeepsAnswered may_answer namenode → AnswersDefaults may_answer defaults
+had_answered may_answer namenode defaults is = subst (λ (known : Option ServerDefaults). IfSome known (AnswersDefaults may_answer)) is
 
 -- a writer writes no block whose last one isn't being written
 not_going : (going : Option BlockWriter) (reopened block : Option LocatedBlock) (last : Option Block) → tail_by going reopened last ≡ tail_opened block None

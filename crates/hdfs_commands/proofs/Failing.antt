@@ -13,7 +13,7 @@ use Rattle.hdfs_cluster.specs.declared.errors.HdfsError.TheVariants as errors
 use Rattle.hdfs_cluster.specs.declared.messages.ServerDefaults.{ServerDefaults}
 use Rattle.hdfs_cluster.specs.declared.picture.LastAnswer.TheVariants as last_answers
 use Rattle.hdfs_cluster.specs.Failures.{CallsRose}
-use Rattle.hdfs_model.specs.Causes.{CanMeetEncryption, Cause, CommandLost, Tells, UsesDefaults}
+use Rattle.hdfs_model.specs.Causes.{CanMeetEncryption, Cause, CommandLost, Tells, UsesDefaults, WantsFile}
 use Rattle.hdfs_cluster.specs.Files.{State}
 use Rattle.hdfs_cluster.specs.Namenode.{MayBeDone}
 use Rattle.hdfs_cluster.specs.Picture.{Picture, SameButActive, SameFiles, kinds}
@@ -182,7 +182,7 @@ unkept_acts command opens s m t session session' session'' stands prepares write
     late_acts command opens s m session session' stands prepares t session'' writers remembers ask path (λ state. called) over errors.NoMemory refl looks (tt, (tt, tt)) (λ state ready p told. ((tt, tt), done p told))
 
 -- no status of the file was answered, of which an answer over a told picture always tells
-pub unstated_acts : (command : Command) → Opens command → (name : List ℕ) → name ≡ path_of command → (s m t : Shown) (session session' session'' : Session) → Stands s session → Prepares s session m session'
+pub unstated_acts : (command : Command) → Opens command → (name : List ℕ) → (name ≡ path_of command) × WantsFile command → (s m t : Shown) (session session' session'' : Session) → Stands s session → Prepares s session m session'
     → ((r : List ℕ) → writer_of session'' r ≡ writer_of session' r) → Remembers session' session'' → (ask : Ask) (path : List ℕ) → target_of (world_at session s) command ≡ path
     → ((state : State) → IsReady s session state command → (p : Picture) → m.picture ≡ Some p → Over p (world_at session s) state command path ask) → OnlyLooks m t → t.last ≡ last_answers.Fine
     → ((p : Picture) → m.picture ≡ Some p → ⊥) → Acts command s session t (after {T = Reply} session'' (Err (errors.FileNotFound name))) (Err (errors.FileNotFound name))

@@ -1,11 +1,8 @@
 mod AbandonFiles
 mod Abandoning
 mod Acted
-pub mod Agreeing
-pub mod Allowing
 mod Answered
 mod Asking
-pub mod Avoiding
 mod Begun
 mod Beside
 mod Causing
@@ -19,26 +16,23 @@ mod Links
 mod LookedUp
 mod Lost
 mod Moved
-pub mod OneFile
-pub mod Onward
 mod OpenFiles
 mod Opening
 mod Owing
 mod Planting
 mod Prepared
-mod ReadActs
 mod Ranging
+mod ReadActs
+mod Refused
 mod Refusing
 mod SendActs
 mod SendFails
-pub mod Since
 mod Sized
 mod Sizing
 mod Starting
 mod Stepping
 mod Still
 mod Tallying
-pub mod WholeBeside
 mod WholeOpening
 mod WholeStarting
 mod WholeWriting
@@ -46,3 +40,10 @@ mod WithWriting
 mod WriteActs
 mod WriteEnds
 mod WriteFaults
+pub mod Agreeing
+pub mod Allowing
+pub mod Avoiding
+pub mod OneFile
+pub mod Onward
+pub mod Since
+pub mod WholeBeside

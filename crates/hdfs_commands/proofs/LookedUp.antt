@@ -22,7 +22,7 @@ tells_from-TellsAsk name from len old new e tells = (ask_can_end (commands.Read 
 pub tells_looked : (name : List ℕ) (from len : ℕ) (old new : Shown) (e : HdfsError) → TellsLookUp name old e new
     → IsNotOwed e × Tells (commands.Read name from len) old new e
 tells_looked name from len old new e (inl missing) =
-    subst (λ (x : HdfsError). IsNotOwed x × Tells (commands.Read name from len) old new x) (sym missing.0) (tt, (refl, (missing.1, tt)))
+    subst (λ (x : HdfsError). IsNotOwed x × Tells (commands.Read name from len) old new x) (sym missing.0) (tt, ((refl, tt), (missing.1, tt)))
 tells_looked name from len old new e (inr asked) = (ask_not_owed old new e asked, tells_from-TellsAsk name from len old new e asked)
 
 -- links that stay are read links that stay

@@ -159,12 +159,3 @@ module _ (name : List ℕ) (offset len length : ℕ) (s m t : Shown) (b c : Name
   lacks_early e (inl behind) still early = still behind.1
   lacks_early e (inr (inl lacking)) still early = lacking.1
   lacks_early e (inr (inr fails)) still early = absurd (not_early (commands.Read name offset len) (λ byte. 0 < len) e fails early)
-
--- of a range that is refused, by the error that tells it
-pub short_of : (offset len length total : ℕ) (m : Shown) (b : NamenodeProtocol) (e : HdfsError) (t : Shown) (c : NamenodeProtocol) → LacksRange total offset len m b e t c
-    → e ≡ errors.InvalidArgument (args.Range offset len length) → (length ≡ total) × (length < offset + len)
-short_of offset len length total m b e t c (inl behind) is =
-    let same : length ≡ total = cc (behind.0, is) in (same, subst (λ (l : ℕ). l < offset + len) (sym same) behind.1)
-short_of offset len length total m b e t c (inr (inl (inl asked, nodes))) is = absurd (subst IsOfAsk is asked.0)
-short_of offset len length total m b e t c (inr (inl (inr moves, nodes))) is = absurd (cc (moves.0, is))
-short_of offset len length total m b e t c (inr (inr fails)) is = absurd (subst (FailsAt (λ byte. 0 < len)) is fails)

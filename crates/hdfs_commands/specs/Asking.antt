@@ -12,17 +12,17 @@ use Rattle.hdfs_model.specs.Limits.{are_options}
 use Rattle.hdfs_model.specs.Owing.{is_misplaced}
 use Rattle.hdfs_model.specs.Steps.{path_of}
 use Rattle.hdfs_names.specs.Paths.{absolute, is_path}
-use Rattle.hdfs_namenode.specs.Clients.{client_name, name_of}
+use Rattle.hdfs_namenode.specs.Clients.{KeepsAnswered, client_name, name_of}
 use Rattle.hdfs_file_reader.specs.Files.{LetsReadFile}
 use Rattle.hdfs_file_writer.specs.Writers.{IsAnswered}
 use Rattle.hdfs_file_writer.specs.declared.file_writer.FileWriter.{FileWriter}
-use Rattle.hdfs_model.specs.Opening.{LetsAppend, LetsCreate}
+use Rattle.hdfs_model.specs.Opening.{AnswersDefaults, LetsAppend, LetsCreate}
 use Rattle.hdfs_commands.specs.Session.{has_failed, opened_of, settings_of, writer_of}
 use Rattle.hdfs_commands.specs.declared.session.Session.{Session}
 
 -- what a command may ask for at a path, in the name of a client
 abbrev pub LetsAt : (Request → Type 0) → (Ask → Answer → Type 0) → List ℕ → List ℕ → Command → Type 0
-LetsAt allows may_answer client path (commands.Create name options) = are_options options ≡ true → LetsCreate allows may_answer client path options
+LetsAt allows may_answer client path (commands.Create name options) = are_options options ≡ true → LetsCreate allows may_answer (AnswersDefaults may_answer) client path options
 LetsAt allows may_answer client path (commands.Append name) = LetsAppend allows may_answer client path
 LetsAt allows may_answer client path (commands.Write name bytes) =
     (file_id : Option ℕ) → IsAnsweredId may_answer client path file_id → LetsWrite allows may_answer client path file_id
@@ -49,7 +49,7 @@ LetsPlaced allows may_answer session command =
 abbrev pub LetsApply : (Request → Type 0) → (Ask → Answer → Type 0) → Session → Command → Type 0
 LetsApply allows may_answer session command = has_failed session ≡ false → LetsPlaced allows may_answer session command
 
--- the files that a session has open were answered to it, and so were the blocks that it writes
-abbrev pub AreAnswered : (Ask → Answer → Type 0) → Session → Type 0
-AreAnswered may_answer session = (path : List ℕ) (writer : FileWriter) → writer_of session path ≡ Some writer
-    → IsAnswered may_answer (name_of session.namenode) writer
+-- the files that a session has open were answered to it, the blocks that it writes, and the cluster's defaults, if it knows any
+pub record AreAnswered (may_answer : Ask → Answer → Type 0) (session : Session) : Type 0 where
+  pub files : (path : List ℕ) (writer : FileWriter) → writer_of session path ≡ Some writer → IsAnswered may_answer (name_of session.namenode) writer
+  pub defaults : KeepsAnswered may_answer session.namenode

@@ -44,7 +44,7 @@ pub record HasDefaults (old : Shown) (session session' : Session) (defaults : Se
   pub known : defaults_known session' ≡ Some defaults
   pub told : AreTold old (defaults_known session) defaults
 
--- why there are none: they were asked for in vain, or they are out of their limits
+-- Why there are none: they were asked for in vain, or they are out of their limits. (That these were answered the session's calls say.)
 abbrev pub LacksDefaults : Shown → Session → HdfsError → Shown → Type 0
 LacksDefaults old session error new =
     AskedInVain old error new

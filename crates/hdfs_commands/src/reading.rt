@@ -10,7 +10,7 @@ ghost use Rattle.hdfs_cluster.specs.Files.{State};
 ghost use Rattle.hdfs_cluster.specs.Shown.{SameLinks};
 ghost use Rattle.hdfs_cluster.specs.Stores.{Agrees};
 ghost use Rattle.hdfs_namenode.specs.Asked.{ReachesAll};
-ghost use Rattle.hdfs_namenode.specs.Clients.{defaults_of, proxy_of};
+ghost use Rattle.hdfs_namenode.specs.Clients.{KeepsAnswered, defaults_of, name_of, proxy_of};
 ghost use Rattle.hdfs_file_reader.specs.Files.{LetsReadFile};
 ghost use Rattle.hdfs_file_reader.specs.Looking.{FilesStay};
 ghost use Rattle.hdfs_commands.specs.Meeting.{AsksOn, KnowsWorld, Meets};
@@ -22,7 +22,7 @@ use hdfs_model::Reply;
 use hdfs_wire::Text;
 
 impl Session {
-    ghost use Rattle.hdfs_commands.specs.Refusing.{IsRangeOf};
+    ghost use Rattle.hdfs_commands.specs.Refusing.{IsAnsweredSo};
 
     /// Reads `len` bytes from `offset` of the file at a path, which a command calls `name`. Where the file is encrypted, the range isn't
     /// within it, or data is to be encrypted on its way, no block is opened.
@@ -36,6 +36,7 @@ impl Session {
     ) -> Result<Reply, HdfsError>
         requires reaches { ReachesAll (proxy_of self.old.namenode) (C.shown cluster.old) }
         requires allowed { LetsReadFile C.allows C.may_answer path.now len }
+        requires answered { KeepsAnswered C.may_answer self.old.namenode }
         ensures anywhere { Applies (commands.Read name.now offset len)
             (C.shown cluster.old) (C.shown cluster.new) result }
         ensures links { SameLinks (C.shown cluster.old) (C.shown cluster.new) }
@@ -54,7 +55,9 @@ impl Session {
             × Agrees (C.shown cluster.new).picture state.files) }
         ensures client { AsksOn path.now
             (C.shown cluster.old) self.old.namenode (C.shown cluster.new) self.new.namenode }
-        ensures plain { IfErr result (IsRangeOf C.may_answer path.now offset len) }
+        ensures answered { KeepsAnswered C.may_answer self.new.namenode }
+        ensures refused { IfErr result (IsAnsweredSo C.may_answer (name_of self.old.namenode) path.now
+            (commands.Read name.now offset len)) }
         ensures kept { self.new ≡ record self.old { connections = self.new.connections; namenode = self.new.namenode } }
     {
         let found = locate(self.alloc, cluster, &mut self.namenode, name, path)?;

@@ -36,6 +36,7 @@ pub struct Session {
 
 impl Session {
     ghost use Rattle.hdfs_commands.specs.Asking.{AreAnswered, LetsApply, LetsPlaced};
+    ghost use Rattle.hdfs_commands.specs.Refusing.{RefusedSo};
     ghost use Rattle.hdfs_commands.specs.Session.{settings_of, has_failed, opened_of, writer_of, defaults_known, after, CarriesOpen, LeavesFiles, HasLink, Stands, IsNotBegun};
     ghost use Rattle.hdfs_commands.specs.Whole.{KeepsBlocksWhole};
 
@@ -111,6 +112,7 @@ impl Session {
         ensures owed { IfErr result (Owed (world_at self.old (C.shown cluster.old)) (opened_of self.old) command.now) }
         ensures keeps { (settings_of self.new ≡ settings_of self.old) × (has_failed self.new ≡ false) }
         ensures answered { AreAnswered C.may_answer self.new }
+        ensures refused { IfErr result (RefusedSo C.may_answer self.old command.now) }
     {
         let path = self.target(command)?;
         if !self.is_placed(command, path.as_str()) {
@@ -174,6 +176,7 @@ impl Session {
         ensures fails { (OnErr result (has_failed self.new ≡ true)) × (OnOk result (has_failed self.new ≡ false)) }
         ensures keeps { (settings_of self.new ≡ settings_of self.old) × Stands (C.shown cluster.new) self.new }
         ensures answered { AreAnswered C.may_answer self.new }
+        ensures refused { has_failed self.old ≡ false → IfErr result (RefusedSo C.may_answer self.old command.now) }
     {
         if self.failed {
             return Err(HdfsError::Failed);

@@ -6,8 +6,11 @@ ghost use Rattle.std.specs.Str.{bytes_eq};
 ghost use Rattle.hdfs_cluster.specs.Requests.{AskOf, IsAnsweredId, LetsClose, LetsWrite, id_in};
 ghost use Rattle.hdfs_cluster.specs.declared.asks.Ask.TheVariants as asks;
 ghost use Rattle.hdfs_model.specs.Limits.{are_options};
-ghost use Rattle.hdfs_model.specs.Opening.{LetsAppend, LetsCreate, appending, create_flag, creating};
+ghost use Rattle.hdfs_model.specs.Opening.{AnswersDefaults, LetsAppend, LetsCreate, appending, create_flag, creating};
+ghost use Rattle.hdfs_cluster.specs.Limits.{are_defaults};
 ghost use Rattle.hdfs_cluster.specs.declared.asks.Answer.TheVariants as answers;
+ghost use Rattle.hdfs_cluster.specs.declared.errors.ArgFault.TheVariants as args;
+ghost use Rattle.hdfs_cluster.specs.declared.errors.HdfsError.TheVariants as errors;
 ghost use Rattle.hdfs_model.specs.declared.commands.Command.TheVariants as Command;
 ghost use Rattle.hdfs_cluster.specs.Namenode.{IsToWrite};
 ghost use Rattle.hdfs_names.specs.Paths.{is_path, absolute};
@@ -79,6 +82,7 @@ impl Session {
     ghost use Rattle.hdfs_commands.specs.Asking.{AreAnswered};
     ghost use Rattle.hdfs_commands.specs.Encrypted.{OnlyAsked};
     ghost use Rattle.hdfs_commands.specs.Preparing.{HasDefaults, LacksDefaults, Prepares, sizes_by};
+    ghost use Rattle.hdfs_commands.specs.Refusing.{IsAnsweredSo, SomeDefaults};
     ghost use Rattle.hdfs_commands.specs.Session.{settings_of, has_failed, opened_of, after, Stands};
     ghost use Rattle.hdfs_commands.specs.Whole.{KeepsBlocksWhole};
 
@@ -86,9 +90,13 @@ impl Session {
     fn defaults<C: Cluster>(&mut self, cluster: &mut C) -> Result<ServerDefaults, HdfsError>
         requires stands { Stands (C.shown cluster.old) self.old }
         requires allowed { C.allows (AskOf asks.GetServerDefaults) }
+        requires answered { AreAnswered C.may_answer self.old }
         ensures prepares { Prepares (C.shown cluster.old) self.old (C.shown cluster.new) self.new }
+        ensures answered { AreAnswered C.may_answer self.new }
         ensures ok { IfOk result (HasDefaults (C.shown cluster.old) self.old self.new) }
         ensures err { IfErr result (λ error. LacksDefaults (C.shown cluster.old) self.old error (C.shown cluster.new)) }
+        ensures refused { IfErr result (λ error. error ≡ errors.InvalidArgument args.Defaults
+            → SomeDefaults C.may_answer (λ defaults. are_defaults defaults ≡ false)) }
     {
         let defaults = self.namenode.get_cached_server_defaults(cluster)?;
         if !defaults.are_limited() {
@@ -124,7 +132,9 @@ impl Session {
         defaults: &ServerDefaults,
     ) -> Result<Option<FileStatusMsg>, HdfsError>
         requires reaches { ReachesAll (proxy_of self.old.namenode) (C.shown cluster.old) }
-        requires allowed { LetsCreate C.allows C.may_answer (name_of self.old.namenode) path.now options.now }
+        requires allowed { LetsCreate C.allows C.may_answer (AnswersDefaults C.may_answer) (name_of self.old.namenode)
+            path.now options.now }
+        requires defaults { AnswersDefaults C.may_answer defaults.now × (are_defaults defaults.now ≡ true) }
         ensures came { Came (C.shown cluster.old) (creating path.now (name_of self.old.namenode) options.now
             (unwrap_or options.now.replication defaults.now.replication)
             (unwrap_or options.now.block_size defaults.now.block_size))
@@ -176,7 +186,8 @@ impl Session {
         requires path { is_path path ≡ true }
         requires placed { opened_of self.old path ≡ false }
         requires allowed { are_options options.now ≡ true
-            → LetsCreate C.allows C.may_answer (name_of self.old.namenode) path options.now }
+            → LetsCreate C.allows C.may_answer (AnswersDefaults C.may_answer) (name_of self.old.namenode) path
+            options.now }
         requires answered { AreAnswered C.may_answer self.old }
         ensures acts { (name : List ℕ) → absolute (settings_of self.old).home name ≡ path
             → Acts (Command.Create name options.now) (C.shown cluster.old) self.old (C.shown cluster.new)
@@ -187,6 +198,8 @@ impl Session {
         ensures owed { IfErr result IsNotOwed }
         ensures keeps { (settings_of self.new ≡ settings_of self.old) × (has_failed self.new ≡ false) }
         ensures answered { AreAnswered C.may_answer self.new }
+        ensures refused { (name : List ℕ) → IfErr result (IsAnsweredSo C.may_answer (name_of self.old.namenode) path
+            (Command.Create name options.now)) }
     {
         if !options.are_limited() {
             return Err(HdfsError::InvalidArgument(ArgFault::Options));
@@ -230,6 +243,8 @@ impl Session {
         ensures owed { IfErr result IsNotOwed }
         ensures keeps { (settings_of self.new ≡ settings_of self.old) × (has_failed self.new ≡ false) }
         ensures answered { AreAnswered C.may_answer self.new }
+        ensures refused { IfErr result (IsAnsweredSo C.may_answer (name_of self.old.namenode) path
+            (Command.Append name.now)) }
     {
         let defaults = self.defaults(cluster)?;
         let key = String::from_str(self.alloc, path.as_str())?;

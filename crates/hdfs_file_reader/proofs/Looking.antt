@@ -1,12 +1,13 @@
 -- What an ask for the blocks of a closed file says of the picture.
 use Rattle.std.proofs.Common.{◌≡◌, ◌⊎◌, inl, inr, ⊎_elim, ℕ, List, Option, Some, None, Result, Ok, Err, refl, ◌∙◌}
 use Rattle.hdfs_cluster.specs.declared.messages.LocatedBlocks.{LocatedBlocks}
+use Rattle.hdfs_cluster.specs.declared.asks.Ask.{Ask}
 use Rattle.hdfs_cluster.specs.declared.asks.Ask.TheVariants as asks
 use Rattle.hdfs_cluster.specs.declared.asks.Answer.{Answer}
 use Rattle.hdfs_cluster.specs.declared.asks.Answer.TheVariants as answers
 use Rattle.hdfs_cluster.specs.declared.errors.HdfsError.{HdfsError}
 use Rattle.hdfs_cluster.specs.declared.errors.HdfsError.TheVariants as errors
-use Rattle.hdfs_cluster.specs.Failures.{CallsRose}
+use Rattle.hdfs_cluster.specs.Failures.{CallsRose, IsOfAsk}
 use Rattle.hdfs_cluster.specs.Effects.{KeepsBytes}
 use Rattle.hdfs_cluster.specs.Namenode.{AsksWhole, Locates, Row, IsNoFile}
 use Rattle.hdfs_cluster.specs.Picture.{Picture, SameFiles, SameButActive, Told}
@@ -16,7 +17,7 @@ use Rattle.hdfs_cluster.proofs.Frames.{later_refl, later_trans, same_files_trans
 use Rattle.hdfs_cluster.proofs.Repeating.{locations_repeats}
 use Rattle.hdfs_namenode.specs.Relaying.{Came, RefusedBy}
 use Rattle.hdfs_namenode.proofs.Relayed.{relayed_done, relayed_row}
-use Rattle.hdfs_file_reader.specs.Looking.{FilesStay, IsClosed, OnlyLooks}
+use Rattle.hdfs_file_reader.specs.Looking.{AnswersLookUp, FilesStay, IsClosed, OnlyLooks}
 
 -- a look-up by its row leaves the picture, but for which namenode is active
 row_same : (p q : Picture) (src : List ℕ) (offset length : ℕ) (answer : Answer) → Row p (asks.GetBlockLocations src offset length) answer q → SameButActive p q
@@ -28,6 +29,11 @@ row_same p q src offset length answer row = absurd row
 done_same : (p q : Picture) (src : List ℕ) (offset length : ℕ) → DoneOrNot (asks.GetBlockLocations src offset length) p q → SameFiles p q
 done_same p q src offset length (inl same) = same.files
 done_same p q src offset length (inr done) = (row_same p q src offset length done.0 done.2).files
+
+-- an error of an ask says nothing of what was answered
+pub answered_in_vain : (may_answer : Ask → Answer → Type 0) (path : List ℕ) (error : HdfsError) → IsOfAsk error → AnswersLookUp may_answer path (Err error)
+answered_in_vain may_answer path (errors.FileNotFound name) of = absurd of
+answered_in_vain may_answer path error of = tt
 
 pub looks_refl : (a : Shown) → OnlyLooks a a
 looks_refl a = record { later = later_refl a; links = same_links_refl a; nodes = λ d. refl }

@@ -1,6 +1,7 @@
 -- A look-up of the blocks of a file.
-use Rattle.std.specs.Prelude.{◌≡◌, ◌⊎◌, ◌<◌, ◌-◌, ◌^◌, ℕ, List, Some, Result, IfOk, IfErr}
+use Rattle.std.specs.Prelude.{◌≡◌, ◌⊎◌, ◌<◌, ◌-◌, ◌^◌, ℕ, List, Some, None, Result, Ok, Err, IfOk, IfErr}
 use Rattle.hdfs_cluster.specs.declared.asks.Answer.{Answer}
+use Rattle.hdfs_cluster.specs.declared.asks.Answer.TheVariants as answers
 use Rattle.hdfs_cluster.specs.declared.asks.Ask.{Ask}
 use Rattle.hdfs_cluster.specs.declared.asks.Ask.TheVariants as asks
 use Rattle.hdfs_cluster.specs.declared.errors.HdfsError.{HdfsError}
@@ -44,6 +45,13 @@ pub record AreBlocksOf (found : LocatedBlocks) : Type 0 where
 -- ask has failed
 abbrev pub TellsLookUp : List ℕ → Shown → HdfsError → Shown → Type 0
 TellsLookUp name old error new = ((error ≡ errors.FileNotFound name) × (new.last ≡ last_answers.Fine)) ⊎ TellsAsk old new error
+
+-- what was answered to a look-up that gives these blocks, or says that there is no file
+abbrev pub AnswersLookUp : (Ask → Answer → Type 0) → List ℕ → Result LocatedBlocks HdfsError → Type 0
+AnswersLookUp may_answer path (Ok found) = may_answer (asks.GetBlockLocations path 0 (2 ^ 63 - 1)) (answers.GetBlockLocations (Some found))
+AnswersLookUp may_answer path (Err (errors.FileNotFound name)) =
+    may_answer (asks.GetBlockLocations path 0 (2 ^ 63 - 1)) (answers.GetBlockLocations None)
+AnswersLookUp may_answer path (Err error) = Unit {0}
 
 -- why there are none, over a told picture: no file is there; or an ask failed, for want of memory, since it was refused, or since a namenode
 -- has failed

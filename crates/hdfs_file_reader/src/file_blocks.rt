@@ -5,7 +5,7 @@ ghost use Rattle.hdfs_cluster.specs.Requests.{AskOf};
 ghost use Rattle.hdfs_cluster.specs.Shown.{OnlyReads};
 ghost use Rattle.hdfs_cluster.specs.declared.asks.Ask.TheVariants as asks;
 ghost use Rattle.hdfs_namenode.specs.Asked.{IsServiceOf, ReachesAll};
-ghost use Rattle.hdfs_namenode.specs.Clients.{defaults_of, proxy_of};
+ghost use Rattle.hdfs_namenode.specs.Clients.{KeepsAnswered, defaults_of, proxy_of};
 ghost use Rattle.hdfs_file_reader.specs.Ranges.{Stored};
 ghost use Rattle.hdfs_file_reader.specs.Transferring.{MayMove, Unsupported};
 
@@ -94,6 +94,7 @@ impl FileBlocks {
         ensures idle { len ≡ 0 → (cluster.new ≡ cluster.old) × (namenode.new ≡ namenode.old) }
         ensures known { IfSome (defaults_of namenode.old) (λ _.
             OnlyReads (C.shown cluster.old) (C.shown cluster.new) × (namenode.new ≡ namenode.old)) }
+        ensures answered { KeepsAnswered C.may_answer namenode.old → KeepsAnswered C.may_answer namenode.new }
         ensures leaves { OnlyReadsFile (C.shown cluster.old) namenode.old (C.shown cluster.new) namenode.new }
 
         // over a told picture, where it asks all namenodes of the cluster

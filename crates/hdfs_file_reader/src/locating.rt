@@ -4,8 +4,7 @@ ghost use Rattle.hdfs_cluster.specs.Namenode.{Locates};
 ghost use Rattle.hdfs_cluster.specs.Picture.{Picture};
 ghost use Rattle.hdfs_cluster.specs.Requests.{AskOf};
 ghost use Rattle.hdfs_cluster.specs.declared.asks.Ask.TheVariants as asks;
-ghost use Rattle.hdfs_cluster.specs.declared.asks.Answer.TheVariants as answers;
-ghost use Rattle.hdfs_file_reader.specs.Looking.{AreBlocksOf, FilesStay, IsClosed, LacksBlocks, OnlyLooks, TellsLookUp};
+ghost use Rattle.hdfs_file_reader.specs.Looking.{AnswersLookUp, AreBlocksOf, FilesStay, IsClosed, LacksBlocks, OnlyLooks, TellsLookUp};
 ghost use Rattle.hdfs_namenode.specs.Asked.{ReachesAll};
 ghost use Rattle.hdfs_namenode.specs.Clients.{SameClient, proxy_of};
 
@@ -35,8 +34,7 @@ pub fn locate<C: Cluster>(
     ensures ok { IfOk result AreBlocksOf }
     ensures err { IfErr result (λ e. TellsLookUp name.now (C.shown cluster.old) e (C.shown cluster.new)) }
     ensures client { SameClient namenode.old namenode.new }
-    ensures answered { IfOk result (λ found. C.may_answer
-        (asks.GetBlockLocations path.now 0 (2 ^ 63 - 1)) (answers.GetBlockLocations (Some found))) }
+    ensures answered { AnswersLookUp C.may_answer path.now result }
 
     // over a told picture, where nobody writes the file
     ensures files { FilesStay path.now (C.shown cluster.old) (C.shown cluster.new) }

@@ -4,7 +4,7 @@ ghost use Rattle.hdfs_cluster.specs.Picture.{SameButActive, Told};
 ghost use Rattle.hdfs_cluster.specs.Requests.{AskOf};
 ghost use Rattle.hdfs_cluster.specs.declared.asks.Ask.TheVariants as asks;
 ghost use Rattle.hdfs_namenode.specs.Asked.{IsServiceOf, ReachesAll};
-ghost use Rattle.hdfs_namenode.specs.Clients.{defaults_of, proxy_of};
+ghost use Rattle.hdfs_namenode.specs.Clients.{KeepsAnswered, defaults_of, proxy_of};
 ghost use Rattle.hdfs_file_reader.specs.Looking.{OnlyLooks};
 ghost use Rattle.hdfs_file_reader.specs.Transferring.{LacksTransfer, MayMove, SameButKnown, StaysKnown};
 
@@ -27,6 +27,7 @@ pub(crate) fn allow_transfer<C: Cluster>(
     ensures none { len ≡ 0 → (cluster.new ≡ cluster.old) × (namenode.new ≡ namenode.old) }
     ensures known { IfSome (defaults_of namenode.old)
         (λ _. (cluster.new ≡ cluster.old) × (namenode.new ≡ namenode.old)) }
+    ensures answered { KeepsAnswered C.may_answer namenode.old → KeepsAnswered C.may_answer namenode.new }
     ensures ok { OnOk result (MayMove len namenode.new) }
     ensures err { IfErr result (λ error. LacksTransfer len
         (C.shown cluster.old) namenode.old error (C.shown cluster.new) namenode.new) }

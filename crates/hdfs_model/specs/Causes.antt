@@ -86,6 +86,12 @@ CanMeetEncryption (commands.Write path bytes) = bytes ≢ []
 CanMeetEncryption (commands.Close path) = ⊥
 CanMeetEncryption command = Unit {0}
 
+-- the command wants a file that is there and isn't open
+abbrev pub WantsFile : Command → Type 0
+WantsFile (commands.Append path) = Unit {0}
+WantsFile (commands.Read path offset len) = Unit {0}
+WantsFile command = ⊥
+
 -- the command uses the cluster's defaults
 abbrev pub UsesDefaults : Command → Type 0
 UsesDefaults (commands.Create path options) = Unit {0}
@@ -126,7 +132,7 @@ CanEnd command (errors.InvalidArgument args.Defaults) = UsesDefaults command
 CanEnd command (errors.InvalidArgument (args.Range offset len length)) = Asks command offset len × (length < offset + len)
 CanEnd command (errors.OperationFailed name) = IsClose command
 CanEnd command (errors.UnsupportedFeature features.Encryption) = CanMeetEncryption command
-CanEnd command (errors.FileNotFound path) = path ≡ path_of command
+CanEnd command (errors.FileNotFound path) = (path ≡ path_of command) × WantsFile command
 CanEnd command error = IsOfAsk error
 
 -- What holds of an error of a command over any cluster, told or not, from what is shown before the command, or before an

@@ -7,6 +7,7 @@ use Rattle.hdfs_cluster.specs.declared.asks.Ask.TheVariants as asks
 use Rattle.hdfs_cluster.specs.declared.messages.Appended.{Appended}
 use Rattle.hdfs_cluster.specs.declared.messages.FileStatusMsg.{FileStatusMsg}
 use Rattle.hdfs_cluster.specs.declared.messages.ServerDefaults.{ServerDefaults}
+use Rattle.hdfs_cluster.specs.Limits.{are_defaults}
 use Rattle.hdfs_cluster.specs.Requests.{Request, AskOf, LetsClose, id_in}
 use Rattle.hdfs_model.specs.declared.commands.WriteOptions.{WriteOptions}
 
@@ -28,10 +29,16 @@ abbrev pub tells_encryption : Option FileStatusMsg → Bool
 tells_encryption None = false
 tells_encryption (Some status) = is_some status.encryption
 
--- a new file: the cluster's defaults, the file with its options, and that it is deleted again where it was answered to be encrypted
-pub record LetsCreate (allows : Request → Type 0) (may_answer : Ask → Answer → Type 0) (client path : List ℕ) (options : WriteOptions) : Type 0 where
+-- these defaults of the cluster were answered
+abbrev pub AnswersDefaults : (Ask → Answer → Type 0) → ServerDefaults → Type 0
+AnswersDefaults may_answer defaults = may_answer asks.GetServerDefaults (answers.GetServerDefaults defaults)
+
+-- a new file: the cluster's defaults, the file with its options and with known defaults in their limits where they say nothing, and that it is
+-- deleted again where it was answered to be encrypted
+pub record LetsCreate (allows : Request → Type 0) (may_answer : Ask → Answer → Type 0) (Knows : ServerDefaults → Type 0) (client path : List ℕ)
+    (options : WriteOptions) : Type 0 where
   pub defaults : allows (AskOf asks.GetServerDefaults)
-  pub creates : (defaults : ServerDefaults) → allows (AskOf (creating path client options
+  pub creates : (defaults : ServerDefaults) → Knows defaults → are_defaults defaults ≡ true → allows (AskOf (creating path client options
       (unwrap_or options.replication defaults.replication) (unwrap_or options.block_size defaults.block_size)))
   pub deletes : (replication block_size : ℕ) (status : Option FileStatusMsg)
       → may_answer (creating path client options replication block_size) (answers.Create status) → tells_encryption status ≡ true

@@ -1,5 +1,9 @@
 -- The name of a client, the service that it asks, and what it knows.
-use Rattle.std.specs.Prelude.{◌≡◌, ℕ, List, ◌++◌, codes, Option}
+use Rattle.std.specs.Prelude.{◌≡◌, ℕ, List, ◌++◌, codes, Option, IfSome}
+use Rattle.hdfs_cluster.specs.declared.asks.Answer.{Answer}
+use Rattle.hdfs_cluster.specs.declared.asks.Answer.TheVariants as answers
+use Rattle.hdfs_cluster.specs.declared.asks.Ask.{Ask}
+use Rattle.hdfs_cluster.specs.declared.asks.Ask.TheVariants as asks
 use Rattle.hdfs_leases.specs.declared.file_leases.FileLeases.{FileLeases}
 use Rattle.hdfs_cluster.specs.declared.messages.EncryptionKey.{EncryptionKey}
 use Rattle.hdfs_cluster.specs.declared.messages.ServerDefaults.{ServerDefaults}
@@ -19,6 +23,10 @@ name_of namenode = namenode.client
 -- the server defaults that it has kept
 abbrev pub defaults_of : NamenodeProtocol → Option ServerDefaults
 defaults_of namenode = namenode.defaults
+
+-- the server defaults that it has kept, if any, were answered
+abbrev pub KeepsAnswered : (Ask → Answer → Type 0) → NamenodeProtocol → Type 0
+KeepsAnswered may_answer namenode = IfSome (defaults_of namenode) (λ kept. may_answer asks.GetServerDefaults (answers.GetServerDefaults kept))
 
 -- the key that it has kept
 abbrev pub key_of : NamenodeProtocol → Option EncryptionKey

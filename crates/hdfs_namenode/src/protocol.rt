@@ -29,7 +29,7 @@ pub struct NamenodeProtocol {
 }
 
 impl NamenodeProtocol {
-    ghost use Rattle.hdfs_namenode.specs.Clients.{SameClient, client_name, name_of, defaults_of, key_of, leases_of, proxy_of, through};
+    ghost use Rattle.hdfs_namenode.specs.Clients.{KeepsAnswered, SameClient, client_name, name_of, defaults_of, key_of, leases_of, proxy_of, through};
 
     /// Asks a name service in the name `hdfs_native_client-` and the client's sixteen bytes as a UUID.
     pub fn new(
@@ -139,6 +139,7 @@ impl NamenodeProtocol {
         ensures came { ReachesAll (proxy_of self.old) (C.shown cluster.old)
             → CameCached (defaults_of self.old) (C.shown cluster.old) result (C.shown cluster.new) }
         ensures kept { IfOk result (λ defaults. defaults_of self.new ≡ Some defaults) }
+        ensures answered { KeepsAnswered C.may_answer self.old → KeepsAnswered C.may_answer self.new }
         ensures err { OnErr result (defaults_of self.new ≡ None) }
         ensures held { (key_of self.new ≡ key_of self.old) × (leases_of self.new ≡ leases_of self.old) }
         ensures keeps { (name_of self.new ≡ name_of self.old) × SameService (proxy_of self.old) (proxy_of self.new) }

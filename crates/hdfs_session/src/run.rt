@@ -5,6 +5,7 @@ ghost use Rattle.hdfs_model.specs.Headline.{LeavesWhole, WhereReady, Ran};
 ghost use Rattle.hdfs_model.specs.Sessions.{world_of, none_open};
 ghost use Rattle.hdfs_model.specs.Limits.{are_settings};
 ghost use Rattle.hdfs_commands.specs.Asking.{Lets};
+ghost use Rattle.hdfs_commands.specs.Refusing.{IsRefusedSo};
 ghost use Rattle.hdfs_commands.specs.Session.{IsNotBegun, StopsAtOnce};
 
 use hdfs_cluster::{Cluster, HdfsError};
@@ -27,6 +28,7 @@ pub fn run_session<C: Cluster>(
     ensures settings { are_settings settings.now ≡ false → StopsAtOnce settings.now result
         × (cluster.new ≡ cluster.old) }
     ensures start { IfErr result (λ fault. fault.at ≡ 0 → IsNotBegun settings.now fault.error) }
+    ensures refused { IfErr result (IsRefusedSo C.may_answer settings.now commands.now) }
     ensures anywhere { Runs commands.now (C.shown cluster.old) (C.shown cluster.new) result }
     ensures ran { are_settings settings.now ≡ true → let old = C.shown cluster.old in
         let world = world_of settings.now old in

@@ -3,6 +3,7 @@ use Rattle.std.proofs.Common.{ℕ, List, Option}
 use Rattle.hdfs_cluster.specs.declared.asks.Answer.{Answer}
 use Rattle.hdfs_cluster.specs.declared.asks.Ask.{Ask}
 use Rattle.hdfs_cluster.specs.declared.messages.LocatedBlock.{LocatedBlock}
+use Rattle.hdfs_cluster.specs.declared.messages.ServerDefaults.{ServerDefaults}
 use Rattle.hdfs_cluster.specs.Requests.{Request, LetsClose, LetsWrite, LetsWriteBlock}
 use Rattle.hdfs_model.specs.Opening.{LetsAppend, LetsCreate}
 use Rattle.hdfs_model.specs.declared.commands.WriteOptions.{WriteOptions}
@@ -36,11 +37,11 @@ lets_close may_answer client path file_id all = record {
 }
 
 -- a new one
-pub lets_create : {allows : Request → Type 0} (may_answer : Ask → Answer → Type 0) (client path : List ℕ) (options : WriteOptions)
-    → ((request : Request) → allows request) → LetsCreate allows may_answer client path options
-lets_create may_answer client path options all = record {
+pub lets_create : {allows : Request → Type 0} (may_answer : Ask → Answer → Type 0) (Knows : ServerDefaults → Type 0) (client path : List ℕ)
+    (options : WriteOptions) → ((request : Request) → allows request) → LetsCreate allows may_answer Knows client path options
+lets_create may_answer Knows client path options all = record {
   defaults = all _;
-  creates = λ defaults. all _;
+  creates = λ defaults known limited. all _;
   deletes = λ replication block_size status answered encrypted. all _;
 }
 

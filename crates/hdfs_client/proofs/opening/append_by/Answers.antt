@@ -1,6 +1,11 @@
 -- The goals of append_by: the defaults, the ask, and the writer.
-use Rattle.std.proofs.Common.{◌≡◌, ℕ, true, List, Option, Some, None, Ok, refl, sym, ◌∙◌, ap, subst}
+use Rattle.std.proofs.Common.{◌≡◌, inl, inr, ℕ, true, List, Option, Some, None, Ok, Err, refl, sym, ◌∙◌, ap, subst}
+use Rattle.std.proofs.lemmas.Result.{err_from_is_err_and}
 use Rattle.std.specs.Prelude.{unwrap_or}
+use Rattle.hdfs_cluster.specs.declared.errors.HdfsError.{HdfsError}
+use Rattle.hdfs_cluster.specs.declared.errors.HdfsError.TheVariants as errors
+use Rattle.hdfs_model.specs.Opening.{tells_encryption}
+use Rattle.hdfs_client.specs.Opening.{FailsToAppend}
 use Rattle.hdfs_cluster.specs.declared.asks.Answer.TheVariants as answers
 use Rattle.hdfs_cluster.specs.declared.asks.Ask.{Ask}
 use Rattle.hdfs_cluster.specs.declared.asks.Ask.TheVariants as asks
@@ -124,3 +129,93 @@ refuse_opened-requires-clause-answered g c =
     c.appended-writer.ensures.idle.1 c.appended-writer.ensures.path.0
     (c.appended-writer.ensures.path.2 ∙ c.told_by-told.ensures.id ∙ sym (ap id_in c.in-Some.is)) c.appended-writer.ensures.tail
     (subst (λ (a : Ask). g.C.Cluster.may_answer a (answers.Append c.in_ok-block.field-0)) (going_on c.as_str.ensures refl) c.in_ok-block.ensures.answered))
+
+-- what isn't there is nothing
+no_some : (stat : Option FileStatusMsg) → ((status : FileStatusMsg) → stat ≡ Some status → ⊥) → stat ≡ None
+no_some None none = refl
+no_some (Some status) none = absurd (none status refl)
+
+pub returns-in_err-defaults-clause-err : goal.returns-in_err-defaults-clause-err
+returns-in_err-defaults-clause-err g c =
+    let p = err_from_is_err_and c.from_residual.result c.from_residual.ensures.1 in
+    rw (p.1, p.2) (inl c.in_err-defaults.ensures.err)
+
+pub returns-in_err-block-clause-err : goal.returns-in_err-block-clause-err
+returns-in_err-block-clause-err g c =
+    let p = err_from_is_err_and c.from_residual-in_err-block.result c.from_residual-in_err-block.ensures.1 in
+    let first = c.in_ok-defaults.ensures.keeps in
+    rw (p.1, p.2) (inr (record {
+      defaults = c.in_ok-defaults.defaults;
+      between = c.limited_defaults.new.namenode;
+      mid = c.limited_defaults.new.cluster;
+      knows = c.in_ok-defaults.ensures.knows;
+      why = inl (subst (λ (a : Ask). AskedOnce g.C.Cluster.serves true a (through c.limited_defaults.new.namenode c.limited_defaults.new.cluster)
+          (Err c.in_err-block.field-0.0) (through c.append.new.self c.append.new.cluster)) (going_on c.as_str.ensures first.0.name)
+          c.in_err-block.ensures.asked);
+    }))
+
+pub returns-in_default-clause-err : goal.returns-in_default-clause-err
+returns-in_default-clause-err g c =
+    let first = c.in_ok-defaults.ensures.keeps in
+    inr (record {
+      defaults = c.in_ok-defaults.defaults;
+      between = c.limited_defaults.new.namenode;
+      mid = c.limited_defaults.new.cluster;
+      knows = c.in_ok-defaults.ensures.knows;
+      why = inr (inl (record {
+        block = c.in_ok-block.field-0.block;
+        asked = subst (λ (a : Ask). AskedOnce g.C.Cluster.serves true a (through c.limited_defaults.new.namenode c.limited_defaults.new.cluster)
+            (Ok (answers.Append (record { block = c.in_ok-block.field-0.block; stat = None }))) (through c.append.new.self c.append.new.cluster)) (going_on c.as_str.ensures first.0.name)
+            (subst (λ (x : Appended). AskedOnce g.C.Cluster.serves true (asks.Append c.as_str.result.now c.limited_defaults.new.namenode.client 4)
+            (through c.limited_defaults.new.namenode c.limited_defaults.new.cluster) (Ok (answers.Append x)) (through c.append.new.self c.append.new.cluster))
+            (whole c.in_ok-block.field-0 c.in_ok-block.field-0.block None refl (no_some c.in_ok-block.field-0.stat c.in_default.not-Some))
+            c.in_ok-block.ensures.asked);
+        is = inl (ap errors.FileNotFound c.in_ok-from_str.ensures);
+      }));
+    })
+
+pub returns-in_err-from_str-clause-err : goal.returns-in_err-from_str-clause-err
+returns-in_err-from_str-clause-err g c =
+    let p = err_from_is_err_and c.from_residual-in_err-from_str.result c.from_residual-in_err-from_str.ensures.1 in
+    let first = c.in_ok-defaults.ensures.keeps in
+    rw (p.1, p.2) (inr (record {
+      defaults = c.in_ok-defaults.defaults;
+      between = c.limited_defaults.new.namenode;
+      mid = c.limited_defaults.new.cluster;
+      knows = c.in_ok-defaults.ensures.knows;
+      why = inr (inl (record {
+        block = c.in_ok-block.field-0.block;
+        asked = subst (λ (a : Ask). AskedOnce g.C.Cluster.serves true a (through c.limited_defaults.new.namenode c.limited_defaults.new.cluster)
+            (Ok (answers.Append (record { block = c.in_ok-block.field-0.block; stat = None }))) (through c.append.new.self c.append.new.cluster)) (going_on c.as_str.ensures first.0.name)
+            (subst (λ (x : Appended). AskedOnce g.C.Cluster.serves true (asks.Append c.as_str.result.now c.limited_defaults.new.namenode.client 4)
+            (through c.limited_defaults.new.namenode c.limited_defaults.new.cluster) (Ok (answers.Append x)) (through c.append.new.self c.append.new.cluster))
+            (whole c.in_ok-block.field-0 c.in_ok-block.field-0.block None refl (no_some c.in_ok-block.field-0.stat c.in_default.not-Some))
+            c.in_ok-block.ensures.asked);
+        is = inr refl;
+      }));
+    }))
+
+pub returns-then-told-clause-err : goal.returns-then-told-clause-err
+returns-then-told-clause-err g c =
+    let first = c.in_ok-defaults.ensures.keeps in
+    inr (record {
+      defaults = c.in_ok-defaults.defaults;
+      between = c.limited_defaults.new.namenode;
+      mid = c.limited_defaults.new.cluster;
+      knows = c.in_ok-defaults.ensures.knows;
+      why = inr (inr (record {
+        appended = c.in_ok-block.field-0;
+        between = c.append.new.self;
+        mid = c.append.new.cluster;
+        asked = subst (λ (a : Ask). AskedOnce g.C.Cluster.serves true a (through c.limited_defaults.new.namenode c.limited_defaults.new.cluster)
+            (Ok (answers.Append c.in_ok-block.field-0)) (through c.append.new.self c.append.new.cluster)) (going_on c.as_str.ensures first.0.name)
+            c.in_ok-block.ensures.asked;
+        encrypted = ap tells_encryption c.in-Some.is ∙ sym c.told_by-told.ensures.encrypted ∙ c.if-told.true;
+        writer = c.appended-writer.result;
+        at = c.appended-writer.ensures.path.0;
+        id = c.appended-writer.ensures.path.2 ∙ c.told_by-told.ensures.id ∙ sym (ap id_in c.in-Some.is);
+        stands = c.appended-writer.ensures.tail;
+        closes = c.refuse_opened.ensures.closes;
+        is = c.refuse_opened.ensures.is;
+      }));
+    })

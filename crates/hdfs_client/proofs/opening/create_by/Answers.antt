@@ -1,8 +1,10 @@
 -- The goals of create_by: the defaults, the ask, and the writer.
-use Rattle.std.proofs.Common.{◌≡◌, ℕ, true, Option, Ok, refl, sym, ◌∙◌, ap, subst}
+use Rattle.std.proofs.Common.{◌≡◌, inl, inr, ℕ, true, List, false, Option, Ok, Err, refl, sym, ◌∙◌, ap, subst}
+use Rattle.std.proofs.lemmas.Result.{err_from_is_err_and}
 use Rattle.std.specs.Prelude.{unwrap_or}
 use Rattle.hdfs_cluster.specs.declared.asks.Answer.TheVariants as answers
 use Rattle.hdfs_cluster.specs.declared.asks.Ask.{Ask}
+use Rattle.hdfs_cluster.specs.declared.asks.Ask.TheVariants as asks
 use Rattle.hdfs_file_writer.specs.Writers.{AreSizes}
 use Rattle.hdfs_file_writer.specs.declared.sizes.WriteSizes.{WriteSizes}
 use Rattle.hdfs_namenode.specs.Asked.{AskedOnce}
@@ -90,3 +92,48 @@ pub returns-clause-keeps : goal.returns-clause-keeps
 returns-clause-keeps g c =
     let first = c.in_ok-defaults.ensures.keeps in
     goes_trans first (name_from-client c.create.ensures.keeps, (c.create.ensures.came (goes_reaches first c.requires.reaches)).relays.leaves.later)
+
+pub returns-in_err-defaults-clause-err : goal.returns-in_err-defaults-clause-err
+returns-in_err-defaults-clause-err g c =
+    let p = err_from_is_err_and c.from_residual.result c.from_residual.ensures.1 in
+    rw (p.1, p.2) (inl c.in_err-defaults.ensures.err)
+
+pub returns-in_err-status-clause-err : goal.returns-in_err-status-clause-err
+returns-in_err-status-clause-err g c =
+    let p = err_from_is_err_and c.from_residual-in_err-status.result c.from_residual-in_err-status.ensures.1 in
+    let first = c.in_ok-defaults.ensures.keeps in
+    rw (p.1, p.2) (inr (record {
+      defaults = c.in_ok-defaults.defaults;
+      between = c.limited_defaults.new.namenode;
+      mid = c.limited_defaults.new.cluster;
+      knows = c.in_ok-defaults.ensures.knows;
+      why = inl (subst (λ (a : Ask). AskedOnce g.C.Cluster.serves true a (through c.limited_defaults.new.namenode c.limited_defaults.new.cluster)
+          (Err c.in_err-status.field-0.0) (through c.create.new.self c.create.new.cluster))
+          (making c.args.options.now c.as_str.ensures first.0.name c.create_flag.ensures c.unwrap_or-replication.ensures c.unwrap_or-block_size.ensures)
+          c.in_err-status.ensures.asked);
+    }))
+
+pub returns-then-told-clause-err : goal.returns-then-told-clause-err
+returns-then-told-clause-err g c =
+    let first = c.in_ok-defaults.ensures.keeps in
+    let refused = c.refuse_created.ensures in
+    inr (record {
+      defaults = c.in_ok-defaults.defaults;
+      between = c.limited_defaults.new.namenode;
+      mid = c.limited_defaults.new.cluster;
+      knows = c.in_ok-defaults.ensures.knows;
+      why = inr (record {
+        status = c.in_ok-status.status;
+        between = c.create.new.self;
+        mid = c.create.new.cluster;
+        asked = subst (λ (a : Ask). AskedOnce g.C.Cluster.serves true a (through c.limited_defaults.new.namenode c.limited_defaults.new.cluster)
+            (Ok (answers.Create c.in_ok-status.status)) (through c.create.new.self c.create.new.cluster))
+            (making c.args.options.now c.as_str.ensures first.0.name c.create_flag.ensures c.unwrap_or-replication.ensures c.unwrap_or-block_size.ensures)
+            c.in_ok-status.ensures.asked;
+        encrypted = sym c.told_by-told.ensures.encrypted ∙ c.if-told.true;
+        outcome = refused.deleted.0;
+        deleted = subst (λ (at : List ℕ). AskedOnce g.C.Cluster.serves true (asks.Delete at false) (through c.create.new.self c.create.new.cluster)
+            refused.deleted.0 (through c.refuse_created.new.namenode c.refuse_created.new.cluster)) c.as_str-then-told.ensures refused.deleted.1;
+        is = refused.is;
+      });
+    })

@@ -1,4 +1,9 @@
 -- The goals of limited_defaults.
+use Rattle.std.proofs.Common.{◌≡◌, inl, inr, refl, rules, sym, ◌∙◌}
+use Rattle.std.proofs.lemmas.Result.{err_from_is_err_and}
+use Rattle.hdfs_cluster.specs.declared.messages.ServerDefaults.{ServerDefaults}
+use Rattle.hdfs_namenode.specs.Clients.{defaults_of}
+use Rattle.hdfs_client.proofs.Known.{is_known, unknown}
 use Rattle.hdfs_client.proofs.Quiet.{quiet_by}
 use Rattle.hdfs_client.proofs.opening.limited_defaults.Goals as goal
 
@@ -10,3 +15,27 @@ returns-then-not-are_limited-clause-picture g c = (quiet_by (c.get_cached_server
 
 pub returns-clause-picture : goal.returns-clause-picture
 returns-clause-picture g c = (quiet_by (c.get_cached_server_defaults.ensures.came c.requires.reaches)).picture
+
+pub returns-in_err-defaults-clause-err : goal.returns-in_err-defaults-clause-err
+returns-in_err-defaults-clause-err g c =
+    let p = err_from_is_err_and c.from_residual.result c.from_residual.ensures.1 in
+    let had = c.in_err-defaults.ensures in
+    let none = unknown (defaults_of c.args.namenode.now) (g.C.Cluster.shown c.args.cluster.now) (g.C.Cluster.shown c.get_cached_server_defaults.new.cluster)
+    c.in_err-defaults.field-0.0 (had.came c.requires.reaches) in
+    rw (p.1, p.2) (inl (record { unknown = none; asked = had.asked none }))
+
+pub returns-then-not-are_limited-clause-err : goal.returns-then-not-are_limited-clause-err
+returns-then-not-are_limited-clause-err g c =
+    let had = c.in_ok-defaults.ensures in
+    inr (record {
+      defaults = c.in_ok-defaults.defaults;
+      has = record { known = λ kept is. (search rules); asked = had.asked };
+      unlimited = sym c.are_limited.ensures ∙ c.if-not-are_limited.true;
+      is = refl;
+    })
+
+pub returns-clause-known : goal.returns-clause-known
+returns-clause-known g c =
+    let had = c.in_ok-defaults.ensures in
+    is_known g.C.Cluster.may_answer c.args.namenode.now c.get_cached_server_defaults.new.self c.in_ok-defaults.defaults had.kept had.answered
+    (λ kept is. cc ((had.came c.requires.reaches).known kept is).0)

@@ -1,10 +1,11 @@
 -- What the ask of the namenodes says of the look-up.
-use Rattle.std.proofs.Common.{Option, Ok, ap, refl, inl, inr}
+use Rattle.std.proofs.Common.{◌-◌, ◌^◌, Option, Ok, ap, refl, inl, inr, subst}
+use Rattle.hdfs_cluster.specs.declared.asks.Ask.TheVariants as asks
 use Rattle.hdfs_cluster.specs.declared.asks.Answer.TheVariants as answers
 use Rattle.hdfs_cluster.specs.declared.errors.HdfsError.TheVariants as errors
 use Rattle.hdfs_cluster.specs.declared.messages.LocatedBlocks.{LocatedBlocks}
 use Rattle.hdfs_namenode.proofs.Relayed.{came_as}
-use Rattle.hdfs_file_reader.proofs.Looking.{only_looks, files_looked, found_looked, missing_looked, error_looked}
+use Rattle.hdfs_file_reader.proofs.Looking.{answered_in_vain, only_looks, files_looked, found_looked, missing_looked, error_looked}
 use Rattle.hdfs_file_reader.proofs.locating.locate.Goals as goal
 
 pub returns-in_ok-copy-in-Ok-None-clause-err : goal.returns-in_ok-copy-in-Ok-None-clause-err
@@ -58,3 +59,12 @@ returns-in-Ok-Some-clause-found g c = λ p told closed.
     found_looked {offset = 0} {length = 9223372036854775807}
     (came_as refl (ap (λ (found : Option LocatedBlocks). Ok (answers.GetBlockLocations found)) c.in-Ok-Some.field-0-is) (c.in-Ok-Some.ensures.came c.requires.reaches))
     p told closed (refl, refl)
+
+pub returns-in_ok-copy-in-Ok-None-clause-answered : goal.returns-in_ok-copy-in-Ok-None-clause-answered
+returns-in_ok-copy-in-Ok-None-clause-answered g c =
+    subst (λ (found : Option LocatedBlocks). g.C.Cluster.may_answer (asks.GetBlockLocations c.args.path.now 0 (2 ^ 63 - 1)) (answers.GetBlockLocations found))
+    c.in-Ok-None.field-0-is c.in-Ok-None.ensures.answered
+
+pub returns-in-Err-clause-answered : goal.returns-in-Err-clause-answered
+returns-in-Err-clause-answered g c =
+    answered_in_vain g.C.Cluster.may_answer c.args.path.now c.in-Err.error (c.in-Err.ensures.came c.requires.reaches).relays.tells.0

@@ -1,5 +1,5 @@
 -- The loop's fold goes on by one command, or stops there.
-use Rattle.std.proofs.Common.{◌≡◌, ℕ, ◌+◌, Option, is_some, List, [], length, take, Result, Err, Vec, sym, ◌∙◌, ap, subst, arith, rules}
+use Rattle.std.proofs.Common.{◌≡◌, ℕ, ◌+◌, ◌-◌, Option, is_some, List, [], length, take, Result, Err, Vec, refl, sym, ◌∙◌, ap, subst, arith, rules}
 use Rattle.std.specs.declared.alloc.Global.{Global}
 use Rattle.std.proofs.lemmas.List.{take_all, length_push}
 use Rattle.hdfs_model.specs.declared.commands.Command.{Command}
@@ -12,7 +12,10 @@ use Rattle.hdfs_model.specs.Sessions.{world_of}
 use Rattle.hdfs_cluster.proofs.Frames.{later_refl, later_trans, same_reads_refl, same_reads_trans}
 use Rattle.hdfs_cluster.specs.declared.errors.HdfsError.{HdfsError}
 use Rattle.hdfs_model.specs.Folds.{fold}
+use Rattle.std.specs.List.{slice_get}
+use Rattle.std.proofs.lemmas.Option.{slice_get_read}
 use Rattle.hdfs_commands.specs.Acting.{Acts}
+use Rattle.hdfs_commands.specs.Refusing.{RefusedBy}
 use Rattle.hdfs_commands.specs.Asking.{Lets}
 use Rattle.hdfs_session.proofs.Ending.{replies_next, runs_failed, tallied_start}
 use Rattle.hdfs_session.proofs.Finishing.{complete_done}
@@ -196,3 +199,16 @@ returns-clause-whole g c = λ good state ready.
     let all = take_all c.loop-command.command-index c.args.commands.now c.loop-command-test.false in
     leaves_end w state c.args.commands.now c.loop-command.command-index c.loop-command.replies.items s t v c.loop-command.session (before.told state ready) (before.whole state ready) all
     c.abandon-2.ensures.files c.abandon-2.ensures.keeps.1 c.loop-command.replies
+
+pub returns-in-Err-apply-clause-refused : goal.returns-in-Err-apply-clause-refused
+returns-in-Err-apply-clause-refused g c = λ some.
+    let before = c.loop-command.invariant in
+    let f = c.fault_at-in-Err-apply in
+    let i = c.loop-command.command-index in
+    let command = c.command-item.result in
+    let refused = subst (λ (x : Settings). RefusedBy g.C.Cluster.may_answer x command c.in-Err-apply.error) before.settings (c.in-Err-apply.ensures.refused before.fine) in
+    let at : f.result.at - 1 ≡ i = omega (arith, f.ensures.at, c.len.ensures, c.loop-command.replies.ok, before.count) in (
+      command,
+      ap (slice_get c.args.commands.now) at ∙ slice_get_read c.args.commands.now (length c.args.commands.now) i command refl c.loop-command-test.true c.command-item.is,
+      subst (RefusedBy g.C.Cluster.may_answer c.args.settings.now command) (sym f.ensures.error) refused,
+    )

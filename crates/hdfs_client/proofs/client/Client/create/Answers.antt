@@ -1,5 +1,6 @@
 -- A file is created by the service to which the path leads.
-use Rattle.std.proofs.Common.{◌≡◌, ℕ, ◌<◌, length, List, false, refl, sym, subst}
+use Rattle.std.proofs.Common.{◌≡◌, inr, ℕ, ◌<◌, length, List, false, refl, sym, subst}
+use Rattle.std.proofs.lemmas.Result.{err_from_is_err_and}
 use Rattle.hdfs_client.specs.Clients.{services_of}
 use Rattle.hdfs_file_writer.specs.Writers.{IsAnswered, Stands}
 use Rattle.hdfs_file_writer.specs.declared.file_writer.FileWriter as inner
@@ -7,9 +8,9 @@ use Rattle.hdfs_namenode.specs.Asked.{ReachesAll}
 use Rattle.hdfs_namenode.specs.Clients.{name_of, proxy_of}
 use Rattle.hdfs_namenode.specs.declared.protocol.NamenodeProtocol.{NamenodeProtocol}
 use Rattle.hdfs_rebuild.specs.declared.block_plan.RebuildSettings.{RebuildSettings}
-use Rattle.hdfs_client.specs.Opening.{CreatesBy}
+use Rattle.hdfs_client.specs.Opening.{CreatesBy, FailsToCreate}
 use Rattle.hdfs_client.proofs.Kept.{goes_reaches}
-use Rattle.hdfs_client.proofs.Serving.{at_service, client_goes, of_put, opens_at, used}
+use Rattle.hdfs_client.proofs.Serving.{at_service, client_goes, fails_at, of_put, opens_at, used}
 use Rattle.hdfs_client.proofs.client.Client.create.Goals as goal
 
 pub create_by-requires-clause-allowed : goal.create_by-requires-clause-allowed
@@ -56,3 +57,10 @@ returns-clause-client g c =
     client_goes c.requires.client.0
     (used c.args.self.now _ c.in_ok-to.to.service c.index_mut-namenode.result.now c.create_by.new.namenode c.in_ok-to.ensures.1
     c.index_mut-namenode.ensures.value refl (refl, refl, refl)) c.create_by.ensures.keeps.0.service c.create_by.ensures.keeps.1
+
+pub returns-in_err-file-clause-err : goal.returns-in_err-file-clause-err
+returns-in_err-file-clause-err g c =
+    let p = err_from_is_err_and c.from_residual-in_err-file.result c.from_residual-in_err-file.ensures.1 in
+    rw (p.1, p.2) (λ fine. inr (fails_at (λ at before after. FailsToCreate g.C.Cluster.serves at c.args.options.now before c.args.cluster.now c.in_err-file.field-0.0 after c.create_by.new.cluster) c.in_ok-to.ensures.0
+    (used c.args.self.now _ c.in_ok-to.to.service c.index_mut-namenode.result.now c.create_by.new.namenode c.in_ok-to.ensures.1
+    c.index_mut-namenode.ensures.value refl (refl, refl, refl)) c.in_err-file.ensures.err))

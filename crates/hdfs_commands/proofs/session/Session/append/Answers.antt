@@ -1,5 +1,5 @@
 -- The goals of Session::append.
-use Rattle.std.proofs.Common.{◌≡◌, ℕ, List, Err, refl, sym, ◌∙◌, ap, subst, unwrap_or, Some, Option, true}
+use Rattle.std.proofs.Common.{◌≡◌, ℕ, List, Err, refl, sym, ◌∙◌, ap, subst, unwrap_or, None, Some, Option, true}
 use Rattle.std.proofs.lemmas.Result.{err_from_is_err_and}
 use Rattle.std.specs.BTreeMap.{get_by_text}
 use Rattle.std.specs.String.{string_bytes}
@@ -29,9 +29,17 @@ use Rattle.hdfs_commands.proofs.Sized.{remembers_trans, remembers_with, sizes_st
 use Rattle.hdfs_commands.proofs.Starting.{appended_acts, appended_over}
 use Rattle.hdfs_commands.proofs.WholeOpening.{appending_spares}
 use Rattle.hdfs_commands.proofs.WholeStarting.{appended_whole, late_whole, prepared_whole, refused_whole}
-use Rattle.hdfs_commands.proofs.Answered.{answered_appended, answered_put, answered_same}
+use Rattle.hdfs_commands.proofs.Answered.{answered_appended, answered_put, answered_same, keeps_known}
 use Rattle.hdfs_model.specs.Opening.{tells_encryption}
+use Rattle.hdfs_cluster.specs.declared.messages.FileStatusMsg.{FileStatusMsg}
+use Rattle.hdfs_commands.specs.Refusing.{IsAnsweredSo}
+use Rattle.hdfs_commands.proofs.Refused.{asked_so, lacks_so}
 use Rattle.hdfs_commands.proofs.session.Session.append.Goals as goal
+
+-- what isn't there is nothing
+no_some : (stat : Option FileStatusMsg) → ((status : FileStatusMsg) → stat ≡ Some status → ⊥) → stat ≡ None
+no_some None none = refl
+no_some (Some status) none = absurd (none status refl)
 
 pub defaults-requires-clause-allowed : goal.defaults-requires-clause-allowed
 defaults-requires-clause-allowed g c = c.requires.allowed.defaults
@@ -94,7 +102,7 @@ returns-in_default-clause-acts g c = λ called.
     let on = c.ask_append.ensures.asked in
     let came = c.in_ok-block.ensures.came in
     subst (λ (x : List ℕ). Acts (commands.Append name) s c.args.self.now t (after {T = Reply} asked (Err (errors.FileNotFound x))) (Err (errors.FileNotFound x))) (sym c.in_ok-copy.ensures)
-    (unstated_acts (commands.Append name) (append_opens name) name refl s m t c.args.self.now session asked c.requires.stands
+    (unstated_acts (commands.Append name) (append_opens name) name (refl, tt) s m t c.args.self.now session asked c.requires.stands
     had.prepares (λ q. ap (λ w. get_by_text w q) on.writers) on.remembers (appending c.args.path client 4) c.args.path called
     (appended_over s m c.args.self.now session c.args.path c.in_ok-defaults.defaults had.prepares had.ok c.requires.path c.requires.placed (g.met.C.Cluster.sound c.defaults.new.cluster) name client 4 called)
     (looks_from-Leaves m t came.relays.leaves) came.relays.fine
@@ -324,51 +332,55 @@ returns-then-encrypted-clause-whole g c = λ called.
     (λ q. ap (λ w. get_by_text w q) (h.asked.writers ∙ on.writers)) c.requires.stands c.refuse_opened.result
 
 pub returns-in_err-defaults-clause-answered : goal.returns-in_err-defaults-clause-answered
-returns-in_err-defaults-clause-answered g c =
-    let prepares = c.defaults.ensures.prepares in
-    answered_same c.args.self.now c.defaults.new.self prepares.remembers.name (λ q. ap (λ w. get_by_text w q) prepares.writers) c.requires.answered
+returns-in_err-defaults-clause-answered g c = c.defaults.ensures.answered
 
 pub returns-in_err-key-clause-answered : goal.returns-in_err-key-clause-answered
-returns-in_err-key-clause-answered g c =
-    let prepares = c.defaults.ensures.prepares in
-    answered_same c.args.self.now c.defaults.new.self prepares.remembers.name (λ q. ap (λ w. get_by_text w q) prepares.writers) c.requires.answered
+returns-in_err-key-clause-answered g c = c.defaults.ensures.answered
 
 pub returns-in_err-block-clause-answered : goal.returns-in_err-block-clause-answered
 returns-in_err-block-clause-answered g c =
-    let prepares = c.defaults.ensures.prepares in
     let on = c.ask_append.ensures.asked in
-    answered_same c.args.self.now c.ask_append.new.self (on.remembers.name ∙ prepares.remembers.name)
-    (λ q. ap (λ w. get_by_text w q) (on.writers ∙ prepares.writers)) c.requires.answered
+    answered_same c.defaults.new.self c.ask_append.new.self on.remembers.name (λ q. ap (λ w. get_by_text w q) on.writers)
+    (keeps_known g.C.Cluster.may_answer c.defaults.new.self.namenode c.ask_append.new.self.namenode c.in_ok-defaults.defaults c.in_ok-defaults.ensures.ok.known
+    (on.remembers.known c.in_ok-defaults.defaults c.in_ok-defaults.ensures.ok.known) c.defaults.ensures.answered.defaults)
+    c.defaults.ensures.answered
 
 pub returns-in_default-clause-answered : goal.returns-in_default-clause-answered
 returns-in_default-clause-answered g c =
-    let prepares = c.defaults.ensures.prepares in
     let on = c.ask_append.ensures.asked in
-    answered_same c.args.self.now c.ask_append.new.self (on.remembers.name ∙ prepares.remembers.name)
-    (λ q. ap (λ w. get_by_text w q) (on.writers ∙ prepares.writers)) c.requires.answered
+    answered_same c.defaults.new.self c.ask_append.new.self on.remembers.name (λ q. ap (λ w. get_by_text w q) on.writers)
+    (keeps_known g.C.Cluster.may_answer c.defaults.new.self.namenode c.ask_append.new.self.namenode c.in_ok-defaults.defaults c.in_ok-defaults.ensures.ok.known
+    (on.remembers.known c.in_ok-defaults.defaults c.in_ok-defaults.ensures.ok.known) c.defaults.ensures.answered.defaults)
+    c.defaults.ensures.answered
 
 pub returns-in_err-copy-clause-answered : goal.returns-in_err-copy-clause-answered
 returns-in_err-copy-clause-answered g c =
-    let prepares = c.defaults.ensures.prepares in
     let on = c.ask_append.ensures.asked in
-    answered_same c.args.self.now c.ask_append.new.self (on.remembers.name ∙ prepares.remembers.name)
-    (λ q. ap (λ w. get_by_text w q) (on.writers ∙ prepares.writers)) c.requires.answered
+    answered_same c.defaults.new.self c.ask_append.new.self on.remembers.name (λ q. ap (λ w. get_by_text w q) on.writers)
+    (keeps_known g.C.Cluster.may_answer c.defaults.new.self.namenode c.ask_append.new.self.namenode c.in_ok-defaults.defaults c.in_ok-defaults.ensures.ok.known
+    (on.remembers.known c.in_ok-defaults.defaults c.in_ok-defaults.ensures.ok.known) c.defaults.ensures.answered.defaults)
+    c.defaults.ensures.answered
 
 pub returns-in_err-keep-clause-answered : goal.returns-in_err-keep-clause-answered
 returns-in_err-keep-clause-answered g c =
-    let prepares = c.defaults.ensures.prepares in
     let on = c.ask_append.ensures.asked in
     let asked = c.ask_append.new.self in
-    answered_same c.args.self.now (record asked { writers = c.keep.new.writers }) (on.remembers.name ∙ prepares.remembers.name)
-    (λ q. kept_by asked.writers c.keep.new.writers c.in_err-keep.ensures.err q ∙ ap (λ w. get_by_text w q) (on.writers ∙ prepares.writers)) c.requires.answered
+    answered_same c.defaults.new.self (record asked { writers = c.keep.new.writers }) on.remembers.name
+    (λ q. kept_by asked.writers c.keep.new.writers c.in_err-keep.ensures.err q ∙ ap (λ w. get_by_text w q) on.writers)
+    (keeps_known g.C.Cluster.may_answer c.defaults.new.self.namenode c.ask_append.new.self.namenode c.in_ok-defaults.defaults c.in_ok-defaults.ensures.ok.known
+    (on.remembers.known c.in_ok-defaults.defaults c.in_ok-defaults.ensures.ok.known) c.defaults.ensures.answered.defaults)
+    c.defaults.ensures.answered
 
 pub returns-then-encrypted-clause-answered : goal.returns-then-encrypted-clause-answered
 returns-then-encrypted-clause-answered g c =
-    let prepares = c.defaults.ensures.prepares in
     let on = c.ask_append.ensures.asked in
     let refused = c.refuse_opened.ensures.asked in
-    answered_same c.args.self.now c.refuse_opened.new.self (refused.remembers.name ∙ on.remembers.name ∙ prepares.remembers.name)
-    (λ q. ap (λ w. get_by_text w q) (refused.writers ∙ on.writers ∙ prepares.writers)) c.requires.answered
+    answered_same c.defaults.new.self c.refuse_opened.new.self (refused.remembers.name ∙ on.remembers.name)
+    (λ q. ap (λ w. get_by_text w q) (refused.writers ∙ on.writers))
+    (keeps_known g.C.Cluster.may_answer c.defaults.new.self.namenode c.refuse_opened.new.self.namenode c.in_ok-defaults.defaults c.in_ok-defaults.ensures.ok.known
+    (refused.remembers.known c.in_ok-defaults.defaults
+    (on.remembers.known c.in_ok-defaults.defaults c.in_ok-defaults.ensures.ok.known)) c.defaults.ensures.answered.defaults)
+    c.defaults.ensures.answered
 
 pub returns-clause-answered : goal.returns-clause-answered
 returns-clause-answered g c =
@@ -384,6 +396,8 @@ returns-clause-answered g c =
     (answered_appended writer c.args.path c.in_ok-block.field-0 (c.appended-writer.ensures.stands (g.C.Cluster.shown c.args.cluster.now))
     c.appended-writer.ensures.idle.1 c.appended-writer.ensures.path.0
     (c.appended-writer.ensures.path.2 ∙ sym (ap id_in c.in-Some.is)) c.appended-writer.ensures.tail c.in_ok-block.ensures.answered))
+    (keeps_known g.C.Cluster.may_answer c.defaults.new.self.namenode c.ask_append.new.self.namenode c.in_ok-defaults.defaults c.in_ok-defaults.ensures.ok.known
+    (on.remembers.known c.in_ok-defaults.defaults c.in_ok-defaults.ensures.ok.known) c.defaults.ensures.answered.defaults)
     c.requires.answered
 
 pub refuse_opened-requires-clause-answered : goal.refuse_opened-requires-clause-answered
@@ -393,3 +407,37 @@ refuse_opened-requires-clause-answered g c =
     (answered_appended writer c.args.path c.in_ok-block.field-0 (c.appended-writer.ensures.stands (g.C.Cluster.shown c.args.cluster.now))
     c.appended-writer.ensures.idle.1 c.appended-writer.ensures.path.0
     (c.appended-writer.ensures.path.2 ∙ sym (ap id_in c.in-Some.is)) c.appended-writer.ensures.tail c.in_ok-block.ensures.answered)
+
+pub returns-in_err-defaults-clause-refused : goal.returns-in_err-defaults-clause-refused
+returns-in_err-defaults-clause-refused g c =
+    let p = err_from_is_err_and c.from_residual.result c.from_residual.ensures.1 in
+    let lacks = c.in_err-defaults.ensures in
+    rw (p.1, p.2) (lacks_so g.C.Cluster.may_answer c.args.self.now.namenode.client c.args.path (commands.Append c.args.name.now) (g.C.Cluster.shown c.args.cluster.now) (g.C.Cluster.shown c.defaults.new.cluster) c.args.self.now c.in_err-defaults.field-0.0 lacks.err lacks.refused)
+
+pub returns-in_err-block-clause-refused : goal.returns-in_err-block-clause-refused
+returns-in_err-block-clause-refused g c =
+    let p = err_from_is_err_and c.from_residual-in_err-block.result c.from_residual-in_err-block.ensures.1 in
+    rw (p.1, p.2) (asked_so g.C.Cluster.may_answer c.args.self.now.namenode.client c.args.path (commands.Append c.args.name.now) c.in_err-block.field-0.0 c.in_err-block.ensures.came.relays.tells.0)
+
+pub returns-in_default-clause-refused : goal.returns-in_default-clause-refused
+returns-in_default-clause-refused g c =
+    let appended : Appended = c.in_ok-block.field-0 in
+    let may_answer = g.C.Cluster.may_answer in
+    let none : appended.stat ≡ None = no_some appended.stat c.in_default.not-Some in (
+      appended.block,
+      subst (λ (n : List ℕ). may_answer (appending c.args.path n 4) (answers.Append (record { block = appended.block; stat = None })))
+          c.defaults.ensures.prepares.remembers.name
+          (subst (λ (stat : Option FileStatusMsg). may_answer (appending c.args.path c.defaults.new.self.namenode.client 4)
+          (answers.Append (record { block = appended.block; stat = stat }))) none c.in_ok-block.ensures.answered),
+    )
+
+pub returns-then-encrypted-clause-refused : goal.returns-then-encrypted-clause-refused
+returns-then-encrypted-clause-refused g c =
+    let appended : Appended = c.in_ok-block.field-0 in
+    let may_answer = g.C.Cluster.may_answer in
+    subst (IsAnsweredSo may_answer c.args.self.now.namenode.client c.args.path (commands.Append c.args.name.now)) (sym c.refuse_opened.ensures.is) (
+      appended,
+      subst (λ (n : List ℕ). may_answer (appending c.args.path n 4) (answers.Append appended)) c.defaults.ensures.prepares.remembers.name
+          c.in_ok-block.ensures.answered,
+      ap tells_encryption c.in-Some.is ∙ sym c.is_some-encrypted.ensures ∙ c.if-encrypted.true,
+    )

@@ -11,7 +11,7 @@ create-requires-clause-service g c = reaches_service (proxy_of c.args.self.now.n
 
 pub create-requires-clause-allowed : goal.create-requires-clause-allowed
 create-requires-clause-allowed g c =
-    rw (c.as_str.ensures, c.create_flag.ensures, c.unwrap_or.ensures, c.unwrap_or-2.ensures) (c.requires.allowed.creates c.args.defaults.now)
+    rw (c.as_str.ensures, c.create_flag.ensures, c.unwrap_or.ensures, c.unwrap_or-2.ensures) (c.requires.allowed.creates c.args.defaults.now c.requires.defaults.0 c.requires.defaults.1)
 
 pub returns-clause-came : goal.returns-clause-came
 returns-clause-came g c =

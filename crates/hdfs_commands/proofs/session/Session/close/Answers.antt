@@ -7,7 +7,7 @@ use Rattle.hdfs_namenode.specs.Clients.{name_of}
 use Rattle.hdfs_file_writer.specs.Writers.{file_id_of}
 use Rattle.hdfs_commands.proofs.WholeWriting.{close_keeps, sending_keeps}
 use Rattle.hdfs_commands.proofs.WriteEnds.{close_acts, close_fails, close_not_owed}
-use Rattle.hdfs_commands.proofs.Answered.{answered_put}
+use Rattle.hdfs_commands.proofs.Answered.{answered_put, keeps_same}
 use Rattle.hdfs_commands.proofs.session.Session.close.Goals as goal
 
 pub close-requires-clause-stands : goal.close-requires-clause-stands
@@ -17,7 +17,7 @@ pub close-requires-clause-allowed : goal.close-requires-clause-allowed
 close-requires-clause-allowed g c =
     let at = (c.requires.stands.each c.args.path.now c.in-Some.writer (sym c.in-Some.ensures.value)).1 in
     let id = file_id_of c.in-Some.writer in
-    let answered = (c.requires.answered c.args.path.now c.in-Some.writer (sym c.in-Some.ensures.value)).id in
+    let answered = (c.requires.answered.files c.args.path.now c.in-Some.writer (sym c.in-Some.ensures.value)).id in
     let client = name_of c.args.self.now.namenode in
     subst (λ (p : List ℕ). LetsClose g.C.Cluster.allows g.C.Cluster.may_answer client p id) (sym at)
     (c.requires.allowed id (subst (λ (p : List ℕ). IsAnsweredId g.C.Cluster.may_answer client p id) at answered))
@@ -99,18 +99,20 @@ returns-in-Err-clause-whole g c = λ name is.
     is c.in-Err.error (c.in-Err.ensures.err (c.requires.stands.fine c.requires.fine path c.in-Some.writer here)).touches
 
 pub close-requires-clause-answered : goal.close-requires-clause-answered
-close-requires-clause-answered g c = c.requires.answered c.args.path.now c.in-Some.writer (sym c.in-Some.ensures.value)
+close-requires-clause-answered g c = c.requires.answered.files c.args.path.now c.in-Some.writer (sym c.in-Some.ensures.value)
 
 pub returns-in-Ok-clause-answered : goal.returns-in-Ok-clause-answered
 returns-in-Ok-clause-answered g c =
     let session = c.args.self.now in
     let path = c.args.path.now in
     answered_put session (record session { writers = c.remove.new.self; namenode = c.close.new.namenode }) path None c.close.ensures.client.name
-    (btree_map_updates_text path session.writers c.remove.new.self None c.remove.ensures.updates) tt c.requires.answered
+    (btree_map_updates_text path session.writers c.remove.new.self None c.remove.ensures.updates) tt
+    (keeps_same g.C.Cluster.may_answer c.args.self.now.namenode c.close.new.namenode c.close.ensures.client c.requires.answered.defaults) c.requires.answered
 
 pub returns-in-Err-clause-answered : goal.returns-in-Err-clause-answered
 returns-in-Err-clause-answered g c =
     let session = c.args.self.now in
     let path = c.args.path.now in
     answered_put session (record session { writers = c.remove.new.self; namenode = c.close.new.namenode }) path None c.close.ensures.client.name
-    (btree_map_updates_text path session.writers c.remove.new.self None c.remove.ensures.updates) tt c.requires.answered
+    (btree_map_updates_text path session.writers c.remove.new.self None c.remove.ensures.updates) tt
+    (keeps_same g.C.Cluster.may_answer c.args.self.now.namenode c.close.new.namenode c.close.ensures.client c.requires.answered.defaults) c.requires.answered

@@ -16,7 +16,7 @@ use Rattle.hdfs_cluster.proofs.Repeating.{create_repeats}
 use Rattle.hdfs_namenode.specs.Clients.{proxy_of}
 use Rattle.hdfs_namenode.proofs.Services.{reaches_later}
 use Rattle.hdfs_commands.specs.Acting.{Acts}
-use Rattle.hdfs_model.specs.Opening.{LetsCreate}
+use Rattle.hdfs_model.specs.Opening.{AnswersDefaults, LetsCreate}
 use Rattle.hdfs_model.specs.Opening.{create_flag, creating}
 use Rattle.hdfs_commands.specs.Preparing.{sizes_by}
 use Rattle.hdfs_commands.specs.Session.{after}
@@ -31,8 +31,10 @@ use Rattle.hdfs_commands.proofs.Sizing.{are_sizes_by}
 use Rattle.hdfs_commands.proofs.Starting.{created_acts, created_over}
 use Rattle.hdfs_commands.proofs.WholeOpening.{creating_spares}
 use Rattle.hdfs_commands.proofs.WholeStarting.{behind_whole, created_whole, early_whole, late_whole, prepared_whole, refused_whole}
-use Rattle.hdfs_commands.proofs.Answered.{answered_created, answered_put, answered_same}
+use Rattle.hdfs_commands.proofs.Answered.{answered_created, answered_put, answered_same, had_answered, keeps_known}
 use Rattle.hdfs_cluster.specs.Requests.{id_in}
+use Rattle.hdfs_commands.specs.Refusing.{IsAnsweredSo}
+use Rattle.hdfs_commands.proofs.Refused.{asked_so, lacks_so}
 use Rattle.hdfs_commands.proofs.session.Session.create.Goals as goal
 
 pub defaults-requires-clause-allowed : goal.defaults-requires-clause-allowed
@@ -40,8 +42,14 @@ defaults-requires-clause-allowed g c = (c.requires.allowed (sym c.are_limited.en
 
 pub ask_create-requires-clause-allowed : goal.ask_create-requires-clause-allowed
 ask_create-requires-clause-allowed g c =
-    subst (λ (n : List ℕ). LetsCreate g.C.Cluster.allows g.C.Cluster.may_answer n c.args.path c.args.options.now) (sym c.in_ok-defaults.ensures.prepares.remembers.name)
+    subst (λ (n : List ℕ). LetsCreate g.C.Cluster.allows g.C.Cluster.may_answer (AnswersDefaults g.C.Cluster.may_answer) n c.args.path c.args.options.now) (sym c.in_ok-defaults.ensures.prepares.remembers.name)
     (c.requires.allowed (sym c.are_limited.ensures ∙ c.if-not-are_limited.false))
+
+pub ask_create-requires-clause-defaults : goal.ask_create-requires-clause-defaults
+ask_create-requires-clause-defaults g c =
+    let d = c.in_ok-defaults.defaults in
+    let ok = c.in_ok-defaults.ensures.ok in
+    (had_answered g.C.Cluster.may_answer c.defaults.new.self.namenode d ok.known c.defaults.ensures.answered.defaults, ok.limited)
 
 pub ask_create-requires-clause-reaches : goal.ask_create-requires-clause-reaches
 ask_create-requires-clause-reaches g c =
@@ -293,37 +301,39 @@ returns-then-encrypted-clause-whole g c = λ name called.
     c.refuse_created.result
 
 pub returns-in_err-defaults-clause-answered : goal.returns-in_err-defaults-clause-answered
-returns-in_err-defaults-clause-answered g c =
-    let prepares = c.defaults.ensures.prepares in
-    answered_same c.args.self.now c.defaults.new.self prepares.remembers.name (λ q. ap (λ w. get_by_text w q) prepares.writers) c.requires.answered
+returns-in_err-defaults-clause-answered g c = c.defaults.ensures.answered
 
 pub returns-in_err-key-clause-answered : goal.returns-in_err-key-clause-answered
-returns-in_err-key-clause-answered g c =
-    let prepares = c.defaults.ensures.prepares in
-    answered_same c.args.self.now c.defaults.new.self prepares.remembers.name (λ q. ap (λ w. get_by_text w q) prepares.writers) c.requires.answered
+returns-in_err-key-clause-answered g c = c.defaults.ensures.answered
 
 pub returns-in_err-status-clause-answered : goal.returns-in_err-status-clause-answered
 returns-in_err-status-clause-answered g c =
-    let prepares = c.defaults.ensures.prepares in
     let on = c.ask_create.ensures.asked in
-    answered_same c.args.self.now c.ask_create.new.self (on.remembers.name ∙ prepares.remembers.name)
-    (λ q. ap (λ w. get_by_text w q) (on.writers ∙ prepares.writers)) c.requires.answered
+    answered_same c.defaults.new.self c.ask_create.new.self on.remembers.name (λ q. ap (λ w. get_by_text w q) on.writers)
+    (keeps_known g.C.Cluster.may_answer c.defaults.new.self.namenode c.ask_create.new.self.namenode c.in_ok-defaults.defaults c.in_ok-defaults.ensures.ok.known
+    (on.remembers.known c.in_ok-defaults.defaults c.in_ok-defaults.ensures.ok.known) c.defaults.ensures.answered.defaults)
+    c.defaults.ensures.answered
 
 pub returns-in_err-keep-clause-answered : goal.returns-in_err-keep-clause-answered
 returns-in_err-keep-clause-answered g c =
-    let prepares = c.defaults.ensures.prepares in
     let on = c.ask_create.ensures.asked in
     let asked = c.ask_create.new.self in
-    answered_same c.args.self.now (record asked { writers = c.keep.new.writers }) (on.remembers.name ∙ prepares.remembers.name)
-    (λ q. kept_by asked.writers c.keep.new.writers c.in_err-keep.ensures.err q ∙ ap (λ w. get_by_text w q) (on.writers ∙ prepares.writers)) c.requires.answered
+    answered_same c.defaults.new.self (record asked { writers = c.keep.new.writers }) on.remembers.name
+    (λ q. kept_by asked.writers c.keep.new.writers c.in_err-keep.ensures.err q ∙ ap (λ w. get_by_text w q) on.writers)
+    (keeps_known g.C.Cluster.may_answer c.defaults.new.self.namenode c.ask_create.new.self.namenode c.in_ok-defaults.defaults c.in_ok-defaults.ensures.ok.known
+    (on.remembers.known c.in_ok-defaults.defaults c.in_ok-defaults.ensures.ok.known) c.defaults.ensures.answered.defaults)
+    c.defaults.ensures.answered
 
 pub returns-then-encrypted-clause-answered : goal.returns-then-encrypted-clause-answered
 returns-then-encrypted-clause-answered g c =
-    let prepares = c.defaults.ensures.prepares in
     let on = c.ask_create.ensures.asked in
     let refused = c.refuse_created.ensures.asked in
-    answered_same c.args.self.now c.refuse_created.new.self (refused.remembers.name ∙ on.remembers.name ∙ prepares.remembers.name)
-    (λ q. ap (λ w. get_by_text w q) (refused.writers ∙ on.writers ∙ prepares.writers)) c.requires.answered
+    answered_same c.defaults.new.self c.refuse_created.new.self (refused.remembers.name ∙ on.remembers.name)
+    (λ q. ap (λ w. get_by_text w q) (refused.writers ∙ on.writers))
+    (keeps_known g.C.Cluster.may_answer c.defaults.new.self.namenode c.refuse_created.new.self.namenode c.in_ok-defaults.defaults c.in_ok-defaults.ensures.ok.known
+    (refused.remembers.known c.in_ok-defaults.defaults
+    (on.remembers.known c.in_ok-defaults.defaults c.in_ok-defaults.ensures.ok.known)) c.defaults.ensures.answered.defaults)
+    c.defaults.ensures.answered
 
 pub returns-clause-answered : goal.returns-clause-answered
 returns-clause-answered g c =
@@ -351,6 +361,8 @@ returns-clause-answered g c =
       answered = c.in_ok-status.ensures.answered;
       is = refl;
     }))))
+    (keeps_known g.C.Cluster.may_answer c.defaults.new.self.namenode c.ask_create.new.self.namenode c.in_ok-defaults.defaults c.in_ok-defaults.ensures.ok.known
+    (on.remembers.known c.in_ok-defaults.defaults c.in_ok-defaults.ensures.ok.known) c.defaults.ensures.answered.defaults)
     c.requires.answered
 
 pub refuse_created-requires-clause-allowed : goal.refuse_created-requires-clause-allowed
@@ -366,3 +378,31 @@ refuse_created-requires-clause-allowed g c =
     (subst (λ (client : List ℕ). g.C.Cluster.may_answer (creating c.args.path client options r k) (answers.Create status)) c.defaults.ensures.prepares.remembers.name
     c.in_ok-status.ensures.answered)
     (sym c.tells_encryption-encrypted.ensures ∙ c.if-encrypted.true))
+
+pub returns-in_err-defaults-clause-refused : goal.returns-in_err-defaults-clause-refused
+returns-in_err-defaults-clause-refused g c =
+    let p = err_from_is_err_and c.from_residual.result c.from_residual.ensures.1 in
+    let lacks = c.in_err-defaults.ensures in
+    rw (p.1, p.2) (λ name. lacks_so g.C.Cluster.may_answer c.args.self.now.namenode.client c.args.path (commands.Create name c.args.options.now) (g.C.Cluster.shown c.args.cluster.now) (g.C.Cluster.shown c.defaults.new.cluster) c.args.self.now c.in_err-defaults.field-0.0 lacks.err lacks.refused)
+
+pub returns-in_err-status-clause-refused : goal.returns-in_err-status-clause-refused
+returns-in_err-status-clause-refused g c =
+    let p = err_from_is_err_and c.from_residual-in_err-status.result c.from_residual-in_err-status.ensures.1 in
+    rw (p.1, p.2) (λ name. asked_so g.C.Cluster.may_answer c.args.self.now.namenode.client c.args.path (commands.Create name c.args.options.now) c.in_err-status.field-0.0 c.in_err-status.ensures.came.relays.tells.0)
+
+pub returns-then-encrypted-clause-refused : goal.returns-then-encrypted-clause-refused
+returns-then-encrypted-clause-refused g c = λ name.
+    let options = c.args.options.now in
+    let d = c.in_ok-defaults.defaults in
+    let r = unwrap_or options.replication d.replication in
+    let k = unwrap_or options.block_size d.block_size in
+    let may_answer = g.C.Cluster.may_answer in
+    let client = c.args.self.now.namenode.client in
+    subst (IsAnsweredSo may_answer client c.args.path (commands.Create name options)) (sym c.refuse_created.ensures.is) (
+      r,
+      k,
+      c.in_ok-status.status,
+      subst (λ (n : List ℕ). may_answer (creating c.args.path n options r k) (answers.Create c.in_ok-status.status)) c.defaults.ensures.prepares.remembers.name
+          c.in_ok-status.ensures.answered,
+      sym c.tells_encryption-encrypted.ensures ∙ c.if-encrypted.true,
+    )

@@ -1,6 +1,9 @@
 -- The goals of Session::defaults.
-use Rattle.std.proofs.Common.{inl, inr, refl, sym, ◌∙◌}
+use Rattle.std.proofs.Common.{inl, inr, refl, sym, subst, ◌∙◌}
 use Rattle.std.proofs.lemmas.Result.{err_from_is_err_and}
+use Rattle.hdfs_cluster.specs.declared.errors.HdfsError.{HdfsError}
+use Rattle.hdfs_cluster.specs.Failures.{IsOfAsk}
+use Rattle.hdfs_commands.proofs.Answered.{answered_same, had_answered}
 use Rattle.hdfs_commands.proofs.Prepared.{are_told, prepared}
 use Rattle.hdfs_file_reader.proofs.Transfers.{lacks_by}
 use Rattle.hdfs_commands.proofs.session.Session.defaults.Goals as goal
@@ -36,3 +39,34 @@ returns-clause-ok g c = record {
   known = c.in_ok-defaults.ensures.kept;
   told = are_told (c.in_ok-defaults.ensures.came c.requires.stands.reaches);
 }
+
+pub returns-in_err-defaults-clause-answered : goal.returns-in_err-defaults-clause-answered
+returns-in_err-defaults-clause-answered g c =
+    let call = c.get_cached_server_defaults in
+    answered_same c.args.self.now (record c.args.self.now { namenode = call.new.self }) call.ensures.keeps.0 (λ q. refl)
+    (call.ensures.answered c.requires.answered.defaults) c.requires.answered
+
+pub returns-then-not-are_limited-clause-answered : goal.returns-then-not-are_limited-clause-answered
+returns-then-not-are_limited-clause-answered g c =
+    let call = c.get_cached_server_defaults in
+    answered_same c.args.self.now (record c.args.self.now { namenode = call.new.self }) call.ensures.keeps.0 (λ q. refl)
+    (call.ensures.answered c.requires.answered.defaults) c.requires.answered
+
+pub returns-clause-answered : goal.returns-clause-answered
+returns-clause-answered g c =
+    let call = c.get_cached_server_defaults in
+    answered_same c.args.self.now (record c.args.self.now { namenode = call.new.self }) call.ensures.keeps.0 (λ q. refl)
+    (call.ensures.answered c.requires.answered.defaults) c.requires.answered
+
+pub returns-in_err-defaults-clause-refused : goal.returns-in_err-defaults-clause-refused
+returns-in_err-defaults-clause-refused g c =
+    let p = err_from_is_err_and c.from_residual.result c.from_residual.ensures.1 in
+    rw (p.1, p.2) (λ is. absurd (subst IsOfAsk is (lacks_by (c.in_err-defaults.ensures.came c.requires.stands.reaches)).0.0))
+
+pub returns-then-not-are_limited-clause-refused : goal.returns-then-not-are_limited-clause-refused
+returns-then-not-are_limited-clause-refused g c = λ _.
+    let call = c.get_cached_server_defaults in (
+      c.in_ok-defaults.defaults,
+      had_answered g.C.Cluster.may_answer call.new.self c.in_ok-defaults.defaults c.in_ok-defaults.ensures.kept (call.ensures.answered c.requires.answered.defaults),
+      sym c.are_limited.ensures ∙ c.if-not-are_limited.true,
+    )

@@ -1,5 +1,5 @@
 -- The blocks are looked up, an encrypted file is refused, and the range is read.
-use Rattle.std.proofs.Common.{◌≡◌, ℕ, ◌+◌, ◌<◌, ◌≤◌, List, Err, get_or, refl, sym, ◌∙◌, ap, subst, arith}
+use Rattle.std.proofs.Common.{◌≡◌, inl, ℕ, ◌+◌, ◌<◌, ◌≤◌, List, Err, get_or, refl, sym, ◌∙◌, ap, subst, arith}
 use Rattle.std.proofs.lemmas.List.Elements.{Contains-get_or}
 use Rattle.std.proofs.lemmas.Result.{err_from_is_err_and}
 use Rattle.hdfs_model.specs.Causes.{Cause}
@@ -13,7 +13,9 @@ use Rattle.hdfs_file_reader.specs.Files.{LetsReadBlocks, LosesByte, length_of}
 use Rattle.hdfs_file_reader.specs.Ranges.{Stored}
 use Rattle.hdfs_commands.proofs.Causing.{agrees_looked, encrypted_cause, looked_cause, read_done}
 use Rattle.hdfs_commands.proofs.LookedUp.{applies_read, tells_looked}
-use Rattle.hdfs_commands.proofs.Ranging.{agrees_then, asks_looked, asks_read, finds_plain, lacks_cause, lacks_early, lacks_tells, plain_tells, range_ends, short_of, stay_read}
+use Rattle.hdfs_commands.proofs.Ranging.{agrees_then, asks_looked, asks_read, finds_plain, lacks_cause, lacks_early, lacks_tells, plain_tells, range_ends, stay_read}
+use Rattle.hdfs_commands.proofs.Answered.{keeps_same}
+use Rattle.hdfs_commands.proofs.Refused.{looked_so, ranged_so}
 use Rattle.hdfs_commands.proofs.session.Session.read.Goals as goal
 
 -- where nothing was done no datanode has failed
@@ -173,14 +175,14 @@ returns-in_err-bytes-clause-err g c =
       agrees_then c.args.path.now s m t a b n h.files h.client h.looks c.requires.reaches range.leaves c.args.name.now c.args.offset c.args.len found h.found w state meets knows,
     ))
 
-pub returns-in_err-bytes-clause-plain : goal.returns-in_err-bytes-clause-plain
-returns-in_err-bytes-clause-plain g c =
+pub returns-in_err-bytes-clause-refused : goal.returns-in_err-bytes-clause-refused
+returns-in_err-bytes-clause-refused g c =
     let p = err_from_is_err_and c.from_residual-in_err-bytes.result c.from_residual-in_err-bytes.ensures.1 in
     let found = c.in_ok-found.found in
     let file = c.in_ok-file.ensures.ok in
-    rw (p.1, p.2) (λ length is.
-    (let short = short_of c.args.offset c.args.len length (length_of c.in_ok-file.file) (g.C.Cluster.shown c.locate.new.cluster) c.locate.new.namenode c.in_err-bytes.field-0.0 (g.C.Cluster.shown c.read_range.new.cluster) c.read_range.new.namenode c.in_err-bytes.ensures.err is in
-    record { found = found; answered = c.in_ok-found.ensures.answered; plain = file.2; is = sym file.1 ∙ sym short.0; short = short.1 }))
+    rw (p.1, p.2) (ranged_so g.C.Cluster.may_answer c.args.self.now.namenode.client c.args.path.now c.args.name.now c.args.offset c.args.len (length_of c.in_ok-file.file) (g.C.Cluster.shown c.locate.new.cluster) (g.C.Cluster.shown c.read_range.new.cluster) c.locate.new.namenode c.read_range.new.namenode c.in_err-bytes.field-0.0 c.in_err-bytes.ensures.err
+    (c.read_range.ensures.answered (keeps_same g.C.Cluster.may_answer c.args.self.now.namenode c.locate.new.namenode c.in_ok-found.ensures.client c.requires.answered))
+    (λ short. record { found = found; answered = c.in_ok-found.ensures.answered; plain = file.2; is = sym file.1; short = short }))
 
 -- ---- the bytes are read
 
@@ -229,3 +231,29 @@ returns-clause-ok g c =
       agrees_then c.args.path.now s m t a b n h.files h.client h.looks c.requires.reaches range.leaves c.args.name.now c.args.offset c.args.len found h.found w state meets knows,
       finds_plain c.args.path.now s m t a b n h.files h.client h.looks c.requires.reaches range.leaves c.args.name.now c.args.offset c.args.len found h.found w state meets knows file.2 range.plain,
     )
+
+-- ---- what was answered
+
+pub returns-in_err-found-clause-refused : goal.returns-in_err-found-clause-refused
+returns-in_err-found-clause-refused g c =
+    let p = err_from_is_err_and c.from_residual.result c.from_residual.ensures.1 in
+    rw (p.1, p.2) (looked_so g.C.Cluster.may_answer c.args.self.now.namenode.client c.args.path.now c.args.name.now c.args.offset c.args.len c.args.name.now (g.C.Cluster.shown c.args.cluster.now) (g.C.Cluster.shown c.locate.new.cluster) c.in_err-found.field-0.0 c.in_err-found.ensures.err c.in_err-found.ensures.answered)
+
+pub returns-in_err-file-clause-refused : goal.returns-in_err-file-clause-refused
+returns-in_err-file-clause-refused g c =
+    let p = err_from_is_err_and c.from_residual-in_err-file.result c.from_residual-in_err-file.ensures.1 in
+    rw (p.1, p.2, c.in_err-file.ensures.err.0) (inl (c.in_ok-found.found, c.in_ok-found.ensures.answered, c.in_err-file.ensures.err.1))
+
+pub returns-in_err-found-clause-answered : goal.returns-in_err-found-clause-answered
+returns-in_err-found-clause-answered g c = keeps_same g.C.Cluster.may_answer c.args.self.now.namenode c.locate.new.namenode c.in_err-found.ensures.client c.requires.answered
+
+pub returns-in_err-file-clause-answered : goal.returns-in_err-file-clause-answered
+returns-in_err-file-clause-answered g c = keeps_same g.C.Cluster.may_answer c.args.self.now.namenode c.locate.new.namenode c.in_ok-found.ensures.client c.requires.answered
+
+pub returns-in_err-bytes-clause-answered : goal.returns-in_err-bytes-clause-answered
+returns-in_err-bytes-clause-answered g c =
+    c.read_range.ensures.answered (keeps_same g.C.Cluster.may_answer c.args.self.now.namenode c.locate.new.namenode c.in_ok-found.ensures.client c.requires.answered)
+
+pub returns-clause-answered : goal.returns-clause-answered
+returns-clause-answered g c =
+    c.read_range.ensures.answered (keeps_same g.C.Cluster.may_answer c.args.self.now.namenode c.locate.new.namenode c.in_ok-found.ensures.client c.requires.answered)

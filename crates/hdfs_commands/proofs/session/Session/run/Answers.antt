@@ -1,5 +1,5 @@
 -- A command that is refused before anything is asked, and a read.
-use Rattle.std.proofs.Common.{◌≡◌, ◌∙◌, ap, refl, sym, subst, rules, true, false, List, ℕ}
+use Rattle.std.proofs.Common.{◌≡◌, ⊎_elim, inl, inr, ◌∙◌, ap, refl, sym, subst, rules, true, false, List, ℕ}
 use Rattle.std.proofs.lemmas.Result.{err_from_is_err_and}
 use Rattle.hdfs_model.specs.declared.commands.Command.TheVariants as commands
 use Rattle.hdfs_cluster.specs.declared.errors.ArgFault.TheVariants as args
@@ -15,6 +15,10 @@ use Rattle.hdfs_commands.proofs.Connected.{connected_acts}
 use Rattle.hdfs_commands.proofs.ReadActs.{read_command, read_knows}
 use Rattle.hdfs_commands.proofs.WholeStarting.{as_called, early_whole, read_whole}
 use Rattle.hdfs_commands.proofs.Answered.{answered_same}
+use Rattle.hdfs_model.specs.Steps.{path_of}
+use Rattle.hdfs_names.specs.Paths.{absolute}
+use Rattle.hdfs_namenode.specs.Clients.{client_name}
+use Rattle.hdfs_commands.proofs.Refused.{refused_there, sent_there, target_so}
 use Rattle.hdfs_commands.proofs.session.Session.run.Goals as goal
 
 pub returns-in_err-path-clause-acts : goal.returns-in_err-path-clause-acts
@@ -139,4 +143,55 @@ read-requires-clause-allowed g c =
 pub returns-in-Read-clause-answered : goal.returns-in-Read-clause-answered
 returns-in-Read-clause-answered g c =
     answered_same c.args.self.now c.read.new.self
-    c.read.ensures.client.same.name (λ r. ap (λ (x : Session). writer_of x r) c.read.ensures.kept) c.requires.answered
+    c.read.ensures.client.same.name (λ r. ap (λ (x : Session). writer_of x r) c.read.ensures.kept) c.read.ensures.answered c.requires.answered
+
+pub read-requires-clause-answered : goal.read-requires-clause-answered
+read-requires-clause-answered g c = c.requires.answered.defaults
+
+pub returns-in_err-path-clause-refused : goal.returns-in_err-path-clause-refused
+returns-in_err-path-clause-refused g c =
+    let p = err_from_is_err_and c.from_residual.result c.from_residual.ensures.1 in
+    let session = c.args.self.now in
+    let command = c.args.command.now in
+    rw (p.1, p.2) (target_so g.C.Cluster.may_answer (client_name session.settings.client) (absolute session.settings.home (path_of command)) command c.in_err-path.field-0.0
+    (⊎_elim (λ none. inl none) (λ bad. inr (path_of command, bad.0)) c.in_err-path.ensures.err))
+
+pub returns-in-Create-clause-refused : goal.returns-in-Create-clause-refused
+returns-in-Create-clause-refused g c =
+    let session = c.args.self.now in
+    refused_there g.C.Cluster.may_answer session.namenode.client (client_name session.settings.client) c.in_ok-path.path (absolute session.settings.home (path_of c.args.command.now))
+    (commands.Create c.in-Create.path c.in-Create.options) c.args.command.now c.create.result c.requires.stands.name c.in_ok-path.ensures.ok.0 (sym c.in-Create.is) (c.create.ensures.refused c.in-Create.path)
+
+pub returns-in-Append-clause-refused : goal.returns-in-Append-clause-refused
+returns-in-Append-clause-refused g c =
+    let session = c.args.self.now in
+    refused_there g.C.Cluster.may_answer session.namenode.client (client_name session.settings.client) c.in_ok-path.path (absolute session.settings.home (path_of c.args.command.now))
+    (commands.Append c.in-Append.name) c.args.command.now c.append.result c.requires.stands.name c.in_ok-path.ensures.ok.0 (sym c.in-Append.is) c.append.ensures.refused
+
+pub returns-in-Read-clause-refused : goal.returns-in-Read-clause-refused
+returns-in-Read-clause-refused g c =
+    let session = c.args.self.now in
+    refused_there g.C.Cluster.may_answer session.namenode.client (client_name session.settings.client) c.as_str-in-Read.result.now (absolute session.settings.home (path_of c.args.command.now))
+    (commands.Read c.in-Read.name c.in-Read.offset c.in-Read.len) c.args.command.now c.read.result c.requires.stands.name (c.as_str-in-Read.ensures ∙ c.in_ok-path.ensures.ok.0) (sym c.in-Read.is) c.read.ensures.refused
+
+pub returns-in-Write-clause-refused : goal.returns-in-Write-clause-refused
+returns-in-Write-clause-refused g c =
+    let session = c.args.self.now in
+    let client = client_name session.settings.client in
+    let path = absolute session.settings.home (path_of c.args.command.now) in
+    let called = ap (absolute session.settings.home) (sym (ap path_of c.in-Write.is)) ∙ sym (c.as_str-in-Write.ensures ∙ c.in_ok-path.ensures.ok.0) in
+    refused_there g.C.Cluster.may_answer client client path path (commands.Write c.in-Write.path c.as_slice.result.now) c.args.command.now c.write.result refl refl
+    (sym (c.in-Write.is ∙ ap (λ (bytes : List ℕ). commands.Write c.in-Write.path bytes) (sym c.as_slice.ensures)))
+    (sent_there g.C.Cluster.may_answer client path (commands.Write c.in-Write.path c.as_slice.result.now) tt (g.C.Cluster.shown c.args.cluster.now) (g.C.Cluster.shown c.write.new.cluster) c.write.result
+    (c.write.ensures.acts c.in-Write.path called).anywhere.tells)
+
+pub returns-in-Close-clause-refused : goal.returns-in-Close-clause-refused
+returns-in-Close-clause-refused g c =
+    let session = c.args.self.now in
+    let client = client_name session.settings.client in
+    let path = absolute session.settings.home (path_of c.args.command.now) in
+    let called = ap (absolute session.settings.home) (sym (ap path_of c.in-Close.is)) ∙ sym (c.as_str-in-Close.ensures ∙ c.in_ok-path.ensures.ok.0) in
+    refused_there g.C.Cluster.may_answer client client path path (commands.Close c.in-Close.path) c.args.command.now c.close.result refl refl
+    (sym c.in-Close.is)
+    (sent_there g.C.Cluster.may_answer client path (commands.Close c.in-Close.path) tt (g.C.Cluster.shown c.args.cluster.now) (g.C.Cluster.shown c.close.new.cluster) c.close.result
+    (c.close.ensures.acts c.in-Close.path called).anywhere.tells)

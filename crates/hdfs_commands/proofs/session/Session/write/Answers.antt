@@ -7,7 +7,7 @@ use Rattle.hdfs_namenode.specs.Clients.{name_of}
 use Rattle.hdfs_file_writer.specs.Writers.{file_id_of}
 use Rattle.hdfs_commands.proofs.WholeWriting.{write_keeps, write_fails_keeps}
 use Rattle.hdfs_commands.proofs.WriteEnds.{write_acts, write_fails, write_not_owed}
-use Rattle.hdfs_commands.proofs.Answered.{answered_put}
+use Rattle.hdfs_commands.proofs.Answered.{answered_put, keeps_same}
 use Rattle.hdfs_commands.proofs.session.Session.write.Goals as goal
 
 pub write-requires-clause-stands : goal.write-requires-clause-stands
@@ -17,7 +17,7 @@ pub write-requires-clause-allowed : goal.write-requires-clause-allowed
 write-requires-clause-allowed g c =
     let at = (c.requires.stands.each c.args.path.now c.in-Some.writer.now (sym c.in-Some.ensures.value)).1 in
     let id = file_id_of c.in-Some.writer.now in
-    let answered = (c.requires.answered c.args.path.now c.in-Some.writer.now (sym c.in-Some.ensures.value)).id in
+    let answered = (c.requires.answered.files c.args.path.now c.in-Some.writer.now (sym c.in-Some.ensures.value)).id in
     let client = name_of c.args.self.now.namenode in
     subst (λ (p : List ℕ). LetsWrite g.C.Cluster.allows g.C.Cluster.may_answer client p id) (sym at)
     (c.requires.allowed id (subst (λ (p : List ℕ). IsAnsweredId g.C.Cluster.may_answer client p id) at answered))
@@ -113,7 +113,7 @@ returns-in-Err-clause-whole g c = λ name is.
     is c.in-Err.error (c.in-Err.ensures.err fine) (λ out. ap (λ x. g.C.Cluster.shown x) (c.in-Err.ensures.idle.options fine (λ none. cc (c.in-Err.ensures.idle.empty fine none)) out).2)
 
 pub write-requires-clause-answered : goal.write-requires-clause-answered
-write-requires-clause-answered g c = c.requires.answered c.args.path.now c.in-Some.writer.now (sym c.in-Some.ensures.value)
+write-requires-clause-answered g c = c.requires.answered.files c.args.path.now c.in-Some.writer.now (sym c.in-Some.ensures.value)
 
 pub returns-in-Ok-clause-answered : goal.returns-in-Ok-clause-answered
 returns-in-Ok-clause-answered g c =
@@ -122,7 +122,8 @@ returns-in-Ok-clause-answered g c =
     let w = c.write.new.self in
     answered_put session (record session { writers = c.get_mut.follows.lender w; namenode = c.write.new.namenode }) path (Some w) c.write.ensures.stands.2.name
     (btree_map_updates_text path session.writers (c.get_mut.follows.lender w) (Some w) ((c.get_mut.follows.holds w).3 (search rules)))
-    c.write.ensures.answered c.requires.answered
+    c.write.ensures.answered
+    (keeps_same g.C.Cluster.may_answer c.args.self.now.namenode c.write.new.namenode c.write.ensures.stands.2 c.requires.answered.defaults) c.requires.answered
 
 pub returns-in-Err-clause-answered : goal.returns-in-Err-clause-answered
 returns-in-Err-clause-answered g c =
@@ -131,4 +132,5 @@ returns-in-Err-clause-answered g c =
     let w = c.write.new.self in
     answered_put session (record session { writers = c.get_mut.follows.lender w; namenode = c.write.new.namenode }) path (Some w) c.write.ensures.stands.2.name
     (btree_map_updates_text path session.writers (c.get_mut.follows.lender w) (Some w) ((c.get_mut.follows.holds w).3 (search rules)))
-    c.write.ensures.answered c.requires.answered
+    c.write.ensures.answered
+    (keeps_same g.C.Cluster.may_answer c.args.self.now.namenode c.write.new.namenode c.write.ensures.stands.2 c.requires.answered.defaults) c.requires.answered

@@ -3,7 +3,7 @@ use Rattle.hdfs_step_tests.proofs.Leave.{lets_create}
 use Rattle.hdfs_step_tests.proofs.memory.storing.create_by.Goals as goal
 
 pub create-requires-clause-allowed : goal.create-requires-clause-allowed
-create-requires-clause-allowed c = λ to namenode leads at. lets_create (λ ask answer. Unit {0}) _ _ _ (λ request. tt)
+create-requires-clause-allowed c = λ to namenode leads at. lets_create (λ ask answer. Unit {0}) _ _ _ _ (λ request. tt)
 
 pub write_by-requires-clause-writer : goal.write_by-requires-clause-writer
 write_by-requires-clause-writer c = c.in-Ok.ensures.stands
