@@ -6,6 +6,7 @@ pub mod Building
 pub mod Walking
 pub mod Fetching
 pub mod ByReaders
+pub mod ByStreams
 pub mod InLimits
 pub mod Begun
 pub mod Quiet

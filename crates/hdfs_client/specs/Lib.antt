@@ -9,5 +9,6 @@ pub mod Building
 pub mod Listing
 pub mod Paging
 pub mod Readers
+pub mod Streams
 pub mod Opening
 pub mod Writing
