@@ -7,6 +7,9 @@ pub mod Walking
 pub mod Fetching
 pub mod ByReaders
 pub mod ByStreams
+pub mod ByMounts
+pub mod Made
+pub mod Sound
 pub mod InLimits
 pub mod Begun
 pub mod Quiet

@@ -5,6 +5,7 @@ pub mod Statuses
 pub mod Acls
 pub mod Places
 pub mod Services
+pub mod Mounting
 pub mod Building
 pub mod Listing
 pub mod Paging

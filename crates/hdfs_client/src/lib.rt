@@ -12,6 +12,8 @@ mod constructors;
 mod errors;
 mod file_reader;
 mod listing;
+mod making;
+mod mounting;
 mod opening;
 mod paths;
 mod places;

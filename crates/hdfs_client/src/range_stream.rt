@@ -3,7 +3,6 @@ ghost use Rattle.std.specs.Prelude.{◌≡◌, ◌<◌, ◌≤◌, ◌+◌, true
 ghost use Rattle.hdfs_cluster.specs.Requests.{AskOf};
 ghost use Rattle.hdfs_cluster.specs.declared.asks.Ask.TheVariants as asks;
 ghost use Rattle.hdfs_file_reader.specs.Files.{EndsBehind, LetsReadBlocks};
-ghost use Rattle.hdfs_client.specs.Streams as spec;
 
 use crate::client::Client;
 use crate::file_reader::FileReader;
