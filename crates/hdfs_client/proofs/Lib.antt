@@ -10,6 +10,7 @@ pub mod ByStreams
 pub mod ByMounts
 pub mod Made
 pub mod Sound
+pub mod Leased
 pub mod InLimits
 pub mod Begun
 pub mod Quiet

@@ -11,5 +11,6 @@ pub mod Listing
 pub mod Paging
 pub mod Readers
 pub mod Streams
+pub mod Leasing
 pub mod Opening
 pub mod Writing

@@ -11,6 +11,7 @@ mod client;
 mod constructors;
 mod errors;
 mod file_reader;
+mod leasing;
 mod listing;
 mod making;
 mod mounting;
