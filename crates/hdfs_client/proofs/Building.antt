@@ -1,25 +1,38 @@
--- What a client is built by: a step that goes well leaves the plan to the next one.
-use Rattle.std.proofs.Common.{◌≡◌, ℕ, List, Option, Some, Result, sym, subst}
+-- What a client is built by: the settings are held by their last values, in the order of their keys.
+use Rattle.std.proofs.Common.{◌≡◌, ℕ, List, Option, Some, None, Result, Ok, Bor, codes, inl, inr, refl, ◌∙◌, ap, subst}
+use Rattle.std.specs.Option.{option_copied, option_map}
 use Rattle.rand_core.specs.Stream.{Stream}
 use Rattle.std.proofs.Math.Path.{fun_ext}
-use Rattle.hdfs_client.specs.Building.{Builds, Given, plan_of, service_at}
+use Rattle.hdfs_names.specs.Configurations.{IsTable, entries_of, setting}
+use Rattle.hdfs_names.specs.declared.settings.Configuration.{Configuration}
+use Rattle.hdfs_client.specs.Building.{Builds, BuildsBy, Comes, given_by, plan_at, plan_of}
+use Rattle.hdfs_client.specs.Places.{Answers, and_then, place_at}
 use Rattle.hdfs_client.specs.declared.client.Client.{Client}
-use Rattle.hdfs_client.specs.Services.{Draws, service_of}
+use Rattle.hdfs_client.specs.declared.places.Place.{Place}
 use Rattle.hdfs_client.specs.declared.build_error.BuildError.{BuildError}
-use Rattle.hdfs_client.specs.declared.service_plan.ServicePlan.{ServicePlan}
-
-pub at_host : (setting : List ℕ → Option (List ℕ)) (o : Option (List ℕ)) (host name : List ℕ) (port : Option ℕ) (stream : Stream)
-    (result : Result ServicePlan BuildError) (left : Stream) → o ≡ Some host → name ≡ host → Draws (service_of setting name port stream) result left
-    → Draws (service_at setting o port stream) result left
-at_host setting o host name port stream result left is same draws =
-    subst (λ (x : Option (List ℕ)). Draws (service_at setting x port stream) result left) (sym is)
-    (subst (λ (x : List ℕ). Draws (service_of setting x port stream) result left) same draws)
 
 -- settings that have the same values are the same
-pub by_values : (url : Option (List ℕ)) (setting setting' : List ℕ → Option (List ℕ)) (user : List ℕ) (stream : Stream) (result : Result Client BuildError)
-    (left : Stream) → ((key : List ℕ) → setting key ≡ setting' key)
-    → (let given : Given = record { url = url; setting = setting; user = user } in Builds given (plan_of given stream) result left)
-    → (let given : Given = record { url = url; setting = setting'; user = user } in Builds given (plan_of given stream) result left)
-by_values url setting setting' user stream result left same builds =
-    subst (λ (s : List ℕ → Option (List ℕ)). let given : Given = record { url = url; setting = s; user = user } in Builds given (plan_of given stream) result left)
-    (fun_ext same) builds
+pub by_values : (url : Option (List ℕ)) (config : Configuration) (setting' : List ℕ → Option (List ℕ)) (user : List ℕ) (stream : Stream) (result : Result Client BuildError)
+    (left : Stream) → ((key : List ℕ) → setting config key ≡ setting' key) → IsTable config
+    → Comes (given_by url config user) (plan_of (given_by url config user) (entries_of config) stream) result left
+    → Builds (record { url = url; setting = setting'; user = user }) stream result left
+by_values url config setting' user stream result left same table comes =
+    inl (subst (λ (s : List ℕ → Option (List ℕ)). BuildsBy (record { url = url; setting = s; user = user }) stream result left) (fun_ext same)
+    (record { entries = entries_of config; are = record { rising = table.rising; finds = table.finds }; comes = comes }))
+
+copied_is : (o : Option (Bor (List ℕ))) → option_copied o ≡ option_map (λ x. x.now) o
+copied_is None = refl
+copied_is (Some text) = refl
+
+-- where a client begins is the place of the given URL or of the default one
+pub at_place : (url url' : Option (List ℕ)) (o : Option (Bor (List ℕ))) (config : Configuration) (user named : List ℕ) (stream left : Stream) (place : Place)
+    (result : Result Client BuildError) → url' ≡ url → option_map (λ x. x.now) o ≡ setting config (codes "fs.defaultFS") → named ≡ user
+    → Answers (place_at url' (option_copied o)) (Ok place)
+    → Comes (given_by url config named) (plan_at (given_by url config named) (entries_of config) stream place) result left
+    → Comes (given_by url config user) (plan_of (given_by url config user) (entries_of config) stream) result left
+at_place url url' o config user named stream left place result same set called (inr none) comes = absurd (cc none)
+at_place url url' o config user named stream left place result same set called (inl is) comes =
+    let found : Ok place ≡ place_at url (setting config (codes "fs.defaultFS")) =
+    is ∙ ap (λ (u : Option (List ℕ)). place_at u (option_copied o)) same ∙ ap (place_at url) (copied_is o ∙ set) in
+    subst (λ (p : Result Place BuildError). Comes (given_by url config user) (and_then p (plan_at (given_by url config user) (entries_of config) stream)) result left) found
+    (subst (λ (u : List ℕ). Comes (given_by url config u) (plan_at (given_by url config u) (entries_of config) stream place) result left) called comes)

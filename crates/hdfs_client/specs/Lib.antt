@@ -5,9 +5,12 @@ pub mod Statuses
 pub mod Acls
 pub mod Places
 pub mod Services
+pub mod Mounting
 pub mod Building
 pub mod Listing
 pub mod Paging
 pub mod Readers
+pub mod Streams
+pub mod Leasing
 pub mod Opening
 pub mod Writing

@@ -56,6 +56,9 @@ abbrev pub is_some_namenode : List NamenodeAddress → Bool
 is_some_namenode [] = false
 is_some_namenode (address ∷ addresses) = true
 
+abbrev pub has_namenode : ServicePlan → Bool
+has_namenode plan = is_some_namenode plan.namenodes
+
 -- there has to be one
 abbrev pub some_of : Option (List ℕ) → Result (List NamenodeAddress × Stream) BuildError → Result (ServicePlan × Stream) BuildError
 some_of provider (Err error) = Err error

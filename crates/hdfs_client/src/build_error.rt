@@ -19,14 +19,14 @@ pub enum BuildError {
     /// There is no URL with a host, and no default one.
     #[error("no fs.defaultFS setting found")]
     NoDefaultFs,
-    /// Neither URL has a host, or the default one has another scheme than the given one.
+    /// Neither URL has a host, or the default one has another scheme than the given one; or a mount's has none.
     #[error("URL must contain a host")]
     Host,
     /// The directory of home directories doesn't begin with a slash.
     #[error("the directory of home directories must begin with a slash")]
     Home,
-    /// The scheme isn't `hdfs`.
-    #[error("only the scheme hdfs is supported")]
+    /// The scheme is neither `hdfs` nor `viewfs`, or that of a mount isn't `hdfs`.
+    #[error("only the schemes hdfs and viewfs are supported, and hdfs for a mount")]
     Scheme,
     /// The addresses of the name service would have to be looked up by name.
     #[error("the addresses of a name service would have to be looked up by name")]
@@ -34,6 +34,9 @@ pub enum BuildError {
     /// No address of a namenode is set.
     #[error("no NameNode hosts found")]
     NoNamenode,
+    /// A cluster's mounts have no fallback, or a second one.
+    #[error("a viewfs mount table has one fallback")]
+    Mounts,
 }
 
 impl From<NoMemory> for BuildError {

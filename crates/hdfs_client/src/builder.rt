@@ -1,22 +1,22 @@
 //! How a client is built from settings.
-ghost use Rattle.std.specs.Prelude.{◌≡◌, ◌⊎◌, ◌≤◌, ℕ, [], true, false, length, Some, None, Option as Maybe, List as Items, IfOk, IfErr, option_copied, map, option_map, string_bytes, vec_len};
-ghost use Rattle.hdfs_names.specs.Configurations.{pair_text, setting};
+ghost use Rattle.std.specs.Prelude.{◌≡◌, ◌⊎◌, ℕ, [], true, false, Some, None, Option as Maybe, List as Items, IfOk, IfErr, option_copied, map, option_map, string_bytes};
+ghost use Rattle.hdfs_names.specs.Configurations.{entries_of, pair_text, setting};
 ghost use Rattle.hdfs_names.specs.Settings.{last_value};
+ghost use Rattle.hdfs_names.specs.declared.mounts.MountLink.{MountLink};
 ghost use Rattle.hdfs_names.specs.Homes.{home_root_of};
 ghost use Rattle.hdfs_names.specs.Mounts.{is_absolute_or_empty};
 ghost use Rattle.hdfs_client.specs.Building as spec;
-ghost use Rattle.hdfs_client.specs.Building.{Builds, IsHome, IsMade, IsOneService, given_by, plan_of};
+ghost use Rattle.hdfs_client.specs.Building.{AsksAny, Builds, Comes, IsHome, IsMade, given_by, plan_of};
 ghost use Rattle.hdfs_client.specs.Linked.{is_rooted};
-ghost use Rattle.hdfs_client.specs.Services.{Draws};
+ghost use Rattle.hdfs_client.specs.Mounting.{IsSound, held_by};
 ghost use Rattle.hdfs_client.specs.declared.build_error.BuildError.TheVariants as build_errors;
 
 use crate::build_error::BuildError;
 use crate::client::Client;
+use crate::making::made;
+use crate::mounting::{Mounting, mounts_at};
 use crate::places::{Place, place_at};
-use crate::service_plan::{ServicePlan, service_of};
-use hdfs_connections::ConnectionCache;
-use hdfs_namenode::{NameServiceProxy, NamenodeProtocol};
-use hdfs_names::{Configuration, MountLink, MountTable, NamesFault, build_home_dir};
+use hdfs_names::{Configuration, MountTable, NamesFault, build_home_dir};
 use hdfs_wire::{List, Text};
 use rand_core::Rng;
 use std::alloc::Global;
@@ -69,14 +69,18 @@ impl ClientBuilder {
         self
     }
 
-    /// Builds the client. It is called by the next sixteen bytes of the generator, behind what that gives where the addresses of the
-    /// service are to be shuffled. The user is `user` where none is given.
+    /// Builds the client: of one service, where the scheme is `hdfs`; where it is `viewfs`, of a service for each mount that the settings
+    /// name for the host, `fs.viewfs.mounttable.HOST.link./PATH` and `fs.viewfs.mounttable.HOST.linkFallback`. It is called by the next
+    /// sixteen bytes of the generator, behind what that gives where the addresses of a service are to be shuffled. The user is `user`
+    /// where none is given.
     ///
     /// Errors, each where none before it comes: `UrlParse` of the URL; `NoDefaultFs` where there is no URL with a host, and no
-    /// `fs.defaultFS`; `UrlParse` of that one; `Host` where that has none, or another scheme than the URL; `Home`; `Scheme`;
-    /// `ResolveNeeded`; `NoNamenode`. `NoMemory` may come anywhere.
+    /// `fs.defaultFS`; `UrlParse` of that one; `Host` where that has none, or another scheme than the URL; `Home`; `Scheme`. Then of the
+    /// service, or of each mount in the order of the settings' keys: `UrlParse`, `Host` and `Scheme` of a mount's URL; `ResolveNeeded`;
+    /// `NoNamenode`; `Mounts` of a second fallback. Behind all mounts `Mounts`, where none is the fallback. `NoMemory` may come anywhere.
     pub fn build<G: Rng>(self, rng: &mut G) -> Result<Client, BuildError>
-        ensures { Builds (given_of self) (plan_of (given_of self) (G.stream rng.old)) result (G.stream rng.new) }
+        ensures builds { Builds (given_of self) (G.stream rng.old) result (G.stream rng.new) }
+        ensures any { IfOk result AsksAny }
     {
         let ClientBuilder {
             alloc,
@@ -99,8 +103,9 @@ fn build_with<G: Rng>(
     user: &Option<Text>,
     rng: &mut G,
 ) -> Result<Client, BuildError>
-    ensures { let given = given_by url.now config.now (spec.user_or user.now) in
-        Builds given (plan_of given (G.stream rng.old)) result (G.stream rng.new) }
+    ensures builds { let given = given_by url.now config.now (spec.user_or user.now) in
+        Comes given (plan_of given (entries_of config.now) (G.stream rng.old)) result (G.stream rng.new) }
+    ensures any { IfOk result AsksAny }
 {
     match place_at(alloc, text_of(url), config.get("fs.defaultFS")) {
         Ok(place) => build_at(alloc, config, user_or(user), &place, rng),
@@ -116,32 +121,15 @@ fn build_at<G: Rng>(
     place: &Place,
     rng: &mut G,
 ) -> Result<Client, BuildError>
-    ensures { (url : Maybe (Items ℕ)) → let given = given_by url config.now user.now in
-        Builds given (spec.plan_at given (G.stream rng.old) place.now) result (G.stream rng.new) }
+    ensures builds { (url : Maybe (Items ℕ)) → let given = given_by url config.now user.now in
+        Comes given (spec.plan_at given (entries_of config.now) (G.stream rng.old) place.now) result
+        (G.stream rng.new) }
+    ensures any { IfOk result AsksAny }
 {
     let home = home_at(alloc, config, user, place)?;
-    if place.scheme.as_str() != "hdfs" {
-        return Err(BuildError::Scheme);
-    }
-    match service_at(alloc, config, place, rng) {
-        Ok(service) => client_of(alloc, config, home, service, rng),
+    match mounts_at(alloc, config, place, rng) {
+        Ok(mounting) => client_of(alloc, config, home, mounting, rng),
         Err(error) => Err(error),
-    }
-}
-
-/// The service at a place.
-fn service_at<G: Rng>(
-    alloc: Global,
-    config: &Configuration,
-    place: &Place,
-    rng: &mut G,
-) -> Result<ServicePlan, BuildError>
-    ensures { Draws (spec.service_at (setting config.now) place.now.host place.now.port (G.stream rng.old)) result
-        (G.stream rng.new) }
-{
-    match &place.host {
-        Some(host) => service_of(alloc, config, host.as_str(), place.port, rng),
-        None => Err(BuildError::Host),
     }
 }
 
@@ -173,69 +161,38 @@ fn home_at(
     }
 }
 
-/// The client of one service, with this home directory.
+/// The client of some mounts, with this home directory.
 fn client_of<G: Rng>(
     alloc: Global,
     config: &Configuration,
-    home: Text,
-    service: ServicePlan,
+    home_dir: Text,
+    mounting: Mounting,
     rng: &mut G,
 ) -> Result<Client, BuildError>
-    requires rooted { is_rooted home ≡ true }
-    requires some { 1 ≤ length service.namenodes }
-    ensures ok { IfOk result (IsMade (setting config.now) home service (G.stream rng.old) (G.stream rng.new)) }
-    ensures err { IfErr result (λ e. e ≡ build_errors.NoMemory) }
+    requires rooted { is_rooted home_dir ≡ true }
+    requires sound { IsSound (held_by mounting) }
+    ensures ok { IfOk result (λ client. (fallback : MountLink) × (mounting.fallback ≡ Some fallback)
+        × IsMade (setting config.now)
+        (record { mounts = mounting.links.items; fallback = fallback; home_dir = home_dir })
+        mounting.services.items (G.stream rng.old) (G.stream rng.new) client) }
+    ensures any { IfOk result AsksAny }
+    ensures err { IfErr result (λ e. (e ≡ build_errors.NoMemory)
+        ⊎ ((e ≡ build_errors.Mounts) × (mounting.fallback ≡ None))) }
 {
-    let mut id = [0; 16];
-    rng.fill_bytes(&mut id);
-    let services = services_of(alloc, &service, id)?;
-    Ok(Client {
-        alloc,
-        mounts: all_to_one(alloc, home),
+    let Mounting {
+        links,
+        fallback,
         services,
-        addresses: service.namenodes.into_vec(),
-        replacement: config.get_replace_datanode_on_failure_policy(),
-        connections: ConnectionCache::new(alloc),
-    })
-}
-
-/// The mounts where each path leads to the one service, by its own name.
-fn all_to_one(alloc: Global, home_dir: Text) -> MountTable
-    ensures { result ≡ record {
-      mounts = [];
-      fallback = record { viewfs_path = []; hdfs_path = []; service = 0 };
-      home_dir = home_dir;
-    } }
-{
-    MountTable {
-        mounts: List::new(alloc),
-        fallback: MountLink {
-            viewfs_path: Text::new(alloc),
-            hdfs_path: Text::new(alloc),
-            service: 0,
-        },
-        home_dir,
-    }
-}
-
-/// The one service, which is asked in the name of these bytes.
-fn services_of(
-    alloc: Global,
-    service: &ServicePlan,
-    id: [u8; 16],
-) -> Result<Vec<NamenodeProtocol>, BuildError>
-    requires { 1 ≤ length service.now.namenodes }
-    ensures ok { IfOk result (λ services. IsOneService service.now id services.items) }
-    ensures len { IfOk result (λ services. vec_len services ≡ 1) }
-    ensures err { IfErr result (λ e. e ≡ build_errors.NoMemory) }
-{
-    let Ok(count) = u32::try_from(service.namenodes.as_slice().len()) else {
-        return Err(BuildError::NoMemory);
+    } = mounting;
+    let Some(fallback) = fallback else {
+        return Err(BuildError::Mounts);
     };
-    let proxy = NameServiceProxy::new(0, count, service.aligned, service.find_observer);
-    let mut services = Vec::new(alloc);
-    services.push(NamenodeProtocol::new(alloc, proxy, id)?)?;
-    Ok(services)
+    let mounts = MountTable {
+        mounts: List::from_vec(links),
+        fallback,
+        home_dir,
+    };
+    made(alloc, config, mounts, services, rng)
 }
 
 /// A text that may be there, as a slice.

@@ -1,7 +1,7 @@
 //! The constructors of a client: what `ClientBuilder::build` builds of their arguments, with its errors.
-ghost use Rattle.std.specs.Prelude.{◌≡◌, [], Some, None, map, option_copied};
+ghost use Rattle.std.specs.Prelude.{IfOk, [], Some, None, map, option_copied};
 ghost use Rattle.hdfs_names.specs.Configurations.{pair_text};
-ghost use Rattle.hdfs_client.specs.Building.{Builds, given_from, plan_of};
+ghost use Rattle.hdfs_client.specs.Building.{AsksAny, Builds, given_from};
 
 use crate::build_error::BuildError;
 use crate::builder::ClientBuilder;
@@ -18,8 +18,9 @@ impl Client {
         user: &str,
         rng: &mut G,
     ) -> Result<Client, BuildError>
-        ensures { let given = given_from (Some url.now) [] (Some user.now) in
-            Builds given (plan_of given (G.stream rng.old)) result (G.stream rng.new) }
+        ensures builds { let given = given_from (Some url.now) [] (Some user.now) in
+            Builds given (G.stream rng.old) result (G.stream rng.new) }
+        ensures any { IfOk result AsksAny }
     {
         built(alloc, Some(url), Vec::new(alloc), Some(user), rng)
     }
@@ -32,8 +33,9 @@ impl Client {
         user: &str,
         rng: &mut G,
     ) -> Result<Client, BuildError>
-        ensures { let given = given_from (Some url.now) (map pair_text config.items) (Some user.now) in
-            Builds given (plan_of given (G.stream rng.old)) result (G.stream rng.new) }
+        ensures builds { let given = given_from (Some url.now) (map pair_text config.items) (Some user.now) in
+            Builds given (G.stream rng.old) result (G.stream rng.new) }
+        ensures any { IfOk result AsksAny }
     {
         built(alloc, Some(url), config, Some(user), rng)
     }
@@ -45,8 +47,9 @@ impl Client {
         user: &str,
         rng: &mut G,
     ) -> Result<Client, BuildError>
-        ensures { let given = given_from None (map pair_text config.items) (Some user.now) in
-            Builds given (plan_of given (G.stream rng.old)) result (G.stream rng.new) }
+        ensures builds { let given = given_from None (map pair_text config.items) (Some user.now) in
+            Builds given (G.stream rng.old) result (G.stream rng.new) }
+        ensures any { IfOk result AsksAny }
     {
         built(alloc, None, config, Some(user), rng)
     }
@@ -57,8 +60,9 @@ impl Client {
         config: Vec<(String, String)>,
         rng: &mut G,
     ) -> Result<Client, BuildError>
-        ensures { let given = given_from None (map pair_text config.items) None in
-            Builds given (plan_of given (G.stream rng.old)) result (G.stream rng.new) }
+        ensures builds { let given = given_from None (map pair_text config.items) None in
+            Builds given (G.stream rng.old) result (G.stream rng.new) }
+        ensures any { IfOk result AsksAny }
     {
         built(alloc, None, config, None, rng)
     }
@@ -72,9 +76,10 @@ fn built<G: Rng>(
     user: Option<&str>,
     rng: &mut G,
 ) -> Result<Client, BuildError>
-    ensures { let given = given_from (option_copied url.entry) (map pair_text config.items)
+    ensures builds { let given = given_from (option_copied url.entry) (map pair_text config.items)
         (option_copied user.entry) in
-        Builds given (plan_of given (G.stream rng.old)) result (G.stream rng.new) }
+        Builds given (G.stream rng.old) result (G.stream rng.new) }
+    ensures any { IfOk result AsksAny }
 {
     let builder = ClientBuilder {
         alloc,

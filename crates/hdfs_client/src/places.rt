@@ -84,7 +84,7 @@ fn is_fit(scheme: Option<&str>, place: &Place) -> bool
 }
 
 /// A text as a URL.
-fn read(alloc: Global, text: &str) -> Result<Place, BuildError>
+pub(crate) fn read(alloc: Global, text: &str) -> Result<Place, BuildError>
     ensures { Answers (spec.read text.now) result }
 {
     match Url::parse(alloc, text) {
