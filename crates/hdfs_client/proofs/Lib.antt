@@ -3,7 +3,10 @@ pub mod Asking
 pub mod Renaming
 pub mod Numbers
 pub mod Building
-pub mod Walking
+pub mod Rests
+pub mod Turned
+pub mod Found
+pub mod Listed
 pub mod Fetching
 pub mod ByReaders
 pub mod InLimits

@@ -7,7 +7,8 @@ pub mod Places
 pub mod Services
 pub mod Building
 pub mod Listing
-pub mod Paging
+pub mod Iterating
+pub mod Turning
 pub mod Readers
 pub mod Opening
 pub mod Writing
