@@ -1,19 +1,24 @@
 -- What is found from directories that were begun, turn by turn.
-use Rattle.std.proofs.Common.{◌≡◌, ◌⊎◌, ℕ, Bool, true, false, not, ◌&&◌, ◌||◌, List, [], ◌∷◌, ◌++◌, refl, sym, ◌∙◌, ap, subst, append_assoc, Option, Some, None, Result, Ok, Err, IfOk, OnErr, map, reverse}
+use Rattle.std.proofs.Common.{◌≡◌, ◌⊎◌, ℕ, Bool, true, false, not, ◌&&◌, ◌||◌, List, [], ◌∷◌, ◌++◌, refl, sym, ◌∙◌, ap, subst, append_assoc, inl, inr, Option, Some, None, Result, Ok, Err, IfErr, IfOk, OnErr, map, reverse}
 use Rattle.std.specs.List.{list_all}
 use Rattle.std.proofs.lemmas.List.{reverse-append}
 use Rattle.hdfs_client.specs.declared.list_iterator.DirListingIterator.{DirListingIterator}
-use Rattle.std.proofs.lemmas.Bool.{false≢true}
+use Rattle.std.proofs.lemmas.Bool.{cases_Bool, false≢true}
 use Rattle.hdfs_cluster.specs.declared.asks.Ask.{Ask}
+use Rattle.hdfs_cluster.specs.declared.asks.Ask.TheVariants as asks
 use Rattle.hdfs_cluster.specs.declared.asks.Answer.{Answer}
+use Rattle.hdfs_cluster.specs.declared.asks.Answer.TheVariants as answers
+use Rattle.hdfs_cluster.specs.declared.asks.AskFault.{AskFault}
+use Rattle.hdfs_cluster.specs.declared.errors.HdfsError.TheVariants as errors
+use Rattle.hdfs_client.specs.Calls.{Gives}
+use Rattle.hdfs_client.specs.declared.client.Client.{Client}
 use Rattle.hdfs_cluster.specs.declared.errors.HdfsError.{HdfsError}
-use Rattle.hdfs_cluster.specs.declared.messages.DirList.{DirList}
 use Rattle.hdfs_cluster.specs.declared.messages.FileStatusMsg.{FileStatusMsg}
 use Rattle.hdfs_cluster.proofs.Loads.{and_parts}
 use Rattle.hdfs_cluster.specs.Requests.{Request}
 use Rattle.hdfs_names.specs.declared.mounts.MountTable.{MountTable}
-use Rattle.hdfs_client.specs.Iterating.{AreFound, FindsFirst, HasRest, HasSomeRest, HaveNone, IsCut, IsToCome, Left, LetsRest, LetsWalk, MayCome, Turns, Walks, are_none, asks_none, fresh, given_by, is_over, left_of}
-use Rattle.hdfs_client.specs.Listing.{AreEntries, Finds, HasAll, HasSome, IsBelow, LetsList, LetsListAt, alone, answered, asked, messages_of, nothing, with_own}
+use Rattle.hdfs_client.specs.Iterating.{AreFound, HasRest, HasSomeRest, HaveNone, IsCut, IsToCome, Left, LetsRest, LetsWalk, MayCome, Turns, Walks, are_none, asks_none, fresh, given_by, is_over, left_of, IfFails, IsDirFault, IsEntryFault, IsPageFault, wants_page}
+use Rattle.hdfs_client.specs.Listing.{AreEntries, HasAll, HasSome, IsBelow, LetsList, LetsListAt, alone, answered, asked, messages_of, nothing, with_own}
 use Rattle.hdfs_client.specs.Turning.{IsFoundIn, IsPassed, ended, entered_by, first_ended}
 use Rattle.hdfs_client.specs.declared.status.FileStatus.{FileStatus}
 use Rattle.hdfs_client.proofs.Rests.{all_fresh, none_all, none_some, over_nothing, some_fresh}
@@ -104,7 +109,7 @@ module _ (may_answer : Ask → Answer → Type 0) (mounts : MountTable) where
 
   -- ---- what was found goes on
 
-  module _ (recursive : Bool) (old mid new : List Left) where
+  module _ (Why : HdfsError → Left → Type 0) (recursive : Bool) (old mid new : List Left) where
     back_all : (dirs : List Left) (found : List FileStatus) → IsPassed may_answer mounts old dirs → IsToCome may_answer mounts recursive dirs found
         → IsToCome may_answer mounts recursive old found
     back_all dirs found passed comes =
@@ -117,9 +122,9 @@ module _ (may_answer : Ask → Answer → Type 0) (mounts : MountTable) where
         subst (λ (ds : List Left). MayCome may_answer mounts recursive ds found) (sym passed.was)
         (skipped (HasSomeRest may_answer mounts) (HasSome may_answer mounts) recursive passed.within dirs found (all_some passed.within) comes)
 
-    cut_there : (dir end : Left) (around : List Left) → IsPassed may_answer mounts old (dir ∷ around) → new ≡ end ∷ around → is_over end ≡ true
-        → IsCut may_answer mounts old new
-    cut_there dir end around passed is over = record {
+    cut_there : (error : HdfsError) (dir end : Left) (around : List Left) → Why error dir → IsPassed may_answer mounts old (dir ∷ around) → new ≡ end ∷ around → is_over end ≡ true
+        → IsCut may_answer mounts (Why error) old new
+    cut_there error dir end around why passed is over = record {
       within = passed.within;
       ended = dir;
       around = around;
@@ -128,10 +133,11 @@ module _ (may_answer : Ask → Answer → Type 0) (mounts : MountTable) where
       end = end;
       is = is;
       over = over;
+      why = why;
     }
 
-    pub walks_on : (status : FileStatus) → IsFoundIn may_answer mounts old (Some (Ok status)) mid → new ≡ entered_by (recursive && status.isdir) status mid
-        → Walks may_answer mounts recursive old (Some (Ok status)) new
+    pub walks_on : (status : FileStatus) → IsFoundIn may_answer mounts Why old (Some (Ok status)) mid → new ≡ entered_by (recursive && status.isdir) status mid
+        → Walks may_answer mounts Why recursive old (Some (Ok status)) new
     walks_on status found enters = record {
       all = λ sound later comes. back_all (found.dir ∷ found.around) (status ∷ later) found.passed
           (entered (HasRest may_answer mounts) (HasAll may_answer mounts) recursive found.dir found.dir' found.around status later (found.turns.all refl)
@@ -148,9 +154,9 @@ module _ (may_answer : Ask → Answer → Type 0) (mounts : MountTable) where
     }
 
     -- an error in the place of an entry
-    pub walks_off : (status : FileStatus) (error : HdfsError) → IsFoundIn may_answer mounts old (Some (Ok status)) mid → new ≡ first_ended mid
-        → Walks may_answer mounts recursive old (Some (Err error)) new
-    walks_off status error found is =
+    pub walks_off : (status : FileStatus) (error : HdfsError) → ((dir : Left) → Why error dir) → IsFoundIn may_answer mounts Why old (Some (Ok status)) mid → new ≡ first_ended mid
+        → Walks may_answer mounts Why recursive old (Some (Err error)) new
+    walks_off status error why found is =
         let now : new ≡ ended found.dir' ∷ found.around = is ∙ ap first_ended found.is in record {
           all = λ sound. absurd (false≢true sound);
           some = λ later comes. back_some (found.dir ∷ found.around) later found.passed
@@ -159,26 +165,26 @@ module _ (may_answer : Ask → Answer → Type 0) (mounts : MountTable) where
               (sym (over_nothing may_answer mounts (ended found.dir') own refl has)) (none_some may_answer mounts found.dir))
               (subst (λ (ds : List Left). MayCome may_answer mounts recursive ds later) now comes));
           none = λ is. cc;
-          cut = cut_there found.dir (ended found.dir') found.around found.passed now refl;
+          cut = cut_there error found.dir (ended found.dir') found.around (why found.dir) found.passed now refl;
         }
 
-  module _ (recursive : Bool) (old new : List Left) where
-    pub walks_wrong : (error : HdfsError) → IsFoundIn may_answer mounts old (Some (Err error)) new → Walks may_answer mounts recursive old (Some (Err error)) new
+  module _ (Why : HdfsError → Left → Type 0) (recursive : Bool) (old new : List Left) where
+    pub walks_wrong : (error : HdfsError) → IsFoundIn may_answer mounts Why old (Some (Err error)) new → Walks may_answer mounts Why recursive old (Some (Err error)) new
     walks_wrong error found = record {
       all = λ sound. absurd (false≢true sound);
-      some = λ later comes. back_some recursive old new new (found.dir ∷ found.around) later found.passed
+      some = λ later comes. back_some Why recursive old new new (found.dir ∷ found.around) later found.passed
           (silent (HasSomeRest may_answer mounts) (HasSome may_answer mounts) recursive found.dir found.dir' found.around later found.turns.some
           (subst (λ (ds : List Left). MayCome may_answer mounts recursive ds later) found.is comes));
       none = λ is. cc;
-      cut = cut_there recursive old new new found.dir found.dir' found.around found.passed found.is (found.turns.ends refl);
+      cut = cut_there Why recursive old new new error found.dir found.dir' found.around found.fault found.passed found.is (found.turns.ends refl);
     }
 
-    pub walks_out : IsFoundIn may_answer mounts old None new → Walks may_answer mounts recursive old None new
+    pub walks_out : IsFoundIn may_answer mounts Why old None new → Walks may_answer mounts Why recursive old None new
     walks_out found = record {
-      all = λ sound later comes. back_all recursive old new new (found.dir ∷ found.around) later found.passed
+      all = λ sound later comes. back_all Why recursive old new new (found.dir ∷ found.around) later found.passed
           (silent (HasRest may_answer mounts) (HasAll may_answer mounts) recursive found.dir found.dir' found.around later (found.turns.all refl)
           (subst (λ (ds : List Left). IsToCome may_answer mounts recursive ds later) found.is comes));
-      some = λ later comes. back_some recursive old new new (found.dir ∷ found.around) later found.passed
+      some = λ later comes. back_some Why recursive old new new (found.dir ∷ found.around) later found.passed
           (silent (HasSomeRest may_answer mounts) (HasSome may_answer mounts) recursive found.dir found.dir' found.around later found.turns.some
           (subst (λ (ds : List Left). MayCome may_answer mounts recursive ds later) found.is comes));
       none = λ is. ap (λ (ds : List Left). list_all is_over ds) (found.is ∙ ap (λ (ds : List Left). found.dir' ∷ ds) (found.last refl))
@@ -194,7 +200,7 @@ module _ (may_answer : Ask → Answer → Type 0) (mounts : MountTable) where
   deeper recursive path mid _ first (answered dir before status behind below has directory) =
       answered dir before status behind (deeper recursive path mid dir first below) has directory
 
-  module _ (allows : Request → Type 0) (recursive : Bool) where
+  module _ (allows : Request → Type 0) (Why : HdfsError → Left → Type 0) (recursive : Bool) where
     pub lets_fresh : (path : List ℕ) → LetsList allows may_answer mounts recursive path → LetsRest allows may_answer mounts recursive (fresh path)
     lets_fresh path lets = record {
       on = lets path asked;
@@ -231,14 +237,14 @@ module _ (may_answer : Ask → Answer → Type 0) (mounts : MountTable) where
     lets_passed old dirs passed lets =
         lets_behind passed.within dirs (subst (λ (ds : List Left). LetsWalk allows may_answer mounts recursive ds) passed.was lets)
 
-    pub lets_on : (old new : List Left) (result : Option (Result FileStatus HdfsError)) → IsFoundIn may_answer mounts old result new
+    pub lets_on : (old new : List Left) (result : Option (Result FileStatus HdfsError)) → IsFoundIn may_answer mounts Why old result new
         → LetsWalk allows may_answer mounts recursive old → LetsWalk allows may_answer mounts recursive new
     lets_on old new result found lets =
         let both : LetsWalk allows may_answer mounts recursive (found.dir ∷ found.around) = lets_passed old (found.dir ∷ found.around) found.passed lets in
         subst (λ (ds : List Left). LetsWalk allows may_answer mounts recursive ds) (sym found.is)
         (lets_turn found.dir found.dir' result found.turns both.0, both.1)
 
-    pub lets_enter : (old mid new : List Left) (status : FileStatus) → IsFoundIn may_answer mounts old (Some (Ok status)) mid
+    pub lets_enter : (old mid new : List Left) (status : FileStatus) → IsFoundIn may_answer mounts Why old (Some (Ok status)) mid
         → new ≡ entered_by (recursive && status.isdir) status mid → LetsWalk allows may_answer mounts recursive old
         → LetsWalk allows may_answer mounts recursive new
     lets_enter old mid new status found is lets =
@@ -254,7 +260,7 @@ module _ (may_answer : Ask → Answer → Type 0) (mounts : MountTable) where
           lets_on old mid (Some (Ok status)) found lets,
         )
 
-    pub lets_off : (old mid new : List Left) (result : Option (Result FileStatus HdfsError)) → IsFoundIn may_answer mounts old result mid
+    pub lets_off : (old mid new : List Left) (result : Option (Result FileStatus HdfsError)) → IsFoundIn may_answer mounts Why old result mid
         → new ≡ first_ended mid → LetsWalk allows may_answer mounts recursive old → LetsWalk allows may_answer mounts recursive new
     lets_off old mid new result found is lets =
         subst (λ (ds : List Left). LetsWalk allows may_answer mounts recursive ds) (sym is) (by mid (lets_on old mid result found lets))
@@ -307,24 +313,25 @@ module _ (may_answer : Ask → Answer → Type 0) (mounts : MountTable) where
 
   -- ---- an entry whose directory is begun, or for which there was no memory
 
-  pub walks_entered : (recursive recursive' : Bool) (old mid new : List Left) (status : FileStatus) (result : Result FileStatus HdfsError)
-      → recursive' ≡ recursive → IsFoundIn may_answer mounts old (Some (Ok status)) mid
+  pub walks_entered : (Why : HdfsError → Left → Type 0) (recursive recursive' : Bool) (old mid new : List Left) (status : FileStatus) (result : Result FileStatus HdfsError)
+      → recursive' ≡ recursive → IsFoundIn may_answer mounts Why old (Some (Ok status)) mid
       → IfOk result (λ given. (given ≡ status) × (new ≡ entered_by (recursive' && status.isdir) status mid)) → OnErr result (new ≡ first_ended mid)
-      → Walks may_answer mounts recursive old (Some result) new
-  walks_entered recursive recursive' old mid new status (Ok given) same found (is, enters) off =
-      subst (λ (s : FileStatus). Walks may_answer mounts recursive old (Some (Ok s)) new) (sym is)
-      (walks_on recursive old mid new status found
+      → IfErr result (λ error. (dir : Left) → Why error dir) → Walks may_answer mounts Why recursive old (Some result) new
+  walks_entered Why recursive recursive' old mid new status (Ok given) same found (is, enters) off why =
+      subst (λ (s : FileStatus). Walks may_answer mounts Why recursive old (Some (Ok s)) new) (sym is)
+      (walks_on Why recursive old mid new status found
       (subst (λ (r : Bool). new ≡ entered_by (r && status.isdir) status mid) same enters))
-  walks_entered recursive recursive' old mid new status (Err error) same found enters off = walks_off recursive old mid new status error found off
+  walks_entered Why recursive recursive' old mid new status (Err error) same found enters off why =
+      walks_off Why recursive old mid new status error why found off
 
-  pub lets_entered : (allows : Request → Type 0) (recursive recursive' : Bool) (old mid new : List Left) (status : FileStatus)
-      (result : Result FileStatus HdfsError) → recursive' ≡ recursive → IsFoundIn may_answer mounts old (Some (Ok status)) mid
+  pub lets_entered : (allows : Request → Type 0) (Why : HdfsError → Left → Type 0) (recursive recursive' : Bool) (old mid new : List Left) (status : FileStatus)
+      (result : Result FileStatus HdfsError) → recursive' ≡ recursive → IsFoundIn may_answer mounts Why old (Some (Ok status)) mid
       → IfOk result (λ given. (given ≡ status) × (new ≡ entered_by (recursive' && status.isdir) status mid)) → OnErr result (new ≡ first_ended mid)
       → LetsWalk allows may_answer mounts recursive old → LetsWalk allows may_answer mounts recursive new
-  lets_entered allows recursive recursive' old mid new status (Ok given) same found (is, enters) off =
-      lets_enter allows recursive old mid new status found (subst (λ (r : Bool). new ≡ entered_by (r && status.isdir) status mid) same enters)
-  lets_entered allows recursive recursive' old mid new status (Err error) same found enters off =
-      lets_off allows recursive old mid new (Some (Ok status)) found off
+  lets_entered allows Why recursive recursive' old mid new status (Ok given) same found (is, enters) off =
+      lets_enter allows Why recursive old mid new status found (subst (λ (r : Bool). new ≡ entered_by (r && status.isdir) status mid) same enters)
+  lets_entered allows Why recursive recursive' old mid new status (Err error) same found enters off =
+      lets_off allows Why recursive old mid new (Some (Ok status)) found off
 
 -- ---- those around a directory
 
@@ -346,4 +353,24 @@ pub begun_lets : (allows : Request → Type 0) (may_answer : Ask → Answer → 
     → LetsWalk allows may_answer mounts recursive' dirs
 begun_lets allows may_answer mounts recursive recursive' path dirs flag is lets =
     subst (λ (r : Bool). LetsWalk allows may_answer mounts r dirs) (sym flag)
-    (subst (λ (ds : List Left). LetsWalk allows may_answer mounts recursive ds) (sym is) (lets_fresh may_answer mounts allows recursive path lets, tt))
+    (subst (λ (ds : List Left). LetsWalk allows may_answer mounts recursive ds) (sym is) (lets_fresh may_answer mounts allows (λ error dir. Unit {0}) recursive path lets, tt))
+
+-- want of memory ends any directory
+pub lacks : {C : Type 0} (serves : C → ℕ → Ask → Result Answer AskFault → C → Type 0) (result : Result FileStatus HdfsError)
+    → IfErr result (λ error. error ≡ errors.NoMemory) → IfErr result (λ error. (dir : Left) → IsDirFault serves error dir)
+lacks serves (Ok status) none = tt
+lacks serves (Err error) none = λ dir. inr (inr none)
+
+-- why a directory's turn gave an error
+pub fault_of : {C : Type 0} (serves : C → ℕ → Ask → Result Answer AskFault → C → Type 0) (dir : Left) (client client' : Client) (old new : C)
+    (found : Result FileStatus HdfsError)
+    → (wants_page dir ≡ true → Gives serves false (λ at. asks.GetListing at dir.start false) answers.GetListing client dir.path old client' new
+    (λ outcome. IfFails (Some found) (IsPageFault dir.path outcome)))
+    → (wants_page dir ≡ false → (client' ≡ client) × (new ≡ old) × IfFails (Some found) (IsEntryFault dir.path dir.held))
+    → IfFails (Some found) (λ error. IsDirFault serves error dir)
+fault_of serves dir client client' old new (Ok status) turn quiet = tt
+fault_of serves dir client client' old new (Err error) turn quiet = by (cases_Bool (wants_page dir))
+  where
+    by : (wants_page dir ≡ true) ⊎ (wants_page dir ≡ false) → IsDirFault serves error dir
+    by (inl wants) = inl (record { client = client; old = old; client' = client'; new = new; gives = turn wants })
+    by (inr none) = inr (inl (quiet none).2)

@@ -1,5 +1,5 @@
 -- What is listed so far, and what is to come.
-use Rattle.std.proofs.Common.{◌≡◌, ℕ, ◌<◌, Bool, true, List, [], ◌∷◌, ◌++◌, length, refl, sym, ◌∙◌, ap, subst, arith, append_assoc, length-append, Option, Some, None, Result, Ok, IfErr, IsErrAnd}
+use Rattle.std.proofs.Common.{◌≡◌, ℕ, Bool, List, [], ◌∷◌, ◌++◌, length, refl, sym, ◌∙◌, ap, subst, arith, append_assoc, length-append, Option, Some, None, Result, Ok, IfErr, IsErrAnd}
 use Rattle.std.proofs.lemmas.List.{append-nil}
 use Rattle.hdfs_cluster.specs.declared.asks.Ask.{Ask}
 use Rattle.hdfs_cluster.specs.declared.asks.Answer.{Answer}
@@ -29,7 +29,7 @@ begins Rest Has recursive path begin = record {
   };
 }
 
-module _ (may_answer : Ask → Answer → Type 0) (mounts : MountTable) (recursive : Bool) (path : List ℕ) where
+module _ (may_answer : Ask → Answer → Type 0) (mounts : MountTable) (Why : HdfsError → Left → Type 0) (recursive : Bool) (path : List ℕ) where
   abbrev pub GoesAll : List FileStatus → List Left → Type 0
   GoesAll = Goes (IsToCome may_answer mounts recursive) (HasAll may_answer mounts) recursive path
 
@@ -50,13 +50,13 @@ module _ (may_answer : Ask → Answer → Type 0) (mounts : MountTable) (recursi
 
   -- the walk as it was taken, by the mounts and the flag of the call
   pub same_walk : (mounts' : MountTable) (recursive' : Bool) (old new : List Left) (result : Option (Result FileStatus HdfsError)) → mounts' ≡ mounts
-      → recursive' ≡ recursive → Walks may_answer mounts' recursive' old result new → Walks may_answer mounts recursive old result new
+      → recursive' ≡ recursive → Walks may_answer mounts' Why recursive' old result new → Walks may_answer mounts Why recursive old result new
   same_walk mounts' recursive' old new result same flag walks =
-      subst (λ (m : MountTable). Walks may_answer m recursive old result new) same
-      (subst (λ (r : Bool). Walks may_answer mounts' r old result new) flag walks)
+      subst (λ (m : MountTable). Walks may_answer m Why recursive old result new) same
+      (subst (λ (r : Bool). Walks may_answer mounts' Why r old result new) flag walks)
 
   module _ (given given' : List FileStatus) (old new : List Left) (status : FileStatus) (put : given' ≡ given ++ status ∷ [])
-      (walks : Walks may_answer mounts recursive old (Some (Ok status)) new) where
+      (walks : Walks may_answer mounts Why recursive old (Some (Ok status)) new) where
     pub goes_all : GoesAll given old → GoesAll given' new
     goes_all goes = record {
       lists = λ later comes. subst (λ (xs : List FileStatus). Lists (HasAll may_answer mounts) recursive path xs)
@@ -72,7 +72,7 @@ module _ (may_answer : Ask → Answer → Type 0) (mounts : MountTable) (recursi
     }
 
   -- nothing is to come any more
-  pub all_listed : (given : List FileStatus) (old new : List Left) → GoesAll given old → Walks may_answer mounts recursive old None new
+  pub all_listed : (given : List FileStatus) (old new : List Left) → GoesAll given old → Walks may_answer mounts Why recursive old None new
       → Lists (HasAll may_answer mounts) recursive path given
   all_listed given old new goes walks =
       subst (λ (xs : List FileStatus). Lists (HasAll may_answer mounts) recursive path xs) (append-nil given)
@@ -80,7 +80,7 @@ module _ (may_answer : Ask → Answer → Type 0) (mounts : MountTable) (recursi
 
   -- an entry more than the limit was answered
   pub is_more : (limit : ℕ) (given : List FileStatus) (old new : List Left) (status : FileStatus) → GoesSome given old
-      → Walks may_answer mounts recursive old (Some (Ok status)) new → length given ≡ limit → IsMoreThan may_answer mounts recursive path limit
+      → Walks may_answer mounts Why recursive old (Some (Ok status)) new → length given ≡ limit → IsMoreThan may_answer mounts recursive path limit
   is_more limit given old new status goes walks full = (
     given ++ status ∷ [],
     goes.lists (status ∷ []) (walks.some [] (nothing_may_come may_answer mounts recursive new)),
@@ -88,7 +88,7 @@ module _ (may_answer : Ask → Answer → Type 0) (mounts : MountTable) (recursi
   )
 
   pub over_limit : {T : Type 0} (limit : ℕ) (given : List FileStatus) (old new : List Left) (status : FileStatus) → GoesSome given old
-      → Walks may_answer mounts recursive old (Some (Ok status)) new → (error : ClientError) → IsListFault limit (length given ≡ limit) error
+      → Walks may_answer mounts Why recursive old (Some (Ok status)) new → (error : ClientError) → IsListFault limit (length given ≡ limit) error
       → (result : Result T ClientError) → IsErrAnd result (λ e. e ≡ error)
       → IfErr result (IsListFault limit (IsMoreThan may_answer mounts recursive path limit))
   over_limit limit given old new status goes walks error fault result is =

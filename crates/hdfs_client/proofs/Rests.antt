@@ -1,6 +1,5 @@
 -- What is left of a directory, turn by turn.
-use Rattle.std.proofs.Common.{◌≡◌, ◌⊎◌, ℕ, Bool, true, false, not, ◌&&◌, List, [], ◌∷◌, ◌++◌, refl, sym, ◌∙◌, ap, subst, inl, inr, Option, Some, None, Result, Ok, Err, nat_lt, length}
-use Rattle.std.proofs.lemmas.List.{append-nil}
+use Rattle.std.proofs.Common.{◌≡◌, ℕ, Bool, true, false, not, ◌&&◌, List, [], ◌∷◌, ◌++◌, refl, sym, ◌∙◌, ap, subst, Option, Some, None, Result, Ok, Err, nat_lt, length}
 use Rattle.std.proofs.lemmas.Bool.{false≢true}
 use Rattle.hdfs_cluster.specs.declared.asks.Ask.{Ask}
 use Rattle.hdfs_cluster.specs.declared.asks.Answer.{Answer}
@@ -9,10 +8,10 @@ use Rattle.hdfs_cluster.specs.declared.messages.DirList.{DirList}
 use Rattle.hdfs_cluster.specs.declared.messages.FileStatusMsg.{FileStatusMsg}
 use Rattle.hdfs_cluster.proofs.Loads.{and_parts}
 use Rattle.hdfs_names.specs.declared.mounts.MountTable.{MountTable}
-use Rattle.hdfs_client.specs.Iterating.{GoesOn, HasRest, HasSomeRest, Left, Turns, are_none, are_rest, fresh, given_by, is_over, is_sound}
+use Rattle.hdfs_client.specs.Iterating.{HasRest, HasSomeRest, Left, Turns, are_none, are_rest, fresh, is_over}
 use Rattle.hdfs_client.specs.Listing.{AreEntries, HasAll, HasSome, IsAnswered, are_all, has_more, messages_of}
 use Rattle.hdfs_client.specs.Statuses.{IsStatus}
-use Rattle.hdfs_client.specs.Turning.{IsGiven, IsOpened, Opens, ended, holding, opened_at}
+use Rattle.hdfs_client.specs.Turning.{IsGiven, Opens, ended, holding, opened_at}
 use Rattle.hdfs_client.specs.declared.status.FileStatus.{FileStatus}
 
 module _ (may_answer : Ask → Answer → Type 0) (mounts : MountTable) where

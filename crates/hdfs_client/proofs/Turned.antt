@@ -1,5 +1,5 @@
 -- What comes of an ask for a page, and of the entries that are held.
-use Rattle.std.proofs.Common.{◌≡◌, ◌⊎◌, ℕ, Bool, true, false, List, [], ◌∷◌, ◌++◌, reverse, refl, sym, ◌∙◌, ap, subst, inl, inr, Option, Some, None, Result, Ok, Err, IsErrAnd}
+use Rattle.std.proofs.Common.{◌≡◌, ℕ, false, List, [], ◌∷◌, ◌++◌, reverse, refl, sym, ◌∙◌, ap, subst, inl, inr, Option, Some, None, Result, Ok, Err, IsErrAnd}
 use Rattle.std.proofs.lemmas.List.{reverse-append}
 use Rattle.hdfs_cluster.specs.declared.asks.Ask.{Ask}
 use Rattle.hdfs_cluster.specs.declared.asks.Ask.TheVariants as asks
@@ -12,8 +12,7 @@ use Rattle.hdfs_cluster.specs.declared.messages.DirList.{DirList}
 use Rattle.hdfs_cluster.specs.declared.messages.FileStatusMsg.{FileStatusMsg}
 use Rattle.hdfs_client.specs.Calls.{Gives}
 use Rattle.hdfs_client.specs.Iterating.{IfFails, IsEntryFault, IsPage, IsPageFault, Left}
-use Rattle.hdfs_client.specs.Turning.{IsGiven, IsTurned, ended, holding}
-use Rattle.hdfs_client.specs.Statuses.{IsStatus}
+use Rattle.hdfs_client.specs.Turning.{IsGiven, IsTurned}
 use Rattle.hdfs_client.specs.declared.client.Client.{Client}
 use Rattle.hdfs_client.specs.declared.status.FileStatus.{FileStatus}
 

@@ -2,15 +2,20 @@
 use Rattle.std.specs.Prelude.{◌≡◌, ◌⊎◌, ℕ, Bool, true, false, not, ◌&&◌, ◌||◌, List, [], ◌∷◌, ◌++◌, map, reverse, Option, Some, None, Result, Ok, Err}
 use Rattle.std.specs.List.{list_all}
 use Rattle.hdfs_cluster.specs.declared.asks.Ask.{Ask}
+use Rattle.hdfs_cluster.specs.declared.asks.Ask.TheVariants as asks
 use Rattle.hdfs_cluster.specs.declared.asks.Answer.{Answer}
+use Rattle.hdfs_cluster.specs.declared.asks.Answer.TheVariants as answers
+use Rattle.hdfs_cluster.specs.declared.asks.AskFault.{AskFault}
 use Rattle.hdfs_cluster.specs.declared.errors.HdfsError.{HdfsError}
 use Rattle.hdfs_cluster.specs.declared.errors.HdfsError.TheVariants as errors
 use Rattle.hdfs_cluster.specs.declared.messages.DirList.{DirList}
 use Rattle.hdfs_cluster.specs.declared.messages.FileStatusMsg.{FileStatusMsg}
 use Rattle.hdfs_cluster.specs.Requests.{Request}
 use Rattle.hdfs_names.specs.declared.mounts.MountTable.{MountTable}
+use Rattle.hdfs_client.specs.Calls.{Gives}
 use Rattle.hdfs_client.specs.Listing.{AreEntries, Finds, Follow, HasAll, HasSome, LetsList, LetsListAt, are_all, messages_of}
 use Rattle.hdfs_client.specs.Statuses.{IsStatus}
+use Rattle.hdfs_client.specs.declared.client.Client.{Client}
 use Rattle.hdfs_client.specs.declared.list_iterator.DirListingIterator.{DirListingIterator}
 use Rattle.hdfs_client.specs.declared.list_iterator.ListStatusIterator.{ListStatusIterator}
 use Rattle.hdfs_client.specs.declared.status.FileStatus.{FileStatus}
@@ -119,6 +124,19 @@ IsPageFault path (Ok (Some page)) error = (error ≡ errors.NoMemory) ⊎ IsEntr
 IsPageFault path (Ok None) error = (error ≡ errors.FileNotFound path) ⊎ (error ≡ errors.NoMemory)
 IsPageFault path (Err cause) error = error ≡ cause
 
+-- an ask for the next page of a directory came to this error
+pub record IsAskFault {C : Type 0} (serves : C → ℕ → Ask → Result Answer AskFault → C → Type 0) (dir : Left) (error : HdfsError) : Type 0 where
+  pub client : Client
+  pub old : C
+  pub client' : Client
+  pub new : C
+  pub gives : Gives serves false (λ at. asks.GetListing at dir.start false) answers.GetListing client dir.path old client' new
+      (λ outcome. IsPageFault dir.path outcome error)
+
+-- why a directory was ended: the next page couldn't be had, the first entry that is held can't be given, or there was no memory
+abbrev pub IsDirFault : {C : Type 0} → (C → ℕ → Ask → Result Answer AskFault → C → Type 0) → HdfsError → Left → Type 0
+IsDirFault serves error dir = IsAskFault serves dir error ⊎ (IsEntryFault dir.path dir.held error ⊎ (error ≡ errors.NoMemory))
+
 -- ---- a directory and those in which it lies
 
 -- the directories that were begun, the innermost first
@@ -154,8 +172,8 @@ abbrev pub HaveNone : (Left → List FileStatus → Type 0) → List Left → Ty
 HaveNone Rest [] = Unit {0}
 HaveNone Rest (dir ∷ dirs) = Rest dir [] × HaveNone Rest dirs
 
--- one directory was ended; those around it are what they were, and those within had nothing left
-pub record IsCut (may_answer : Ask → Answer → Type 0) (mounts : MountTable) (old new : List Left) : Type 0 where
+-- one directory was ended, for a reason; those around it are what they were, and those within had nothing left
+pub record IsCut (may_answer : Ask → Answer → Type 0) (mounts : MountTable) (Why : Left → Type 0) (old new : List Left) : Type 0 where
   pub within : List Left
   pub ended : Left
   pub around : List Left
@@ -164,15 +182,16 @@ pub record IsCut (may_answer : Ask → Answer → Type 0) (mounts : MountTable) 
   pub end : Left
   pub is : new ≡ end ∷ around
   pub over : is_over end ≡ true
+  pub why : Why ended
 
 -- A turn of a listing: without an error what is given is the first of all that was to come; with one too it is the first of what may come of
--- what was answered. An error ends one directory alone, and where nothing is given nothing is left.
-pub record Walks (may_answer : Ask → Answer → Type 0) (mounts : MountTable) (recursive : Bool) (old : List Left)
+-- what was answered. An error ends one directory alone, for a reason, and where nothing is given nothing is left.
+pub record Walks (may_answer : Ask → Answer → Type 0) (mounts : MountTable) (Why : HdfsError → Left → Type 0) (recursive : Bool) (old : List Left)
     (result : Option (Result FileStatus HdfsError)) (new : List Left) : Type 0 where
   pub all : is_sound result ≡ true → GoesOn (IsToCome may_answer mounts recursive old) result (IsToCome may_answer mounts recursive new)
   pub some : GoesOn (MayCome may_answer mounts recursive old) result (MayCome may_answer mounts recursive new)
   pub none : result ≡ None → list_all is_over new ≡ true
-  pub cut : IfFails result (λ error. IsCut may_answer mounts old new)
+  pub cut : IfFails result (λ error. IsCut may_answer mounts (Why error) old new)
 
 -- the next entry takes no ask: the innermost directory of which anything is left holds one, or nothing is left at all
 abbrev pub asks_none : List Left → Bool

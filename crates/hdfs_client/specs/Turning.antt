@@ -8,7 +8,7 @@ use Rattle.hdfs_cluster.specs.declared.messages.DirList.{DirList}
 use Rattle.hdfs_cluster.specs.declared.messages.FileStatusMsg.{FileStatusMsg}
 use Rattle.hdfs_names.specs.declared.mounts.MountTable.{MountTable}
 use Rattle.hdfs_client.specs.Listing.{IsAnswered, has_more, last_name}
-use Rattle.hdfs_client.specs.Iterating.{HasRest, HaveNone, IsEntryFault, Left, Turns, fresh}
+use Rattle.hdfs_client.specs.Iterating.{HasRest, HaveNone, IfFails, IsEntryFault, Left, Turns, fresh}
 use Rattle.hdfs_client.specs.Statuses.{IsStatus}
 use Rattle.hdfs_client.specs.declared.status.FileStatus.{FileStatus}
 
@@ -59,7 +59,7 @@ pub record IsPassed (may_answer : Ask → Answer → Type 0) (mounts : MountTabl
   pub none : HaveNone (HasRest may_answer mounts) within
 
 -- the innermost directory that had anything left had a turn; where nothing was given, it is the last one
-pub record IsFoundIn (may_answer : Ask → Answer → Type 0) (mounts : MountTable) (old : List Left) (result : Option (Result FileStatus HdfsError))
+pub record IsFoundIn (may_answer : Ask → Answer → Type 0) (mounts : MountTable) (Why : HdfsError → Left → Type 0) (old : List Left) (result : Option (Result FileStatus HdfsError))
     (new : List Left) : Type 0 where
   pub dir : Left
   pub around : List Left
@@ -68,6 +68,7 @@ pub record IsFoundIn (may_answer : Ask → Answer → Type 0) (mounts : MountTab
   pub is : new ≡ dir' ∷ around
   pub turns : Turns may_answer mounts dir result dir'
   pub last : result ≡ None → around ≡ []
+  pub fault : IfFails result (λ error. Why error dir)
 
 -- an entry's directory is begun, where what stands in it is to be given too
 abbrev pub entered_by : Bool → FileStatus → List Left → List Left

@@ -5,7 +5,7 @@ ghost use Rattle.hdfs_cluster.specs.declared.asks.Answer.TheVariants as answers;
 ghost use Rattle.hdfs_cluster.specs.declared.errors.HdfsError.TheVariants as errors;
 ghost use Rattle.hdfs_client.specs.Calls.{Gives};
 ghost use Rattle.hdfs_client.specs.Clients.{IsClientOf, mounts_of};
-ghost use Rattle.hdfs_client.specs.Iterating.{IfFails, IsEntryFault, IsPage, IsPageFault, LetsWalk, Turns, Walks, asks_none, begun_by, fresh, is_over, left_of, wants_page};
+ghost use Rattle.hdfs_client.specs.Iterating.{IfFails, IsDirFault, IsEntryFault, IsPage, IsPageFault, LetsWalk, Turns, Walks, asks_none, begun_by, fresh, is_over, left_of, wants_page};
 ghost use Rattle.hdfs_client.specs.Listing.{LetsListAt};
 ghost use Rattle.hdfs_client.specs.Turning.{IsFoundIn, IsGiven, IsOpened, IsTurned, Opens, ended, entered_by, first_ended};
 
@@ -199,8 +199,8 @@ impl ListStatusIterator {
     ) -> Option<Result<FileStatus, HdfsError>>
         requires client { IsClientOf client.old (C.shown cluster.old) }
         requires allowed { LetsWalk C.allows C.may_answer (mounts_of client.old) self.old.recursive (begun_by self.old) }
-        ensures walks { Walks C.may_answer (mounts_of client.old) self.old.recursive (begun_by self.old) result
-            (begun_by self.new) }
+        ensures walks { Walks C.may_answer (mounts_of client.old) (IsDirFault C.serves) self.old.recursive
+            (begun_by self.old) result (begun_by self.new) }
         ensures allowed { LetsWalk C.allows C.may_answer (mounts_of client.new) self.new.recursive (begun_by self.new) }
         ensures quiet { asks_none (begun_by self.old) ≡ true
             → (client.new ≡ client.old) × (cluster.new ≡ cluster.old) }
@@ -223,7 +223,8 @@ impl ListStatusIterator {
     ) -> Option<Result<FileStatus, HdfsError>>
         requires client { IsClientOf client.old (C.shown cluster.old) }
         requires allowed { LetsWalk C.allows C.may_answer (mounts_of client.old) self.old.recursive (begun_by self.old) }
-        ensures found { IsFoundIn C.may_answer (mounts_of client.old) (begun_by self.old) result (begun_by self.new) }
+        ensures found { IsFoundIn C.may_answer (mounts_of client.old) (IsDirFault C.serves) (begun_by self.old) result
+            (begun_by self.new) }
         ensures quiet { asks_none (begun_by self.old) ≡ true
             → (client.new ≡ client.old) × (cluster.new ≡ cluster.old) }
         ensures recursive { self.new.recursive ≡ self.old.recursive }

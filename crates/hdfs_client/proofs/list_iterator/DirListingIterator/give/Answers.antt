@@ -1,5 +1,5 @@
 -- The first of the entries that are held can't be given.
-use Rattle.std.proofs.Common.{List, ℕ, Err, reverse, refl, subst}
+use Rattle.std.proofs.Common.{List, ℕ, Err, reverse, subst}
 use Rattle.hdfs_client.specs.Statuses.{IsStatus}
 use Rattle.hdfs_client.proofs.Turned.{first_of_held}
 use Rattle.hdfs_client.proofs.list_iterator.DirListingIterator.give.Goals as goal

@@ -1,10 +1,10 @@
 -- A directory of which nothing is left is passed.
-use Rattle.std.proofs.Common.{◌≡◌, ◌∷◌, List, None, true, map, reverse, sym, ◌∙◌, ap, subst}
+use Rattle.std.proofs.Common.{◌≡◌, ◌∷◌, List, None, Some, true, map, refl, reverse, sym, ◌∙◌, ap, subst}
 use Rattle.hdfs_names.specs.declared.mounts.MountTable.{MountTable}
 use Rattle.hdfs_client.specs.Clients.{mounts_of}
 use Rattle.hdfs_client.specs.Iterating.{Left, LetsWalk, Turns, asks_none, begun_by, left_of}
 use Rattle.hdfs_client.specs.Turning.{IsPassed}
-use Rattle.hdfs_client.proofs.Found.{around_is, nothing_left, passes, quiet_behind, quiet_here}
+use Rattle.hdfs_client.proofs.Found.{around_is, fault_of, nothing_left, passes, quiet_behind, quiet_here}
 use Rattle.hdfs_client.proofs.list_iterator.ListStatusIterator.next_found.Goals as goal
 
 pub directories-preserved : goal.directories-preserved
@@ -30,4 +30,21 @@ directories-preserved g c =
           let none : asks_none (inner ∷ dirs) ≡ true = ap (λ (ds : List Left). asks_none ds) (sym all) ∙ so.2 in
           let same = c.in_default.ensures.quiet (quiet_here may mounts inner dirs none) in
           (same.0 ∙ so.0, same.1 ∙ so.1, quiet_behind may mounts inner dirs (nothing_left may mounts inner (left_of c.next.new.self) turns) none);
+    }
+
+pub returns-in-Some-clause-found : goal.returns-in-Some-clause-found
+returns-in-Some-clause-found g c =
+    let may = g.C.Cluster.may_answer in
+    let mounts = mounts_of c.args.client.now in
+    let inner : Left = left_of c.directories.self.inner in
+    record {
+      dir = inner;
+      around = map left_of (reverse c.directories.self.outer.items);
+      passed = c.directories.invariant.passed;
+      dir' = left_of c.next.new.self;
+      is = refl;
+      turns = subst (λ (m : MountTable). Turns may m inner (Some c.in-Some.found) (left_of c.next.new.self)) c.directories.invariant.mounts c.in-Some.ensures.turns;
+      last = λ is. cc;
+      fault = fault_of g.C.Cluster.serves inner c.directories.client c.next.new.client c.directories.cluster c.next.new.cluster c.in-Some.found
+          c.in-Some.ensures.asked c.in-Some.ensures.quiet;
     }
