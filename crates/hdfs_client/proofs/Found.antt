@@ -21,7 +21,7 @@ use Rattle.hdfs_client.specs.Iterating.{AreFound, HasRest, HasSomeRest, HaveNone
 use Rattle.hdfs_client.specs.Listing.{AreEntries, HasAll, HasSome, IsBelow, LetsList, LetsListAt, alone, answered, asked, messages_of, nothing, with_own}
 use Rattle.hdfs_client.specs.Turning.{IsFoundIn, IsPassed, ended, entered_by, first_ended}
 use Rattle.hdfs_client.specs.declared.status.FileStatus.{FileStatus}
-use Rattle.hdfs_client.proofs.Rests.{all_fresh, none_all, none_some, over_nothing, some_fresh}
+use Rattle.hdfs_client.proofs.Rests.{all_fresh, none_all, none_some, over_held, over_nothing, some_fresh}
 
 -- ---- any directories
 
@@ -76,6 +76,9 @@ module _ (Rest : Left → List FileStatus → Type 0) (Has : List ℕ → List F
         ∙ sym (append_assoc finds.inside finds.around.inside finds.around.outside));
   }
 
+some_none : (given : Result FileStatus HdfsError) → Some given ≡ None → ⊥
+some_none given is = cc
+
 module _ (may_answer : Ask → Answer → Type 0) (mounts : MountTable) where
   all_some : (within : List Left) → HaveNone (HasSomeRest may_answer mounts) within
   all_some [] = tt
@@ -107,6 +110,10 @@ module _ (may_answer : Ask → Answer → Type 0) (mounts : MountTable) where
     is = refl;
   }
 
+  over_behind : (within dirs : List Left) → list_all is_over (within ++ dirs) ≡ true → list_all is_over dirs ≡ true
+  over_behind [] dirs over = over
+  over_behind (dir ∷ within) dirs over = over_behind within dirs (and_parts (is_over dir) (list_all is_over (within ++ dirs)) over).1
+
   -- ---- what was found goes on
 
   module _ (Why : HdfsError → Left → Type 0) (recursive : Bool) (old mid new : List Left) where
@@ -136,6 +143,12 @@ module _ (may_answer : Ask → Answer → Type 0) (mounts : MountTable) where
       why = why;
     }
 
+    -- where each of some directories is over, so is the one that had a turn
+    over_there : (dir : Left) (around : List Left) → IsPassed may_answer mounts old (dir ∷ around) → list_all is_over old ≡ true → is_over dir ≡ true
+    over_there dir around passed over =
+        (and_parts (is_over dir) (list_all is_over around)
+        (over_behind passed.within (dir ∷ around) (ap (λ (ds : List Left). list_all is_over ds) (sym passed.was) ∙ over))).0
+
     pub walks_on : (status : FileStatus) → IsFoundIn may_answer mounts Why old (Some (Ok status)) mid → new ≡ entered_by (recursive && status.isdir) status mid
         → Walks may_answer mounts Why recursive old (Some (Ok status)) new
     walks_on status found enters = record {
@@ -150,6 +163,7 @@ module _ (may_answer : Ask → Answer → Type 0) (mounts : MountTable) where
           (subst (λ (ds : List Left). MayCome may_answer mounts recursive (entered_by (recursive && status.isdir) status ds) later) found.is
           (subst (λ (ds : List Left). MayCome may_answer mounts recursive ds later) enters comes)));
       none = λ is. cc;
+      over = λ over. absurd (some_none (Ok status) (found.over (over_there found.dir found.around found.passed over)));
       cut = tt;
     }
 
@@ -165,6 +179,7 @@ module _ (may_answer : Ask → Answer → Type 0) (mounts : MountTable) where
               (sym (over_nothing may_answer mounts (ended found.dir') own refl has)) (none_some may_answer mounts found.dir))
               (subst (λ (ds : List Left). MayCome may_answer mounts recursive ds later) now comes));
           none = λ is. cc;
+          over = λ over. absurd (some_none (Ok status) (found.over (over_there found.dir found.around found.passed over)));
           cut = cut_there error found.dir (ended found.dir') found.around (why found.dir) found.passed now refl;
         }
 
@@ -176,6 +191,7 @@ module _ (may_answer : Ask → Answer → Type 0) (mounts : MountTable) where
           (silent (HasSomeRest may_answer mounts) (HasSome may_answer mounts) recursive found.dir found.dir' found.around later found.turns.some
           (subst (λ (ds : List Left). MayCome may_answer mounts recursive ds later) found.is comes));
       none = λ is. cc;
+      over = λ over. found.over (over_there Why recursive old new new found.dir found.around found.passed over);
       cut = cut_there Why recursive old new new error found.dir found.dir' found.around found.fault found.passed found.is (found.turns.ends refl);
     }
 
@@ -189,6 +205,7 @@ module _ (may_answer : Ask → Answer → Type 0) (mounts : MountTable) where
           (subst (λ (ds : List Left). MayCome may_answer mounts recursive ds later) found.is comes));
       none = λ is. ap (λ (ds : List Left). list_all is_over ds) (found.is ∙ ap (λ (ds : List Left). found.dir' ∷ ds) (found.last refl))
           ∙ ap (λ (b : Bool). b && true) (found.turns.ends refl);
+      over = λ over. refl;
       cut = tt;
     }
 
@@ -374,3 +391,16 @@ fault_of serves dir client client' old new (Err error) turn quiet = by (cases_Bo
     by : (wants_page dir ≡ true) ⊎ (wants_page dir ≡ false) → IsDirFault serves error dir
     by (inl wants) = inl (record { client = client; old = old; client' = client'; new = new; gives = turn wants })
     by (inr none) = inr (inl (quiet none).2)
+
+-- of a directory that is over nothing is given
+pub over_gives : (may_answer : Ask → Answer → Type 0) (mounts : MountTable) (dir dir' : Left) (found : Result FileStatus HdfsError)
+    → Turns may_answer mounts dir (Some found) dir' → (wants_page dir ≡ false → IfFails (Some found) (IsEntryFault dir.path dir.held))
+    → is_over dir ≡ true → Some found ≡ None
+over_gives may_answer mounts dir dir' (Ok status) turns quiet over =
+    let none : status ∷ [] ≡ [] = over_nothing may_answer mounts dir (status ∷ []) over (turns.some [] (none_some may_answer mounts dir')) in
+    absurd cc
+over_gives may_answer mounts dir dir' (Err error) turns quiet over =
+    let two = over_held may_answer mounts dir over in
+    let fault = quiet (ap (λ (b : Bool). b && are_none dir.held) two.1) in
+    let none : fault.0 ∷ fault.1 ≡ [] = sym fault.2 ∙ two.0 in
+    absurd cc

@@ -91,7 +91,7 @@ module _ (may_answer : Ask → Answer → Type 0) (mounts : MountTable) where
     entries = tt;
   }
 
-  over_held : (dir : Left) → is_over dir ≡ true → (dir.held ≡ []) × (dir.more ≡ false)
+  pub over_held : (dir : Left) → is_over dir ≡ true → (dir.held ≡ []) × (dir.more ≡ false)
   over_held dir over =
       let two = and_parts (not dir.more) (are_none dir.held) over in
       (nothing_held dir.held two.1, by dir.more two.0)

@@ -185,12 +185,14 @@ pub record IsCut (may_answer : Ask → Answer → Type 0) (mounts : MountTable) 
   pub why : Why ended
 
 -- A turn of a listing: without an error what is given is the first of all that was to come; with one too it is the first of what may come of
--- what was answered. An error ends one directory alone, for a reason, and where nothing is given nothing is left.
+-- what was answered. An error ends one directory alone, for a reason; where nothing is given nothing is left, and where nothing was left
+-- nothing is given.
 pub record Walks (may_answer : Ask → Answer → Type 0) (mounts : MountTable) (Why : HdfsError → Left → Type 0) (recursive : Bool) (old : List Left)
     (result : Option (Result FileStatus HdfsError)) (new : List Left) : Type 0 where
   pub all : is_sound result ≡ true → GoesOn (IsToCome may_answer mounts recursive old) result (IsToCome may_answer mounts recursive new)
   pub some : GoesOn (MayCome may_answer mounts recursive old) result (MayCome may_answer mounts recursive new)
   pub none : result ≡ None → list_all is_over new ≡ true
+  pub over : list_all is_over old ≡ true → result ≡ None
   pub cut : IfFails result (λ error. IsCut may_answer mounts (Why error) old new)
 
 -- the next entry takes no ask: the innermost directory of which anything is left holds one, or nothing is left at all

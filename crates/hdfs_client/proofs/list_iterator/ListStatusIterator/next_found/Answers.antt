@@ -4,7 +4,7 @@ use Rattle.hdfs_names.specs.declared.mounts.MountTable.{MountTable}
 use Rattle.hdfs_client.specs.Clients.{mounts_of}
 use Rattle.hdfs_client.specs.Iterating.{Left, LetsWalk, Turns, asks_none, begun_by, left_of}
 use Rattle.hdfs_client.specs.Turning.{IsPassed}
-use Rattle.hdfs_client.proofs.Found.{around_is, fault_of, nothing_left, passes, quiet_behind, quiet_here}
+use Rattle.hdfs_client.proofs.Found.{around_is, fault_of, nothing_left, over_gives, passes, quiet_behind, quiet_here}
 use Rattle.hdfs_client.proofs.list_iterator.ListStatusIterator.next_found.Goals as goal
 
 pub directories-preserved : goal.directories-preserved
@@ -37,14 +37,17 @@ returns-in-Some-clause-found g c =
     let may = g.C.Cluster.may_answer in
     let mounts = mounts_of c.args.client.now in
     let inner : Left = left_of c.directories.self.inner in
+    let turns : Turns may mounts inner (Some c.in-Some.found) (left_of c.next.new.self) =
+    subst (λ (m : MountTable). Turns may m inner (Some c.in-Some.found) (left_of c.next.new.self)) c.directories.invariant.mounts c.in-Some.ensures.turns in
     record {
       dir = inner;
       around = map left_of (reverse c.directories.self.outer.items);
       passed = c.directories.invariant.passed;
       dir' = left_of c.next.new.self;
       is = refl;
-      turns = subst (λ (m : MountTable). Turns may m inner (Some c.in-Some.found) (left_of c.next.new.self)) c.directories.invariant.mounts c.in-Some.ensures.turns;
+      turns = turns;
       last = λ is. cc;
+      over = over_gives may mounts inner (left_of c.next.new.self) c.in-Some.found turns (λ none. (c.in-Some.ensures.quiet none).2);
       fault = fault_of g.C.Cluster.serves inner c.directories.client c.next.new.client c.directories.cluster c.next.new.cluster c.in-Some.found
           c.in-Some.ensures.asked c.in-Some.ensures.quiet;
     }
