@@ -8,7 +8,8 @@ pub mod Services
 pub mod Mounting
 pub mod Building
 pub mod Listing
-pub mod Paging
+pub mod Iterating
+pub mod Turning
 pub mod Readers
 pub mod Streams
 pub mod Leasing

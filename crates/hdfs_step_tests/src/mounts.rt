@@ -4,5 +4,6 @@ mod asking;
 mod building;
 mod case;
 mod changing;
+mod iterating;
 
 pub(crate) use case::Case;

@@ -1,5 +1,5 @@
 //! A case: what steps are taken over.
-use crate::mounts::{asking, building, changing};
+use crate::mounts::{asking, building, changing, iterating};
 use crate::namenodes::fake_namenodes::{FakeNamenodes, Gives};
 use crate::namenodes::telling::tell_asked;
 use crate::steps::{Said, Stage, Words};
@@ -101,6 +101,7 @@ impl Case {
                 words,
                 said,
             ),
+            "iterate" => iterating::take(&mut *self.client, &mut *self.namenodes, words, said),
             _ => changing::take(&mut *self.client, &mut *self.namenodes, words, said),
         }
     }

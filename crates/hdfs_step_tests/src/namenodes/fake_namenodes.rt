@@ -195,12 +195,16 @@ fn page(alloc: Global, name: &str, file_type: u32, remaining: u32) -> Result<Dir
     })
 }
 
-/// What stands in a directory behind a name: in `/y/dir` the directory `a` and then the file `b`, in that the file `c`, and nothing elsewhere.
+/// What stands in a directory behind a name: in `/y/dir` the directory `a` and then the file `b`, in that the file `c`; in `/y/part` the
+/// directory `lost`, at which nothing stands, and then the file `kept`; in `/y/torn` the file `one`, and no second page; nothing elsewhere.
 fn page_at(alloc: Global, path: &str, start: &[u8]) -> Option<DirList> {
     match path {
         "/y/dir" if start.is_empty() => page(alloc, "a", 1, 1).ok(),
         "/y/dir" => page(alloc, "b", 2, 0).ok(),
         "/y/dir/a" => page(alloc, "c", 2, 0).ok(),
+        "/y/part" if start.is_empty() => page(alloc, "lost", 1, 1).ok(),
+        "/y/part" => page(alloc, "kept", 2, 0).ok(),
+        "/y/torn" if start.is_empty() => page(alloc, "one", 2, 1).ok(),
         _ => None,
     }
 }
