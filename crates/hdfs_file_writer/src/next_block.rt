@@ -10,10 +10,9 @@ use hdfs_rebuild::BlockPlan;
 use hdfs_wire::NoMemory;
 
 impl FileWriter {
-    ghost use Rattle.hdfs_cluster.specs.Requests.{IsAdded, IsAnsweredLast, IsFirstSetup, LetsWrite, SetupOf};
+    ghost use Rattle.hdfs_cluster.specs.Requests.{IsAdded, IsFirstSetup, SetupOf};
     ghost use Rattle.hdfs_cluster.specs.declared.messages.Setup.{Setup};
-    ghost use Rattle.hdfs_namenode.specs.Asked.{ReachesAll};
-    ghost use Rattle.hdfs_namenode.specs.Clients.{SameClient, name_of, proxy_of};
+    ghost use Rattle.hdfs_namenode.specs.Clients.{SameClient, name_of};
     ghost use Rattle.hdfs_file_writer.specs.Tails.{IsFull};
     ghost use Rattle.hdfs_file_writer.specs.Writers.{plan_of, path_of, file_id_of, tail_of, CanGoOn, IsAnswered, IsAtWork, IsToOpen, MayAdd, MayBegin, MayFinish, MayWrite, Keeps, IsBetweenBlocks, HasRoom, Wrote, Adds, FailsOtherwise};
 
@@ -119,13 +118,9 @@ impl FileWriter {
         cluster: &mut C,
         namenode: &mut NamenodeProtocol,
     ) -> Result<LocatedBlock, HdfsError>
-        requires reaches { ReachesAll (proxy_of namenode.old) (C.shown cluster.old) }
-        requires allowed { LetsWrite C.allows C.may_answer (name_of namenode.old) (path_of self.now)
-            (file_id_of self.now) }
-        requires answered { IsAnsweredLast C.may_answer (name_of namenode.old) (path_of self.now) (file_id_of self.now)
-            self.now.last }
+        requires adds { MayAdd C.allows C.may_answer namenode.old (C.shown cluster.old) self.now }
         requires between { IsBetweenBlocks self.now }
-        requires full { IsFull self.now.sizes.block_size (tail_of self.now) }
+        requires fine { self.now.failed ≡ false }
         ensures adds { IfOk result (λ located. Adds (C.shown cluster.old) self.now located (C.shown cluster.new)) }
         ensures answered { IfOk result (IsAdded C.may_answer (name_of namenode.old) (path_of self.now)
             (file_id_of self.now)) }

@@ -21,9 +21,6 @@ returns-in-Err-open_block-clause-err g c =
     fails_after s m (g.C.Cluster.shown c.open_block.new.cluster) w (record w { reopened = Some c.in-Ok.located }) [] c.in-Err-open_block.error
     c.in-Ok.ensures.adds.wrote c.in-Err-open_block.ensures.err
 
-pub next_block-requires-clause-answered : goal.next_block-requires-clause-answered
-next_block-requires-clause-answered g c = c.requires.adds.answered.last c.requires.begins.fine
-
 pub open_block-requires-clause-located : goal.open_block-requires-clause-located
 open_block-requires-clause-located g c = record {
   answered =
