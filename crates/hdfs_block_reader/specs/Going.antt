@@ -3,10 +3,11 @@ use Rattle.std.specs.Prelude.{◌≡◌, ◌≢◌, ◌⊎◌, ℕ, ◌+◌, ◌
 use Rattle.hdfs_wire.specs.declared.values.NoMemory.{NoMemory}
 use Rattle.hdfs_cluster.specs.Counts.{Rose, RoseTwice}
 use Rattle.hdfs_cluster.specs.Picture.{Told}
+use Rattle.hdfs_cluster.specs.Requests.{Request}
 use Rattle.hdfs_cluster.specs.Shown.{Shown, OnlyReads}
 use Rattle.hdfs_cluster.specs.Reading.{range_of}
 use Rattle.hdfs_block_reader.specs.Blocks.{node_at, node_count}
-use Rattle.hdfs_block_reader.specs.Reader.{tried_of, is_of_connection, AsksForWanted, Holds, OthersStay, ShowsBlock, GivesUp, IsPieceOf}
+use Rattle.hdfs_block_reader.specs.Reader.{tried_of, is_of_connection, AsksForWanted, Holds, LetsRead, OthersStay, ShowsBlock, GivesUp, IsPieceOf}
 use Rattle.hdfs_block_reader.specs.declared.block_read.BlockRead.{BlockRead}
 use Rattle.hdfs_block_reader.specs.declared.given_up.GivenUp.{GivenUp}
 use Rattle.hdfs_block_reader.specs.declared.packets.Step.{Step}
@@ -88,6 +89,20 @@ Loses reader reason reader' =
 -- one try fewer is left, and the reader keeps no link
 abbrev pub LosesOne : BlockRead → BlockRead → Type 0
 LosesOne reader reader' = (reader'.link ≡ None) × (tries_left reader' < tries_left reader)
+
+-- A read may be opened: the reader keeps what holds, there is leave to read its block, a location is left, bytes are wanted, and it keeps no
+-- link.
+pub record MayOpen (allows : Request → Type 0) (shown : Shown) (reader : BlockRead) : Type 0 where
+  pub holds : Holds shown reader
+  pub allowed : LetsRead allows reader.block reader.client reader.end
+  pub left : tried_of reader < node_count reader.block
+  pub more : reader.wanted < reader.end
+  pub idle : reader.link ≡ None
+
+-- the reader keeps the link that was opened, or the location that is tried was lost
+abbrev pub OpensOrLoses : BlockRead → Option ℕ → BlockRead → Type 0
+OpensOrLoses reader (Some link) reader' = (reader'.link ≡ Some link) × (tries_left reader' ≤ tries_left reader)
+OpensOrLoses reader None reader' = LosesOne reader reader'
 
 -- what a packet does to the reader
 abbrev pub Steps : BlockRead → Step → BlockRead → Type 0

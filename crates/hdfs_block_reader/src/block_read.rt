@@ -34,7 +34,7 @@ impl BlockRead {
     ghost use Rattle.hdfs_cluster.specs.Counts.{FaultCounts};
     ghost use Rattle.hdfs_cluster.specs.Shown.{Shown};
     ghost use Rattle.hdfs_block_reader.specs.Reader.{block_of, client_of, wanted_of, end_of, given_up_of, tried_of, link_of, moved_of, has_failed, EndsStill, IsAskFor, LetsRead, Holds, Stands, Keeps, KeepsConnections, ShowsBlock, TriesAgain, Over, Reads, AllBlamed, IsRead, Gives, IsPieceOf};
-    ghost use Rattle.hdfs_block_reader.specs.Going.{Frame, Goes, Accepts, gives_up, tries_left, Loses, LosesOne, Steps, IsPartOf, ReadsLocation};
+    ghost use Rattle.hdfs_block_reader.specs.Going.{Frame, Goes, Accepts, MayOpen, OpensOrLoses, gives_up, Loses, Steps, IsPartOf, ReadsLocation};
 
     /// A read of `len` bytes from `offset` on of a block that is held in whole by each of its locations. `client` is the
     /// name by which datanodes know the reader. It fails for want of memory alone.
@@ -239,17 +239,11 @@ impl BlockRead {
         cluster: &mut C,
         cache: &mut ConnectionCache,
     ) -> Result<Option<u64>, NoMemory>
-        requires holds { Holds (C.shown cluster.old) self.old }
-        requires allowed { LetsRead C.allows self.old.block self.old.client self.old.end }
-        requires left { (tried_of self.old < node_count self.old.block) × (self.old.wanted < self.old.end) }
-        requires idle { self.old.link ≡ None }
+        requires { MayOpen C.allows (C.shown cluster.old) self.old }
         ensures goes { Goes (C.shown cluster.old) (C.shown cluster.new) self.old self.new }
         ensures same { (self.new.wanted ≡ self.old.wanted) × (self.new.failed ≡ self.old.failed) }
-        ensures opened { IfOk result (λ link. self.new.link ≡ link) }
+        ensures opened { IfOk result (λ link. OpensOrLoses self.old link self.new) }
         ensures cached { KeepsConnections self.old self.new cache.old cache.new }
-        ensures tried { IfOk result (λ link. MatchOption link
-            (LosesOne self.old self.new)
-            (λ opened. tries_left self.new ≤ tries_left self.old)) }
     {
         let ask = read_ask(
             self.alloc,
@@ -271,19 +265,13 @@ impl BlockRead {
         cache: &mut ConnectionCache,
         ask: &ReadAsk,
     ) -> Result<Option<u64>, NoMemory>
-        requires holds { Holds (C.shown cluster.old) self.old }
-        requires allowed { LetsRead C.allows self.old.block self.old.client self.old.end }
-        requires left { (tried_of self.old < node_count self.old.block) × (self.old.wanted < self.old.end) }
-        requires idle { self.old.link ≡ None }
+        requires opens { MayOpen C.allows (C.shown cluster.old) self.old }
         requires asked { IsAskFor self.old.block (tried_of self.old) self.old.client self.old.end ask.now }
         requires offset { ask.now.offset ≡ self.old.wanted }
         ensures goes { Goes (C.shown cluster.old) (C.shown cluster.new) self.old self.new }
         ensures same { (self.new.wanted ≡ self.old.wanted) × (self.new.failed ≡ self.old.failed) }
-        ensures opened { IfOk result (λ link. self.new.link ≡ link) }
+        ensures opened { IfOk result (λ link. OpensOrLoses self.old link self.new) }
         ensures cached { KeepsConnections self.old self.new cache.old cache.new }
-        ensures tried { IfOk result (λ link. MatchOption link
-            (LosesOne self.old self.new)
-            (λ opened. tries_left self.new ≤ tries_left self.old)) }
     {
         let address = address(self.alloc, &ask.node)?;
         match connect(cluster, cache, address.as_str(), ask) {

@@ -1,16 +1,23 @@
 -- A writer of one block, as its callers see it.
-use Rattle.std.specs.Prelude.{◌≡◌, ℕ, pos, ◌+◌, ◌-◌, ◌^◌, ◌<◌, ◌≤◌, List, [], ◌++◌, length, drop, All, Option, Some, None}
+use Rattle.std.specs.Prelude.{◌≡◌, ℕ, pos, ◌+◌, ◌-◌, ◌^◌, ◌<◌, ◌≤◌, List, [], ◌++◌, length, drop, All, Option, Some, None, IsSome}
 use Rattle.hdfs_wire.specs.Outgoing.{Outgoing, ArePacketSizes, empty_packet}
 use Rattle.hdfs_cluster.specs.Picture.{Picture}
 use Rattle.hdfs_cluster.specs.Pipes.{FollowsOn}
 use Rattle.hdfs_cluster.specs.declared.asks.Answer.{Answer}
 use Rattle.hdfs_cluster.specs.declared.asks.Ask.{Ask}
 use Rattle.hdfs_cluster.specs.Requests.{Request, LetsGoOn}
+use Rattle.hdfs_cluster.specs.Namenode.{IsToWrite}
 use Rattle.hdfs_cluster.specs.Shown.{Shown}
+use Rattle.hdfs_namenode.specs.Asked.{ReachesAll}
+use Rattle.hdfs_namenode.specs.Clients.{name_of, proxy_of}
+use Rattle.hdfs_namenode.specs.declared.protocol.NamenodeProtocol.{NamenodeProtocol}
 use Rattle.hdfs_pipeline.specs.Driving.{IsNotLast}
 use Rattle.hdfs_block_reader.specs.Carrying.{joined, total}
 use Rattle.hdfs_block_writer.specs.Packing.{AreNext, IsNext, chunk_from, filling_of, size_from}
 use Rattle.hdfs_rebuild.specs.declared.block_plan.BlockPipeline.{BlockPipeline}
+use Rattle.hdfs_rebuild.specs.declared.block_plan.BlockPlan.{BlockPlan}
+use Rattle.hdfs_rebuild.specs.declared.block_plan.RebuildSettings.{RebuildSettings}
+use Rattle.hdfs_block_writer.specs.declared.block_writer.BlockSizes.{BlockSizes}
 use Rattle.hdfs_block_writer.specs.declared.block_writer.BlockWriter.{BlockWriter}
 use Rattle.hdfs_block_writer.specs.OpenPipelines.{Has, IsStanding}
 
@@ -117,3 +124,28 @@ Holds shown writer = (pipe : BlockPipeline) → writer.pipe ≡ Some pipe → Is
 abbrev pub Stands : Shown → BlockWriter → Type 0
 Stands shown writer =
     (pipe : BlockPipeline) → writer.pipe ≡ Some pipe → IsKept writer × GoesOver shown pipe writer × HasRoom writer × AreFull pipe
+
+-- A block can be begun with these settings and sizes: it is to be written, has no more bytes than it may have, its packets can have these
+-- sizes, its pipeline is rebuilt no oftener than it may be, and the window is from 1 to 1,000.
+pub record IsToBegin (plan : BlockPlan) (settings : RebuildSettings) (sizes : BlockSizes) : Type 0 where
+  pub block : IsToWrite plan.block
+  pub rebuilds : plan.rebuilds ≤ settings.rebuild_limit
+  pub packets : ArePacketSizes plan.chunk sizes.packet_size
+  pub window : (1 ≤ settings.window) × (settings.window ≤ 1000)
+  pub size : (plan.block.b.num_bytes ≤ sizes.block_size) × (sizes.block_size < 2 ^ 63)
+
+-- What a call of a writer wants: the client's service has all namenodes of the cluster, there is leave to go on with the block in the client's
+-- name, and the writer stands.
+pub record IsServed (allows : Request → Type 0) (may_answer : Ask → Answer → Type 0) (namenode : NamenodeProtocol) (shown : Shown)
+    (writer : BlockWriter) : Type 0 where
+  pub reaches : ReachesAll (proxy_of namenode) shown
+  pub allowed : MayGoOn allows may_answer (name_of namenode) writer
+  pub stands : Stands shown writer
+
+-- The same of sending its packet, which may be full. The writer hasn't failed.
+pub record MaySend (allows : Request → Type 0) (may_answer : Ask → Answer → Type 0) (namenode : NamenodeProtocol) (shown : Shown)
+    (writer : BlockWriter) : Type 0 where
+  pub reaches : ReachesAll (proxy_of namenode) shown
+  pub allowed : MayGoOn allows may_answer (name_of namenode) writer
+  pub holds : Holds shown writer
+  pub is_open : IsSome writer.pipe

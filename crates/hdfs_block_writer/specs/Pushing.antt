@@ -1,7 +1,13 @@
 -- How a packet goes down a pipeline that is rebuilt where datanodes of it fail. No public clause cites this module.
 use Rattle.std.specs.Prelude.{◌≡◌, ℕ, ◌+◌, ◌^◌, ◌<◌, ◌≤◌, List, [], ◌∷◌, ◌++◌, length as len, All, Option, Some, None}
 use Rattle.hdfs_wire.specs.Outgoing.{Outgoing}
+use Rattle.hdfs_cluster.specs.declared.asks.Answer.{Answer}
+use Rattle.hdfs_cluster.specs.declared.asks.Ask.{Ask}
 use Rattle.hdfs_cluster.specs.declared.picture.OpenWrite.{OpenWrite}
+use Rattle.hdfs_cluster.specs.Requests.{LetsGoOn, Request}
+use Rattle.hdfs_namenode.specs.Asked.{ReachesAll}
+use Rattle.hdfs_namenode.specs.Clients.{name_of, proxy_of}
+use Rattle.hdfs_namenode.specs.declared.protocol.NamenodeProtocol.{NamenodeProtocol}
 use Rattle.hdfs_cluster.specs.Pipes.{FollowsOn}
 use Rattle.hdfs_cluster.specs.Shown.{Shown}
 use Rattle.hdfs_pipeline.specs.Driving.{Drives, Drove, EndsInLast, IsNotLast}
@@ -28,6 +34,14 @@ pub record CameFrom (before : Shown) (core : Pipeline) (came : List Outgoing) (n
   pub going : core.end ≡ None
   pub drives : Drives before pipe.link core
   pub set_up : (write : OpenWrite) → before.writes pipe.link ≡ Some write → write.setup.locs ≡ pipe.plan.block.locs
+
+-- What driving a pipeline on to its end wants: the client's service has all namenodes of the cluster, there is leave to go on with its block
+-- behind it, and it can be rebuilt.
+pub record MayDrive (allows : Request → Type 0) (may_answer : Ask → Answer → Type 0) (namenode : NamenodeProtocol) (settings : RebuildSettings)
+    (shown : Shown) (pipe : BlockPipeline) : Type 0 where
+  pub reaches : ReachesAll (proxy_of namenode) shown
+  pub allowed : LetsGoOn allows may_answer (name_of namenode) pipe.plan.src pipe.plan.block
+  pub standing : IsStanding settings shown pipe []
 
 -- the pipeline with another core
 abbrev pub with_core : BlockPipeline → Pipeline → BlockPipeline

@@ -26,6 +26,13 @@ pub struct BlockWriter {
     pub(crate) seqno: u64,
 }
 
+/// How many bytes a block may have, and how many a packet of it has at most, with its header and checksums; 0 stands for one chunk.
+#[derive(Clone, Copy)]
+pub struct BlockSizes {
+    pub block_size: u64,
+    pub packet_size: u32,
+}
+
 /// The name of a plan's block, with so many bytes.
 fn named(plan: BlockPlan, length: u64) -> Block
     ensures { result ≡ record plan.block.b { num_bytes = length } }
@@ -38,20 +45,16 @@ fn named(plan: BlockPlan, length: u64) -> Block
 }
 
 impl BlockWriter {
-    ghost use Rattle.hdfs_cluster.specs.Namenode.{IsToWrite};
     ghost use Rattle.hdfs_cluster.specs.Pipes.{WriteEnded};
     ghost use Rattle.hdfs_cluster.specs.Requests.{SetupOf};
-    ghost use Rattle.hdfs_namenode.specs.Asked.{ReachesAll};
-    ghost use Rattle.hdfs_namenode.specs.Clients.{SameClient, name_of, proxy_of};
+    ghost use Rattle.hdfs_namenode.specs.Clients.{SameClient, name_of};
     ghost use Rattle.hdfs_block_writer.specs.Packing.{setup_of};
     ghost use Rattle.hdfs_rebuild.specs.declared.block_plan.BlockPipeline.{BlockPipeline};
-    ghost use Rattle.hdfs_wire.specs.Outgoing.{ArePacketSizes};
-    ghost use Rattle.hdfs_block_writer.specs.BlockWriters.{length_of, size_of, HasFailed, MayGoOn, SendsFull, Holds, Stands};
+    ghost use Rattle.hdfs_block_writer.specs.BlockWriters.{length_of, size_of, HasFailed, IsServed, IsToBegin, MaySend, SendsFull, Holds, Stands};
     ghost use Rattle.hdfs_block_writer.specs.Written.{IsNew, OpensLink, OpensNone, BeginsWhole, Wrote, StaysFull, GaveUp, GoesOnAnswered, Fails, Ends, Closes, ClosesAnswered, WaitsForLast, LetsGo};
 
-    /// Opens the pipeline of a block, which goes on behind the bytes that the block has. `packet_size` is the most bytes that a packet has
-    /// with its header and checksums; 0 stands for one chunk. `settings` say how many packets wait for their acknowledgement, and how the
-    /// pipeline is rebuilt.
+    /// Opens the pipeline of a block, which goes on behind the bytes that the block has. `settings` say how many packets wait for their
+    /// acknowledgement, and how the pipeline is rebuilt.
     ///
     /// Errors: `Link` and `Setup` where the set-up broke or was refused; `NoMemory`.
     pub fn replicated<C: Cluster>(
@@ -60,16 +63,12 @@ impl BlockWriter {
         namenode: &NamenodeProtocol,
         plan: BlockPlan,
         settings: &RebuildSettings,
-        block_size: u64,
-        packet_size: u32,
+        sizes: BlockSizes,
     ) -> Result<BlockWriter, WriteFault>
-        requires plan { IsToWrite plan.block × (plan.rebuilds ≤ settings.now.rebuild_limit) }
-        requires sizes { ArePacketSizes plan.chunk packet_size × (1 ≤ settings.now.window)
-            × (settings.now.window ≤ 1000) }
-        requires size { (plan.block.b.num_bytes ≤ block_size) × (block_size < 2 ^ 63) }
+        requires plan { IsToBegin plan settings.now sizes }
         requires allowed { C.allows (SetupOf (setup_of plan.block plan.chunk (name_of namenode.now))) }
         ensures stands { IfOk result (λ writer. Stands (C.shown cluster.new) writer) }
-        ensures new { IfOk result (λ writer. IsNew plan settings.now block_size packet_size writer) }
+        ensures new { IfOk result (λ writer. IsNew plan settings.now sizes.block_size sizes.packet_size writer) }
         ensures opened { IfOk result (λ writer. OpensLink (C.shown cluster.old)
             (setup_of plan.block plan.chunk (name_of namenode.now)) writer (C.shown cluster.new)) }
         ensures begins { IfOk result (λ writer. BeginsWhole (C.shown cluster.old) plan writer (C.shown cluster.new)) }
@@ -90,9 +89,9 @@ impl BlockWriter {
         Ok(BlockWriter {
             alloc,
             settings: *settings,
-            block_size,
+            block_size: sizes.block_size,
             chunk,
-            packet_size,
+            packet_size: sizes.packet_size,
             pipe: Some(BlockPipeline { plan, core, link }),
             packet: None,
             length,
@@ -122,10 +121,7 @@ impl BlockWriter {
         cluster: &mut C,
         namenode: &mut NamenodeProtocol,
     ) -> Result<(), WriteFault>
-        requires reaches { ReachesAll (proxy_of namenode.old) (C.shown cluster.old) }
-        requires allowed { MayGoOn C.allows C.may_answer (name_of namenode.old) self.old }
-        requires holds { Holds (C.shown cluster.old) self.old }
-        requires open { IsSome self.old.pipe }
+        requires { MaySend C.allows C.may_answer namenode.old (C.shown cluster.old) self.old }
         ensures holds { OnOk result (Holds (C.shown cluster.new) self.new × (self.new.packet ≡ None)) }
         ensures full { OnOk result (StaysFull self.old self.new) }
         ensures wrote { OnOk result (Wrote (C.shown cluster.old) self.old [] (C.shown cluster.new) self.new) }
@@ -153,10 +149,7 @@ impl BlockWriter {
         cluster: &mut C,
         namenode: &mut NamenodeProtocol,
     ) -> Result<(), WriteFault>
-        requires reaches { ReachesAll (proxy_of namenode.old) (C.shown cluster.old) }
-        requires allowed { MayGoOn C.allows C.may_answer (name_of namenode.old) self.old }
-        requires holds { Holds (C.shown cluster.old) self.old }
-        requires open { IsSome self.old.pipe }
+        requires may { MaySend C.allows C.may_answer namenode.old (C.shown cluster.old) self.old }
         requires full { SendsFull self.old }
         ensures stands { OnOk result (Stands (C.shown cluster.new) self.new) }
         ensures wrote { OnOk result (Wrote (C.shown cluster.old) self.old [] (C.shown cluster.new) self.new) }
@@ -179,9 +172,7 @@ impl BlockWriter {
         namenode: &mut NamenodeProtocol,
         bytes: &[u8],
     ) -> Result<usize, WriteFault>
-        requires reaches { ReachesAll (proxy_of namenode.old) (C.shown cluster.old) }
-        requires allowed { MayGoOn C.allows C.may_answer (name_of namenode.old) self.old }
-        requires stands { Stands (C.shown cluster.old) self.old }
+        requires may { IsServed C.allows C.may_answer namenode.old (C.shown cluster.old) self.old }
         requires open { IsSome self.old.pipe }
         requires room { (self.old.length + length bytes.now ≤ self.old.block_size) × (0 < length bytes.now) }
         ensures stands { OnOk result (Stands (C.shown cluster.new) self.new) }
@@ -207,9 +198,7 @@ impl BlockWriter {
         namenode: &mut NamenodeProtocol,
         bytes: &[u8],
     ) -> Result<(), WriteFault>
-        requires reaches { ReachesAll (proxy_of namenode.old) (C.shown cluster.old) }
-        requires allowed { MayGoOn C.allows C.may_answer (name_of namenode.old) self.old }
-        requires stands { Stands (C.shown cluster.old) self.old }
+        requires may { IsServed C.allows C.may_answer namenode.old (C.shown cluster.old) self.old }
         requires open { IsSome self.old.pipe }
         requires room { self.old.length + length bytes.now ≤ self.old.block_size }
         ensures stands { OnOk result (Stands (C.shown cluster.new) self.new) }
@@ -238,9 +227,7 @@ impl BlockWriter {
         namenode: &mut NamenodeProtocol,
         bytes: &[u8],
     ) -> Result<usize, WriteFault>
-        requires reaches { ReachesAll (proxy_of namenode.old) (C.shown cluster.old) }
-        requires allowed { MayGoOn C.allows C.may_answer (name_of namenode.old) self.old }
-        requires stands { Stands (C.shown cluster.old) self.old }
+        requires { IsServed C.allows C.may_answer namenode.old (C.shown cluster.old) self.old }
         ensures stands { Stands (C.shown cluster.new) self.new }
         ensures count { IfOk result (λ n. n ≡ min (length bytes.now) (size_of self.old - length_of self.old)) }
         ensures err { IfErr result (λ fault. Fails (C.shown cluster.old) self.old fault (C.shown cluster.new)
@@ -269,10 +256,7 @@ impl BlockWriter {
         cluster: &mut C,
         namenode: &mut NamenodeProtocol,
     ) -> Result<Block, WriteFault>
-        requires reaches { ReachesAll (proxy_of namenode.old) (C.shown cluster.old) }
-        requires allowed { MayGoOn C.allows C.may_answer (name_of namenode.old) self.old }
-        requires holds { Holds (C.shown cluster.old) self.old }
-        requires open { IsSome self.old.pipe }
+        requires may { MaySend C.allows C.may_answer namenode.old (C.shown cluster.old) self.old }
         requires none { self.old.packet ≡ None }
         ensures closed { IfOk result (λ block. Closes (C.shown cluster.old) self.old block (C.shown cluster.new)) }
         ensures last { OnOk result (WaitsForLast C.shown C.ends cluster.old self.old cluster.new) }
@@ -302,9 +286,7 @@ impl BlockWriter {
         cluster: &mut C,
         namenode: &mut NamenodeProtocol,
     ) -> Result<Block, WriteFault>
-        requires reaches { ReachesAll (proxy_of namenode.old) (C.shown cluster.old) }
-        requires allowed { MayGoOn C.allows C.may_answer (name_of namenode.old) self }
-        requires stands { Stands (C.shown cluster.old) self }
+        requires { IsServed C.allows C.may_answer namenode.old (C.shown cluster.old) self }
         ensures closed { IfOk result (λ block. Closes (C.shown cluster.old) self block (C.shown cluster.new)) }
 
         // Over a told picture the last packet of the block is an empty one that is marked so, and the datanodes have received it.
@@ -325,9 +307,7 @@ impl BlockWriter {
         cluster: &mut C,
         namenode: &mut NamenodeProtocol,
     ) -> Result<Block, WriteFault>
-        requires reaches { ReachesAll (proxy_of namenode.old) (C.shown cluster.old) }
-        requires allowed { MayGoOn C.allows C.may_answer (name_of namenode.old) self.old }
-        requires stands { Stands (C.shown cluster.old) self.old }
+        requires { IsServed C.allows C.may_answer namenode.old (C.shown cluster.old) self.old }
         ensures closed { IfOk result (λ block. Closes (C.shown cluster.old) self.old block (C.shown cluster.new)) }
         ensures last { OnOk result (WaitsForLast C.shown C.ends cluster.old self.old cluster.new) }
         ensures err { IfErr result (λ fault. GaveUp (C.shown cluster.old) self.old fault (C.shown cluster.new)) }

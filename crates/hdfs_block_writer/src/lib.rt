@@ -5,4 +5,4 @@ mod block_writer;
 mod packing;
 mod pushing;
 
-pub use block_writer::BlockWriter;
+pub use block_writer::{BlockSizes, BlockWriter};

@@ -53,8 +53,8 @@ impl BlockWriter {
     ghost use Rattle.hdfs_pipeline.specs.Pipelines.{Done};
     ghost use Rattle.hdfs_block_reader.specs.Carrying.{total};
     ghost use Rattle.hdfs_rebuild.specs.Plans.{StaysAnswered};
-    ghost use Rattle.hdfs_block_writer.specs.OpenPipelines.{Finishes, IsStanding};
-    ghost use Rattle.hdfs_block_writer.specs.Pushing.{CanPush, FallsEnded, FallsFor, FinishesNot, IsEnding, Pushes, PushesNot, PushesOnce, ReceivesAll, ReceivesOnce, RebuildsEnded, Settles, plan_in};
+    ghost use Rattle.hdfs_block_writer.specs.OpenPipelines.{Finishes};
+    ghost use Rattle.hdfs_block_writer.specs.Pushing.{CanPush, FallsEnded, FallsFor, FinishesNot, IsEnding, MayDrive, Pushes, PushesNot, PushesOnce, ReceivesAll, ReceivesOnce, RebuildsEnded, Settles, plan_in};
 
     /// Rebuilds a pipeline of the block that has ended, and whose link is ended first. Its packets are sent again. Behind them the block
     /// has `unsent` bytes.
@@ -65,9 +65,7 @@ impl BlockWriter {
         pipe: BlockPipeline,
         unsent: u64,
     ) -> Result<BlockPipeline, WriteFault>
-        requires reaches { ReachesAll (proxy_of namenode.old) (C.shown cluster.old) }
-        requires allowed { LetsGoOn C.allows C.may_answer (name_of namenode.old) pipe.plan.src pipe.plan.block }
-        requires standing { IsStanding self.now.settings (C.shown cluster.old) pipe [] }
+        requires may { MayDrive C.allows C.may_answer namenode.old self.now.settings (C.shown cluster.old) pipe }
         requires ended { IsSome pipe.core.end × (pipe.core.end ≡ Some Done → ⊥) }
         requires few { (total pipe.core.pushed + unsent ≤ self.now.length) × (self.now.length < 2 ^ 63) }
         ensures ok { IfOk result (λ pipe'. RebuildsEnded self.now.settings (C.shown cluster.old) pipe
@@ -184,9 +182,7 @@ impl BlockWriter {
         namenode: &mut NamenodeProtocol,
         pipe: BlockPipeline,
     ) -> Result<Settled, WriteFault>
-        requires reaches { ReachesAll (proxy_of namenode.old) (C.shown cluster.old) }
-        requires allowed { LetsGoOn C.allows C.may_answer (name_of namenode.old) pipe.plan.src pipe.plan.block }
-        requires standing { IsStanding self.now.settings (C.shown cluster.old) pipe [] }
+        requires may { MayDrive C.allows C.may_answer namenode.old self.now.settings (C.shown cluster.old) pipe }
         requires ending { IsEnding pipe }
         requires few { (total pipe.core.pushed ≤ self.now.length) × (self.now.length < 2 ^ 63) }
         ensures ok { IfOk result (λ settled. Settles self.now.settings (C.shown cluster.old) pipe settled
@@ -236,9 +232,7 @@ impl BlockWriter {
         namenode: &mut NamenodeProtocol,
         pipe: BlockPipeline,
     ) -> Result<BlockPlan, WriteFault>
-        requires reaches { ReachesAll (proxy_of namenode.old) (C.shown cluster.old) }
-        requires allowed { LetsGoOn C.allows C.may_answer (name_of namenode.old) pipe.plan.src pipe.plan.block }
-        requires standing { IsStanding self.now.settings (C.shown cluster.old) pipe [] }
+        requires may { MayDrive C.allows C.may_answer namenode.old self.now.settings (C.shown cluster.old) pipe }
         requires ending { IsEnding pipe }
         requires few { (total pipe.core.pushed ≤ self.now.length) × (self.now.length < 2 ^ 63) }
         ensures finishes { IfOk result (λ plan. Finishes self.now.settings (C.shown cluster.old) pipe

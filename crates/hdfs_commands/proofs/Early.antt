@@ -1,6 +1,6 @@
 -- A command that is refused before anything is asked.
 use Rattle.std.proofs.Common.{◌≡◌, ◌⊎◌, inl, inr, ℕ, Bool, true, false, not, cond, List, Result, Ok, Err, refl, sym, ◌∙◌, ap, subst}
-use Rattle.std.specs.Prelude.{IfErr, IsTrue, is_err}
+use Rattle.std.specs.Prelude.{IfErr, IsTrue}
 use Rattle.hdfs_model.specs.declared.commands.Command.{Command}
 use Rattle.hdfs_model.specs.declared.commands.Command.TheVariants as commands
 use Rattle.hdfs_model.specs.declared.commands.Reply.{Reply}
@@ -104,33 +104,12 @@ state_acts s session command stands is placed = early_acts s session command (er
     let refused = misplaced_step (world_at session s) state command is here in
     ((refused, tt), subst (λ (o : Outcome). Answers o (errors.InvalidArgument args.State)) (sym refused) (inr tt))))
 
--- what is owed for the path rule
-pub owed_path : (w : World) (opened : List ℕ → Bool) (command : Command) (error : HdfsError) → is_path (target_of w command) ≡ false → error ≡ errors.InvalidPath (path_of command) → Owed w opened command error
-owed_path w opened command error is same =
-    inr (subst (λ (b : Bool). OwedBy b (is_misplaced command (opened (target_of w command))) (path_of command) error) (sym is) same)
-
--- for what is open
-pub owed_state : (w : World) (opened : List ℕ → Bool) (command : Command) (error : HdfsError) → is_path (target_of w command) ≡ true → is_misplaced command (opened (target_of w command)) ≡ true
-    → error ≡ errors.InvalidArgument args.State → Owed w opened command error
-owed_state w opened command error is placed same =
-    inr (subst (λ (b : Bool). OwedBy b (is_misplaced command (opened (target_of w command))) (path_of command) error) (sym is)
-    (subst (λ (b : Bool). OwedBy true b (path_of command) error) (sym placed) same))
-
 -- and where neither is broken
 pub owed_other : (w : World) (opened : List ℕ → Bool) (command : Command) (error : HdfsError) → is_path (target_of w command) ≡ true → is_misplaced command (opened (target_of w command)) ≡ false
     → IsNotOwed error → Owed w opened command error
 owed_other w opened command error is placed owes =
     inr (subst (λ (b : Bool). OwedBy b (is_misplaced command (opened (target_of w command))) (path_of command) error) (sym is)
     (subst (λ (b : Bool). OwedBy true b (path_of command) error) (sym placed) owes))
-
--- a session has failed once a call of it has
-pub after_err : {T : Type 0} (session : Session) (result : Result T HdfsError) → is_err result ≡ true → after session result ≡ record session { failed = true }
-after_err session (Err error) is = refl
-after_err session (Ok value) is = absurd (cc)
-
-pub after_ok : {T : Type 0} (session : Session) (result : Result T HdfsError) → is_err result ≡ false → after session result ≡ session
-after_ok session (Ok value) is = refl
-after_ok session (Err error) is = absurd (cc)
 
 -- the path of a command wasn't had
 pub target_acts : (s : Shown) (session : Session) (command : Command) (error : HdfsError) → Stands s session

@@ -100,8 +100,3 @@ module _ (p q : Picture) (same : SameFiles p q) (writes : SameWrites p q) where
             subst (λ (x : Picture). CarriesFile x state path writer) other (carries_stays state path writer (h.each p was path writer has));
         defaults = subst (λ (d : ServerDefaults). IfSome (defaults_known s) (λ known. known ≡ d)) defaults h.defaults;
       }
-
--- and once it has failed, too
-pub after_carries : {T : Type 0} (shown : Shown) (s : Session) (result : Result T HdfsError) (state : State) → Carried shown s state → Carried shown (after s result) state
-after_carries shown s (Ok value) state h = h
-after_carries shown s (Err error) state h = record { each = h.each; defaults = h.defaults }

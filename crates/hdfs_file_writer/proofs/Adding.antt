@@ -1,19 +1,17 @@
 -- What the asks of a writer of a file do to what it carries.
-use Rattle.std.proofs.Common.{◌≡◌, ◌≢◌, ⊎_elim, ℕ, ◌+◌, ◌<◌, Bool, true, false, List, [], ◌∷◌, ◌++◌, length, take, Option, Some, None, refl, sym, ◌∙◌, ap, subst, arith}
+use Rattle.std.proofs.Common.{◌≡◌, ◌≢◌, ⊎_elim, ℕ, ◌+◌, ◌<◌, List, [], ◌∷◌, ◌++◌, length, take, Option, Some, None, refl, sym, ◌∙◌, ap, subst, arith}
 use Rattle.std.proofs.lemmas.List.{append-nil, length-append, get_or-append-add, get_or_append_left, get_or_default}
 use Rattle.std.specs.Prelude.{Contains, slice_index_or, IsSome, option_map}
 use Rattle.hdfs_cluster.specs.declared.messages.Block.{Block}
 use Rattle.hdfs_cluster.specs.declared.messages.LocatedBlock.{LocatedBlock}
 use Rattle.hdfs_cluster.specs.declared.picture.BlockEntry.{BlockEntry}
-use Rattle.hdfs_cluster.specs.declared.picture.Entry.{Entry}
 use Rattle.hdfs_cluster.specs.declared.picture.Entry.TheVariants as entries
 use Rattle.hdfs_cluster.specs.declared.picture.FileEntry.{FileEntry}
-use Rattle.hdfs_cluster.specs.Effects.{Changes, of_length, with_length, with_block, with_entry, IsLast, IsRetried, AddsNew, AddsBlock, ClosesIf, Completes}
-use Rattle.hdfs_cluster.specs.Files.{File, Content}
+use Rattle.hdfs_cluster.specs.Effects.{Changes, of_length, with_length, with_block, with_entry, IsLast, IsRetried, AddsNew, AddsBlock}
 use Rattle.hdfs_cluster.specs.Picture.{Picture}
 use Rattle.hdfs_cluster.specs.Sending.{uuids}
 use Rattle.hdfs_cluster.specs.Sound.{IsSound, IsFileAt, IsBlockAt}
-use Rattle.hdfs_cluster.specs.Stores.{AgreesAt, StoresBlocks}
+use Rattle.hdfs_cluster.specs.Stores.{StoresBlocks}
 use Rattle.hdfs_block_reader.specs.Carrying.{HoldsWhole}
 use Rattle.hdfs_file_writer.specs.Tails.{Finished, StoresFront, TailCarries}
 use Rattle.hdfs_file_writer.proofs.Others.{is_listed}
@@ -85,10 +83,6 @@ module _ (p q : Picture) (sound : IsSound p) (path : List ℕ) (file : FileEntry
     stored = stored (λ other there. old_table other (is_listed p sound path file other is there));
   }
 
-  -- what its writer carries, by the block that was answered
-  pub grown_carries : TailCarries q path grown_file.blocks (Finished found.b.block_id 0) bytes
-  grown_carries = subst (λ (i : ℕ). TailCarries q path grown_file.blocks (Finished i 0) bytes) (sym added.answered.same_id) ([], grown_front, (added.entry.nodes, new_whole))
-
   -- the datanodes that are answered hold the new block, which is listed on them
   pub new_located : HoldsWhole q found.b.block_id 0 (uuids found.locs) []
   new_located = subst (λ (i : ℕ). HoldsWhole q i 0 (uuids found.locs) []) (sym added.answered.same_id) (subst (λ (ns : List (List ℕ)). HoldsWhole q added.id 0 ns []) (sym added.answered.nodes) new_whole)
@@ -152,16 +146,6 @@ module _ (p q : Picture) (sound : IsSound p) (path : List ℕ) (file : FileEntry
 
   pub ends_in_last : IsLast file.blocks (Some block)
   ends_in_last = (tail.1.front, tail.1.ends ∙ ap (λ (i : ℕ). tail.1.front ++ i ∷ []) (sym named))
-
-  -- the closed file agrees with what its writer carried
-  pub completes_agrees : (content : Content) → content.bytes ≡ bytes → file.attributes ≡ content.attributes → file.is_open ≡ true → Completes path file (Some block) p q → AgreesAt q (q.names path) (Some (File content))
-  completes_agrees content same attributes still done =
-      let changes : Changes p q (with_entry p.names path (record file { is_open = false })) (with_length p.table (Some block)) = subst (λ (b : Bool). ClosesIf b path file (Some block) p q) still done.1 in
-      subst (λ (e : Option Entry). AgreesAt q e (Some (File content))) (sym (named_after p q path (record file { is_open = false }) (with_length p.table (Some block)) changes)) (
-        refl,
-        attributes,
-        subst (StoresBlocks q file.blocks) (sym same) (all_stored (λ other there. changes.table other) changes.bytes.held),
-      )
 
   -- the last block isn't given again: what is named is the last one itself
   pub never_again : (last : ℕ) → IsRetried p.table file.blocks (Some block) last → ⊥

@@ -19,8 +19,7 @@ use Rattle.hdfs_rebuild.specs.declared.block_plan.BlockPlan.{BlockPlan}
 use Rattle.hdfs_rebuild.specs.declared.block_plan.RebuildSettings.{RebuildSettings}
 use Rattle.hdfs_file_writer.specs.declared.file_writer.FileWriter.{FileWriter}
 use Rattle.hdfs_file_writer.specs.declared.sizes.WriteSizes.{WriteSizes}
-use Rattle.hdfs_file_writer.specs.Tails.{Tail, Going, Reopened}
-use Rattle.hdfs_file_writer.specs.Writers.{BlockStands, IsAnswered, IsAnsweredPlan, IsAnsweredTail, Keeps, tail_by, tail_done, tail_of}
+use Rattle.hdfs_file_writer.specs.Writers.{BlockStands, IsAnswered, IsAnsweredPlan, IsAnsweredTail, Keeps, tail_by, tail_done}
 
 -- the block of a writer of a block was answered
 abbrev pub IsAnsweredPipe : (Ask → Answer → Type 0) → List ℕ → List ℕ → Option ℕ → BlockWriter → Type 0
@@ -28,7 +27,7 @@ IsAnsweredPipe may_answer client path file_id block =
     (pipe : BlockPipeline) → block.pipe ≡ Some pipe → IsAnsweredPlan may_answer client path file_id pipe.plan
 
 -- what holds of a path and an id holds of those that a call keeps
-at_file : (P : List ℕ → Option ℕ → Type 0) (w w' : FileWriter) → Keeps w w' → P w.path w.file_id → P w'.path w'.file_id
+pub at_file : (P : List ℕ → Option ℕ → Type 0) (w w' : FileWriter) → Keeps w w' → P w.path w.file_id → P w'.path w'.file_id
 at_file P w w' keeps holds =
     subst (λ (path : List ℕ). P path w'.file_id) (sym keeps.path) (subst (λ (file_id : Option ℕ). P w.path file_id) (sym keeps.file_id) holds)
 

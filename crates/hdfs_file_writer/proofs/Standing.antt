@@ -22,7 +22,7 @@ use Rattle.hdfs_rebuild.specs.declared.block_plan.WriteFault.{WriteFault}
 use Rattle.hdfs_block_writer.specs.declared.block_writer.BlockWriter.{BlockWriter}
 use Rattle.hdfs_block_writer.specs.BlockWriters.{length_of, size_of, link_of as block_link, link_in, Stands as StandsItself}
 use Rattle.hdfs_block_writer.specs.OpenPipelines.{KeepsBlock}
-use Rattle.hdfs_block_writer.specs.Written.{Closes, GaveUp, IsCarrying, LetsGo, OpensNone, Wrote as BlockWrote, IsNew, OpensLink, BeginsWhole, fault_of}
+use Rattle.hdfs_block_writer.specs.Written.{Closes, GaveUp, IsCarrying, OpensNone, Wrote as BlockWrote, IsNew, OpensLink, BeginsWhole, fault_of}
 use Rattle.hdfs_block_writer.proofs.Wrote.{pipe_is}
 use Rattle.hdfs_file_writer.specs.declared.file_writer.FileWriter.{FileWriter}
 use Rattle.hdfs_file_writer.specs.declared.sizes.WriteSizes.{WriteSizes}
@@ -156,10 +156,6 @@ module _ (a b : Shown) (sound : Shows IsSound a) (sound' : Shows IsSound b) (w :
     apart = λ some. (let none : w.going ≡ None = stands.apart (subst IsSome rest some) in absurd (cc (none, going)));
     done = λ fine'' none. absurd (cc (none, going'));
   }
-
-  -- it was let go
-  pub let_go_own : LetsGo a block b → OnlyOwnLink a (link_of w) b None
-  let_go_own gone = own_from None gone.own
 
 idle_own : (a x : Shown) (w : FileWriter) (y : Option ℕ) → w.going ≡ None → OnlyOwnLink a None x y → OnlyOwnLink a (link_of w) x y
 idle_own a x w y none own = subst (λ (g : Option BlockWriter). OnlyOwnLink a (link_by g) x y) (sym none) own

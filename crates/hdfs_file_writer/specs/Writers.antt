@@ -14,10 +14,13 @@ use Rattle.hdfs_cluster.specs.Failures.{NodesFailTimes}
 use Rattle.hdfs_cluster.specs.Files.{File}
 use Rattle.hdfs_cluster.specs.Namenode.{IsToWrite}
 use Rattle.hdfs_cluster.specs.Picture.{Picture}
-use Rattle.hdfs_cluster.specs.Requests.{IsAnsweredId, IsAnsweredLast, IsAnsweredLocated, IsPipelineOf, IsReopened}
+use Rattle.hdfs_cluster.specs.Requests.{IsAnsweredId, IsAnsweredLast, IsAnsweredLocated, IsPipelineOf, IsReopened, LetsWrite, LetsWriteBlocks, Request}
 use Rattle.hdfs_cluster.specs.Shown.{SameNodes, Shown}
 use Rattle.hdfs_cluster.specs.Stores.{AgreesAt}
 use Rattle.hdfs_cluster.specs.Writing.{SameRecords}
+use Rattle.hdfs_namenode.specs.Asked.{ReachesAll}
+use Rattle.hdfs_namenode.specs.Clients.{name_of, proxy_of}
+use Rattle.hdfs_namenode.specs.declared.protocol.NamenodeProtocol.{NamenodeProtocol}
 use Rattle.hdfs_block_writer.specs.BlockWriters as blocks
 use Rattle.hdfs_block_writer.specs.OpenPipelines as pipelines
 use Rattle.hdfs_block_writer.specs.declared.block_writer.BlockWriter.{BlockWriter}
@@ -25,7 +28,7 @@ use Rattle.hdfs_rebuild.specs.declared.block_plan.BlockPipeline.{BlockPipeline}
 use Rattle.hdfs_rebuild.specs.declared.block_plan.BlockPlan.{BlockPlan}
 use Rattle.hdfs_file_writer.specs.Failing.{TellsWrite, TellsClose, CauseOfWrite, IsNoRefusal, IsRefusal}
 use Rattle.hdfs_file_writer.specs.OnlyFiles.{OnlyFile, SameFile}
-use Rattle.hdfs_file_writer.specs.Tails.{Tail, Bare, Finished, Reopened, Going, FillsBlocks, FileCarries}
+use Rattle.hdfs_file_writer.specs.Tails.{Tail, Bare, Finished, Reopened, Going, IsFull, FillsBlocks, FileCarries}
 use Rattle.hdfs_file_writer.specs.WholeBlocks.{StaysWhole, ClosesWhole}
 use Rattle.hdfs_file_writer.specs.declared.file_writer.FileWriter.{FileWriter}
 use Rattle.hdfs_file_writer.specs.declared.sizes.WriteSizes.{WriteSizes}
@@ -180,12 +183,42 @@ pub record Stands (shown : Shown) (writer : FileWriter) : Type 0 where
   pub apart : IsSome writer.reopened → writer.going ≡ None
   pub done : writer.failed ≡ false → writer.going ≡ None → writer.last ≡ None
 
--- A writer at work: it stands, hasn't failed, its file's numbers are in their limits, and its data isn't to be encrypted.
-pub record IsAtWork (shown : Shown) (writer : FileWriter) : Type 0 where
-  pub limited : AreLimited writer.sizes
+-- What a call of a writer wants: the client's service has all namenodes of the cluster, there is leave for what is asked for in the client's
+-- name for this path and id, the file's id and its blocks were answered to the client, and the writer stands.
+pub record IsServed (Lets : List ℕ → List ℕ → Option ℕ → Type 0) (may_answer : Ask → Answer → Type 0) (namenode : NamenodeProtocol)
+    (shown : Shown) (writer : FileWriter) : Type 0 where
+  pub reaches : ReachesAll (proxy_of namenode) shown
+  pub allowed : Lets (name_of namenode) writer.path writer.file_id
+  pub answered : IsAnswered may_answer (name_of namenode) writer
   pub stands : Stands shown writer
+
+-- the file may be written
+abbrev pub MayWrite : (Request → Type 0) → (Ask → Answer → Type 0) → NamenodeProtocol → Shown → FileWriter → Type 0
+MayWrite allows may_answer namenode shown writer = IsServed (LetsWrite allows may_answer) may_answer namenode shown writer
+
+-- its last block may be ended
+abbrev pub MayFinish : (Request → Type 0) → (Ask → Answer → Type 0) → NamenodeProtocol → Shown → FileWriter → Type 0
+MayFinish allows may_answer namenode shown writer = IsServed (LetsWriteBlocks allows may_answer) may_answer namenode shown writer
+
+-- a block may be asked for behind the last one, which is full
+pub record MayAdd (allows : Request → Type 0) (may_answer : Ask → Answer → Type 0) (namenode : NamenodeProtocol) (shown : Shown)
+    (writer : FileWriter) : Type 0 where
+  pub reaches : ReachesAll (proxy_of namenode) shown
+  pub allowed : LetsWrite allows may_answer (name_of namenode) writer.path writer.file_id
+  pub answered : IsAnswered may_answer (name_of namenode) writer
+  pub full : IsFull writer.sizes.block_size (tail_of writer)
+
+-- A writer at work: it hasn't failed, its file's numbers are in their limits, and its data isn't to be encrypted.
+pub record IsAtWork (writer : FileWriter) : Type 0 where
+  pub limited : AreLimited writer.sizes
   pub fine : writer.failed ≡ false
   pub plain : writer.sizes.encrypted ≡ false
+
+-- a writer that goes on: it stands, hasn't failed, and its file's id and blocks were answered to the client
+pub record CanGoOn (may_answer : Ask → Answer → Type 0) (client : List ℕ) (shown : Shown) (writer : FileWriter) : Type 0 where
+  pub stands : Stands shown writer
+  pub fine : writer.failed ≡ false
+  pub answered : IsAnswered may_answer client writer
 
 -- a block is being written that has room for a byte
 abbrev pub HasRoom : FileWriter → Type 0

@@ -37,7 +37,7 @@ impl FileWriter {
     ghost use Rattle.hdfs_namenode.specs.Clients.{SameClient, name_of, proxy_of};
     ghost use Rattle.hdfs_file_writer.specs.Tails.{Bare};
     ghost use Rattle.hdfs_cluster.specs.Namenode.{IsToWrite};
-    ghost use Rattle.hdfs_file_writer.specs.Writers.{AreLimited, ArePackets, AreSizes, path_of, file_id_of, sizes_of, has_failed, link_of, tail_of, tail_opened, IsAnswered, IsAtWork, IsIdle, Stands, Keeps, IsBetweenBlocks, OnlyOwnLink, LeavesFile, Wrote, Closed, Fails, FailsOtherwise, FailsToClose};
+    ghost use Rattle.hdfs_file_writer.specs.Writers.{AreLimited, ArePackets, AreSizes, path_of, file_id_of, sizes_of, has_failed, link_of, tail_of, tail_opened, CanGoOn, IsAnswered, IsAtWork, IsIdle, MayWrite, Stands, Keeps, IsBetweenBlocks, OnlyOwnLink, LeavesFile, Wrote, Closed, Fails, FailsOtherwise, FailsToClose};
 
     /// A writer of a file that was just created at `path`, which has the size of blocks that `sizes` says. `file_id` is the id that
     /// the namenode told.
@@ -96,20 +96,16 @@ impl FileWriter {
         namenode: &mut NamenodeProtocol,
         bytes: &[u8],
     ) -> Result<usize, HdfsError>
-        requires reaches { ReachesAll (proxy_of namenode.old) (C.shown cluster.old) }
-        requires allowed { LetsWrite C.allows C.may_answer (name_of namenode.old) (path_of self.old)
-            (file_id_of self.old) }
-        requires answered { IsAnswered C.may_answer (name_of namenode.old) self.old }
-        requires works { IsAtWork (C.shown cluster.old) self.old }
+        requires may { MayWrite C.allows C.may_answer namenode.old (C.shown cluster.old) self.old }
+        requires works { IsAtWork self.old }
         requires bytes { 0 < length bytes.now }
-        ensures stands { OnOk result (Stands (C.shown cluster.new) self.new) }
-        ensures answered { OnOk result (IsAnswered C.may_answer (name_of namenode.old) self.new) }
+        ensures goes { OnOk result (CanGoOn C.may_answer (name_of namenode.old) (C.shown cluster.new) self.new) }
         ensures count { IfOk result (λ n. (0 < n) × (n ≤ length bytes.now)) }
         ensures wrote { IfOk result (λ n. Wrote (C.shown cluster.old) self.old (take n bytes.now) (C.shown cluster.new)
             self.new) }
         ensures err { IfErr result (λ error. FailsOtherwise (C.shown cluster.old) self.old error
             (C.shown cluster.new)) }
-        ensures keeps { Keeps self.old self.new × (self.new.failed ≡ false) × SameClient namenode.old namenode.new }
+        ensures keeps { Keeps self.old self.new × SameClient namenode.old namenode.new }
     {
         match self.make_room(cluster, namenode) {
             Ok(()) => {}
@@ -198,11 +194,7 @@ impl FileWriter {
     /// Why no byte is taken where data is to be encrypted. A block that has room for a byte is asked for first, where none is to be gone
     /// on with that has.
     fn refuse<C: Cluster>(&mut self, cluster: &mut C, namenode: &mut NamenodeProtocol) -> HdfsError
-        requires reaches { ReachesAll (proxy_of namenode.old) (C.shown cluster.old) }
-        requires allowed { LetsWrite C.allows C.may_answer (name_of namenode.old) (path_of self.old)
-            (file_id_of self.old) }
-        requires answered { IsAnswered C.may_answer (name_of namenode.old) self.old }
-        requires stands { Stands (C.shown cluster.old) self.old }
+        requires may { MayWrite C.allows C.may_answer namenode.old (C.shown cluster.old) self.old }
         requires fine { self.old.failed ≡ false }
         requires encrypted { self.old.sizes.encrypted ≡ true }
         ensures keeps { Keeps self.old self.new × SameClient namenode.old namenode.new }
@@ -235,14 +227,9 @@ impl FileWriter {
         namenode: &mut NamenodeProtocol,
         bytes: &[u8],
     ) -> Result<(), HdfsError>
-        requires reaches { ReachesAll (proxy_of namenode.old) (C.shown cluster.old) }
-        requires allowed { LetsWrite C.allows C.may_answer (name_of namenode.old) (path_of self.old)
-            (file_id_of self.old) }
-        requires answered { IsAnswered C.may_answer (name_of namenode.old) self.old }
-        requires works { IsAtWork (C.shown cluster.old) self.old }
-        ensures fine { self.new.failed ≡ false }
-        ensures stands { OnOk result (Stands (C.shown cluster.new) self.new) }
-        ensures answered { OnOk result (IsAnswered C.may_answer (name_of namenode.old) self.new) }
+        requires may { MayWrite C.allows C.may_answer namenode.old (C.shown cluster.old) self.old }
+        requires works { IsAtWork self.old }
+        ensures goes { OnOk result (CanGoOn C.may_answer (name_of namenode.old) (C.shown cluster.new) self.new) }
         ensures wrote { OnOk result (Wrote (C.shown cluster.old) self.old bytes.now (C.shown cluster.new) self.new) }
         ensures err { IfErr result (λ error. FailsOtherwise (C.shown cluster.old) self.old error
             (C.shown cluster.new)) }

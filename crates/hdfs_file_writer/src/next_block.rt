@@ -3,20 +3,18 @@ ghost use Rattle.std.specs.Prelude.{◌≡◌, ◌<◌, ◌≤◌, [], false, No
 
 use crate::faults::error_of;
 use crate::file_writer::FileWriter;
-use hdfs_block_writer::BlockWriter;
+use hdfs_block_writer::{BlockSizes, BlockWriter};
 use hdfs_cluster::{Cluster, HdfsError, LocatedBlock};
 use hdfs_namenode::NamenodeProtocol;
 use hdfs_rebuild::BlockPlan;
 use hdfs_wire::NoMemory;
 
 impl FileWriter {
-    ghost use Rattle.hdfs_cluster.specs.Requests.{IsAdded, IsAnsweredLast, IsFirstSetup, LetsWrite, LetsWriteBlocks, SetupOf};
+    ghost use Rattle.hdfs_cluster.specs.Requests.{IsAdded, IsFirstSetup, SetupOf};
     ghost use Rattle.hdfs_cluster.specs.declared.messages.Setup.{Setup};
-    ghost use Rattle.hdfs_namenode.specs.Asked.{ReachesAll};
-    ghost use Rattle.hdfs_namenode.specs.Clients.{SameClient, name_of, proxy_of};
+    ghost use Rattle.hdfs_namenode.specs.Clients.{SameClient, name_of};
     ghost use Rattle.hdfs_file_writer.specs.Tails.{IsFull};
-    ghost use Rattle.hdfs_cluster.specs.Namenode.{IsToWrite};
-    ghost use Rattle.hdfs_file_writer.specs.Writers.{plan_of, path_of, file_id_of, tail_of, IsAnswered, IsAtWork, IsToOpen, MayBegin, Stands, Keeps, IsBetweenBlocks, HasRoom, Wrote, Adds, FailsOtherwise};
+    ghost use Rattle.hdfs_file_writer.specs.Writers.{plan_of, path_of, file_id_of, tail_of, CanGoOn, IsAnswered, IsAtWork, IsToOpen, MayAdd, MayBegin, MayFinish, MayWrite, Keeps, IsBetweenBlocks, HasRoom, Wrote, Adds, FailsOtherwise};
 
     /// Ends the block that is being written, or leaves the one that was to be gone on with.
     pub(crate) fn finish_block<C: Cluster>(
@@ -24,11 +22,7 @@ impl FileWriter {
         cluster: &mut C,
         namenode: &mut NamenodeProtocol,
     ) -> Result<(), HdfsError>
-        requires reaches { ReachesAll (proxy_of namenode.old) (C.shown cluster.old) }
-        requires allowed { LetsWriteBlocks C.allows C.may_answer (name_of namenode.old) (path_of self.old)
-            (file_id_of self.old) }
-        requires answered { IsAnswered C.may_answer (name_of namenode.old) self.old }
-        requires stands { Stands (C.shown cluster.old) self.old }
+        requires may { MayFinish C.allows C.may_answer namenode.old (C.shown cluster.old) self.old }
         requires fine { self.old.failed ≡ false }
         ensures keeps { Keeps self.old self.new × (self.new.failed ≡ false) × SameClient namenode.old namenode.new }
         ensures between { OnOk result (IsBetweenBlocks self.new × (IsFull self.old.sizes.block_size (tail_of self.old)
@@ -85,10 +79,9 @@ impl FileWriter {
         requires allowed { (setup : Setup) → IsFirstSetup located (name_of namenode.now) setup
             → C.allows (SetupOf setup) }
         requires answered { IsAnswered C.may_answer (name_of namenode.now) self.old }
-        ensures fine { self.new.failed ≡ false }
         ensures keeps { Keeps self.old self.new }
-        ensures stands { OnOk result (Stands (C.shown cluster.new) self.new × HasRoom self.new) }
-        ensures answered { OnOk result (IsAnswered C.may_answer (name_of namenode.now) self.new) }
+        ensures goes { OnOk result (CanGoOn C.may_answer (name_of namenode.now) (C.shown cluster.new) self.new
+            × HasRoom self.new) }
         ensures wrote { OnOk result (Wrote (C.shown cluster.old) (record self.old { reopened = Some located }) []
             (C.shown cluster.new) self.new) }
         ensures err { IfErr result (λ error. FailsOtherwise (C.shown cluster.old)
@@ -99,14 +92,17 @@ impl FileWriter {
             Ok(plan) => plan,
             Err(_) => return Err(HdfsError::NoMemory),
         };
+        let sizes = BlockSizes {
+            block_size: self.sizes.block_size,
+            packet_size: self.sizes.packet_size,
+        };
         match BlockWriter::replicated(
             self.alloc,
             cluster,
             namenode,
             plan,
             &self.sizes.rebuilding,
-            self.sizes.block_size,
-            self.sizes.packet_size,
+            sizes,
         ) {
             Ok(block) => {
                 self.going = Some(block);
@@ -122,13 +118,9 @@ impl FileWriter {
         cluster: &mut C,
         namenode: &mut NamenodeProtocol,
     ) -> Result<LocatedBlock, HdfsError>
-        requires reaches { ReachesAll (proxy_of namenode.old) (C.shown cluster.old) }
-        requires allowed { LetsWrite C.allows C.may_answer (name_of namenode.old) (path_of self.now)
-            (file_id_of self.now) }
-        requires answered { IsAnsweredLast C.may_answer (name_of namenode.old) (path_of self.now) (file_id_of self.now)
-            self.now.last }
+        requires adds { MayAdd C.allows C.may_answer namenode.old (C.shown cluster.old) self.now }
         requires between { IsBetweenBlocks self.now }
-        requires full { IsFull self.now.sizes.block_size (tail_of self.now) }
+        requires fine { self.now.failed ≡ false }
         ensures adds { IfOk result (λ located. Adds (C.shown cluster.old) self.now located (C.shown cluster.new)) }
         ensures answered { IfOk result (IsAdded C.may_answer (name_of namenode.old) (path_of self.now)
             (file_id_of self.now)) }
@@ -154,16 +146,11 @@ impl FileWriter {
         cluster: &mut C,
         namenode: &mut NamenodeProtocol,
     ) -> Result<(), HdfsError>
-        requires reaches { ReachesAll (proxy_of namenode.old) (C.shown cluster.old) }
-        requires allowed { LetsWrite C.allows C.may_answer (name_of namenode.old) (path_of self.old)
-            (file_id_of self.old) }
-        requires answered { IsAnswered C.may_answer (name_of namenode.old) self.old }
+        requires adds { MayAdd C.allows C.may_answer namenode.old (C.shown cluster.old) self.old }
         requires begins { MayBegin self.old }
-        requires full { IsFull self.old.sizes.block_size (tail_of self.old) }
-        ensures fine { self.new.failed ≡ false }
         ensures keeps { Keeps self.old self.new × SameClient namenode.old namenode.new }
-        ensures stands { OnOk result (Stands (C.shown cluster.new) self.new × HasRoom self.new) }
-        ensures answered { OnOk result (IsAnswered C.may_answer (name_of namenode.old) self.new) }
+        ensures goes { OnOk result (CanGoOn C.may_answer (name_of namenode.old) (C.shown cluster.new) self.new
+            × HasRoom self.new) }
         ensures wrote { OnOk result (Wrote (C.shown cluster.old) self.old [] (C.shown cluster.new) self.new) }
         ensures err { IfErr result (λ error. FailsOtherwise (C.shown cluster.old) self.old error
             (C.shown cluster.new)) }
@@ -201,19 +188,14 @@ impl FileWriter {
         cluster: &mut C,
         namenode: &mut NamenodeProtocol,
     ) -> Result<(), HdfsError>
-        requires reaches { ReachesAll (proxy_of namenode.old) (C.shown cluster.old) }
-        requires allowed { LetsWrite C.allows C.may_answer (name_of namenode.old) (path_of self.old)
-            (file_id_of self.old) }
-        requires answered { IsAnswered C.may_answer (name_of namenode.old) self.old }
-        requires works { IsAtWork (C.shown cluster.old) self.old }
-        ensures fine { self.new.failed ≡ false }
-        ensures keeps { Keeps self.old self.new }
-        ensures stands { OnOk result (Stands (C.shown cluster.new) self.new × HasRoom self.new) }
-        ensures answered { OnOk result (IsAnswered C.may_answer (name_of namenode.old) self.new) }
+        requires may { MayWrite C.allows C.may_answer namenode.old (C.shown cluster.old) self.old }
+        requires works { IsAtWork self.old }
+        ensures keeps { Keeps self.old self.new × SameClient namenode.old namenode.new }
+        ensures goes { OnOk result (CanGoOn C.may_answer (name_of namenode.old) (C.shown cluster.new) self.new
+            × HasRoom self.new) }
         ensures wrote { OnOk result (Wrote (C.shown cluster.old) self.old [] (C.shown cluster.new) self.new) }
         ensures err { IfErr result (λ error. FailsOtherwise (C.shown cluster.old) self.old error
             (C.shown cluster.new)) }
-        ensures client { SameClient namenode.old namenode.new }
     {
         if self.has_room() {
             return Ok(());

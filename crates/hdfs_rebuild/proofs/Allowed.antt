@@ -113,11 +113,6 @@ module _ {may_answer : Ask → Answer → Type 0} {client : List ℕ} where
   stays_attempted plan plan' course old new (attempts.Fell fallen) is resumed stays =
       subst (StaysAnswered may_answer client plan) (sym (resumed.plan ∙ is)) stays
 
--- in another name that is the same
-pub renewed_as : (may_answer : Ask → Answer → Type 0) {client client' : List ℕ} → client' ≡ client → (plan plan' : BlockPlan)
-    → IsRenewed may_answer client plan plan' → IsRenewed may_answer client' plan plan'
-renewed_as may_answer name plan plan' renewed = subst (λ (c : List ℕ). IsRenewed may_answer c plan plan') (sym name) renewed
-
 -- leave goes on, by a client and a path that are the same, with a pipeline that was answered where the one before was
 pub lets_go_on : {allows : Request → Type 0} {may_answer : Ask → Answer → Type 0} {client client' : List ℕ} (plan plan' : BlockPlan) → client' ≡ client
     → plan'.src ≡ plan.src → StaysAnswered may_answer client plan plan' → LetsGoOn allows may_answer client plan.src plan.block

@@ -1,5 +1,5 @@
 -- A whole session over any cluster, where it ends or stops.
-use Rattle.std.proofs.Common.{◌≡◌, ◌≢◌, ◌⊎◌, ℕ, suc, ◌+◌, ◌-◌, ◌<◌, List, [], ◌∷◌, ◌++◌, length, take, get_or, None, IsSome, Err, refl, sym, ◌∙◌, ap, subst, arith}
+use Rattle.std.proofs.Common.{◌≡◌, ◌⊎◌, ℕ, suc, ◌+◌, ◌-◌, ◌<◌, List, [], ◌∷◌, ◌++◌, length, take, get_or, None, IsSome, Err, refl, sym, ◌∙◌, ap, subst, arith}
 use Rattle.std.specs.List.{slice_get}
 use Rattle.std.proofs.lemmas.List.{take_more}
 use Rattle.std.proofs.lemmas.Option.{slice_get_read}
@@ -10,7 +10,7 @@ use Rattle.hdfs_model.specs.Anywhere.{AreReplies, IsReply, Runs}
 use Rattle.hdfs_cluster.specs.Shown.{Shown, Later, SameReads}
 use Rattle.hdfs_cluster.specs.declared.errors.HdfsError.TheVariants as errors
 use Rattle.hdfs_cluster.specs.declared.errors.TransferFault.TheVariants as transfer
-use Rattle.hdfs_cluster.proofs.Frames.{later_refl, later_trans, same_reads_refl, same_reads_trans}
+use Rattle.hdfs_cluster.proofs.Frames.{later_refl, later_trans, same_reads_trans}
 use Rattle.hdfs_cluster.proofs.Times.{fails_until}
 use Rattle.hdfs_model.proofs.Telling.{tells_on, tells_since}
 use Rattle.hdfs_commands.specs.Acting.{Acts}
@@ -37,19 +37,6 @@ pub tallied_start : (start : Shown) (session : Session) → ((path : List ℕ) �
 tallied_start start session empty = record {
   later = later_refl start;
   each = λ path writer is. (let none = empty path in absurd (cc (is, none)));
-}
-
--- no command was run
-pub runs_start : (commands : List Command) (start : Shown) (fault : Fault) → fault.at ≡ 0 → fault.done ≡ [] → ((n : ℕ) → fault.error ≢ errors.DataTransferError (transfer.RebuildLimit n))
-    → Runs commands start start (Err fault)
-runs_start commands start fault at none apart = record {
-  later = later_refl start;
-  reads = same_reads_refl start;
-  writes = λ link. refl;
-  replies = tt;
-  done = subst (λ (rs : List Reply). AreReplies (take (fault.at - 1) commands) rs) (sym none) (subst (λ (n : ℕ). AreReplies (take (n - 1) commands) []) (sym at) tt);
-  tells = λ some. absurd (some at);
-  limit = λ n is. absurd (apart n is);
 }
 
 -- a command failed, and the session gave up its files

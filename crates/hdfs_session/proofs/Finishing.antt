@@ -8,10 +8,7 @@ use Rattle.hdfs_model.specs.declared.commands.Fault.{Fault}
 use Rattle.hdfs_cluster.specs.declared.errors.HdfsError.TheVariants as errors
 use Rattle.hdfs_cluster.specs.Files.{State}
 use Rattle.hdfs_model.specs.Folds.{Folded, Ends, Stops, fold, and_then, behind}
-use Rattle.hdfs_model.specs.Headline.{Stopped}
-use Rattle.hdfs_cluster.specs.Fitting.{Fits}
 use Rattle.hdfs_model.specs.Sessions.{Answers, Complete, IsLimited, AreLimited}
-use Rattle.hdfs_cluster.specs.Shown.{Shown}
 use Rattle.hdfs_model.specs.Steps.{World, Outcome, Refused, Done, step}
 use Rattle.hdfs_model.proofs.Folding.{fold-stop, stops_behind, length-fold}
 
@@ -19,11 +16,6 @@ use Rattle.hdfs_model.proofs.Folding.{fold-stop, stops_behind, length-fold}
 pub complete_done : {T : Type 0} (f : Folded) (value : T) (replies : List Reply) (last : State) → f ≡ Ends replies last → Complete f (Ok value)
 complete_done (Ends done end) value replies last is = tt
 complete_done (Stops done end why) value replies last is = absurd (cc)
-
--- a session that had no memory to begin
-pub complete_start : (T : Type 0) (f : Folded) (fault : Fault) → fault.at ≡ 0 → fault.error ≡ errors.NoMemory → Complete {T = T} f (Err fault)
-complete_start T (Ends replies last) fault at memory = memory
-complete_start T (Stops replies last why) fault at memory = inl (memory, omega (arith, at))
 
 -- a command was done or refused, and where it was done only want of memory stopped the session behind it
 module _ (T : Type 0) (w : World) (state : State) (commands : List Command) (n : ℕ) (command : Command) (done : List Reply) (last : State) (fault : Fault)
@@ -91,13 +83,3 @@ is_limited_at w s (first ∷ rest) zero command replies last below here is limit
 is_limited_at w s (first ∷ rest) (suc n) command replies last below here is limited =
     let f = first_done w s first (take n rest) replies last is in
     is_limited_at w f.1 rest n command f.3.0 last (omega (arith, below)) here f.3.1 (limited.1 f.0 f.1 f.2)
-
--- a session that was stopped before its first command
-pub stopped_start : (w : World) (state : State) (commands : List Command) (start : Shown) (fault : Fault) → fault.at ≡ 0 → fault.done ≡ [] → fault.error ≡ errors.NoMemory → Fits start state
-    → Stopped w state commands start start fault
-stopped_start w state commands start fault at none is fits = record {
-  last = state;
-  done = ap (λ (n : ℕ). fold w state (take (n - 1) commands)) at ∙ ap (λ (rs : List Reply). Ends rs state) (sym none);
-  cause = λ some. absurd (some at);
-  start = λ begun. (is, fits.agrees);
-}

@@ -146,24 +146,6 @@ module _ (w : World) (state : State) (commands : List Command) (replies : List R
       let same : last' ≡ last = cc (folds, folds') in
       is_well_done path content (subst (λ (s : State). s.files path ≡ Some (File content)) same here) unspared q file told' at'
 
--- where no command was run nothing was added
-pub well_done_none : (w : World) (state : State) (spared : List ℕ → Bool) (start : Shown) → AreWellDone w state [] spared start start
-well_done_none w state spared start replies last folds path content here unspared p file told at = record {
-  whole = λ from added.
-      ⊎_elim
-      (λ made. absurd (omega (arith, made.2.1)))
-      (λ few. (let count : length (blocks_at (p.names path)) ≡ length file.blocks = ap (λ (l : List ℕ). length l) (ap blocks_at at) in
-      λ k least below. absurd (omega (arith, few p told, count, least, below))))
-      added;
-  full = λ made. absurd (omega (arith, made.2.1));
-}
-
--- a session that was stopped before its first command
-pub leaves_start : (w : World) (state : State) (commands : List Command) (start : Shown) (fault : Fault) → fault.at ≡ 0 → LeavesWhole w state commands start start (Err fault)
-leaves_start w state commands start fault at command is =
-    let none : take (fault.at - 1) commands ≡ [] = ap (λ (n : ℕ). take (n - 1) commands) at in
-    subst (λ (l : List Command). AreWellDone w state l (bytes_eq (target_of w command)) start start) (sym none) (well_done_none w state (bytes_eq (target_of w command)) start)
-
 -- a session that came to its end
 pub leaves_end : (w : World) (state : State) (commands : List Command) (n : ℕ) (replies : List Reply) (start now final : Shown) (session : Session) → GoneOn w state commands n replies now session
     → WholeSoFar w (take n commands) start now session → take n commands ≡ commands → ((state : State) → CarriesOpen now session state → LeavesFiles now final state) → SameReads now final

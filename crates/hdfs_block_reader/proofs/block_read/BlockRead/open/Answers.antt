@@ -1,6 +1,6 @@
 -- The goals of BlockRead::open.
 use Rattle.std.proofs.Common.{List, length, subst, arith}
-use Rattle.hdfs_block_reader.specs.Reader.{IsNodeAt, tried_of, IsAskFor}
+use Rattle.hdfs_block_reader.specs.Reader.{IsNodeAt}
 use Rattle.hdfs_block_reader.specs.declared.given_up.GivenUp.{GivenUp}
 use Rattle.hdfs_block_reader.proofs.block_read.BlockRead.open.Goals as goal
 
@@ -12,5 +12,5 @@ open_by-opened-requires-clause-asked g c = record {
   same_block = c.in_ok-ask.ensures.block;
   token = c.in_ok-ask.ensures.token;
   same_client = c.in_ok-ask.ensures.client;
-  same_end = omega (arith, c.in_ok-ask.ensures.range.0, c.in_ok-ask.ensures.range.1, c.requires.left.1);
+  same_end = omega (arith, c.in_ok-ask.ensures.range.0, c.in_ok-ask.ensures.range.1, c.requires.more);
 }

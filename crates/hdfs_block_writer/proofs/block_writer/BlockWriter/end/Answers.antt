@@ -11,17 +11,17 @@ use Rattle.hdfs_block_writer.proofs.Wrote.{gave_up_ended}
 use Rattle.hdfs_block_writer.proofs.block_writer.BlockWriter.end.Goals as goal
 
 pub last_packet-requires-clause-sizes : goal.last_packet-requires-clause-sizes
-last_packet-requires-clause-sizes g c = let pipe = pipe_of c.args.self.now c.requires.open in (c.requires.holds pipe.0 pipe.1).0.sizes
+last_packet-requires-clause-sizes g c = let pipe = pipe_of c.args.self.now c.requires.may.is_open in (c.requires.may.holds pipe.0 pipe.1).0.sizes
 
 pub last_packet-requires-clause-fits : goal.last_packet-requires-clause-fits
 last_packet-requires-clause-fits g c =
-    let pipe = pipe_of c.args.self.now c.requires.open in
-    let kept = (c.requires.holds pipe.0 pipe.1).0 in
+    let pipe = pipe_of c.args.self.now c.requires.may.is_open in
+    let kept = (c.requires.may.holds pipe.0 pipe.1).0 in
     (omega (arith, kept.within.0, kept.within.1), omega (arith, kept.within.0, kept.within.1, kept.counted))
 
 pub fail-requires : goal.fail-requires
 fail-requires g c = λ pipe is.
-    is_open c.args.self.now.settings (g.C.Cluster.shown c.args.cluster.now) pipe [] (c.requires.holds pipe is).1.standing
+    is_open c.args.self.now.settings (g.C.Cluster.shown c.args.cluster.now) pipe [] (c.requires.may.holds pipe is).1.standing
 
 pub returns-in_default-clause-err : goal.returns-in_default-clause-err
 returns-in_default-clause-err g c =
@@ -30,7 +30,7 @@ returns-in_default-clause-err g c =
 pub push-requires-clause-can : goal.push-requires-clause-can
 push-requires-clause-can g c =
     let piped : c.args.self.now.pipe ≡ Some c.in-Some.pipe = search rules in
-    let held = c.requires.holds c.in-Some.pipe piped in
+    let held = c.requires.may.holds c.in-Some.pipe piped in
     can_push_last c.args.self.now c.in-Some.pipe c.in-Ok.packet (g.C.Cluster.shown c.args.cluster.now) piped c.requires.none held.0 held.1
     c.in-Ok.ensures
 
@@ -38,40 +38,43 @@ pub returns-in_err-pipe-clause-err : goal.returns-in_err-pipe-clause-err
 returns-in_err-pipe-clause-err g c =
     let p = err_from_is_err_and c.from_residual.result c.from_residual.ensures.1 in
     let piped : c.args.self.now.pipe ≡ Some c.in-Some.pipe = search rules in
-    let held = c.requires.holds c.in-Some.pipe piped in
+    let held = c.requires.may.holds c.in-Some.pipe piped in
     rw (p.1, p.2)
     (last_not_pushed c.args.self.now c.in-Some.pipe c.in-Ok.packet (g.C.Cluster.shown c.args.cluster.now) piped c.requires.none held.0 held.1
     c.in-Ok.ensures (g.C.Cluster.shown c.push.new.cluster) c.in_err-pipe.field-0.0 c.in_err-pipe.ensures.err)
 
-pub finish-requires-clause-reaches : goal.finish-requires-clause-reaches
-finish-requires-clause-reaches g c =
-    reaches_later (proxy_of c.args.namenode.now) (proxy_of c.push.new.namenode) (g.C.Cluster.shown c.args.cluster.now)
-    (g.C.Cluster.shown c.push.new.cluster) c.push.ensures.client.service c.in_ok-pipe.ensures.ok.continues.own.later c.requires.reaches
-
-pub finish-requires-clause-allowed : goal.finish-requires-clause-allowed
-finish-requires-clause-allowed g c =
+pub finish-requires-clause-may : goal.finish-requires-clause-may
+finish-requires-clause-may g c =
     let piped : c.args.self.now.pipe ≡ Some c.in-Some.pipe = search rules in
-    lets_pipe c.in-Some.pipe.plan c.in_ok-pipe.pipe.plan c.push.ensures.client.name c.in_ok-pipe.ensures.ok.continues.keeps
-    c.in_ok-pipe.ensures.answered (c.requires.allowed c.in-Some.pipe piped)
+    let on = c.in_ok-pipe.ensures.ok.continues in
+    record {
+      reaches =
+          reaches_later (proxy_of c.args.namenode.now) (proxy_of c.push.new.namenode) (g.C.Cluster.shown c.args.cluster.now)
+          (g.C.Cluster.shown c.push.new.cluster) c.push.ensures.client.service on.own.later c.requires.may.reaches;
+      allowed =
+          lets_pipe c.in-Some.pipe.plan c.in_ok-pipe.pipe.plan c.push.ensures.client.name on.keeps c.in_ok-pipe.ensures.answered
+          (c.requires.may.allowed c.in-Some.pipe piped);
+      standing = on.standing;
+    }
 
 pub finish-requires-clause-ending : goal.finish-requires-clause-ending
 finish-requires-clause-ending g c =
     let piped : c.args.self.now.pipe ≡ Some c.in-Some.pipe = search rules in
-    let held = c.requires.holds c.in-Some.pipe piped in
+    let held = c.requires.may.holds c.in-Some.pipe piped in
     ending c.args.self.now c.in-Some.pipe c.in-Ok.packet (g.C.Cluster.shown c.args.cluster.now) piped c.requires.none held.0 held.1
     c.in-Ok.ensures (g.C.Cluster.shown c.push.new.cluster) c.in_ok-pipe.pipe c.in_ok-pipe.ensures.ok
 
 pub finish-requires-clause-few : goal.finish-requires-clause-few
 finish-requires-clause-few g c =
     let piped : c.args.self.now.pipe ≡ Some c.in-Some.pipe = search rules in
-    let held = c.requires.holds c.in-Some.pipe piped in
+    let held = c.requires.may.holds c.in-Some.pipe piped in
     few c.args.self.now c.in-Some.pipe c.in-Ok.packet (g.C.Cluster.shown c.args.cluster.now) piped c.requires.none held.0 held.1
     c.in-Ok.ensures (g.C.Cluster.shown c.push.new.cluster) c.in_ok-pipe.pipe c.in_ok-pipe.ensures.ok
 
 pub returns-clause-closed : goal.returns-clause-closed
 returns-clause-closed g c =
     let piped : c.args.self.now.pipe ≡ Some c.in-Some.pipe = search rules in
-    let held = c.requires.holds c.in-Some.pipe piped in
+    let held = c.requires.may.holds c.in-Some.pipe piped in
     closes c.args.self.now c.in-Some.pipe c.in-Ok.packet (g.C.Cluster.shown c.args.cluster.now) piped c.requires.none held.0 held.1
     c.in-Ok.ensures (g.C.Cluster.shown c.push.new.cluster) c.in_ok-pipe.pipe c.in_ok-pipe.ensures.ok
     (g.C.Cluster.shown c.finish.new.cluster) c.in_ok-plan.plan c.in_ok-plan.ensures.finishes c.named.result c.named.ensures
@@ -79,7 +82,7 @@ returns-clause-closed g c =
 pub returns-clause-last : goal.returns-clause-last
 returns-clause-last g c =
     let piped : c.args.self.now.pipe ≡ Some c.in-Some.pipe = search rules in
-    let held = c.requires.holds c.in-Some.pipe piped in
+    let held = c.requires.may.holds c.in-Some.pipe piped in
     waits_for_last g.C.Cluster.shown g.C.Cluster.ends c.args.self.now c.in-Some.pipe c.in_ok-pipe.pipe c.in-Ok.packet c.args.cluster.now
     c.push.new.cluster c.finish.new.cluster piped c.requires.none held.0 held.1 c.in-Ok.ensures c.in_ok-pipe.ensures.ok
     c.in_ok-plan.ensures.last
@@ -88,7 +91,7 @@ pub returns-in_err-plan-clause-err : goal.returns-in_err-plan-clause-err
 returns-in_err-plan-clause-err g c =
     let p = err_from_is_err_and c.from_residual-in_err-plan.result c.from_residual-in_err-plan.ensures.1 in
     let piped : c.args.self.now.pipe ≡ Some c.in-Some.pipe = search rules in
-    let held = c.requires.holds c.in-Some.pipe piped in
+    let held = c.requires.may.holds c.in-Some.pipe piped in
     rw (p.1, p.2)
     (not_finished c.args.self.now c.in-Some.pipe c.in-Ok.packet (g.C.Cluster.shown c.args.cluster.now) piped c.requires.none held.0 held.1
     c.in-Ok.ensures (g.C.Cluster.shown c.push.new.cluster) c.in_ok-pipe.pipe c.in_ok-pipe.ensures.ok

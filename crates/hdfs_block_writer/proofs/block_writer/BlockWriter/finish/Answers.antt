@@ -13,17 +13,21 @@ use Rattle.hdfs_block_writer.proofs.block_writer.BlockWriter.finish.Goals as goa
 
 pub loop-plan-init : goal.loop-plan-init
 loop-plan-init g c = record {
-  reaches = c.requires.reaches;
+  reaches = c.requires.may.reaches;
   client = same_client_refl c.args.namenode.now;
   answered = λ first answered. answered;
-  waits = first_wait c.args.self.now.settings (g.C.Cluster.shown c.args.cluster.now) c.args.pipe c.requires.standing c.requires.ending;
+  waits = first_wait c.args.self.now.settings (g.C.Cluster.shown c.args.cluster.now) c.args.pipe c.requires.may.standing c.requires.ending;
 }
 
-pub finish_once-requires-clause-reaches : goal.finish_once-requires-clause-reaches
-finish_once-requires-clause-reaches g c = c.loop-plan.invariant.reaches
-
-pub finish_once-requires-clause-standing : goal.finish_once-requires-clause-standing
-finish_once-requires-clause-standing g c = c.loop-plan.invariant.waits.continues.standing
+pub finish_once-requires-clause-may : goal.finish_once-requires-clause-may
+finish_once-requires-clause-may g c =
+    let before = c.loop-plan.invariant in
+    record {
+      reaches = before.reaches;
+      allowed =
+          lets_pipe c.args.pipe.plan c.loop-plan.pipe.plan before.client.name before.waits.continues.keeps before.answered c.requires.may.allowed;
+      standing = before.waits.continues.standing;
+    }
 
 pub finish_once-requires-clause-ending : goal.finish_once-requires-clause-ending
 finish_once-requires-clause-ending g c = c.loop-plan.invariant.waits.ending
@@ -86,7 +90,7 @@ loop-plan-preserved g c =
     record {
       reaches =
           reaches_later (proxy_of c.args.namenode.now) (proxy_of c.finish_once.new.namenode) (g.C.Cluster.shown c.args.cluster.now)
-          (g.C.Cluster.shown c.finish_once.new.cluster) client.service w.continues.own.later c.requires.reaches;
+          (g.C.Cluster.shown c.finish_once.new.cluster) client.service w.continues.own.later c.requires.may.reaches;
       client = client;
       answered =
           stays_then c.args.pipe.plan c.loop-plan.pipe.plan c.in-Rebuilt.rebuilt.plan c.loop-plan.invariant.client.name c.loop-plan.invariant.answered
@@ -94,11 +98,6 @@ loop-plan-preserved g c =
           c.in_ok-plan.ensures.answered);
       waits = w;
     }
-
-pub finish_once-requires-clause-allowed : goal.finish_once-requires-clause-allowed
-finish_once-requires-clause-allowed g c =
-    lets_pipe c.args.pipe.plan c.loop-plan.pipe.plan c.loop-plan.invariant.client.name c.loop-plan.invariant.waits.continues.keeps
-    c.loop-plan.invariant.answered c.requires.allowed
 
 pub returns-in-Done-clause-answered : goal.returns-in-Done-clause-answered
 returns-in-Done-clause-answered g c =

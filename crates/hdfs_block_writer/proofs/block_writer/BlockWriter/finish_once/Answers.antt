@@ -1,5 +1,5 @@
 -- The goals of BlockWriter::finish_once.
-use Rattle.std.proofs.Common.{◌≡◌, ◌≢◌, [], length, sym, ◌∙◌, ap, subst, arith, refl}
+use Rattle.std.proofs.Common.{◌≡◌, ◌≢◌, [], length, sym, ◌∙◌, ap, subst, arith}
 use Rattle.std.proofs.lemmas.Bool.{eqb-true, eqb-false}
 use Rattle.std.proofs.lemmas.List.{nil_from_length}
 use Rattle.std.proofs.lemmas.Result.{err_from_is_err_and}
@@ -18,7 +18,7 @@ pub returns-in-Err-clause-err : goal.returns-in-Err-clause-err
 returns-in-Err-clause-err g c =
     let s = c.in-Err.ensures.err in
     once_stopped c.args.self.now.settings c.args.pipe (g.C.Cluster.shown c.args.cluster.now) (g.C.Cluster.shown s.before)
-    (g.C.Cluster.shown c.drive_end.new.cluster) c.requires.standing s.stopped
+    (g.C.Cluster.shown c.drive_end.new.cluster) c.requires.may.standing s.stopped
     (g.met.C.Cluster.ends_row s.before c.drive_end.new.cluster c.args.pipe.link s.ended)
 
 pub returns-then-is_empty-clause-ok : goal.returns-then-is_empty-clause-ok
@@ -30,7 +30,7 @@ returns-then-is_empty-clause-ok g c =
     let e = g.met.C.Cluster.ends_row d.before c.drive_end.new.cluster c.args.pipe.link d.ended in
     let r = recovers_is d.last c.in-Ok-Recover.field-0 c.in-Ok-Recover.failed c.in-Ok-Recover.replay d.is_core d.has_ended d.is c.in-Ok-Recover.field-0-is in
     let none : length c.as_slice.result.now ≡ 0 = eqb-true (length c.as_slice.result.now) 0 (sym c.is_empty.ensures ∙ c.if-is_empty.true) in
-    finishes c.args.self.now.settings c.args.pipe a z m d.last c.requires.standing c.requires.ending.0 d.drove e d.is_core
+    finishes c.args.self.now.settings c.args.pipe a z m d.last c.requires.may.standing c.requires.ending.0 d.drove e d.is_core
     (sym r.1 ∙ nil_from_length c.in-Ok-Recover.replay (ap length (sym c.as_slice.ensures) ∙ none))
 
 pub returns-then-is_empty-clause-last : goal.returns-then-is_empty-clause-last
@@ -67,7 +67,7 @@ rebuild-requires-clause-reaches g c =
     let e = g.met.C.Cluster.ends_row d.before c.drive_end.new.cluster c.args.pipe.link d.ended in
     reaches_same (proxy_of c.args.namenode.now) (proxy_of c.args.namenode.now) (g.C.Cluster.shown c.args.cluster.now)
     (g.C.Cluster.shown c.drive_end.new.cluster) (same_service_refl (proxy_of c.args.namenode.now))
-    (e.writes.only.later.namenodes ∙ d.drove.on.only.later.namenodes) c.requires.reaches
+    (e.writes.only.later.namenodes ∙ d.drove.on.only.later.namenodes) c.requires.may.reaches
 
 pub rebuild-requires-clause-can : goal.rebuild-requires-clause-can
 rebuild-requires-clause-can g c =
@@ -80,9 +80,9 @@ rebuild-requires-clause-can g c =
     subst (λ (plan : BlockPlan). CanRebuild (record { plan = plan; failed = c.in-Ok-Recover.failed; replay = c.in-Ok-Recover.replay }) c.args.self.now.settings 0)
     (sym c.with_length-plan.ensures)
     (can_rebuild_standing c.args.self.now.settings (record { plan = c.args.pipe.plan; core = d.last; link = c.args.pipe.link }) z
-    (standing_drove c.args.self.now.settings c.args.pipe [] [] d.last a z d.drove d.is_core c.requires.standing)
+    (standing_drove c.args.self.now.settings c.args.pipe [] [] d.last a z d.drove d.is_core c.requires.may.standing)
     c.in-Ok-Recover.failed r.0 c.args.self.now.length 0 c.in-Ok-Recover.replay r.1 (
-      fewer_bytes c.args.self.now.settings c.args.pipe a z m d.last c.requires.standing c.requires.ending.0 d.drove e d.is_core c.args.self.now.length c.requires.few.0,
+      fewer_bytes c.args.self.now.settings c.args.pipe a z m d.last c.requires.may.standing c.requires.ending.0 d.drove e d.is_core c.args.self.now.length c.requires.few.0,
       c.requires.few.1,
     ))
 
@@ -96,7 +96,7 @@ returns-in_err-rebuilt-in-Ok-Recover-clause-err g c =
     let e = g.met.C.Cluster.ends_row d.before c.drive_end.new.cluster c.args.pipe.link d.ended in
     let r = recovers_is d.last c.in-Ok-Recover.field-0 c.in-Ok-Recover.failed c.in-Ok-Recover.replay d.is_core d.has_ended d.is c.in-Ok-Recover.field-0-is in
     rw (p.1, p.2)
-    (once_given_up c.args.self.now.settings c.args.pipe a z m d.last c.requires.standing c.requires.ending.0 d.drove e d.is_core
+    (once_given_up c.args.self.now.settings c.args.pipe a z m d.last c.requires.may.standing c.requires.ending.0 d.drove e d.is_core
     c.in-Ok-Recover.failed r.0 (name_of c.args.namenode.now) c.in-Ok-Recover.replay c.args.self.now.length 0 c.requires.few.1 c.with_length-plan.result r.1
     c.with_length-plan.ensures c.in_err-rebuilt-in-Ok-Recover.field-0.0 (g.C.Cluster.shown c.rebuild.new.cluster)
     c.in_err-rebuilt-in-Ok-Recover.ensures.err)
@@ -108,7 +108,7 @@ returns-in-Ok-Success-clause-ok g c =
     let z = g.C.Cluster.shown d.before in
     let m = g.C.Cluster.shown c.drive_end.new.cluster in
     let e = g.met.C.Cluster.ends_row d.before c.drive_end.new.cluster c.args.pipe.link d.ended in
-    finishes c.args.self.now.settings c.args.pipe a z m d.last c.requires.standing c.requires.ending.0 d.drove e d.is_core
+    finishes c.args.self.now.settings c.args.pipe a z m d.last c.requires.may.standing c.requires.ending.0 d.drove e d.is_core
     (d.none_left c.requires.ending.0 (done_is d.last c.in-Ok-Success.field-0 d.has_ended d.is c.in-Ok-Success.field-0-is))
 
 pub returns-in-Ok-Bad-clause-err : goal.returns-in-Ok-Bad-clause-err
@@ -118,7 +118,7 @@ returns-in-Ok-Bad-clause-err g c =
     let z = g.C.Cluster.shown d.before in
     let m = g.C.Cluster.shown c.drive_end.new.cluster in
     let e = g.met.C.Cluster.ends_row d.before c.drive_end.new.cluster c.args.pipe.link d.ended in
-    once_bad c.args.self.now.settings c.args.pipe a z m d.last c.requires.standing c.requires.ending.0 d.drove e d.is_core c.in-Ok-Bad.seqno _
+    once_bad c.args.self.now.settings c.args.pipe a z m d.last c.requires.may.standing c.requires.ending.0 d.drove e d.is_core c.in-Ok-Bad.seqno _
     (bad_is d.last c.in-Ok-Bad.field-0 c.in-Ok-Bad.seqno d.has_ended d.is c.in-Ok-Bad.field-0-is)
 
 pub returns-in_ok-rebuilt-in-Ok-Recover-clause-ok : goal.returns-in_ok-rebuilt-in-Ok-Recover-clause-ok
@@ -130,14 +130,14 @@ returns-in_ok-rebuilt-in-Ok-Recover-clause-ok g c =
     let e = g.met.C.Cluster.ends_row d.before c.drive_end.new.cluster c.args.pipe.link d.ended in
     let r = recovers_is d.last c.in-Ok-Recover.field-0 c.in-Ok-Recover.failed c.in-Ok-Recover.replay d.is_core d.has_ended d.is c.in-Ok-Recover.field-0-is in
     let some : length c.as_slice.result.now ≢ 0 = eqb-false (length c.as_slice.result.now) 0 (sym c.is_empty.ensures ∙ c.if-is_empty.false) in
-    once_rebuilt c.args.self.now.settings c.args.pipe a z m d.last c.requires.standing c.requires.ending.0 d.drove e d.is_core
+    once_rebuilt c.args.self.now.settings c.args.pipe a z m d.last c.requires.may.standing c.requires.ending.0 d.drove e d.is_core
     c.in-Ok-Recover.failed r.0 (name_of c.args.namenode.now) c.in-Ok-Recover.replay c.args.self.now.length 0 c.requires.few.1 c.with_length-plan.result r.1
     c.with_length-plan.ensures c.in_ok-rebuilt-in-Ok-Recover.rebuilt (g.C.Cluster.shown c.rebuild.new.cluster)
     c.in_ok-rebuilt-in-Ok-Recover.ensures.ok (omega (arith, ap length c.as_slice.ensures, some))
 
 pub rebuild-requires-clause-allowed : goal.rebuild-requires-clause-allowed
 rebuild-requires-clause-allowed g c =
-    lets_lengthened c.args.pipe.plan c.with_length-plan.result c.args.self.now.length c.with_length-plan.ensures c.requires.allowed
+    lets_lengthened c.args.pipe.plan c.with_length-plan.result c.args.self.now.length c.with_length-plan.ensures c.requires.may.allowed
 
 pub returns-then-is_empty-clause-answered : goal.returns-then-is_empty-clause-answered
 returns-then-is_empty-clause-answered g c first answered = answered

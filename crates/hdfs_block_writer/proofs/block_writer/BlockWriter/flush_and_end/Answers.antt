@@ -1,8 +1,8 @@
 -- The goals of BlockWriter::flush_and_end.
 use Rattle.std.proofs.Common.{rules, [], IsSome}
 use Rattle.std.proofs.lemmas.Result.{err_from_is_err_and}
-use Rattle.hdfs_namenode.specs.Clients.{name_of}
-use Rattle.hdfs_namenode.proofs.Services.{same_client_trans}
+use Rattle.hdfs_namenode.specs.Clients.{name_of, proxy_of}
+use Rattle.hdfs_namenode.proofs.Services.{reaches_later, same_client_trans}
 use Rattle.hdfs_block_writer.specs.Written.{Closes, ClosesAnswered, GaveUp, WaitsForLast}
 use Rattle.hdfs_block_writer.proofs.Allowed.{closes_then, may_go_on}
 use Rattle.hdfs_block_writer.proofs.Closed.{closes_after}
@@ -11,18 +11,31 @@ use Rattle.hdfs_rebuild.proofs.Tried.{err_by, ok_by}
 use Rattle.hdfs_block_writer.proofs.Wrote.{gave_up_after, some_after}
 use Rattle.hdfs_block_writer.proofs.block_writer.BlockWriter.flush_and_end.Goals as goal
 
-pub flush-requires-clause-holds : goal.flush-requires-clause-holds
-flush-requires-clause-holds g c = λ pipe is. let h = c.requires.stands pipe is in (h.0, h.1)
+pub flush-requires : goal.flush-requires
+flush-requires g c = record {
+  reaches = c.requires.reaches;
+  allowed = c.requires.allowed;
+  holds = λ pipe is. (let h = c.requires.stands pipe is in (h.0, h.1));
+  is_open = search rules;
+}
 
 pub returns-in_err-flush-clause-err : goal.returns-in_err-flush-clause-err
 returns-in_err-flush-clause-err g c =
     let p = err_from_is_err_and c.from_residual.result c.from_residual.ensures.1 in
     rw (p.1, p.2) c.in_err-flush.ensures.err.gave_up
 
-pub end-requires-clause-allowed : goal.end-requires-clause-allowed
-end-requires-clause-allowed g c =
+pub end-requires-clause-may : goal.end-requires-clause-may
+end-requires-clause-may g c =
+    let a = g.C.Cluster.shown c.args.cluster.now in
+    let b = g.C.Cluster.shown c.flush.new.cluster in
     let some : IsSome c.args.self.now.pipe = search rules in
-    may_go_on c.args.self.now c.flush.new.self c.flush.ensures.client.name some c.in_ok-flush.ensures.wrote.stays c.in_ok-flush.ensures.answered c.requires.allowed
+    let wrote = c.in_ok-flush.ensures.wrote in
+    record {
+      reaches = reaches_later (proxy_of c.args.namenode.now) (proxy_of c.flush.new.namenode) a b c.flush.ensures.client.service wrote.own.later c.requires.reaches;
+      allowed = may_go_on c.args.self.now c.flush.new.self c.flush.ensures.client.name some wrote.stays c.in_ok-flush.ensures.answered c.requires.allowed;
+      holds = c.in_ok-flush.ensures.holds.0;
+      is_open = some_after a b c.args.self.now c.flush.new.self [] wrote some;
+    }
 
 pub returns-clause-closed : goal.returns-clause-closed
 returns-clause-closed g c =

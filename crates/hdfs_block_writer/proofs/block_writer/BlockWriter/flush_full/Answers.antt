@@ -9,13 +9,13 @@ pub returns-clause-stands : goal.returns-clause-stands
 returns-clause-stands g c =
     stands_empty (g.C.Cluster.shown c.flush.new.cluster) c.flush.new.self c.in_ok-flush.ensures.holds.0
     (λ pipe' is'. (let packet = c.has_full_packet.ensures.0 c.if-not-has_full_packet.false in
-    let pipe = pipe_of c.args.self.now c.requires.open in
+    let pipe = pipe_of c.args.self.now c.requires.may.is_open in
     c.in_ok-flush.ensures.full pipe.0 pipe' packet.0 pipe.1 is' packet.1 packet.2 (c.requires.full pipe.0 pipe.1)))
     c.in_ok-flush.ensures.holds.1
 
 pub returns-then-not-has_full_packet-clause-stands : goal.returns-then-not-has_full_packet-clause-stands
 returns-then-not-has_full_packet-clause-stands g c =
-    stands_from (g.C.Cluster.shown c.args.cluster.now) c.args.self.now c.requires.holds c.requires.full
+    stands_from (g.C.Cluster.shown c.args.cluster.now) c.args.self.now c.requires.may.holds c.requires.full
     (λ packet is full. false≢true (sym c.if-not-has_full_packet.true ∙ c.has_full_packet.ensures.1 (packet, is, full)))
 
 pub returns-then-not-has_full_packet-clause-answered : goal.returns-then-not-has_full_packet-clause-answered

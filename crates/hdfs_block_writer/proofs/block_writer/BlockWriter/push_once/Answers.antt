@@ -12,10 +12,14 @@ returns-then-not-has_ended-clause-ok g c =
     c.args.self.now.length c.args.packet c.drive_push.new.core c.in-Ok.back c.requires.can c.in-Ok.ensures.drove c.has_ended.ensures.core
     c.in-Ok.ensures.back going c.in-Ok.ensures.sent
 
-pub rebuild_ended-requires-clause-standing : goal.rebuild_ended-requires-clause-standing
-rebuild_ended-requires-clause-standing g c =
-    back_standing c.args.self.now.settings (g.C.Cluster.shown c.args.cluster.now) (g.C.Cluster.shown c.drive_push.new.cluster) c.args.pipe
-    c.args.self.now.length c.args.packet c.drive_push.new.core c.requires.can c.in-Ok.back c.in-Ok.ensures.drove c.has_ended.ensures.core
+pub rebuild_ended-requires-clause-may : goal.rebuild_ended-requires-clause-may
+rebuild_ended-requires-clause-may g c = record {
+  reaches = search rules;
+  allowed = c.requires.allowed;
+  standing =
+      back_standing c.args.self.now.settings (g.C.Cluster.shown c.args.cluster.now) (g.C.Cluster.shown c.drive_push.new.cluster) c.args.pipe
+      c.args.self.now.length c.args.packet c.drive_push.new.core c.requires.can c.in-Ok.back c.in-Ok.ensures.drove c.has_ended.ensures.core;
+}
 
 pub rebuild_ended-requires-clause-ended : goal.rebuild_ended-requires-clause-ended
 rebuild_ended-requires-clause-ended g c =

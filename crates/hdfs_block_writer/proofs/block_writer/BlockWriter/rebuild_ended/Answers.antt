@@ -1,5 +1,5 @@
 -- The goals of BlockWriter::rebuild_ended.
-use Rattle.std.proofs.Common.{◌≡◌, [], sym, ◌∙◌, ap, subst, arith, refl}
+use Rattle.std.proofs.Common.{◌≡◌, [], sym, ◌∙◌, ap, subst, arith}
 use Rattle.hdfs_namenode.specs.Clients.{name_of, proxy_of}
 use Rattle.hdfs_namenode.proofs.Services.{reaches_same, same_service_refl}
 use Rattle.hdfs_block_reader.specs.Carrying.{total}
@@ -25,7 +25,7 @@ rebuild-requires-clause-reaches g c =
     let e = g.met.C.Cluster.ends_row d.before c.drive_end.new.cluster c.args.pipe.link d.ended in
     reaches_same (proxy_of c.args.namenode.now) (proxy_of c.args.namenode.now) (g.C.Cluster.shown c.args.cluster.now)
     (g.C.Cluster.shown c.drive_end.new.cluster) (same_service_refl (proxy_of c.args.namenode.now))
-    (e.writes.only.later.namenodes ∙ d.drove.on.only.later.namenodes) c.requires.reaches
+    (e.writes.only.later.namenodes ∙ d.drove.on.only.later.namenodes) c.requires.may.reaches
 
 pub rebuild-requires-clause-can : goal.rebuild-requires-clause-can
 rebuild-requires-clause-can g c =
@@ -37,7 +37,7 @@ rebuild-requires-clause-can g c =
     subst (λ (plan : BlockPlan). CanRebuild (record { plan = plan; failed = c.in-Ok-Recover.failed; replay = c.in-Ok-Recover.replay }) c.args.self.now.settings c.args.unsent)
     (sym c.with_length-plan.ensures)
     (can_rebuild_standing c.args.self.now.settings (record { plan = c.args.pipe.plan; core = d.last; link = c.args.pipe.link }) z
-    (standing_drove c.args.self.now.settings c.args.pipe [] [] d.last a z d.drove d.is_core c.requires.standing)
+    (standing_drove c.args.self.now.settings c.args.pipe [] [] d.last a z d.drove d.is_core c.requires.may.standing)
     c.in-Ok-Recover.failed r.0 c.args.self.now.length c.args.unsent c.in-Ok-Recover.replay r.1
     (omega (arith, c.requires.few.0, ap total same), c.requires.few.1))
 
@@ -53,7 +53,7 @@ returns-in-Ok-Recover-clause-err g c =
     let task = task_of c.args.self.now.settings (name_of c.args.namenode.now) c.in-Ok-Recover.replay c.args.unsent in
     err_by (λ fault. GaveNoneAfter task (standing c.with_length-plan.result c.in-Ok-Recover.failed m) fault n)
     (λ fault. FallsEnded c.args.self.now.settings a c.args.pipe fault n) c.rebuild.result
-    (λ fault gave. ended_given_up c.args.self.now.settings c.args.pipe a z m d.last c.requires.standing c.requires.ended.0 d.drove e d.is_core
+    (λ fault gave. ended_given_up c.args.self.now.settings c.args.pipe a z m d.last c.requires.may.standing c.requires.ended.0 d.drove e d.is_core
     (name_of c.args.namenode.now) c.in-Ok-Recover.failed c.in-Ok-Recover.replay c.args.self.now.length c.args.unsent c.requires.few.1
     c.with_length-plan.result r.0 r.1 c.with_length-plan.ensures fault n gave)
     c.rebuild.ensures.err
@@ -70,7 +70,7 @@ returns-in-Ok-Recover-clause-ok g c =
     let task = task_of c.args.self.now.settings (name_of c.args.namenode.now) c.in-Ok-Recover.replay c.args.unsent in
     ok_by (λ pipe. RebuiltAfter task (standing c.with_length-plan.result c.in-Ok-Recover.failed m) pipe n)
     (λ pipe. RebuildsEnded c.args.self.now.settings a c.args.pipe n pipe) c.rebuild.result
-    (λ pipe rebuilt. ended_rebuilt c.args.self.now.settings c.args.pipe a z m d.last c.requires.standing c.requires.ended.0 d.drove e d.is_core
+    (λ pipe rebuilt. ended_rebuilt c.args.self.now.settings c.args.pipe a z m d.last c.requires.may.standing c.requires.ended.0 d.drove e d.is_core
     (name_of c.args.namenode.now) c.in-Ok-Recover.failed c.in-Ok-Recover.replay c.args.self.now.length c.args.unsent c.requires.few.1
     c.with_length-plan.result r.0 r.1 c.with_length-plan.ensures pipe n rebuilt)
     c.rebuild.ensures.ok
@@ -80,13 +80,13 @@ returns-in-Ok-Bad-clause-err g c =
     let d = c.in-Ok-Bad.ensures.drove in
     let z = g.C.Cluster.shown d.before in
     let m = g.C.Cluster.shown c.drive_end.new.cluster in
-    ended_bad c.args.self.now.settings c.args.pipe (g.C.Cluster.shown c.args.cluster.now) z m d.last c.requires.standing c.requires.ended.0
+    ended_bad c.args.self.now.settings c.args.pipe (g.C.Cluster.shown c.args.cluster.now) z m d.last c.requires.may.standing c.requires.ended.0
     d.drove (g.met.C.Cluster.ends_row d.before c.drive_end.new.cluster c.args.pipe.link d.ended) d.is_core c.in-Ok-Bad.seqno _
     (bad_is d.last c.in-Ok-Bad.field-0 c.in-Ok-Bad.seqno d.has_ended d.is c.in-Ok-Bad.field-0-is)
 
 pub rebuild-requires-clause-allowed : goal.rebuild-requires-clause-allowed
 rebuild-requires-clause-allowed g c =
-    lets_lengthened c.args.pipe.plan c.with_length-plan.result c.args.self.now.length c.with_length-plan.ensures c.requires.allowed
+    lets_lengthened c.args.pipe.plan c.with_length-plan.result c.args.self.now.length c.with_length-plan.ensures c.requires.may.allowed
 
 pub returns-in-Ok-Recover-clause-answered : goal.returns-in-Ok-Recover-clause-answered
 returns-in-Ok-Recover-clause-answered g c =

@@ -10,12 +10,12 @@ use Rattle.hdfs_block_writer.proofs.block_writer.BlockWriter.write_all.Goals as 
 
 pub pieces-init : goal.pieces-init
 pieces-init g c = record {
-  reaches = c.requires.reaches;
+  reaches = c.requires.may.reaches;
   client = same_client_refl c.args.namenode.now;
-  stands = c.requires.stands;
+  stands = c.requires.may.stands;
   some = c.requires.open;
   answered = goes_same c.args.self.now c.args.self.now refl;
-  allowed = c.requires.allowed;
+  allowed = c.requires.may.allowed;
   room = c.requires.room;
   told = ([], refl, wrote_refl (g.C.Cluster.shown c.args.cluster.now) c.args.self.now);
 }

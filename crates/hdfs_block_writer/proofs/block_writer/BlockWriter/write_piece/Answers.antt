@@ -10,28 +10,33 @@ use Rattle.hdfs_block_writer.proofs.Wrote.{ended_fails, fill_wrote, wrote_trans,
 use Rattle.hdfs_block_writer.proofs.block_writer.BlockWriter.write_piece.Goals as goal
 
 pub fill-requires-clause-kept : goal.fill-requires-clause-kept
-fill-requires-clause-kept g c = let pipe = pipe_of c.args.self.now c.requires.open in (c.requires.stands pipe.0 pipe.1).0
+fill-requires-clause-kept g c = let pipe = pipe_of c.args.self.now c.requires.open in (c.requires.may.stands pipe.0 pipe.1).0
 
 pub fill-requires-clause-space : goal.fill-requires-clause-space
-fill-requires-clause-space g c = let pipe = pipe_of c.args.self.now c.requires.open in (c.requires.stands pipe.0 pipe.1).2
+fill-requires-clause-space g c = let pipe = pipe_of c.args.self.now c.requires.open in (c.requires.may.stands pipe.0 pipe.1).2
 
 pub fail-requires : goal.fail-requires
 fail-requires g c = λ pipe is.
     is_open c.args.self.now.settings (g.C.Cluster.shown c.args.cluster.now) pipe []
-    (c.requires.stands pipe (sym c.fill.ensures.same.0 ∙ is)).1.standing
+    (c.requires.may.stands pipe (sym c.fill.ensures.same.0 ∙ is)).1.standing
 
 pub returns-in_default-clause-err : goal.returns-in_default-clause-err
 returns-in_default-clause-err g c =
     ended_fails c.args.self.now c.fill.new.self c.fail.new.self (g.C.Cluster.shown c.args.cluster.now) (g.C.Cluster.shown c.fail.new.cluster)
     c.fill.ensures.same.0 c.fill.ensures.same.1 c.fail.ensures.failed c.fail.ensures.ended
 
-pub flush_full-requires-clause-holds : goal.flush_full-requires-clause-holds
-flush_full-requires-clause-holds g c =
-    holds_filled (g.C.Cluster.shown c.args.cluster.now) c.args.self.now c.fill.new.self (take c.in-Ok.count c.args.bytes.now)
-    c.requires.stands c.in-Ok.ensures.kept c.in-Ok.ensures.fills
+pub flush_full-requires-clause-may : goal.flush_full-requires-clause-may
+flush_full-requires-clause-may g c = record {
+  reaches = c.requires.may.reaches;
+  allowed = λ pipe is. c.requires.may.allowed pipe (sym c.in-Ok.ensures.fills.pipe ∙ is);
+  holds =
+      holds_filled (g.C.Cluster.shown c.args.cluster.now) c.args.self.now c.fill.new.self (take c.in-Ok.count c.args.bytes.now)
+      c.requires.may.stands c.in-Ok.ensures.kept c.in-Ok.ensures.fills;
+  is_open = subst IsSome (sym c.in-Ok.ensures.fills.pipe) c.requires.open;
+}
 
 pub flush_full-requires-clause-full : goal.flush_full-requires-clause-full
-flush_full-requires-clause-full g c = λ pipe is. (c.requires.stands pipe (sym c.in-Ok.ensures.fills.pipe ∙ is)).3
+flush_full-requires-clause-full g c = λ pipe is. (c.requires.may.stands pipe (sym c.in-Ok.ensures.fills.pipe ∙ is)).3
 
 pub returns-clause-wrote : goal.returns-clause-wrote
 returns-clause-wrote g c =
@@ -40,7 +45,7 @@ returns-clause-wrote g c =
     let w = c.args.self.now in
     let more = take c.in-Ok.count c.args.bytes.now in
     let pipe = pipe_of w c.requires.open in
-    let filled = fill_wrote a w c.fill.new.self more (c.requires.stands pipe.0 pipe.1).0.filled c.in-Ok.ensures.fills in (
+    let filled = fill_wrote a w c.fill.new.self more (c.requires.may.stands pipe.0 pipe.1).0.filled c.in-Ok.ensures.fills in (
       c.in-Ok.ensures.count.0,
       c.in-Ok.ensures.count.1,
       subst (λ (bytes : List ℕ). Wrote a w bytes b c.flush_full.new.self) (append-nil more)
@@ -54,13 +59,10 @@ returns-in_err-flush_full-clause-err g c =
     let w = c.args.self.now in
     let more = take c.in-Ok.count c.args.bytes.now in
     let pipe = pipe_of w c.requires.open in
-    let filled = fill_wrote a w c.fill.new.self more (c.requires.stands pipe.0 pipe.1).0.filled c.in-Ok.ensures.fills in
+    let filled = fill_wrote a w c.fill.new.self more (c.requires.may.stands pipe.0 pipe.1).0.filled c.in-Ok.ensures.fills in
     rw (p.1, p.2)
     (fails_after a a w c.fill.new.self more filled (g.C.Cluster.shown c.flush_full.new.cluster) c.flush_full.new.self
     c.in_err-flush_full.field-0.0 c.in_err-flush_full.ensures.err)
-
-pub flush_full-requires-clause-allowed : goal.flush_full-requires-clause-allowed
-flush_full-requires-clause-allowed g c pipe is = c.requires.allowed pipe (sym c.in-Ok.ensures.fills.pipe ∙ is)
 
 pub returns-clause-answered : goal.returns-clause-answered
 returns-clause-answered g c =

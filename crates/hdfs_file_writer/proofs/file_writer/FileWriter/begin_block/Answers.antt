@@ -1,7 +1,7 @@
 -- The goals of FileWriter::begin_block.
 use Rattle.std.proofs.Common.{arith, [], Some, List, ℕ, sym, subst, true}
 use Rattle.hdfs_file_writer.proofs.Joining.{wrote_trans, fails_after}
-use Rattle.hdfs_file_writer.specs.Writers.{IsAnswered}
+use Rattle.hdfs_file_writer.specs.Writers.{CanGoOn, IsAnswered}
 use Rattle.hdfs_cluster.specs.Requests.{IsAdded, IsFirstSetup}
 use Rattle.hdfs_file_writer.proofs.file_writer.FileWriter.begin_block.Goals as goal
 
@@ -21,9 +21,6 @@ returns-in-Err-open_block-clause-err g c =
     fails_after s m (g.C.Cluster.shown c.open_block.new.cluster) w (record w { reopened = Some c.in-Ok.located }) [] c.in-Err-open_block.error
     c.in-Ok.ensures.adds.wrote c.in-Err-open_block.ensures.err
 
-pub next_block-requires-clause-answered : goal.next_block-requires-clause-answered
-next_block-requires-clause-answered g c = c.requires.answered.last c.requires.begins.fine
-
 pub open_block-requires-clause-located : goal.open_block-requires-clause-located
 open_block-requires-clause-located g c = record {
   answered =
@@ -35,14 +32,17 @@ open_block-requires-clause-located g c = record {
 
 pub open_block-requires-clause-answered : goal.open_block-requires-clause-answered
 open_block-requires-clause-answered g c =
-    subst (λ (client : List ℕ). IsAnswered g.C.Cluster.may_answer client c.args.self.now) (sym c.next_block.ensures.client.name) c.requires.answered
+    subst (λ (client : List ℕ). IsAnswered g.C.Cluster.may_answer client c.args.self.now) (sym c.next_block.ensures.client.name) c.requires.adds.answered
 
-pub returns-in-Ok-open_block-clause-answered : goal.returns-in-Ok-open_block-clause-answered
-returns-in-Ok-open_block-clause-answered g c =
-    subst (λ (client : List ℕ). IsAnswered g.C.Cluster.may_answer client c.open_block.new.self) c.next_block.ensures.client.name
-    c.in-Ok-open_block.ensures.answered
+pub returns-in-Ok-open_block-clause-goes : goal.returns-in-Ok-open_block-clause-goes
+returns-in-Ok-open_block-clause-goes g c =
+    let goes = c.in-Ok-open_block.ensures.goes in (
+      subst (λ (client : List ℕ). CanGoOn g.C.Cluster.may_answer client (g.C.Cluster.shown c.open_block.new.cluster) c.open_block.new.self)
+          c.next_block.ensures.client.name goes.0,
+      goes.1,
+    )
 
 pub open_block-requires-clause-allowed : goal.open_block-requires-clause-allowed
 open_block-requires-clause-allowed g c = λ setup first.
-    c.requires.allowed.opens c.in-Ok.located true c.in-Ok.ensures.answered setup
+    c.requires.adds.allowed.opens c.in-Ok.located true c.in-Ok.ensures.answered setup
     (subst (λ (client : List ℕ). IsFirstSetup c.in-Ok.located client setup) c.next_block.ensures.client.name first)

@@ -47,3 +47,11 @@ complete-requires-clause-answered g c =
     let x = c.finish_block.new.self in
     subst (λ (client : List ℕ). IsAnsweredLast g.C.Cluster.may_answer client x.path x.file_id x.last)
     (sym c.finish_block.ensures.keeps.2.name) (c.in-Ok.ensures.answered.last c.finish_block.ensures.keeps.1)
+
+pub finish_block-requires-clause-may : goal.finish_block-requires-clause-may
+finish_block-requires-clause-may g c = record {
+  reaches = c.requires.reaches;
+  allowed = c.requires.allowed.blocks;
+  answered = c.requires.answered;
+  stands = c.requires.stands;
+}

@@ -17,7 +17,7 @@ pub returns-in-Some-clause-wrote : goal.returns-in-Some-clause-wrote
 returns-in-Some-clause-wrote g c =
     let w = c.args.self.now in
     let reopened : w.reopened ≡ Some c.in-Some.located = sym c.take.ensures.value ∙ c.in-Some.is in
-    let none : w.going ≡ None = c.requires.stands.apart (subst IsSome (sym reopened) refl) in
+    let none : w.going ≡ None = c.requires.may.stands.apart (subst IsSome (sym reopened) refl) in
     settled_wrote (g.C.Cluster.shown c.args.cluster.now) w (record w { last = Some c.in-Some.located.b; reopened = c.take.new.self }) c.in-Some.located
     (record { path = refl; file_id = refl; sizes = refl }) none reopened (record { none = none; done = c.take.ensures.after }) refl
 
@@ -25,7 +25,7 @@ pub returns-in-Some-clause-between : goal.returns-in-Some-clause-between
 returns-in-Some-clause-between g c =
     let w = c.args.self.now in
     let reopened : w.reopened ≡ Some c.in-Some.located = sym c.take.ensures.value ∙ c.in-Some.is in
-    let none : w.going ≡ None = c.requires.stands.apart (subst IsSome (sym reopened) refl) in
+    let none : w.going ≡ None = c.requires.may.stands.apart (subst IsSome (sym reopened) refl) in
     let between : IsBetweenBlocks (record w { last = Some c.in-Some.located.b; reopened = c.take.new.self }) =
     record { none = none; done = c.take.ensures.after } in (
       between,
@@ -53,17 +53,18 @@ returns-in-None-take-clause-wrote g c =
     subst (λ (o : Option LocatedBlock). Wrote s w [] s (record w { going = c.take-2.new.self; reopened = o })) reopened
     (subst (λ (o : Option BlockWriter). Wrote s w [] s (record w { going = o })) going (wrote_nothing s w))
 
-pub close-requires-clause-allowed : goal.close-requires-clause-allowed
-close-requires-clause-allowed g c =
+pub close-requires : goal.close-requires
+close-requires g c =
     let going : c.args.self.now.going ≡ Some c.in-Some-take.block = sym c.take-2.ensures.value ∙ c.in-Some-take.is in
     let w = c.args.self.now in
-    may_go_on g.C.Cluster.may_answer (name_of c.args.namenode.now) (name_of c.args.namenode.now) c.in-Some-take.block w w refl (record { path = refl; file_id = refl; sizes = refl }) (c.requires.stands.going c.in-Some-take.block going)
-    (answered_going w going c.requires.answered) c.requires.allowed
-
-pub close-requires-clause-stands : goal.close-requires-clause-stands
-close-requires-clause-stands g c =
-    let going : c.args.self.now.going ≡ Some c.in-Some-take.block = sym c.take-2.ensures.value ∙ c.in-Some-take.is in
-    (c.requires.stands.going c.in-Some-take.block going).stands
+    let stands = c.requires.may.stands.going c.in-Some-take.block going in
+    record {
+      reaches = c.requires.may.reaches;
+      allowed =
+          may_go_on g.C.Cluster.may_answer (name_of c.args.namenode.now) (name_of c.args.namenode.now) c.in-Some-take.block w w refl
+          (record { path = refl; file_id = refl; sizes = refl }) stands (answered_going w going c.requires.may.answered) c.requires.may.allowed;
+      stands = stands.stands;
+    }
 
 pub returns-in-Ok-clause-between : goal.returns-in-Ok-clause-between
 returns-in-Ok-clause-between g c =
@@ -93,23 +94,23 @@ returns-in-Err-clause-err g c =
     let block = c.in-Some-take.block in
     let going : w.going ≡ Some block = sym c.take-2.ensures.value ∙ c.in-Some-take.is in
     subst (λ (e : HdfsError). FailsOtherwise s w e t) (sym c.error_of.ensures)
-    (gave_up_fails s t (g.met.C.Cluster.sound c.args.cluster.now) (g.met.C.Cluster.sound c.close.new.cluster) w block going (c.requires.stands.is_open c.requires.fine block going)
-    (c.requires.stands.going block going) c.in-Err.fault c.in-Err.ensures.err)
+    (gave_up_fails s t (g.met.C.Cluster.sound c.args.cluster.now) (g.met.C.Cluster.sound c.close.new.cluster) w block going (c.requires.may.stands.is_open c.requires.fine block going)
+    (c.requires.may.stands.going block going) c.in-Err.fault c.in-Err.ensures.err)
 
 pub returns-in-Some-clause-answered : goal.returns-in-Some-clause-answered
 returns-in-Some-clause-answered g c =
     let w = c.args.self.now in
     let reopened : w.reopened ≡ Some c.in-Some.located = sym c.take.ensures.value ∙ c.in-Some.is in
-    let none : w.going ≡ None = c.requires.stands.apart (subst IsSome (sym reopened) refl) in
+    let none : w.going ≡ None = c.requires.may.stands.apart (subst IsSome (sym reopened) refl) in
     answered_idle w (record w { last = Some c.in-Some.located.b; reopened = c.take.new.self }) (record { path = refl; file_id = refl; sizes = refl })
-    none c.take.ensures.after c.requires.answered
-    (λ fine. answered_left c.in-Some.located (answered_reopened w none reopened c.requires.answered))
+    none c.take.ensures.after c.requires.may.answered
+    (λ fine. answered_left c.in-Some.located (answered_reopened w none reopened c.requires.may.answered))
 
 pub returns-in-None-take-clause-answered : goal.returns-in-None-take-clause-answered
 returns-in-None-take-clause-answered g c =
     let w = c.args.self.now in
     answered_idle w (record w { going = c.take-2.new.self; reopened = c.take.new.self }) (record { path = refl; file_id = refl; sizes = refl })
-    c.take-2.ensures.after c.take.ensures.after c.requires.answered c.requires.answered.last
+    c.take-2.ensures.after c.take.ensures.after c.requires.may.answered c.requires.may.answered.last
 
 pub returns-in-Ok-clause-answered : goal.returns-in-Ok-clause-answered
 returns-in-Ok-clause-answered g c =
@@ -117,6 +118,6 @@ returns-in-Ok-clause-answered g c =
     let block = c.in-Some-take.block in
     let going : w.going ≡ Some block = sym c.take-2.ensures.value ∙ c.in-Some-take.is in
     answered_idle w (record w { last = Some c.in-Ok.block; going = c.take-2.new.self; reopened = c.take.new.self })
-    (record { path = refl; file_id = refl; sizes = refl }) c.take-2.ensures.after c.take.ensures.after c.requires.answered
-    (λ fine. answered_closed block c.in-Ok.block (c.requires.stands.is_open c.requires.fine block going) (answered_going w going c.requires.answered)
+    (record { path = refl; file_id = refl; sizes = refl }) c.take-2.ensures.after c.take.ensures.after c.requires.may.answered
+    (λ fine. answered_closed block c.in-Ok.block (c.requires.may.stands.is_open c.requires.fine block going) (answered_going w going c.requires.may.answered)
     c.in-Ok.ensures.answered)

@@ -9,34 +9,48 @@ use Rattle.hdfs_namenode.proofs.Services.{reaches_later, same_client_trans}
 use Rattle.hdfs_file_writer.specs.declared.file_writer.FileWriter.{FileWriter}
 use Rattle.hdfs_file_writer.specs.declared.sizes.WriteSizes.{WriteSizes}
 use Rattle.hdfs_file_writer.specs.Tails.{IsFull}
-use Rattle.hdfs_file_writer.specs.Writers.{HasRoom, IsToOpen, tail_of, Wrote, IsAnswered}
-use Rattle.hdfs_file_writer.proofs.Joining.{wrote_nothing, wrote_trans, fails_after}
+use Rattle.hdfs_file_writer.specs.Writers.{CanGoOn, HasRoom, IsToOpen, Keeps, MayFinish, tail_of, Wrote, IsAnswered}
+use Rattle.hdfs_file_writer.proofs.Joining.{keeps_trans, wrote_nothing, wrote_trans, fails_after}
 use Rattle.hdfs_file_writer.proofs.Standing.{full_without_room}
-use Rattle.hdfs_file_writer.proofs.Allowed.{answered_idle, answered_reopened}
-use Rattle.hdfs_cluster.specs.Requests.{LetsWriteBlocks}
+use Rattle.hdfs_file_writer.proofs.Allowed.{answered_idle, answered_reopened, at_file}
+use Rattle.hdfs_cluster.specs.Requests.{LetsWrite}
 use Rattle.hdfs_file_writer.proofs.file_writer.FileWriter.make_room.Goals as goal
 
 -- a block that is to be gone on with is to be written
 to_write : {reopened : Option LocatedBlock} {located : LocatedBlock} → reopened ≡ Some located → IfSome reopened IsToWrite → IsToWrite located
 to_write is fine = subst (λ (o : Option LocatedBlock). IfSome o IsToWrite) is fine
 
+pub returns-then-has_room-clause-goes : goal.returns-then-has_room-clause-goes
+returns-then-has_room-clause-goes g c = (
+  record { stands = c.requires.may.stands; fine = c.requires.works.fine; answered = c.requires.may.answered },
+  c.has_room.ensures.0 c.if-has_room.true,
+)
+
 pub returns-then-has_room-clause-wrote : goal.returns-then-has_room-clause-wrote
 returns-then-has_room-clause-wrote g c = wrote_nothing (g.C.Cluster.shown c.args.cluster.now) c.args.self.now
 
-pub begin_block-requires-clause-full : goal.begin_block-requires-clause-full
-begin_block-requires-clause-full g c =
+pub begin_block-requires-clause-adds : goal.begin_block-requires-clause-adds
+begin_block-requires-clause-adds g c =
     let s = g.C.Cluster.shown c.args.cluster.now in
     let w = c.args.self.now in
+    let x = c.finish_block.new.self in
     let same = c.take_reopened.ensures.none c.in-None.is in
+    let client = c.finish_block.ensures.keeps.2 in
+    let keeps = subst (λ (v : FileWriter). Keeps v x) same c.finish_block.ensures.keeps.0 in
     let none : HasRoom w → ⊥ = λ room. false≢true (sym c.if-has_room.false ∙ c.has_room.ensures.1 room) in
-    let full = full_without_room s w c.requires.works.stands c.requires.works.fine none (c.take_reopened.ensures.full c.in-None.is) in
-    subst (λ (z : WriteSizes). IsFull z.block_size (tail_of c.finish_block.new.self)) (sym c.finish_block.ensures.keeps.0.sizes)
-    (c.in-Ok-finish_block.ensures.between.1 (subst (λ (x : FileWriter). IsFull x.sizes.block_size (tail_of x)) (sym same) full))
-
-pub begin_block-requires-clause-reaches : goal.begin_block-requires-clause-reaches
-begin_block-requires-clause-reaches g c =
-    reaches_later (proxy_of c.args.namenode.now) (proxy_of c.finish_block.new.namenode) (g.C.Cluster.shown c.args.cluster.now) (g.C.Cluster.shown c.finish_block.new.cluster)
-    c.finish_block.ensures.keeps.2.service c.in-Ok-finish_block.ensures.wrote.own.later c.requires.reaches
+    let full = full_without_room s w c.requires.may.stands c.requires.works.fine none (c.take_reopened.ensures.full c.in-None.is) in
+    record {
+      reaches =
+          reaches_later (proxy_of c.args.namenode.now) (proxy_of c.finish_block.new.namenode) s (g.C.Cluster.shown c.finish_block.new.cluster)
+          client.service c.in-Ok-finish_block.ensures.wrote.own.later c.requires.may.reaches;
+      allowed =
+          subst (λ (name : List ℕ). LetsWrite g.C.Cluster.allows g.C.Cluster.may_answer name x.path x.file_id) (sym client.name)
+          (at_file (λ path file_id. LetsWrite g.C.Cluster.allows g.C.Cluster.may_answer (name_of c.args.namenode.now) path file_id) w x keeps
+          c.requires.may.allowed);
+      answered = subst (λ (name : List ℕ). IsAnswered g.C.Cluster.may_answer name x) (sym client.name) c.in-Ok-finish_block.ensures.answered;
+      full = subst (λ (z : WriteSizes). IsFull z.block_size (tail_of x)) (sym c.finish_block.ensures.keeps.0.sizes)
+          (c.in-Ok-finish_block.ensures.between.1 (subst (λ (v : FileWriter). IsFull v.sizes.block_size (tail_of v)) (sym same) full));
+    }
 
 pub returns-in-Ok-begin_block-clause-wrote : goal.returns-in-Ok-begin_block-clause-wrote
 returns-in-Ok-begin_block-clause-wrote g c =
@@ -58,11 +72,11 @@ pub open_block-requires-clause-located : goal.open_block-requires-clause-located
 open_block-requires-clause-located g c =
     let w = c.args.self.now in
     let some = c.in-Some.ensures.some in
-    let none : w.going ≡ None = c.requires.works.stands.apart (subst IsSome (sym some.0) refl) in
+    let none : w.going ≡ None = c.requires.may.stands.apart (subst IsSome (sym some.0) refl) in
     subst (λ (x : FileWriter). IsToOpen g.C.Cluster.may_answer (name_of c.args.namenode.now) x false c.in-Some.located) (sym some.2)
     (record {
-      answered = answered_reopened w none some.0 c.requires.answered;
-      block = to_write some.0 c.requires.works.stands.reopened;
+      answered = answered_reopened w none some.0 c.requires.may.answered;
+      block = to_write some.0 c.requires.may.stands.reopened;
       room = some.1;
     })
 
@@ -70,37 +84,49 @@ pub open_block-requires-clause-answered : goal.open_block-requires-clause-answer
 open_block-requires-clause-answered g c =
     let w = c.args.self.now in
     let some = c.in-Some.ensures.some in
-    let none : w.going ≡ None = c.requires.works.stands.apart (subst IsSome (sym some.0) refl) in
+    let none : w.going ≡ None = c.requires.may.stands.apart (subst IsSome (sym some.0) refl) in
     subst (IsAnswered g.C.Cluster.may_answer (name_of c.args.namenode.now)) (sym some.2)
-    (answered_idle w (record w { reopened = None }) (record { path = refl; file_id = refl; sizes = refl }) none refl c.requires.answered
-    c.requires.answered.last)
+    (answered_idle w (record w { reopened = None }) (record { path = refl; file_id = refl; sizes = refl }) none refl c.requires.may.answered
+    c.requires.may.answered.last)
 
-pub finish_block-requires-clause-answered : goal.finish_block-requires-clause-answered
-finish_block-requires-clause-answered g c =
-    subst (IsAnswered g.C.Cluster.may_answer (name_of c.args.namenode.now)) (sym (c.take_reopened.ensures.none c.in-None.is)) c.requires.answered
+pub finish_block-requires-clause-may : goal.finish_block-requires-clause-may
+finish_block-requires-clause-may g c =
+    subst (MayFinish g.C.Cluster.allows g.C.Cluster.may_answer c.args.namenode.now (g.C.Cluster.shown c.args.cluster.now))
+    (sym (c.take_reopened.ensures.none c.in-None.is))
+    (record {
+      reaches = c.requires.may.reaches;
+      allowed = c.requires.may.allowed.blocks;
+      answered = c.requires.may.answered;
+      stands = c.requires.may.stands;
+    })
 
-pub begin_block-requires-clause-answered : goal.begin_block-requires-clause-answered
-begin_block-requires-clause-answered g c =
-    subst (λ (client : List ℕ). IsAnswered g.C.Cluster.may_answer client c.finish_block.new.self) (sym c.finish_block.ensures.keeps.2.name)
-    c.in-Ok-finish_block.ensures.answered
-
-pub returns-in-Ok-begin_block-clause-answered : goal.returns-in-Ok-begin_block-clause-answered
-returns-in-Ok-begin_block-clause-answered g c =
-    subst (λ (client : List ℕ). IsAnswered g.C.Cluster.may_answer client c.begin_block.new.self) c.finish_block.ensures.keeps.2.name
-    c.in-Ok-begin_block.ensures.answered
+pub returns-in-Ok-begin_block-clause-goes : goal.returns-in-Ok-begin_block-clause-goes
+returns-in-Ok-begin_block-clause-goes g c =
+    let goes = c.in-Ok-begin_block.ensures.goes in (
+      subst (λ (client : List ℕ). CanGoOn g.C.Cluster.may_answer client (g.C.Cluster.shown c.begin_block.new.cluster) c.begin_block.new.self)
+          c.finish_block.ensures.keeps.2.name goes.0,
+      goes.1,
+    )
 
 pub open_block-requires-clause-allowed : goal.open_block-requires-clause-allowed
 open_block-requires-clause-allowed g c =
     let w = c.args.self.now in
     let some = c.in-Some.ensures.some in
-    let none : w.going ≡ None = c.requires.works.stands.apart (subst IsSome (sym some.0) refl) in
-    c.requires.allowed.opens c.in-Some.located false (answered_reopened w none some.0 c.requires.answered)
+    let none : w.going ≡ None = c.requires.may.stands.apart (subst IsSome (sym some.0) refl) in
+    c.requires.may.allowed.opens c.in-Some.located false (answered_reopened w none some.0 c.requires.may.answered)
 
-pub finish_block-requires-clause-allowed : goal.finish_block-requires-clause-allowed
-finish_block-requires-clause-allowed g c =
-    subst (λ (x : FileWriter). LetsWriteBlocks g.C.Cluster.allows g.C.Cluster.may_answer (name_of c.args.namenode.now) x.path x.file_id)
-    (sym (c.take_reopened.ensures.none c.in-None.is)) c.requires.allowed.blocks
+pub returns-in-Ok-begin_block-clause-keeps : goal.returns-in-Ok-begin_block-clause-keeps
+returns-in-Ok-begin_block-clause-keeps g c = (
+  keeps_trans c.args.self.now c.finish_block.new.self c.begin_block.new.self
+      (subst (λ (w : FileWriter). Keeps w c.finish_block.new.self) (c.take_reopened.ensures.none c.in-None.is) c.finish_block.ensures.keeps.0)
+      c.begin_block.ensures.keeps.0,
+  same_client_trans c.args.namenode.now c.finish_block.new.namenode c.begin_block.new.namenode c.finish_block.ensures.keeps.2 c.begin_block.ensures.keeps.1,
+)
 
-pub returns-in-Ok-begin_block-clause-client : goal.returns-in-Ok-begin_block-clause-client
-returns-in-Ok-begin_block-clause-client g c =
-    same_client_trans c.args.namenode.now c.finish_block.new.namenode c.begin_block.new.namenode c.finish_block.ensures.keeps.2 c.begin_block.ensures.keeps.1
+pub returns-in-Err-begin_block-clause-keeps : goal.returns-in-Err-begin_block-clause-keeps
+returns-in-Err-begin_block-clause-keeps g c = (
+  keeps_trans c.args.self.now c.finish_block.new.self c.begin_block.new.self
+      (subst (λ (w : FileWriter). Keeps w c.finish_block.new.self) (c.take_reopened.ensures.none c.in-None.is) c.finish_block.ensures.keeps.0)
+      c.begin_block.ensures.keeps.0,
+  same_client_trans c.args.namenode.now c.finish_block.new.namenode c.begin_block.new.namenode c.finish_block.ensures.keeps.2 c.begin_block.ensures.keeps.1,
+)

@@ -12,19 +12,19 @@ use Rattle.hdfs_rebuild.proofs.Allowed.{allowed_as}
 use Rattle.hdfs_file_writer.proofs.file_writer.FileWriter.next_block.Goals as goal
 
 pub add_block-requires-clause-service : goal.add_block-requires-clause-service
-add_block-requires-clause-service g c = reaches_service (proxy_of c.args.namenode.now) (g.C.Cluster.shown c.args.cluster.now) c.requires.reaches
+add_block-requires-clause-service g c = reaches_service (proxy_of c.args.namenode.now) (g.C.Cluster.shown c.args.cluster.now) c.requires.adds.reaches
 
 pub returns-in-Err-clause-err : goal.returns-in-Err-clause-err
 returns-in-Err-clause-err g c =
     unanswered_fails (g.C.Cluster.shown c.args.cluster.now) (g.C.Cluster.shown c.add_block.new.cluster) (g.met.C.Cluster.sound c.args.cluster.now)
     c.args.self.now c.requires.between (name_of c.args.namenode.now) c.in-Err.error
-    (came_as (cc (c.as_str.ensures, c.as_ref.ensures.value)) refl (c.in-Err.ensures.came c.requires.reaches))
+    (came_as (cc (c.as_str.ensures, c.as_ref.ensures.value)) refl (c.in-Err.ensures.came c.requires.adds.reaches))
 
 pub returns-in-Ok-clause-adds : goal.returns-in-Ok-clause-adds
 returns-in-Ok-clause-adds g c =
     answered_adds (g.C.Cluster.shown c.args.cluster.now) (g.C.Cluster.shown c.add_block.new.cluster) (g.met.C.Cluster.sound c.args.cluster.now)
-    c.args.self.now c.requires.between (name_of c.args.namenode.now) c.in-Ok.located c.requires.full
-    (came_as (cc (c.as_str.ensures, c.as_ref.ensures.value)) refl (c.in-Ok.ensures.came c.requires.reaches))
+    c.args.self.now c.requires.between (name_of c.args.namenode.now) c.in-Ok.located c.requires.adds.full
+    (came_as (cc (c.as_str.ensures, c.as_ref.ensures.value)) refl (c.in-Ok.ensures.came c.requires.adds.reaches))
 
 pub returns-in-Ok-clause-answered : goal.returns-in-Ok-clause-answered
 returns-in-Ok-clause-answered g c =
@@ -41,4 +41,4 @@ add_block-requires-clause-allowed g c =
     let w = c.args.self.now in
     let asked : asks.AddBlock c.as_str.result.now (name_of c.args.namenode.now) (option_copied c.as_ref.result) [] w.file_id
     ≡ asks.AddBlock w.path (name_of c.args.namenode.now) w.last [] w.file_id = cc (c.as_str.ensures, c.as_ref.ensures.value) in
-    allowed_as g.C.Cluster.allows asked (c.requires.allowed.adds w.last c.requires.answered)
+    allowed_as g.C.Cluster.allows asked (c.requires.adds.allowed.adds w.last (c.requires.adds.answered.last c.requires.fine))

@@ -4,6 +4,7 @@ use Rattle.hdfs_cluster.specs.declared.errors.HdfsError.{HdfsError}
 use Rattle.hdfs_namenode.specs.Clients.{name_of}
 use Rattle.hdfs_block_writer.specs.Packing.{setup_of}
 use Rattle.hdfs_rebuild.specs.declared.block_plan.BlockPlan.{BlockPlan}
+use Rattle.hdfs_block_writer.specs.BlockWriters.{IsToBegin}
 use Rattle.hdfs_block_writer.specs.Written.{BeginsWhole, IsNew}
 use Rattle.hdfs_file_writer.specs.Writers.{FailsOtherwise, plan_of}
 use Rattle.hdfs_file_writer.proofs.Standing.{begun_stands, opened_wrote, unopened_fails}
@@ -21,18 +22,40 @@ replicated-requires-clause-allowed g c =
     (subst (λ (x : LocatedBlock). IsFirstSetup x client (setup_of plan.block plan.chunk client)) located
     (record { block = refl; stage = refl; nodes = refl; types = refl; ids = refl; stamp = refl; bytes = (refl, refl); token = refl; named = refl }))
 
-pub returns-in-Ok-replicated-clause-stands : goal.returns-in-Ok-replicated-clause-stands
-returns-in-Ok-replicated-clause-stands g c =
+pub replicated-requires-clause-plan : goal.replicated-requires-clause-plan
+replicated-requires-clause-plan g c =
+    let w = c.args.self.now in
+    let sizes = c.requires.begins.sizes in
+    subst (λ (x : BlockPlan). IsToBegin x w.sizes.rebuilding (record { block_size = w.sizes.block_size; packet_size = w.sizes.packet_size })) (sym c.in-Ok.ensures)
+    (record {
+      block = c.requires.located.block;
+      rebuilds = omega arith;
+      packets = sizes.packets.packet;
+      window = sizes.packets.window;
+      size = (omega (arith, c.requires.located.room), sizes.limited.below);
+    })
+
+pub returns-in-Ok-replicated-clause-goes : goal.returns-in-Ok-replicated-clause-goes
+returns-in-Ok-replicated-clause-goes g c =
     let w = c.args.self.now in
     let plan = c.in-Ok.plan in
     let block = c.in-Ok-replicated.block in
     let created = c.args.created in
     let new : IsNew (plan_of w c.args.located created) w.sizes.rebuilding w.sizes.block_size w.sizes.packet_size block =
     subst (λ (x : BlockPlan). IsNew x w.sizes.rebuilding w.sizes.block_size w.sizes.packet_size block) c.in-Ok.ensures c.in-Ok-replicated.ensures.new in
-    let room = c.requires.located.room in (
-      begun_stands (g.C.Cluster.shown c.replicated.new.cluster) (g.C.Cluster.shown c.args.cluster.now) w (record w { going = Some block }) block c.args.located created
-          (setup_of plan.block plan.chunk (name_of c.args.namenode.now)) c.requires.begins.sizes c.requires.begins.plain c.requires.begins.fine
-          (record { path = refl; file_id = refl; sizes = refl }) refl c.requires.begins.between.done c.in-Ok-replicated.ensures.stands new c.in-Ok-replicated.ensures.opened,
+    let room = c.requires.located.room in
+    let client = name_of c.args.namenode.now in (
+      record {
+        stands = begun_stands (g.C.Cluster.shown c.replicated.new.cluster) (g.C.Cluster.shown c.args.cluster.now) w (record w { going = Some block }) block c.args.located created
+            (setup_of plan.block plan.chunk (name_of c.args.namenode.now)) c.requires.begins.sizes c.requires.begins.plain c.requires.begins.fine
+            (record { path = refl; file_id = refl; sizes = refl }) refl c.requires.begins.between.done c.in-Ok-replicated.ensures.stands new c.in-Ok-replicated.ensures.opened;
+        fine = c.requires.begins.fine;
+        answered =
+            answered_with w (record w { going = Some block }) block (record { path = refl; file_id = refl; sizes = refl }) refl refl refl c.requires.answered
+            (answered_new g.C.Cluster.may_answer client w.path w.file_id plan block c.in-Ok-replicated.ensures.new
+            (subst (λ (x : BlockPlan). IsAnsweredLocated g.C.Cluster.may_answer client w.path w.file_id x.created x.block) (sym c.in-Ok.ensures)
+            c.requires.located.answered));
+      },
       (block, refl, λ full. absurd (omega (arith, full, new.length, new.block_size, room))),
     )
 
@@ -60,12 +83,3 @@ returns-in-Err-replicated-clause-err g c =
     subst (λ (e : HdfsError). FailsOtherwise s (record w { reopened = Some c.args.located }) e t) (sym c.error_of.ensures)
     (unopened_fails s t (record w { reopened = Some c.args.located }) c.args.located c.requires.begins.between.none refl
     (setup_of plan.block plan.chunk (name_of c.args.namenode.now)) c.in-Err-replicated.fault c.in-Err-replicated.ensures.err)
-
-pub returns-in-Ok-replicated-clause-answered : goal.returns-in-Ok-replicated-clause-answered
-returns-in-Ok-replicated-clause-answered g c =
-    let w = c.args.self.now in
-    let block = c.in-Ok-replicated.block in
-    answered_with w (record w { going = Some block }) block (record { path = refl; file_id = refl; sizes = refl }) refl refl refl c.requires.answered
-    (answered_new g.C.Cluster.may_answer (name_of c.args.namenode.now) w.path w.file_id c.in-Ok.plan block c.in-Ok-replicated.ensures.new
-    (subst (λ (x : BlockPlan). IsAnsweredLocated g.C.Cluster.may_answer (name_of c.args.namenode.now) w.path w.file_id x.created x.block) (sym c.in-Ok.ensures)
-    c.requires.located.answered))

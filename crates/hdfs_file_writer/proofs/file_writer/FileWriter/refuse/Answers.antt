@@ -1,13 +1,14 @@
 -- The goals of FileWriter::refuse: no block is being written, so that no call touches a datanode.
 use Rattle.std.proofs.Common.{ℕ, List, [], Some, refl, sym, ap, subst, ◌∙◌}
-use Rattle.hdfs_cluster.specs.Requests.{IsAnsweredLast, LetsWriteBlocks}
+use Rattle.hdfs_cluster.specs.Requests.{LetsWrite}
 use Rattle.hdfs_cluster.specs.Shown.{SameNodes, Shown}
-use Rattle.hdfs_namenode.specs.Clients.{proxy_of, name_of}
+use Rattle.hdfs_namenode.specs.Clients.{name_of, proxy_of}
 use Rattle.hdfs_namenode.proofs.Services.{reaches_later, same_client_trans}
 use Rattle.hdfs_file_writer.specs.declared.file_writer.FileWriter.{FileWriter}
 use Rattle.hdfs_file_writer.specs.declared.sizes.WriteSizes.{WriteSizes}
 use Rattle.hdfs_file_writer.specs.Tails.{IsFull}
-use Rattle.hdfs_file_writer.specs.Writers.{HasRoom, Keeps, link_by, tail_of, FailsOtherwise, Wrote, IsAnswered}
+use Rattle.hdfs_file_writer.specs.Writers.{HasRoom, Keeps, MayFinish, link_by, tail_of, FailsOtherwise, Wrote, IsAnswered}
+use Rattle.hdfs_file_writer.proofs.Allowed.{at_file}
 use Rattle.hdfs_file_writer.proofs.Joining.{wrote_nothing, wrote_trans, fails_after, refused}
 use Rattle.hdfs_file_writer.proofs.Standing.{encrypted_none, full_without_room}
 use Rattle.hdfs_file_writer.proofs.file_writer.FileWriter.refuse.Goals as goal
@@ -16,7 +17,7 @@ pub returns-in-Some-clause-fails : goal.returns-in-Some-clause-fails
 returns-in-Some-clause-fails g c =
     let s = g.C.Cluster.shown c.args.cluster.now in
     let w = c.args.self.now in
-    refused s s w w (wrote_nothing s w) (ap link_by (encrypted_none s w c.requires.stands c.requires.encrypted)) (λ d. refl) c.requires.encrypted
+    refused s s w w (wrote_nothing s w) (ap link_by (encrypted_none s w c.requires.may.stands c.requires.encrypted)) (λ d. refl) c.requires.encrypted
 
 pub returns-in-Err-clause-fails : goal.returns-in-Err-clause-fails
 returns-in-Err-clause-fails g c =
@@ -24,21 +25,29 @@ returns-in-Err-clause-fails g c =
     let m = g.C.Cluster.shown c.finish_block.new.cluster in
     (subst (λ (w : FileWriter). FailsOtherwise s w c.in-Err.error m) (c.take_reopened.ensures.none c.in-None.is) c.in-Err.ensures.err).fails
 
-pub next_block-requires-clause-reaches : goal.next_block-requires-clause-reaches
-next_block-requires-clause-reaches g c =
-    reaches_later (proxy_of c.args.namenode.now) (proxy_of c.finish_block.new.namenode) (g.C.Cluster.shown c.args.cluster.now) (g.C.Cluster.shown c.finish_block.new.cluster)
-    c.finish_block.ensures.keeps.2.service c.in-Ok.ensures.wrote.own.later c.requires.reaches
-
-pub next_block-requires-clause-full : goal.next_block-requires-clause-full
-next_block-requires-clause-full g c =
+pub next_block-requires-clause-adds : goal.next_block-requires-clause-adds
+next_block-requires-clause-adds g c =
     let s = g.C.Cluster.shown c.args.cluster.now in
     let w = c.args.self.now in
+    let x = c.finish_block.new.self in
     let same = c.take_reopened.ensures.none c.in-None.is in
-    let idle = encrypted_none s w c.requires.stands c.requires.encrypted in
+    let client = c.finish_block.ensures.keeps.2 in
+    let keeps = subst (λ (v : FileWriter). Keeps v x) same c.finish_block.ensures.keeps.0 in
+    let idle = encrypted_none s w c.requires.may.stands c.requires.encrypted in
     let none : HasRoom w → ⊥ = λ room. cc (room.1, idle) in
-    let full = full_without_room s w c.requires.stands c.requires.fine none (c.take_reopened.ensures.full c.in-None.is) in
-    subst (λ (z : WriteSizes). IsFull z.block_size (tail_of c.finish_block.new.self)) (sym c.finish_block.ensures.keeps.0.sizes)
-    (c.in-Ok.ensures.between.1 (subst (λ (x : FileWriter). IsFull x.sizes.block_size (tail_of x)) (sym same) full))
+    let full = full_without_room s w c.requires.may.stands c.requires.fine none (c.take_reopened.ensures.full c.in-None.is) in
+    record {
+      reaches =
+          reaches_later (proxy_of c.args.namenode.now) (proxy_of c.finish_block.new.namenode) s (g.C.Cluster.shown c.finish_block.new.cluster)
+          client.service c.in-Ok.ensures.wrote.own.later c.requires.may.reaches;
+      allowed =
+          subst (λ (name : List ℕ). LetsWrite g.C.Cluster.allows g.C.Cluster.may_answer name x.path x.file_id) (sym client.name)
+          (at_file (λ path file_id. LetsWrite g.C.Cluster.allows g.C.Cluster.may_answer (name_of c.args.namenode.now) path file_id) w x keeps
+          c.requires.may.allowed);
+      answered = subst (λ (name : List ℕ). IsAnswered g.C.Cluster.may_answer name x) (sym client.name) c.in-Ok.ensures.answered;
+      full = subst (λ (z : WriteSizes). IsFull z.block_size (tail_of x)) (sym c.finish_block.ensures.keeps.0.sizes)
+          (c.in-Ok.ensures.between.1 (subst (λ (v : FileWriter). IsFull v.sizes.block_size (tail_of v)) (sym same) full));
+    }
 
 pub returns-in-Ok-next_block-clause-fails : goal.returns-in-Ok-next_block-clause-fails
 returns-in-Ok-next_block-clause-fails g c =
@@ -49,7 +58,7 @@ returns-in-Ok-next_block-clause-fails g c =
     let x = c.finish_block.new.self in
     let y = record x { reopened = Some c.in-Ok-next_block.located } in
     let same = c.take_reopened.ensures.none c.in-None.is in
-    let idle = encrypted_none s w c.requires.stands c.requires.encrypted in
+    let idle = encrypted_none s w c.requires.may.stands c.requires.encrypted in
     let unchanged = c.finish_block.ensures.idle (ap (λ (v : FileWriter). v.going) same ∙ idle) in
     let adds = c.in-Ok-next_block.ensures.adds in
     refused s t w y
@@ -71,16 +80,13 @@ returns-in-Err-next_block-clause-fails g c =
     (fails_after s m (g.C.Cluster.shown c.next_block.new.cluster) c.args.self.now x [] c.in-Err-next_block.error
     (subst (λ (v : FileWriter). Wrote s v [] m x) (c.take_reopened.ensures.none c.in-None.is) c.in-Ok.ensures.wrote) c.in-Err-next_block.ensures.err).fails
 
-pub finish_block-requires-clause-answered : goal.finish_block-requires-clause-answered
-finish_block-requires-clause-answered g c =
-    subst (IsAnswered g.C.Cluster.may_answer (name_of c.args.namenode.now)) (sym (c.take_reopened.ensures.none c.in-None.is)) c.requires.answered
-
-pub finish_block-requires-clause-allowed : goal.finish_block-requires-clause-allowed
-finish_block-requires-clause-allowed g c =
-    subst (λ (x : FileWriter). LetsWriteBlocks g.C.Cluster.allows g.C.Cluster.may_answer (name_of c.args.namenode.now) x.path x.file_id)
-    (sym (c.take_reopened.ensures.none c.in-None.is)) c.requires.allowed.blocks
-
-pub next_block-requires-clause-answered : goal.next_block-requires-clause-answered
-next_block-requires-clause-answered g c =
-    subst (λ (client : List ℕ). IsAnsweredLast g.C.Cluster.may_answer client c.finish_block.new.self.path c.finish_block.new.self.file_id c.finish_block.new.self.last)
-    (sym c.finish_block.ensures.keeps.2.name) (c.in-Ok.ensures.answered.last c.finish_block.ensures.keeps.1)
+pub finish_block-requires-clause-may : goal.finish_block-requires-clause-may
+finish_block-requires-clause-may g c =
+    subst (MayFinish g.C.Cluster.allows g.C.Cluster.may_answer c.args.namenode.now (g.C.Cluster.shown c.args.cluster.now))
+    (sym (c.take_reopened.ensures.none c.in-None.is))
+    (record {
+      reaches = c.requires.may.reaches;
+      allowed = c.requires.may.allowed.blocks;
+      answered = c.requires.may.answered;
+      stands = c.requires.may.stands;
+    })

@@ -1,15 +1,22 @@
 -- The goals of FileWriter::write_all.
-use Rattle.std.proofs.Common.{[], List, ℕ, ◌++◌, take, sym, ◌∙◌, ap, refl, subst}
+use Rattle.std.proofs.Common.{◌≡◌, false, [], List, ℕ, ◌++◌, take, sym, ◌∙◌, ap, refl, subst}
 use Rattle.std.proofs.lemmas.List.{take_rest}
-use Rattle.hdfs_namenode.specs.Clients.{proxy_of}
+use Rattle.hdfs_cluster.specs.Requests.{LetsWrite}
+use Rattle.hdfs_namenode.specs.Clients.{name_of, proxy_of}
 use Rattle.hdfs_namenode.proofs.Services.{reaches_later, same_client_refl, same_client_trans}
 use Rattle.hdfs_block_writer.proofs.Wrote.{pieces_join}
 use Rattle.hdfs_file_writer.proofs.Joining.{wrote_nothing, wrote_trans, fails_after}
-use Rattle.hdfs_file_writer.specs.Writers.{IsAnswered}
+use Rattle.hdfs_file_writer.specs.declared.sizes.WriteSizes.{WriteSizes}
+use Rattle.hdfs_file_writer.specs.Writers.{AreLimited, CanGoOn, IsAnswered}
+use Rattle.hdfs_file_writer.proofs.Allowed.{at_file}
 use Rattle.hdfs_file_writer.proofs.file_writer.FileWriter.write_all.Goals as goal
 
 pub blocks-2-init : goal.blocks-2-init
-blocks-2-init g c = record { stands = c.requires.works.stands; fine = c.requires.works.fine; told = ([], refl, wrote_nothing (g.C.Cluster.shown c.args.cluster.now) c.args.self.now); client = same_client_refl c.args.namenode.now; answered = c.requires.answered }
+blocks-2-init g c = record {
+  goes = record { stands = c.requires.may.stands; fine = c.requires.works.fine; answered = c.requires.may.answered };
+  told = ([], refl, wrote_nothing (g.C.Cluster.shown c.args.cluster.now) c.args.self.now);
+  client = same_client_refl c.args.namenode.now;
+}
 
 pub blocks-2-preserved : goal.blocks-2-preserved
 blocks-2-preserved g c =
@@ -19,28 +26,44 @@ blocks-2-preserved g c =
     let rest = c.blocks-2.rest.now in
     let told = before.told in
     record {
-      stands = now.stands;
-      fine = now.keeps.1;
+      goes =
+          subst (λ (client : List ℕ). CanGoOn g.C.Cluster.may_answer client (g.C.Cluster.shown c.write_piece.new.cluster) c.write_piece.new.self)
+          before.client.name now.goes;
       told = (
         told.0 ++ take n rest,
         pieces_join c.args.bytes.now rest told.0 n told.1 ∙ ap (λ (l : List ℕ). told.0 ++ take n rest ++ l) (sym (take_rest rest n)),
         wrote_trans (g.C.Cluster.shown c.args.cluster.now) (g.C.Cluster.shown c.blocks-2.cluster) (g.C.Cluster.shown c.write_piece.new.cluster) c.args.self.now c.blocks-2.self c.write_piece.new.self told.0 (take n rest) told.2 now.wrote,
       );
-      client = same_client_trans c.args.namenode.now c.blocks-2.namenode c.write_piece.new.namenode before.client now.keeps.2;
-      answered = subst (λ (client : List ℕ). IsAnswered g.C.Cluster.may_answer client c.write_piece.new.self) before.client.name now.answered;
+      client = same_client_trans c.args.namenode.now c.blocks-2.namenode c.write_piece.new.namenode before.client now.keeps.1;
     }
 
-pub write_piece-requires-clause-reaches : goal.write_piece-requires-clause-reaches
-write_piece-requires-clause-reaches g c =
-    reaches_later (proxy_of c.args.namenode.now) (proxy_of c.blocks-2.namenode) (g.C.Cluster.shown c.args.cluster.now) (g.C.Cluster.shown c.blocks-2.cluster)
-    c.blocks-2.invariant.client.service c.blocks-2.invariant.told.2.own.later c.requires.reaches
+pub write_piece-requires-clause-may : goal.write_piece-requires-clause-may
+write_piece-requires-clause-may g c =
+    let before = c.blocks-2.invariant in
+    record {
+      reaches =
+          reaches_later (proxy_of c.args.namenode.now) (proxy_of c.blocks-2.namenode) (g.C.Cluster.shown c.args.cluster.now) (g.C.Cluster.shown c.blocks-2.cluster)
+          before.client.service before.told.2.own.later c.requires.may.reaches;
+      allowed =
+          subst (λ (client : List ℕ). LetsWrite g.C.Cluster.allows g.C.Cluster.may_answer client c.blocks-2.self.path c.blocks-2.self.file_id)
+          (sym before.client.name)
+          (at_file (λ path file_id. LetsWrite g.C.Cluster.allows g.C.Cluster.may_answer (name_of c.args.namenode.now) path file_id) c.args.self.now
+          c.blocks-2.self before.told.2.keeps c.requires.may.allowed);
+      answered = subst (λ (client : List ℕ). IsAnswered g.C.Cluster.may_answer client c.blocks-2.self) (sym before.client.name) before.goes.answered;
+      stands = before.goes.stands;
+    }
+
+pub write_piece-requires-clause-works : goal.write_piece-requires-clause-works
+write_piece-requires-clause-works g c =
+    let before = c.blocks-2.invariant in
+    let same = sym before.told.2.keeps.sizes in
+    record {
+      limited = subst AreLimited same c.requires.works.limited;
+      fine = before.goes.fine;
+      plain = subst (λ (s : WriteSizes). s.encrypted ≡ false) same c.requires.works.plain;
+    }
 
 pub returns-in-Err-clause-err : goal.returns-in-Err-clause-err
 returns-in-Err-clause-err g c =
     let told = c.blocks-2.invariant.told in
     fails_after (g.C.Cluster.shown c.args.cluster.now) (g.C.Cluster.shown c.blocks-2.cluster) (g.C.Cluster.shown c.write_piece.new.cluster) c.args.self.now c.blocks-2.self told.0 c.in-Err.error told.2 c.in-Err.ensures.err
-
-pub write_piece-requires-clause-answered : goal.write_piece-requires-clause-answered
-write_piece-requires-clause-answered g c =
-    subst (λ (client : List ℕ). IsAnswered g.C.Cluster.may_answer client c.blocks-2.self) (sym c.blocks-2.invariant.client.name)
-    c.blocks-2.invariant.answered

@@ -13,33 +13,51 @@ use Rattle.hdfs_file_writer.proofs.Joining.{wrote_trans, fails_after}
 use Rattle.hdfs_file_writer.proofs.Standing.{more_stands, more_wrote, gave_up_fails, within_size, min_some}
 use Rattle.hdfs_file_writer.proofs.file_writer.FileWriter.write_piece.Goals as goal
 
-pub write-requires-clause-reaches : goal.write-requires-clause-reaches
-write-requires-clause-reaches g c =
-    reaches_later (proxy_of c.args.namenode.now) (proxy_of c.make_room.new.namenode) (g.C.Cluster.shown c.args.cluster.now) (g.C.Cluster.shown c.make_room.new.cluster)
-    c.make_room.ensures.client.service c.in-Ok.ensures.wrote.own.later c.requires.reaches
+pub write-requires : goal.write-requires
+write-requires g c =
+    let client = c.make_room.ensures.keeps.1 in
+    let goes = c.in-Ok.ensures.goes.0 in
+    let stands = goes.stands.going c.in-Some.block c.in-Some.is in
+    record {
+      reaches =
+          reaches_later (proxy_of c.args.namenode.now) (proxy_of c.make_room.new.namenode) (g.C.Cluster.shown c.args.cluster.now)
+          (g.C.Cluster.shown c.make_room.new.cluster) client.service c.in-Ok.ensures.wrote.own.later c.requires.may.reaches;
+      allowed =
+          may_go_on g.C.Cluster.may_answer (name_of c.args.namenode.now) (name_of c.make_room.new.namenode) c.in-Some.block c.args.self.now
+          c.make_room.new.self client.name c.make_room.ensures.keeps.0 stands (answered_going c.make_room.new.self c.in-Some.is goes.answered)
+          c.requires.may.allowed.blocks;
+      stands = stands.stands;
+    }
 
-pub write-requires-clause-allowed : goal.write-requires-clause-allowed
-write-requires-clause-allowed g c =
-    may_go_on g.C.Cluster.may_answer (name_of c.args.namenode.now) (name_of c.make_room.new.namenode) c.in-Some.block c.args.self.now c.make_room.new.self
-    c.make_room.ensures.client.name c.make_room.ensures.keeps
-    (c.in-Ok.ensures.stands.0.going c.in-Some.block c.in-Some.is) (answered_going c.make_room.new.self c.in-Some.is c.in-Ok.ensures.answered)
-    c.requires.allowed.blocks
-
-pub write-requires-clause-stands : goal.write-requires-clause-stands
-write-requires-clause-stands g c = (c.in-Ok.ensures.stands.0.going c.in-Some.block c.in-Some.is).stands
-
-pub returns-in-Ok-write-clause-stands : goal.returns-in-Ok-write-clause-stands
-returns-in-Ok-write-clause-stands g c =
-    more_stands (g.C.Cluster.shown c.make_room.new.cluster) (g.C.Cluster.shown c.write.new.cluster) (g.met.C.Cluster.sound c.make_room.new.cluster) (g.met.C.Cluster.sound c.write.new.cluster) c.make_room.new.self c.in-Some.block c.in-Some.is
-    (record c.make_room.new.self { going = Some c.write.new.self }) c.write.new.self (take c.in-Ok-write.taken c.args.bytes.now)
-    c.in-Ok.ensures.stands.0 c.in-Ok.ensures.fine c.in-Ok.ensures.fine (record { path = refl; file_id = refl; sizes = refl }) refl refl c.in-Ok-write.ensures.wrote c.in-Ok-write.ensures.stands
+pub returns-in-Ok-write-clause-goes : goal.returns-in-Ok-write-clause-goes
+returns-in-Ok-write-clause-goes g c =
+    let m = g.C.Cluster.shown c.make_room.new.cluster in
+    let t = g.C.Cluster.shown c.write.new.cluster in
+    let w = c.make_room.new.self in
+    let w' = record w { going = Some c.write.new.self } in
+    let block = c.in-Some.block in
+    let goes = c.in-Ok.ensures.goes.0 in
+    record {
+      stands =
+          more_stands m t (g.met.C.Cluster.sound c.make_room.new.cluster) (g.met.C.Cluster.sound c.write.new.cluster) w block c.in-Some.is w' c.write.new.self
+          (take c.in-Ok-write.taken c.args.bytes.now) goes.stands goes.fine goes.fine (record { path = refl; file_id = refl; sizes = refl }) refl refl
+          c.in-Ok-write.ensures.wrote c.in-Ok-write.ensures.stands;
+      fine = goes.fine;
+      answered =
+          answered_with w w' c.write.new.self (record { path = refl; file_id = refl; sizes = refl }) refl refl refl goes.answered
+          (answered_pipe g.C.Cluster.may_answer (name_of c.args.namenode.now) w.path w.file_id m t block c.write.new.self
+          (goes.stands.is_open goes.fine block c.in-Some.is) c.in-Ok-write.ensures.wrote.stays
+          (subst (λ (name : List ℕ). GoesOnAnswered g.C.Cluster.may_answer name block c.write.new.self) c.make_room.ensures.keeps.1.name
+          c.in-Ok-write.ensures.answered)
+          (answered_going w c.in-Some.is goes.answered));
+    }
 
 pub returns-in-Ok-write-clause-count : goal.returns-in-Ok-write-clause-count
 returns-in-Ok-write-clause-count g c =
     let block = c.in-Some.block in
-    let room = c.in-Ok.ensures.stands.1 in
+    let room = c.in-Ok.ensures.goes.1 in
     let same : room.0 ≡ block = cc (room.1, c.in-Some.is) in
-    let within = within_size (g.C.Cluster.shown c.make_room.new.cluster) block (c.in-Ok.ensures.stands.0.going block c.in-Some.is).stands (c.in-Ok.ensures.stands.0.is_open c.in-Ok.ensures.fine block c.in-Some.is) in
+    let within = within_size (g.C.Cluster.shown c.make_room.new.cluster) block (c.in-Ok.ensures.goes.0.stands.going block c.in-Some.is).stands (c.in-Ok.ensures.goes.0.stands.is_open c.in-Ok.ensures.goes.0.fine block c.in-Some.is) in
     let apart : (length_of block ≡ size_of block) → ⊥ = subst (λ (x : BlockWriter). (length_of x ≡ size_of x) → ⊥) same room.2 in
     min_some c.in-Ok-write.taken (length c.args.bytes.now) (size_of block - length_of block) c.in-Ok-write.ensures.count c.requires.bytes (omega (arith, within, apart))
 
@@ -51,7 +69,7 @@ returns-in-Ok-write-clause-wrote g c =
     let w' = record c.make_room.new.self { going = Some c.write.new.self } in
     let more = take c.in-Ok-write.taken c.args.bytes.now in
     wrote_trans s m t c.args.self.now c.make_room.new.self w' [] more c.in-Ok.ensures.wrote
-    (more_wrote m t (g.met.C.Cluster.sound c.make_room.new.cluster) (g.met.C.Cluster.sound c.write.new.cluster) c.make_room.new.self c.in-Some.block c.in-Some.is w' c.write.new.self more c.in-Ok.ensures.stands.0 c.in-Ok.ensures.fine
+    (more_wrote m t (g.met.C.Cluster.sound c.make_room.new.cluster) (g.met.C.Cluster.sound c.write.new.cluster) c.make_room.new.self c.in-Some.block c.in-Some.is w' c.write.new.self more c.in-Ok.ensures.goes.0.stands c.in-Ok.ensures.goes.0.fine
     (record { path = refl; file_id = refl; sizes = refl }) refl c.in-Ok-write.ensures.wrote c.in-Ok-write.ensures.stands)
 
 pub returns-in-Err-write-clause-err : goal.returns-in-Err-write-clause-err
@@ -61,28 +79,15 @@ returns-in-Err-write-clause-err g c =
     let t = g.C.Cluster.shown c.write.new.cluster in
     let w1 = c.make_room.new.self in
     let block = c.in-Some.block in
-    let stands = c.in-Ok.ensures.stands.0 in
+    let stands = c.in-Ok.ensures.goes.0.stands in
     subst (λ (e : HdfsError). FailsOtherwise s c.args.self.now e t) (sym c.error_of.ensures)
     (fails_after s m t c.args.self.now w1 [] (error_of c.in-Err-write.fault) c.in-Ok.ensures.wrote
-    (gave_up_fails m t (g.met.C.Cluster.sound c.make_room.new.cluster) (g.met.C.Cluster.sound c.write.new.cluster) w1 block c.in-Some.is (stands.is_open c.in-Ok.ensures.fine block c.in-Some.is)
+    (gave_up_fails m t (g.met.C.Cluster.sound c.make_room.new.cluster) (g.met.C.Cluster.sound c.write.new.cluster) w1 block c.in-Some.is (stands.is_open c.in-Ok.ensures.goes.0.fine block c.in-Some.is)
     (stands.going block c.in-Some.is) c.in-Err-write.fault c.in-Err-write.ensures.err.gave_up))
-
-pub returns-in-Ok-write-clause-answered : goal.returns-in-Ok-write-clause-answered
-returns-in-Ok-write-clause-answered g c =
-    let w = c.make_room.new.self in
-    let block = c.in-Some.block in
-    let answered = c.in-Ok.ensures.answered in
-    answered_with w (record w { going = Some c.write.new.self }) c.write.new.self (record { path = refl; file_id = refl; sizes = refl }) refl refl refl answered
-    (answered_pipe g.C.Cluster.may_answer (name_of c.args.namenode.now) w.path w.file_id (g.C.Cluster.shown c.make_room.new.cluster) (g.C.Cluster.shown c.write.new.cluster)
-    block c.write.new.self (c.in-Ok.ensures.stands.0.is_open c.in-Ok.ensures.fine block c.in-Some.is) c.in-Ok-write.ensures.wrote.stays
-    (subst (λ (name : List ℕ). GoesOnAnswered g.C.Cluster.may_answer name block c.write.new.self) c.make_room.ensures.client.name
-    c.in-Ok-write.ensures.answered)
-    (answered_going w c.in-Some.is answered))
 
 pub returns-in-Ok-write-clause-keeps : goal.returns-in-Ok-write-clause-keeps
 returns-in-Ok-write-clause-keeps g c =
-    let kept = c.make_room.ensures.keeps in (
+    let kept = c.make_room.ensures.keeps.0 in (
       record { path = kept.path; file_id = kept.file_id; sizes = kept.sizes },
-      c.in-Ok.ensures.fine,
-      same_client_trans c.args.namenode.now c.make_room.new.namenode c.write.new.namenode c.make_room.ensures.client c.write.ensures.client,
+      same_client_trans c.args.namenode.now c.make_room.new.namenode c.write.new.namenode c.make_room.ensures.keeps.1 c.write.ensures.client,
     )
