@@ -11,6 +11,7 @@ mod planning;
 mod reading;
 mod seeing;
 mod storing;
+mod streaming;
 mod telling;
 mod writing;
 

@@ -2,7 +2,9 @@
 ghost use Rattle.hdfs_cluster.specs.Loading.{AreValid};
 
 use crate::memory::planning::{self, Plans};
-use crate::memory::{asking, calling, files, loading, reading, seeing, storing, writing};
+use crate::memory::{
+    asking, calling, files, loading, reading, seeing, storing, streaming, writing,
+};
 use crate::steps::{Said, Stage, Words, small};
 use hdfs_cluster::{MemSettings, ServerDefaults};
 use hdfs_mem_cluster::MemCluster;
@@ -106,7 +108,7 @@ impl Stage for Case {
         match words[0] {
             "==" => self.begin(said),
             "cluster" => self.make(settings_of(words), said),
-            "prepare" | "dir" | "file" | "short" | "fault" => loading::take(
+            "prepare" | "dir" | "file" | "large" | "short" | "fault" => loading::take(
                 self.alloc, cluster, words, said,
             ),
             "fresh" | "namenodes" | "calls" | "links" | "nodes" => seeing::take(
@@ -118,6 +120,9 @@ impl Stage for Case {
             ),
             "read" => reading::read_back(self.alloc, cluster, words, said),
             "readFile" | "readRange" => files::take(self.alloc, cluster, words, said),
+            "stream" | "closed" | "into" | "fill" => streaming::take(
+                self.alloc, cluster, words, said,
+            ),
             "storeFile" | "goOn" => storing::take(self.alloc, cluster, words, said),
             "plan" | "tally" => planning::take(self.alloc, &mut *self.plans, words, said),
             _ => self.call(words, said),

@@ -9,11 +9,29 @@ use std::alloc::Global;
 /// The bytes of a file, of which each is its own offset.
 const BYTES: [u8; 10] = [0, 1, 2, 3, 4, 5, 6, 7, 8, 9];
 
-/// A file of ten bytes.
-fn file_of(alloc: Global, words: &Words<'_>) -> Result<Line, NoMemory> {
-    let path = Text::from_str(alloc, words[1])?;
+/// So many bytes, of which each is the rest of its offset by 251.
+fn many_bytes(alloc: Global, count: u64) -> Result<Vec<u8>, NoMemory> {
+    let mut bytes = Vec::new(alloc);
+    for offset in 0..count {
+        bytes.push((offset % 251) as u8)?;
+    }
+    Ok(bytes)
+}
+
+/// The bytes of a file: those of its own offsets, or as many as a step says.
+fn bytes_of(alloc: Global, words: &Words<'_>) -> Result<Vec<u8>, NoMemory> {
+    if words[0] == "large" {
+        return many_bytes(alloc, number(words[5]));
+    }
     let mut bytes = Vec::new(alloc);
     bytes.extend_from_slice(&BYTES)?;
+    Ok(bytes)
+}
+
+/// A file of ten bytes, or of as many as a step says.
+fn file_of(alloc: Global, words: &Words<'_>) -> Result<Line, NoMemory> {
+    let path = Text::from_str(alloc, words[1])?;
+    let bytes = bytes_of(alloc, words)?;
     Ok(Line::File {
         path,
         attributes: Attributes {
@@ -33,7 +51,7 @@ fn line_of(alloc: Global, words: &Words<'_>) -> Result<Line, NoMemory> {
         "dir" => Ok(Line::Dir {
             path: Text::from_str(alloc, words[1])?,
         }),
-        "file" => file_of(alloc, words),
+        "file" | "large" => file_of(alloc, words),
         "short" => Ok(Line::Short {
             path: Text::from_str(alloc, words[1])?,
             block: small(words[2]),

@@ -46,6 +46,7 @@ fn name_of(error: BuildError) -> &'static str {
         BuildError::Scheme => "Scheme",
         BuildError::ResolveNeeded => "ResolveNeeded",
         BuildError::NoNamenode => "NoNamenode",
+        BuildError::Mounts => "Mounts",
     }
 }
 
@@ -63,13 +64,32 @@ fn tell(built: &Result<Client, BuildError>, said: &mut Said) {
 
 /// `build URL SETTINGS`: the addresses of its namenodes.
 pub(crate) fn build(alloc: Global, url: &str, settings: &str, said: &mut Said) {
-    let Ok(builder) = builder(alloc, url, settings) else {
-        tell_done(false, said);
-        return;
-    };
-    let built = builder.build(&mut SmallRng::seed_from_u64(7));
+    let built = built(alloc, url, settings);
     tell(&built, said);
     drop(built);
+}
+
+/// The client of a URL and of settings.
+fn built(alloc: Global, url: &str, settings: &str) -> Result<Client, BuildError> {
+    match builder(alloc, url, settings) {
+        Ok(builder) => builder.build(&mut SmallRng::seed_from_u64(7)),
+        Err(_) => Err(BuildError::NoMemory),
+    }
+}
+
+/// `use URL SETTINGS`: a client that is used from now on. How many services it has, and the addresses of its namenodes.
+pub(crate) fn to_use(
+    alloc: Global,
+    url: &str,
+    settings: &str,
+    said: &mut Said,
+) -> Result<Box<Client>, BuildError> {
+    let built = built(alloc, url, settings);
+    if let Ok(client) = &built {
+        said.number(client.services() as u64);
+    }
+    tell(&built, said);
+    Ok(Box::new(alloc, built?)?)
 }
 
 /// `construct WHICH URL SETTINGS`: by one of the four constructors.

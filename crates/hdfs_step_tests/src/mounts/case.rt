@@ -88,6 +88,13 @@ impl Case {
         }
     }
 
+    /// Another client is used from now on.
+    fn take_client(&mut self, words: &Words<'_>, said: &mut Said) {
+        if let Ok(client) = building::to_use(self.alloc, words[1], words[2], said) {
+            self.client = client;
+        }
+    }
+
     /// A call of the client, where it may ask the namenodes.
     fn call(&mut self, words: &Words<'_>, said: &mut Said) {
         if !self.client.is_of(&*self.namenodes) {
@@ -113,6 +120,7 @@ impl Stage for Case {
             "==" => self.begin(said),
             "asked" => tell_asked(self.namenodes.asked.as_slice(), said),
             "build" => building::build(self.alloc, words[1], words[2], said),
+            "use" => self.take_client(words, said),
             "new" => building::new(self.alloc, words[1], said),
             "construct" => building::construct(self.alloc, words[1], words[2], words[3], said),
             "parts" => {
