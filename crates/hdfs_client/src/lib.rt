@@ -30,7 +30,7 @@ pub use builder::ClientBuilder;
 pub use client::Client;
 pub use errors::ClientError;
 pub use file_reader::FileReader;
-pub use range_stream::RangeStream;
 pub use list_iterator::{DirListingIterator, ListStatusIterator};
+pub use range_stream::RangeStream;
 pub use status::FileStatus;
 pub use writing::FileWriter;
