@@ -21,5 +21,4 @@ pub mod Rests
 pub mod Serving
 pub mod Sound
 pub mod Turned
-pub mod Walking
 pub mod Written
