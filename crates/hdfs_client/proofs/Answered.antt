@@ -1,10 +1,11 @@
--- What a writer was answered, where its file was opened to be gone on with.
-use Rattle.std.proofs.Common.{◌≡◌, ℕ, false, List, Option, Some, None, inr, refl, sym, subst}
+-- What a writer was answered, where its file was opened: a new one, or one to be gone on with.
+use Rattle.std.proofs.Common.{◌≡◌, ℕ, Bool, false, List, Option, Some, None, inl, inr, refl, sym, subst}
 use Rattle.hdfs_cluster.specs.declared.asks.Answer.{Answer}
 use Rattle.hdfs_cluster.specs.declared.asks.Answer.TheVariants as answers
 use Rattle.hdfs_cluster.specs.declared.asks.Ask.{Ask}
 use Rattle.hdfs_cluster.specs.declared.asks.Ask.TheVariants as asks
 use Rattle.hdfs_cluster.specs.declared.messages.Appended.{Appended}
+use Rattle.hdfs_cluster.specs.declared.messages.FileStatusMsg.{FileStatusMsg}
 use Rattle.hdfs_cluster.specs.declared.messages.LocatedBlock.{LocatedBlock}
 use Rattle.hdfs_cluster.specs.Requests.{IsAnsweredId, IsAnsweredLast, id_in}
 use Rattle.hdfs_cluster.specs.Shown.{Shown}
@@ -39,6 +40,24 @@ answered_writer {may_answer} {client} writer path file_id tail at id is none ans
       (subst (IsAnsweredTail may_answer client path file_id) (sym is) block));
   last = λ fine. subst (IsAnsweredLast may_answer client writer.path writer.file_id) (sym none) tt;
 }
+
+-- that of a new file
+pub answered_created : {may_answer : Ask → Answer → Type 0} {client : List ℕ} {shown : Shown} (writer : FileWriter) (path : List ℕ)
+    (masked flag replication block_size : ℕ) (parents : Bool) (status : Option FileStatusMsg) → Stands shown writer → has_failed writer ≡ false
+    → path_of writer ≡ path → file_id_of writer ≡ id_in status → tail_of writer ≡ tail_opened None None
+    → may_answer (asks.Create path masked client flag parents replication block_size) (answers.Create status) → IsAnswered may_answer client writer
+answered_created {may_answer} {client} writer path masked flag replication block_size parents status stands fine at id is answered =
+    answered_writer writer path (id_in status) (tail_opened None None) at id is (none_done writer None stands fine is)
+    (inl (record {
+      masked = masked;
+      create_flag = flag;
+      create_parent = parents;
+      replication = replication;
+      block_size = block_size;
+      status = status;
+      answered = answered;
+      is = refl;
+    })) tt
 
 -- that of a file that was opened to be gone on with
 pub answered_appended : {may_answer : Ask → Answer → Type 0} {client : List ℕ} {shown : Shown} (writer : FileWriter) (path : List ℕ)

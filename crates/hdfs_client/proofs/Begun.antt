@@ -37,7 +37,7 @@ module _ (s m t : Shown) (quiet : Told SameButActive s.picture m.picture) (path 
       let one = came.told at.0 at.1 (create_repeats path client options.permission (create_flag options) options.create_parent replication block_size at.0) in
       let row : Row at.0 (creating path client options replication block_size) (answers.Create status) one.0 =
       relayed_row (CallsRose m.counts t) at.0 (creating path client options replication block_size) (answers.Create status) one.0
-      (λ is. absurd (cc is)) one.2 in
+      (λ is. absurd (cc is)) (λ is. absurd (cc is)) one.2 in
       let creates : Creates path (new_file options.permission replication block_size) at.0 one.0 = row.2 in (
         at.0,
         one.0,
@@ -59,7 +59,7 @@ module _ (s m t : Shown) (quiet : Told SameButActive s.picture m.picture) (path 
       let one = came.told at.0 at.1 (append_repeats path client 4 at.0) in
       let row : Row at.0 (appending path client 4) (answers.Append (record { block = block; stat = stat })) one.0 =
       relayed_row (CallsRose m.counts t) at.0 (appending path client 4) (answers.Append (record { block = block; stat = stat })) one.0
-      (λ is. absurd (cc is)) one.2 in
+      (λ is. absurd (cc is)) (λ is. absurd (cc is)) one.2 in
       let there : IsFileAt at.0 path file = files.names path ∙ at_path in
       let same : row.1.0 ≡ file = same_file at.0 path row.1.0 file row.1.1 there in
       let opens : Opens path file block at.0 one.0 = subst (λ (f : FileEntry). Opens path f block at.0 one.0) same row.1.3 in

@@ -1,5 +1,5 @@
 -- What a client reads: it stays a client of its cluster, and a reader stays one of its own.
-use Rattle.std.proofs.Common.{◌≡◌, ◌≢◌, ◌⊎◌, ℕ, zero, suc, ◌<◌, ◌≤◌, ◌-◌, ◌^◌, ◌==◌, length, Bool, true, false, IsErrAnd, List, [], ◌∷◌, get_or, set, slice_get, Option, Some, None, Result, Ok, Err, inl, inr, refl, sym, ◌∙◌, ap, subst, arith}
+use Rattle.std.proofs.Common.{◌≡◌, ◌≢◌, ◌⊎◌, ℕ, zero, suc, ◌<◌, ◌≤◌, ◌-◌, ◌^◌, ◌==◌, length, true, false, IsErrAnd, List, [], ◌∷◌, get_or, set, slice_get, Option, Some, None, Result, Ok, Err, inl, inr, refl, sym, ◌∙◌, ap, subst, arith}
 use Rattle.std.specs.Prelude.{All, IfOk, IsSome}
 use Rattle.std.proofs.lemmas.Bool.{cases_Bool, false≢true}
 use Rattle.std.proofs.lemmas.Bool.Decides.{Decides-eqb}
@@ -15,7 +15,6 @@ use Rattle.hdfs_cluster.specs.declared.messages.LocatedBlock.{LocatedBlock}
 use Rattle.hdfs_cluster.specs.declared.messages.LocatedBlocks.{LocatedBlocks}
 use Rattle.hdfs_cluster.specs.declared.picture.Entry.TheVariants as entries
 use Rattle.hdfs_cluster.specs.Namenode.{IsShaped, Locates, LocatesBlocks}
-use Rattle.hdfs_cluster.specs.Picture.{Picture}
 use Rattle.hdfs_cluster.specs.Requests.{IsLocated}
 use Rattle.hdfs_cluster.specs.Shown.{Later, Served, Shown}
 use Rattle.hdfs_names.specs.declared.mounts.Resolved.{Resolved}

@@ -1,12 +1,8 @@
 -- The last name of a page; and errors that are passed on.
-use Rattle.std.proofs.Common.{◌≡◌, ℕ, zero, suc, ◌<◌, ◌+◌, ◌-◌, List, [], ◌∷◌, length, refl, ap, subst, sym, arith, inl, inr, Some, None, Result, Ok, Err, IfErr, IsErrAnd, slice_get}
+use Rattle.std.proofs.Common.{◌≡◌, ℕ, zero, suc, ◌<◌, ◌+◌, ◌-◌, List, [], ◌∷◌, length, refl, ap, subst, sym, arith, Some, None, Result, Ok, Err, IfErr, IsErrAnd, slice_get}
 use Rattle.hdfs_cluster.specs.declared.messages.FileStatusMsg.{FileStatusMsg}
-use Rattle.hdfs_client.specs.Listing.{IsListFault, last_name}
+use Rattle.hdfs_client.specs.Listing.{last_name}
 use Rattle.hdfs_client.specs.declared.errors.ClientError.{ClientError}
-
-pub because : (limit : ℕ) (why why' : Type 0) (error : ClientError) → (why → why') → IsListFault limit why error → IsListFault limit why' error
-because limit why why' error so (inl (is, cause)) = inl (is, so cause)
-because limit why why' error so (inr other) = inr other
 
 -- what is passed on
 pub passed_on : {T : Type 0} (Is : ClientError → Type 0) (error : ClientError) (result : Result T ClientError) → IsErrAnd result (λ e. e ≡ error) → Is error

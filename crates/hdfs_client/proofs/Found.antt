@@ -1,5 +1,5 @@
 -- What is found from directories that were begun, turn by turn.
-use Rattle.std.proofs.Common.{◌≡◌, ◌⊎◌, ℕ, Bool, true, false, not, ◌&&◌, ◌||◌, List, [], ◌∷◌, ◌++◌, refl, sym, ◌∙◌, ap, subst, append_assoc, inl, inr, Option, Some, None, Result, Ok, Err, IfErr, IfOk, OnErr, map, reverse}
+use Rattle.std.proofs.Common.{◌≡◌, ◌⊎◌, ℕ, Bool, true, false, not, ◌&&◌, ◌||◌, List, [], ◌∷◌, ◌++◌, refl, sym, ◌∙◌, ap, subst, append_assoc, inl, inr, Some, None, Result, Ok, Err, IfErr, IfOk, OnErr, map, reverse}
 use Rattle.std.specs.List.{list_all}
 use Rattle.std.proofs.lemmas.List.{reverse-append}
 use Rattle.hdfs_client.specs.declared.list_iterator.DirListingIterator.{DirListingIterator}
@@ -15,11 +15,10 @@ use Rattle.hdfs_client.specs.declared.client.Client.{Client}
 use Rattle.hdfs_cluster.specs.declared.errors.HdfsError.{HdfsError}
 use Rattle.hdfs_cluster.specs.declared.messages.FileStatusMsg.{FileStatusMsg}
 use Rattle.hdfs_cluster.proofs.Loads.{and_parts}
-use Rattle.hdfs_cluster.specs.Requests.{Request}
 use Rattle.hdfs_names.specs.declared.mounts.MountTable.{MountTable}
-use Rattle.hdfs_client.specs.Iterating.{AreFound, HasRest, HasSomeRest, HaveNone, IsCut, IsToCome, Left, LetsRest, LetsWalk, MayCome, Turns, Walks, are_none, asks_none, fresh, given_by, is_over, left_of, IfFails, IsDirFault, IsEntryFault, IsPageFault, wants_page}
-use Rattle.hdfs_client.specs.Listing.{AreEntries, HasAll, HasSome, IsBelow, LetsList, LetsListAt, alone, answered, asked, messages_of, nothing, with_own}
-use Rattle.hdfs_client.specs.Turning.{IsFoundIn, IsPassed, ended, entered_by, first_ended}
+use Rattle.hdfs_client.specs.Iterating.{AreFound, HasRest, HasSomeRest, HaveNone, IsCut, IsToCome, Left, MayCome, Turns, Walks, are_none, asks_none, entered_by, fresh, is_over, left_of, IfFails, IsDirFault, IsEntryFault, IsPageFault, wants_page}
+use Rattle.hdfs_client.specs.Listing.{AreEntries, HasAll, HasSome, alone, messages_of, nothing, with_own}
+use Rattle.hdfs_client.specs.Turning.{IsFoundIn, IsPassed, ended, first_ended}
 use Rattle.hdfs_client.specs.declared.status.FileStatus.{FileStatus}
 use Rattle.hdfs_client.proofs.Rests.{all_fresh, none_all, none_some, over_held, over_nothing, some_fresh}
 
@@ -162,10 +161,27 @@ module _ (may_answer : Ask → Answer → Type 0) (mounts : MountTable) where
           (some_fresh may_answer mounts status.path) (recursive && status.isdir) refl
           (subst (λ (ds : List Left). MayCome may_answer mounts recursive (entered_by (recursive && status.isdir) status ds) later) found.is
           (subst (λ (ds : List Left). MayCome may_answer mounts recursive ds later) enters comes)));
+      turn = record {
+        within = found.passed.within;
+        dir = found.dir;
+        around = found.around;
+        was = found.passed.was;
+        dir' = found.dir';
+        path = found.turns.path;
+        some = found.turns.some;
+        told = found.turns.told;
+        is = enters ∙ ap (λ (ds : List Left). entered_by (recursive && status.isdir) status ds) found.is;
+      };
       none = λ is. cc;
       over = λ over. absurd (some_none (Ok status) (found.over (over_there found.dir found.around found.passed over)));
       cut = tt;
     }
+
+    -- of an ended directory nothing may come
+    none_of_ended : (dir dir' : Left) (own : List FileStatus) → HasSomeRest may_answer mounts (ended dir') own → HasSomeRest may_answer mounts dir own
+    none_of_ended dir dir' own has =
+        subst (λ (xs : List FileStatus). HasSomeRest may_answer mounts dir xs) (sym (over_nothing may_answer mounts (ended dir') own refl has))
+        (none_some may_answer mounts dir)
 
     -- an error in the place of an entry
     pub walks_off : (status : FileStatus) (error : HdfsError) → ((dir : Left) → Why error dir) → IsFoundIn may_answer mounts Why old (Some (Ok status)) mid → new ≡ first_ended mid
@@ -175,9 +191,18 @@ module _ (may_answer : Ask → Answer → Type 0) (mounts : MountTable) where
           all = λ sound. absurd (false≢true sound);
           some = λ later comes. back_some (found.dir ∷ found.around) later found.passed
               (silent (HasSomeRest may_answer mounts) (HasSome may_answer mounts) recursive found.dir (ended found.dir') found.around later
-              (λ own has. subst (λ (xs : List FileStatus). HasSomeRest may_answer mounts found.dir xs)
-              (sym (over_nothing may_answer mounts (ended found.dir') own refl has)) (none_some may_answer mounts found.dir))
-              (subst (λ (ds : List Left). MayCome may_answer mounts recursive ds later) now comes));
+              (none_of_ended found.dir found.dir') (subst (λ (ds : List Left). MayCome may_answer mounts recursive ds later) now comes));
+          turn = record {
+            within = found.passed.within;
+            dir = found.dir;
+            around = found.around;
+            was = found.passed.was;
+            dir' = ended found.dir';
+            path = found.turns.path;
+            some = none_of_ended found.dir found.dir';
+            told = λ all. tt;
+            is = now;
+          };
           none = λ is. cc;
           over = λ over. absurd (some_none (Ok status) (found.over (over_there found.dir found.around found.passed over)));
           cut = cut_there error found.dir (ended found.dir') found.around (why found.dir) found.passed now refl;
@@ -190,6 +215,17 @@ module _ (may_answer : Ask → Answer → Type 0) (mounts : MountTable) where
       some = λ later comes. back_some Why recursive old new new (found.dir ∷ found.around) later found.passed
           (silent (HasSomeRest may_answer mounts) (HasSome may_answer mounts) recursive found.dir found.dir' found.around later found.turns.some
           (subst (λ (ds : List Left). MayCome may_answer mounts recursive ds later) found.is comes));
+      turn = record {
+        within = found.passed.within;
+        dir = found.dir;
+        around = found.around;
+        was = found.passed.was;
+        dir' = found.dir';
+        path = found.turns.path;
+        some = found.turns.some;
+        told = found.turns.told;
+        is = found.is;
+      };
       none = λ is. cc;
       over = λ over. found.over (over_there Why recursive old new new found.dir found.around found.passed over);
       cut = cut_there Why recursive old new new error found.dir found.dir' found.around found.fault found.passed found.is (found.turns.ends refl);
@@ -203,88 +239,22 @@ module _ (may_answer : Ask → Answer → Type 0) (mounts : MountTable) where
       some = λ later comes. back_some Why recursive old new new (found.dir ∷ found.around) later found.passed
           (silent (HasSomeRest may_answer mounts) (HasSome may_answer mounts) recursive found.dir found.dir' found.around later found.turns.some
           (subst (λ (ds : List Left). MayCome may_answer mounts recursive ds later) found.is comes));
+      turn = record {
+        within = found.passed.within;
+        dir = found.dir;
+        around = found.around;
+        was = found.passed.was;
+        dir' = found.dir';
+        path = found.turns.path;
+        some = found.turns.some;
+        told = found.turns.told;
+        is = found.is;
+      };
       none = λ is. ap (λ (ds : List Left). list_all is_over ds) (found.is ∙ ap (λ (ds : List Left). found.dir' ∷ ds) (found.last refl))
           ∙ ap (λ (b : Bool). b && true) (found.turns.ends refl);
       over = λ over. refl;
       cut = tt;
     }
-
-  -- ---- leave
-
-  deeper : (recursive : Bool) (path mid dir : List ℕ) → IsBelow (HasSome may_answer mounts) recursive path mid
-      → IsBelow (HasSome may_answer mounts) recursive mid dir → IsBelow (HasSome may_answer mounts) recursive path dir
-  deeper recursive path mid _ first asked = first
-  deeper recursive path mid _ first (answered dir before status behind below has directory) =
-      answered dir before status behind (deeper recursive path mid dir first below) has directory
-
-  module _ (allows : Request → Type 0) (Why : HdfsError → Left → Type 0) (recursive : Bool) where
-    pub lets_fresh : (path : List ℕ) → LetsList allows may_answer mounts recursive path → LetsRest allows may_answer mounts recursive (fresh path)
-    lets_fresh path lets = record {
-      on = lets path asked;
-      below = λ before status behind has directory dir below. lets dir
-          (deeper recursive path status.path dir
-          (answered path before status behind asked (some_fresh may_answer mounts path (before ++ status ∷ behind) has) directory) below);
-    }
-
-    lets_turn : (dir dir' : Left) (result : Option (Result FileStatus HdfsError)) → Turns may_answer mounts dir result dir'
-        → LetsRest allows may_answer mounts recursive dir → LetsRest allows may_answer mounts recursive dir'
-    lets_turn dir dir' result turns lets = record {
-      on = subst (λ (p : List ℕ). LetsListAt allows mounts p) (sym turns.path) lets.on;
-      below = λ before status behind has. lets.below (given_by result ++ before) status behind
-          (subst (λ (xs : List FileStatus). HasSomeRest may_answer mounts dir xs) (sym (append_assoc (given_by result) before (status ∷ behind)))
-          (turns.some (before ++ status ∷ behind) has));
-    }
-
-    lets_end : (dir : Left) → LetsRest allows may_answer mounts recursive dir → LetsRest allows may_answer mounts recursive (ended dir)
-    lets_end dir lets = record {
-      on = lets.on;
-      below = λ before status behind has. absurd (never before status behind (over_nothing may_answer mounts (ended dir) (before ++ status ∷ behind) refl has));
-    }
-      where
-        never : (before : List FileStatus) (status : FileStatus) (behind : List FileStatus) → before ++ status ∷ behind ≡ [] → ⊥
-        never [] status behind is = cc
-        never (first ∷ before) status behind is = cc
-
-    lets_behind : (within dirs : List Left) → LetsWalk allows may_answer mounts recursive (within ++ dirs) → LetsWalk allows may_answer mounts recursive dirs
-    lets_behind [] dirs lets = lets
-    lets_behind (dir ∷ within) dirs lets = lets_behind within dirs lets.1
-
-    pub lets_passed : (old dirs : List Left) → IsPassed may_answer mounts old dirs → LetsWalk allows may_answer mounts recursive old
-        → LetsWalk allows may_answer mounts recursive dirs
-    lets_passed old dirs passed lets =
-        lets_behind passed.within dirs (subst (λ (ds : List Left). LetsWalk allows may_answer mounts recursive ds) passed.was lets)
-
-    pub lets_on : (old new : List Left) (result : Option (Result FileStatus HdfsError)) → IsFoundIn may_answer mounts Why old result new
-        → LetsWalk allows may_answer mounts recursive old → LetsWalk allows may_answer mounts recursive new
-    lets_on old new result found lets =
-        let both : LetsWalk allows may_answer mounts recursive (found.dir ∷ found.around) = lets_passed old (found.dir ∷ found.around) found.passed lets in
-        subst (λ (ds : List Left). LetsWalk allows may_answer mounts recursive ds) (sym found.is)
-        (lets_turn found.dir found.dir' result found.turns both.0, both.1)
-
-    pub lets_enter : (old mid new : List Left) (status : FileStatus) → IsFoundIn may_answer mounts Why old (Some (Ok status)) mid
-        → new ≡ entered_by (recursive && status.isdir) status mid → LetsWalk allows may_answer mounts recursive old
-        → LetsWalk allows may_answer mounts recursive new
-    lets_enter old mid new status found is lets =
-        subst (λ (ds : List Left). LetsWalk allows may_answer mounts recursive ds) (sym is) (by (recursive && status.isdir) refl)
-      where
-        mine : LetsRest allows may_answer mounts recursive found.dir
-        mine = (lets_passed old (found.dir ∷ found.around) found.passed lets).0
-
-        by : (b : Bool) → (recursive && status.isdir) ≡ b → LetsWalk allows may_answer mounts recursive (entered_by b status mid)
-        by false plain = lets_on old mid (Some (Ok status)) found lets
-        by true directory = (
-          lets_fresh status.path (mine.below [] status [] (found.turns.some [] (none_some may_answer mounts found.dir')) directory),
-          lets_on old mid (Some (Ok status)) found lets,
-        )
-
-    pub lets_off : (old mid new : List Left) (result : Option (Result FileStatus HdfsError)) → IsFoundIn may_answer mounts Why old result mid
-        → new ≡ first_ended mid → LetsWalk allows may_answer mounts recursive old → LetsWalk allows may_answer mounts recursive new
-    lets_off old mid new result found is lets =
-        subst (λ (ds : List Left). LetsWalk allows may_answer mounts recursive ds) (sym is) (by mid (lets_on old mid result found lets))
-      where
-        by : (dirs : List Left) → LetsWalk allows may_answer mounts recursive dirs → LetsWalk allows may_answer mounts recursive (first_ended dirs)
-        by [] lets = lets
-        by (dir ∷ dirs) lets = (lets_end dir lets.0, lets.1)
 
   -- ---- directories that have nothing left are passed
 
@@ -341,15 +311,6 @@ module _ (may_answer : Ask → Answer → Type 0) (mounts : MountTable) where
   walks_entered Why recursive recursive' old mid new status (Err error) same found enters off why =
       walks_off Why recursive old mid new status error why found off
 
-  pub lets_entered : (allows : Request → Type 0) (Why : HdfsError → Left → Type 0) (recursive recursive' : Bool) (old mid new : List Left) (status : FileStatus)
-      (result : Result FileStatus HdfsError) → recursive' ≡ recursive → IsFoundIn may_answer mounts Why old (Some (Ok status)) mid
-      → IfOk result (λ given. (given ≡ status) × (new ≡ entered_by (recursive' && status.isdir) status mid)) → OnErr result (new ≡ first_ended mid)
-      → LetsWalk allows may_answer mounts recursive old → LetsWalk allows may_answer mounts recursive new
-  lets_entered allows Why recursive recursive' old mid new status (Ok given) same found (is, enters) off =
-      lets_enter allows Why recursive old mid new status found (subst (λ (r : Bool). new ≡ entered_by (r && status.isdir) status mid) same enters)
-  lets_entered allows Why recursive recursive' old mid new status (Err error) same found enters off =
-      lets_off allows Why recursive old mid new (Some (Ok status)) found off
-
 -- ---- those around a directory
 
 pub around_is : (outer outer' : List DirListingIterator) (dir : DirListingIterator) → outer ≡ outer' ++ dir ∷ []
@@ -357,26 +318,11 @@ pub around_is : (outer outer' : List DirListingIterator) (dir : DirListingIterat
 around_is outer outer' dir is =
     ap (λ (ds : List DirListingIterator). map left_of (reverse ds)) is ∙ ap (λ (ds : List DirListingIterator). map left_of ds) (reverse-append outer' (dir ∷ []))
 
--- leave, by the mounts and the flag of the call
-pub same_lets : (allows : Request → Type 0) (may_answer : Ask → Answer → Type 0) (mounts mounts' : MountTable) (recursive recursive' : Bool) (dirs : List Left)
-    → mounts' ≡ mounts → recursive' ≡ recursive → LetsWalk allows may_answer mounts' recursive' dirs → LetsWalk allows may_answer mounts recursive dirs
-same_lets allows may_answer mounts mounts' recursive recursive' dirs same flag lets =
-    subst (λ (m : MountTable). LetsWalk allows may_answer m recursive dirs) same
-    (subst (λ (r : Bool). LetsWalk allows may_answer mounts' r dirs) flag lets)
-
--- leave to list a path is leave to have it listed entry by entry
-pub begun_lets : (allows : Request → Type 0) (may_answer : Ask → Answer → Type 0) (mounts : MountTable) (recursive recursive' : Bool) (path : List ℕ)
-    (dirs : List Left) → recursive' ≡ recursive → dirs ≡ fresh path ∷ [] → LetsList allows may_answer mounts recursive path
-    → LetsWalk allows may_answer mounts recursive' dirs
-begun_lets allows may_answer mounts recursive recursive' path dirs flag is lets =
-    subst (λ (r : Bool). LetsWalk allows may_answer mounts r dirs) (sym flag)
-    (subst (λ (ds : List Left). LetsWalk allows may_answer mounts recursive ds) (sym is) (lets_fresh may_answer mounts allows (λ error dir. Unit {0}) recursive path lets, tt))
-
 -- want of memory ends any directory
-pub lacks : {C : Type 0} (serves : C → ℕ → Ask → Result Answer AskFault → C → Type 0) (result : Result FileStatus HdfsError)
-    → IfErr result (λ error. error ≡ errors.NoMemory) → IfErr result (λ error. (dir : Left) → IsDirFault serves error dir)
-lacks serves (Ok status) none = tt
-lacks serves (Err error) none = λ dir. inr (inr none)
+pub lacks : {C : Type 0} (serves : C → ℕ → Ask → Result Answer AskFault → C → Type 0) (client : Client) (cluster : C) (result : Result FileStatus HdfsError)
+    → IfErr result (λ error. error ≡ errors.NoMemory) → IfErr result (λ error. (dir : Left) → IsDirFault serves client cluster error dir)
+lacks serves client cluster (Ok status) none = tt
+lacks serves client cluster (Err error) none = λ dir. inr (inr none)
 
 -- why a directory's turn gave an error
 pub fault_of : {C : Type 0} (serves : C → ℕ → Ask → Result Answer AskFault → C → Type 0) (dir : Left) (client client' : Client) (old new : C)
@@ -384,12 +330,12 @@ pub fault_of : {C : Type 0} (serves : C → ℕ → Ask → Result Answer AskFau
     → (wants_page dir ≡ true → Gives serves false (λ at. asks.GetListing at dir.start false) answers.GetListing client dir.path old client' new
     (λ outcome. IfFails (Some found) (IsPageFault dir.path outcome)))
     → (wants_page dir ≡ false → (client' ≡ client) × (new ≡ old) × IfFails (Some found) (IsEntryFault dir.path dir.held))
-    → IfFails (Some found) (λ error. IsDirFault serves error dir)
+    → IfFails (Some found) (λ error. IsDirFault serves client' new error dir)
 fault_of serves dir client client' old new (Ok status) turn quiet = tt
 fault_of serves dir client client' old new (Err error) turn quiet = by (cases_Bool (wants_page dir))
   where
-    by : (wants_page dir ≡ true) ⊎ (wants_page dir ≡ false) → IsDirFault serves error dir
-    by (inl wants) = inl (record { client = client; old = old; client' = client'; new = new; gives = turn wants })
+    by : (wants_page dir ≡ true) ⊎ (wants_page dir ≡ false) → IsDirFault serves client' new error dir
+    by (inl wants) = inl (record { client = client; old = old; gives = turn wants })
     by (inr none) = inr (inl (quiet none).2)
 
 -- of a directory that is over nothing is given

@@ -1,36 +1,73 @@
 -- What stays of a service that is asked more than once.
-use Rattle.std.proofs.Common.{◌≡◌, ℕ, List, ◌∙◌}
+use Rattle.std.proofs.Common.{◌≡◌, ℕ, List, refl, sym, ◌∙◌, subst}
 use Rattle.hdfs_cluster.specs.declared.asks.Ask.TheVariants as asks
-use Rattle.hdfs_cluster.specs.Shown.{Later, Shown}
+use Rattle.hdfs_cluster.specs.Repeating.{Leaves}
+use Rattle.hdfs_cluster.specs.Shown.{Shown}
 use Rattle.hdfs_cluster.proofs.Frames.{later_trans}
 use Rattle.hdfs_model.specs.Opening.{appending, create_flag, creating}
 use Rattle.hdfs_model.specs.declared.commands.WriteOptions.{WriteOptions}
-use Rattle.hdfs_namenode.specs.Asked.{ReachesAll}
-use Rattle.hdfs_namenode.specs.Clients.{SameClient, proxy_of}
+use Rattle.hdfs_leases.specs.declared.file_leases.FileLeases.{FileLeases}
+use Rattle.hdfs_namenode.specs.Asked.{ReachesAll, SameService}
+use Rattle.hdfs_namenode.specs.Clients.{ChangesLeases, SameClient, proxy_of}
 use Rattle.hdfs_namenode.specs.declared.protocol.NamenodeProtocol.{NamenodeProtocol}
-use Rattle.hdfs_namenode.proofs.Services.{reaches_later, same_service_trans}
-use Rattle.hdfs_client.specs.Opening.{KeepsName}
+use Rattle.hdfs_namenode.specs.declared.proxy.NameServiceProxy.{NameServiceProxy}
+use Rattle.hdfs_namenode.proofs.Services.{reaches_later, same_service_refl, same_service_trans}
+use Rattle.hdfs_client.specs.Holding.{KeepsLeases}
+use Rattle.hdfs_client.specs.Opening.{KeepsName, KeepsService, LeavesLinks}
 
--- it keeps its name and its service, and no count falls
+-- it keeps its name, its service and its key, no count falls, and no link changes
 abbrev pub Goes : NamenodeProtocol → Shown → NamenodeProtocol → Shown → Type 0
-Goes before old after new = KeepsName before after × Later old new
+Goes before old after new = KeepsService before after × LeavesLinks old new
+
+pub links_from : {s t : Shown} → Leaves s t → LeavesLinks s t
+links_from leaves = record { later = leaves.later; writes = leaves.writes }
+
+pub links_trans : {s m t : Shown} → LeavesLinks s m → LeavesLinks m t → LeavesLinks s t
+links_trans {s} {m} {t} one two = record { later = later_trans s m t one.later two.later; writes = λ link. two.writes link ∙ one.writes link }
+
+pub service_from-client : {a b : NamenodeProtocol} → SameClient a b → KeepsService a b
+service_from-client same = record { service = same.service; name = same.name; key = same.key }
 
 pub name_from-client : {a b : NamenodeProtocol} → SameClient a b → KeepsName a b
-name_from-client same = record { service = same.service; name = same.name; leases = same.leases }
+name_from-client same = (service_from-client same, same.leases)
+
+-- other leases alone change nothing of that
+pub service_from-leases : {a b : NamenodeProtocol} → ChangesLeases a b → KeepsService a b
+service_from-leases {a} {b} changes = record {
+  service = subst (λ (proxy : NameServiceProxy). SameService (proxy_of a) proxy) (sym changes.proxy) (same_service_refl (proxy_of a));
+  name = changes.name;
+  key = changes.key;
+}
+
+pub service_trans : {a b c : NamenodeProtocol} → KeepsService a b → KeepsService b c → KeepsService a c
+service_trans {a} {b} {c} one two = record {
+  service = same_service_trans (proxy_of a) (proxy_of b) (proxy_of c) one.service two.service;
+  name = two.name ∙ one.name;
+  key = two.key ∙ one.key;
+}
 
 pub goes_trans : {a b c : NamenodeProtocol} {s m t : Shown} → Goes a s b m → Goes b m c t → Goes a s c t
-goes_trans {a} {b} {c} {s} {m} {t} one two = (
-  record {
-    service = same_service_trans (proxy_of a) (proxy_of b) (proxy_of c) one.0.service two.0.service;
-    name = two.0.name ∙ one.0.name;
-    leases = two.0.leases ∙ one.0.leases;
-  },
-  later_trans s m t one.1 two.1,
-)
+goes_trans one two = (service_trans one.0 two.0, links_trans one.1 two.1)
+
+-- what keeps its leases, too
+pub goes_of : {a b : NamenodeProtocol} {s t : Shown} → KeepsName a b × LeavesLinks s t → Goes a s b t
+goes_of both = (both.0.0, both.1)
+
+-- a call that leaves the client as it was
+pub goes_by : {a b : NamenodeProtocol} {s t : Shown} → SameClient a b → Leaves s t → Goes a s b t
+goes_by same leaves = (service_from-client same, links_from leaves)
+
+-- and then other leases
+pub goes_leases : {a b c : NamenodeProtocol} {s t : Shown} → Goes a s b t → ChangesLeases b c → Goes a s c t
+goes_leases goes changes = (service_trans goes.0 (service_from-leases changes), goes.1)
+
+-- leases that are the same are held as often
+pub keeps_same : {a b : FileLeases} → b ≡ a → KeepsLeases a b
+keeps_same {a} {b} same = subst (KeepsLeases a) (sym same) (record { held = λ namespace id. refl; last = refl })
 
 -- it reaches all namenodes still
 pub goes_reaches : {a b : NamenodeProtocol} {s t : Shown} → Goes a s b t → ReachesAll (proxy_of a) s → ReachesAll (proxy_of b) t
-goes_reaches {a} {b} {s} {t} goes reaches = reaches_later (proxy_of a) (proxy_of b) s t goes.0.service goes.1 reaches
+goes_reaches {a} {b} {s} {t} goes reaches = reaches_later (proxy_of a) (proxy_of b) s t goes.0.service goes.1.later reaches
 
 -- the ask for a new file, from its parts
 pub making : (options : WriteOptions) {at path name client : List ℕ} {flag replication replication' block_size block_size' : ℕ} → at ≡ path → name ≡ client

@@ -1,5 +1,5 @@
 -- The cluster's defaults, as a service knows them or has asked for them.
-use Rattle.std.proofs.Common.{◌≡◌, inl, inr, Option, Some, None, Err, refl, sym, ◌∙◌, ap, subst}
+use Rattle.std.proofs.Common.{◌≡◌, inl, inr, Option, Some, None, Result, Ok, Err, refl, sym, ◌∙◌, ap, subst}
 use Rattle.std.specs.Prelude.{IfSome}
 use Rattle.hdfs_cluster.specs.declared.asks.Answer.{Answer}
 use Rattle.hdfs_cluster.specs.declared.asks.Ask.{Ask}
@@ -11,6 +11,16 @@ use Rattle.hdfs_namenode.specs.Clients.{KeepsAnswered, defaults_of}
 use Rattle.hdfs_namenode.specs.Relaying.{CameCached}
 use Rattle.hdfs_namenode.specs.declared.protocol.NamenodeProtocol.{NamenodeProtocol}
 use Rattle.hdfs_client.specs.Opening.{IsKnown}
+
+abbrev given : ServerDefaults → Result ServerDefaults HdfsError
+given d = Ok d
+
+-- a call for them that knew some gave these, and asked nothing
+pub known_as : {C : Type 0} {old new : C} {before after : NamenodeProtocol} (was : Option ServerDefaults) (d : ServerDefaults)
+    → IfSome was (λ kept. (given d ≡ Ok kept) × (new ≡ old) × (after ≡ before))
+    → (kept : ServerDefaults) → was ≡ Some kept → (d ≡ kept) × (after ≡ before) × (new ≡ old)
+known_as None d had kept is = absurd (cc is)
+known_as (Some known) d had kept is = (cc (had.0, is), had.2, had.1)
 
 -- a call for them that failed knew none
 pub unknown : (known : Option ServerDefaults) (old new : Shown) (error : HdfsError) → CameCached known old (Err error) new → known ≡ None

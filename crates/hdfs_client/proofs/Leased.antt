@@ -68,7 +68,7 @@ module _ {C : Type 0} (shown : C → Shown) (serves : C → ℕ → Ask → Resu
           by_last (Some last) is = by_time last is (nat_lt 30 ((moment - last) / 1000)) refl
 
 -- a client of a cluster with as many namenodes
-by_namenodes : (client : Client) (s t : Shown) → t.namenodes ≡ s.namenodes → IsClientOf client s → IsClientOf client t
+pub by_namenodes : (client : Client) (s t : Shown) → t.namenodes ≡ s.namenodes → IsClientOf client s → IsClientOf client t
 by_namenodes client s t same of = record {
   many = same ∙ of.many;
   each = λ k namenode is.

@@ -1,15 +1,13 @@
 -- What is listed so far, and what is to come.
-use Rattle.std.proofs.Common.{◌≡◌, ℕ, Bool, List, [], ◌∷◌, ◌++◌, length, refl, sym, ◌∙◌, ap, subst, arith, append_assoc, length-append, Option, Some, None, Result, Ok, IfErr, IsErrAnd}
+use Rattle.std.proofs.Common.{◌≡◌, ℕ, Bool, List, [], ◌∷◌, ◌++◌, length, refl, sym, ◌∙◌, ap, subst, arith, append_assoc, length-append, Option, Some, None, Result, Ok}
 use Rattle.std.proofs.lemmas.List.{append-nil}
 use Rattle.hdfs_cluster.specs.declared.asks.Ask.{Ask}
 use Rattle.hdfs_cluster.specs.declared.asks.Answer.{Answer}
 use Rattle.hdfs_cluster.specs.declared.errors.HdfsError.{HdfsError}
 use Rattle.hdfs_names.specs.declared.mounts.MountTable.{MountTable}
 use Rattle.hdfs_client.specs.Iterating.{AreFound, HasRest, HasSomeRest, IsToCome, Left, MayCome, Walks, fresh}
-use Rattle.hdfs_client.specs.Listing.{Finds, HasAll, HasSome, IsListFault, IsMoreThan, Lists}
-use Rattle.hdfs_client.specs.declared.errors.ClientError.{ClientError}
+use Rattle.hdfs_client.specs.Listing.{Finds, HasAll, HasSome, IsMoreThan, Lists}
 use Rattle.hdfs_client.specs.declared.status.FileStatus.{FileStatus}
-use Rattle.hdfs_client.proofs.Fetching.{because, passed_on}
 use Rattle.hdfs_client.proofs.Found.{nothing_comes, nothing_may_come}
 use Rattle.hdfs_client.proofs.Rests.{all_fresh, some_fresh}
 
@@ -29,7 +27,7 @@ begins Rest Has recursive path begin = record {
   };
 }
 
-module _ (may_answer : Ask → Answer → Type 0) (mounts : MountTable) (Why : HdfsError → Left → Type 0) (recursive : Bool) (path : List ℕ) where
+module _ (may_answer : Ask → Answer → Type 0) (mounts : MountTable) (recursive : Bool) (path : List ℕ) where
   abbrev pub GoesAll : List FileStatus → List Left → Type 0
   GoesAll = Goes (IsToCome may_answer mounts recursive) (HasAll may_answer mounts) recursive path
 
@@ -48,50 +46,42 @@ module _ (may_answer : Ask → Answer → Type 0) (mounts : MountTable) (Why : H
       (subst (λ (ds : List Left). GoesSome [] ds) (sym is)
       (begins (HasSomeRest may_answer mounts) (HasSome may_answer mounts) recursive path (some_fresh may_answer mounts path)))
 
-  -- the walk as it was taken, by the mounts and the flag of the call
-  pub same_walk : (mounts' : MountTable) (recursive' : Bool) (old new : List Left) (result : Option (Result FileStatus HdfsError)) → mounts' ≡ mounts
-      → recursive' ≡ recursive → Walks may_answer mounts' Why recursive' old result new → Walks may_answer mounts Why recursive old result new
-  same_walk mounts' recursive' old new result same flag walks =
-      subst (λ (m : MountTable). Walks may_answer m Why recursive old result new) same
-      (subst (λ (r : Bool). Walks may_answer mounts' Why r old result new) flag walks)
+  module _ (Why : HdfsError → Left → Type 0) where
+    -- the walk as it was taken, by the mounts and the flag of the call
+    pub same_walk : (mounts' : MountTable) (recursive' : Bool) (old new : List Left) (result : Option (Result FileStatus HdfsError)) → mounts' ≡ mounts
+        → recursive' ≡ recursive → Walks may_answer mounts' Why recursive' old result new → Walks may_answer mounts Why recursive old result new
+    same_walk mounts' recursive' old new result same flag walks =
+        subst (λ (m : MountTable). Walks may_answer m Why recursive old result new) same
+        (subst (λ (r : Bool). Walks may_answer mounts' Why r old result new) flag walks)
 
-  module _ (given given' : List FileStatus) (old new : List Left) (status : FileStatus) (put : given' ≡ given ++ status ∷ [])
-      (walks : Walks may_answer mounts Why recursive old (Some (Ok status)) new) where
-    pub goes_all : GoesAll given old → GoesAll given' new
-    goes_all goes = record {
-      lists = λ later comes. subst (λ (xs : List FileStatus). Lists (HasAll may_answer mounts) recursive path xs)
-          (sym (ap (λ (xs : List FileStatus). xs ++ later) put ∙ append_assoc given (status ∷ []) later))
-          (goes.lists (status ∷ later) (walks.all refl later comes));
-    }
+    module _ (given given' : List FileStatus) (old new : List Left) (status : FileStatus) (put : given' ≡ given ++ status ∷ [])
+        (walks : Walks may_answer mounts Why recursive old (Some (Ok status)) new) where
+      pub goes_all : GoesAll given old → GoesAll given' new
+      goes_all goes = record {
+        lists = λ later comes. subst (λ (xs : List FileStatus). Lists (HasAll may_answer mounts) recursive path xs)
+            (sym (ap (λ (xs : List FileStatus). xs ++ later) put ∙ append_assoc given (status ∷ []) later))
+            (goes.lists (status ∷ later) (walks.all refl later comes));
+      }
 
-    pub goes_some : GoesSome given old → GoesSome given' new
-    goes_some goes = record {
-      lists = λ later comes. subst (λ (xs : List FileStatus). Lists (HasSome may_answer mounts) recursive path xs)
-          (sym (ap (λ (xs : List FileStatus). xs ++ later) put ∙ append_assoc given (status ∷ []) later))
-          (goes.lists (status ∷ later) (walks.some later comes));
-    }
+      pub goes_some : GoesSome given old → GoesSome given' new
+      goes_some goes = record {
+        lists = λ later comes. subst (λ (xs : List FileStatus). Lists (HasSome may_answer mounts) recursive path xs)
+            (sym (ap (λ (xs : List FileStatus). xs ++ later) put ∙ append_assoc given (status ∷ []) later))
+            (goes.lists (status ∷ later) (walks.some later comes));
+      }
 
-  -- nothing is to come any more
-  pub all_listed : (given : List FileStatus) (old new : List Left) → GoesAll given old → Walks may_answer mounts Why recursive old None new
-      → Lists (HasAll may_answer mounts) recursive path given
-  all_listed given old new goes walks =
-      subst (λ (xs : List FileStatus). Lists (HasAll may_answer mounts) recursive path xs) (append-nil given)
-      (goes.lists [] (walks.all refl [] (nothing_comes may_answer mounts recursive new (walks.none refl))))
+    -- nothing is to come any more
+    pub all_listed : (given : List FileStatus) (old new : List Left) → GoesAll given old → Walks may_answer mounts Why recursive old None new
+        → Lists (HasAll may_answer mounts) recursive path given
+    all_listed given old new goes walks =
+        subst (λ (xs : List FileStatus). Lists (HasAll may_answer mounts) recursive path xs) (append-nil given)
+        (goes.lists [] (walks.all refl [] (nothing_comes may_answer mounts recursive new (walks.none refl))))
 
-  -- an entry more than the limit was answered
-  pub is_more : (limit : ℕ) (given : List FileStatus) (old new : List Left) (status : FileStatus) → GoesSome given old
-      → Walks may_answer mounts Why recursive old (Some (Ok status)) new → length given ≡ limit → IsMoreThan may_answer mounts recursive path limit
-  is_more limit given old new status goes walks full = (
-    given ++ status ∷ [],
-    goes.lists (status ∷ []) (walks.some [] (nothing_may_come may_answer mounts recursive new)),
-    omega (arith, length-append given (status ∷ [])),
-  )
-
-  pub over_limit : {T : Type 0} (limit : ℕ) (given : List FileStatus) (old new : List Left) (status : FileStatus) → GoesSome given old
-      → Walks may_answer mounts Why recursive old (Some (Ok status)) new → (error : ClientError) → IsListFault limit (length given ≡ limit) error
-      → (result : Result T ClientError) → IsErrAnd result (λ e. e ≡ error)
-      → IfErr result (IsListFault limit (IsMoreThan may_answer mounts recursive path limit))
-  over_limit limit given old new status goes walks error fault result is =
-      passed_on (IsListFault limit (IsMoreThan may_answer mounts recursive path limit)) error result is
-      (because limit (length given ≡ limit) (IsMoreThan may_answer mounts recursive path limit) error
-      (λ full. is_more limit given old new status goes walks full) fault)
+    -- an entry more than the limit was answered
+    pub is_more : (limit : ℕ) (given : List FileStatus) (old new : List Left) (status : FileStatus) → GoesSome given old
+        → Walks may_answer mounts Why recursive old (Some (Ok status)) new → length given ≡ limit → IsMoreThan may_answer mounts recursive path limit
+    is_more limit given old new status goes walks full = (
+      given ++ status ∷ [],
+      goes.lists (status ∷ []) (walks.some [] (nothing_may_come may_answer mounts recursive new)),
+      omega (arith, length-append given (status ∷ [])),
+    )

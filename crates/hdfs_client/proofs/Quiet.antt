@@ -11,11 +11,12 @@ use Rattle.hdfs_cluster.specs.Failures.{CallsRose}
 use Rattle.hdfs_cluster.specs.Namenode.{Row}
 use Rattle.hdfs_cluster.specs.Picture.{Picture, SameButActive, Told}
 use Rattle.hdfs_cluster.specs.Repeating.{DoneOrNot}
-use Rattle.hdfs_cluster.specs.Shown.{Later, Shown}
+use Rattle.hdfs_cluster.specs.Shown.{Shown}
 use Rattle.hdfs_cluster.proofs.Frames.{later_refl, same_files_refl, told_refl}
 use Rattle.hdfs_cluster.proofs.Repeating.{defaults_repeats}
 use Rattle.hdfs_namenode.specs.Relaying.{Came, CameCached}
 use Rattle.hdfs_namenode.proofs.Relayed.{relayed_done}
+use Rattle.hdfs_client.specs.Opening.{LeavesLinks}
 
 -- an ask for the defaults by its row leaves the picture, but for which namenode is active
 row_leaves : (p q : Picture) (answer : Answer) → Row p asks.GetServerDefaults answer q → SameButActive p q
@@ -41,13 +42,13 @@ told_each P Q (Some a) (Some b) h each =
 
 -- what asking for the defaults leaves
 pub record Quiet (s t : Shown) : Type 0 where
-  pub later : Later s t
+  pub links : LeavesLinks s t
   pub picture : Told SameButActive s.picture t.picture
 
 module _ {s t : Shown} where
   quiet_asked : {result : Result Answer HdfsError} → Came s asks.GetServerDefaults result t → Quiet s t
   quiet_asked {result} came = record {
-    later = came.relays.leaves.later;
+    links = record { later = came.relays.leaves.later; writes = came.relays.leaves.writes };
     picture = told_each KeepsBytes SameButActive s.picture t.picture came.relays.leaves.bytes
         (λ p told. (let to = came.told p told (defaults_repeats p) in
         (to.0, to.1, done_leaves p to.0 (relayed_done (CallsRose s.counts t) p asks.GetServerDefaults result to.0 came.relays.shaped to.2))));
@@ -60,4 +61,4 @@ module _ {s t : Shown} where
         by_known : (o : Option ServerDefaults) → known ≡ o → Quiet s t
         by_known None is = quiet_asked (came.asked is)
         by_known (Some kept) is = subst (Quiet s) (sym (came.known kept is).1)
-            (record { later = later_refl s; picture = told_refl SameButActive s.picture active_refl })
+            (record { links = record { later = later_refl s; writes = λ link. refl }; picture = told_refl SameButActive s.picture active_refl })

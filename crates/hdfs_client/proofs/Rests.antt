@@ -1,5 +1,5 @@
 -- What is left of a directory, turn by turn.
-use Rattle.std.proofs.Common.{◌≡◌, ℕ, Bool, true, false, not, ◌&&◌, List, [], ◌∷◌, ◌++◌, refl, sym, ◌∙◌, ap, subst, Option, Some, None, Result, Ok, Err, nat_lt, length}
+use Rattle.std.proofs.Common.{◌≡◌, ℕ, Bool, true, false, not, ◌&&◌, List, [], ◌∷◌, ◌++◌, append_assoc, refl, sym, ◌∙◌, ap, subst, Option, Some, None, Result, Ok, Err, nat_lt, length}
 use Rattle.std.proofs.lemmas.Bool.{false≢true}
 use Rattle.hdfs_cluster.specs.declared.asks.Ask.{Ask}
 use Rattle.hdfs_cluster.specs.declared.asks.Answer.{Answer}
@@ -9,7 +9,7 @@ use Rattle.hdfs_cluster.specs.declared.messages.FileStatusMsg.{FileStatusMsg}
 use Rattle.hdfs_cluster.proofs.Loads.{and_parts}
 use Rattle.hdfs_names.specs.declared.mounts.MountTable.{MountTable}
 use Rattle.hdfs_client.specs.Iterating.{HasRest, HasSomeRest, Left, Turns, are_none, are_rest, fresh, is_over}
-use Rattle.hdfs_client.specs.Listing.{AreEntries, HasAll, HasSome, IsAnswered, are_all, has_more, messages_of}
+use Rattle.hdfs_client.specs.Listing.{AreEntries, AreOnPages, HasAll, HasSome, IsAnswered, are_all, has_more, messages_of}
 use Rattle.hdfs_client.specs.Statuses.{IsStatus}
 use Rattle.hdfs_client.specs.Turning.{IsGiven, Opens, ended, holding, opened_at}
 use Rattle.hdfs_client.specs.declared.status.FileStatus.{FileStatus}
@@ -183,6 +183,25 @@ module _ (may_answer : Ask → Answer → Type 0) (mounts : MountTable) where
       by false same = ap (λ (l : Left). l.path) same
       by true opened = ap (λ (l : Left). l.path) opened.is
 
+  -- the entries that are held stand on answered pages
+  on_page : (path start : List ℕ) (page : DirList) (before rest : List FileStatusMsg) → IsAnswered may_answer mounts path start page
+      → page.partial_listing ≡ before ++ rest → AreOnPages may_answer mounts path rest
+  on_page path start page before [] was is = tt
+  on_page path start page before (message ∷ rest) was is = (
+    record { start = start; page = page; was = was; before = before; behind = rest; is = is },
+    on_page path start page (before ++ message ∷ []) rest was (is ∙ sym (append_assoc before (message ∷ []) rest)),
+  )
+
+  opened_told : (old mid : Left) → Opens may_answer mounts (old.more && are_none old.held) old mid → AreOnPages may_answer mounts old.path old.held
+      → AreOnPages may_answer mounts old.path mid.held
+  opened_told old mid opens told = by (old.more && are_none old.held) opens
+    where
+      by : (wants : Bool) → Opens may_answer mounts wants old mid → AreOnPages may_answer mounts old.path mid.held
+      by false same = subst (λ (l : Left). AreOnPages may_answer mounts old.path l.held) (sym same) told
+      by true opened =
+          subst (λ (l : Left). AreOnPages may_answer mounts old.path l.held) (sym opened.is)
+          (on_page old.path old.start opened.page [] opened.page.partial_listing opened.answered refl)
+
   -- behind an error nothing is left
   pub fails : (old mid new : Left) (error : HdfsError) → mid.path ≡ old.path → new ≡ ended mid → Turns may_answer mounts old (Some (Err error)) new
   fails old mid new error path is = record {
@@ -190,6 +209,7 @@ module _ (may_answer : Ask → Answer → Type 0) (mounts : MountTable) where
     all = λ sound. absurd (false≢true sound);
     some = λ found has. subst (λ (xs : List FileStatus). HasSomeRest may_answer mounts old xs)
         (sym (over_nothing (ended mid) found refl (subst (λ (l : Left). HasSomeRest may_answer mounts l found) is has))) (none_some old);
+    told = λ all. subst (λ (l : Left). AreOnPages may_answer mounts old.path l.held) (sym is) tt;
     ends = λ none. ap (λ (l : Left). is_over l) is;
   }
 
@@ -199,6 +219,7 @@ module _ (may_answer : Ask → Answer → Type 0) (mounts : MountTable) where
     path = ap (λ (l : Left). l.path) is ∙ opened_path old mid opens;
     all = λ sound own has. turned_all old mid own opens (subst (λ (l : Left). HasRest may_answer mounts l own) is has);
     some = λ own has. turned_some old mid own opens (subst (λ (l : Left). HasSomeRest may_answer mounts l own) is has);
+    told = λ all. subst (λ (l : Left). AreOnPages may_answer mounts old.path l.held) (sym is) (opened_told old mid opens all);
     ends = λ nothing. ap (λ (l : Left). is_over l) is ∙ emptied old mid opens none;
   }
   turns old mid new (Some (Ok status)) opens (message, rest, first, told, is) = record {
@@ -207,6 +228,8 @@ module _ (may_answer : Ask → Answer → Type 0) (mounts : MountTable) where
         (given_all mid message rest status own first told (subst (λ (l : Left). HasRest may_answer mounts l own) is has));
     some = λ own has. turned_some old mid (status ∷ own) opens
         (given_some mid message rest status own first told (subst (λ (l : Left). HasSomeRest may_answer mounts l own) is has));
+    told = λ all. subst (λ (l : Left). AreOnPages may_answer mounts old.path l.held) (sym is)
+        (subst (λ (ms : List FileStatusMsg). AreOnPages may_answer mounts old.path ms) first (opened_told old mid opens all)).1;
     ends = λ nothing. cc;
   }
   turns old mid new (Some (Err error)) opens (fault, is) = fails old mid new error (opened_path old mid opens) is

@@ -6,12 +6,15 @@ use Rattle.hdfs_cluster.specs.Shown.{Later, Shown}
 use Rattle.hdfs_file_writer.specs.declared.file_writer.FileWriter as inner
 use Rattle.hdfs_names.specs.declared.mounts.Resolved.{Resolved}
 use Rattle.hdfs_namenode.specs.Asked.{IsServiceOf, SameService}
-use Rattle.hdfs_namenode.specs.Clients.{proxy_of}
+use Rattle.hdfs_namenode.specs.Clients.{leases_of, proxy_of}
 use Rattle.hdfs_namenode.specs.declared.protocol.NamenodeProtocol.{NamenodeProtocol}
 use Rattle.hdfs_namenode.proofs.Services.{same_service_refl, service_later}
 use Rattle.hdfs_client.specs.Clients.{IsClientOf, SameBut, addresses_of, leads_to, mounts_of, replacement_of, service_at, services_of}
-use Rattle.hdfs_client.specs.Writing.{FailsAt, OpensAt, open_of, service_of}
+use Rattle.hdfs_client.specs.Holding.{KeepsLeases}
+use Rattle.hdfs_client.specs.Opening.{KeepsService}
+use Rattle.hdfs_client.specs.Writing.{FailsAt, OpensAt, lease_of, open_of, service_of}
 use Rattle.hdfs_client.specs.declared.client.Client.{Client}
+use Rattle.hdfs_client.specs.declared.file_lease.FileLease.{FileLease}
 use Rattle.hdfs_client.specs.declared.writing.FileWriter.{FileWriter}
 use Rattle.hdfs_client.proofs.Asking.{found_at, put_elsewhere, put_there, same_some}
 
@@ -48,6 +51,12 @@ below_some [] k namenode is = absurd (cc is)
 below_some (first ∷ services) zero namenode is = omega arith
 below_some (first ∷ services) (suc k) namenode is = let h = below_some services k namenode is in omega (arith, h)
 
+-- what an index gives is the service that is known to be there
+pub service_used : (client : Client) (k : ℕ) (namenode before : NamenodeProtocol) → service_at client k ≡ Some namenode
+    → before ≡ get_or (services_of client) k before → before ≡ namenode
+service_used client k namenode before at is =
+    same_some namenode before (service_at client k) at (found_at (services_of client) k before (below_some (services_of client) k namenode at) is)
+
 -- the same of one that is known to be there
 pub used_at : (client client' : Client) (k : ℕ) (namenode before after : NamenodeProtocol) → service_at client k ≡ Some namenode
     → before ≡ get_or (services_of client) k before → services_of client' ≡ set (services_of client) k after
@@ -83,10 +92,11 @@ client_goes {client} {client'} {k} {before} {after} {old} {new} of at same later
         (of.each i namenode (sym (at.others.others i other) ∙ is))
 
 -- a file was opened so
-pub opens_at : (Opens : List ℕ → NamenodeProtocol → inner.FileWriter → NamenodeProtocol → Type 0) {client client' : Client} {src : List ℕ} {to : Resolved}
-    {before after : NamenodeProtocol} {file : inner.FileWriter} (writer : FileWriter) → leads_to client src ≡ Some to → Used client to.service before after client'
-    → open_of writer ≡ Some file → service_of writer ≡ to.service → Opens to.path before file after → OpensAt Opens client src writer client'
-opens_at Opens {client} {client'} {src} {to} {before} {after} {file} writer leads at opened service opens = record {
+pub opens_at : (Opens : List ℕ → NamenodeProtocol → inner.FileWriter → FileLease → NamenodeProtocol → Type 0) {client client' : Client} {src : List ℕ}
+    {to : Resolved} {before after : NamenodeProtocol} {file : inner.FileWriter} {lease : FileLease} (writer : FileWriter) → leads_to client src ≡ Some to
+    → Used client to.service before after client' → open_of writer ≡ Some file → lease_of writer ≡ Some lease → service_of writer ≡ to.service
+    → Opens to.path before file lease after → OpensAt Opens client src writer client'
+opens_at Opens {client} {client'} {src} {to} {before} {after} {file} {lease} writer leads at opened holds service opens = record {
   to = to;
   leads = leads;
   before = before;
@@ -95,6 +105,8 @@ opens_at Opens {client} {client'} {src} {to} {before} {after} {file} writer lead
   is = at.is;
   file = file;
   opened = opened;
+  lease = lease;
+  holds = holds;
   service = service;
   opens = opens;
   others = at.others;
@@ -103,8 +115,8 @@ opens_at Opens {client} {client'} {src} {to} {before} {after} {file} writer lead
 -- none was opened so
 pub fails_at : (Fails : List ℕ → NamenodeProtocol → NamenodeProtocol → Type 0) {client client' : Client} {src : List ℕ} {to : Resolved}
     {before after : NamenodeProtocol} → leads_to client src ≡ Some to → Used client to.service before after client' → Fails to.path before after
-    → FailsAt Fails client src client'
-fails_at Fails {client} {client'} {src} {to} {before} {after} leads at fails = record {
+    → KeepsService before after → KeepsLeases (leases_of before) (leases_of after) → FailsAt Fails client src client'
+fails_at Fails {client} {client'} {src} {to} {before} {after} leads at fails same leases = record {
   to = to;
   leads = leads;
   before = before;
@@ -112,5 +124,7 @@ fails_at Fails {client} {client'} {src} {to} {before} {after} leads at fails = r
   after = after;
   is = at.is;
   fails = fails;
+  same = same;
+  leases = leases;
   others = at.others;
 }

@@ -1,14 +1,14 @@
--- Whatever comes of a write or a close, no count falls and no namenode is lost.
-use Rattle.std.proofs.Common.{◌≡◌, ◌≢◌, ◌⊎◌, inl, inr, ⊎_elim, ℕ, ◌+◌, ◌<◌, ◌≤◌, ◌^◌, Bool, true, false, List, [], ◌∷◌, Result, Ok, Err, refl, sym, subst, arith}
-use Rattle.std.specs.Prelude.{IfErr, OnOk}
+-- Whatever comes of a write or a close, no count falls, no namenode is lost, and no link changes but its own.
+use Rattle.std.proofs.Common.{◌≡◌, ◌≢◌, ◌⊎◌, inl, inr, ⊎_elim, ℕ, ◌+◌, ◌<◌, ◌≤◌, ◌^◌, Bool, true, false, List, [], ◌∷◌, Option, Some, None, Result, Ok, Err, refl, sym, ◌∙◌, subst, arith}
+use Rattle.std.specs.Prelude.{IfErr, OnErr, OnOk}
 use Rattle.std.proofs.lemmas.Bool.{cases_lt}
 use Rattle.hdfs_cluster.specs.declared.errors.HdfsError.{HdfsError}
 use Rattle.hdfs_cluster.specs.declared.errors.HdfsError.TheVariants as errors
-use Rattle.hdfs_cluster.specs.Shown.{Later, Shown}
-use Rattle.hdfs_cluster.proofs.Frames.{later_refl}
-use Rattle.hdfs_file_writer.specs.Writers.{AreLimited, Closed, Fails, FailsToClose, IsIdle, Wrote, has_failed, sizes_of}
+use Rattle.hdfs_cluster.specs.Shown.{Shown}
+use Rattle.hdfs_file_writer.specs.Writers.{AreLimited, Closed, Fails, FailsToClose, IsIdle, OnlyOwnLink, Stands, Wrote, has_failed, link_of, sizes_of}
 use Rattle.hdfs_file_writer.specs.declared.file_writer.FileWriter.{FileWriter}
 use Rattle.hdfs_file_writer.specs.declared.sizes.WriteSizes.{WriteSizes}
+use Rattle.hdfs_file_writer.proofs.Moving.{own_link_refl}
 
 limited_or : (sizes : WriteSizes) → AreLimited sizes ⊎ (AreLimited sizes → ⊥)
 limited_or sizes = ⊎_elim
@@ -26,37 +26,42 @@ limited_or sizes = ⊎_elim
     (cases_lt 0 sizes.block_size)
 
 module _ {C : Type 0} (shown : C → Shown) (old new : C) (writer : FileWriter) where
-  later_same : new ≡ old → Later (shown old) (shown new)
-  later_same same = subst (λ (x : C). Later (shown old) (shown x)) (sym same) (later_refl (shown old))
+  own_same : (link : Option ℕ) → new ≡ old → OnlyOwnLink (shown old) link (shown new) link
+  own_same link same = subst (λ (x : C). OnlyOwnLink (shown old) link (shown x) link) (sym same) (own_link_refl (shown old) link)
 
-  fails_later : (bytes : List ℕ) (error : HdfsError) (writer' : FileWriter) → IsIdle writer bytes old (Err error) writer' new
-      → (has_failed writer ≡ false → AreLimited (sizes_of writer) → Fails (shown old) writer error (shown new)) → Later (shown old) (shown new)
-  fails_later bytes error writer' idle fails = by_failed (has_failed writer) refl
+  fails_own : (bytes : List ℕ) (error : HdfsError) (writer' : FileWriter) → IsIdle writer bytes old (Err error) writer' new → link_of writer' ≡ None
+      → (has_failed writer ≡ false → AreLimited (sizes_of writer) → Fails (shown old) writer error (shown new))
+      → OnlyOwnLink (shown old) (link_of writer) (shown new) (link_of writer')
+  fails_own bytes error writer' idle ended fails = by_failed (has_failed writer) refl
     where
-      by_bytes : (given : List ℕ) → bytes ≡ given → has_failed writer ≡ false → Later (shown old) (shown new)
-      by_bytes [] is fine = later_same (idle.none is)
+      by_bytes : (given : List ℕ) → bytes ≡ given → has_failed writer ≡ false → OnlyOwnLink (shown old) (link_of writer) (shown new) (link_of writer')
+      by_bytes [] is fine = absurd (cc (idle.empty fine is))
       by_bytes (b ∷ rest) is fine = ⊎_elim
-          (λ limited. (fails fine limited).own.later)
-          (λ out. later_same (idle.options fine (λ none. absurd (cc (is, none))) out).2)
+          (λ limited. subst (λ (o : Option ℕ). OnlyOwnLink (shown old) (link_of writer) (shown new) o) (sym ended) (fails fine limited).own)
+          (λ out. (let at = idle.options fine (λ none. absurd (cc (is, none))) out in
+          subst (λ (o : Option ℕ). OnlyOwnLink (shown old) (link_of writer) (shown new) o) (at.1 ∙ sym ended) (own_same (link_of writer) at.2)))
           (limited_or (sizes_of writer))
 
-      by_failed : (b : Bool) → has_failed writer ≡ b → Later (shown old) (shown new)
-      by_failed true is = later_same (idle.failed is).2
+      by_failed : (b : Bool) → has_failed writer ≡ b → OnlyOwnLink (shown old) (link_of writer) (shown new) (link_of writer')
+      by_failed true is =
+          let at = idle.failed is in
+          subst (λ (w : FileWriter). OnlyOwnLink (shown old) (link_of writer) (shown new) (link_of w)) (sym at.1) (own_same (link_of writer) at.2)
       by_failed false is = by_bytes bytes refl is
 
-  pub write_later : (bytes : List ℕ) (result : Result ℕ HdfsError) (writer' : FileWriter) → IsIdle writer bytes old result writer' new
-      → OnOk result (Wrote (shown old) writer bytes (shown new) writer')
+  pub write_own : (bytes : List ℕ) (result : Result ℕ HdfsError) (writer' : FileWriter) → IsIdle writer bytes old result writer' new
+      → OnErr result (has_failed writer' ≡ true) → Stands (shown new) writer' → OnOk result (Wrote (shown old) writer bytes (shown new) writer')
       → IfErr result (λ error. has_failed writer ≡ false → AreLimited (sizes_of writer) → Fails (shown old) writer error (shown new))
-      → Later (shown old) (shown new)
-  write_later bytes (Ok n) writer' idle wrote fails = wrote.own.later
-  write_later bytes (Err error) writer' idle wrote fails = fails_later bytes error writer' idle fails
+      → OnlyOwnLink (shown old) (link_of writer) (shown new) (link_of writer')
+  write_own bytes (Ok n) writer' idle failed stands wrote fails = wrote.own
+  write_own bytes (Err error) writer' idle failed stands wrote fails = fails_own bytes error writer' idle (stands.idle failed) fails
 
-  pub close_later : (result : Result (Unit {0}) HdfsError) → (has_failed writer ≡ true → (result ≡ Err errors.Failed) × (new ≡ old))
+  pub close_own : (result : Result (Unit {0}) HdfsError) → Stands (shown old) writer → (has_failed writer ≡ true → (result ≡ Err errors.Failed) × (new ≡ old))
       → OnOk result (Closed (shown old) writer (shown new)) → IfErr result (λ error. has_failed writer ≡ false → FailsToClose (shown old) writer error (shown new))
-      → Later (shown old) (shown new)
-  close_later (Ok done) failed closed fails = closed.own.later
-  close_later (Err error) failed closed fails = by_failed (has_failed writer) refl
+      → OnlyOwnLink (shown old) (link_of writer) (shown new) None
+  close_own (Ok done) stands failed closed fails = closed.own
+  close_own (Err error) stands failed closed fails = by_failed (has_failed writer) refl
     where
-      by_failed : (b : Bool) → has_failed writer ≡ b → Later (shown old) (shown new)
-      by_failed true is = later_same (failed is).1
-      by_failed false is = (fails is).own.later
+      by_failed : (b : Bool) → has_failed writer ≡ b → OnlyOwnLink (shown old) (link_of writer) (shown new) None
+      by_failed true is =
+          subst (λ (o : Option ℕ). OnlyOwnLink (shown old) o (shown new) None) (sym (stands.idle is)) (own_same None (failed is).1)
+      by_failed false is = (fails is).own

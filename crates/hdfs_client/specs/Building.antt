@@ -6,6 +6,7 @@ use Rattle.std.specs.Map.{keys_of, lookup}
 use Rattle.std.specs.Ordering.{nat_cmp}
 use Rattle.rand_core.specs.Stream.{Stream, fill_bytes}
 use Rattle.hdfs_cluster.specs.Shown.{Shown}
+use Rattle.hdfs_leases.specs.Leases.{IsIdle, last_of}
 use Rattle.hdfs_names.specs.Configurations.{pair_text, setting}
 use Rattle.hdfs_names.specs.Mounts.{IsWithoutEnd, home_prefix, home_root, is_absolute_or_empty}
 use Rattle.hdfs_names.specs.Replacements.{replacement}
@@ -16,9 +17,9 @@ use Rattle.hdfs_names.specs.declared.mounts.MountTable.{MountTable}
 use Rattle.hdfs_names.specs.declared.mounts.NamenodeAddress.{NamenodeAddress}
 use Rattle.hdfs_names.specs.declared.settings.Configuration.{Configuration}
 use Rattle.hdfs_namenode.specs.Asked.{IsNew}
-use Rattle.hdfs_namenode.specs.Clients.{client_name, name_of, proxy_of}
+use Rattle.hdfs_namenode.specs.Clients.{client_name, defaults_of, key_of, leases_of, name_of, proxy_of}
 use Rattle.hdfs_namenode.specs.declared.protocol.NamenodeProtocol.{NamenodeProtocol}
-use Rattle.hdfs_client.specs.Clients.{IsClientOf, addresses_of, mounts_of, replacement_of, services_of}
+use Rattle.hdfs_client.specs.Clients.{IsClientOf, KeepsNone, addresses_of, mounts_of, replacement_of, services_of}
 use Rattle.hdfs_client.specs.Places.{and_then, place_at}
 use Rattle.hdfs_client.specs.Mounting.{Mounted, mounts_at}
 use Rattle.hdfs_client.specs.declared.build_error.BuildError.{BuildError}
@@ -92,10 +93,15 @@ pub record IsHome (root user home : List ℕ) : Type 0 where
   pub cut : IsWithoutEnd root dir
   pub is : home ≡ dir ++ 47 ∷ user
 
--- a service of the planned namenodes, of which the first has this number, that is asked in the name of these bytes
+-- A service of the planned namenodes, of which the first has this number, that is asked in the name of these bytes. It holds no lease, and
+-- nothing was asked of it yet: no lease was renewed, and neither defaults nor a key are known.
 pub record IsServiceBy (first : ℕ) (plan : ServicePlan) (id : List ℕ) (namenode : NamenodeProtocol) : Type 0 where
   pub new : IsNew first (length plan.namenodes) plan.aligned plan.find_observer (proxy_of namenode)
   pub name : name_of namenode ≡ client_name id
+  pub idle : IsIdle (leases_of namenode)
+  pub unrenewed : last_of (leases_of namenode) ≡ None
+  pub unknown : defaults_of namenode ≡ None
+  pub keyless : key_of namenode ≡ None
 
 -- the services are as planned: the first one's namenodes begin at this number, and each other one's where those of the one before end
 abbrev pub AreServices : ℕ → List ℕ → List ServicePlan → List NamenodeProtocol → Type 0
@@ -109,13 +115,15 @@ abbrev pub all_namenodes : List ServicePlan → List NamenodeAddress
 all_namenodes [] = []
 all_namenodes (plan ∷ plans) = plan.namenodes ++ all_namenodes plans
 
--- A client of these mounts, with services as planned. Each of them is called by the next sixteen bytes of the generator.
+-- A client of these mounts, with services as planned. Each of them is called by the next sixteen bytes of the generator. No connection is
+-- kept yet.
 pub record IsMade (setting : List ℕ → Option (List ℕ)) (mounts : MountTable) (plans : List ServicePlan) (stream stream' : Stream)
     (client : Client) : Type 0 where
   pub its_mounts : mounts_of client ≡ mounts
   pub services : AreServices 0 (fill_bytes 16 stream).0 plans (services_of client)
   pub addresses : addresses_of client ≡ all_namenodes plans
   pub replaces : shown (replacement_of client) ≡ replacement setting
+  pub unconnected : KeepsNone client
   pub left : stream' ≡ (fill_bytes 16 stream).1
 
 -- it may ask any cluster that has as many namenodes as it has addresses
@@ -138,12 +146,18 @@ abbrev pub Comes : Given → Result (Plan × Stream) BuildError → Result Clien
 Comes given plan (Ok client) stream = IsBuiltBy given plan client stream
 Comes given plan (Err error) stream = (plan ≡ Err error) ⊎ (error ≡ NoMemory)
 
+-- where the URL is refused nothing is drawn from the generator
+abbrev pub Undrawn : Given → Stream → Stream → Type 0
+Undrawn given stream stream' =
+    (error : BuildError) → place_at given.url (given.setting (codes "fs.defaultFS")) ≡ Err error → stream' ≡ stream
+
 -- What comes of building: by the settings in the order of their keys, what their plan comes to.
 pub record BuildsBy (given : Given) (stream : Stream) (result : Result Client BuildError) (stream' : Stream) : Type 0 where
   pub entries : List (List ℕ × List ℕ)
   pub are : AreEntries given.setting entries
   pub comes : Comes given (plan_of given entries stream) result stream'
+  pub undrawn : Undrawn given stream stream'
 
--- the same; or there was no memory
+-- the same; or there was no memory to begin with, and nothing was drawn
 abbrev pub Builds : Given → Stream → Result Client BuildError → Stream → Type 0
-Builds given stream result stream' = BuildsBy given stream result stream' ⊎ (result ≡ Err NoMemory)
+Builds given stream result stream' = BuildsBy given stream result stream' ⊎ ((result ≡ Err NoMemory) × (stream' ≡ stream))

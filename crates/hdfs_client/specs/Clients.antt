@@ -1,11 +1,13 @@
 -- What callers see of a client, and what it comes to that it asks one of its services.
-use Rattle.std.specs.Prelude.{◌≡◌, ◌≢◌, ℕ, Bool, List, length, Option, Some, slice_get, Result}
+use Rattle.std.specs.Prelude.{◌≡◌, ◌≢◌, ℕ, Bool, List, [], length, Option, Some, None, slice_get, Result}
 use Rattle.hdfs_cluster.specs.declared.asks.Ask.{Ask}
 use Rattle.hdfs_cluster.specs.declared.asks.Answer.{Answer}
 use Rattle.hdfs_cluster.specs.declared.asks.AskFault.{AskFault}
 use Rattle.hdfs_cluster.specs.declared.errors.HdfsError.{HdfsError}
 use Rattle.hdfs_cluster.specs.Requests.{Request, AskOf}
 use Rattle.hdfs_cluster.specs.Shown.{Shown}
+use Rattle.hdfs_connections.specs.Connections.{kept_at}
+use Rattle.hdfs_connections.specs.declared.connection_cache.ConnectionCache.{ConnectionCache}
 use Rattle.hdfs_names.specs.Mounts.{first_match}
 use Rattle.hdfs_names.specs.Paths.{absolute}
 use Rattle.hdfs_names.specs.declared.mounts.MountTable.{MountTable}
@@ -33,13 +35,22 @@ addresses_of client = client.addresses.items
 abbrev pub replacement_of : Client → ReplaceDatanodeOnFailure
 replacement_of client = client.replacement
 
--- it has these parts
+-- the connections to datanodes that it keeps
+abbrev pub connections_of : Client → ConnectionCache
+connections_of client = client.connections
+
+-- it keeps none
+abbrev pub KeepsNone : Client → Type 0
+KeepsNone client = (address : List ℕ) → kept_at (connections_of client) address ≡ []
+
+-- it has these parts, and keeps no connection yet
 pub record HasParts (mounts : MountTable) (services : List NamenodeProtocol) (addresses : List NamenodeAddress) (replacement : ReplaceDatanodeOnFailure)
     (client : Client) : Type 0 where
   pub its_mounts : mounts_of client ≡ mounts
   pub its_services : services_of client ≡ services
   pub its_addresses : addresses_of client ≡ addresses
   pub its_replacement : replacement_of client ≡ replacement
+  pub unconnected : KeepsNone client
 
 -- where a path leads: the first mount that matches it, and what it is called there
 abbrev pub leads_to : Client → List ℕ → Option Resolved
@@ -68,6 +79,20 @@ pub record SameBut (k : ℕ) (client client' : Client) : Type 0 where
   pub mounts : mounts_of client' ≡ mounts_of client
   pub addresses : addresses_of client' ≡ addresses_of client
   pub replacement : replacement_of client' ≡ replacement_of client
+
+-- a service that was there is there still, and the same client; where none was there is none
+abbrev pub IsSameAt : Option NamenodeProtocol → Option NamenodeProtocol → Type 0
+IsSameAt None None = Unit {0}
+IsSameAt (Some before) (Some after) = SameClient before after
+IsSameAt before after = ⊥
+
+-- It is the client that it was: its mounts, its addresses and its policy stay, and each of its services asks the same namenodes in the same
+-- name, knows what it knew, and holds the leases that it held.
+pub record Stays (client client' : Client) : Type 0 where
+  pub mounts : mounts_of client' ≡ mounts_of client
+  pub addresses : addresses_of client' ≡ addresses_of client
+  pub replacement : replacement_of client' ≡ replacement_of client
+  pub services : (k : ℕ) → IsSameAt (service_at client k) (service_at client' k)
 
 -- A client asked the service to which a path leads, once, for what is at the path that it is called there, or there was no memory for that.
 pub record AsksAt {C : Type 0} (serves : C → ℕ → Ask → Result Answer AskFault → C → Type 0) (write : Bool) (ask : List ℕ → Ask) (client : Client)

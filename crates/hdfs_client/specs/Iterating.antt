@@ -13,9 +13,11 @@ use Rattle.hdfs_cluster.specs.declared.messages.FileStatusMsg.{FileStatusMsg}
 use Rattle.hdfs_cluster.specs.Requests.{Request}
 use Rattle.hdfs_names.specs.declared.mounts.MountTable.{MountTable}
 use Rattle.hdfs_client.specs.Calls.{Gives}
-use Rattle.hdfs_client.specs.Listing.{AreEntries, Finds, Follow, HasAll, HasSome, LetsList, LetsListAt, are_all, messages_of}
+use Rattle.hdfs_client.specs.Listing.{AreEntries, AreOnPages, Finds, Follow, HasAll, HasSome, IsBelow, IsMoreThan, LetsList, LetsListAt, are_all, messages_of}
 use Rattle.hdfs_client.specs.Statuses.{IsStatus}
 use Rattle.hdfs_client.specs.declared.client.Client.{Client}
+use Rattle.hdfs_client.specs.declared.errors.ClientError.{ClientError}
+use Rattle.hdfs_client.specs.declared.errors.ClientError.TheVariants.{Hdfs, TooMany}
 use Rattle.hdfs_client.specs.declared.list_iterator.DirListingIterator.{DirListingIterator}
 use Rattle.hdfs_client.specs.declared.list_iterator.ListStatusIterator.{ListStatusIterator}
 use Rattle.hdfs_client.specs.declared.status.FileStatus.{FileStatus}
@@ -97,12 +99,14 @@ abbrev pub GoesOn : (List FileStatus → Type 0) → Option (Result FileStatus H
 GoesOn Old result New = (found : List FileStatus) → New found → Old (given_by result ++ found)
 
 -- A turn of a directory's listing: without an error what is given is the first of all that was left; with one too it is the first of what
--- was answered. Behind an error, and where nothing is given, nothing is left.
+-- was answered. Where the entries that were held stood on answered pages, those that are held do. Behind an error, and where nothing is given,
+-- nothing is left.
 pub record Turns (may_answer : Ask → Answer → Type 0) (mounts : MountTable) (old : Left) (result : Option (Result FileStatus HdfsError))
     (new : Left) : Type 0 where
   pub path : new.path ≡ old.path
   pub all : is_sound result ≡ true → GoesOn (HasRest may_answer mounts old) result (HasRest may_answer mounts new)
   pub some : GoesOn (HasSomeRest may_answer mounts old) result (HasSomeRest may_answer mounts new)
+  pub told : AreOnPages may_answer mounts old.path old.held → AreOnPages may_answer mounts old.path new.held
   pub ends : given_by result ≡ [] → is_over new ≡ true
 
 -- ---- why there is an error
@@ -124,18 +128,19 @@ IsPageFault path (Ok (Some page)) error = (error ≡ errors.NoMemory) ⊎ IsEntr
 IsPageFault path (Ok None) error = (error ≡ errors.FileNotFound path) ⊎ (error ≡ errors.NoMemory)
 IsPageFault path (Err cause) error = error ≡ cause
 
--- an ask for the next page of a directory came to this error
-pub record IsAskFault {C : Type 0} (serves : C → ℕ → Ask → Result Answer AskFault → C → Type 0) (dir : Left) (error : HdfsError) : Type 0 where
+-- an ask for the next page of a directory came to this error, and was the last one: it left this client, and the cluster so
+pub record IsAskFault {C : Type 0} (serves : C → ℕ → Ask → Result Answer AskFault → C → Type 0) (client' : Client) (new : C) (dir : Left)
+    (error : HdfsError) : Type 0 where
   pub client : Client
   pub old : C
-  pub client' : Client
-  pub new : C
   pub gives : Gives serves false (λ at. asks.GetListing at dir.start false) answers.GetListing client dir.path old client' new
       (λ outcome. IsPageFault dir.path outcome error)
 
--- why a directory was ended: the next page couldn't be had, the first entry that is held can't be given, or there was no memory
-abbrev pub IsDirFault : {C : Type 0} → (C → ℕ → Ask → Result Answer AskFault → C → Type 0) → HdfsError → Left → Type 0
-IsDirFault serves error dir = IsAskFault serves dir error ⊎ (IsEntryFault dir.path dir.held error ⊎ (error ≡ errors.NoMemory))
+-- why a directory was ended: the last ask was one for its next page, which couldn't be had; or the first entry that is held can't be given,
+-- or there was no memory
+abbrev pub IsDirFault : {C : Type 0} → (C → ℕ → Ask → Result Answer AskFault → C → Type 0) → Client → C → HdfsError → Left → Type 0
+IsDirFault serves client' new error dir =
+    IsAskFault serves client' new dir error ⊎ (IsEntryFault dir.path dir.held error ⊎ (error ≡ errors.NoMemory))
 
 -- ---- a directory and those in which it lies
 
@@ -184,13 +189,39 @@ pub record IsCut (may_answer : Ask → Answer → Type 0) (mounts : MountTable) 
   pub over : is_over end ≡ true
   pub why : Why ended
 
+-- an entry's directory is begun, where what stands in it is to be given too
+abbrev pub entered_by : Bool → FileStatus → List Left → List Left
+entered_by true status dirs = fresh status.path ∷ dirs
+entered_by false status dirs = dirs
+
+-- the same of what was given, if that is an entry
+abbrev pub begun_behind : Bool → Option (Result FileStatus HdfsError) → List Left → List Left
+begun_behind recursive None dirs = dirs
+begun_behind recursive (Some (Ok status)) dirs = entered_by (recursive && status.isdir) status dirs
+begun_behind recursive (Some (Err error)) dirs = dirs
+
+-- One of the directories that were begun had a turn, and what was given is the first of what was answered of it. Those around it are what
+-- they were, and the entry's own directory is begun, where what stands in it is to be given too.
+pub record HasTurn (may_answer : Ask → Answer → Type 0) (mounts : MountTable) (recursive : Bool) (old : List Left)
+    (result : Option (Result FileStatus HdfsError)) (new : List Left) : Type 0 where
+  pub within : List Left
+  pub dir : Left
+  pub around : List Left
+  pub was : old ≡ within ++ dir ∷ around
+  pub dir' : Left
+  pub path : dir'.path ≡ dir.path
+  pub some : GoesOn (HasSomeRest may_answer mounts dir) result (HasSomeRest may_answer mounts dir')
+  pub told : AreOnPages may_answer mounts dir.path dir.held → AreOnPages may_answer mounts dir.path dir'.held
+  pub is : new ≡ begun_behind recursive result (dir' ∷ around)
+
 -- A turn of a listing: without an error what is given is the first of all that was to come; with one too it is the first of what may come of
--- what was answered. An error ends one directory alone, for a reason; where nothing is given nothing is left, and where nothing was left
--- nothing is given.
+-- what was answered. It is one directory's turn. An error ends one directory alone, for a reason; where nothing is given nothing is left, and
+-- where nothing was left nothing is given.
 pub record Walks (may_answer : Ask → Answer → Type 0) (mounts : MountTable) (Why : HdfsError → Left → Type 0) (recursive : Bool) (old : List Left)
     (result : Option (Result FileStatus HdfsError)) (new : List Left) : Type 0 where
   pub all : is_sound result ≡ true → GoesOn (IsToCome may_answer mounts recursive old) result (IsToCome may_answer mounts recursive new)
   pub some : GoesOn (MayCome may_answer mounts recursive old) result (MayCome may_answer mounts recursive new)
+  pub turn : HasTurn may_answer mounts recursive old result new
   pub none : result ≡ None → list_all is_over new ≡ true
   pub over : list_all is_over old ≡ true → result ≡ None
   pub cut : IfFails result (λ error. IsCut may_answer mounts (Why error) old new)
@@ -212,3 +243,21 @@ abbrev pub LetsWalk : (Request → Type 0) → (Ask → Answer → Type 0) → M
 LetsWalk allows may_answer mounts recursive [] = Unit {0}
 LetsWalk allows may_answer mounts recursive (dir ∷ dirs) =
     LetsRest allows may_answer mounts recursive dir × LetsWalk allows may_answer mounts recursive dirs
+
+-- ---- why a listing fails
+
+-- A directory to which a listing came was ended by this error: the one at this path, or one that was answered below it. The entries that it
+-- held stood on answered pages.
+pub record IsEndedBelow {C : Type 0} (serves : C → ℕ → Ask → Result Answer AskFault → C → Type 0) (may_answer : Ask → Answer → Type 0)
+    (mounts : MountTable) (recursive : Bool) (path : List ℕ) (client' : Client) (new : C) (error : HdfsError) : Type 0 where
+  pub dir : Left
+  pub below : IsBelow (HasSome may_answer mounts) recursive path dir.path
+  pub told : AreOnPages may_answer mounts dir.path dir.held
+  pub why : IsDirFault serves client' new error dir
+
+-- more was answered than the limit; or a directory was ended
+abbrev pub IsListFault : {C : Type 0} → (C → ℕ → Ask → Result Answer AskFault → C → Type 0) → (Ask → Answer → Type 0) → MountTable → Bool → List ℕ → ℕ
+    → Client → C → ClientError → Type 0
+IsListFault serves may_answer mounts recursive path limit client' new error =
+    ((error ≡ TooMany limit) × IsMoreThan may_answer mounts recursive path limit)
+    ⊎ ((cause : HdfsError) × (error ≡ Hdfs cause) × IsEndedBelow serves may_answer mounts recursive path client' new cause)

@@ -10,8 +10,11 @@ pub mod Building
 pub mod Listing
 pub mod Iterating
 pub mod Turning
+pub mod Refusing
+pub mod Globbing
 pub mod Readers
 pub mod Streams
 pub mod Leasing
+pub mod Holding
 pub mod Opening
 pub mod Writing

@@ -4,7 +4,7 @@ use Rattle.hdfs_cluster.specs.declared.asks.Ask.{Ask}
 use Rattle.hdfs_cluster.specs.declared.asks.Ask.TheVariants as asks
 use Rattle.hdfs_cluster.specs.declared.asks.Answer.{Answer}
 use Rattle.hdfs_cluster.specs.declared.asks.Answer.TheVariants as answers
-use Rattle.hdfs_cluster.specs.declared.errors.HdfsError.{HdfsError}
+use Rattle.hdfs_cluster.specs.declared.errors.HdfsError.TheVariants as errors
 use Rattle.hdfs_cluster.specs.declared.messages.DirList.{DirList}
 use Rattle.hdfs_cluster.specs.declared.messages.FileStatusMsg.{FileStatusMsg}
 use Rattle.hdfs_cluster.specs.Requests.{Request, AskOf}
@@ -26,6 +26,21 @@ pub record IsAnswered (may_answer : Ask → Answer → Type 0) (mounts : MountTa
   pub to : Resolved
   pub leads : leads_by mounts path to
   pub answered : may_answer (asks.GetListing to.path start false) (answers.GetListing (Some page))
+
+-- this message stands on a page that was answered of what stands at a path
+pub record IsOnPage (may_answer : Ask → Answer → Type 0) (mounts : MountTable) (path : List ℕ) (message : FileStatusMsg) : Type 0 where
+  pub start : List ℕ
+  pub page : DirList
+  pub was : IsAnswered may_answer mounts path start page
+  pub before : List FileStatusMsg
+  pub behind : List FileStatusMsg
+  pub is : page.partial_listing ≡ before ++ message ∷ behind
+
+-- each of these does
+abbrev pub AreOnPages : (Ask → Answer → Type 0) → MountTable → List ℕ → List FileStatusMsg → Type 0
+AreOnPages may_answer mounts path [] = Unit {0}
+AreOnPages may_answer mounts path (message ∷ messages) =
+    IsOnPage may_answer mounts path message × AreOnPages may_answer mounts path messages
 
 -- the name behind which the next page begins: the last one of these, or as before
 abbrev pub last_name : List ℕ → List FileStatusMsg → List ℕ
@@ -109,6 +124,6 @@ abbrev pub IsMoreThan : (Ask → Answer → Type 0) → MountTable → Bool → 
 IsMoreThan may_answer mounts recursive path limit =
     (found : List FileStatus) × Lists (HasSome may_answer mounts) recursive path found × (limit < length found)
 
--- there are too many entries, and this is why; or an ask failed or came to nothing
-abbrev pub IsListFault : ℕ → Type 0 → ClientError → Type 0
-IsListFault limit why error = ((error ≡ TooMany limit) × why) ⊎ ((cause : HdfsError) × (error ≡ Hdfs cause))
+-- one more can't be put to what was found: that would be too many, and this is why; or there is no memory
+abbrev pub IsPutFault : ℕ → Type 0 → ClientError → Type 0
+IsPutFault limit why error = ((error ≡ TooMany limit) × why) ⊎ (error ≡ Hdfs errors.NoMemory)

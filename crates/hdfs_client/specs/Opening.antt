@@ -19,7 +19,7 @@ use Rattle.hdfs_cluster.specs.Limits.{are_defaults}
 use Rattle.hdfs_cluster.specs.Namenode.{new_file}
 use Rattle.hdfs_cluster.specs.Picture.{Picture, SameButActive}
 use Rattle.hdfs_cluster.specs.Requests.{id_in}
-use Rattle.hdfs_cluster.specs.Shown.{Shown}
+use Rattle.hdfs_cluster.specs.Shown.{Later, Shown}
 use Rattle.hdfs_cluster.specs.Sound.{IsFileAt}
 use Rattle.hdfs_cluster.specs.Stores.{StoresBlocks}
 use Rattle.hdfs_file_writer.specs.Tails.{Tail, Bare, FileCarries}
@@ -29,26 +29,38 @@ use Rattle.hdfs_file_writer.specs.declared.sizes.WriteSizes.{WriteSizes}
 use Rattle.hdfs_model.specs.Opening.{AnswersDefaults, appending, creating, tells_encryption}
 use Rattle.hdfs_model.specs.declared.commands.WriteOptions.{WriteOptions}
 use Rattle.hdfs_namenode.specs.Asked.{Asked, AskedOnce, SameService}
-use Rattle.hdfs_namenode.specs.Clients.{defaults_of, leases_of, name_of, proxy_of, through}
+use Rattle.hdfs_namenode.specs.Clients.{defaults_of, key_of, leases_of, name_of, proxy_of, through}
 use Rattle.hdfs_namenode.specs.declared.protocol.NamenodeProtocol.{NamenodeProtocol}
 use Rattle.hdfs_rebuild.specs.declared.block_plan.RebuildSettings.{RebuildSettings}
+use Rattle.hdfs_client.specs.Holding.{TakesLease, lease_by}
+use Rattle.hdfs_client.specs.declared.file_lease.FileLease.{FileLease}
 
--- it asks the same service in the same name, and holds the leases that it held
-pub record KeepsName (before after : NamenodeProtocol) : Type 0 where
+-- it asks the same service in the same name, and has the key that it had
+pub record KeepsService (before after : NamenodeProtocol) : Type 0 where
   pub service : SameService (proxy_of before) (proxy_of after)
   pub name : name_of after ≡ name_of before
-  pub leases : leases_of after ≡ leases_of before
+  pub key : key_of after ≡ key_of before
+
+-- it holds the leases that it held as well
+abbrev pub KeepsName : NamenodeProtocol → NamenodeProtocol → Type 0
+KeepsName before after = KeepsService before after × (leases_of after ≡ leases_of before)
+
+-- no count fell, and each link to write over is what it was
+pub record LeavesLinks (old new : Shown) : Type 0 where
+  pub later : Later old new
+  pub writes : (link : ℕ) → new.writes link ≡ old.writes link
 
 -- these defaults of the cluster were answered, or a service has kept them
 abbrev pub IsKnown : (Ask → Answer → Type 0) → NamenodeProtocol → ServerDefaults → Type 0
 IsKnown may_answer namenode defaults = AnswersDefaults may_answer defaults ⊎ (defaults_of namenode ≡ Some defaults)
 
--- A service has the cluster's defaults: it knew them, and asked for nothing, or it asked for them, and these were answered.
+-- A service has the cluster's defaults, and keeps them: it knew them, and asked for nothing, or it asked for them, and these were answered.
 pub record HasDefaults {C : Type 0} (serves : C → ℕ → Ask → Result Answer AskFault → C → Type 0) (before : NamenodeProtocol) (old : C)
     (defaults : ServerDefaults) (after : NamenodeProtocol) (new : C) : Type 0 where
-  pub known : (kept : ServerDefaults) → defaults_of before ≡ Some kept → (defaults ≡ kept) × (new ≡ old)
+  pub known : (kept : ServerDefaults) → defaults_of before ≡ Some kept → (defaults ≡ kept) × (after ≡ before) × (new ≡ old)
   pub asked : defaults_of before ≡ None
       → Asked serves false asks.GetServerDefaults (through before old) (Ok (answers.GetServerDefaults defaults)) (through after new)
+  pub kept : defaults_of after ≡ Some defaults
 
 -- it has such that are in their limits
 pub record KnowsDefaults {C : Type 0} (serves : C → ℕ → Ask → Result Answer AskFault → C → Type 0) (before : NamenodeProtocol) (old : C)
@@ -61,6 +73,7 @@ pub record AsksInVain {C : Type 0} (serves : C → ℕ → Ask → Result Answer
     (error : HdfsError) (after : NamenodeProtocol) (new : C) : Type 0 where
   pub unknown : defaults_of before ≡ None
   pub asked : Asked serves false asks.GetServerDefaults (through before old) (Err error) (through after new)
+  pub still : defaults_of after ≡ None
 
 -- it has such that are out of their limits
 pub record HasBadDefaults {C : Type 0} (serves : C → ℕ → Ask → Result Answer AskFault → C → Type 0) (before : NamenodeProtocol) (old : C)
@@ -96,9 +109,18 @@ pub record IsFresh (path : List ℕ) (file_id : Option ℕ) (sizes : WriteSizes)
   pub idle : link_of writer ≡ None
   pub fine : has_failed writer ≡ false
 
--- A service was asked for a new file at a path, with these options, and with the defaults where they say nothing. It isn't encrypted.
+-- Behind its defaults, which it keeps, a service is the same as before, but for the lease of a file of which this was told, which it took.
+pub record HoldsFile (status : Option FileStatusMsg) (defaults : ServerDefaults) (lease : FileLease) (before after : NamenodeProtocol) : Type 0 where
+  pub is : lease ≡ lease_by status
+  pub taken : TakesLease lease (leases_of before) (leases_of after)
+  pub kept : defaults_of after ≡ Some defaults
+  pub same : KeepsService before after
+
+-- A service was asked for a new file at a path, with these options, and with the defaults where they say nothing. It isn't encrypted, and
+-- its lease was taken.
 pub record CreatesBy {C : Type 0} (serves : C → ℕ → Ask → Result Answer AskFault → C → Type 0) (path : List ℕ) (options : WriteOptions)
-    (rebuilding : RebuildSettings) (before : NamenodeProtocol) (old : C) (writer : FileWriter) (after : NamenodeProtocol) (new : C) : Type 0 where
+    (rebuilding : RebuildSettings) (before : NamenodeProtocol) (old : C) (writer : FileWriter) (lease : FileLease) (after : NamenodeProtocol)
+    (new : C) : Type 0 where
   pub defaults : ServerDefaults
   pub between : NamenodeProtocol
   pub mid : C
@@ -110,10 +132,11 @@ pub record CreatesBy {C : Type 0} (serves : C → ℕ → Ask → Result Answer 
   pub plain : tells_encryption status ≡ false
   pub fresh : IsFresh path (id_in status) (sizes_by rebuilding defaults
       (unwrap_or options.replication defaults.replication) (unwrap_or options.block_size defaults.block_size)) Bare writer
+  pub holds : HoldsFile status defaults lease before after
 
--- A service was asked for the file at a path, to be gone on with. It is there, and isn't encrypted.
+-- A service was asked for the file at a path, to be gone on with. It is there, and isn't encrypted, and its lease was taken.
 pub record OpensBy {C : Type 0} (serves : C → ℕ → Ask → Result Answer AskFault → C → Type 0) (path : List ℕ) (rebuilding : RebuildSettings)
-    (before : NamenodeProtocol) (old : C) (writer : FileWriter) (after : NamenodeProtocol) (new : C) : Type 0 where
+    (before : NamenodeProtocol) (old : C) (writer : FileWriter) (lease : FileLease) (after : NamenodeProtocol) (new : C) : Type 0 where
   pub defaults : ServerDefaults
   pub between : NamenodeProtocol
   pub mid : C
@@ -125,8 +148,15 @@ pub record OpensBy {C : Type 0} (serves : C → ℕ → Ask → Result Answer As
   pub plain : is_some status.encryption ≡ false
   pub fresh : IsFresh path status.file_id (sizes_by rebuilding defaults
       (unwrap_or status.block_replication 0) (unwrap_or status.blocksize 0)) (tail_opened block None) writer
+  pub holds : HoldsFile (Some status) defaults lease before after
 
--- A file that was created was answered to be encrypted: it is refused, behind an ask to delete it again, whatever came of that.
+-- what is answered of an encrypted file, behind what was done to leave it as it was: want of memory for that goes first
+abbrev pub refusal : {T : Type 0} → Result T HdfsError → HdfsError
+refusal (Err errors.NoMemory) = errors.NoMemory
+refusal result = errors.UnsupportedFeature features.Encryption
+
+-- A file that was created was answered to be encrypted: it is refused, behind an ask to delete it again, whatever came of that but want of
+-- memory.
 pub record RefusesCreated {C : Type 0} (serves : C → ℕ → Ask → Result Answer AskFault → C → Type 0) (path : List ℕ) (ask : Ask)
     (before : NamenodeProtocol) (old : C) (error : HdfsError) (after : NamenodeProtocol) (new : C) : Type 0 where
   pub status : Option FileStatusMsg
@@ -136,9 +166,18 @@ pub record RefusesCreated {C : Type 0} (serves : C → ℕ → Ask → Result An
   pub encrypted : tells_encryption status ≡ true
   pub outcome : Result Answer HdfsError
   pub deleted : AskedOnce serves true (asks.Delete path false) (through between mid) outcome (through after new)
-  pub is : error ≡ errors.UnsupportedFeature features.Encryption
+  pub is : error ≡ refusal outcome
 
--- Behind its defaults a service creates no file: just this ask for it failed, or the file is encrypted.
+-- A file was opened that isn't encrypted, and there was no memory for its lease. It stays open.
+pub record LacksLease {C : Type 0} (serves : C → ℕ → Ask → Result Answer AskFault → C → Type 0) (ask : Ask) (answer : Option FileStatusMsg → Answer)
+    (before : NamenodeProtocol) (old : C) (error : HdfsError) (after : NamenodeProtocol) (new : C) : Type 0 where
+  pub status : Option FileStatusMsg
+  pub asked : AskedOnce serves true ask (through before old) (Ok (answer status)) (through after new)
+  pub plain : tells_encryption status ≡ false
+  pub is : error ≡ errors.NoMemory
+
+-- Behind its defaults, which it keeps, a service creates no file: just this ask for it failed, or the file is encrypted, or there was no memory
+-- for its lease.
 pub record CreateFails {C : Type 0} (serves : C → ℕ → Ask → Result Answer AskFault → C → Type 0) (path : List ℕ) (options : WriteOptions)
     (before : NamenodeProtocol) (old : C) (error : HdfsError) (after : NamenodeProtocol) (new : C) : Type 0 where
   pub defaults : ServerDefaults
@@ -149,6 +188,8 @@ pub record CreateFails {C : Type 0} (serves : C → ℕ → Ask → Result Answe
       (unwrap_or options.block_size defaults.block_size) in
       AskedOnce serves true ask (through between mid) (Err error) (through after new)
       ⊎ RefusesCreated serves path ask between mid error after new
+      ⊎ LacksLease serves ask answers.Create between mid error after new
+  pub kept : defaults_of after ≡ Some defaults
 
 -- why a service creates no file: it has no defaults, or behind them so
 abbrev pub FailsToCreate : {C : Type 0} → (C → ℕ → Ask → Result Answer AskFault → C → Type 0) → List ℕ → WriteOptions → NamenodeProtocol → C → HdfsError
@@ -169,7 +210,7 @@ pub record ClosesAgain (old : Shown) (writer : FileWriter) (new : Shown) : Type 
   pub closed : OnOk result (Closed old writer new)
   pub failed : IfErr result (λ error. FailsToClose old writer error new)
 
--- A file that was opened was answered to be encrypted: it is refused, and closed again, as far as that is done.
+-- A file that was opened was answered to be encrypted: it is refused, and closed again, whatever came of that but want of memory.
 pub record RefusesOpened {C : Type 0} (shown : C → Shown) (serves : C → ℕ → Ask → Result Answer AskFault → C → Type 0) (path : List ℕ) (ask : Ask)
     (before : NamenodeProtocol) (old : C) (error : HdfsError) (new : C) : Type 0 where
   pub appended : Appended
@@ -182,9 +223,10 @@ pub record RefusesOpened {C : Type 0} (shown : C → Shown) (serves : C → ℕ 
   pub id : file_id_of writer ≡ id_in appended.stat
   pub stands : tail_of writer ≡ tail_opened appended.block None
   pub closes : ClosesAgain (shown mid) writer (shown new)
-  pub is : error ≡ errors.UnsupportedFeature features.Encryption
+  pub is : error ≡ refusal closes.result
 
--- Behind its defaults a service opens no file: just this ask for it failed, or nothing is told of the file, or it is encrypted.
+-- Behind its defaults, which it keeps, a service opens no file: just this ask for it failed, or nothing is told of the file, or it is
+-- encrypted, or there was no memory for its lease.
 pub record AppendFails {C : Type 0} (shown : C → Shown) (serves : C → ℕ → Ask → Result Answer AskFault → C → Type 0) (path name : List ℕ)
     (before : NamenodeProtocol) (old : C) (error : HdfsError) (after : NamenodeProtocol) (new : C) : Type 0 where
   pub defaults : ServerDefaults
@@ -195,6 +237,9 @@ pub record AppendFails {C : Type 0} (shown : C → Shown) (serves : C → ℕ �
       AskedOnce serves true ask (through between mid) (Err error) (through after new)
       ⊎ LacksStatus serves ask name between mid error after new
       ⊎ RefusesOpened shown serves path ask between mid error new
+      ⊎ ((block : Option LocatedBlock)
+      × LacksLease serves ask (λ stat. answers.Append (record { block = block; stat = stat })) between mid error after new)
+  pub kept : defaults_of after ≡ Some defaults
 
 -- why a service opens no file to be gone on with: it has no defaults, or behind them so
 abbrev pub FailsToAppend : {C : Type 0} → (C → Shown) → (C → ℕ → Ask → Result Answer AskFault → C → Type 0) → List ℕ → List ℕ → NamenodeProtocol → C

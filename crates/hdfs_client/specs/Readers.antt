@@ -1,5 +1,5 @@
 -- Readers of files, and what a client has read by one.
-use Rattle.std.specs.Prelude.{◌≡◌, ◌⊎◌, ◌+◌, ◌-◌, ◌≤◌, ◌^◌, ℕ, List, All, length, Option, Some, None, IsSome, is_some, true, IfSome, Result, Ok, Err, IfOk, IfErr}
+use Rattle.std.specs.Prelude.{◌≡◌, ◌⊎◌, ◌+◌, ◌≤◌, ℕ, List, All, length, Option, Some, None, IsSome, is_some, true, IfSome, Result, Ok, Err, IfOk, IfErr, OnOk}
 use Rattle.hdfs_cluster.specs.declared.asks.Answer.{Answer}
 use Rattle.hdfs_cluster.specs.declared.asks.Ask.{Ask}
 use Rattle.hdfs_cluster.specs.declared.errors.HdfsError.{HdfsError}
@@ -22,7 +22,7 @@ use Rattle.hdfs_file_reader.specs.Files as files
 use Rattle.hdfs_file_reader.specs.Looking.{IsClosed}
 use Rattle.hdfs_file_reader.specs.declared.file_blocks.FileBlocks.{FileBlocks}
 use Rattle.hdfs_file_reader.specs.Ranges.{Stored}
-use Rattle.hdfs_file_reader.specs.Transferring.{Unsupported}
+use Rattle.hdfs_file_reader.specs.Transferring.{MayMove, Unsupported}
 use Rattle.hdfs_client.specs.Clients.{SameBut, leads_to, service_at}
 use Rattle.hdfs_client.specs.declared.client.Client.{Client}
 use Rattle.hdfs_client.specs.declared.file_reader.FileReader.{FileReader}
@@ -91,10 +91,11 @@ ShowsFile client src old new reader =
     → (file : FileEntry) × (p.names to.path ≡ Some (entries.File file))
     × ((content : List ℕ) → StoresBlocks p file.blocks content → Stored new (blocks_of reader) content)
 
--- What a client has read of a range of a file by the service of this number; every other service is what it was. Over any cluster: as many bytes as
--- were wanted, or why not (`LacksRange`); no link is left open, and nothing but reads was done where the defaults were known. Over a told
--- picture, where the service is all namenodes: the bytes are those of the file that the blocks store, or a byte is lost with all datanodes
--- that hold its block whole.
+-- What a client has read of a range of a file by the service of this number; every other service is what it was. Over any cluster: as many
+-- bytes as were wanted, and they were moved only where the defaults don't want them encrypted, or why not (`LacksRange`); no link is left
+-- open, nothing but reads was done where the defaults were known, and for no bytes the cluster and the service are what they were. Over a
+-- told picture, where the service is all namenodes: the bytes are those of the file that the blocks store, or a byte is lost with all
+-- datanodes that hold its block whole.
 pub record ReadsBlocks (old : Shown) (client : Client) (file : FileBlocks) (service offset len : ℕ) (result : Result (List ℕ) HdfsError)
     (new : Shown) (client' : Client) : Type 0 where
   pub before : NamenodeProtocol
@@ -103,6 +104,8 @@ pub record ReadsBlocks (old : Shown) (client : Client) (file : FileBlocks) (serv
   pub is : service_at client' service ≡ Some after
   pub others : SameBut service client client'
   pub count : IfOk result (λ bytes. length bytes ≡ len)
+  pub plain : OnOk result (MayMove len after)
+  pub idle : len ≡ 0 → (new ≡ old) × (after ≡ before)
   pub err : IfErr result (λ error. LacksRange (files.length_of file) offset len old before error new after)
   pub leaves : OnlyReadsFile old before new after
   pub known : IfSome (defaults_of before) (λ _. OnlyReads old new × (after ≡ before))

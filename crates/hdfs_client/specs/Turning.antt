@@ -8,7 +8,7 @@ use Rattle.hdfs_cluster.specs.declared.messages.DirList.{DirList}
 use Rattle.hdfs_cluster.specs.declared.messages.FileStatusMsg.{FileStatusMsg}
 use Rattle.hdfs_names.specs.declared.mounts.MountTable.{MountTable}
 use Rattle.hdfs_client.specs.Listing.{IsAnswered, has_more, last_name}
-use Rattle.hdfs_client.specs.Iterating.{HasRest, HaveNone, IfFails, IsEntryFault, Left, Turns, fresh, is_over}
+use Rattle.hdfs_client.specs.Iterating.{HasRest, HaveNone, IfFails, IsEntryFault, Left, Turns, is_over}
 use Rattle.hdfs_client.specs.Statuses.{IsStatus}
 use Rattle.hdfs_client.specs.declared.status.FileStatus.{FileStatus}
 
@@ -70,11 +70,6 @@ pub record IsFoundIn (may_answer : Ask → Answer → Type 0) (mounts : MountTab
   pub last : result ≡ None → around ≡ []
   pub over : is_over dir ≡ true → result ≡ None
   pub fault : IfFails result (λ error. Why error dir)
-
--- an entry's directory is begun, where what stands in it is to be given too
-abbrev pub entered_by : Bool → FileStatus → List Left → List Left
-entered_by true status dirs = fresh status.path ∷ dirs
-entered_by false status dirs = dirs
 
 -- nothing of the innermost directory is left
 abbrev pub first_ended : List Left → List Left

@@ -1,5 +1,5 @@
 -- Files that a client writes: how one is opened, and what a writer is between calls.
-use Rattle.std.specs.Prelude.{◌≡◌, ◌⊎◌, ℕ, Bool, List, Option, Some, if◌then◌else◌}
+use Rattle.std.specs.Prelude.{◌≡◌, ◌⊎◌, ℕ, Bool, List, Option, Some, None, if◌then◌else◌}
 use Rattle.hdfs_cluster.specs.declared.asks.Answer.{Answer}
 use Rattle.hdfs_cluster.specs.declared.asks.Ask.{Ask}
 use Rattle.hdfs_cluster.specs.declared.errors.ArgFault.TheVariants as args
@@ -13,17 +13,30 @@ use Rattle.hdfs_model.specs.Opening as opening
 use Rattle.hdfs_model.specs.declared.commands.WriteOptions.{WriteOptions}
 use Rattle.hdfs_names.specs.declared.mounts.Resolved.{Resolved}
 use Rattle.hdfs_namenode.specs.Asked.{ReachesAll}
-use Rattle.hdfs_namenode.specs.Clients.{name_of, proxy_of}
+use Rattle.hdfs_namenode.specs.Clients.{leases_of, name_of, proxy_of}
 use Rattle.hdfs_namenode.specs.declared.protocol.NamenodeProtocol.{NamenodeProtocol}
 use Rattle.hdfs_rebuild.specs.declared.block_plan.RebuildSettings.{RebuildSettings}
 use Rattle.hdfs_client.specs.Clients.{SameBut, leads_to, replacement_of, service_at}
-use Rattle.hdfs_client.specs.Opening.{IsKnown}
+use Rattle.hdfs_client.specs.Holding.{KeepsLeases}
+use Rattle.hdfs_client.specs.Opening.{IsKnown, KeepsService}
 use Rattle.hdfs_client.specs.declared.client.Client.{Client}
+use Rattle.hdfs_client.specs.Readers.{ReadsBy}
+use Rattle.hdfs_client.specs.declared.file_lease.FileLease.{FileLease}
+use Rattle.hdfs_client.specs.declared.file_reader.FileReader.{FileReader}
 use Rattle.hdfs_client.specs.declared.writing.FileWriter.{FileWriter}
 
 -- the writer of the file, until it is to be closed
 abbrev pub open_of : FileWriter → Option inner.FileWriter
 open_of writer = writer.file
+
+-- the link of an open file, if there is one
+abbrev pub link_in : Option inner.FileWriter → Option ℕ
+link_in None = None
+link_in (Some file) = files.link_of file
+
+-- the lease that it holds, until the file was closed
+abbrev pub lease_of : FileWriter → Option FileLease
+lease_of writer = writer.lease
 
 -- whether the file was closed
 abbrev pub is_closed : FileWriter → Bool
@@ -61,8 +74,8 @@ LetsCreate allows may_answer client src options = (to : Resolved) (namenode : Na
 abbrev pub LetsAppend : (Request → Type 0) → (Ask → Answer → Type 0) → Client → List ℕ → Type 0
 LetsAppend allows may_answer client src = LetsThere (opening.LetsAppend allows may_answer) client src
 
--- A client has opened a file by the service to which a path leads, in this way, and this is its writer.
-pub record OpensAt (Opens : List ℕ → NamenodeProtocol → inner.FileWriter → NamenodeProtocol → Type 0) (client : Client) (src : List ℕ)
+-- A client has opened a file by the service to which a path leads, in this way, and this is its writer, with the lease that it holds.
+pub record OpensAt (Opens : List ℕ → NamenodeProtocol → inner.FileWriter → FileLease → NamenodeProtocol → Type 0) (client : Client) (src : List ℕ)
     (writer : FileWriter) (client' : Client) : Type 0 where
   pub to : Resolved
   pub leads : leads_to client src ≡ Some to
@@ -72,11 +85,14 @@ pub record OpensAt (Opens : List ℕ → NamenodeProtocol → inner.FileWriter �
   pub is : service_at client' to.service ≡ Some after
   pub file : inner.FileWriter
   pub opened : open_of writer ≡ Some file
+  pub lease : FileLease
+  pub holds : lease_of writer ≡ Some lease
   pub service : service_of writer ≡ to.service
-  pub opens : Opens to.path before file after
+  pub opens : Opens to.path before file lease after
   pub others : SameBut to.service client client'
 
--- a client has opened no file by the service to which a path leads, in this way
+-- A client has opened no file by the service to which a path leads, in this way. That service asks the same namenodes in the same name, and
+-- holds the leases that it held.
 pub record FailsAt (Fails : List ℕ → NamenodeProtocol → NamenodeProtocol → Type 0) (client : Client) (src : List ℕ) (client' : Client) : Type 0 where
   pub to : Resolved
   pub leads : leads_to client src ≡ Some to
@@ -85,11 +101,15 @@ pub record FailsAt (Fails : List ℕ → NamenodeProtocol → NamenodeProtocol �
   pub after : NamenodeProtocol
   pub is : service_at client' to.service ≡ Some after
   pub fails : Fails to.path before after
+  pub same : KeepsService before after
+  pub leases : KeepsLeases (leases_of before) (leases_of after)
   pub others : SameBut to.service client client'
 
--- the same, or there was no memory for it
-abbrev pub OpensNone : (HdfsError → List ℕ → NamenodeProtocol → NamenodeProtocol → Type 0) → Client → List ℕ → HdfsError → Client → Type 0
-OpensNone Fails client src error client' = (error ≡ errors.NoMemory) ⊎ FailsAt (Fails error) client src client'
+-- the same, or there was no memory for finding where the path leads, and nothing was done
+abbrev pub OpensNone : {C : Type 0} → (HdfsError → List ℕ → NamenodeProtocol → NamenodeProtocol → Type 0) → Client → List ℕ → C → HdfsError → Client → C
+    → Type 0
+OpensNone Fails client src old error client' new =
+    ((error ≡ errors.NoMemory) × (client' ≡ client) × (new ≡ old)) ⊎ FailsAt (Fails error) client src client'
 
 -- what is so of an open writer and of the service whose file it writes
 abbrev pub OfOpen : (NamenodeProtocol → inner.FileWriter → Type 0) → Client → FileWriter → Type 0
@@ -113,6 +133,34 @@ LetsWriteOf allows may_answer client writer =
 abbrev pub LetsCloseOf : (Request → Type 0) → (Ask → Answer → Type 0) → Client → FileWriter → Type 0
 LetsCloseOf allows may_answer client writer =
     OfOpen (λ namenode file. LetsClose allows may_answer (name_of namenode) (files.path_of file) (files.file_id_of file)) client writer
+
+-- What a call of a client leaves of files that are open: each reader of the client is one still, and so is each writer that was one over the
+-- cluster, with what was answered to it, and with the leave that it has.
+pub record KeepsFiles (allows : Request → Type 0) (may_answer : Ask → Answer → Type 0) (client : Client) (old : Shown) (client' : Client)
+    (new : Shown) : Type 0 where
+  pub readers : (reader : FileReader) → ReadsBy client reader → ReadsBy client' reader
+  pub stand : (writer : FileWriter) → IsWriterOf client old writer → IsWriterOf client' new writer
+  pub answered : (writer : FileWriter) → IsAnsweredTo may_answer client writer → IsAnsweredTo may_answer client' writer
+  pub write : (writer : FileWriter) → LetsWriteOf allows may_answer client writer → LetsWriteOf allows may_answer client' writer
+  pub close : (writer : FileWriter) → LetsCloseOf allows may_answer client writer → LetsCloseOf allows may_answer client' writer
+
+-- the link over which a writer writes, while it has one
+abbrev pub link_of : FileWriter → Option ℕ
+link_of writer = link_in (open_of writer)
+
+-- two writers write over links of their own
+abbrev pub AreApart : FileWriter → FileWriter → Type 0
+AreApart writer other = (link : ℕ) → link_of writer ≡ Some link → link_of other ≡ Some link → ⊥
+
+-- What a call of a writer leaves of the others and of readers: the same, of each writer that writes over a link of its own, and has that
+-- alone still.
+pub record KeepsOthers (allows : Request → Type 0) (may_answer : Ask → Answer → Type 0) (client : Client) (old : Shown) (writer : FileWriter)
+    (client' : Client) (new : Shown) (writer' : FileWriter) : Type 0 where
+  pub readers : (reader : FileReader) → ReadsBy client reader → ReadsBy client' reader
+  pub stand : (other : FileWriter) → AreApart writer other → IsWriterOf client old other → IsWriterOf client' new other × AreApart writer' other
+  pub answered : (other : FileWriter) → IsAnsweredTo may_answer client other → IsAnsweredTo may_answer client' other
+  pub write : (other : FileWriter) → LetsWriteOf allows may_answer client other → LetsWriteOf allows may_answer client' other
+  pub close : (other : FileWriter) → LetsCloseOf allows may_answer client other → LetsCloseOf allows may_answer client' other
 
 -- it is open still, and of its file this is so before and behind
 abbrev pub GoesOn : (inner.FileWriter → inner.FileWriter → Type 0) → FileWriter → FileWriter → Type 0

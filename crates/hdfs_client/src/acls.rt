@@ -13,6 +13,7 @@ use hdfs_names::{AclEntry, AclStatus};
 impl Client {
     ghost use Rattle.hdfs_client.specs.Calls.{Gives};
     ghost use Rattle.hdfs_client.specs.Clients.{AsksAt, IsClientOf, LetsAt};
+    ghost use Rattle.hdfs_client.specs.Writing.{KeepsFiles};
 
     /// Puts entries into the access control list of what stands at a path, in the place of those of the same name.
     pub fn modify_acl_entries<C: Cluster>(
@@ -27,6 +28,8 @@ impl Client {
         ensures asked { AsksAt C.serves true (λ at. asks.ModifyAclEntries at (map entry_message acl_spec.now))
             self.old path.now cluster.old
             (as_answer (λ _. answers.ModifyAclEntries) result) self.new cluster.new }
+        ensures files { KeepsFiles C.allows C.may_answer self.old (C.shown cluster.old) self.new
+            (C.shown cluster.new) }
         ensures client { IsClientOf self.new (C.shown cluster.new) }
     {
         let to = self.resolve(path)?;
@@ -47,6 +50,8 @@ impl Client {
         ensures asked { AsksAt C.serves true (λ at. asks.RemoveAclEntries at (map entry_message acl_spec.now))
             self.old path.now cluster.old
             (as_answer (λ _. answers.RemoveAclEntries) result) self.new cluster.new }
+        ensures files { KeepsFiles C.allows C.may_answer self.old (C.shown cluster.old) self.new
+            (C.shown cluster.new) }
         ensures client { IsClientOf self.new (C.shown cluster.new) }
     {
         let to = self.resolve(path)?;
@@ -64,6 +69,8 @@ impl Client {
         requires allowed { LetsAt C.allows asks.RemoveDefaultAcl self.old path.now }
         ensures asked { AsksAt C.serves true asks.RemoveDefaultAcl self.old path.now cluster.old
             (as_answer (λ _. answers.RemoveDefaultAcl) result) self.new cluster.new }
+        ensures files { KeepsFiles C.allows C.may_answer self.old (C.shown cluster.old) self.new
+            (C.shown cluster.new) }
         ensures client { IsClientOf self.new (C.shown cluster.new) }
     {
         let to = self.resolve(path)?;
@@ -76,6 +83,8 @@ impl Client {
         requires allowed { LetsAt C.allows asks.RemoveAcl self.old path.now }
         ensures asked { AsksAt C.serves true asks.RemoveAcl self.old path.now cluster.old
             (as_answer (λ _. answers.RemoveAcl) result) self.new cluster.new }
+        ensures files { KeepsFiles C.allows C.may_answer self.old (C.shown cluster.old) self.new
+            (C.shown cluster.new) }
         ensures client { IsClientOf self.new (C.shown cluster.new) }
     {
         let to = self.resolve(path)?;
@@ -94,6 +103,8 @@ impl Client {
         ensures asked { AsksAt C.serves true (λ at. asks.SetAcl at (map entry_message acl_spec.now)) self.old
             path.now cluster.old
             (as_answer (λ _. answers.SetAcl) result) self.new cluster.new }
+        ensures files { KeepsFiles C.allows C.may_answer self.old (C.shown cluster.old) self.new
+            (C.shown cluster.new) }
         ensures client { IsClientOf self.new (C.shown cluster.new) }
     {
         let to = self.resolve(path)?;
@@ -114,6 +125,8 @@ impl Client {
         ensures asked { Gives C.serves false asks.GetAclStatus answers.GetAclStatus self.old path.now cluster.old
             self.new cluster.new
             (λ told. IsAcl told result) }
+        ensures files { KeepsFiles C.allows C.may_answer self.old (C.shown cluster.old) self.new
+            (C.shown cluster.new) }
         ensures client { IsClientOf self.new (C.shown cluster.new) }
     {
         let told = self.acl_at(cluster, path)?;
@@ -126,6 +139,8 @@ impl Client {
         requires allowed { LetsAt C.allows asks.GetAclStatus self.old path.now }
         ensures asked { AsksAt C.serves false asks.GetAclStatus self.old path.now cluster.old
             (as_answer answers.GetAclStatus result) self.new cluster.new }
+        ensures files { KeepsFiles C.allows C.may_answer self.old (C.shown cluster.old) self.new
+            (C.shown cluster.new) }
         ensures client { IsClientOf self.new (C.shown cluster.new) }
     {
         let to = self.resolve(path)?;

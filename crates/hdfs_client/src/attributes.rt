@@ -9,6 +9,7 @@ use hdfs_cluster::{Cluster, HdfsError};
 
 impl Client {
     ghost use Rattle.hdfs_client.specs.Clients.{AsksAt, IsClientOf, LetsAt};
+    ghost use Rattle.hdfs_client.specs.Writing.{KeepsFiles};
 
     /// Sets the times of the last change and of the last read, in milliseconds.
     pub fn set_times<C: Cluster>(
@@ -22,6 +23,8 @@ impl Client {
         requires allowed { LetsAt C.allows (λ at. asks.SetTimes at mtime atime) self.old path.now }
         ensures asked { AsksAt C.serves true (λ at. asks.SetTimes at mtime atime) self.old path.now cluster.old
             (as_answer (λ _. answers.SetTimes) result) self.new cluster.new }
+        ensures files { KeepsFiles C.allows C.may_answer self.old (C.shown cluster.old) self.new
+            (C.shown cluster.new) }
         ensures client { IsClientOf self.new (C.shown cluster.new) }
     {
         let to = self.resolve(path)?;
@@ -42,6 +45,8 @@ impl Client {
         ensures asked { AsksAt C.serves true (λ at. asks.SetOwner at (option_copied owner.entry)
             (option_copied group.entry))
             self.old path.now cluster.old (as_answer (λ _. answers.SetOwner) result) self.new cluster.new }
+        ensures files { KeepsFiles C.allows C.may_answer self.old (C.shown cluster.old) self.new
+            (C.shown cluster.new) }
         ensures client { IsClientOf self.new (C.shown cluster.new) }
     {
         let to = self.resolve(path)?;
@@ -59,6 +64,8 @@ impl Client {
         requires allowed { LetsAt C.allows (λ at. asks.SetPermission at permission) self.old path.now }
         ensures asked { AsksAt C.serves true (λ at. asks.SetPermission at permission) self.old path.now cluster.old
             (as_answer (λ _. answers.SetPermission) result) self.new cluster.new }
+        ensures files { KeepsFiles C.allows C.may_answer self.old (C.shown cluster.old) self.new
+            (C.shown cluster.new) }
         ensures client { IsClientOf self.new (C.shown cluster.new) }
     {
         let to = self.resolve(path)?;
@@ -76,6 +83,8 @@ impl Client {
         requires allowed { LetsAt C.allows (λ at. asks.SetReplication at replication) self.old path.now }
         ensures asked { AsksAt C.serves true (λ at. asks.SetReplication at replication) self.old path.now cluster.old
             (as_answer answers.SetReplication result) self.new cluster.new }
+        ensures files { KeepsFiles C.allows C.may_answer self.old (C.shown cluster.old) self.new
+            (C.shown cluster.new) }
         ensures client { IsClientOf self.new (C.shown cluster.new) }
     {
         let to = self.resolve(path)?;

@@ -13,6 +13,7 @@ impl FileReader {
     ghost use Rattle.hdfs_client.specs.Clients.{IsClientOf};
     ghost use Rattle.hdfs_client.specs.Readers.{ReadsBy, Stands, at_position, blocks_of, length_of, position_of};
     ghost use Rattle.hdfs_client.specs.Streams.{ReadsInto, count_of};
+    ghost use Rattle.hdfs_client.specs.Writing.{KeepsFiles};
 
     /// Reads the next bytes into `buf`, as many as it has or as are left, and tells how many. The position is behind them then, whatever
     /// comes of it. Behind an error `buf` is what it was.
@@ -35,6 +36,8 @@ impl FileReader {
         ensures reads { ReadsInto count_of (C.shown cluster.old) client.old self.old (position_of self.old)
             (min (length buf.old) (length_of self.old - position_of self.old)) buf.old result
             (C.shown cluster.new) client.new buf.new }
+        ensures files { KeepsFiles C.allows C.may_answer client.old (C.shown cluster.old) client.new
+            (C.shown cluster.new) }
         ensures client { IsClientOf client.new (C.shown cluster.new) }
     {
         let bytes = self.read(client, cluster, buf.len())?;
@@ -57,10 +60,13 @@ impl FileReader {
             → C.allows (AskOf asks.GetServerDefaults) }
         requires blocks { LetsReadBlocks C.allows (blocks_of self.now) }
         ensures range { length_of self.now < offset + length buf.old
-            → IfErr result (EndsBehind offset (length buf.old) (length_of self.now)) × (cluster.new ≡ cluster.old) }
+            → IfErr result (EndsBehind offset (length buf.old) (length_of self.now))
+            × (cluster.new ≡ cluster.old) × (client.new ≡ client.old) }
         ensures reads { ReadsInto done (C.shown cluster.old) client.old self.now offset (length buf.old) buf.old result
             (C.shown cluster.new) client.new buf.new }
         ensures by { ReadsBy client.new self.now }
+        ensures files { KeepsFiles C.allows C.may_answer client.old (C.shown cluster.old) client.new
+            (C.shown cluster.new) }
         ensures client { IsClientOf client.new (C.shown cluster.new) }
     {
         let bytes = self.read_range(client, cluster, offset, buf.len())?;

@@ -6,7 +6,7 @@ ghost use Rattle.hdfs_names.specs.declared.mounts.MountLink.{MountLink};
 ghost use Rattle.hdfs_names.specs.Homes.{home_root_of};
 ghost use Rattle.hdfs_names.specs.Mounts.{is_absolute_or_empty};
 ghost use Rattle.hdfs_client.specs.Building as spec;
-ghost use Rattle.hdfs_client.specs.Building.{AsksAny, Builds, Comes, IsHome, IsMade, given_by, plan_of};
+ghost use Rattle.hdfs_client.specs.Building.{AsksAny, Builds, Comes, IsHome, IsMade, Undrawn, given_by, plan_of};
 ghost use Rattle.hdfs_client.specs.Linked.{is_rooted};
 ghost use Rattle.hdfs_client.specs.Mounting.{IsSound, held_by};
 ghost use Rattle.hdfs_client.specs.declared.build_error.BuildError.TheVariants as build_errors;
@@ -105,6 +105,8 @@ fn build_with<G: Rng>(
 ) -> Result<Client, BuildError>
     ensures builds { let given = given_by url.now config.now (spec.user_or user.now) in
         Comes given (plan_of given (entries_of config.now) (G.stream rng.old)) result (G.stream rng.new) }
+    ensures undrawn { Undrawn (given_by url.now config.now (spec.user_or user.now)) (G.stream rng.old)
+        (G.stream rng.new) }
     ensures any { IfOk result AsksAny }
 {
     match place_at(alloc, text_of(url), config.get("fs.defaultFS")) {

@@ -3,7 +3,8 @@ ghost use Rattle.std.specs.Prelude.{◌≡◌};
 ghost use Rattle.hdfs_client.specs.declared.errors.ClientError.TheVariants as client_errors;
 ghost use Rattle.hdfs_cluster.specs.declared.errors.HdfsError.TheVariants as errors;
 
-use hdfs_cluster::HdfsError;
+use hdfs_cluster::{ArgFault, HdfsError};
+use hdfs_names::NamesFault;
 use hdfs_wire::NoMemory;
 use std::alloc::{AllocError, AllocFailed};
 use thiserror::Error;
@@ -51,5 +52,22 @@ impl<T: Drop> From<AllocFailed<T>> for ClientError {
 
     fn from(_: AllocFailed<T>) -> Self {
         ClientError::Hdfs(HdfsError::NoMemory)
+    }
+}
+
+impl From<NamesFault> for ClientError {
+    ghost use Rattle.hdfs_client.specs.Refusing.{refusal_of};
+
+    ghost from_gives = { λ fault e. e ≡ refusal_of fault };
+
+    fn from(fault: NamesFault) -> Self {
+        match fault {
+            NamesFault::NoMemory => ClientError::Hdfs(HdfsError::NoMemory),
+            NamesFault::InvalidPath(path) => ClientError::Hdfs(HdfsError::InvalidPath(path)),
+            NamesFault::InvalidArgument(text) => ClientError::Hdfs(HdfsError::InvalidPath(text)),
+            NamesFault::ResolveNeeded => ClientError::Hdfs(HdfsError::InvalidArgument(
+                ArgFault::Settings,
+            )),
+        }
     }
 }

@@ -21,6 +21,7 @@ pub struct FileReader {
 impl FileReader {
     ghost use Rattle.hdfs_client.specs.Clients.{IsClientOf};
     ghost use Rattle.hdfs_client.specs.Readers.{ReadsBy, ReadsRange, Stands, at_position, blocks_of, length_of, position_of};
+    ghost use Rattle.hdfs_client.specs.Writing.{KeepsFiles};
 
     /// How many bytes the file has.
     pub fn file_length(&self) -> usize
@@ -73,6 +74,8 @@ impl FileReader {
         ensures stands { Stands self.new × ReadsBy client.new self.new }
         ensures reads { ReadsRange (C.shown cluster.old) client.old self.old (position_of self.old)
             (min len (length_of self.old - position_of self.old)) result (C.shown cluster.new) client.new }
+        ensures files { KeepsFiles C.allows C.may_answer client.old (C.shown cluster.old) client.new
+            (C.shown cluster.new) }
         ensures client { IsClientOf client.new (C.shown cluster.new) }
     {
         let offset = self.position;
@@ -96,10 +99,12 @@ impl FileReader {
         requires defaults { 0 < len → offset + len ≤ length_of self.now → C.allows (AskOf asks.GetServerDefaults) }
         requires blocks { LetsReadBlocks C.allows (blocks_of self.now) }
         ensures range { length_of self.now < offset + len → IfErr result (EndsBehind offset len (length_of self.now))
-            × (cluster.new ≡ cluster.old) }
+            × (cluster.new ≡ cluster.old) × (client.new ≡ client.old) }
         ensures reads { ReadsRange (C.shown cluster.old) client.old self.now offset len result
             (C.shown cluster.new) client.new }
         ensures by { ReadsBy client.new self.now }
+        ensures files { KeepsFiles C.allows C.may_answer client.old (C.shown cluster.old) client.new
+            (C.shown cluster.new) }
         ensures client { IsClientOf client.new (C.shown cluster.new) }
     {
         client.read_range(cluster, &self.file, self.service, offset as u64, len as u64)

@@ -9,6 +9,7 @@ use hdfs_namenode::LeaseTurn;
 impl Client {
     ghost use Rattle.hdfs_client.specs.Clients.{IsClientOf, addresses_of, mounts_of, replacement_of, services_of};
     ghost use Rattle.hdfs_client.specs.Leasing.{LetsRenewAll, StepsServices};
+    ghost use Rattle.hdfs_client.specs.Writing.{KeepsFiles};
 
     /// Each service renews the leases of its files at a moment, in milliseconds, where they are due, in the order of the services. One
     /// without such files asks for nothing. The latest of their turns is told, in the order Idle, Waiting, Renewed, Missed.
@@ -25,6 +26,8 @@ impl Client {
             (services_of self.new) cluster.new }
         ensures rest { (mounts_of self.new ≡ mounts_of self.old) × (addresses_of self.new ≡ addresses_of self.old)
             × (replacement_of self.new ≡ replacement_of self.old) }
+        ensures files { KeepsFiles C.allows C.may_answer self.old (C.shown cluster.old) self.new
+            (C.shown cluster.new) }
         ensures client { IsClientOf self.new (C.shown cluster.new) }
     {
         let mut turn = Some(LeaseTurn::Idle);

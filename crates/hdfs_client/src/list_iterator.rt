@@ -4,10 +4,11 @@ ghost use Rattle.hdfs_cluster.specs.declared.asks.Ask.TheVariants as asks;
 ghost use Rattle.hdfs_cluster.specs.declared.asks.Answer.TheVariants as answers;
 ghost use Rattle.hdfs_cluster.specs.declared.errors.HdfsError.TheVariants as errors;
 ghost use Rattle.hdfs_client.specs.Calls.{Gives};
-ghost use Rattle.hdfs_client.specs.Clients.{IsClientOf, mounts_of};
-ghost use Rattle.hdfs_client.specs.Iterating.{IfFails, IsDirFault, IsEntryFault, IsPage, IsPageFault, LetsWalk, Turns, Walks, asks_none, begun_by, fresh, is_over, left_of, wants_page};
+ghost use Rattle.hdfs_client.specs.Clients.{IsClientOf, Stays, mounts_of};
+ghost use Rattle.hdfs_client.specs.Iterating.{IfFails, IsDirFault, IsEntryFault, IsPage, IsPageFault, LetsWalk, Turns, Walks, asks_none, begun_by, entered_by, fresh, is_over, left_of, wants_page};
 ghost use Rattle.hdfs_client.specs.Listing.{LetsListAt};
-ghost use Rattle.hdfs_client.specs.Turning.{IsFoundIn, IsGiven, IsOpened, IsTurned, Opens, ended, entered_by, first_ended};
+ghost use Rattle.hdfs_client.specs.Turning.{IsFoundIn, IsGiven, IsOpened, IsTurned, Opens, ended, first_ended};
+ghost use Rattle.hdfs_client.specs.Writing.{KeepsFiles};
 
 use crate::client::Client;
 use crate::listing::{has_more, set_start};
@@ -65,7 +66,9 @@ impl DirListingIterator {
         ensures quiet { wants_page (left_of self.old) ≡ false
             → (client.new ≡ client.old) × (cluster.new ≡ cluster.old)
             × IfFails result (IsEntryFault (left_of self.old).path (left_of self.old).held) }
-        ensures mounts { mounts_of client.new ≡ mounts_of client.old }
+        ensures rest { Stays client.old client.new }
+        ensures files { KeepsFiles C.allows C.may_answer client.old (C.shown cluster.old) client.new
+            (C.shown cluster.new) }
         ensures client { IsClientOf client.new (C.shown cluster.new) }
     {
         if let Err(error) = self.turn_page(client, cluster) {
@@ -92,7 +95,9 @@ impl DirListingIterator {
             (λ outcome. IsTurned (left_of self.old).path outcome result (left_of self.new)) }
         ensures quiet { wants_page (left_of self.old) ≡ false
             → (result ≡ Ok tt) × (client.new ≡ client.old) × (cluster.new ≡ cluster.old) }
-        ensures mounts { mounts_of client.new ≡ mounts_of client.old }
+        ensures rest { Stays client.old client.new }
+        ensures files { KeepsFiles C.allows C.may_answer client.old (C.shown cluster.old) client.new
+            (C.shown cluster.new) }
         ensures client { IsClientOf client.new (C.shown cluster.new) }
     {
         if self.wants_page() {
@@ -122,7 +127,9 @@ impl DirListingIterator {
             (λ at. asks.GetListing at (left_of self.old).start false) answers.GetListing
             client.old (left_of self.old).path cluster.old client.new cluster.new
             (λ outcome. IsTurned (left_of self.old).path outcome result (left_of self.new)) }
-        ensures mounts { mounts_of client.new ≡ mounts_of client.old }
+        ensures rest { Stays client.old client.new }
+        ensures files { KeepsFiles C.allows C.may_answer client.old (C.shown cluster.old) client.new
+            (C.shown cluster.new) }
         ensures client { IsClientOf client.new (C.shown cluster.new) }
     {
         let page = client.page(cluster, self.path.as_str(), self.start.as_slice())?;
@@ -199,13 +206,16 @@ impl ListStatusIterator {
     ) -> Option<Result<FileStatus, HdfsError>>
         requires client { IsClientOf client.old (C.shown cluster.old) }
         requires allowed { LetsWalk C.allows C.may_answer (mounts_of client.old) self.old.recursive (begun_by self.old) }
-        ensures walks { Walks C.may_answer (mounts_of client.old) (IsDirFault C.serves) self.old.recursive
+        ensures walks { Walks C.may_answer (mounts_of client.old)
+            (IsDirFault C.serves client.new cluster.new) self.old.recursive
             (begun_by self.old) result (begun_by self.new) }
         ensures allowed { LetsWalk C.allows C.may_answer (mounts_of client.new) self.new.recursive (begun_by self.new) }
         ensures quiet { asks_none (begun_by self.old) ≡ true
             → (client.new ≡ client.old) × (cluster.new ≡ cluster.old) }
         ensures recursive { self.new.recursive ≡ self.old.recursive }
-        ensures mounts { mounts_of client.new ≡ mounts_of client.old }
+        ensures rest { Stays client.old client.new }
+        ensures files { KeepsFiles C.allows C.may_answer client.old (C.shown cluster.old) client.new
+            (C.shown cluster.new) }
         ensures client { IsClientOf client.new (C.shown cluster.new) }
     {
         match self.next_found(client, cluster) {
@@ -223,12 +233,14 @@ impl ListStatusIterator {
     ) -> Option<Result<FileStatus, HdfsError>>
         requires client { IsClientOf client.old (C.shown cluster.old) }
         requires allowed { LetsWalk C.allows C.may_answer (mounts_of client.old) self.old.recursive (begun_by self.old) }
-        ensures found { IsFoundIn C.may_answer (mounts_of client.old) (IsDirFault C.serves) (begun_by self.old) result
-            (begun_by self.new) }
+        ensures found { IsFoundIn C.may_answer (mounts_of client.old)
+            (IsDirFault C.serves client.new cluster.new) (begun_by self.old) result (begun_by self.new) }
         ensures quiet { asks_none (begun_by self.old) ≡ true
             → (client.new ≡ client.old) × (cluster.new ≡ cluster.old) }
         ensures recursive { self.new.recursive ≡ self.old.recursive }
-        ensures mounts { mounts_of client.new ≡ mounts_of client.old }
+        ensures rest { Stays client.old client.new }
+        ensures files { KeepsFiles C.allows C.may_answer client.old (C.shown cluster.old) client.new
+            (C.shown cluster.new) }
         ensures client { IsClientOf client.new (C.shown cluster.new) }
     {
         'directories: loop {

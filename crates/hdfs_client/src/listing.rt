@@ -4,7 +4,7 @@ ghost use Rattle.hdfs_cluster.specs.declared.asks.Ask.TheVariants as asks;
 ghost use Rattle.hdfs_cluster.specs.declared.asks.Answer.TheVariants as answers;
 ghost use Rattle.hdfs_namenode.specs.Asked.{as_answer};
 ghost use Rattle.hdfs_cluster.specs.declared.errors.HdfsError.TheVariants as errors;
-ghost use Rattle.hdfs_client.specs.Listing.{HasAll, IsAnswered, IsListFault, has_more, last_name};
+ghost use Rattle.hdfs_client.specs.Listing.{HasAll, IsAnswered, IsPutFault, has_more, last_name};
 
 use crate::client::Client;
 use crate::errors::ClientError;
@@ -15,9 +15,10 @@ use std::alloc::Global;
 
 impl Client {
     ghost use Rattle.hdfs_client.specs.Calls.{Gives};
-    ghost use Rattle.hdfs_client.specs.Iterating.{IsPage};
-    ghost use Rattle.hdfs_client.specs.Clients.{AsksAt, IsClientOf, LetsAt, mounts_of};
-    ghost use Rattle.hdfs_client.specs.Listing.{IsMoreThan, LetsList, LetsListAt, Lists};
+    ghost use Rattle.hdfs_client.specs.Clients.{AsksAt, IsClientOf, LetsAt, Stays, mounts_of};
+    ghost use Rattle.hdfs_client.specs.Iterating.{IsListFault, IsPage};
+    ghost use Rattle.hdfs_client.specs.Listing.{LetsList, LetsListAt, Lists};
+    ghost use Rattle.hdfs_client.specs.Writing.{KeepsFiles};
 
     /// What stands in a directory, in the namenode's order, and what stands below each directory in it right behind that where `recursive`
     /// says so; of a file, the file alone. It ends whatever a cluster tells.
@@ -35,8 +36,11 @@ impl Client {
         ensures listed { IfOk result (λ found. Lists (HasAll C.may_answer (mounts_of self.old)) recursive path.now
             found.items) }
         ensures count { IfOk result (λ found. vec_len found ≤ limit) }
-        ensures err { IfErr result (IsListFault limit (IsMoreThan C.may_answer (mounts_of self.old) recursive path.now
-            limit)) }
+        ensures err { IfErr result (IsListFault C.serves C.may_answer (mounts_of self.old) recursive path.now limit
+            self.new cluster.new) }
+        ensures rest { Stays self.old self.new }
+        ensures files { KeepsFiles C.allows C.may_answer self.old (C.shown cluster.old) self.new
+            (C.shown cluster.new) }
         ensures client { IsClientOf self.new (C.shown cluster.new) }
     {
         let mut listing = self.list_status_iter(path, recursive)?;
@@ -59,7 +63,9 @@ impl Client {
         ensures asked { Gives C.serves false (λ at. asks.GetListing at start.now false) answers.GetListing self.old path.now
             cluster.old self.new cluster.new (λ found. IsPage path.now found result) }
         ensures answered { IfOk result (IsAnswered C.may_answer (mounts_of self.old) path.now start.now) }
-        ensures mounts { mounts_of self.new ≡ mounts_of self.old }
+        ensures rest { Stays self.old self.new }
+        ensures files { KeepsFiles C.allows C.may_answer self.old (C.shown cluster.old) self.new
+            (C.shown cluster.new) }
         ensures client { IsClientOf self.new (C.shown cluster.new) }
     {
         match self.ask_page(cluster, path, start) {
@@ -82,6 +88,9 @@ impl Client {
             (as_answer answers.GetListing result) self.new cluster.new }
         ensures answered { IfOk result (λ found. IfSome found
             (IsAnswered C.may_answer (mounts_of self.old) path.now start.now)) }
+        ensures rest { Stays self.old self.new }
+        ensures files { KeepsFiles C.allows C.may_answer self.old (C.shown cluster.old) self.new
+            (C.shown cluster.new) }
         ensures client { IsClientOf self.new (C.shown cluster.new) }
     {
         let to = self.resolve(path)?;
@@ -108,11 +117,15 @@ pub(crate) fn set_start(alloc: Global, page: &DirList, start: &mut Blob) -> Resu
 }
 
 /// Puts an entry behind others, unless there are as many as is allowed.
-fn put(found: &mut Vec<FileStatus>, status: FileStatus, limit: u64) -> Result<(), ClientError>
+pub(crate) fn put(
+    found: &mut Vec<FileStatus>,
+    status: FileStatus,
+    limit: u64,
+) -> Result<(), ClientError>
     requires { vec_len found.old ≤ limit }
     ensures put { OnOk result (found.new.items ≡ found.old.items ++ status ∷ []) }
     ensures count { OnOk result (vec_len found.new ≤ limit) }
-    ensures err { IfErr result (IsListFault limit (vec_len found.old ≡ limit)) }
+    ensures err { IfErr result (IsPutFault limit (vec_len found.old ≡ limit)) }
 {
     if found.len() as u64 >= limit {
         return Err(ClientError::TooMany { limit });

@@ -1,22 +1,21 @@
 //! How a service of a client opens a file to be written: a new one, and one that is gone on with.
-ghost use Rattle.std.specs.Prelude.{◌≡◌, ◌≤◌, Option, Some, None, Result, IfOk, IfErr, true, false};
+ghost use Rattle.std.specs.Prelude.{◌≡◌, ◌≤◌, Option, Some, None, Result, IfOk, IfErr, OnErr, true, false, unwrap_or};
 ghost use Rattle.hdfs_cluster.specs.Picture.{SameButActive, Told};
 ghost use Rattle.hdfs_cluster.specs.Requests.{AskOf, LetsClose, id_in};
-ghost use Rattle.hdfs_cluster.specs.Shown.{Later};
 ghost use Rattle.hdfs_cluster.specs.declared.asks.Answer.{Answer};
 ghost use Rattle.hdfs_cluster.specs.declared.asks.Ask.TheVariants as asks;
-ghost use Rattle.hdfs_cluster.specs.declared.errors.Feature.TheVariants as features;
 ghost use Rattle.hdfs_cluster.specs.declared.errors.HdfsError.{HdfsError};
-ghost use Rattle.hdfs_cluster.specs.declared.errors.HdfsError.TheVariants as errors;
+ghost use Rattle.hdfs_client.specs.Holding.{KeepsLeases, TakesLease, lease_by};
 ghost use Rattle.hdfs_client.specs.Opening as spec;
-ghost use Rattle.hdfs_client.specs.Opening.{BeginsAgain, BeginsNew, ClosesAgain, CreatesBy, FailsToAppend, FailsToCreate, IsKnown, KeepsName, KnowsDefaults, LacksDefaults, OpensBy};
-ghost use Rattle.hdfs_file_writer.specs.Writers.{IsAnswered, Stands, file_id_of, has_failed, path_of};
+ghost use Rattle.hdfs_client.specs.Opening.{BeginsAgain, BeginsNew, ClosesAgain, CreatesBy, FailsToAppend, FailsToCreate, IsKnown, KeepsName, KeepsService, KnowsDefaults, LacksDefaults, LeavesLinks, OpensBy};
+ghost use Rattle.hdfs_file_writer.specs.Writers.{IsAnswered, Stands, file_id_of, has_failed, link_of, path_of};
 ghost use Rattle.hdfs_model.specs.Limits.{are_options};
 ghost use Rattle.hdfs_model.specs.Opening as asking;
 ghost use Rattle.hdfs_model.specs.Opening.{LetsAppend, LetsCreate};
 ghost use Rattle.hdfs_namenode.specs.Asked.{AskedOnce, ReachesAll};
-ghost use Rattle.hdfs_namenode.specs.Clients.{name_of, proxy_of, through};
+ghost use Rattle.hdfs_namenode.specs.Clients.{ChangesLeases, SameClient, leases_of, name_of, proxy_of, through};
 
+use crate::file_lease::FileLease;
 use hdfs_cluster::{
     Appended, ArgFault, Cluster, Feature, FileStatusMsg, HdfsError, ServerDefaults,
 };
@@ -24,7 +23,7 @@ use hdfs_file_writer::{FileWriter, WriteSizes};
 use hdfs_model::WriteOptions;
 use hdfs_namenode::NamenodeProtocol;
 use hdfs_rebuild::RebuildSettings;
-use hdfs_wire::Text;
+use hdfs_wire::{NoMemory, Text};
 use std::alloc::Global;
 
 /// The flag of a new file (upstream's `CREATE`).
@@ -37,10 +36,18 @@ const OVERWRITE: u32 = 3;
 const APPEND: u32 = 4;
 
 /// What an answer tells of a file.
-#[derive(Clone, Copy)]
+#[derive(Drop)]
 struct ToldFile {
     file_id: Option<u64>,
+    namespace: Option<Text>,
     encrypted: bool,
+}
+
+/// A file that was opened to be written: its writer, and the lease that is held of it.
+#[derive(Drop)]
+pub(crate) struct OpenedFile {
+    pub(crate) file: FileWriter,
+    pub(crate) lease: FileLease,
 }
 
 /// The flag of a new file with these options.
@@ -53,18 +60,47 @@ fn create_flag(options: &WriteOptions) -> u32
 /// What a status tells of its file.
 fn told_by(status: Option<FileStatusMsg>) -> ToldFile
     ensures id { result.file_id ≡ id_in status }
+    ensures namespace { result.namespace ≡ (lease_by status).namespace }
     ensures encrypted { result.encrypted ≡ asking.tells_encryption status }
 {
-    match &status {
+    match status {
         Some(status) => ToldFile {
             file_id: status.file_id,
             encrypted: status.encryption.is_some(),
+            namespace: status.namespace,
         },
         None => ToldFile {
             file_id: None,
+            namespace: None,
             encrypted: false,
         },
     }
+}
+
+/// What is answered of an encrypted file, behind what was done to leave it as it was.
+fn refusal<T>(outcome: &Result<T, HdfsError>) -> HdfsError
+    ensures { result ≡ spec.refusal outcome.now }
+{
+    match outcome {
+        Err(HdfsError::NoMemory) => HdfsError::NoMemory,
+        _ => HdfsError::UnsupportedFeature(Feature::Encryption),
+    }
+}
+
+/// The writer of a file that was opened, with the lease of that file, which is taken.
+fn hold(
+    namenode: &mut NamenodeProtocol,
+    file: FileWriter,
+    told: ToldFile,
+) -> Result<OpenedFile, NoMemory>
+    ensures file { IfOk result (λ opened. (opened.file ≡ file)
+        × (opened.lease.file_id ≡ unwrap_or told.file_id 0) × (opened.lease.namespace ≡ told.namespace)) }
+    ensures taken { IfOk result (λ opened. TakesLease opened.lease (leases_of namenode.old) (leases_of namenode.new)) }
+    ensures err { OnErr result (KeepsLeases (leases_of namenode.old) (leases_of namenode.new)) }
+    ensures keeps { ChangesLeases namenode.old namenode.new }
+{
+    let lease = FileLease::take(namenode, told.file_id, told.namespace)?;
+    Ok(OpenedFile { file, lease })
 }
 
 /// With what a file is written that has this replication and block size.
@@ -99,7 +135,7 @@ fn limited_defaults<C: Cluster>(
     ensures known { IfOk result (IsKnown C.may_answer namenode.old) }
     ensures err { IfErr result (λ error. LacksDefaults C.serves namenode.old cluster.old error namenode.new
         cluster.new) }
-    ensures keeps { KeepsName namenode.old namenode.new × Later (C.shown cluster.old) (C.shown cluster.new) }
+    ensures keeps { KeepsName namenode.old namenode.new × LeavesLinks (C.shown cluster.old) (C.shown cluster.new) }
 {
     let defaults = namenode.get_cached_server_defaults(cluster)?;
     if !defaults.are_limited() {
@@ -116,16 +152,18 @@ fn refuse_created<C: Cluster>(
 ) -> HdfsError
     requires reaches { ReachesAll (proxy_of namenode.old) (C.shown cluster.old) }
     requires allowed { C.allows (AskOf (asks.Delete path.now false)) }
-    ensures is { result ≡ errors.UnsupportedFeature features.Encryption }
     ensures deleted { (outcome : Result Answer HdfsError) × AskedOnce C.serves true (asks.Delete path.now false)
-        (through namenode.old cluster.old) outcome (through namenode.new cluster.new) }
-    ensures keeps { KeepsName namenode.old namenode.new × Later (C.shown cluster.old) (C.shown cluster.new) }
+        (through namenode.old cluster.old) outcome (through namenode.new cluster.new)
+        × (result ≡ spec.refusal outcome) }
+    ensures keeps { SameClient namenode.old namenode.new × LeavesLinks (C.shown cluster.old) (C.shown cluster.new) }
 {
-    drop(namenode.delete(cluster, path, false));
-    HdfsError::UnsupportedFeature(Feature::Encryption)
+    let deleted = namenode.delete(cluster, path, false);
+    let error = refusal(&deleted);
+    drop(deleted);
+    error
 }
 
-/// Creates a file at a path, and answers its writer.
+/// Creates a file at a path, takes its lease, and answers its writer with that.
 ///
 /// Errors: `InvalidArgument(Defaults)` where the cluster's defaults are out of their limits; `UnsupportedFeature(Encryption)` where the new
 /// file is encrypted, which is deleted again then; those of an ask.
@@ -136,21 +174,20 @@ pub(crate) fn create_by<C: Cluster>(
     path: Text,
     options: &WriteOptions,
     rebuilding: RebuildSettings,
-) -> Result<FileWriter, HdfsError>
+) -> Result<OpenedFile, HdfsError>
     requires reaches { ReachesAll (proxy_of namenode.old) (C.shown cluster.old) }
     requires allowed { LetsCreate C.allows C.may_answer (IsKnown C.may_answer namenode.old) (name_of namenode.old)
         path options.now }
     requires limits { (are_options options.now ≡ true) × (1 ≤ rebuilding.window) × (rebuilding.window ≤ 1000) }
-    ensures created { IfOk result (λ writer. CreatesBy C.serves path options.now rebuilding namenode.old cluster.old
-        writer
-        namenode.new cluster.new) }
-    ensures begins { IfOk result (λ writer. BeginsNew (C.shown cluster.old) path options.now writer
+    ensures created { IfOk result (λ opened. CreatesBy C.serves path options.now rebuilding namenode.old cluster.old
+        opened.file opened.lease namenode.new cluster.new) }
+    ensures begins { IfOk result (λ opened. BeginsNew (C.shown cluster.old) path options.now opened.file
         (C.shown cluster.new)) }
-    ensures stands { IfOk result (Stands (C.shown cluster.new)) }
-    ensures answered { IfOk result (IsAnswered C.may_answer (name_of namenode.old)) }
+    ensures stands { IfOk result (λ opened. Stands (C.shown cluster.new) opened.file
+        × IsAnswered C.may_answer (name_of namenode.old) opened.file) }
     ensures err { IfErr result (λ error. FailsToCreate C.serves path options.now namenode.old cluster.old error
-        namenode.new cluster.new) }
-    ensures keeps { KeepsName namenode.old namenode.new × Later (C.shown cluster.old) (C.shown cluster.new) }
+        namenode.new cluster.new × KeepsLeases (leases_of namenode.old) (leases_of namenode.new)) }
+    ensures keeps { KeepsService namenode.old namenode.new × LeavesLinks (C.shown cluster.old) (C.shown cluster.new) }
 {
     let defaults = limited_defaults(cluster, namenode)?;
     let replication = options.replication.unwrap_or(defaults.replication);
@@ -169,7 +206,8 @@ pub(crate) fn create_by<C: Cluster>(
         return Err(refuse_created(cluster, namenode, path.as_str()));
     }
     let sizes = sizes_by(rebuilding, &defaults, replication, block_size);
-    Ok(FileWriter::new(alloc, path, told.file_id, sizes))
+    let file = FileWriter::new(alloc, path, told.file_id, sizes);
+    Ok(hold(namenode, file, told)?)
 }
 
 /// Refuses to write a file that was just opened: it is closed again, as far as a namenode does that.
@@ -180,17 +218,21 @@ fn refuse_opened<C: Cluster>(
 ) -> HdfsError
     requires reaches { ReachesAll (proxy_of namenode.old) (C.shown cluster.old) }
     requires stands { Stands (C.shown cluster.old) writer × (has_failed writer ≡ false) }
+    requires idle { link_of writer ≡ None }
     requires allowed { LetsClose C.allows C.may_answer (name_of namenode.old) (path_of writer) (file_id_of writer) }
     requires answered { IsAnswered C.may_answer (name_of namenode.old) writer }
-    ensures is { result ≡ errors.UnsupportedFeature features.Encryption }
-    ensures closes { ClosesAgain (C.shown cluster.old) writer (C.shown cluster.new) }
-    ensures keeps { KeepsName namenode.old namenode.new × Later (C.shown cluster.old) (C.shown cluster.new) }
+    ensures closes { (closes : ClosesAgain (C.shown cluster.old) writer (C.shown cluster.new))
+        × (result ≡ spec.refusal closes.result) }
+    ensures keeps { SameClient namenode.old namenode.new × LeavesLinks (C.shown cluster.old) (C.shown cluster.new) }
 {
-    drop(writer.close(cluster, namenode));
-    HdfsError::UnsupportedFeature(Feature::Encryption)
+    let closed = writer.close(cluster, namenode);
+    let error = refusal(&closed);
+    drop(closed);
+    error
 }
 
-/// Opens the file at a path, to be gone on with, and answers its writer. `name` is the path as the caller names it.
+/// Opens the file at a path, to be gone on with, takes its lease, and answers its writer with that. `name` is the path as the caller names
+/// it.
 ///
 /// Errors: `FileNotFound` with that name where no status comes of it; `InvalidArgument(Defaults)` where the cluster's defaults are out of their
 /// limits; `UnsupportedFeature(Encryption)` where the file is encrypted, which is closed again then; those of an ask.
@@ -201,18 +243,19 @@ pub(crate) fn append_by<C: Cluster>(
     path: Text,
     name: &str,
     rebuilding: RebuildSettings,
-) -> Result<FileWriter, HdfsError>
+) -> Result<OpenedFile, HdfsError>
     requires reaches { ReachesAll (proxy_of namenode.old) (C.shown cluster.old) }
     requires allowed { LetsAppend C.allows C.may_answer (name_of namenode.old) path }
     requires limits { (1 ≤ rebuilding.window) × (rebuilding.window ≤ 1000) }
-    ensures opened { IfOk result (λ writer. OpensBy C.serves path rebuilding namenode.old cluster.old writer
-        namenode.new cluster.new) }
-    ensures begins { IfOk result (λ writer. BeginsAgain (C.shown cluster.old) path writer (C.shown cluster.new)) }
-    ensures stands { IfOk result (Stands (C.shown cluster.new)) }
-    ensures answered { IfOk result (IsAnswered C.may_answer (name_of namenode.old)) }
+    ensures opened { IfOk result (λ opened. OpensBy C.serves path rebuilding namenode.old cluster.old
+        opened.file opened.lease namenode.new cluster.new) }
+    ensures begins { IfOk result (λ opened. BeginsAgain (C.shown cluster.old) path opened.file
+        (C.shown cluster.new)) }
+    ensures stands { IfOk result (λ opened. Stands (C.shown cluster.new) opened.file
+        × IsAnswered C.may_answer (name_of namenode.old) opened.file) }
     ensures err { IfErr result (λ error. FailsToAppend C.shown C.serves path name.now namenode.old cluster.old error
-        namenode.new cluster.new) }
-    ensures keeps { KeepsName namenode.old namenode.new × Later (C.shown cluster.old) (C.shown cluster.new) }
+        namenode.new cluster.new × KeepsLeases (leases_of namenode.old) (leases_of namenode.new)) }
+    ensures keeps { KeepsService namenode.old namenode.new × LeavesLinks (C.shown cluster.old) (C.shown cluster.new) }
 {
     let defaults = limited_defaults(cluster, namenode)?;
     let Appended { block, stat } = namenode.append(cluster, path.as_str(), APPEND)?;
@@ -231,5 +274,5 @@ pub(crate) fn append_by<C: Cluster>(
     if told.encrypted {
         return Err(refuse_opened(cluster, namenode, writer));
     }
-    Ok(writer)
+    Ok(hold(namenode, writer, told)?)
 }

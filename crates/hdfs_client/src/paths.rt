@@ -16,6 +16,7 @@ use hdfs_cluster::{ArgFault, Cluster, FileStatusMsg, HdfsError, Summary, is_perm
 impl Client {
     ghost use Rattle.hdfs_client.specs.Calls.{Gives, LetsRename, Renames, done};
     ghost use Rattle.hdfs_client.specs.Clients.{AsksAt, IsClientOf, LetsAt};
+    ghost use Rattle.hdfs_client.specs.Writing.{KeepsFiles};
 
     /// What stands at a path.
     ///
@@ -31,6 +32,8 @@ impl Client {
         ensures asked { Gives C.serves false asks.GetFileInfo answers.GetFileInfo self.old path.now cluster.old
             self.new cluster.new
             (λ found. IsInfo path.now found result) }
+        ensures files { KeepsFiles C.allows C.may_answer self.old (C.shown cluster.old) self.new
+            (C.shown cluster.new) }
         ensures client { IsClientOf self.new (C.shown cluster.new) }
     {
         let found = self.look_up(cluster, path)?;
@@ -47,6 +50,8 @@ impl Client {
         requires allowed { LetsAt C.allows asks.GetFileInfo self.old path.now }
         ensures asked { AsksAt C.serves false asks.GetFileInfo self.old path.now cluster.old
             (as_answer answers.GetFileInfo result) self.new cluster.new }
+        ensures files { KeepsFiles C.allows C.may_answer self.old (C.shown cluster.old) self.new
+            (C.shown cluster.new) }
         ensures client { IsClientOf self.new (C.shown cluster.new) }
     {
         let to = self.resolve(path)?;
@@ -63,6 +68,8 @@ impl Client {
         requires allowed { LetsAt C.allows asks.GetContentSummary self.old path.now }
         ensures asked { AsksAt C.serves false asks.GetContentSummary self.old path.now cluster.old
             (as_answer answers.GetContentSummary result) self.new cluster.new }
+        ensures files { KeepsFiles C.allows C.may_answer self.old (C.shown cluster.old) self.new
+            (C.shown cluster.new) }
         ensures client { IsClientOf self.new (C.shown cluster.new) }
     {
         let to = self.resolve(path)?;
@@ -87,6 +94,8 @@ impl Client {
         ensures asked { is_permission permission ≡ true → Gives C.serves true
             (λ at. asks.Mkdirs at permission create_parent) answers.Mkdirs
             self.old path.now cluster.old self.new cluster.new (λ made. result ≡ done made) }
+        ensures files { KeepsFiles C.allows C.may_answer self.old (C.shown cluster.old) self.new
+            (C.shown cluster.new) }
         ensures client { IsClientOf self.new (C.shown cluster.new) }
     {
         if !is_permission(permission) {
@@ -110,6 +119,8 @@ impl Client {
         requires allowed { LetsAt C.allows (λ at. asks.Mkdirs at masked create_parent) self.old path.now }
         ensures asked { AsksAt C.serves true (λ at. asks.Mkdirs at masked create_parent) self.old path.now cluster.old
             (as_answer answers.Mkdirs result) self.new cluster.new }
+        ensures files { KeepsFiles C.allows C.may_answer self.old (C.shown cluster.old) self.new
+            (C.shown cluster.new) }
         ensures client { IsClientOf self.new (C.shown cluster.new) }
     {
         let to = self.resolve(path)?;
@@ -129,6 +140,8 @@ impl Client {
         requires client { IsClientOf self.old (C.shown cluster.old) }
         requires allowed { LetsRename C.allows overwrite self.old src.now dst.now }
         ensures asked { Renames C.serves overwrite self.old src.now dst.now cluster.old result self.new cluster.new }
+        ensures files { KeepsFiles C.allows C.may_answer self.old (C.shown cluster.old) self.new
+            (C.shown cluster.new) }
         ensures client { IsClientOf self.new (C.shown cluster.new) }
     {
         let from = self.resolve(src)?;
@@ -152,6 +165,8 @@ impl Client {
         requires allowed { LetsAt C.allows (λ at. asks.Delete at recursive) self.old path.now }
         ensures asked { AsksAt C.serves true (λ at. asks.Delete at recursive) self.old path.now cluster.old
             (as_answer answers.Delete result) self.new cluster.new }
+        ensures files { KeepsFiles C.allows C.may_answer self.old (C.shown cluster.old) self.new
+            (C.shown cluster.new) }
         ensures client { IsClientOf self.new (C.shown cluster.new) }
     {
         let to = self.resolve(path)?;

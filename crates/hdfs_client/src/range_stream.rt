@@ -49,6 +49,7 @@ impl RangeStream<'_> {
     ghost use Rattle.hdfs_client.specs.Clients.{IsClientOf};
     ghost use Rattle.hdfs_client.specs.Readers.{ReadsBy, blocks_of};
     ghost use Rattle.hdfs_client.specs.Streams.{GivesPiece, Streams, behind, ended, is_over, reader_of};
+    ghost use Rattle.hdfs_client.specs.Writing.{KeepsFiles};
 
     /// Whether it gives nothing more: it was ended, or has given its whole range.
     pub fn is_over(&self) -> bool
@@ -74,6 +75,8 @@ impl RangeStream<'_> {
         ensures gives { is_over self.old ≡ false → GivesPiece (C.shown cluster.old) client.old self.old result
             (C.shown cluster.new) client.new self.new }
         ensures stands { Streams self.new × ReadsBy client.new (reader_of self.new) }
+        ensures files { KeepsFiles C.allows C.may_answer client.old (C.shown cluster.old) client.new
+            (C.shown cluster.new) }
         ensures client { IsClientOf client.new (C.shown cluster.new) }
     {
         if self.is_over() {

@@ -19,6 +19,7 @@ impl Client {
     ghost use Rattle.hdfs_client.specs.Calls.{Gives};
     ghost use Rattle.hdfs_client.specs.Clients.{IsClientOf, LetsAt};
     ghost use Rattle.hdfs_client.specs.Readers.{AreLocated, IsMadeFor, ReadsBlocks, ShowsFile};
+    ghost use Rattle.hdfs_client.specs.Writing.{KeepsFiles};
 
     /// A reader of the file at a path, at its start: all blocks of the file are asked for, once.
     ///
@@ -32,6 +33,8 @@ impl Client {
         ensures made { IfOk result (IsMadeFor self.old path.now self.new) }
         ensures answered { IfOk result (AreLocated C.may_answer self.old path.now) }
         ensures shows { IfOk result (ShowsFile self.old path.now (C.shown cluster.old) (C.shown cluster.new)) }
+        ensures files { KeepsFiles C.allows C.may_answer self.old (C.shown cluster.old) self.new
+            (C.shown cluster.new) }
         ensures client { IsClientOf self.new (C.shown cluster.new) }
     {
         let to = self.resolve(path)?;
@@ -60,10 +63,13 @@ impl Client {
             → C.allows (AskOf asks.GetServerDefaults) }
         requires blocks { LetsReadBlocks C.allows (files.blocks_of file.now) }
         ensures range { files.length_of file.now < offset + len
-            → IfErr result (EndsBehind offset len (files.length_of file.now)) × (cluster.new ≡ cluster.old) }
+            → IfErr result (EndsBehind offset len (files.length_of file.now))
+            × (cluster.new ≡ cluster.old) × (self.new ≡ self.old) }
         ensures reads { ReadsBlocks (C.shown cluster.old) self.old file.now service offset len result
             (C.shown cluster.new) self.new }
         ensures there { vec_len self.new.services ≡ vec_len self.old.services }
+        ensures files { KeepsFiles C.allows C.may_answer self.old (C.shown cluster.old) self.new
+            (C.shown cluster.new) }
         ensures client { IsClientOf self.new (C.shown cluster.new) }
     {
         let namenode = &mut self.services[service];

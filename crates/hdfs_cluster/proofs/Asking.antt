@@ -47,6 +47,11 @@ row_keeps p q (asks.Complete src client last file_id) (answers.Complete true) ro
 row_keeps p q (asks.UpdateBlockForPipeline block client) (answers.UpdateBlockForPipeline located) row = keeps_same p q row.1
 row_keeps p q (asks.GetAdditionalDatanode src block existing excludes count client ids) (answers.GetAdditionalDatanode located) row = keeps_same p q row.2
 row_keeps p q (asks.UpdatePipeline client block block' nodes ids) answers.UpdatePipeline row = row.changes.bytes
+row_keeps p q (asks.GetFileInfo src) (answers.GetFileInfo status) row = keeps_same p q row.1
+row_keeps p q (asks.GetListing src from located) (answers.GetListing page) row = keeps_same p q row.1
+row_keeps p q (asks.Mkdirs src masked parents) (answers.Mkdirs true) row = row.1.bytes
+row_keeps p q (asks.Delete src recursive) (answers.Delete true) row = row.1
+row_keeps p q (asks.Delete src recursive) (answers.Delete false) row = keeps_same p q row.1
 row_keeps p q (asks.RenewLease client namespaces) answers.RenewLease row = keeps_same p q row
 row_keeps p q asks.Msync answers.Msync row = keeps_same p q row
 row_keeps p q asks.GetHaServiceState (answers.GetHaServiceState state) row = keeps_same p q row

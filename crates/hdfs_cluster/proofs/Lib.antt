@@ -3,8 +3,11 @@ pub mod Failures
 pub mod Frames
 pub mod Framing
 pub mod Loads
+pub mod NamesRepeating
+pub mod NamesSound
 pub mod Ordering
 pub mod Relaying
 pub mod Repeating
 pub mod Times
 pub mod Trees
+pub mod WrongNames

@@ -1,5 +1,5 @@
 -- What an ask of several namenodes comes to over a told picture: by its row, however often it was done behind a lost answer.
-use Rattle.std.proofs.Common.{◌≡◌, ◌≢◌, ◌⊎◌, inl, inr, ⊎_elim, ℕ, ◌<◌, Bool, true, false, List, [], ◌∷◌, ◌++◌, Option, Some, None, Result, Ok, Err, refl, sym, ◌∙◌, ap, subst, arith}
+use Rattle.std.proofs.Common.{◌≡◌, ◌≢◌, ◌⊎◌, inl, inr, ⊎_elim, ℕ, ◌<◌, Bool, true, false, List, [], ◌∷◌, ◌++◌, Option, Some, None, IsSome, is_some, Result, Ok, Err, refl, sym, ◌∙◌, ap, subst, arith}
 use Rattle.std.proofs.Math.Path.{fun_ext}
 use Rattle.std.proofs.lemmas.Bool.{false≢true}
 use Rattle.std.specs.Option.{option_map}
@@ -8,14 +8,16 @@ use Rattle.hdfs_cluster.specs.declared.asks.Ask.TheVariants as asks
 use Rattle.hdfs_cluster.specs.declared.asks.Answer.{Answer}
 use Rattle.hdfs_cluster.specs.declared.asks.AskFault.{AskFault}
 use Rattle.hdfs_cluster.specs.declared.asks.AskFault.TheVariants as faults
+use Rattle.hdfs_cluster.specs.declared.picture.Entry.{Entry}
 use Rattle.hdfs_cluster.specs.Failures.{CallsRose}
 use Rattle.hdfs_cluster.specs.Counts.{Rose}
 use Rattle.hdfs_cluster.specs.Failover.{passes_on, AsksOne, PassedOn, AsksInOrder}
 use Rattle.hdfs_cluster.specs.Files.{Kind, Directory, ClosedFile, OpenFile, NoFile, NotDirectory, Missing, NotFile}
-use Rattle.hdfs_cluster.specs.Namenode.{Row, IsShaped, IsOwn, IsRefusal, MayBeDone, IsFalse, ServesTold, StandsForAny, StandsForNoFile, StandsForRefusal, class_for, class_in_the_way, is_retriable, overwrites}
+use Rattle.hdfs_cluster.specs.Namenode.{Row, FoundNothing, IsShaped, IsOwn, IsRefusal, MayBeDone, IsFalse, ServesTold, StandsForAny, StandsForNoFile, StandsForRefusal, class_for, class_in_the_way, is_retriable, overwrites}
+use Rattle.hdfs_cluster.specs.Names.{HasBelow}
 use Rattle.hdfs_cluster.specs.Picture.{Picture, SameButActive, SamePicture, entry_kind, kinds}
-use Rattle.hdfs_cluster.specs.Refusals.{Refusal, BadPath, WrongState, Exists, Lacks, BadRange, create_refusal, append_refusal}
-use Rattle.hdfs_cluster.specs.Repeating.{DoneOrNot, Repeats}
+use Rattle.hdfs_cluster.specs.Refusals.{Refusal, BadPath, WrongState, Exists, Lacks, BadRange, above_refusal, create_refusal, append_refusal, mkdirs_refusal}
+use Rattle.hdfs_cluster.specs.Repeating.{Done, DoneOrNot, Repeats}
 use Rattle.hdfs_cluster.specs.Shown.{Shown, Served, Later}
 use Rattle.hdfs_cluster.proofs.Frames.{told_after, later_refl, later_trans, rose_since}
 
@@ -38,11 +40,19 @@ pub joins : (ask : Ask) (p : Picture) → Repeats ask p → (q r : Picture) → 
 joins ask p repeats q r (inl same) (inl still) = inl (same_trans p q r same still)
 joins ask p repeats q r (inl same) (inr done) = inr (done.0, done.1, repeats.left q r done.0 same done.2)
 joins ask p repeats q r (inr done) (inl still) = inr (done.0, done.1, repeats.right q r done.0 done.2 still)
-joins ask p repeats q r (inr done) (inr more) = inr (more.0, more.1, repeats.twice q r done.0 more.0 done.2 more.2)
+joins ask p repeats q r (inr done) (inr more) =
+    inr (⊎_elim (λ row. (more.0, more.1, row)) (λ again. (done.0, done.1, again.1)) (repeats.twice q r done.0 more.0 done.2 more.2))
 
-pub answered : (ask : Ask) (p : Picture) → Repeats ask p → (q r : Picture) (b : Answer) → DoneOrNot ask p q → Row q ask b r → Row p ask b r
-answered ask p repeats q r b (inl same) row = repeats.left q r b same row
-answered ask p repeats q r b (inr done) row = repeats.twice q r done.0 b done.2 row
+pub answered : (ask : Ask) (p : Picture) → Repeats ask p → (q r : Picture) (b : Answer) → DoneOrNot ask p q → Row q ask b r
+    → Row p ask b r ⊎ (FoundNothing b × Done ask p r)
+answered ask p repeats q r b (inl same) row = inl (repeats.left q r b same row)
+answered ask p repeats q r b (inr done) row =
+    ⊎_elim (λ (x : Row p ask b r). inl x) (λ again. inr (again.0, (done.0, done.1, again.1))) (repeats.twice q r done.0 b done.2 row)
+
+joins_done : (ask : Ask) (p : Picture) → Repeats ask p → (q r : Picture) → DoneOrNot ask p q → Done ask q r → Done ask p r
+joins_done ask p repeats q r (inl same) more = (more.0, more.1, repeats.left q r more.0 same more.2)
+joins_done ask p repeats q r (inr done) more =
+    ⊎_elim (λ row. (more.0, more.1, row)) (λ again. (done.0, done.1, again.1)) (repeats.twice q r done.0 more.0 done.2 more.2)
 
 none_own : (ask : Ask) (p q : Picture) → (IsOwn p ask → ⊥) → MayBeDone ask p q → DoneOrNot ask p q
 none_own ask p q none (inl same) = inl same
@@ -72,6 +82,12 @@ refusal_stays : (p : Picture) (ask : Ask) (class : List ℕ) → IsRefusal p ask
 refusal_stays p (asks.GetBlockLocations src offset length) class h = ap is_retriable h.2 ∙ class_stays h.0
 refusal_stays p (asks.Create src masked client flag parents replication block_size) class h = stands_stays (kinds p src) h.0 class h.2
 refusal_stays p (asks.Append src client flag) class h = stands_stays (kinds p src) h.0 class h.2
+refusal_stays p (asks.GetFileInfo src) class h = stands_stays (kinds p src) h.0 class h.2
+refusal_stays p (asks.GetListing src from located) class (inl above) = stands_stays (kinds p src) above.0 class above.2
+refusal_stays p (asks.GetListing src from located) class (inr bad) = ap is_retriable bad.1
+refusal_stays p (asks.Mkdirs src masked parents) class h = stands_stays (Some Directory) h.0 class h.2
+refusal_stays p (asks.Delete src recursive) class (inl above) = stands_stays (kinds p src) above.0 class above.2
+refusal_stays p (asks.Delete src recursive) class (inr full) = ap is_retriable full.1
 refusal_stays p ask class h = absurd h
 
 -- an answer that passes the ask on came from another namenode than the active one and changed nothing, or the count rose
@@ -93,7 +109,8 @@ passed_told risen p i ask (Err (faults.Exception class message)) q none passes h
 
 -- what the last namenode gave
 abbrev pub Comes : Type 0 → Picture → Ask → Result Answer AskFault → Picture → Type 0
-Comes risen p ask (Ok answer) q = Row p ask answer q ⊎ (IsFalse answer × risen × DoneOrNot ask p q)
+Comes risen p ask (Ok answer) q =
+    Row p ask answer q ⊎ (FoundNothing answer × risen × Done ask p q) ⊎ (IsFalse answer × risen × DoneOrNot ask p q)
 Comes risen p ask (Err fault) q =
     ((fault ≡ faults.NoMemory) × DoneOrNot ask p q)
     ⊎ (((class : List ℕ) × (message : List ℕ) × (fault ≡ faults.Exception class message) × IsRefusal p ask class) × SameButActive p q)
@@ -102,18 +119,46 @@ Comes risen p ask (Err fault) q =
 kinds_same : (p q : Picture) → SamePicture p q → kinds p ≡ kinds q
 kinds_same p q same = fun_ext (λ r. ap (option_map entry_kind) (sym (same.rest.files.names r)))
 
+-- something stands below a path in the one, where it does in the other
+below_same : (p q : Picture) (dir : List ℕ) → kinds p ≡ kinds q → HasBelow q.names dir → HasBelow p.names dir
+below_same p q dir same has = record {
+  path = has.path;
+  below = has.below;
+  there = some_kind (p.names has.path) (ap (λ (k : List ℕ → Option Kind). is_some (k has.path)) same ∙ kind_some (q.names has.path) has.there);
+}
+  where
+    kind_some : (o : Option Entry) → IsSome o → is_some (option_map entry_kind o) ≡ true
+    kind_some None is = absurd (false≢true is)
+    kind_some (Some e) is = refl
+
+    some_kind : (o : Option Entry) → is_some (option_map entry_kind o) ≡ true → IsSome o
+    some_kind None is = absurd (false≢true is)
+    some_kind (Some e) is = refl
+
+above_same : (p q : Picture) (src class : List ℕ) → kinds p ≡ kinds q → StandsForAny (kinds q src) (above_refusal (kinds q) src) class
+    → StandsForAny (kinds p src) (above_refusal (kinds p) src) class
+above_same p q src class same h = subst (λ (k : List ℕ → Option Kind). StandsForAny (k src) (above_refusal k src) class) (sym same) h
+
 refusal_same : (p q : Picture) (ask : Ask) (class : List ℕ) → kinds p ≡ kinds q → IsRefusal q ask class → IsRefusal p ask class
 refusal_same p q (asks.GetBlockLocations src offset length) class same h = subst (λ (k : List ℕ → Option Kind). StandsForNoFile k src class) (sym same) h
 refusal_same p q (asks.Create src masked client flag parents replication block_size) class same h =
     subst (λ (k : List ℕ → Option Kind). StandsForAny (k src) (create_refusal k src (overwrites flag) parents) class) (sym same) h
 refusal_same p q (asks.Append src client flag) class same h = subst (λ (k : List ℕ → Option Kind). StandsForAny (k src) (append_refusal k src) class) (sym same) h
+refusal_same p q (asks.GetFileInfo src) class same h = above_same p q src class same h
+refusal_same p q (asks.GetListing src from located) class same (inl above) = inl (above_same p q src class same above)
+refusal_same p q (asks.GetListing src from located) class same (inr bad) = inr bad
+refusal_same p q (asks.Mkdirs src masked parents) class same h =
+    subst (λ (k : List ℕ → Option Kind). StandsForAny (Some Directory) (mkdirs_refusal k src parents) class) (sym same) h
+refusal_same p q (asks.Delete src recursive) class same (inl above) = inl (above_same p q src class same above)
+refusal_same p q (asks.Delete src recursive) class same (inr full) =
+    inr (record { alone = full.0.alone; below = below_same p q src same full.0.below }, full.1)
 refusal_same p q ask class same h = absurd h
 
 -- one that doesn't pass the ask on, by what is told
 gave_told : (risen : Type 0) (p : Picture) (i : ℕ) (ask : Ask) (given : Result Answer AskFault) (q : Picture) → (IsOwn p ask → ⊥) → passes_on given ≡ false
     → ServesTold risen p i ask given q → Comes risen p ask given q
 gave_told risen p i ask (Ok answer) q none stays h =
-    ⊎_elim (λ by. ⊎_elim (λ row. inl row) (λ own. absurd (none own.0)) by.2) (λ no. inr (no.0, no.1, none_own ask p q none no.2)) h
+    ⊎_elim (λ by. ⊎_elim (λ row. inl row) (λ own. absurd (none own.0)) by.2) (λ no. inr (inr (no.0, no.1, none_own ask p q none no.2))) h
 gave_told risen p i ask (Err faults.NoMemory) q none stays h = inl (refl, none_own ask p q none h.1)
 gave_told risen p i ask (Err faults.Broken) q none stays h = absurd (false≢true (sym stays))
 gave_told risen p i ask (Err (faults.BadReply fault)) q none stays h = absurd (false≢true (sym stays))
@@ -172,6 +217,10 @@ module _ {C : Type 0} (shown : C → Shown) (serves : C → ℕ → Ask → Resu
   done_then : (missed : Type 0) (t : C) (q r : Picture) → SoFar missed t q → DoneOrNot ask q r → DoneOrNot ask p r
   done_then missed t q r (inl rises) next = joins ask p repeats q r rises.1 next
   done_then missed t q r (inr still) next = joins ask p repeats q r (inl still.0.rest) next
+
+  done_before : (missed : Type 0) (t : C) (q r : Picture) → SoFar missed t q → Done ask q r → Done ask p r
+  done_before missed t q r (inl rises) next = joins_done ask p repeats q r rises.1 next
+  done_before missed t q r (inr still) next = joins_done ask p repeats q r (inl still.0.rest) next
 
   rises_later : (t u : C) → Later (shown t) (shown u) → CallsRose (shown start).counts (shown t) → CallsRose (shown start).counts (shown u)
   rises_later t u later rose = (
@@ -233,9 +282,12 @@ module _ {C : Type 0} (shown : C → Shown) (serves : C → ℕ → Ask → Resu
   -- what one gives that doesn't pass the ask on, by what was before
   comes_from : (missed risen : Type 0) (t u : C) (q : Picture) (given : Result Answer AskFault) (r : Picture) → SoFar missed t q → Later (shown t) (shown u) → (risen → CallsRose (shown start).counts (shown u))
       → Comes risen q ask given r → Comes (CallsRose (shown start).counts (shown u)) p ask given r
-  comes_from missed risen t u q (Ok answer) r (inl rises) later rose (inl row) = inl (answered ask p repeats q r answer rises.1 row)
-  comes_from missed risen t u q (Ok answer) r (inr still) later rose (inl row) = inl (answered ask p repeats q r answer (inl still.0.rest) row)
-  comes_from missed risen t u q (Ok answer) r so_far later rose (inr denied) = inr (denied.0, rose denied.1, done_then missed t q r so_far denied.2)
+  comes_from missed risen t u q (Ok answer) r (inl rises) later rose (inl row) =
+      ⊎_elim (λ by. inl by) (λ again. inr (inl (again.0, rises_later t u later rises.0, again.1))) (answered ask p repeats q r answer rises.1 row)
+  comes_from missed risen t u q (Ok answer) r (inr still) later rose (inl row) = inl (repeats.left q r answer still.0.rest row)
+  comes_from missed risen t u q (Ok answer) r so_far later rose (inr (inl again)) = inr (inl (again.0, rose again.1, done_before missed t q r so_far again.2))
+  comes_from missed risen t u q (Ok answer) r so_far later rose (inr (inr denied)) =
+      inr (inr (denied.0, rose denied.1, done_then missed t q r so_far denied.2))
   comes_from missed risen t u q (Err fault) r so_far later rose (inl memory) = inl (memory.0, done_then missed t q r so_far memory.1)
   comes_from missed risen t u q (Err fault) r (inl rises) later rose (inr (inl refused)) = inr (inr (rises_later t u later rises.0, joins ask p repeats q r rises.1 (inl refused.1)))
   comes_from missed risen t u q (Err fault) r (inr still) later rose (inr (inl refused)) =

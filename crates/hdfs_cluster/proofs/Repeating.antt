@@ -32,10 +32,10 @@ use Rattle.hdfs_cluster.specs.Sending.{uuids}
 use Rattle.hdfs_cluster.specs.Repeating.{Repeats}
 use Rattle.hdfs_cluster.proofs.Relaying.{same_trans}
 
-same_keeps : (p q : Picture) → SameButActive p q → KeepsBytes p q
+pub same_keeps : (p q : Picture) → SameButActive p q → KeepsBytes p q
 same_keeps p q same = record { held = same.files.held; defaults = same.files.defaults; reads = same.reads; writes = same.writes }
 
-keeps_trans : (p q r : Picture) → KeepsBytes p q → KeepsBytes q r → KeepsBytes p r
+pub keeps_trans : (p q r : Picture) → KeepsBytes p q → KeepsBytes q r → KeepsBytes p r
 keeps_trans p q r f g = record {
   held = λ node id. g.held node id ∙ f.held node id;
   defaults = g.defaults ∙ f.defaults;
@@ -43,30 +43,30 @@ keeps_trans p q r f g = record {
   writes = λ link. g.writes link ∙ f.writes link;
 }
 
-kinds_same : (p q : Picture) → SameButActive p q → kinds p ≡ kinds q
+pub kinds_same : (p q : Picture) → SameButActive p q → kinds p ≡ kinds q
 kinds_same p q same = fun_ext (λ r. ap (option_map entry_kind) (sym (same.files.names r)))
 
-names_same : (p q : Picture) → SameButActive p q → q.names ≡ p.names
+pub names_same : (p q : Picture) → SameButActive p q → q.names ≡ p.names
 names_same p q same = fun_ext same.files.names
 
-table_same : (p q : Picture) → SameButActive p q → q.table ≡ p.table
+pub table_same : (p q : Picture) → SameButActive p q → q.table ≡ p.table
 table_same p q same = fun_ext same.files.table
 
-changes_left : (p q r : Picture) (n n' : List ℕ → Option Entry) (l l' : ℕ → Option BlockEntry) → SameButActive p q → n' ≡ n → l' ≡ l → Changes q r n' l' → Changes p r n l
+pub changes_left : (p q r : Picture) (n n' : List ℕ → Option Entry) (l l' : ℕ → Option BlockEntry) → SameButActive p q → n' ≡ n → l' ≡ l → Changes q r n' l' → Changes p r n l
 changes_left p q r n n' l l' same names table c = record {
   names = λ y. c.names y ∙ ap (λ (f : List ℕ → Option Entry). f y) names;
   table = λ id. c.table id ∙ ap (λ (f : ℕ → Option BlockEntry). f id) table;
   bytes = keeps_trans p q r (same_keeps p q same) c.bytes;
 }
 
-changes_right : (p q r : Picture) (n : List ℕ → Option Entry) (l : ℕ → Option BlockEntry) → Changes p q n l → SameButActive q r → Changes p r n l
+pub changes_right : (p q r : Picture) (n : List ℕ → Option Entry) (l : ℕ → Option BlockEntry) → Changes p q n l → SameButActive q r → Changes p r n l
 changes_right p q r n l c same = record {
   names = λ y. same.files.names y ∙ c.names y;
   table = λ id. same.files.table id ∙ c.table id;
   bytes = keeps_trans p q r c.bytes (same_keeps q r same);
 }
 
-changes_both : (p q r : Picture) (n m : List ℕ → Option Entry) (l t : ℕ → Option BlockEntry) → Changes p q n l → Changes q r m t → ((y : List ℕ) → m y ≡ n y) → ((id : ℕ) → t id ≡ l id) → Changes p r n l
+pub changes_both : (p q r : Picture) (n m : List ℕ → Option Entry) (l t : ℕ → Option BlockEntry) → Changes p q n l → Changes q r m t → ((y : List ℕ) → m y ≡ n y) → ((id : ℕ) → t id ≡ l id) → Changes p r n l
 changes_both p q r n m l t f g names table = record {
   names = λ y. g.names y ∙ names y;
   table = λ id. g.table id ∙ table id;
@@ -100,7 +100,7 @@ pub quiet_repeats : (ask : Ask) (p : Picture) → ((q r : Picture) (a : Answer) 
     → ((q : Picture) → SameButActive p q → IsOwn q ask → ⊥) → Repeats ask p
 quiet_repeats ask p quiet left right none = record {
   left = λ q r b same row. left q r b same row;
-  twice = λ q r a b one two. left q r b (quiet p q a one) two;
+  twice = λ q r a b one two. inl (left q r b (quiet p q a one) two);
   right = λ q r a row same. right q r a row same;
   not_own = λ q done own. ⊎_elim (λ same. none q same own) (λ row. none q (quiet p q row.0 row.2) own) done;
 }
@@ -168,7 +168,7 @@ module _ (src client : List ℕ) (masked flag : ℕ) (parents : Bool) (replicati
   create_again q r a b first second = absurd first
 
   pub create_repeats : Repeats creating p
-  create_repeats = record { left = create_left; twice = create_again; right = create_right; not_own = λ q done own. own }
+  create_repeats = record { left = create_left; twice = λ q r a b one two. inl (create_again q r a b one two); right = create_right; not_own = λ q done own. own }
 
 -- complete, of a file whose last block is named
 module _ (src client : List ℕ) (last : Option Block) (id : Option ℕ) (p : Picture) (file : FileEntry) (is : IsFileAt p src file) (ends : IsLast file.blocks last) where
@@ -225,7 +225,7 @@ module _ (src client : List ℕ) (last : Option Block) (id : Option ℕ) (p : Pi
   pub complete_repeats : Repeats completing p
   complete_repeats = record {
     left = complete_left;
-    twice = complete_again;
+    twice = λ q r a b one two. inl (complete_again q r a b one two);
     right = complete_right;
     not_own = λ q done own. ⊎_elim
         (λ same. own file (same.files.names src ∙ is) ends)
@@ -292,7 +292,7 @@ module _ (src client : List ℕ) (flag : ℕ) (p : Picture) where
   append_again q r a b one two = absurd one
 
   pub append_repeats : Repeats appending p
-  append_repeats = record { left = append_left; twice = append_again; right = append_right; not_own = λ q done own. own }
+  append_repeats = record { left = append_left; twice = λ q r a b one two. inl (append_again q r a b one two); right = append_right; not_own = λ q done own. own }
 
 -- a block has another pipeline
 module _ (client : List ℕ) (block block' : Block) (nodes : List DatanodeId) (ids : List (List ℕ)) (p : Picture) (same_id : block.block_id ≡ block'.block_id) (listed : IsSome (p.table block.block_id)) where
@@ -346,7 +346,7 @@ module _ (client : List ℕ) (block block' : Block) (nodes : List DatanodeId) (i
   pub name_repeats : Repeats naming p
   name_repeats = record {
     left = name_left;
-    twice = name_again;
+    twice = λ q r a b one two. inl (name_again q r a b one two);
     right = name_right;
     not_own = λ q done own. own (same_id, ⊎_elim (λ same. subst IsSome (sym (same.files.table block.block_id)) listed) (λ row. stays_listed q row.0 row.2) done);
   }
@@ -497,7 +497,7 @@ module _ (src client : List ℕ) (previous : Option Block) (excludes : List Data
   pub add_repeats : Repeats adding p
   add_repeats = record {
     left = add_left;
-    twice = add_again;
+    twice = λ q r a b one two. inl (add_again q r a b one two);
     right = add_right;
     not_own = λ q done own. ⊎_elim
         (λ same. own file (same.files.names src ∙ is) still (has_last previous file.blocks ends))

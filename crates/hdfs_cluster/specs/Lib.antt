@@ -1,13 +1,16 @@
 pub mod Counts
+pub mod Deleting
 pub mod Effects
 pub mod Failover
 pub mod Failures
 pub mod Files
 pub mod Fitting
 pub mod Limits
+pub mod Listing
 pub mod Loading
 pub mod Lost
 pub mod Namenode
+pub mod Names
 pub mod Picture
 pub mod Pipes
 pub mod Reading

@@ -1,5 +1,5 @@
 -- What a namenode may answer to an ask, and what its answer does to the picture.
-use Rattle.std.specs.Prelude.{◌≡◌, ◌≢◌, ◌⊎◌, ℕ, ◌+◌, ◌-◌, ◌<◌, ◌≤◌, ◌^◌, ◌==◌, ◌||◌, Bool, true, false, length, List, [], ◌∷◌, All, Contains, IfSome, IsSome, is_some, Option, Some, None, Result, Ok, Err, codes}
+use Rattle.std.specs.Prelude.{◌≡◌, ◌≢◌, ◌⊎◌, ℕ, ◌+◌, ◌-◌, ◌<◌, ◌≤◌, ◌^◌, ◌==◌, ◌||◌, Bool, true, false, length, List, [], ◌∷◌, All, Contains, IfSome, IsSome, is_some, IsUtf8, Option, Some, None, Result, Ok, Err, codes}
 use Rattle.std.specs.Str.{bytes_eq}
 use Rattle.hdfs_cluster.specs.declared.messages.LocatedBlock.{LocatedBlock}
 use Rattle.hdfs_cluster.specs.declared.messages.LocatedBlocks.{LocatedBlocks}
@@ -14,12 +14,15 @@ use Rattle.hdfs_cluster.specs.declared.picture.LastAnswer.TheVariants as last_an
 use Rattle.hdfs_cluster.specs.declared.picture.Entry.TheVariants as entries
 use Rattle.hdfs_cluster.specs.declared.picture.BlockEntry.{BlockEntry}
 use Rattle.hdfs_cluster.specs.declared.picture.FileEntry.{FileEntry}
-use Rattle.hdfs_cluster.specs.Effects.{KeepsBytes, HasStatus, HasBlock, IsLast, Creates, Opens, AddsBlock, Completes, HasGreaterStamp, IsBeingWritten, HasOneMore, AddsOneOf, NamesPipeline}
+use Rattle.hdfs_cluster.specs.Deleting.{DeletesFrom, IsNotEmpty}
+use Rattle.hdfs_cluster.specs.Effects.{Changes, KeepsBytes, HasStatus, HasBlock, IsLast, Creates, Opens, AddsBlock, Completes, HasGreaterStamp, IsBeingWritten, HasOneMore, AddsOneOf, NamesPipeline}
 use Rattle.hdfs_cluster.specs.Files.{Kind, Directory, ClosedFile, NoFile, NotDirectory, Missing, NotFile, no_file, OpenFile}
+use Rattle.hdfs_cluster.specs.Listing.{IsMissing, TellsListing, TellsStatus}
 use Rattle.hdfs_cluster.specs.Picture.{Picture, SameButActive, SamePicture, kinds}
-use Rattle.hdfs_cluster.specs.Refusals.{Refusal, BadPath, WrongState, Exists, Lacks, BadRange, create_refusal, append_refusal}
+use Rattle.hdfs_cluster.specs.Refusals.{Refusal, BadPath, WrongState, Exists, Lacks, BadRange, create_refusal, append_refusal, above_refusal, mkdirs_refusal, with_parents}
 use Rattle.hdfs_cluster.specs.Sending.{uuids}
 use Rattle.hdfs_cluster.specs.Sound.{IsFileAt}
+use Rattle.hdfs_names.specs.Paths.{root}
 
 -- the exceptions by their Java classes
 abbrev pub standby : List ℕ
@@ -52,6 +55,14 @@ not_found = codes "java.io.FileNotFoundException"
 -- a file stands above the path
 abbrev pub parent_not_directory : List ℕ
 parent_not_directory = codes "org.apache.hadoop.fs.ParentNotDirectoryException"
+
+-- the directory isn't empty
+abbrev pub not_empty : List ℕ
+not_empty = codes "org.apache.hadoop.fs.PathIsNotEmptyDirectoryException"
+
+-- a name from which a directory is listed isn't UTF-8
+abbrev pub bad_argument : List ℕ
+bad_argument = codes "java.lang.IllegalArgumentException"
 
 -- what is told of the answer to the last ask
 abbrev pub last_of : Result Answer AskFault → LastAnswer
@@ -172,7 +183,9 @@ IsShaped ask answer = ⊥
 
 -- The row of an ask: what an active namenode answers, and what it does to all but which namenode is active. A look-up
 -- changes nothing, and says which blocks a file has where all of them are asked for: of a narrower range a namenode answers the blocks that
--- it finds there. False is no answer of the row to `complete`.
+-- it finds there. A status and a page tell what stands at a path. A directory is made at a path and above it, where nothing refuses that. What
+-- is deleted goes with all below it; where nothing stands, or of the root, the answer is false, and nothing changes. False is no answer of the
+-- row to `complete`, nor to `mkdirs`.
 abbrev pub Row : Picture → Ask → Answer → Picture → Type 0
 Row old (asks.GetBlockLocations src offset length) (answers.GetBlockLocations None) new = IsNoFile old src × SameButActive old new
 Row old (asks.GetBlockLocations src offset length) (answers.GetBlockLocations (Some found)) new =
@@ -194,6 +207,15 @@ Row old (asks.UpdateBlockForPipeline block client) (answers.UpdateBlockForPipeli
 Row old (asks.GetAdditionalDatanode src block existing excludes count client ids) (answers.GetAdditionalDatanode located) new =
     IsBeingWritten old src block × AddsOneOf existing excludes located.locs × SameButActive old new
 Row old (asks.UpdatePipeline client block block' nodes ids) answers.UpdatePipeline new = NamesPipeline block block' nodes old new
+Row old (asks.GetFileInfo src) (answers.GetFileInfo status) new = TellsStatus old.names old.table src status × SameButActive old new
+Row old (asks.GetListing src from located) (answers.GetListing page) new =
+    TellsListing old.names old.table src from page × SameButActive old new
+Row old (asks.Mkdirs src masked parents) (answers.Mkdirs true) new =
+    (mkdirs_refusal (kinds old) src parents ≡ None)
+    × Changes old new (with_parents old.names entries.Dir src entries.Dir) old.table
+Row old (asks.Delete src recursive) (answers.Delete true) new =
+    DeletesFrom old.names old.table src recursive new.names new.table × KeepsBytes old new
+Row old (asks.Delete src recursive) (answers.Delete false) new = ((src ≡ root) ⊎ IsMissing old.names src) × SameButActive old new
 Row old (asks.RenewLease client namespaces) answers.RenewLease new = SameButActive old new
 Row old asks.Msync answers.Msync new = SameButActive old new
 Row old asks.GetHaServiceState (answers.GetHaServiceState state) new = SameButActive old new
@@ -218,17 +240,26 @@ StandsForRefusal kind BadRange class = ⊥
 abbrev pub StandsForAny : Option Kind → Option Refusal → List ℕ → Type 0
 StandsForAny kind refusal class = (why : Refusal) × (refusal ≡ Some why) × StandsForRefusal kind why class
 
+-- an exception of this class stands for a file above a path
+abbrev pub StandsForAbove : Picture → List ℕ → List ℕ → Type 0
+StandsForAbove p path class = StandsForAny (kinds p path) (above_refusal (kinds p) path) class
+
 -- the exception of this class stands for a refusal of the ask
 abbrev pub IsRefusal : Picture → Ask → List ℕ → Type 0
 IsRefusal p (asks.GetBlockLocations src offset length) class = StandsForNoFile (kinds p) src class
 IsRefusal p (asks.Create src masked client flag parents replication block_size) class =
     StandsForAny (kinds p src) (create_refusal (kinds p) src (overwrites flag) parents) class
 IsRefusal p (asks.Append src client flag) class = StandsForAny (kinds p src) (append_refusal (kinds p) src) class
+IsRefusal p (asks.GetFileInfo src) class = StandsForAbove p src class
+IsRefusal p (asks.GetListing src from located) class = StandsForAbove p src class ⊎ ((IsUtf8 from → ⊥) × (class ≡ bad_argument))
+IsRefusal p (asks.Mkdirs src masked parents) class = StandsForAny (Some Directory) (mkdirs_refusal (kinds p) src parents) class
+IsRefusal p (asks.Delete src recursive) class =
+    StandsForAbove p src class ⊎ (IsNotEmpty p.names src recursive × (class ≡ not_empty))
 IsRefusal p ask class = ⊥
 
 -- The answer is the implementation's own: the blocks of a file that is being written; a block more of what is no open file,
 -- or behind a block that it doesn't have; the closing of what is no file with this last block; a pipeline of a block that isn't
--- listed, or that no open file has; and all answers to asks that no command of a session makes.
+-- listed, or that no open file has; and all answers to asks that have no row.
 abbrev pub IsOwn : Picture → Ask → Type 0
 IsOwn p (asks.GetBlockLocations src offset length) = kinds p src ≡ Some OpenFile
 IsOwn p asks.GetServerDefaults = ⊥
@@ -240,6 +271,10 @@ IsOwn p (asks.Complete src client last file_id) = (file : FileEntry) → IsFileA
 IsOwn p (asks.UpdateBlockForPipeline block client) = p.table block.block_id ≡ None
 IsOwn p (asks.GetAdditionalDatanode src block existing excludes count client ids) = IsBeingWritten p src block → ⊥
 IsOwn p (asks.UpdatePipeline client block block' nodes ids) = (block.block_id ≡ block'.block_id) × IsSome (p.table block.block_id) → ⊥
+IsOwn p (asks.GetFileInfo src) = ⊥
+IsOwn p (asks.GetListing src from located) = ⊥
+IsOwn p (asks.Mkdirs src masked parents) = ⊥
+IsOwn p (asks.Delete src recursive) = ⊥
 IsOwn p (asks.RenewLease client namespaces) = ⊥
 IsOwn p asks.Msync = ⊥
 IsOwn p asks.GetHaServiceState = ⊥
@@ -256,6 +291,10 @@ src_of (asks.Complete src client last file_id) = Some src
 src_of (asks.UpdateBlockForPipeline block client) = Some []
 src_of (asks.GetAdditionalDatanode src block existing excludes count client ids) = Some src
 src_of (asks.UpdatePipeline client block block' nodes ids) = Some []
+src_of (asks.GetFileInfo src) = Some src
+src_of (asks.GetListing src from located) = Some src
+src_of (asks.Mkdirs src masked parents) = Some src
+src_of (asks.Delete src recursive) = Some src
 src_of ask = None
 
 -- the block is one of the file at this path
@@ -287,6 +326,10 @@ MayBeDone ask old new = SameButActive old new ⊎ ((answer : Answer) × IsShaped
 -- the answer that a file isn't closed, which is by no row
 abbrev pub IsFalse : Answer → Type 0
 IsFalse answer = answer ≡ answers.Complete false
+
+-- the answer of a deletion that has found nothing, as one does that is done once more
+abbrev pub FoundNothing : Answer → Type 0
+FoundNothing answer = answer ≡ answers.Delete false
 
 -- what only a namenode gives that has failed: no answer, or false to `complete`
 abbrev pub IsFailure : Result Answer AskFault → Type 0

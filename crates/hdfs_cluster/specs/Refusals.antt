@@ -33,6 +33,25 @@ create_refusal kinds path overwrite create_parent =
     else if not create_parent && is_none (kinds (parent_of path)) then Some (Lacks Missing)
     else None
 
+-- a file stands above the path
+abbrev pub above_refusal : (List ℕ → Option Kind) → List ℕ → Option Refusal
+above_refusal kinds path = if list_any (λ ancestor. is_file (kinds ancestor)) (ancestors path) then Some (Lacks NotDirectory) else None
+
+-- why nothing can be told of a path: a file stands above it; nothing stands there
+abbrev pub look_refusal : (List ℕ → Option Kind) → List ℕ → Option Refusal
+look_refusal kinds path =
+    if list_any (λ ancestor. is_file (kinds ancestor)) (ancestors path) then Some (Lacks NotDirectory)
+    else if is_none (kinds path) then Some (Lacks Missing)
+    else None
+
+-- why no directory is made at a path: a file stands there; an ancestor is a file; the parent isn't there and isn't made
+abbrev pub mkdirs_refusal : (List ℕ → Option Kind) → List ℕ → Bool → Option Refusal
+mkdirs_refusal kinds path create_parent =
+    if is_file (kinds path) then Some Exists
+    else if list_any (λ ancestor. is_file (kinds ancestor)) (ancestors path) then Some (Lacks NotDirectory)
+    else if not create_parent && is_none (kinds (parent_of path)) then Some (Lacks Missing)
+    else None
+
 -- a file that is being written isn't opened again
 abbrev pub open_refusal : Option NoFile → Option Kind → Option Refusal
 open_refusal (Some why) kind = Some (Lacks why)

@@ -19,7 +19,7 @@ use Rattle.hdfs_commands.specs.Acting.{world_at}
 use Rattle.hdfs_commands.specs.Preparing.{Remembers}
 use Rattle.hdfs_commands.specs.Session.{settings_of, writer_of, opened_of, defaults_known, HasLink, IsSized, Stands, OnlyOwnLinks, CarriesFile, Carried, CarriesOpen}
 use Rattle.hdfs_commands.specs.declared.session.Session.{Session}
-use Rattle.hdfs_commands.proofs.Links.{link_is_open}
+use Rattle.hdfs_file_writer.proofs.Links.{link_is_open}
 use Rattle.hdfs_commands.proofs.Sized.{named_still, reaches_still, sized_still}
 
 -- the link of a writer, where there is one

@@ -12,7 +12,6 @@ mod Early
 mod Encrypting
 mod Failing
 mod Limited
-mod Links
 mod LookedUp
 mod Lost
 mod Moved

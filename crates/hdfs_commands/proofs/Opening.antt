@@ -91,14 +91,14 @@ module _ (path client : List ℕ) (options : WriteOptions) (replication block_si
         → (q : Picture) × (t.picture ≡ Some q) × Made q × MayBeDone making p q
     was_made s t status told came =
         let one = came.told p told (create_repeats path client options.permission (cond options.overwrite 3 1) options.create_parent replication block_size p) in
-        let row : Row p making (answers.Create status) one.0 = relayed_row (CallsRose s.counts t) p making (answers.Create status) one.0 (λ is. absurd (cc is)) one.2 in
+        let row : Row p making (answers.Create status) one.0 = relayed_row (CallsRose s.counts t) p making (answers.Create status) one.0 (λ is. absurd (cc is)) (λ is. absurd (cc is)) one.2 in
         (one.0, one.1, made_by one.0 status row, inr (inl (answers.Create status, tt, row)))
 
     -- and isn't encrypted
     pub was_plain : (s t : Shown) (status : Option FileStatusMsg) → s.picture ≡ Some p → Came s making (Ok (answers.Create status)) t → tells_encryption status ≡ false
     was_plain s t status told came =
         let one = came.told p told (create_repeats path client options.permission (cond options.overwrite 3 1) options.create_parent replication block_size p) in
-        let row : Row p making (answers.Create status) one.0 = relayed_row (CallsRose s.counts t) p making (answers.Create status) one.0 (λ is. absurd (cc is)) one.2 in
+        let row : Row p making (answers.Create status) one.0 = relayed_row (CallsRose s.counts t) p making (answers.Create status) one.0 (λ is. absurd (cc is)) (λ is. absurd (cc is)) one.2 in
         ap tells_encryption row.1.is ∙ row.1.encryption
 
     module _ (world : World) (state : State) (name : List ℕ) (sound : IsSound p) (agrees : (r : List ℕ) → AgreesAt p (p.names r) (state.files r)) (named : is_path path ≡ true) (closed : is_opened state path ≡ false)
@@ -171,7 +171,7 @@ module _ (path client : List ℕ) (flag : ℕ) where
         → (q : Picture) × (t.picture ≡ Some q) × Reopened q appended × MayBeDone reopening p q
     was_reopened s t appended told came =
         let one = came.told p told (append_repeats path client flag p) in
-        let row : Row p reopening (answers.Append appended) one.0 = relayed_row (CallsRose s.counts t) p reopening (answers.Append appended) one.0 (λ is. absurd (cc is)) one.2 in
+        let row : Row p reopening (answers.Append appended) one.0 = relayed_row (CallsRose s.counts t) p reopening (answers.Append appended) one.0 (λ is. absurd (cc is)) (λ is. absurd (cc is)) one.2 in
         (one.0, one.1, reopened_by one.0 appended row, inr (inl (answers.Append appended, came.relays.shaped, row)))
 
     module _ (world : World) (state : State) (name : List ℕ) (sound : IsSound p) (agrees : (r : List ℕ) → AgreesAt p (p.names r) (state.files r)) (named : is_path path ≡ true) (closed : is_opened state path ≡ false)

@@ -68,7 +68,7 @@ module _ {s t : Shown} {src : List ℕ} {offset length : ℕ} where
       → (q : Picture) × Row p (asks.GetBlockLocations src offset length) (answers.GetBlockLocations found) q
   row_looked found came p told closed =
       let to = came.told p told (locations_repeats src offset length p closed) in
-      (to.0, relayed_row (CallsRose s.counts t) p (asks.GetBlockLocations src offset length) (answers.GetBlockLocations found) to.0 (λ is. absurd (cc)) to.2)
+      (to.0, relayed_row (CallsRose s.counts t) p (asks.GetBlockLocations src offset length) (answers.GetBlockLocations found) to.0 (λ is. absurd (cc)) (λ is. absurd (cc)) to.2)
 
   -- an answer is that of the file, where all its blocks were asked for
   pub found_looked : {found : LocatedBlocks} → Came s (asks.GetBlockLocations src offset length) (Ok (answers.GetBlockLocations (Some found))) t → (p : Picture) → s.picture ≡ Some p

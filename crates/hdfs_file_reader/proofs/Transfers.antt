@@ -87,7 +87,7 @@ module _ {s t : Shown} where
         by_known : (o : Option ServerDefaults) → known ≡ o → AreDefaultsOf p o → d ≡ p.defaults
         by_known None is k =
             let to = (came.asked is).told p told (defaults_repeats p) in
-            (relayed_row (CallsRose s.counts t) p asks.GetServerDefaults (answers.GetServerDefaults d) to.0 (λ no. absurd (cc no)) to.2).0
+            (relayed_row (CallsRose s.counts t) p asks.GetServerDefaults (answers.GetServerDefaults d) to.0 (λ no. absurd (cc no)) (λ no. absurd (cc no)) to.2).0
         by_known (Some kept) is k = (let same : d ≡ kept = cc (came.known kept is).0 in same ∙ k)
 
     -- and are so still

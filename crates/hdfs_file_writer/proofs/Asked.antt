@@ -30,7 +30,7 @@ module _ (risen : Type 0) (src client : List ℕ) (previous : Option Block) (exc
 
   -- a block that was answered was added
   pub added : (found : LocatedBlock) → RelaysTold risen p adding (Ok (answers.AddBlock found)) q → AddsBlock src file previous found p q
-  added found told = adds_by found (relayed_row risen p adding (answers.AddBlock found) q (λ same. absurd (cc same)) told)
+  added found told = adds_by found (relayed_row risen p adding (answers.AddBlock found) q (λ same. absurd (cc same)) (λ same. absurd (cc same)) told)
 
   may_be_added : DoneOrNot adding p q → SameButActive p q ⊎ ((found : LocatedBlock) × AddsBlock src file previous found p q)
   may_be_added (inl same) = inl same
@@ -54,7 +54,7 @@ module _ (risen : Type 0) (src client : List ℕ) (last : Option Block) (id : Op
 
   -- a file that was answered to be closed is
   pub completed : RelaysTold risen p completing (Ok (answers.Complete true)) q → Completes src file last p q
-  completed told = completes_by (relayed_row risen p completing (answers.Complete true) q (λ same. absurd (cc same)) told)
+  completed told = completes_by (relayed_row risen p completing (answers.Complete true) q (λ same. absurd (cc same)) (λ same. absurd (cc same)) told)
 
   may_be_completed : DoneOrNot completing p q → SameButActive p q ⊎ Completes src file last p q
   may_be_completed (inl same) = inl same
@@ -65,7 +65,8 @@ module _ (risen : Type 0) (src client : List ℕ) (last : Option Block) (id : Op
   -- false comes only where a namenode has failed, and the file may be closed all the same
   pub not_completed : RelaysTold risen p completing (Ok (answers.Complete false)) q → risen × (SameButActive p q ⊎ Completes src file last p q)
   not_completed (inl row) = absurd row
-  not_completed (inr denied) = (denied.1, may_be_completed denied.2)
+  not_completed (inr (inl again)) = (let is = again.0 in absurd (cc is))
+  not_completed (inr (inr denied)) = (denied.1, may_be_completed denied.2)
 
   -- the same without an answer
   pub not_answered : (error : HdfsError) → RelaysTold risen p completing (Err error) q → SameButActive p q ⊎ Completes src file last p q

@@ -21,3 +21,4 @@ pub mod Standing
 pub mod Reopening
 pub mod Creating
 pub mod WholeBlocks
+pub mod Links

@@ -8,11 +8,12 @@ use Rattle.std.proofs.lemmas.List.Elements.{All-head, All-weaker}
 use Rattle.std.specs.List.{All, Any}
 use Rattle.hdfs_cluster.specs.declared.picture.BlockEntry.{BlockEntry}
 use Rattle.hdfs_cluster.specs.declared.picture.Entry.{Entry}
+use Rattle.hdfs_cluster.specs.Listing.{plus_length, total}
 use Rattle.hdfs_cluster.specs.Picture.{Picture}
 use Rattle.hdfs_cluster.specs.Stores.{StoresBlocks, StoresBlock, HoldsPrefix}
 use Rattle.hdfs_mem_namenode.specs.Adding.{AddsBlock, AreNew, KeepsBlocks, blocks_picture}
 use Rattle.hdfs_mem_cluster.specs.Cutting.{HoldsPiece, IsCut}
-use Rattle.hdfs_mem_namenode.specs.Memory.{is_kth, is_sized, is_length, plus_length, total}
+use Rattle.hdfs_mem_namenode.specs.Memory.{is_kth, is_sized, is_length}
 use Rattle.hdfs_mem_namenode.proofs.Apart.{kth_absent}
 use Rattle.hdfs_mem_namenode.proofs.FileChanges.{kth_push_cases}
 

@@ -67,6 +67,10 @@ class_for_refusal : (p : Picture) (ask : Ask) (class : List ℕ) → IsRefusal p
 class_for_refusal p (asks.GetBlockLocations src offset length) class h = same_class class (class_for h.0) h.2 (class_for_no_file h.0)
 class_for_refusal p (asks.Create src masked client flag parents replication block_size) class h = class_for_any _ _ class h
 class_for_refusal p (asks.Append src client flag) class h = class_for_any _ _ class h
+class_for_refusal p (asks.GetFileInfo src) class h = class_for_any _ _ class h
+class_for_refusal p (asks.GetListing src from located) class h = ⊎_elim (class_for_any _ _ class) (λ bad. same_class class _ bad.1 refl) h
+class_for_refusal p (asks.Mkdirs src masked parents) class h = class_for_any (Some Directory) _ class h
+class_for_refusal p (asks.Delete src recursive) class h = ⊎_elim (class_for_any _ _ class) (λ full. same_class class _ full.1 refl) h
 class_for_refusal p ask class h = absurd h
 
 -- what is answered by the picture is no failure
@@ -85,7 +89,7 @@ answers_fine p q i ask (Err (faults.Fatal class message)) h = refl
 -- nor is what is answered to an ask about names
 class_for_names : (old : Space) (ask : Ask) (class : List ℕ) → NamesRefusal old ask class → bytes_eq class io_exception ≡ false
 class_for_names old (asks.GetFileInfo src) class h = class_for_any _ _ class h
-class_for_names old (asks.GetListing src from located) class h = ⊎_elim (class_for_any _ _ class) (λ bad. same_class class _ bad refl) h
+class_for_names old (asks.GetListing src from located) class h = ⊎_elim (class_for_any _ _ class) (λ bad. same_class class _ bad.1 refl) h
 class_for_names old (asks.GetAclStatus src) class h = class_for_any _ _ class h
 class_for_names old (asks.Mkdirs src masked parents) class h = class_for_any (Some Directory) _ class h
 class_for_names old (asks.Delete src recursive) class h = ⊎_elim (class_for_any _ _ class) (λ full. same_class class _ full.1 refl) h

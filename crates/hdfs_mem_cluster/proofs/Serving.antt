@@ -36,7 +36,7 @@ use Rattle.hdfs_mem_cluster.specs.MemShown.{counts_at, failed_calls, namenode_fa
 use Rattle.hdfs_mem_cluster.specs.Responding.{AskComesTo, DoesPlanned, Responds, failed_after, false_answer, has_failed, is_answered, is_failure, own_failure, planned_answer}
 use Rattle.hdfs_mem_datanodes.specs.Nodes.{SameNodes}
 use Rattle.hdfs_mem_namenode.proofs.Answering.{serves_answer}
-use Rattle.hdfs_mem_namenode.proofs.Rows.{about_not_false, about_own, about_still, serves_about}
+use Rattle.hdfs_mem_namenode.proofs.Rows.{about_done, about_not_false, about_still, serves_about}
 use Rattle.hdfs_mem_cluster.proofs.Counting.{AsksGrow, asks_grow, nodes_stay, one_more}
 use Rattle.hdfs_mem_cluster.proofs.Failing.{fails_if, failed_others, failed_own}
 use Rattle.hdfs_mem_cluster.proofs.Stills.{shown_at}
@@ -101,7 +101,7 @@ module _ (loaded : List Line) (count : ℕ) (p q : Picture) (i : ℕ) (ask : Ask
 
   -- what a namenode responds whose answer is late may be done
   may_be_done : (given : Result Answer AskFault) → IfOk given (IsShaped ask) → Responds loaded count p i ask given q → MayBeDone ask p q
-  may_be_done (Ok answer) shaped h = ⊎_elim (λ here. inr (inl (answer, shaped, here.3))) (λ more. ⊎_elim (λ fails. inl fails.same.rest) (λ about. inr (inr (about_own p q i ask answer about))) more) h
+  may_be_done (Ok answer) shaped h = ⊎_elim (λ here. inr (inl (answer, shaped, here.3))) (λ more. ⊎_elim (λ fails. inl fails.same.rest) (λ about. ⊎_elim (λ row. inr (inl (answer, shaped, row))) (λ own. inr (inr own)) (about_done p q i ask answer about)) more) h
   may_be_done (Err fault) shaped h = inl (still_without_answer loaded count p q i ask (Err fault) refl h).rest
 
   module _ (risen : Type 0) where

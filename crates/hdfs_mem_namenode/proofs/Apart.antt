@@ -6,8 +6,9 @@ use Rattle.std.specs.Str.{bytes_eq}
 use Rattle.hdfs_cluster.specs.declared.picture.BlockEntry.{BlockEntry}
 use Rattle.hdfs_cluster.specs.declared.picture.Entry.{Entry}
 use Rattle.hdfs_cluster.specs.Effects.{blocks_at}
+use Rattle.hdfs_cluster.specs.Listing.{total, plus_length}
 use Rattle.hdfs_mem_namenode.specs.Adding.{AreNew}
-use Rattle.hdfs_mem_namenode.specs.Memory.{is_kth, is_kth_at, AreApart, is_sized, total, plus_length}
+use Rattle.hdfs_mem_namenode.specs.Memory.{is_kth, is_kth_at, AreApart, is_sized}
 use Rattle.hdfs_mem_namenode.specs.Soundness.{kth_parts, sized_listed, total_first}
 
 pub no_kth : (k id : ℕ) → is_kth [] k id ≡ true → ⊥

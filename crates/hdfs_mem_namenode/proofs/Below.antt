@@ -5,7 +5,7 @@ use Rattle.std.proofs.lemmas.List.{append-nil}
 use Rattle.std.proofs.lemmas.List.Elements.{All-nil, All-push, Contains-append_left, Contains-push}
 use Rattle.std.specs.List.{All, Contains}
 use Rattle.hdfs_cluster.specs.declared.picture.Entry.{Entry}
-use Rattle.hdfs_mem_namenode.specs.Listing.{is_before}
+use Rattle.hdfs_cluster.specs.Names.{is_before}
 use Rattle.hdfs_mem_namenode.proofs.Bytes.{before_from, before_front, before_itself, before_neither, before_not, before_trans, before_upto, begins_so, zero_behind, zero_next}
 
 -- something stands at a path that begins so

@@ -8,7 +8,7 @@ use Rattle.std.specs.Cmp.Lexicographic.{slice_cmp}
 use Rattle.std.specs.List.{list_any}
 use Rattle.std.specs.Ordering.{is_lt, nat_cmp}
 use Rattle.hdfs_names.specs.Paths.{is_slash}
-use Rattle.hdfs_mem_namenode.specs.Listing.{is_before}
+use Rattle.hdfs_cluster.specs.Names.{is_before}
 
 -- how the first bytes of two texts compare
 data Cmp (c d : ℕ) : Type 0 where

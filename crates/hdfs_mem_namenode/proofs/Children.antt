@@ -3,8 +3,9 @@ use Rattle.std.proofs.Common.{◌≡◌, ℕ, Bool, true, false, List, [], ◌�
 use Rattle.std.proofs.lemmas.Bool.{false≢true}
 use Rattle.std.specs.List.{list_any}
 use Rattle.hdfs_cluster.specs.declared.picture.Entry.{Entry}
+use Rattle.hdfs_cluster.specs.Names.{IsNameIn, is_before}
 use Rattle.hdfs_names.specs.Paths.{is_slash}
-use Rattle.hdfs_mem_namenode.specs.Listing.{IsNameIn, IsNext, NoneBehind, is_before}
+use Rattle.hdfs_mem_namenode.specs.Listing.{IsNext, NoneBehind}
 use Rattle.hdfs_mem_namenode.proofs.Bytes.{before_from, before_front, before_trans, before_upto, begins_so, between_slash, zero_behind, zero_next}
 
 pub record Starts (names : List ℕ → Option Entry) (front after start : List ℕ) : Type 0 where

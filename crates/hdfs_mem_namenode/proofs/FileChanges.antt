@@ -13,10 +13,11 @@ use Rattle.hdfs_cluster.specs.declared.picture.Entry.TheVariants as entries
 use Rattle.hdfs_cluster.specs.declared.picture.FileEntry.{FileEntry}
 use Rattle.hdfs_cluster.specs.Effects.{HasBlock, blocks_at, of_length, with_block, with_entry, with_length}
 use Rattle.hdfs_cluster.specs.Files.{IsTree}
+use Rattle.hdfs_cluster.specs.Listing.{plus_length, total}
 use Rattle.hdfs_cluster.specs.Picture.{entry_kind, kinds_in}
 use Rattle.hdfs_cluster.proofs.Loads.{and_parts}
 use Rattle.hdfs_mem_namenode.specs.Adding.{CanTake, with_more}
-use Rattle.hdfs_mem_namenode.specs.Memory.{is_kth, is_kth_at, is_length, is_sized, plus_length, total, IsBare}
+use Rattle.hdfs_mem_namenode.specs.Memory.{is_kth, is_kth_at, is_length, is_sized, IsBare}
 use Rattle.hdfs_mem_namenode.specs.Soundness.{kth_test, kth_parts}
 use Rattle.hdfs_mem_namenode.proofs.Apart.{apart_with, kth_absent, kth_one, total-push}
 use Rattle.hdfs_mem_namenode.proofs.Naming.{Sound, tree_from_tests, placed_from_tree, rooted_from_tree}

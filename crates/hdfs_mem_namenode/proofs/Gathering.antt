@@ -9,8 +9,8 @@ use Rattle.std.specs.List.{All, Contains, sum_by}
 use Rattle.hdfs_cluster.specs.declared.messages.Summary.{Summary}
 use Rattle.hdfs_cluster.specs.declared.picture.BlockEntry.{BlockEntry}
 use Rattle.hdfs_cluster.specs.declared.picture.Entry.{Entry}
+use Rattle.hdfs_cluster.specs.Names.{Rises, front_of, is_before}
 use Rattle.hdfs_mem_namenode.specs.Counting.{ArePathsBehind, Counts, CountsOn, IsNamedBehind, bytes_at, directories_at, files_at, replicas_at, summary_of, told, with_one}
-use Rattle.hdfs_mem_namenode.specs.Listing.{Rises, front_of, is_before}
 use Rattle.hdfs_mem_namenode.specs.Looking.{attributes_of, length_of}
 use Rattle.hdfs_mem_namenode.proofs.Bytes.{before_from, before_neither, begins_so, zero_behind, zero_next}
 use Rattle.hdfs_mem_namenode.proofs.Pages.{last_from, last_push, rises_append}

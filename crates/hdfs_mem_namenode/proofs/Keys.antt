@@ -13,7 +13,7 @@ use Rattle.std.specs.Ordering.{is_gt, is_lt, nat_cmp, ordering_reverse}
 use Rattle.std.specs.declared.cmp.Ordering.{Ordering}
 use Rattle.std.specs.declared.cmp.Ordering.TheVariants.{Less, Equal, Greater}
 use Rattle.std.specs.String.{string_bytes, string_cmp}
-use Rattle.hdfs_mem_namenode.specs.Listing.{is_before}
+use Rattle.hdfs_cluster.specs.Names.{is_before}
 use Rattle.hdfs_mem_namenode.proofs.Bytes.{before_cmp, before_trans, before_upto}
 use Rattle.hdfs_mem_namenode.proofs.Directories.{some_known}
 

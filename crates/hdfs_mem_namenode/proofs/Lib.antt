@@ -24,3 +24,4 @@ pub mod Rows
 pub mod Sizing
 pub mod Sums
 pub mod Tables
+pub mod Telling

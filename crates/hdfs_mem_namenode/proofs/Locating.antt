@@ -3,9 +3,9 @@ use Rattle.std.proofs.Common.{◌≡◌, ℕ, ◌+◌, ◌<◌, ◌≤◌, ◌^�
 use Rattle.std.proofs.lemmas.List.{drop_more}
 use Rattle.hdfs_cluster.specs.declared.picture.BlockEntry.{BlockEntry}
 use Rattle.hdfs_cluster.specs.declared.messages.LocatedBlock.{LocatedBlock}
+use Rattle.hdfs_cluster.specs.Listing.{total}
 use Rattle.std.specs.List.{All}
 use Rattle.std.proofs.lemmas.List.Elements.{All-cons, All-nil}
-use Rattle.hdfs_mem_namenode.specs.Memory.{total}
 use Rattle.hdfs_mem_namenode.specs.Soundness.{total_first}
 use Rattle.hdfs_cluster.specs.Namenode.{LocatesBlock, LocatesBlocks, Follow}
 

@@ -13,12 +13,13 @@ use Rattle.hdfs_cluster.specs.declared.picture.Entry.TheVariants as entries
 use Rattle.hdfs_cluster.specs.declared.picture.FileEntry.{FileEntry}
 use Rattle.hdfs_cluster.specs.Effects.{blocks_at, table_without, with_entry}
 use Rattle.hdfs_cluster.specs.Files.{Kind, Directory, ClosedFile, OpenFile, IsTree, is_file}
+use Rattle.hdfs_cluster.specs.Listing.{total, plus_length}
 use Rattle.hdfs_names.specs.Paths.{root, is_path, ancestors}
 use Rattle.hdfs_cluster.specs.Picture.{entry_kind, kinds_in}
 use Rattle.hdfs_cluster.specs.Refusals.{with_parents}
 use Rattle.hdfs_cluster.proofs.Loads.{and_parts}
 use Rattle.hdfs_mem_namenode.specs.Adding.{with_directories}
-use Rattle.hdfs_mem_namenode.specs.Memory.{is_dir, is_kth, is_kth_at, IsBare, is_bare_at, is_sized, is_length, total, plus_length}
+use Rattle.hdfs_mem_namenode.specs.Memory.{is_dir, is_kth, is_kth_at, IsBare, is_bare_at, is_sized, is_length}
 use Rattle.hdfs_mem_namenode.specs.Soundness.{kth_test, kth_parts}
 use Rattle.hdfs_mem_namenode.proofs.Apart.{no_kth, apart_fewer}
 use Rattle.hdfs_mem_namenode.proofs.Directories.{tree_with_parents, some_known, none_known}

@@ -7,7 +7,8 @@ use Rattle.std.specs.List.{All, Contains}
 use Rattle.hdfs_cluster.specs.declared.messages.FileStatusMsg.{FileStatusMsg}
 use Rattle.hdfs_cluster.specs.declared.picture.BlockEntry.{BlockEntry}
 use Rattle.hdfs_cluster.specs.declared.picture.Entry.{Entry}
-use Rattle.hdfs_mem_namenode.specs.Listing.{AreNamesBehind, CountsBehind, IsNameIn, IsNext, IsPage, NoneBehind, Rises, front_of, is_before}
+use Rattle.hdfs_cluster.specs.Names.{AreNamesBehind, IsNameIn, Rises, front_of, is_before}
+use Rattle.hdfs_mem_namenode.specs.Listing.{CountsBehind, IsNext, IsPage, NoneBehind}
 use Rattle.hdfs_mem_namenode.specs.Looking.{TellsOf}
 use Rattle.hdfs_mem_namenode.proofs.Bytes.{before_neither}
 

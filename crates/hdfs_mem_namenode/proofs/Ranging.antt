@@ -19,8 +19,9 @@ use Rattle.std.specs.String.{string_bytes, string_cmp, string_cmp_total}
 use Rattle.std.specs.declared.cmp.Ordering.{Ordering}
 use Rattle.std.specs.declared.cmp.Ordering.TheVariants.{Less, Equal, Greater}
 use Rattle.hdfs_cluster.specs.declared.picture.Entry.{Entry}
+use Rattle.hdfs_cluster.specs.Names.{is_before}
 use Rattle.hdfs_names.specs.Paths.{is_slash}
-use Rattle.hdfs_mem_namenode.specs.Listing.{CountsBehind, is_before}
+use Rattle.hdfs_mem_namenode.specs.Listing.{CountsBehind}
 use Rattle.hdfs_mem_namenode.proofs.Bytes.{before_cmp, before_from, before_itself, before_not, before_trans, zero_behind, zero_next}
 use Rattle.hdfs_mem_namenode.proofs.Children.{Starts, past_behind, starts_first, starts_next, starts_none, starts_outside, starts_past}
 use Rattle.hdfs_mem_namenode.proofs.Directories.{some_known}

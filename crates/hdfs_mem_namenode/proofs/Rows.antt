@@ -1,5 +1,6 @@
--- What an ask about names is answered, and that a cluster may answer so: all that an answer changes are names and blocks.
-use Rattle.std.proofs.Common.{◌≡◌, inl, inr, ⊎_elim, ℕ, Bool, true, false, List, [], Option, Some, None, Result, Ok, Err, IsErr, refl, sym, ◌∙◌, ap, subst}
+-- What an ask about names is answered, and that a cluster may answer so: by the row of the ask, where it has one; and all that an answer
+-- changes are names and blocks.
+use Rattle.std.proofs.Common.{◌≡◌, ◌⊎◌, inl, inr, ⊎_elim, ℕ, Bool, true, false, List, Some, None, Result, Ok, Err, IsErr, refl, subst}
 use Rattle.std.proofs.lemmas.Bool.{false≢true}
 use Rattle.hdfs_cluster.specs.declared.asks.Ask.{Ask}
 use Rattle.hdfs_cluster.specs.declared.asks.Ask.TheVariants as asks
@@ -10,14 +11,15 @@ use Rattle.hdfs_cluster.specs.declared.asks.AskFault.TheVariants as faults
 use Rattle.hdfs_cluster.specs.declared.picture.Entry.{Entry}
 use Rattle.hdfs_cluster.specs.Effects.{KeepsBytes}
 use Rattle.hdfs_cluster.specs.Files.{Directory}
-use Rattle.hdfs_cluster.specs.Namenode.{IsOwnOf, ServesTold, StandsForAny}
+use Rattle.hdfs_cluster.specs.Namenode.{IsOwnOf, IsRefusal, Row, ServesTold, StandsForAny}
 use Rattle.hdfs_cluster.specs.Picture.{Picture, SameButActive, SamePicture, kinds_in}
+use Rattle.hdfs_cluster.specs.Refusals.{look_refusal, mkdirs_refusal}
 use Rattle.hdfs_mem_namenode.specs.Adding.{Space}
 use Rattle.hdfs_mem_namenode.specs.Answering.{AnswersAbout, StandsForRefusal, StandsForWritten, space_in}
-use Rattle.hdfs_mem_namenode.specs.Changing.{SameSpace, StandsForKept, mkdirs_refusal}
-use Rattle.hdfs_mem_namenode.specs.Looking.{look_refusal}
+use Rattle.hdfs_mem_namenode.specs.Changing.{SameSpace, StandsForKept}
 use Rattle.hdfs_mem_namenode.specs.Renaming.{StandsForUnmoved}
-use Rattle.hdfs_mem_namenode.specs.Rows.{AnswersNames, NamesRefusal, NamesRow, still_answer, still_path}
+use Rattle.hdfs_mem_namenode.specs.Rows.{AnswersNames, NamesRefusal, NamesRow, StandsStill, still_answer, still_path}
+use Rattle.hdfs_mem_namenode.proofs.Telling.{tells_listing, tells_status}
 
 pub same_space : (old : Space) → SameSpace old old
 same_space old = record { names = λ path. refl; table = λ id. refl; held = λ node id. refl }
@@ -47,6 +49,10 @@ module _ (old : Space) (src : List ℕ) where
   still_refused (asks.SetReplication path replication) class at stands = absurd (cc)
   still_refused (asks.GetContentSummary path) class at stands = absurd (cc)
   still_refused ask class at stands = (src, at, stands)
+
+-- what an ask has a row of is none of those that set what isn't kept
+not_still : (old new : Space) (ask : Ask) (answer : Answer) → still_path ask ≡ None → StandsStill old ask answer new → ⊥
+not_still old new ask answer none h = absurd (cc (none, h.asked))
 
 -- what refuses a directory, or keeps one
 module _ (old new : Space) (same : SameSpace old new) (src : List ℕ) where
@@ -104,49 +110,71 @@ module _ (p q : Picture) (bytes : KeepsBytes p q) (active : q.active ≡ p.activ
   still_err ask (Err (faults.Exception class message)) is h = same_picture h.1
   still_err ask (Err (faults.Fatal class message)) is h = absurd h
 
-  -- no command of a session makes such an ask
-  own_row : (ask : Ask) (answer : Answer) → NamesRow (space_in p) ask answer (space_in q) → IsOwnOf ask p q
-  own_row (asks.GetBlockLocations src offset length) answer h = (let is = h.asked in absurd (cc))
-  own_row asks.GetServerDefaults answer h = (let is = h.asked in absurd (cc))
-  own_row (asks.Create src masked client flag parents replication block_size) answer h = (let is = h.asked in absurd (cc))
-  own_row (asks.Append src client flag) answer h = (let is = h.asked in absurd (cc))
-  own_row (asks.AddBlock src client previous excludes file_id) answer h = (let is = h.asked in absurd (cc))
-  own_row (asks.Complete src client last file_id) answer h = (let is = h.asked in absurd (cc))
-  own_row (asks.UpdateBlockForPipeline block client) answer h = (let is = h.asked in absurd (cc))
-  own_row (asks.GetAdditionalDatanode src block existing excludes count client ids) answer h = (let is = h.asked in absurd (cc))
-  own_row (asks.UpdatePipeline client block block' nodes ids) answer h = (let is = h.asked in absurd (cc))
-  own_row (asks.RenewLease client namespaces) answer h = (let is = h.asked in absurd (cc))
-  own_row asks.Msync answer h = (let is = h.asked in absurd (cc))
-  own_row asks.GetHaServiceState answer h = (let is = h.asked in absurd (cc))
-  own_row ask answer h = (tt, bytes)
+  -- an answer is by the row of its ask, or it is one of the implementation's own to an ask that has no row
+  row_or_own : (ask : Ask) (answer : Answer) → NamesRow (space_in p) ask answer (space_in q) → Row p ask answer q ⊎ IsOwnOf ask p q
+  row_or_own (asks.GetFileInfo src) (answers.GetFileInfo status) h = inl (tells_status p.names p.table src status h.0, same_but h.1)
+  row_or_own (asks.GetFileInfo src) answer h = absurd (not_still (space_in p) (space_in q) (asks.GetFileInfo src) answer refl h)
+  row_or_own (asks.GetListing src from located) (answers.GetListing page) h = inl (tells_listing p.names p.table src from page h.0, same_but h.1)
+  row_or_own (asks.GetListing src from located) answer h = absurd (not_still (space_in p) (space_in q) (asks.GetListing src from located) answer refl h)
+  row_or_own (asks.Mkdirs src masked parents) (answers.Mkdirs true) h = inl (h.0, record { names = h.1.names; table = h.1.table; bytes = bytes })
+  row_or_own (asks.Mkdirs src masked parents) (answers.Mkdirs false) h = absurd (not_still (space_in p) (space_in q) (asks.Mkdirs src masked parents) (answers.Mkdirs false) refl h)
+  row_or_own (asks.Mkdirs src masked parents) answer h = absurd (not_still (space_in p) (space_in q) (asks.Mkdirs src masked parents) answer refl h)
+  row_or_own (asks.Delete src recursive) (answers.Delete true) h = inl (h.done, bytes)
+  row_or_own (asks.Delete src recursive) (answers.Delete false) h =
+      inl (h.done.0, same_but (record { names = h.done.1; table = h.done.2; held = h.held }))
+  row_or_own (asks.Delete src recursive) answer h = absurd (not_still (space_in p) (space_in q) (asks.Delete src recursive) answer refl h)
+  row_or_own (asks.GetBlockLocations src offset length) answer h = absurd (not_still (space_in p) (space_in q) (asks.GetBlockLocations src offset length) answer refl h)
+  row_or_own asks.GetServerDefaults answer h = absurd (not_still (space_in p) (space_in q) asks.GetServerDefaults answer refl h)
+  row_or_own (asks.Create src masked client flag parents replication block_size) answer h =
+      absurd (not_still (space_in p) (space_in q) (asks.Create src masked client flag parents replication block_size) answer refl h)
+  row_or_own (asks.Append src client flag) answer h = absurd (not_still (space_in p) (space_in q) (asks.Append src client flag) answer refl h)
+  row_or_own (asks.AddBlock src client previous excludes file_id) answer h = absurd (not_still (space_in p) (space_in q) (asks.AddBlock src client previous excludes file_id) answer refl h)
+  row_or_own (asks.Complete src client last file_id) answer h = absurd (not_still (space_in p) (space_in q) (asks.Complete src client last file_id) answer refl h)
+  row_or_own (asks.UpdateBlockForPipeline block client) answer h = absurd (not_still (space_in p) (space_in q) (asks.UpdateBlockForPipeline block client) answer refl h)
+  row_or_own (asks.GetAdditionalDatanode src block existing excludes count client ids) answer h =
+      absurd (not_still (space_in p) (space_in q) (asks.GetAdditionalDatanode src block existing excludes count client ids) answer refl h)
+  row_or_own (asks.UpdatePipeline client block block' nodes ids) answer h = absurd (not_still (space_in p) (space_in q) (asks.UpdatePipeline client block block' nodes ids) answer refl h)
+  row_or_own (asks.RenewLease client namespaces) answer h = absurd (not_still (space_in p) (space_in q) (asks.RenewLease client namespaces) answer refl h)
+  row_or_own asks.Msync answer h = absurd (not_still (space_in p) (space_in q) asks.Msync answer refl h)
+  row_or_own asks.GetHaServiceState answer h = absurd (not_still (space_in p) (space_in q) asks.GetHaServiceState answer refl h)
+  row_or_own ask answer h = inr (tt, bytes)
 
-  own_refusal : (ask : Ask) (class : List ℕ) → NamesRefusal (space_in p) ask class → IsOwnOf ask p q
-  own_refusal (asks.GetBlockLocations src offset length) class h = (let is = h.1 in absurd (cc))
-  own_refusal asks.GetServerDefaults class h = (let is = h.1 in absurd (cc))
-  own_refusal (asks.Create src masked client flag parents replication block_size) class h = (let is = h.1 in absurd (cc))
-  own_refusal (asks.Append src client flag) class h = (let is = h.1 in absurd (cc))
-  own_refusal (asks.AddBlock src client previous excludes file_id) class h = (let is = h.1 in absurd (cc))
-  own_refusal (asks.Complete src client last file_id) class h = (let is = h.1 in absurd (cc))
-  own_refusal (asks.UpdateBlockForPipeline block client) class h = (let is = h.1 in absurd (cc))
-  own_refusal (asks.GetAdditionalDatanode src block existing excludes count client ids) class h = (let is = h.1 in absurd (cc))
-  own_refusal (asks.UpdatePipeline client block block' nodes ids) class h = (let is = h.1 in absurd (cc))
-  own_refusal (asks.RenewLease client namespaces) class h = (let is = h.1 in absurd (cc))
-  own_refusal asks.Msync class h = (let is = h.1 in absurd (cc))
-  own_refusal asks.GetHaServiceState class h = (let is = h.1 in absurd (cc))
-  own_refusal ask class h = (tt, bytes)
+  -- and so is an exception
+  refusal_or_own : (ask : Ask) (class : List ℕ) → NamesRefusal (space_in p) ask class → IsRefusal p ask class ⊎ IsOwnOf ask p q
+  refusal_or_own (asks.GetFileInfo src) class h = inl h
+  refusal_or_own (asks.GetListing src from located) class h = inl h
+  refusal_or_own (asks.Mkdirs src masked parents) class h = inl h
+  refusal_or_own (asks.Delete src recursive) class h = inl h
+  refusal_or_own (asks.GetBlockLocations src offset length) class h = (let is = h.1 in absurd (cc))
+  refusal_or_own asks.GetServerDefaults class h = (let is = h.1 in absurd (cc))
+  refusal_or_own (asks.Create src masked client flag parents replication block_size) class h = (let is = h.1 in absurd (cc))
+  refusal_or_own (asks.Append src client flag) class h = (let is = h.1 in absurd (cc))
+  refusal_or_own (asks.AddBlock src client previous excludes file_id) class h = (let is = h.1 in absurd (cc))
+  refusal_or_own (asks.Complete src client last file_id) class h = (let is = h.1 in absurd (cc))
+  refusal_or_own (asks.UpdateBlockForPipeline block client) class h = (let is = h.1 in absurd (cc))
+  refusal_or_own (asks.GetAdditionalDatanode src block existing excludes count client ids) class h = (let is = h.1 in absurd (cc))
+  refusal_or_own (asks.UpdatePipeline client block block' nodes ids) class h = (let is = h.1 in absurd (cc))
+  refusal_or_own (asks.RenewLease client namespaces) class h = (let is = h.1 in absurd (cc))
+  refusal_or_own asks.Msync class h = (let is = h.1 in absurd (cc))
+  refusal_or_own asks.GetHaServiceState class h = (let is = h.1 in absurd (cc))
+  refusal_or_own ask class h = inr (tt, bytes)
 
 module _ (p q : Picture) (i : ℕ) (ask : Ask) (result : Result Answer AskFault) (h : AnswersAbout p i ask result q) where
   pub about_still : IsErr result → SamePicture p q
   about_still is = still_err p q h.bytes h.active ask result is h.row
 
--- an answer to an ask about names is an answer of the implementation's own
-pub about_own : (p q : Picture) (i : ℕ) (ask : Ask) (answer : Answer) → AnswersAbout p i ask (Ok answer) q → IsOwnOf ask p q
-about_own p q i ask answer h = own_row p q h.bytes h.active ask answer h.row
+-- an answer to an ask about names is by its row, or one of the implementation's own
+pub about_done : (p q : Picture) (i : ℕ) (ask : Ask) (answer : Answer) → AnswersAbout p i ask (Ok answer) q → Row p ask answer q ⊎ IsOwnOf ask p q
+about_done p q i ask answer h = row_or_own p q h.bytes h.active ask answer h.row
 
 pub serves_about : (risen : Type 0) (p q : Picture) (i : ℕ) (ask : Ask) (result : Result Answer AskFault) → AnswersAbout p i ask result q → ServesTold risen p i ask result q
-serves_about risen p q i ask (Ok answer) h = inl (inl h.here, inl h.active, inr (about_own p q i ask answer h))
+serves_about risen p q i ask (Ok answer) h = inl (inl h.here, inl h.active, about_done p q i ask answer h)
 serves_about risen p q i ask (Err faults.NoMemory) h = (h.active, inl (same_but p q h.bytes h.active h.row))
-serves_about risen p q i ask (Err (faults.Exception class message)) h = inr (inr (inl (h.here, h.active, own_refusal p q h.bytes h.active ask class h.row.2)))
+serves_about risen p q i ask (Err (faults.Exception class message)) h =
+    ⊎_elim
+    (λ refusal. inr (inl (h.here, refusal, same_picture p q h.bytes h.active h.row.1)))
+    (λ own. inr (inr (inl (h.here, h.active, own))))
+    (refusal_or_own p q h.bytes h.active ask class h.row.2)
 serves_about risen p q i ask (Err faults.Broken) h = absurd h.row
 serves_about risen p q i ask (Err (faults.BadReply fault)) h = absurd h.row
 serves_about risen p q i ask (Err (faults.Fatal class message)) h = absurd h.row

@@ -3,8 +3,9 @@ use Rattle.std.proofs.Common.{◌≡◌, ◌≢◌, ℕ, true, List, [], ◌∷�
 use Rattle.hdfs_cluster.specs.declared.picture.BlockEntry.{BlockEntry}
 use Rattle.hdfs_cluster.specs.declared.picture.Entry.{Entry}
 use Rattle.hdfs_cluster.specs.declared.picture.Entry.TheVariants as entries
+use Rattle.hdfs_cluster.specs.Listing.{total, plus_length}
 use Rattle.hdfs_mem_namenode.specs.Adding.{AddsBlock, Keeps}
-use Rattle.hdfs_mem_namenode.specs.Memory.{total, plus_length, is_length, is_sized}
+use Rattle.hdfs_mem_namenode.specs.Memory.{is_length, is_sized}
 
 module _ (t t' : ℕ → Option BlockEntry) (kept : Keeps t t') where
   plus_kept : (first first' : Option BlockEntry) (rest rest' : Option ℕ) (n : ℕ) → ((entry : BlockEntry) → first ≡ Some entry → first' ≡ Some entry) → ((m : ℕ) → rest ≡ Some m → rest' ≡ Some m) → plus_length first rest ≡ Some n → plus_length first' rest' ≡ Some n

@@ -12,10 +12,11 @@ use Rattle.hdfs_cluster.specs.declared.picture.Entry.{Entry}
 use Rattle.hdfs_cluster.specs.declared.picture.Entry.TheVariants as entries
 use Rattle.hdfs_cluster.specs.declared.picture.FileEntry.{FileEntry}
 use Rattle.hdfs_cluster.specs.Effects.{blocks_at, of_length, with_entry, with_length}
+use Rattle.hdfs_cluster.specs.Listing.{plus_length, total}
 use Rattle.hdfs_names.specs.Paths.{root, ancestors}
 use Rattle.hdfs_cluster.specs.Refusals.{with_parents}
 use Rattle.hdfs_mem_namenode.specs.Adding.{CanTake, HasNamed, Keeps, Names, with_directories}
-use Rattle.hdfs_mem_namenode.specs.Memory.{is_bare, is_kth, is_kth_at, is_length, is_sized, plus_length, total}
+use Rattle.hdfs_mem_namenode.specs.Memory.{is_bare, is_kth, is_kth_at, is_length, is_sized}
 use Rattle.hdfs_mem_namenode.specs.Soundness.{kth_test, kth_parts, total_first}
 use Rattle.hdfs_mem_namenode.specs.Totals.{is_counted, is_total, with_total}
 use Rattle.hdfs_mem_namenode.proofs.Apart.{no_kth}

@@ -11,9 +11,11 @@ use Rattle.std.specs.List.{All, Contains, list_all, list_any}
 use Rattle.std.specs.Str.{bytes_eq}
 use Rattle.hdfs_cluster.specs.declared.picture.BlockEntry.{BlockEntry}
 use Rattle.hdfs_cluster.specs.declared.picture.Entry.{Entry}
+use Rattle.hdfs_cluster.specs.Deleting.{DeletesFrom, IsBlockWithin}
 use Rattle.hdfs_cluster.specs.Effects.{blocks_at}
+use Rattle.hdfs_cluster.specs.Names.{HasBelow, is_below, is_within}
 use Rattle.hdfs_names.specs.Paths.{root, ancestors, above_from, is_path, is_slash}
-use Rattle.hdfs_mem_namenode.specs.Changing.{DeletesFrom, HasBelow, IsBlockWithin, IsClosed, frees, is_below, is_within}
+use Rattle.hdfs_mem_namenode.specs.Changing.{IsClosed, frees}
 use Rattle.hdfs_mem_namenode.specs.Memory.{is_dir, is_placed}
 use Rattle.hdfs_cluster.proofs.Loads.{and_parts}
 use Rattle.hdfs_mem_namenode.proofs.Below.{IsInFront}

@@ -9,9 +9,10 @@ use Rattle.hdfs_cluster.specs.declared.picture.FileEntry.{FileEntry}
 use Rattle.hdfs_cluster.specs.declared.messages.Block.{Block}
 use Rattle.hdfs_cluster.specs.declared.messages.LocatedBlock.{LocatedBlock}
 use Rattle.hdfs_cluster.specs.Effects.{HasBlock, IsEntry, IsLast, IsRetried, with_block, with_entry, with_length}
+use Rattle.hdfs_cluster.specs.Listing.{total}
 use Rattle.hdfs_names.specs.Paths.{is_path, ancestors, parent_of}
 use Rattle.hdfs_cluster.specs.Picture.{Picture}
-use Rattle.hdfs_mem_namenode.specs.Memory.{total, is_length, is_dir, is_kth, is_kth_at}
+use Rattle.hdfs_mem_namenode.specs.Memory.{is_length, is_dir, is_kth, is_kth_at}
 use Rattle.hdfs_mem_datanodes.specs.Uuids.{lowest}
 
 -- a file can stand at the path: it is new, and its parent is a directory

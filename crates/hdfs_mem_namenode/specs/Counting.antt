@@ -4,7 +4,7 @@ use Rattle.hdfs_cluster.specs.declared.messages.Summary.{Summary}
 use Rattle.hdfs_cluster.specs.declared.picture.BlockEntry.{BlockEntry}
 use Rattle.hdfs_cluster.specs.declared.picture.Entry.{Entry}
 use Rattle.hdfs_cluster.specs.declared.picture.Entry.TheVariants as entries
-use Rattle.hdfs_mem_namenode.specs.Listing.{Rises, front_of, is_before}
+use Rattle.hdfs_cluster.specs.Names.{Rises, front_of, is_before}
 use Rattle.hdfs_mem_namenode.specs.Looking.{attributes_of, length_of}
 
 -- something stands at a path that begins so

@@ -1,41 +1,13 @@
 -- What stands in a directory, page by page.
-use Rattle.std.specs.Prelude.{◌≡◌, ℕ, ◌<◌, ◌≤◌, nat_lt, ◌==◌, ◌&&◌, Bool, true, false, List, [], ◌∷◌, ◌++◌, length, map, All, Contains, Option, Some, None, IsSome, if◌then◌else◌}
-use Rattle.std.specs.List.{list_any}
-use Rattle.std.specs.Str.{bytes_eq}
+use Rattle.std.specs.Prelude.{◌≡◌, ℕ, ◌<◌, ◌≤◌, true, false, List, [], ◌∷◌, ◌++◌, length, map, All, Option, Some, None}
 use Rattle.hdfs_cluster.specs.declared.messages.DirList.{DirList}
 use Rattle.hdfs_cluster.specs.declared.messages.FileStatusMsg.{FileStatusMsg}
 use Rattle.hdfs_cluster.specs.declared.picture.BlockEntry.{BlockEntry}
 use Rattle.hdfs_cluster.specs.declared.picture.Entry.{Entry}
 use Rattle.hdfs_cluster.specs.declared.picture.Entry.TheVariants as entries
-use Rattle.hdfs_names.specs.Paths.{root, is_slash}
+use Rattle.hdfs_cluster.specs.Listing.{IsMissing}
+use Rattle.hdfs_cluster.specs.Names.{front_of, is_before, IsNameIn, AreNamesBehind}
 use Rattle.hdfs_mem_namenode.specs.Looking.{TellsOf}
-
--- what the paths in a directory begin with: the directory and a slash, or the root
-abbrev pub front_of : List ℕ → List ℕ
-front_of dir = if bytes_eq root dir then root else dir ++ 47 ∷ []
-
--- one text stands before another, byte by byte
-abbrev pub is_before : List ℕ → List ℕ → Bool
-is_before [] [] = false
-is_before [] (d ∷ b) = true
-is_before (c ∷ a) [] = false
-is_before (c ∷ a) (d ∷ b) = if nat_lt c d then true else (c == d) && is_before a b
-
--- something of this name, which has no slash, stands in the directory whose paths begin so
-pub record IsNameIn (names : List ℕ → Option Entry) (front name : List ℕ) : Type 0 where
-  pub plain : list_any is_slash name ≡ false
-  pub there : IsSome (names (front ++ name))
-
--- each of these texts stands behind the one before it, and the first one behind this text
-abbrev pub Rises : List ℕ → List (List ℕ) → Type 0
-Rises from [] = Unit {0}
-Rises from (text ∷ texts) = (is_before from text ≡ true) × Rises text texts
-
--- the names in a directory behind a text: in order, each once, all and no others
-pub record AreNamesBehind (names : List ℕ → Option Entry) (front from : List ℕ) (found : List (List ℕ)) : Type 0 where
-  pub rising : Rises from found
-  pub there : All (IsNameIn names front) found
-  pub all : (name : List ℕ) → IsNameIn names front name → is_before from name ≡ true → Contains found name
 
 -- the first name in a directory behind a text
 pub record IsNext (names : List ℕ → Option Entry) (front from name : List ℕ) : Type 0 where
@@ -69,7 +41,7 @@ ListsAt names table src from entries.Dir page = IsPage names table src from page
 ListsAt names table src from (entries.File file) page =
     (page.remaining_entries ≡ 0) × ((status : FileStatusMsg) × (page.partial_listing ≡ status ∷ []) × TellsOf names table src [] status)
 
--- what stands at the path is listed; nothing is where nothing stands there
+-- what stands at the path is listed; nothing is where nothing stands there, and no file above it
 abbrev pub Lists : (List ℕ → Option Entry) → (ℕ → Option BlockEntry) → List ℕ → List ℕ → Option DirList → Type 0
 Lists names table src from (Some page) = (entry : Entry) × (names src ≡ Some entry) × ListsAt names table src from entry page
-Lists names table src from None = names src ≡ None
+Lists names table src from None = IsMissing names src

@@ -1,32 +1,12 @@
 -- What an ask is told of what stands at a path.
-use Rattle.std.specs.Prelude.{◌≡◌, ℕ, Bool, true, false, List, [], Option, Some, None, is_some, is_none, if◌then◌else◌}
-use Rattle.std.specs.List.{list_any}
+use Rattle.std.specs.Prelude.{◌≡◌, ℕ, false, List, [], Option, Some, None, is_some}
 use Rattle.hdfs_cluster.specs.declared.attributes.Attributes.{Attributes}
 use Rattle.hdfs_cluster.specs.declared.messages.AclStatusMsg.{AclStatusMsg}
 use Rattle.hdfs_cluster.specs.declared.messages.FileStatusMsg.{FileStatusMsg}
 use Rattle.hdfs_cluster.specs.declared.picture.BlockEntry.{BlockEntry}
 use Rattle.hdfs_cluster.specs.declared.picture.Entry.{Entry}
 use Rattle.hdfs_cluster.specs.declared.picture.Entry.TheVariants as entries
-use Rattle.hdfs_cluster.specs.Files.{Kind, NotDirectory, Missing, is_file}
-use Rattle.hdfs_cluster.specs.Refusals.{Refusal, Lacks}
-use Rattle.hdfs_names.specs.Paths.{ancestors}
-use Rattle.hdfs_mem_namenode.specs.Memory.{total}
-
--- a file stands above the path
-abbrev pub above_refusal : (List ℕ → Option Kind) → List ℕ → Option Refusal
-above_refusal kinds path = if list_any (λ ancestor. is_file (kinds ancestor)) (ancestors path) then Some (Lacks NotDirectory) else None
-
--- why nothing can be told of a path: a file stands above it; nothing stands there
-abbrev pub look_refusal : (List ℕ → Option Kind) → List ℕ → Option Refusal
-look_refusal kinds path =
-    if list_any (λ ancestor. is_file (kinds ancestor)) (ancestors path) then Some (Lacks NotDirectory)
-    else if is_none (kinds path) then Some (Lacks Missing)
-    else None
-
--- the type of a directory is 1, that of a file 2
-abbrev pub type_of : Entry → ℕ
-type_of entries.Dir = 1
-type_of (entries.File file) = 2
+use Rattle.hdfs_cluster.specs.Listing.{total, type_of, IsMissing}
 
 -- the attributes of a file; a directory has the permission 755, in octal, and zeros
 abbrev pub attributes_of : Entry → Attributes
@@ -56,10 +36,10 @@ pub record TellsOf (names : List ℕ → Option Entry) (table : ℕ → Option B
   pub has : length_of table entry ≡ Some length
   pub told : IsStatusOf entry name length status
 
--- the status of what stands at the path, with no name, or none where nothing does
+-- the status of what stands at the path, with no name, or none where nothing does, and no file stands above it
 abbrev pub Informs : (List ℕ → Option Entry) → (ℕ → Option BlockEntry) → List ℕ → Option FileStatusMsg → Type 0
 Informs names table src (Some status) = TellsOf names table src [] status
-Informs names table src None = names src ≡ None
+Informs names table src None = IsMissing names src
 
 -- the access control list of what stands at the path: it has the permission, and no entries
 pub record TellsAcl (names : List ℕ → Option Entry) (path : List ℕ) (status : AclStatusMsg) : Type 0 where

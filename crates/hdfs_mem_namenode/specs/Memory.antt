@@ -1,5 +1,5 @@
 -- How the names and the blocks of a cluster in memory are seen.
-use Rattle.std.specs.Prelude.{◌≡◌, ℕ, ◌+◌, ◌^◌, nat_lt, ◌==◌, Bool, true, false, ◌&&◌, ◌||◌, List, [], ◌∷◌, length, slice_index, Option, Some, None, is_none, String, string_bytes}
+use Rattle.std.specs.Prelude.{◌≡◌, ℕ, ◌^◌, nat_lt, ◌==◌, Bool, true, false, ◌&&◌, ◌||◌, List, [], ◌∷◌, length, slice_index, Option, Some, None, is_none, String, string_bytes}
 use Rattle.std.specs.List.{list_all}
 use Rattle.std.specs.Map.{lookup}
 use Rattle.std.specs.Ordering.{nat_cmp}
@@ -12,17 +12,7 @@ use Rattle.hdfs_cluster.specs.declared.picture.BlockEntry.{BlockEntry}
 use Rattle.hdfs_names.specs.Paths.{root, is_path, ancestors, parent_of}
 use Rattle.hdfs_cluster.specs.Effects.{blocks_at}
 use Rattle.hdfs_cluster.specs.Limits.{in_limits}
-
--- the length of the blocks together, where each of them is there
-abbrev pub plus_length : Option BlockEntry → Option ℕ → Option ℕ
-plus_length (Some entry) (Some rest) = Some (entry.length + rest)
-plus_length (Some entry) None = None
-plus_length None rest = None
-
--- the lengths of these blocks together, none where one of them isn't in the table
-abbrev pub total : (ℕ → Option BlockEntry) → List ℕ → Option ℕ
-total table [] = Some 0
-total table (id ∷ ids) = plus_length (table id) (total table ids)
+use Rattle.hdfs_cluster.specs.Listing.{total}
 
 -- whether there is a length, and it is below 2^63
 abbrev pub is_length : Option ℕ → Bool

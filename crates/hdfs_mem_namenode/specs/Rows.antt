@@ -1,5 +1,5 @@
 -- What a namenode of a cluster in memory answers to an ask about names, and what that changes.
-use Rattle.std.specs.Prelude.{◌≡◌, ◌⊎◌, ℕ, Bool, true, false, List, [], Option, Some, None, Result, Ok, Err, codes}
+use Rattle.std.specs.Prelude.{◌≡◌, ◌⊎◌, ℕ, Bool, true, IsUtf8, List, [], Option, Some, None, Result, Ok, Err}
 use Rattle.hdfs_cluster.specs.declared.asks.Ask.{Ask}
 use Rattle.hdfs_cluster.specs.declared.asks.Ask.TheVariants as asks
 use Rattle.hdfs_cluster.specs.declared.asks.Answer.{Answer}
@@ -7,14 +7,16 @@ use Rattle.hdfs_cluster.specs.declared.asks.Answer.TheVariants as answers
 use Rattle.hdfs_cluster.specs.declared.asks.AskFault.{AskFault}
 use Rattle.hdfs_cluster.specs.declared.asks.AskFault.TheVariants as faults
 use Rattle.hdfs_cluster.specs.declared.picture.Entry.{Entry}
+use Rattle.hdfs_cluster.specs.Deleting.{IsNotEmpty}
 use Rattle.hdfs_cluster.specs.Files.{Directory}
-use Rattle.hdfs_cluster.specs.Namenode.{StandsForAny, StandsForNoFile}
+use Rattle.hdfs_cluster.specs.Namenode.{StandsForAny, StandsForNoFile, not_empty, bad_argument}
 use Rattle.hdfs_cluster.specs.Picture.{kinds_in}
+use Rattle.hdfs_cluster.specs.Refusals.{above_refusal, look_refusal, mkdirs_refusal}
 use Rattle.hdfs_mem_namenode.specs.Adding.{Space}
-use Rattle.hdfs_mem_namenode.specs.Changing.{DeletesOrNot, IsNotEmpty, MakesDirectory, SameSpace, mkdirs_refusal, not_empty}
+use Rattle.hdfs_mem_namenode.specs.Changing.{DeletesOrNot, MakesDirectory, SameSpace}
 use Rattle.hdfs_mem_namenode.specs.Counting.{Counts}
 use Rattle.hdfs_mem_namenode.specs.Listing.{Lists}
-use Rattle.hdfs_mem_namenode.specs.Looking.{Informs, TellsAcl, above_refusal, look_refusal}
+use Rattle.hdfs_mem_namenode.specs.Looking.{Informs, TellsAcl}
 use Rattle.hdfs_mem_namenode.specs.Renaming.{IsMoveRefusal, MayMove, moved}
 use Rattle.hdfs_mem_namenode.specs.Setting.{ChangesFile, ChangesOrNot, with_permission, with_replication}
 
@@ -84,10 +86,6 @@ NamesRow old (asks.GetContentSummary path) (answers.GetContentSummary summary) n
     Counts old.names old.table path summary × SameSpace old new
 NamesRow old ask answer new = StandsStill old ask answer new
 
--- a name from which a directory is listed isn't UTF-8
-abbrev pub bad_argument : List ℕ
-bad_argument = codes "java.lang.IllegalArgumentException"
-
 -- the exception of this class stands for what refuses it at a path
 abbrev pub IsLookRefusal : Space → List ℕ → List ℕ → Type 0
 IsLookRefusal old src class = StandsForAny (kinds_in old.names src) (look_refusal (kinds_in old.names) src) class
@@ -99,7 +97,8 @@ IsAboveRefusal old src class = StandsForAny (kinds_in old.names src) (above_refu
 -- the exception of this class stands for a refusal of an ask about names
 abbrev pub NamesRefusal : Space → Ask → List ℕ → Type 0
 NamesRefusal old (asks.GetFileInfo src) class = IsAboveRefusal old src class
-NamesRefusal old (asks.GetListing src from located) class = IsAboveRefusal old src class ⊎ (class ≡ bad_argument)
+NamesRefusal old (asks.GetListing src from located) class =
+    IsAboveRefusal old src class ⊎ ((IsUtf8 from → ⊥) × (class ≡ bad_argument))
 NamesRefusal old (asks.GetAclStatus src) class = IsLookRefusal old src class
 NamesRefusal old (asks.Mkdirs src masked parents) class =
     StandsForAny (Some Directory) (mkdirs_refusal (kinds_in old.names) src parents) class

@@ -10,10 +10,11 @@ use Rattle.hdfs_cluster.specs.declared.picture.BlockEntry.{BlockEntry}
 use Rattle.hdfs_cluster.specs.declared.picture.Entry.{Entry}
 use Rattle.hdfs_cluster.specs.declared.picture.Entry.TheVariants as entries
 use Rattle.hdfs_cluster.specs.Effects.{blocks_at}
+use Rattle.hdfs_cluster.specs.Listing.{total, plus_length}
 use Rattle.hdfs_cluster.specs.Picture.{Picture}
 use Rattle.hdfs_cluster.specs.Sound.{IsBlockAt, IsSound}
 use Rattle.hdfs_cluster.proofs.Loads.{and_parts}
-use Rattle.hdfs_mem_namenode.specs.Memory.{is_kth, is_kth_at, AreApart, is_sized, is_length, total, plus_length}
+use Rattle.hdfs_mem_namenode.specs.Memory.{is_kth, is_kth_at, AreApart, is_sized, is_length}
 
 pub kth_test : (ids : List ℕ) (k id : ℕ) → k < length ids → get_or ids k 0 ≡ id → is_kth ids k id ≡ true
 kth_test ids k id below is = grind (arith, nat_tests)

@@ -4,7 +4,7 @@ use Rattle.std.specs.Str.{bytes_eq}
 use Rattle.hdfs_cluster.specs.declared.picture.Entry.{Entry}
 use Rattle.hdfs_cluster.specs.declared.picture.Entry.TheVariants as entries
 use Rattle.hdfs_cluster.specs.declared.picture.BlockEntry.{BlockEntry}
-use Rattle.hdfs_mem_namenode.specs.Memory.{total}
+use Rattle.hdfs_cluster.specs.Listing.{total}
 
 -- there is such a sum, and it is the total that is kept
 abbrev pub is_total : Option ℕ → Option ℕ → Bool

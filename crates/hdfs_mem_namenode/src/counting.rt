@@ -2,9 +2,9 @@
 ghost use Rattle.std.specs.Prelude.{◌≡◌, ◌+◌, ◌*◌, Some, IfOk, IfErr};
 ghost use Rattle.std.specs.BTreeMap.{get_by_text};
 ghost use Rattle.hdfs_cluster.specs.Picture.{kinds_in};
+ghost use Rattle.hdfs_cluster.specs.Refusals.{look_refusal};
 ghost use Rattle.hdfs_mem_namenode.specs.Answering.{StandsForWritten};
 ghost use Rattle.hdfs_mem_namenode.specs.Counting.{Counts, CountsOn, directories_at, files_at, told, with_one};
-ghost use Rattle.hdfs_mem_namenode.specs.Looking.{look_refusal};
 ghost use Rattle.hdfs_mem_namenode.specs.Memory.{table_of};
 
 use crate::listing::{behind, first_from, front_of, joined};

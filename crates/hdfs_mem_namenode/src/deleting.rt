@@ -3,8 +3,9 @@ ghost use Rattle.std.specs.Prelude.{◌≡◌, ◌≢◌, ◌==◌, ◌&&◌, no
 ghost use Rattle.std.specs.BTreeMap.{get_by_text};
 ghost use Rattle.std.specs.List.{All, list_any};
 ghost use Rattle.std.specs.Str.{bytes_eq};
+ghost use Rattle.hdfs_cluster.specs.Deleting.{DeletesFrom};
 ghost use Rattle.hdfs_cluster.specs.Effects.{blocks_at};
-ghost use Rattle.hdfs_mem_namenode.specs.Changing.{DeletesFrom, DeletesOrNot, IsClosed, StandsForKept, frees};
+ghost use Rattle.hdfs_mem_namenode.specs.Changing.{DeletesOrNot, IsClosed, StandsForKept, frees};
 ghost use Rattle.hdfs_mem_namenode.specs.Memory.{table_of};
 ghost use Rattle.hdfs_names.specs.Paths.{root};
 

@@ -4,11 +4,13 @@ ghost use Rattle.std.specs.BTreeMap.{IsOrdered, get_by_text};
 ghost use Rattle.std.specs.List.{filter, list_any};
 ghost use Rattle.std.specs.String.{string_cmp};
 ghost use Rattle.hdfs_cluster.specs.declared.messages.FileStatusMsg.{FileStatusMsg};
+ghost use Rattle.hdfs_cluster.specs.Names.{front_of, is_before};
 ghost use Rattle.hdfs_cluster.specs.Picture.{kinds_in};
+ghost use Rattle.hdfs_cluster.specs.Refusals.{above_refusal};
 ghost use Rattle.hdfs_names.specs.Paths.{is_slash};
 ghost use Rattle.hdfs_mem_namenode.specs.Answering.{StandsForWritten};
-ghost use Rattle.hdfs_mem_namenode.specs.Listing.{CountsBehind, IsNext, IsPage, Lists, NoneBehind, front_of, is_before};
-ghost use Rattle.hdfs_mem_namenode.specs.Looking.{TellsOf, above_refusal};
+ghost use Rattle.hdfs_mem_namenode.specs.Listing.{CountsBehind, IsNext, IsPage, Lists, NoneBehind};
+ghost use Rattle.hdfs_mem_namenode.specs.Looking.{TellsOf};
 ghost use Rattle.hdfs_mem_namenode.specs.Memory.{table_of};
 
 use crate::namenode::exception;

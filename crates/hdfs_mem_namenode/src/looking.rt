@@ -1,10 +1,12 @@
 //! What a cluster in memory tells of what stands at a path.
 ghost use Rattle.std.specs.Prelude.{◌≡◌, false, [], Some, None, IfOk, IfErr, MatchOption, MatchResult};
 ghost use Rattle.std.specs.BTreeMap.{get_by_text};
+ghost use Rattle.hdfs_cluster.specs.Listing.{type_of};
 ghost use Rattle.hdfs_cluster.specs.Namenode.{StandsForAny};
 ghost use Rattle.hdfs_cluster.specs.Picture.{kinds_in};
+ghost use Rattle.hdfs_cluster.specs.Refusals.{above_refusal, look_refusal};
 ghost use Rattle.hdfs_mem_namenode.specs.Answering.{StandsForWritten};
-ghost use Rattle.hdfs_mem_namenode.specs.Looking.{Informs, IsStatusOf, TellsAcl, TellsOf, above_refusal, attributes_of, length_of, look_refusal, type_of};
+ghost use Rattle.hdfs_mem_namenode.specs.Looking.{Informs, IsStatusOf, TellsAcl, TellsOf, attributes_of, length_of};
 ghost use Rattle.hdfs_mem_namenode.specs.Memory.{table_of};
 
 use crate::namenode::{NOT_FOUND, PARENT_NOT_DIRECTORY, encryption, exception};

@@ -7,9 +7,8 @@ ghost use Rattle.hdfs_cluster.specs.Files.{Directory, is_file};
 ghost use Rattle.hdfs_cluster.specs.Namenode.{StandsForAny};
 ghost use Rattle.hdfs_names.specs.Paths.{is_path, ancestors};
 ghost use Rattle.hdfs_cluster.specs.Picture.{kinds_in};
-ghost use Rattle.hdfs_cluster.specs.Refusals.{with_parents};
+ghost use Rattle.hdfs_cluster.specs.Refusals.{with_parents, mkdirs_refusal};
 ghost use Rattle.hdfs_mem_namenode.specs.Answering.{StandsForWritten};
-ghost use Rattle.hdfs_mem_namenode.specs.Changing.{mkdirs_refusal};
 
 use crate::creating::{ALREADY_EXISTS, make_parents};
 use crate::namenode::{NOT_FOUND, PARENT_NOT_DIRECTORY, exception};

@@ -4,13 +4,14 @@ ghost use Rattle.std.specs.List.{list_any};
 ghost use Rattle.std.specs.BTreeMap.{get_by_text};
 ghost use Rattle.hdfs_cluster.specs.Effects.{IsEntry};
 ghost use Rattle.hdfs_cluster.specs.Files.{no_file, is_file};
+ghost use Rattle.hdfs_cluster.specs.Listing.{total};
 ghost use Rattle.hdfs_cluster.specs.Namenode.{last_of, IsToWrite, LocatesBlock, LocatesBlocks, Follow};
 ghost use Rattle.hdfs_cluster.specs.Sending.{uuids};
 ghost use Rattle.hdfs_names.specs.Paths.{ancestors};
 ghost use Rattle.hdfs_cluster.specs.Picture.{kinds_in};
 ghost use Rattle.hdfs_mem_namenode.specs.Adding.{IsClosedBlock};
 ghost use Rattle.hdfs_mem_namenode.specs.Answering.{LocatesFile, StandsForRefusal};
-ghost use Rattle.hdfs_mem_namenode.specs.Memory.{table_of, total, is_length};
+ghost use Rattle.hdfs_mem_namenode.specs.Memory.{table_of, is_length};
 
 use crate::blocks::kth_id;
 use crate::namespace::Namespace;

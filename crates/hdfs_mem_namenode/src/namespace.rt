@@ -3,8 +3,9 @@ ghost use Rattle.std.specs.Prelude.{◌≡◌, ◌≤◌, ◌+◌, ◌^◌, ◌<
 ghost use Rattle.std.specs.BTreeMap.{get_by_text};
 ghost use Rattle.hdfs_cluster.specs.declared.picture.Entry.TheVariants as entries;
 ghost use Rattle.hdfs_cluster.specs.Effects.{blocks_at};
+ghost use Rattle.hdfs_cluster.specs.Listing.{total};
 ghost use Rattle.hdfs_names.specs.Paths.{root};
-ghost use Rattle.hdfs_mem_namenode.specs.Memory.{table_of, total, is_length, is_sized, is_dir, is_placed, is_free_at, accepts, AreApart, IsBare};
+ghost use Rattle.hdfs_mem_namenode.specs.Memory.{table_of, is_length, is_sized, is_dir, is_placed, is_free_at, accepts, AreApart, IsBare};
 ghost use Rattle.hdfs_mem_namenode.specs.Adding.{IsPlace, AddsBlock, AreNew, Keeps, Names};
 ghost use Rattle.hdfs_mem_namenode.specs.Totals.{is_counted};
 

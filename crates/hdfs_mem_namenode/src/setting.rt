@@ -5,8 +5,8 @@ ghost use Rattle.hdfs_cluster.specs.declared.picture.Entry.TheVariants as entrie
 ghost use Rattle.hdfs_cluster.specs.declared.picture.FileEntry.{FileEntry};
 ghost use Rattle.hdfs_cluster.specs.Effects.{with_entry};
 ghost use Rattle.hdfs_cluster.specs.Picture.{kinds_in};
+ghost use Rattle.hdfs_cluster.specs.Refusals.{look_refusal};
 ghost use Rattle.hdfs_mem_namenode.specs.Answering.{StandsForRefusal, StandsForWritten};
-ghost use Rattle.hdfs_mem_namenode.specs.Looking.{look_refusal};
 ghost use Rattle.hdfs_mem_namenode.specs.Setting.{ChangesFile, ChangesOrNot, with_attributes, with_permission, with_replication};
 
 use crate::namenode::{NOT_FOUND, exception};

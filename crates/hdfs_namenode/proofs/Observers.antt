@@ -11,11 +11,12 @@ use Rattle.hdfs_cluster.specs.declared.asks.AskFault.{AskFault}
 use Rattle.hdfs_cluster.specs.declared.asks.AskFault.TheVariants as faults
 use Rattle.hdfs_cluster.specs.declared.errors.HdfsError.{HdfsError}
 use Rattle.hdfs_cluster.specs.declared.errors.HdfsError.TheVariants as errors
+use Rattle.hdfs_cluster.specs.Repeating.{Leaves}
 use Rattle.hdfs_cluster.specs.Shown.{Shown, Later, Served}
 use Rattle.hdfs_cluster.specs.Namenode.{IsShaped}
-use Rattle.hdfs_cluster.proofs.Frames.{later_refl, later_trans}
-use Rattle.hdfs_cluster.proofs.Framing.{asked_leaves}
-use Rattle.hdfs_namenode.specs.Asked.{Asked, AskedInOrder, AskedInStep, AskedObserved, AskedSynced, AskedUntil, GoesOnBehind, GoesOnWith, LooksFor, NoneObserves, Observes, SyncRefused, SameService, Through, forgets, is_observed, is_observer, lacks_memory, needs_sync, numbers_from, order_of}
+use Rattle.hdfs_cluster.proofs.Frames.{later_refl}
+use Rattle.hdfs_cluster.proofs.Framing.{asked_leaves, leaves_refl, leaves_served, leaves_trans}
+use Rattle.hdfs_namenode.specs.Asked.{Asked, AskedInOrder, AskedInStep, AskedObserved, AskedOnce, AskedSynced, AskedUntil, GoesOnBehind, GoesOnWith, LooksFor, NoneObserves, Observes, SyncRefused, SameService, Through, forgets, is_observed, is_observer, lacks_memory, needs_sync, numbers_from, order_of}
 use Rattle.hdfs_namenode.specs.Observing.{ByObserver, InStep, SyncsFirst, by_observer, is_unanswered, said_by}
 use Rattle.hdfs_namenode.specs.Relaying.{HasNoAnswer, LacksAnswer}
 use Rattle.hdfs_namenode.proofs.Services.{same_service_refl}
@@ -229,74 +230,85 @@ module _ {C : Type 0} (serves : C → ℕ → Ask → Result Answer AskFault →
       by (Err (faults.Exception class message)) gave shaped some = absurd (false≢true (sym some))
       by (Err (faults.Fatal class message)) gave shaped some = absurd (false≢true (sym some))
 
--- Whatever was asked, the cluster went on.
+-- Whatever was asked, links and bytes are left as they were, and no count fell.
 module _ {C : Type 0} (shown : C → Shown) (serves : C → ℕ → Ask → Result Answer AskFault → C → Type 0)
     (rows : (old new : C) (i : ℕ) (ask : Ask) (result : Result Answer AskFault) → serves old i ask result new → Served (shown old) i ask result (shown new)) where
-  in_order_later : (write : Bool) (ask : Ask) (old : Through C) (outcome : Result Answer HdfsError) (new : Through C) → AskedInOrder serves write ask old outcome new
-      → Later (shown old.cluster) (shown new.cluster)
-  in_order_later write ask old outcome new asked =
-      (asked_leaves shown serves rows ask (order_of old.proxy) asked.last asked.given old.cluster new.cluster asked.asks).0.later
+  in_order_leaves : (write : Bool) (ask : Ask) (old : Through C) (outcome : Result Answer HdfsError) (new : Through C) → AskedInOrder serves write ask old outcome new
+      → Leaves (shown old.cluster) (shown new.cluster)
+  in_order_leaves write ask old outcome new asked =
+      (asked_leaves shown serves rows ask (order_of old.proxy) asked.last asked.given old.cluster new.cluster asked.asks).0
 
-  none_later : (order : List ℕ) (old new : C) → NoneObserves serves order old new → Later (shown old) (shown new)
-  none_later [] old new none = subst (λ (x : C). Later (shown old) (shown x)) (sym none) (later_refl (shown old))
-  none_later (i ∷ others) old new none =
-      later_trans (shown old) (shown none.1) (shown new) (rows old none.1 i asks.GetHaServiceState none.0 none.2).later (none_later others none.1 new none.5)
+  none_leaves : (order : List ℕ) (old new : C) → NoneObserves serves order old new → Leaves (shown old) (shown new)
+  none_leaves [] old new none = subst (λ (x : C). Leaves (shown old) (shown x)) (sym none) (leaves_refl (shown old))
+  none_leaves (i ∷ others) old new none =
+      leaves_trans (shown old) (shown none.1) (shown new) (leaves_served (shown old) (shown none.1) i asks.GetHaServiceState none.0 (rows old none.1 i asks.GetHaServiceState none.0 none.2)) (none_leaves others none.1 new none.5)
 
-  until_later : (order : List ℕ) (old : C) (i : ℕ) (given : Result Answer AskFault) (new : C) → AskedUntil serves order old i given new → Later (shown old) (shown new)
-  until_later order old i given new asked =
-      later_trans (shown old) (shown asked.mid) (shown new) (none_later asked.front old asked.mid asked.none) (rows asked.mid new i asks.GetHaServiceState given asked.gave).later
+  until_leaves : (order : List ℕ) (old : C) (i : ℕ) (given : Result Answer AskFault) (new : C) → AskedUntil serves order old i given new → Leaves (shown old) (shown new)
+  until_leaves order old i given new asked =
+      leaves_trans (shown old) (shown asked.mid) (shown new) (none_leaves asked.front old asked.mid asked.none) (leaves_served (shown asked.mid) (shown new) i asks.GetHaServiceState given (rows asked.mid new i asks.GetHaServiceState given asked.gave))
 
-  looks_later : (order : List ℕ) (old : C) (found : Result (Option ℕ) HdfsError) (new : C) → LooksFor serves order old found new → Later (shown old) (shown new)
-  looks_later order old (Ok None) new looks = none_later order old new looks
-  looks_later order old (Ok (Some i)) new looks = until_later order old i (Ok (answers.GetHaServiceState 3)) new looks
-  looks_later order old (Err error) new looks = until_later order old looks.1 (Err faults.NoMemory) new looks.2
+  looks_leaves : (order : List ℕ) (old : C) (found : Result (Option ℕ) HdfsError) (new : C) → LooksFor serves order old found new → Leaves (shown old) (shown new)
+  looks_leaves order old (Ok None) new looks = none_leaves order old new looks
+  looks_leaves order old (Ok (Some i)) new looks = until_leaves order old i (Ok (answers.GetHaServiceState 3)) new looks
+  looks_leaves order old (Err error) new looks = until_leaves order old looks.1 (Err faults.NoMemory) new looks.2
 
-  observes_later : (known : Option ℕ) (old : Through C) (found : Result (Option ℕ) HdfsError) (new : Through C) → Observes serves known old found new
-      → Later (shown old.cluster) (shown new.cluster)
-  observes_later (Some i) old found new observes = subst (λ (t : Through C). Later (shown old.cluster) (shown t.cluster)) (sym observes.1) (later_refl (shown old.cluster))
-  observes_later None old found new observes = looks_later (numbers_from old.proxy.first old.proxy.count) old.cluster found new.cluster observes.0
+  observes_leaves : (known : Option ℕ) (old : Through C) (found : Result (Option ℕ) HdfsError) (new : Through C) → Observes serves known old found new
+      → Leaves (shown old.cluster) (shown new.cluster)
+  observes_leaves (Some i) old found new observes = subst (λ (t : Through C). Leaves (shown old.cluster) (shown t.cluster)) (sym observes.1) (leaves_refl (shown old.cluster))
+  observes_leaves None old found new observes = looks_leaves (numbers_from old.proxy.first old.proxy.count) old.cluster found new.cluster observes.0
 
-  behind_later : (ask : Ask) (given : Result Answer AskFault) (old : Through C) (outcome : Result Answer HdfsError) (new : Through C) → GoesOnBehind serves ask given old outcome new
-      → Later (shown old.cluster) (shown new.cluster)
-  behind_later ask (Ok answer) old outcome new goes = subst (λ (t : Through C). Later (shown old.cluster) (shown t.cluster)) (sym goes.1) (later_refl (shown old.cluster))
-  behind_later ask (Err faults.NoMemory) old outcome new goes =
-      subst (λ (t : Through C). Later (shown old.cluster) (shown t.cluster)) (sym goes.1) (later_refl (shown old.cluster))
-  behind_later ask (Err faults.Broken) old outcome new goes = in_order_later false ask (forgets old) outcome new goes
-  behind_later ask (Err (faults.BadReply fault)) old outcome new goes = in_order_later false ask (forgets old) outcome new goes
-  behind_later ask (Err (faults.Exception class message)) old outcome new goes = in_order_later false ask (forgets old) outcome new goes
-  behind_later ask (Err (faults.Fatal class message)) old outcome new goes = in_order_later false ask (forgets old) outcome new goes
+  behind_leaves : (ask : Ask) (given : Result Answer AskFault) (old : Through C) (outcome : Result Answer HdfsError) (new : Through C) → GoesOnBehind serves ask given old outcome new
+      → Leaves (shown old.cluster) (shown new.cluster)
+  behind_leaves ask (Ok answer) old outcome new goes = subst (λ (t : Through C). Leaves (shown old.cluster) (shown t.cluster)) (sym goes.1) (leaves_refl (shown old.cluster))
+  behind_leaves ask (Err faults.NoMemory) old outcome new goes =
+      subst (λ (t : Through C). Leaves (shown old.cluster) (shown t.cluster)) (sym goes.1) (leaves_refl (shown old.cluster))
+  behind_leaves ask (Err faults.Broken) old outcome new goes = in_order_leaves false ask (forgets old) outcome new goes
+  behind_leaves ask (Err (faults.BadReply fault)) old outcome new goes = in_order_leaves false ask (forgets old) outcome new goes
+  behind_leaves ask (Err (faults.Exception class message)) old outcome new goes = in_order_leaves false ask (forgets old) outcome new goes
+  behind_leaves ask (Err (faults.Fatal class message)) old outcome new goes = in_order_leaves false ask (forgets old) outcome new goes
 
-  with_later : (ask : Ask) (found : Result (Option ℕ) HdfsError) (old : Through C) (outcome : Result Answer HdfsError) (new : Through C) → GoesOnWith serves ask found old outcome new
-      → Later (shown old.cluster) (shown new.cluster)
-  with_later ask (Ok (Some i)) old outcome new goes =
-      later_trans (shown old.cluster) (shown goes.between) (shown new.cluster) (rows old.cluster goes.between i ask goes.given goes.gave).later
-      (behind_later ask goes.given (record { cluster = goes.between; proxy = old.proxy }) outcome new goes.goes_on)
-  with_later ask (Ok None) old outcome new goes = in_order_later false ask old outcome new goes
-  with_later ask (Err error) old outcome new goes = subst (λ (t : Through C). Later (shown old.cluster) (shown t.cluster)) (sym goes.1) (later_refl (shown old.cluster))
+  with_leaves : (ask : Ask) (found : Result (Option ℕ) HdfsError) (old : Through C) (outcome : Result Answer HdfsError) (new : Through C) → GoesOnWith serves ask found old outcome new
+      → Leaves (shown old.cluster) (shown new.cluster)
+  with_leaves ask (Ok (Some i)) old outcome new goes =
+      leaves_trans (shown old.cluster) (shown goes.between) (shown new.cluster) (leaves_served (shown old.cluster) (shown goes.between) i ask goes.given (rows old.cluster goes.between i ask goes.given goes.gave))
+      (behind_leaves ask goes.given (record { cluster = goes.between; proxy = old.proxy }) outcome new goes.goes_on)
+  with_leaves ask (Ok None) old outcome new goes = in_order_leaves false ask old outcome new goes
+  with_leaves ask (Err error) old outcome new goes = subst (λ (t : Through C). Leaves (shown old.cluster) (shown t.cluster)) (sym goes.1) (leaves_refl (shown old.cluster))
 
-  step_later : (write : Bool) (ask : Ask) (old : Through C) (outcome : Result Answer HdfsError) (new : Through C) → AskedInStep serves write ask old outcome new
-      → Later (shown old.cluster) (shown new.cluster)
-  step_later write ask old outcome new step = by (is_observed write old.proxy) refl
+  step_leaves : (write : Bool) (ask : Ask) (old : Through C) (outcome : Result Answer HdfsError) (new : Through C) → AskedInStep serves write ask old outcome new
+      → Leaves (shown old.cluster) (shown new.cluster)
+  step_leaves write ask old outcome new step = by (is_observed write old.proxy) refl
     where
-      by : (b : Bool) → is_observed write old.proxy ≡ b → Later (shown old.cluster) (shown new.cluster)
+      by : (b : Bool) → is_observed write old.proxy ≡ b → Leaves (shown old.cluster) (shown new.cluster)
       by true is =
           let o = step.observed is in
-          later_trans (shown old.cluster) (shown o.mid.cluster) (shown new.cluster) (observes_later old.proxy.observer old o.found o.mid o.observes)
-          (with_later ask o.found o.mid outcome new o.goes_on)
-      by false is = in_order_later write ask old outcome new (step.in_order is)
+          leaves_trans (shown old.cluster) (shown o.mid.cluster) (shown new.cluster) (observes_leaves old.proxy.observer old o.found o.mid o.observes)
+          (with_leaves ask o.found o.mid outcome new o.goes_on)
+      by false is = in_order_leaves write ask old outcome new (step.in_order is)
 
-  synced_later : (write : Bool) (ask : Ask) (old : Through C) (outcome : Result Answer HdfsError) (new : Through C)
-      → AskedSynced serves write ask old outcome new ⊎ SyncRefused serves old outcome new → Later (shown old.cluster) (shown new.cluster)
-  synced_later write ask old outcome new (inl went) =
-      let first = in_order_later true asks.Msync old (Ok went.syncs.answer) went.syncs.behind went.syncs.asked in
-      later_trans (shown old.cluster) (shown went.mid.cluster) (shown new.cluster)
-      (subst (λ (x : C). Later (shown old.cluster) (shown x)) (sym went.syncs.cluster) first) (step_later write ask went.mid outcome new went.in_step)
-  synced_later write ask old outcome new (inr refused) = in_order_later true asks.Msync old (Err refused.error) new refused.asked
+  synced_leaves : (write : Bool) (ask : Ask) (old : Through C) (outcome : Result Answer HdfsError) (new : Through C)
+      → AskedSynced serves write ask old outcome new ⊎ SyncRefused serves old outcome new → Leaves (shown old.cluster) (shown new.cluster)
+  synced_leaves write ask old outcome new (inl went) =
+      let first = in_order_leaves true asks.Msync old (Ok went.syncs.answer) went.syncs.behind went.syncs.asked in
+      leaves_trans (shown old.cluster) (shown went.mid.cluster) (shown new.cluster)
+      (subst (λ (x : C). Leaves (shown old.cluster) (shown x)) (sym went.syncs.cluster) first) (step_leaves write ask went.mid outcome new went.in_step)
+  synced_leaves write ask old outcome new (inr refused) = in_order_leaves true asks.Msync old (Err refused.error) new refused.asked
+
+  pub all_leaves : (write : Bool) (ask : Ask) (old : Through C) (outcome : Result Answer HdfsError) (new : Through C) → Asked serves write ask old outcome new
+      → Leaves (shown old.cluster) (shown new.cluster)
+  all_leaves write ask old outcome new asked = by (needs_sync write old.proxy) refl
+    where
+      by : (b : Bool) → needs_sync write old.proxy ≡ b → Leaves (shown old.cluster) (shown new.cluster)
+      by true is = synced_leaves write ask old outcome new (asked.synced is)
+      by false is = step_leaves write ask old outcome new (asked.in_step is)
+
+  -- one ask, or no memory for it
+  pub once_leaves : (write : Bool) (ask : Ask) (old : Through C) (outcome : Result Answer HdfsError) (new : Through C) → AskedOnce serves write ask old outcome new
+      → Leaves (shown old.cluster) (shown new.cluster)
+  once_leaves write ask old outcome new (inl asked) = all_leaves write ask old outcome new asked
+  once_leaves write ask old outcome new (inr none) =
+      subst (λ (t : Through C). Leaves (shown old.cluster) (shown t.cluster)) (sym none.same) (leaves_refl (shown old.cluster))
 
   pub asked_later : (write : Bool) (ask : Ask) (old : Through C) (outcome : Result Answer HdfsError) (new : Through C) → Asked serves write ask old outcome new
       → Later (shown old.cluster) (shown new.cluster)
-  asked_later write ask old outcome new asked = by (needs_sync write old.proxy) refl
-    where
-      by : (b : Bool) → needs_sync write old.proxy ≡ b → Later (shown old.cluster) (shown new.cluster)
-      by true is = synced_later write ask old outcome new (asked.synced is)
-      by false is = step_later write ask old outcome new (asked.in_step is)
+  asked_later write ask old outcome new asked = (all_leaves write ask old outcome new asked).later

@@ -10,7 +10,7 @@ use Rattle.hdfs_cluster.specs.declared.errors.HdfsError.TheVariants as errors
 use Rattle.hdfs_cluster.specs.declared.picture.LastAnswer.TheVariants as last_answers
 use Rattle.hdfs_cluster.specs.Failures.{CallsRose, EachAsked}
 use Rattle.hdfs_cluster.specs.Counts.{Rose, RoseTwice}
-use Rattle.hdfs_cluster.specs.Namenode.{Row, IsFailure, IsShaped, IsFalse, is_taken, last_of}
+use Rattle.hdfs_cluster.specs.Namenode.{Row, FoundNothing, IsFailure, IsShaped, IsFalse, is_taken, last_of}
 use Rattle.hdfs_cluster.specs.Picture.{Picture}
 use Rattle.hdfs_cluster.specs.Repeating.{DoneOrNot, Leaves, Repeats}
 use Rattle.hdfs_cluster.specs.Shown.{Shown, Served}
@@ -62,17 +62,19 @@ comes_relayed risen p ask last (Err fault) q (inl memory) = inl (ap (error_of la
 comes_relayed risen p ask last (Err fault) q (inr (inl refused)) = inr (inl ((refused.0.0, refused.0.1, refused.0.3, ap (error_of last) refused.0.2), refused.1))
 comes_relayed risen p ask last (Err fault) q (inr (inr rose)) = inr (inr rose)
 
--- what is answered is by the row, but for the answer that a file isn't closed
-pub relayed_row : (risen : Type 0) (p : Picture) (ask : Ask) (answer : Answer) (q : Picture) → (IsFalse answer → ⊥) → RelaysTold risen p ask (Ok answer) q
-    → Row p ask answer q
-relayed_row risen p ask answer q closed (inl row) = row
-relayed_row risen p ask answer q closed (inr denied) = absurd (closed denied.0)
+-- what is answered is by the row, but for the answers that nothing was found to be deleted and that a file isn't closed
+pub relayed_row : (risen : Type 0) (p : Picture) (ask : Ask) (answer : Answer) (q : Picture) → (FoundNothing answer → ⊥) → (IsFalse answer → ⊥)
+    → RelaysTold risen p ask (Ok answer) q → Row p ask answer q
+relayed_row risen p ask answer q found closed (inl row) = row
+relayed_row risen p ask answer q found closed (inr (inl again)) = absurd (found again.0)
+relayed_row risen p ask answer q found closed (inr (inr denied)) = absurd (closed denied.0)
 
 -- whatever came of it, the ask had its effect once, or none
 pub relayed_done : (risen : Type 0) (p : Picture) (ask : Ask) (result : Result Answer HdfsError) (q : Picture) → IfOk result (IsShaped ask)
     → RelaysTold risen p ask result q → DoneOrNot ask p q
 relayed_done risen p ask (Ok answer) q shaped (inl row) = inr (answer, shaped, row)
-relayed_done risen p ask (Ok answer) q shaped (inr denied) = denied.2
+relayed_done risen p ask (Ok answer) q shaped (inr (inl again)) = inr again.2
+relayed_done risen p ask (Ok answer) q shaped (inr (inr denied)) = denied.2
 relayed_done risen p ask (Err error) q shaped (inl memory) = memory.1
 relayed_done risen p ask (Err error) q shaped (inr (inl refused)) = inl refused.1
 relayed_done risen p ask (Err error) q shaped (inr (inr rose)) = rose.1

@@ -13,9 +13,9 @@ use Rattle.hdfs_cluster.specs.declared.messages.ServerDefaults.{ServerDefaults}
 use Rattle.hdfs_cluster.specs.declared.picture.LastAnswer.TheVariants as last_answers
 use Rattle.hdfs_cluster.specs.Counts.{Rose, RoseTwice}
 use Rattle.hdfs_cluster.specs.Failures.{CallsRose, IsOfAsk, Means}
-use Rattle.hdfs_cluster.specs.Namenode.{Row, IsShaped, IsRefusal, IsFalse, is_retriable}
+use Rattle.hdfs_cluster.specs.Namenode.{Row, FoundNothing, IsShaped, IsRefusal, IsFalse, is_retriable}
 use Rattle.hdfs_cluster.specs.Picture.{Picture, SameButActive}
-use Rattle.hdfs_cluster.specs.Repeating.{DoneOrNot, Leaves, Repeats}
+use Rattle.hdfs_cluster.specs.Repeating.{Done, DoneOrNot, Leaves, Repeats}
 use Rattle.hdfs_cluster.specs.Shown.{Shown, Later}
 use Rattle.hdfs_namenode.specs.Asked.{SameService, Through, as_answer, exception_error, order_of}
 
@@ -71,9 +71,11 @@ abbrev pub RefusedBy : Picture → Ask → HdfsError → Type 0
 RefusedBy p ask error = (class : List ℕ) × (message : List ℕ) × IsRefusal p ask class × (error ≡ exception_error class message)
 
 -- From one picture to the next, for an ask of several namenodes, some of which has failed or not: what is answered is by the row, but
--- for the answer that a file isn't closed. An error has changed nothing, or the ask may be done nevertheless.
+-- for the answer of a deletion that finds nothing, since a namenode that has failed has done it before, and for the answer that a file isn't
+-- closed. An error has changed nothing, or the ask may be done nevertheless.
 abbrev pub RelaysTold : Type 0 → Picture → Ask → Result Answer HdfsError → Picture → Type 0
-RelaysTold risen p ask (Ok answer) q = Row p ask answer q ⊎ (IsFalse answer × risen × DoneOrNot ask p q)
+RelaysTold risen p ask (Ok answer) q =
+    Row p ask answer q ⊎ (FoundNothing answer × risen × Done ask p q) ⊎ (IsFalse answer × risen × DoneOrNot ask p q)
 RelaysTold risen p ask (Err error) q =
     ((error ≡ errors.NoMemory) × DoneOrNot ask p q)
     ⊎ (RefusedBy p ask error × SameButActive p q)

@@ -1,6 +1,7 @@
 //! The leases of the files that a client is writing, and their renewal.
 ghost use Rattle.std.specs.Prelude.{◌≡◌, ◌≢◌, ℕ, ◌+◌, ◌-◌, ◌/◌, ◌<◌, ◌≤◌, true, Some, None, Ok, OnOk, OnErr};
 ghost use Rattle.hdfs_leases.specs.Leases.{held, last_of, IsIdle, HoldsSame, HoldsSameBut};
+ghost use Rattle.hdfs_cluster.specs.Repeating.{Leaves};
 ghost use Rattle.hdfs_cluster.specs.Requests.{AskOf};
 ghost use Rattle.hdfs_cluster.specs.declared.asks.Ask.TheVariants as asks;
 ghost use Rattle.hdfs_cluster.specs.declared.asks.Answer.TheVariants as answers;
@@ -113,6 +114,7 @@ impl NamenodeProtocol {
             → 30 < (moment - last) / 1000 → Renews C.serves moment last (name_of self.old) (leases_of self.old)
             (through self.old cluster.old) result (last_of (leases_of self.new)) (through self.new cluster.new) }
         ensures held { HoldsSame (leases_of self.old) (leases_of self.new) }
+        ensures leaves { Leaves (C.shown cluster.old) (C.shown cluster.new) }
         ensures keeps { SameButLeases self.old self.new }
     {
         match self.leases.turn(moment) {
@@ -131,6 +133,7 @@ impl NamenodeProtocol {
             (leases_of self.old) (through self.old cluster.old) result (last_of (leases_of self.new))
             (through self.new cluster.new) }
         ensures held { HoldsSame (leases_of self.old) (leases_of self.new) }
+        ensures leaves { Leaves (C.shown cluster.old) (C.shown cluster.new) }
         ensures keeps { SameButLeases self.old self.new }
     {
         let namespaces = self.leases.namespaces()?;

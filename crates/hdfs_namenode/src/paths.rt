@@ -58,6 +58,8 @@ impl NamenodeProtocol {
         requires allowed { C.allows (AskOf (asks.GetFileInfo src.now)) }
         ensures asked { AskedOnce C.serves false (asks.GetFileInfo src.now) (through self.old cluster.old)
             (as_answer answers.GetFileInfo result) (through self.new cluster.new) }
+        ensures came { ReachesAll (proxy_of self.old) (C.shown cluster.old) → Came (C.shown cluster.old)
+            (asks.GetFileInfo src.now) (as_answer answers.GetFileInfo result) (C.shown cluster.new) }
         ensures keeps { SameClient self.old self.new }
     {
         let ask = Ask::GetFileInfo {
@@ -84,6 +86,9 @@ impl NamenodeProtocol {
         ensures asked { AskedOnce C.serves false (asks.GetListing src.now start_after.now need_location)
             (through self.old cluster.old)
             (as_answer answers.GetListing result) (through self.new cluster.new) }
+        ensures came { ReachesAll (proxy_of self.old) (C.shown cluster.old) → Came (C.shown cluster.old)
+            (asks.GetListing src.now start_after.now need_location)
+            (as_answer answers.GetListing result) (C.shown cluster.new) }
         ensures answered { IfOk result (λ page. C.may_answer
             (asks.GetListing src.now start_after.now need_location) (answers.GetListing page)) }
         ensures keeps { SameClient self.old self.new }
@@ -138,6 +143,8 @@ impl NamenodeProtocol {
         ensures asked { AskedOnce C.serves true (asks.Mkdirs src.now masked create_parent)
             (through self.old cluster.old)
             (as_answer answers.Mkdirs result) (through self.new cluster.new) }
+        ensures came { ReachesAll (proxy_of self.old) (C.shown cluster.old) → Came (C.shown cluster.old)
+            (asks.Mkdirs src.now masked create_parent) (as_answer answers.Mkdirs result) (C.shown cluster.new) }
         ensures keeps { SameClient self.old self.new }
     {
         let ask = Ask::Mkdirs {
@@ -179,7 +186,7 @@ impl NamenodeProtocol {
     }
 
     /// Takes away what stands at `src`, a directory with all that is in it where `recursive` says so, and answers whether anything was taken
-    /// away.
+    /// away. Where a namenode has failed it may answer false of what it has taken away.
     pub fn delete<C: Cluster>(
         &mut self,
         cluster: &mut C,

@@ -111,7 +111,7 @@ module _ (plan : BlockPlan) {excludes : List DatanodeInfo} {count : ℕ} {client
     answered : (p : Picture) (known : Known) → a.picture ≡ Some p → Waits p plan known
         → (q : Picture) × (m.picture ≡ Some q) × AddsOneOf plan.block.locs excludes located.locs × SameButActive p q
     answered p known is w =
-        let x = asked_row came (λ no. absurd (cc)) p is (again plan excludes count client ids p known w) in
+        let x = asked_row came (λ no. absurd (cc)) (λ no. absurd (cc)) p is (again plan excludes count client ids p known w) in
         (x.0, x.1, x.2.1, x.2.2)
 
     pub apart : AreApart plan a excludes located.locs

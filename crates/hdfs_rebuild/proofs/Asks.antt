@@ -7,7 +7,7 @@ use Rattle.hdfs_cluster.specs.declared.errors.HdfsError.{HdfsError}
 use Rattle.hdfs_cluster.specs.declared.errors.HdfsError.TheVariants as errors
 use Rattle.hdfs_cluster.specs.Failures.{CallsRose}
 use Rattle.hdfs_cluster.specs.Effects.{KeepsBytes}
-use Rattle.hdfs_cluster.specs.Namenode.{Row, IsFalse, IsRefusal}
+use Rattle.hdfs_cluster.specs.Namenode.{Row, FoundNothing, IsFalse, IsRefusal}
 use Rattle.hdfs_cluster.specs.Picture.{Picture, SameButActive}
 use Rattle.hdfs_cluster.specs.Repeating.{DoneOrNot, Leaves, Repeats}
 use Rattle.hdfs_cluster.specs.Shown.{Shown, SameReadPlaces}
@@ -60,11 +60,11 @@ module _ {a b : Shown} {ask : Ask} where
       )
 
   -- What is answered is by the row.
-  pub asked_row : {answer : Answer} → Came a ask (Ok answer) b → (IsFalse answer → ⊥) → (p : Picture) → a.picture ≡ Some p
-      → Repeats ask p → (q : Picture) × (b.picture ≡ Some q) × Row p ask answer q
-  asked_row {answer} came closed p is repeats =
+  pub asked_row : {answer : Answer} → Came a ask (Ok answer) b → (FoundNothing answer → ⊥) → (IsFalse answer → ⊥) → (p : Picture)
+      → a.picture ≡ Some p → Repeats ask p → (q : Picture) × (b.picture ≡ Some q) × Row p ask answer q
+  asked_row {answer} came found closed p is repeats =
       let x = came.told p is repeats in
-      (x.0, x.1, relayed_row (CallsRose a.counts b) p ask answer x.0 closed x.2)
+      (x.0, x.1, relayed_row (CallsRose a.counts b) p ask answer x.0 found closed x.2)
 
   pub asked_error : {error : HdfsError} → Came a ask (Err error) b → Fails a ask error b
   asked_error {error} came = by_memory (memory_or_other error)

@@ -78,7 +78,7 @@ module _ (plan : BlockPlan) {client : List ℕ} {a b : Shown} where
       → (p : Picture) (entry : BlockEntry) → a.picture ≡ Some p → p.table plan.block.b.block_id ≡ Some entry
       → entry.stamp < located.b.generation_stamp
   stamp_newer located came p entry is listed =
-      let row = (asked_row came (λ no. absurd (cc)) p is (stamp_again plan client p entry listed)).2.0 in
+      let row = (asked_row came (λ no. absurd (cc)) (λ no. absurd (cc)) p is (stamp_again plan client p entry listed)).2.0 in
       let same : row.entry ≡ entry = some_same row.entry entry (sym row.is ∙ listed) in
       subst (λ (e : BlockEntry). e.stamp < located.b.generation_stamp) same row.greater
     where
@@ -149,7 +149,7 @@ module _ {stamp : ℕ} (plan : BlockPlan) {client : List ℕ} {nodes : List Data
   pub named : Came before (naming stamp plan client nodes ids) (Ok answers.UpdatePipeline) after
       → NamesSo (NamesIt stamp plan) plan before after
   named came p entry is listed =
-      let x = asked_row came (λ no. absurd (cc)) p is (name_again stamp plan client nodes ids p entry listed) in
+      let x = asked_row came (λ no. absurd (cc)) (λ no. absurd (cc)) p is (name_again stamp plan client nodes ids p entry listed) in
       (x.0, x.1, of_plan stamp plan client nodes ids are p x.0 x.2)
 
   named_none : (error : HdfsError) → Came before (naming stamp plan client nodes ids) (Err error) after

@@ -1,12 +1,16 @@
 -- A cluster that lets everything be asked lets a client write.
-use Rattle.std.proofs.Common.{ℕ, List, Option}
+use Rattle.std.proofs.Common.{ℕ, Bool, true, false, List, [], ◌∷◌, Option}
 use Rattle.hdfs_cluster.specs.declared.asks.Answer.{Answer}
 use Rattle.hdfs_cluster.specs.declared.asks.Ask.{Ask}
 use Rattle.hdfs_cluster.specs.declared.messages.LocatedBlock.{LocatedBlock}
 use Rattle.hdfs_cluster.specs.declared.messages.ServerDefaults.{ServerDefaults}
 use Rattle.hdfs_cluster.specs.Requests.{Request, LetsClose, LetsWrite, LetsWriteBlock}
+use Rattle.hdfs_client.specs.Globbing.{LetsBy, LetsStep, LetsText, is_wild}
+use Rattle.hdfs_client.specs.declared.status.FileStatus.{FileStatus}
+use Rattle.hdfs_globs.specs.Escapes.{components}
 use Rattle.hdfs_model.specs.Opening.{LetsAppend, LetsCreate}
 use Rattle.hdfs_model.specs.declared.commands.WriteOptions.{WriteOptions}
+use Rattle.hdfs_names.specs.declared.mounts.MountTable.{MountTable}
 
 -- any block
 lets_block : {allows : Request → Type 0} (may_answer : Ask → Answer → Type 0) (client path : List ℕ) (first : LocatedBlock)
@@ -53,3 +57,20 @@ lets_append may_answer client path all = record {
   opens = all _;
   closes = λ appended answered encrypted. lets_close may_answer client path _ all;
 }
+
+-- a pattern, by its texts
+lets_step : {allows : Request → Type 0} (mounts : MountTable) (wild : Bool) (dir component : List ℕ) (rest : List (List ℕ))
+    → ((request : Request) → allows request) → LetsStep allows mounts wild dir component rest
+lets_step mounts true dir component rest all = λ to start leads. all _
+lets_step mounts false dir component [] all = λ to leads. all _
+lets_step mounts false dir component (next ∷ rest) all = tt
+
+lets_by : {allows : Request → Type 0} (Has : List ℕ → List FileStatus → Type 0) (mounts : MountTable) (parts : List (List ℕ))
+    → ((request : Request) → allows request) → LetsBy allows Has mounts parts
+lets_by Has mounts [] all = λ to leads. all _
+lets_by Has mounts (part ∷ parts) all = λ dir component rest reached. lets_step mounts (is_wild component) dir component rest all
+
+pub lets_text : {allows : Request → Type 0} (Has : List ℕ → List FileStatus → Type 0) (mounts : MountTable) (text : List ℕ)
+    → ((request : Request) → allows request) → LetsText allows Has mounts text
+lets_text Has mounts [] all = tt
+lets_text Has mounts (c ∷ text) all = lets_by Has mounts (components (c ∷ text)) all

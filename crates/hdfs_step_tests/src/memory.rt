@@ -5,6 +5,8 @@ mod calling;
 mod case;
 mod failing;
 mod files;
+mod globbing;
+mod leasing;
 mod loading;
 mod making;
 mod planning;

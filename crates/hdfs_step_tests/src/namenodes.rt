@@ -5,7 +5,7 @@ mod calling;
 mod case;
 mod changing;
 pub(crate) mod fake_namenodes;
-mod keeping;
+pub(crate) mod keeping;
 pub(crate) mod telling;
 
 pub(crate) use case::Case;

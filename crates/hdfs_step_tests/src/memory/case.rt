@@ -3,7 +3,7 @@ ghost use Rattle.hdfs_cluster.specs.Loading.{AreValid};
 
 use crate::memory::planning::{self, Plans};
 use crate::memory::{
-    asking, calling, files, loading, reading, seeing, storing, streaming, writing,
+    asking, calling, files, globbing, loading, reading, seeing, storing, streaming, writing,
 };
 use crate::steps::{Said, Stage, Words, small};
 use hdfs_cluster::{MemSettings, ServerDefaults};
@@ -123,7 +123,10 @@ impl Stage for Case {
             "stream" | "closed" | "into" | "fill" => streaming::take(
                 self.alloc, cluster, words, said,
             ),
-            "storeFile" | "goOn" => storing::take(self.alloc, cluster, words, said),
+            "glob" => globbing::take(self.alloc, cluster, words, said),
+            "storeFile" | "goOn" | "lend" | "giveBack" | "giveUp" => storing::take(
+                self.alloc, cluster, words, said,
+            ),
             "plan" | "tally" => planning::take(self.alloc, &mut *self.plans, words, said),
             _ => self.call(words, said),
         }

@@ -4,6 +4,7 @@ ghost use Rattle.hdfs_client.specs.Writing.{IsAnsweredTo, IsWriterOf, ReachesWho
 ghost use Rattle.hdfs_mem_cluster.specs.MemShown.{shown_of};
 
 use crate::memory::files::client_of;
+use crate::memory::leasing::lend;
 use crate::memory::telling::tell_error;
 use crate::steps::{Said, Words, number};
 use hdfs_client::{Client, FileWriter};
@@ -82,16 +83,17 @@ fn append_by(client: &mut Client, cluster: &mut MemCluster, path: &str, count: u
     }
 }
 
-/// Either of them.
+/// One of them, or what tells of leases.
 fn store(client: &mut Client, cluster: &mut MemCluster, words: &Words<'_>, said: &mut Said)
     requires { IsClientOf client.old (shown_of cluster.old) }
 {
     match client.is_whole(&*cluster, words[1]) {
         Ok(true) => {
-            if words[0] == "storeFile" {
-                create_by(client, cluster, words[1], number(words[2]), said);
-            } else {
-                append_by(client, cluster, words[1], number(words[2]), said);
+            let path = words[1];
+            match words[0] {
+                "storeFile" => create_by(client, cluster, path, number(words[2]), said),
+                "goOn" => append_by(client, cluster, path, number(words[2]), said),
+                _ => lend(client, cluster, path, words, said),
             }
         }
         Ok(false) => said.fails("whole"),

@@ -20,6 +20,10 @@ pub(crate) fn tell_error(error: &HdfsError, said: &mut Said) {
             said.fails("FileNotFound");
             said.word(path.as_str());
         }
+        HdfsError::InvalidPath(path) => {
+            said.fails("InvalidPath");
+            said.word(path.as_str());
+        }
         HdfsError::InvalidArgument(_) => said.fails("InvalidArgument"),
         HdfsError::DataTransferError(_) => said.fails("DataTransferError"),
         _ => said.fails("otherwise"),

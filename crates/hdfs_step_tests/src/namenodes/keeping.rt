@@ -10,7 +10,7 @@ use hdfs_cluster::{EncryptionKey, HdfsError};
 use hdfs_namenode::{LeaseTurn, NamenodeProtocol};
 
 /// What a turn comes to.
-fn name_of(turn: LeaseTurn) -> &'static str {
+pub(crate) fn name_of(turn: LeaseTurn) -> &'static str {
     match turn {
         LeaseTurn::Idle => "idle",
         LeaseTurn::Waiting => "waiting",

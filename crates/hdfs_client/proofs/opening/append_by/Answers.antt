@@ -13,14 +13,16 @@ use Rattle.hdfs_cluster.specs.declared.messages.Appended.{Appended}
 use Rattle.hdfs_cluster.specs.declared.messages.FileStatusMsg.{FileStatusMsg}
 use Rattle.hdfs_cluster.specs.declared.messages.LocatedBlock.{LocatedBlock}
 use Rattle.hdfs_cluster.specs.Requests.{id_in}
-use Rattle.hdfs_file_writer.specs.Writers.{IsAnswered, tail_opened}
-use Rattle.hdfs_client.specs.Opening.{sizes_by}
+use Rattle.hdfs_file_writer.specs.Writers.{IsAnswered, Stands, tail_of, tail_opened}
+use Rattle.hdfs_client.specs.Opening.{IsFresh, sizes_by}
 use Rattle.hdfs_namenode.specs.Asked.{AskedOnce}
 use Rattle.hdfs_namenode.specs.Clients.{through}
+use Rattle.hdfs_namenode.specs.declared.proxy.NameServiceProxy.{NameServiceProxy}
 use Rattle.hdfs_namenode.proofs.Relayed.{came_as}
 use Rattle.hdfs_client.proofs.Answered.{answered_appended}
 use Rattle.hdfs_client.proofs.Begun.{begun_again}
-use Rattle.hdfs_client.proofs.Kept.{goes_reaches, goes_trans, going_on, name_from-client}
+use Rattle.hdfs_client.proofs.Held.{holds_file, keeps_behind, lease_told}
+use Rattle.hdfs_client.proofs.Kept.{goes_by, goes_leases, goes_of, goes_reaches, goes_trans, going_on, keeps_same, service_from-client, service_trans}
 use Rattle.hdfs_client.proofs.opening.append_by.Goals as goal
 
 whole : (a : Appended) (block : Option LocatedBlock) (stat : Option FileStatusMsg) → a.block ≡ block → a.stat ≡ stat → a ≡ record { block = block; stat = stat }
@@ -29,24 +31,24 @@ whole a block stat one two =
 
 pub returns-in_err-block-clause-keeps : goal.returns-in_err-block-clause-keeps
 returns-in_err-block-clause-keeps g c =
-    let first = c.in_ok-defaults.ensures.keeps in
-    goes_trans first (name_from-client c.append.ensures.keeps, (c.append.ensures.came (goes_reaches first c.requires.reaches)).relays.leaves.later)
+    let first = goes_of c.in_ok-defaults.ensures.keeps in
+    goes_trans first (goes_by c.append.ensures.keeps (c.append.ensures.came (goes_reaches first c.requires.reaches)).relays.leaves)
 
 pub returns-in_err-from_str-clause-keeps : goal.returns-in_err-from_str-clause-keeps
 returns-in_err-from_str-clause-keeps g c =
-    let first = c.in_ok-defaults.ensures.keeps in
-    goes_trans first (name_from-client c.append.ensures.keeps, (c.append.ensures.came (goes_reaches first c.requires.reaches)).relays.leaves.later)
+    let first = goes_of c.in_ok-defaults.ensures.keeps in
+    goes_trans first (goes_by c.append.ensures.keeps (c.append.ensures.came (goes_reaches first c.requires.reaches)).relays.leaves)
 
 pub returns-in_default-clause-keeps : goal.returns-in_default-clause-keeps
 returns-in_default-clause-keeps g c =
-    let first = c.in_ok-defaults.ensures.keeps in
-    goes_trans first (name_from-client c.append.ensures.keeps, (c.append.ensures.came (goes_reaches first c.requires.reaches)).relays.leaves.later)
+    let first = goes_of c.in_ok-defaults.ensures.keeps in
+    goes_trans first (goes_by c.append.ensures.keeps (c.append.ensures.came (goes_reaches first c.requires.reaches)).relays.leaves)
 
 pub refuse_opened-requires-clause-reaches : goal.refuse_opened-requires-clause-reaches
 refuse_opened-requires-clause-reaches g c =
-    let first = c.in_ok-defaults.ensures.keeps in
+    let first = goes_of c.in_ok-defaults.ensures.keeps in
     let reaches = goes_reaches first c.requires.reaches in
-    goes_reaches (name_from-client c.append.ensures.keeps, (c.append.ensures.came reaches).relays.leaves.later) reaches
+    goes_reaches (goes_by c.append.ensures.keeps (c.append.ensures.came reaches).relays.leaves) reaches
 
 pub refuse_opened-requires-clause-stands : goal.refuse_opened-requires-clause-stands
 refuse_opened-requires-clause-stands g c =
@@ -54,14 +56,14 @@ refuse_opened-requires-clause-stands g c =
 
 pub returns-then-told-clause-keeps : goal.returns-then-told-clause-keeps
 returns-then-told-clause-keeps g c =
-    let first = c.in_ok-defaults.ensures.keeps in
+    let first = goes_of c.in_ok-defaults.ensures.keeps in
     goes_trans first (goes_trans
-    (name_from-client c.append.ensures.keeps, (c.append.ensures.came (goes_reaches first c.requires.reaches)).relays.leaves.later)
-    c.refuse_opened.ensures.keeps)
+    (goes_by c.append.ensures.keeps (c.append.ensures.came (goes_reaches first c.requires.reaches)).relays.leaves)
+    (service_from-client c.refuse_opened.ensures.keeps.0, c.refuse_opened.ensures.keeps.1))
 
 pub returns-clause-opened : goal.returns-clause-opened
 returns-clause-opened g c =
-    let first = c.in_ok-defaults.ensures.keeps in
+    let first = goes_of c.in_ok-defaults.ensures.keeps in
     let d = c.in_ok-defaults.defaults in
     let stat = c.in-Some.stat in
     let is : c.in_ok-block.field-0 ≡ record { block = c.in_ok-block.block; stat = Some stat } =
@@ -74,52 +76,69 @@ returns-clause-opened g c =
       block = c.in_ok-block.block;
       status = stat;
       asked = subst (λ (a : Ask). AskedOnce g.C.Cluster.serves true a (through c.limited_defaults.new.namenode c.limited_defaults.new.cluster)
-          (Ok (answers.Append (record { block = c.in_ok-block.block; stat = Some stat }))) (through c.append.new.self c.append.new.cluster))
+          (Ok (answers.Append (record { block = c.in_ok-block.block; stat = Some stat }))) (through c.hold.new.namenode c.append.new.cluster))
           (going_on c.as_str.ensures first.0.name)
+          (subst (λ (proxy : NameServiceProxy). AskedOnce g.C.Cluster.serves true (asks.Append c.as_str.result.now c.limited_defaults.new.namenode.client 4)
+          (through c.limited_defaults.new.namenode c.limited_defaults.new.cluster)
+          (Ok (answers.Append (record { block = c.in_ok-block.block; stat = Some stat }))) (record { cluster = c.append.new.cluster; proxy = proxy }))
+          (sym c.hold.ensures.keeps.proxy)
           (subst (λ (x : Appended). AskedOnce g.C.Cluster.serves true (asks.Append c.as_str.result.now c.limited_defaults.new.namenode.client 4)
           (through c.limited_defaults.new.namenode c.limited_defaults.new.cluster) (Ok (answers.Append x)) (through c.append.new.self c.append.new.cluster))
-          is c.in_ok-block.ensures.asked);
+          is c.in_ok-block.ensures.asked));
       plain = sym c.told_by-told.ensures.encrypted ∙ c.if-told.false;
-      fresh = record {
-        at = c.appended-writer.ensures.path.0;
-        id = c.appended-writer.ensures.path.2 ∙ c.told_by-told.ensures.id;
-        with = c.appended-writer.ensures.path.1 ∙ c.sizes_by-sizes.ensures
-            ∙ ap (λ (x : ℕ). sizes_by c.args.rebuilding d x c.unwrap_or-2.result) c.unwrap_or.ensures
-            ∙ ap (λ (x : ℕ). sizes_by c.args.rebuilding d (unwrap_or stat.block_replication 0) x) c.unwrap_or-2.ensures;
-        stands = c.appended-writer.ensures.tail ∙ ap (λ (b : Option LocatedBlock). tail_opened b None) c.in_ok-block.block-is;
-        idle = c.appended-writer.ensures.idle.0;
-        fine = c.appended-writer.ensures.idle.1;
-      };
+      fresh = subst (IsFresh c.args.path stat.file_id (sizes_by c.args.rebuilding d (unwrap_or stat.block_replication 0) (unwrap_or stat.blocksize 0))
+          (tail_opened c.in_ok-block.block None)) (sym c.in_ok-hold.ensures.file.0) (record {
+            at = c.appended-writer.ensures.path.0;
+            id = c.appended-writer.ensures.path.2 ∙ c.told_by-told.ensures.id;
+            with = c.appended-writer.ensures.path.1 ∙ c.sizes_by-sizes.ensures
+                ∙ ap (λ (x : ℕ). sizes_by c.args.rebuilding d x c.unwrap_or-2.result) c.unwrap_or.ensures
+                ∙ ap (λ (x : ℕ). sizes_by c.args.rebuilding d (unwrap_or stat.block_replication 0) x) c.unwrap_or-2.ensures;
+            stands = c.appended-writer.ensures.tail ∙ ap (λ (b : Option LocatedBlock). tail_opened b None) c.in_ok-block.block-is;
+            idle = c.appended-writer.ensures.idle.0;
+            fine = c.appended-writer.ensures.idle.1;
+          });
+      holds =
+          holds_file (Some stat) d c.in_ok-hold.field-0.lease
+          (lease_told c.in_ok-hold.field-0.lease (Some stat) c.told_by-told.result.file_id c.told_by-told.result.namespace c.in_ok-hold.ensures.file.1
+          c.in_ok-hold.ensures.file.2 c.told_by-told.ensures.id c.told_by-told.ensures.namespace)
+          (service_trans first.0 (service_from-client c.append.ensures.keeps)) (c.append.ensures.keeps.leases ∙ c.in_ok-defaults.ensures.keeps.0.1)
+          (c.append.ensures.keeps.defaults ∙ c.in_ok-defaults.ensures.knows.has.kept) c.in_ok-hold.ensures.taken c.hold.ensures.keeps;
     }
 
 pub returns-clause-begins : goal.returns-clause-begins
 returns-clause-begins g c =
-    let first = c.in_ok-defaults.ensures.keeps in
+    let first = goes_of c.in_ok-defaults.ensures.keeps in
     let is : c.in_ok-block.field-0 ≡ record { block = c.in_ok-block.block; stat = Some c.in-Some.stat } =
     whole c.in_ok-block.field-0 c.in_ok-block.block (Some c.in-Some.stat) c.in_ok-block.block-is c.in-Some.is in
     begun_again (g.C.Cluster.shown c.args.cluster.now) (g.C.Cluster.shown c.limited_defaults.new.cluster) (g.C.Cluster.shown c.append.new.cluster)
-    c.in_ok-defaults.ensures.picture c.args.path c.args.namenode.now.client c.appended-writer.result c.in_ok-block.block (Some c.in-Some.stat)
+    c.in_ok-defaults.ensures.picture c.args.path c.args.namenode.now.client c.in_ok-hold.field-0.file c.in_ok-block.block (Some c.in-Some.stat)
     (g.met.C.Cluster.sound c.limited_defaults.new.cluster)
-    (c.appended-writer.ensures.tail ∙ ap (λ (b : Option LocatedBlock). tail_opened b None) c.in_ok-block.block-is)
+    (ap tail_of c.in_ok-hold.ensures.file.0 ∙ c.appended-writer.ensures.tail ∙ ap (λ (b : Option LocatedBlock). tail_opened b None) c.in_ok-block.block-is)
     (came_as (going_on c.as_str.ensures first.0.name) (ap (λ (x : Appended). Ok (answers.Append x)) is)
     (c.in_ok-block.ensures.came (goes_reaches first c.requires.reaches)))
 
-pub returns-clause-stands : goal.returns-clause-stands
-returns-clause-stands g c = c.appended-writer.ensures.stands (g.C.Cluster.shown c.append.new.cluster)
-
 pub returns-clause-keeps : goal.returns-clause-keeps
 returns-clause-keeps g c =
-    let first = c.in_ok-defaults.ensures.keeps in
-    goes_trans first (name_from-client c.append.ensures.keeps, (c.append.ensures.came (goes_reaches first c.requires.reaches)).relays.leaves.later)
+    let first = goes_of c.in_ok-defaults.ensures.keeps in
+    goes_trans first (goes_leases (goes_by c.append.ensures.keeps (c.append.ensures.came (goes_reaches first c.requires.reaches)).relays.leaves) c.hold.ensures.keeps)
 
-pub returns-clause-answered : goal.returns-clause-answered
-returns-clause-answered g c =
+pub returns-in_err-hold-clause-keeps : goal.returns-in_err-hold-clause-keeps
+returns-in_err-hold-clause-keeps g c =
+    let first = goes_of c.in_ok-defaults.ensures.keeps in
+    goes_trans first (goes_leases (goes_by c.append.ensures.keeps (c.append.ensures.came (goes_reaches first c.requires.reaches)).relays.leaves) c.hold.ensures.keeps)
+
+pub returns-clause-stands : goal.returns-clause-stands
+returns-clause-stands g c =
     let writer = c.appended-writer.result in
-    subst (λ (client : List ℕ). IsAnswered g.C.Cluster.may_answer client writer) c.in_ok-defaults.ensures.keeps.0.name
-    (answered_appended writer c.args.path c.in_ok-block.field-0 (c.appended-writer.ensures.stands (g.C.Cluster.shown c.append.new.cluster))
-    c.appended-writer.ensures.idle.1 c.appended-writer.ensures.path.0
-    (c.appended-writer.ensures.path.2 ∙ c.told_by-told.ensures.id ∙ sym (ap id_in c.in-Some.is)) c.appended-writer.ensures.tail
-    (subst (λ (a : Ask). g.C.Cluster.may_answer a (answers.Append c.in_ok-block.field-0)) (going_on c.as_str.ensures refl) c.in_ok-block.ensures.answered))
+    let shown = g.C.Cluster.shown c.append.new.cluster in (
+      subst (Stands shown) (sym c.in_ok-hold.ensures.file.0) (c.appended-writer.ensures.stands shown),
+      subst (IsAnswered g.C.Cluster.may_answer c.args.namenode.now.client) (sym c.in_ok-hold.ensures.file.0)
+          (subst (λ (client : List ℕ). IsAnswered g.C.Cluster.may_answer client writer) c.in_ok-defaults.ensures.keeps.0.0.name
+          (answered_appended writer c.args.path c.in_ok-block.field-0 (c.appended-writer.ensures.stands shown)
+          c.appended-writer.ensures.idle.1 c.appended-writer.ensures.path.0
+          (c.appended-writer.ensures.path.2 ∙ c.told_by-told.ensures.id ∙ sym (ap id_in c.in-Some.is)) c.appended-writer.ensures.tail
+          (subst (λ (a : Ask). g.C.Cluster.may_answer a (answers.Append c.in_ok-block.field-0)) (going_on c.as_str.ensures refl) c.in_ok-block.ensures.answered))),
+    )
 
 pub refuse_opened-requires-clause-answered : goal.refuse_opened-requires-clause-answered
 refuse_opened-requires-clause-answered g c =
@@ -138,84 +157,134 @@ no_some (Some status) none = absurd (none status refl)
 pub returns-in_err-defaults-clause-err : goal.returns-in_err-defaults-clause-err
 returns-in_err-defaults-clause-err g c =
     let p = err_from_is_err_and c.from_residual.result c.from_residual.ensures.1 in
-    rw (p.1, p.2) (inl c.in_err-defaults.ensures.err)
+    rw (p.1, p.2) (inl c.in_err-defaults.ensures.err, keeps_same c.in_err-defaults.ensures.keeps.0.1)
 
 pub returns-in_err-block-clause-err : goal.returns-in_err-block-clause-err
 returns-in_err-block-clause-err g c =
     let p = err_from_is_err_and c.from_residual-in_err-block.result c.from_residual-in_err-block.ensures.1 in
-    let first = c.in_ok-defaults.ensures.keeps in
-    rw (p.1, p.2) (inr (record {
-      defaults = c.in_ok-defaults.defaults;
-      between = c.limited_defaults.new.namenode;
-      mid = c.limited_defaults.new.cluster;
-      knows = c.in_ok-defaults.ensures.knows;
-      why = inl (subst (λ (a : Ask). AskedOnce g.C.Cluster.serves true a (through c.limited_defaults.new.namenode c.limited_defaults.new.cluster)
-          (Err c.in_err-block.field-0.0) (through c.append.new.self c.append.new.cluster)) (going_on c.as_str.ensures first.0.name)
-          c.in_err-block.ensures.asked);
-    }))
+    let first = goes_of c.in_ok-defaults.ensures.keeps in
+    rw (p.1, p.2) (
+      inr (record {
+        defaults = c.in_ok-defaults.defaults;
+        between = c.limited_defaults.new.namenode;
+        mid = c.limited_defaults.new.cluster;
+        knows = c.in_ok-defaults.ensures.knows;
+        why = inl (subst (λ (a : Ask). AskedOnce g.C.Cluster.serves true a (through c.limited_defaults.new.namenode c.limited_defaults.new.cluster)
+            (Err c.in_err-block.field-0.0) (through c.append.new.self c.append.new.cluster)) (going_on c.as_str.ensures first.0.name)
+            c.in_err-block.ensures.asked);
+        kept = c.append.ensures.keeps.defaults ∙ c.in_ok-defaults.ensures.knows.has.kept;
+      }),
+      keeps_same (c.append.ensures.keeps.leases ∙ c.in_ok-defaults.ensures.keeps.0.1),
+    )
 
 pub returns-in_default-clause-err : goal.returns-in_default-clause-err
 returns-in_default-clause-err g c =
-    let first = c.in_ok-defaults.ensures.keeps in
-    inr (record {
-      defaults = c.in_ok-defaults.defaults;
-      between = c.limited_defaults.new.namenode;
-      mid = c.limited_defaults.new.cluster;
-      knows = c.in_ok-defaults.ensures.knows;
-      why = inr (inl (record {
-        block = c.in_ok-block.field-0.block;
-        asked = subst (λ (a : Ask). AskedOnce g.C.Cluster.serves true a (through c.limited_defaults.new.namenode c.limited_defaults.new.cluster)
-            (Ok (answers.Append (record { block = c.in_ok-block.field-0.block; stat = None }))) (through c.append.new.self c.append.new.cluster)) (going_on c.as_str.ensures first.0.name)
-            (subst (λ (x : Appended). AskedOnce g.C.Cluster.serves true (asks.Append c.as_str.result.now c.limited_defaults.new.namenode.client 4)
-            (through c.limited_defaults.new.namenode c.limited_defaults.new.cluster) (Ok (answers.Append x)) (through c.append.new.self c.append.new.cluster))
-            (whole c.in_ok-block.field-0 c.in_ok-block.field-0.block None refl (no_some c.in_ok-block.field-0.stat c.in_default.not-Some))
-            c.in_ok-block.ensures.asked);
-        is = inl (ap errors.FileNotFound c.in_ok-from_str.ensures);
-      }));
-    })
+    let first = goes_of c.in_ok-defaults.ensures.keeps in (
+      inr (record {
+        defaults = c.in_ok-defaults.defaults;
+        between = c.limited_defaults.new.namenode;
+        mid = c.limited_defaults.new.cluster;
+        knows = c.in_ok-defaults.ensures.knows;
+        why = inr (inl (record {
+          block = c.in_ok-block.field-0.block;
+          asked = subst (λ (a : Ask). AskedOnce g.C.Cluster.serves true a (through c.limited_defaults.new.namenode c.limited_defaults.new.cluster)
+              (Ok (answers.Append (record { block = c.in_ok-block.field-0.block; stat = None }))) (through c.append.new.self c.append.new.cluster)) (going_on c.as_str.ensures first.0.name)
+              (subst (λ (x : Appended). AskedOnce g.C.Cluster.serves true (asks.Append c.as_str.result.now c.limited_defaults.new.namenode.client 4)
+              (through c.limited_defaults.new.namenode c.limited_defaults.new.cluster) (Ok (answers.Append x)) (through c.append.new.self c.append.new.cluster))
+              (whole c.in_ok-block.field-0 c.in_ok-block.field-0.block None refl (no_some c.in_ok-block.field-0.stat c.in_default.not-Some))
+              c.in_ok-block.ensures.asked);
+          is = inl (ap errors.FileNotFound c.in_ok-from_str.ensures);
+        }));
+        kept = c.append.ensures.keeps.defaults ∙ c.in_ok-defaults.ensures.knows.has.kept;
+      }),
+      keeps_same (c.append.ensures.keeps.leases ∙ c.in_ok-defaults.ensures.keeps.0.1),
+    )
 
 pub returns-in_err-from_str-clause-err : goal.returns-in_err-from_str-clause-err
 returns-in_err-from_str-clause-err g c =
     let p = err_from_is_err_and c.from_residual-in_err-from_str.result c.from_residual-in_err-from_str.ensures.1 in
-    let first = c.in_ok-defaults.ensures.keeps in
-    rw (p.1, p.2) (inr (record {
-      defaults = c.in_ok-defaults.defaults;
-      between = c.limited_defaults.new.namenode;
-      mid = c.limited_defaults.new.cluster;
-      knows = c.in_ok-defaults.ensures.knows;
-      why = inr (inl (record {
-        block = c.in_ok-block.field-0.block;
-        asked = subst (λ (a : Ask). AskedOnce g.C.Cluster.serves true a (through c.limited_defaults.new.namenode c.limited_defaults.new.cluster)
-            (Ok (answers.Append (record { block = c.in_ok-block.field-0.block; stat = None }))) (through c.append.new.self c.append.new.cluster)) (going_on c.as_str.ensures first.0.name)
-            (subst (λ (x : Appended). AskedOnce g.C.Cluster.serves true (asks.Append c.as_str.result.now c.limited_defaults.new.namenode.client 4)
-            (through c.limited_defaults.new.namenode c.limited_defaults.new.cluster) (Ok (answers.Append x)) (through c.append.new.self c.append.new.cluster))
-            (whole c.in_ok-block.field-0 c.in_ok-block.field-0.block None refl (no_some c.in_ok-block.field-0.stat c.in_default.not-Some))
-            c.in_ok-block.ensures.asked);
-        is = inr refl;
-      }));
-    }))
+    let first = goes_of c.in_ok-defaults.ensures.keeps in
+    rw (p.1, p.2) (
+      inr (record {
+        defaults = c.in_ok-defaults.defaults;
+        between = c.limited_defaults.new.namenode;
+        mid = c.limited_defaults.new.cluster;
+        knows = c.in_ok-defaults.ensures.knows;
+        why = inr (inl (record {
+          block = c.in_ok-block.field-0.block;
+          asked = subst (λ (a : Ask). AskedOnce g.C.Cluster.serves true a (through c.limited_defaults.new.namenode c.limited_defaults.new.cluster)
+              (Ok (answers.Append (record { block = c.in_ok-block.field-0.block; stat = None }))) (through c.append.new.self c.append.new.cluster)) (going_on c.as_str.ensures first.0.name)
+              (subst (λ (x : Appended). AskedOnce g.C.Cluster.serves true (asks.Append c.as_str.result.now c.limited_defaults.new.namenode.client 4)
+              (through c.limited_defaults.new.namenode c.limited_defaults.new.cluster) (Ok (answers.Append x)) (through c.append.new.self c.append.new.cluster))
+              (whole c.in_ok-block.field-0 c.in_ok-block.field-0.block None refl (no_some c.in_ok-block.field-0.stat c.in_default.not-Some))
+              c.in_ok-block.ensures.asked);
+          is = inr refl;
+        }));
+        kept = c.append.ensures.keeps.defaults ∙ c.in_ok-defaults.ensures.knows.has.kept;
+      }),
+      keeps_same (c.append.ensures.keeps.leases ∙ c.in_ok-defaults.ensures.keeps.0.1),
+    )
 
 pub returns-then-told-clause-err : goal.returns-then-told-clause-err
 returns-then-told-clause-err g c =
-    let first = c.in_ok-defaults.ensures.keeps in
-    inr (record {
-      defaults = c.in_ok-defaults.defaults;
-      between = c.limited_defaults.new.namenode;
-      mid = c.limited_defaults.new.cluster;
-      knows = c.in_ok-defaults.ensures.knows;
-      why = inr (inr (record {
-        appended = c.in_ok-block.field-0;
-        between = c.append.new.self;
-        mid = c.append.new.cluster;
-        asked = subst (λ (a : Ask). AskedOnce g.C.Cluster.serves true a (through c.limited_defaults.new.namenode c.limited_defaults.new.cluster)
-            (Ok (answers.Append c.in_ok-block.field-0)) (through c.append.new.self c.append.new.cluster)) (going_on c.as_str.ensures first.0.name)
-            c.in_ok-block.ensures.asked;
-        encrypted = ap tells_encryption c.in-Some.is ∙ sym c.told_by-told.ensures.encrypted ∙ c.if-told.true;
-        writer = c.appended-writer.result;
-        at = c.appended-writer.ensures.path.0;
-        id = c.appended-writer.ensures.path.2 ∙ c.told_by-told.ensures.id ∙ sym (ap id_in c.in-Some.is);
-        stands = c.appended-writer.ensures.tail;
-        closes = c.refuse_opened.ensures.closes;
-        is = c.refuse_opened.ensures.is;
-      }));
-    })
+    let first = goes_of c.in_ok-defaults.ensures.keeps in (
+      inr (record {
+        defaults = c.in_ok-defaults.defaults;
+        between = c.limited_defaults.new.namenode;
+        mid = c.limited_defaults.new.cluster;
+        knows = c.in_ok-defaults.ensures.knows;
+        why = inr (inr (inl (record {
+          appended = c.in_ok-block.field-0;
+          between = c.append.new.self;
+          mid = c.append.new.cluster;
+          asked = subst (λ (a : Ask). AskedOnce g.C.Cluster.serves true a (through c.limited_defaults.new.namenode c.limited_defaults.new.cluster)
+              (Ok (answers.Append c.in_ok-block.field-0)) (through c.append.new.self c.append.new.cluster)) (going_on c.as_str.ensures first.0.name)
+              c.in_ok-block.ensures.asked;
+          encrypted = ap tells_encryption c.in-Some.is ∙ sym c.told_by-told.ensures.encrypted ∙ c.if-told.true;
+          writer = c.appended-writer.result;
+          at = c.appended-writer.ensures.path.0;
+          id = c.appended-writer.ensures.path.2 ∙ c.told_by-told.ensures.id ∙ sym (ap id_in c.in-Some.is);
+          stands = c.appended-writer.ensures.tail;
+          closes = c.refuse_opened.ensures.closes.0;
+          is = c.refuse_opened.ensures.closes.1;
+        })));
+        kept = c.refuse_opened.ensures.keeps.0.defaults ∙ c.append.ensures.keeps.defaults ∙ c.in_ok-defaults.ensures.knows.has.kept;
+      }),
+      keeps_same (c.refuse_opened.ensures.keeps.0.leases ∙ c.append.ensures.keeps.leases ∙ c.in_ok-defaults.ensures.keeps.0.1),
+    )
+
+pub refuse_opened-requires-clause-idle : goal.refuse_opened-requires-clause-idle
+refuse_opened-requires-clause-idle g c = c.appended-writer.ensures.idle.0
+
+pub returns-in_err-hold-clause-err : goal.returns-in_err-hold-clause-err
+returns-in_err-hold-clause-err g c =
+    let p = err_from_is_err_and c.from_residual-in_err-hold.result c.from_residual-in_err-hold.ensures.1 in
+    let first = goes_of c.in_ok-defaults.ensures.keeps in
+    rw (p.1, p.2) (
+      inr (record {
+        defaults = c.in_ok-defaults.defaults;
+        between = c.limited_defaults.new.namenode;
+        mid = c.limited_defaults.new.cluster;
+        knows = c.in_ok-defaults.ensures.knows;
+        why = inr (inr (inr (
+          c.in_ok-block.block,
+          record {
+            status = Some c.in-Some.stat;
+            asked = subst (λ (a : Ask). AskedOnce g.C.Cluster.serves true a (through c.limited_defaults.new.namenode c.limited_defaults.new.cluster)
+                (Ok (answers.Append (record { block = c.in_ok-block.block; stat = Some c.in-Some.stat }))) (through c.hold.new.namenode c.append.new.cluster))
+                (going_on c.as_str.ensures first.0.name)
+                (subst (λ (proxy : NameServiceProxy). AskedOnce g.C.Cluster.serves true (asks.Append c.as_str.result.now c.limited_defaults.new.namenode.client 4)
+                (through c.limited_defaults.new.namenode c.limited_defaults.new.cluster)
+                (Ok (answers.Append (record { block = c.in_ok-block.block; stat = Some c.in-Some.stat }))) (record { cluster = c.append.new.cluster; proxy = proxy }))
+                (sym c.hold.ensures.keeps.proxy)
+                (subst (λ (x : Appended). AskedOnce g.C.Cluster.serves true (asks.Append c.as_str.result.now c.limited_defaults.new.namenode.client 4)
+                (through c.limited_defaults.new.namenode c.limited_defaults.new.cluster) (Ok (answers.Append x)) (through c.append.new.self c.append.new.cluster))
+                (whole c.in_ok-block.field-0 c.in_ok-block.block (Some c.in-Some.stat) c.in_ok-block.block-is c.in-Some.is) c.in_ok-block.ensures.asked));
+            plain = sym c.told_by-told.ensures.encrypted ∙ c.if-told.false;
+            is = refl;
+          },
+        )));
+        kept = c.hold.ensures.keeps.defaults ∙ c.append.ensures.keeps.defaults ∙ c.in_ok-defaults.ensures.knows.has.kept;
+      }),
+      keeps_behind (c.append.ensures.keeps.leases ∙ c.in_ok-defaults.ensures.keeps.0.1) c.in_err-hold.ensures.err,
+    )

@@ -5,37 +5,42 @@ use Rattle.std.specs.Prelude.{unwrap_or}
 use Rattle.hdfs_cluster.specs.declared.asks.Answer.TheVariants as answers
 use Rattle.hdfs_cluster.specs.declared.asks.Ask.{Ask}
 use Rattle.hdfs_cluster.specs.declared.asks.Ask.TheVariants as asks
-use Rattle.hdfs_file_writer.specs.Writers.{AreSizes}
+use Rattle.hdfs_cluster.specs.Requests.{id_in}
+use Rattle.hdfs_file_writer.specs.Tails.{Bare}
+use Rattle.hdfs_file_writer.specs.Writers.{AreSizes, IsAnswered, Stands}
 use Rattle.hdfs_file_writer.specs.declared.sizes.WriteSizes.{WriteSizes}
 use Rattle.hdfs_namenode.specs.Asked.{AskedOnce}
 use Rattle.hdfs_namenode.specs.Clients.{through}
+use Rattle.hdfs_namenode.specs.declared.proxy.NameServiceProxy.{NameServiceProxy}
 use Rattle.hdfs_namenode.proofs.Relayed.{came_as}
-use Rattle.hdfs_client.specs.Opening.{sizes_by}
+use Rattle.hdfs_client.specs.Opening.{IsFresh, sizes_by}
+use Rattle.hdfs_client.proofs.Answered.{answered_created}
 use Rattle.hdfs_client.proofs.Begun.{begun_new}
 use Rattle.hdfs_client.proofs.InLimits.{are_sizes_by}
-use Rattle.hdfs_client.proofs.Kept.{goes_reaches, goes_trans, making, name_from-client}
+use Rattle.hdfs_client.proofs.Held.{holds_file, keeps_behind, lease_told}
+use Rattle.hdfs_client.proofs.Kept.{goes_by, goes_leases, goes_of, goes_reaches, goes_trans, keeps_same, making, service_from-client, service_trans}
 use Rattle.hdfs_client.proofs.opening.create_by.Goals as goal
 
 pub returns-in_err-status-clause-keeps : goal.returns-in_err-status-clause-keeps
 returns-in_err-status-clause-keeps g c =
-    let first = c.in_ok-defaults.ensures.keeps in
-    goes_trans first (name_from-client c.create.ensures.keeps, (c.create.ensures.came (goes_reaches first c.requires.reaches)).relays.leaves.later)
+    let first = goes_of c.in_ok-defaults.ensures.keeps in
+    goes_trans first (goes_by c.create.ensures.keeps (c.create.ensures.came (goes_reaches first c.requires.reaches)).relays.leaves)
 
 pub refuse_created-requires-clause-reaches : goal.refuse_created-requires-clause-reaches
 refuse_created-requires-clause-reaches g c =
-    let first = c.in_ok-defaults.ensures.keeps in
+    let first = goes_of c.in_ok-defaults.ensures.keeps in
     let reaches = goes_reaches first c.requires.reaches in
-    goes_reaches (name_from-client c.create.ensures.keeps, (c.create.ensures.came reaches).relays.leaves.later) reaches
+    goes_reaches (goes_by c.create.ensures.keeps (c.create.ensures.came reaches).relays.leaves) reaches
 
 pub returns-then-told-clause-keeps : goal.returns-then-told-clause-keeps
 returns-then-told-clause-keeps g c =
-    let first = c.in_ok-defaults.ensures.keeps in
+    let first = goes_of c.in_ok-defaults.ensures.keeps in
     goes_trans first (goes_trans
-    (name_from-client c.create.ensures.keeps, (c.create.ensures.came (goes_reaches first c.requires.reaches)).relays.leaves.later)
-    c.refuse_created.ensures.keeps)
+    (goes_by c.create.ensures.keeps (c.create.ensures.came (goes_reaches first c.requires.reaches)).relays.leaves)
+    (service_from-client c.refuse_created.ensures.keeps.0, c.refuse_created.ensures.keeps.1))
 
-pub new-requires : goal.new-requires
-new-requires g c =
+pub new-file-requires : goal.new-file-requires
+new-file-requires g c =
     let options = c.args.options.now in
     let d = c.in_ok-defaults.defaults in
     let same : c.sizes_by-sizes.result ≡ sizes_by c.args.rebuilding d (unwrap_or options.replication d.replication) (unwrap_or options.block_size d.block_size) =
@@ -45,7 +50,7 @@ new-requires g c =
 
 pub returns-clause-created : goal.returns-clause-created
 returns-clause-created g c =
-    let first = c.in_ok-defaults.ensures.keeps in
+    let first = goes_of c.in_ok-defaults.ensures.keeps in
     let options = c.args.options.now in
     let d = c.in_ok-defaults.defaults in
     let r = unwrap_or options.replication d.replication in
@@ -60,29 +65,38 @@ returns-clause-created g c =
       knows = c.in_ok-defaults.ensures.knows;
       status = c.in_ok-status.status;
       asked = subst (λ (a : Ask). AskedOnce g.C.Cluster.serves true a (through c.limited_defaults.new.namenode c.limited_defaults.new.cluster)
-          (Ok (answers.Create c.in_ok-status.status)) (through c.create.new.self c.create.new.cluster))
+          (Ok (answers.Create c.in_ok-status.status)) (through c.hold.new.namenode c.create.new.cluster))
           (making options c.as_str.ensures first.0.name c.create_flag.ensures c.unwrap_or-replication.ensures c.unwrap_or-block_size.ensures)
-          c.in_ok-status.ensures.asked;
+          (subst (λ (proxy : NameServiceProxy). AskedOnce g.C.Cluster.serves true
+          (asks.Create c.as_str.result.now options.permission c.limited_defaults.new.namenode.client c.create_flag.result options.create_parent c.unwrap_or-replication.result c.unwrap_or-block_size.result)
+          (through c.limited_defaults.new.namenode c.limited_defaults.new.cluster) (Ok (answers.Create c.in_ok-status.status)) (record { cluster = c.create.new.cluster; proxy = proxy }))
+          (sym c.hold.ensures.keeps.proxy) c.in_ok-status.ensures.asked);
       plain = sym c.told_by-told.ensures.encrypted ∙ c.if-told.false;
-      fresh = record {
-        at = c.new.ensures.path.0;
-        id = c.new.ensures.path.2 ∙ c.told_by-told.ensures.id;
-        with = c.new.ensures.path.1 ∙ same;
-        stands = c.new.ensures.tail;
-        idle = c.new.ensures.idle.0;
-        fine = c.new.ensures.idle.1;
-      };
+      fresh = subst (IsFresh c.args.path (id_in c.in_ok-status.status) (sizes_by c.args.rebuilding d r k) Bare) (sym c.in_ok-hold.ensures.file.0) (record {
+        at = c.new-file.ensures.path.0;
+        id = c.new-file.ensures.path.2 ∙ c.told_by-told.ensures.id;
+        with = c.new-file.ensures.path.1 ∙ same;
+        stands = c.new-file.ensures.tail;
+        idle = c.new-file.ensures.idle.0;
+        fine = c.new-file.ensures.idle.1;
+      });
+      holds =
+          holds_file c.in_ok-status.status d c.in_ok-hold.field-0.lease
+          (lease_told c.in_ok-hold.field-0.lease c.in_ok-status.status c.told_by-told.result.file_id c.told_by-told.result.namespace c.in_ok-hold.ensures.file.1
+          c.in_ok-hold.ensures.file.2 c.told_by-told.ensures.id c.told_by-told.ensures.namespace)
+          (service_trans first.0 (service_from-client c.create.ensures.keeps)) (c.create.ensures.keeps.leases ∙ c.in_ok-defaults.ensures.keeps.0.1)
+          (c.create.ensures.keeps.defaults ∙ c.in_ok-defaults.ensures.knows.has.kept) c.in_ok-hold.ensures.taken c.hold.ensures.keeps;
     }
 
 pub returns-clause-begins : goal.returns-clause-begins
 unfolding returns-clause-created
 returns-clause-begins g c =
-    let first = c.in_ok-defaults.ensures.keeps in
+    let first = goes_of c.in_ok-defaults.ensures.keeps in
     let options = c.args.options.now in
     let d = c.in_ok-defaults.defaults in
     let made = returns-clause-created g c in
     begun_new (g.C.Cluster.shown c.args.cluster.now) (g.C.Cluster.shown c.limited_defaults.new.cluster) (g.C.Cluster.shown c.create.new.cluster)
-    c.in_ok-defaults.ensures.picture c.args.path c.args.namenode.now.client c.new.result options
+    c.in_ok-defaults.ensures.picture c.args.path c.args.namenode.now.client c.in_ok-hold.field-0.file options
     (unwrap_or options.replication d.replication) (unwrap_or options.block_size d.block_size) c.in_ok-status.status
     (ap (λ (s : WriteSizes). s.replication) made.fresh.with) (ap (λ (s : WriteSizes). s.block_size) made.fresh.with) made.fresh.stands
     (came_as (making options c.as_str.ensures first.0.name c.create_flag.ensures c.unwrap_or-replication.ensures c.unwrap_or-block_size.ensures) refl
@@ -90,50 +104,107 @@ returns-clause-begins g c =
 
 pub returns-clause-keeps : goal.returns-clause-keeps
 returns-clause-keeps g c =
-    let first = c.in_ok-defaults.ensures.keeps in
-    goes_trans first (name_from-client c.create.ensures.keeps, (c.create.ensures.came (goes_reaches first c.requires.reaches)).relays.leaves.later)
+    let first = goes_of c.in_ok-defaults.ensures.keeps in
+    goes_trans first (goes_leases (goes_by c.create.ensures.keeps (c.create.ensures.came (goes_reaches first c.requires.reaches)).relays.leaves)
+    c.hold.ensures.keeps)
+
+pub returns-in_err-hold-clause-keeps : goal.returns-in_err-hold-clause-keeps
+returns-in_err-hold-clause-keeps g c =
+    let first = goes_of c.in_ok-defaults.ensures.keeps in
+    goes_trans first (goes_leases (goes_by c.create.ensures.keeps (c.create.ensures.came (goes_reaches first c.requires.reaches)).relays.leaves)
+    c.hold.ensures.keeps)
 
 pub returns-in_err-defaults-clause-err : goal.returns-in_err-defaults-clause-err
 returns-in_err-defaults-clause-err g c =
     let p = err_from_is_err_and c.from_residual.result c.from_residual.ensures.1 in
-    rw (p.1, p.2) (inl c.in_err-defaults.ensures.err)
+    rw (p.1, p.2) (inl c.in_err-defaults.ensures.err, keeps_same c.in_err-defaults.ensures.keeps.0.1)
 
 pub returns-in_err-status-clause-err : goal.returns-in_err-status-clause-err
 returns-in_err-status-clause-err g c =
     let p = err_from_is_err_and c.from_residual-in_err-status.result c.from_residual-in_err-status.ensures.1 in
-    let first = c.in_ok-defaults.ensures.keeps in
-    rw (p.1, p.2) (inr (record {
-      defaults = c.in_ok-defaults.defaults;
-      between = c.limited_defaults.new.namenode;
-      mid = c.limited_defaults.new.cluster;
-      knows = c.in_ok-defaults.ensures.knows;
-      why = inl (subst (λ (a : Ask). AskedOnce g.C.Cluster.serves true a (through c.limited_defaults.new.namenode c.limited_defaults.new.cluster)
-          (Err c.in_err-status.field-0.0) (through c.create.new.self c.create.new.cluster))
-          (making c.args.options.now c.as_str.ensures first.0.name c.create_flag.ensures c.unwrap_or-replication.ensures c.unwrap_or-block_size.ensures)
-          c.in_err-status.ensures.asked);
-    }))
+    let first = goes_of c.in_ok-defaults.ensures.keeps in
+    let leases = keeps_same (c.create.ensures.keeps.leases ∙ c.in_ok-defaults.ensures.keeps.0.1) in
+    rw (p.1, p.2) (
+      inr (record {
+        defaults = c.in_ok-defaults.defaults;
+        between = c.limited_defaults.new.namenode;
+        mid = c.limited_defaults.new.cluster;
+        knows = c.in_ok-defaults.ensures.knows;
+        why = inl (subst (λ (a : Ask). AskedOnce g.C.Cluster.serves true a (through c.limited_defaults.new.namenode c.limited_defaults.new.cluster)
+            (Err c.in_err-status.field-0.0) (through c.create.new.self c.create.new.cluster))
+            (making c.args.options.now c.as_str.ensures first.0.name c.create_flag.ensures c.unwrap_or-replication.ensures c.unwrap_or-block_size.ensures)
+            c.in_err-status.ensures.asked);
+        kept = c.create.ensures.keeps.defaults ∙ c.in_ok-defaults.ensures.knows.has.kept;
+      }),
+      leases,
+    )
 
 pub returns-then-told-clause-err : goal.returns-then-told-clause-err
 returns-then-told-clause-err g c =
-    let first = c.in_ok-defaults.ensures.keeps in
-    let refused = c.refuse_created.ensures in
-    inr (record {
-      defaults = c.in_ok-defaults.defaults;
-      between = c.limited_defaults.new.namenode;
-      mid = c.limited_defaults.new.cluster;
-      knows = c.in_ok-defaults.ensures.knows;
-      why = inr (record {
-        status = c.in_ok-status.status;
-        between = c.create.new.self;
-        mid = c.create.new.cluster;
-        asked = subst (λ (a : Ask). AskedOnce g.C.Cluster.serves true a (through c.limited_defaults.new.namenode c.limited_defaults.new.cluster)
-            (Ok (answers.Create c.in_ok-status.status)) (through c.create.new.self c.create.new.cluster))
-            (making c.args.options.now c.as_str.ensures first.0.name c.create_flag.ensures c.unwrap_or-replication.ensures c.unwrap_or-block_size.ensures)
-            c.in_ok-status.ensures.asked;
-        encrypted = sym c.told_by-told.ensures.encrypted ∙ c.if-told.true;
-        outcome = refused.deleted.0;
-        deleted = subst (λ (at : List ℕ). AskedOnce g.C.Cluster.serves true (asks.Delete at false) (through c.create.new.self c.create.new.cluster)
-            refused.deleted.0 (through c.refuse_created.new.namenode c.refuse_created.new.cluster)) c.as_str-then-told.ensures refused.deleted.1;
-        is = refused.is;
-      });
-    })
+    let first = goes_of c.in_ok-defaults.ensures.keeps in
+    let refused = c.refuse_created.ensures in (
+      inr (record {
+        defaults = c.in_ok-defaults.defaults;
+        between = c.limited_defaults.new.namenode;
+        mid = c.limited_defaults.new.cluster;
+        knows = c.in_ok-defaults.ensures.knows;
+        why = inr (inl (record {
+          status = c.in_ok-status.status;
+          between = c.create.new.self;
+          mid = c.create.new.cluster;
+          asked = subst (λ (a : Ask). AskedOnce g.C.Cluster.serves true a (through c.limited_defaults.new.namenode c.limited_defaults.new.cluster)
+              (Ok (answers.Create c.in_ok-status.status)) (through c.create.new.self c.create.new.cluster))
+              (making c.args.options.now c.as_str.ensures first.0.name c.create_flag.ensures c.unwrap_or-replication.ensures c.unwrap_or-block_size.ensures)
+              c.in_ok-status.ensures.asked;
+          encrypted = sym c.told_by-told.ensures.encrypted ∙ c.if-told.true;
+          outcome = refused.deleted.0;
+          deleted = subst (λ (at : List ℕ). AskedOnce g.C.Cluster.serves true (asks.Delete at false) (through c.create.new.self c.create.new.cluster)
+              refused.deleted.0 (through c.refuse_created.new.namenode c.refuse_created.new.cluster)) c.as_str-then-told.ensures refused.deleted.1;
+          is = refused.deleted.2;
+        }));
+        kept = refused.keeps.0.defaults ∙ c.create.ensures.keeps.defaults ∙ c.in_ok-defaults.ensures.knows.has.kept;
+      }),
+      keeps_same (refused.keeps.0.leases ∙ c.create.ensures.keeps.leases ∙ c.in_ok-defaults.ensures.keeps.0.1),
+    )
+
+pub returns-in_err-hold-clause-err : goal.returns-in_err-hold-clause-err
+returns-in_err-hold-clause-err g c =
+    let p = err_from_is_err_and c.from_residual-in_err-hold.result c.from_residual-in_err-hold.ensures.1 in
+    let first = goes_of c.in_ok-defaults.ensures.keeps in
+    rw (p.1, p.2) (
+      inr (record {
+        defaults = c.in_ok-defaults.defaults;
+        between = c.limited_defaults.new.namenode;
+        mid = c.limited_defaults.new.cluster;
+        knows = c.in_ok-defaults.ensures.knows;
+        why = inr (inr (record {
+          status = c.in_ok-status.status;
+          asked = subst (λ (a : Ask). AskedOnce g.C.Cluster.serves true a (through c.limited_defaults.new.namenode c.limited_defaults.new.cluster)
+              (Ok (answers.Create c.in_ok-status.status)) (through c.hold.new.namenode c.create.new.cluster))
+              (making c.args.options.now c.as_str.ensures first.0.name c.create_flag.ensures c.unwrap_or-replication.ensures c.unwrap_or-block_size.ensures)
+              (subst (λ (proxy : NameServiceProxy). AskedOnce g.C.Cluster.serves true
+              (asks.Create c.as_str.result.now c.args.options.now.permission c.limited_defaults.new.namenode.client c.create_flag.result c.args.options.now.create_parent
+              c.unwrap_or-replication.result c.unwrap_or-block_size.result) (through c.limited_defaults.new.namenode c.limited_defaults.new.cluster)
+              (Ok (answers.Create c.in_ok-status.status)) (record { cluster = c.create.new.cluster; proxy = proxy })) (sym c.hold.ensures.keeps.proxy)
+              c.in_ok-status.ensures.asked);
+          plain = sym c.told_by-told.ensures.encrypted ∙ c.if-told.false;
+          is = refl;
+        }));
+        kept = c.hold.ensures.keeps.defaults ∙ c.create.ensures.keeps.defaults ∙ c.in_ok-defaults.ensures.knows.has.kept;
+      }),
+      keeps_behind (c.create.ensures.keeps.leases ∙ c.in_ok-defaults.ensures.keeps.0.1) c.in_err-hold.ensures.err,
+    )
+
+pub returns-clause-stands : goal.returns-clause-stands
+returns-clause-stands g c =
+    let writer = c.new-file.result in
+    let shown = g.C.Cluster.shown c.create.new.cluster in
+    let options = c.args.options.now in (
+      subst (Stands shown) (sym c.in_ok-hold.ensures.file.0) (c.new-file.ensures.stands shown),
+      subst (IsAnswered g.C.Cluster.may_answer c.args.namenode.now.client) (sym c.in_ok-hold.ensures.file.0)
+          (subst (λ (client : List ℕ). IsAnswered g.C.Cluster.may_answer client writer) c.in_ok-defaults.ensures.keeps.0.0.name
+          (answered_created writer c.args.path _ _ _ _ _ c.in_ok-status.status (c.new-file.ensures.stands shown) c.new-file.ensures.idle.1 c.new-file.ensures.path.0
+          (c.new-file.ensures.path.2 ∙ c.told_by-told.ensures.id) c.new-file.ensures.tail
+          (subst (λ (at : List ℕ). g.C.Cluster.may_answer (asks.Create at options.permission c.limited_defaults.new.namenode.client c.create_flag.result options.create_parent
+          c.unwrap_or-replication.result c.unwrap_or-block_size.result) (answers.Create c.in_ok-status.status)) c.as_str.ensures c.in_ok-status.ensures.answered))),
+    )

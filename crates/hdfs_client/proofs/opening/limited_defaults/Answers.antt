@@ -1,9 +1,9 @@
 -- The goals of limited_defaults.
-use Rattle.std.proofs.Common.{◌≡◌, inl, inr, refl, rules, sym, ◌∙◌}
+use Rattle.std.proofs.Common.{◌≡◌, inl, inr, refl, sym, ◌∙◌}
 use Rattle.std.proofs.lemmas.Result.{err_from_is_err_and}
 use Rattle.hdfs_cluster.specs.declared.messages.ServerDefaults.{ServerDefaults}
 use Rattle.hdfs_namenode.specs.Clients.{defaults_of}
-use Rattle.hdfs_client.proofs.Known.{is_known, unknown}
+use Rattle.hdfs_client.proofs.Known.{is_known, known_as, unknown}
 use Rattle.hdfs_client.proofs.Quiet.{quiet_by}
 use Rattle.hdfs_client.proofs.opening.limited_defaults.Goals as goal
 
@@ -22,17 +22,25 @@ returns-in_err-defaults-clause-err g c =
     let had = c.in_err-defaults.ensures in
     let none = unknown (defaults_of c.args.namenode.now) (g.C.Cluster.shown c.args.cluster.now) (g.C.Cluster.shown c.get_cached_server_defaults.new.cluster)
     c.in_err-defaults.field-0.0 (had.came c.requires.reaches) in
-    rw (p.1, p.2) (inl (record { unknown = none; asked = had.asked none }))
+    rw (p.1, p.2) (inl (record { unknown = none; asked = had.asked none; still = had.err }))
 
 pub returns-then-not-are_limited-clause-err : goal.returns-then-not-are_limited-clause-err
 returns-then-not-are_limited-clause-err g c =
     let had = c.in_ok-defaults.ensures in
     inr (record {
       defaults = c.in_ok-defaults.defaults;
-      has = record { known = λ kept is. (search rules); asked = had.asked };
+      has = record { known = known_as (defaults_of c.args.namenode.now) c.in_ok-defaults.defaults had.known; asked = had.asked; kept = had.kept };
       unlimited = sym c.are_limited.ensures ∙ c.if-not-are_limited.true;
       is = refl;
     })
+
+pub returns-clause-knows : goal.returns-clause-knows
+returns-clause-knows g c =
+    let had = c.in_ok-defaults.ensures in
+    record {
+      has = record { known = known_as (defaults_of c.args.namenode.now) c.in_ok-defaults.defaults had.known; asked = had.asked; kept = had.kept };
+      limited = sym c.are_limited.ensures ∙ c.if-not-are_limited.false;
+    }
 
 pub returns-clause-known : goal.returns-clause-known
 returns-clause-known g c =

@@ -2,7 +2,7 @@
 use Rattle.std.proofs.Common.{◌≡◌, ◌++◌, ◌∷◌, [], ℕ, true, List, IsSome, is_some, sym, ◌∙◌, ap, subst, rules}
 use Rattle.std.specs.BTreeMap.{get_by_text}
 use Rattle.std.specs.String.{string_bytes}
-use Rattle.hdfs_mem_namenode.specs.Listing.{is_before}
+use Rattle.hdfs_cluster.specs.Names.{is_before}
 use Rattle.hdfs_mem_namenode.proofs.Below.{Collects, collects_before, collects_more, collects_none}
 use Rattle.hdfs_mem_namenode.proofs.Bytes.{zero_behind}
 use Rattle.hdfs_mem_namenode.proofs.Keys.{fewer_from}

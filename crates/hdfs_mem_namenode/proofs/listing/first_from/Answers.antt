@@ -5,7 +5,7 @@ use Rattle.std.specs.List.{slice_get}
 use Rattle.std.specs.Option.{IfSome}
 use Rattle.std.specs.String.{string_bytes}
 use Rattle.std.specs.BTreeMap.{get_by_text}
-use Rattle.hdfs_mem_namenode.specs.Listing.{is_before}
+use Rattle.hdfs_cluster.specs.Names.{is_before}
 use Rattle.hdfs_mem_namenode.proofs.Bytes.{before_cmp}
 use Rattle.hdfs_mem_namenode.proofs.Keys.{after_cmp, all_before, first_key}
 use Rattle.hdfs_mem_namenode.proofs.listing.first_from.Goals as goal

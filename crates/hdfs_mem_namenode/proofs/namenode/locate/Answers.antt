@@ -1,7 +1,8 @@
 use Rattle.std.proofs.Common.{◌≡◌, ℕ, ◌+◌, ◌<◌, ◌^◌, Some, None, [], ◌∷◌, ◌++◌, take, get_or, sym, ◌∙◌, ap, subst, arith, rules}
 use Rattle.std.proofs.lemmas.List.{take_more}
 use Rattle.hdfs_cluster.specs.declared.picture.BlockEntry.{BlockEntry}
-use Rattle.hdfs_mem_namenode.specs.Memory.{table_of, total}
+use Rattle.hdfs_cluster.specs.Listing.{total}
+use Rattle.hdfs_mem_namenode.specs.Memory.{table_of}
 use Rattle.hdfs_cluster.specs.Namenode.{LocatesBlocks}
 use Rattle.hdfs_mem_namenode.proofs.Locating.{LocatesBlocks-push, total_next, Follow_from-LocatesBlocks}
 use Rattle.hdfs_mem_namenode.specs.Soundness.{total_known}

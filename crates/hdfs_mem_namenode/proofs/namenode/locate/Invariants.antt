@@ -1,5 +1,6 @@
 use Rattle.std.proofs.Common.{◌≡◌, ℕ, ◌+◌, ◌<◌, ◌^◌, Some, take, drop}
-use Rattle.hdfs_mem_namenode.specs.Memory.{table_of, total}
+use Rattle.hdfs_mem_namenode.specs.Memory.{table_of}
+use Rattle.hdfs_cluster.specs.Listing.{total}
 use Rattle.hdfs_cluster.specs.Namenode.{LocatesBlocks}
 use Rattle.hdfs_mem_namenode.proofs.namenode.locate.Given as goal
 

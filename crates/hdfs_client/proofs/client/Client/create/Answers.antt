@@ -9,6 +9,7 @@ use Rattle.hdfs_namenode.specs.Clients.{name_of, proxy_of}
 use Rattle.hdfs_namenode.specs.declared.protocol.NamenodeProtocol.{NamenodeProtocol}
 use Rattle.hdfs_rebuild.specs.declared.block_plan.RebuildSettings.{RebuildSettings}
 use Rattle.hdfs_client.specs.Opening.{CreatesBy, FailsToCreate}
+use Rattle.hdfs_client.proofs.Beside.{keeps_files, services_but}
 use Rattle.hdfs_client.proofs.Kept.{goes_reaches}
 use Rattle.hdfs_client.proofs.Serving.{at_service, client_goes, fails_at, of_put, opens_at, used}
 use Rattle.hdfs_client.proofs.client.Client.create.Goals as goal
@@ -18,25 +19,25 @@ create_by-requires-clause-allowed g c =
     c.requires.allowed c.in_ok-to.to c.index_mut-namenode.result.now c.in_ok-to.ensures.0
     (at_service c.args.self.now c.in_ok-to.to.service c.index_mut-namenode.result.now c.in_ok-to.ensures.1 c.index_mut-namenode.ensures.value)
 
-pub returns-in_err-file-clause-client : goal.returns-in_err-file-clause-client
-returns-in_err-file-clause-client g c =
+pub returns-in_err-opened-clause-client : goal.returns-in_err-opened-clause-client
+returns-in_err-opened-clause-client g c =
     client_goes c.requires.client.0
     (used c.args.self.now _ c.in_ok-to.to.service c.index_mut-namenode.result.now c.create_by.new.namenode c.in_ok-to.ensures.1
-    c.index_mut-namenode.ensures.value refl (refl, refl, refl)) c.create_by.ensures.keeps.0.service c.create_by.ensures.keeps.1
+    c.index_mut-namenode.ensures.value refl (refl, refl, refl)) c.create_by.ensures.keeps.0.service c.create_by.ensures.keeps.1.later
 
 pub returns-clause-created : goal.returns-clause-created
 returns-clause-created g c =
     opens_at _ _ c.in_ok-to.ensures.0
     (used c.args.self.now _ c.in_ok-to.to.service c.index_mut-namenode.result.now c.create_by.new.namenode c.in_ok-to.ensures.1
-    c.index_mut-namenode.ensures.value refl (refl, refl, refl)) refl refl
+    c.index_mut-namenode.ensures.value refl (refl, refl, refl)) refl refl refl
     (subst (λ (r : RebuildSettings). CreatesBy g.C.Cluster.serves c.in_ok-to.to.path c.args.options.now r c.index_mut-namenode.result.now c.args.cluster.now
-    c.in_ok-file.file c.create_by.new.namenode c.create_by.new.cluster) c.rebuilding-rebuilding.ensures c.in_ok-file.ensures.created)
+    c.in_ok-opened.opened.file c.in_ok-opened.opened.lease c.create_by.new.namenode c.create_by.new.cluster) c.rebuilding-rebuilding.ensures c.in_ok-opened.ensures.created)
 
 pub returns-clause-begins : goal.returns-clause-begins
 returns-clause-begins g c =
     opens_at _ _ c.in_ok-to.ensures.0
     (used c.args.self.now _ c.in_ok-to.to.service c.index_mut-namenode.result.now c.create_by.new.namenode c.in_ok-to.ensures.1
-    c.index_mut-namenode.ensures.value refl (refl, refl, refl)) refl refl c.in_ok-file.ensures.begins
+    c.index_mut-namenode.ensures.value refl (refl, refl, refl)) refl refl refl c.in_ok-opened.ensures.begins
 
 pub returns-clause-stands : goal.returns-clause-stands
 returns-clause-stands g c =
@@ -47,20 +48,34 @@ returns-clause-stands g c =
     let keeps = c.create_by.ensures.keeps in
     let reaches = goes_reaches keeps (c.requires.client.1 c.in_ok-to.to c.index_mut-namenode.result.now c.in_ok-to.ensures.0 was) in (
       of_put (λ namenode file. ReachesAll (proxy_of namenode) (g.C.Cluster.shown c.create_by.new.cluster) × Stands (g.C.Cluster.shown c.create_by.new.cluster) file)
-          (services_of client) k c.create_by.new.namenode within (reaches, c.in_ok-file.ensures.stands),
+          (services_of client) k c.create_by.new.namenode within (reaches, c.in_ok-opened.ensures.stands.0),
       of_put (λ namenode file. IsAnswered g.C.Cluster.may_answer (name_of namenode) file) (services_of client) k c.create_by.new.namenode within
-          (subst (λ (n : List ℕ). IsAnswered g.C.Cluster.may_answer n c.in_ok-file.file) (sym keeps.0.name) c.in_ok-file.ensures.answered),
+          (subst (λ (n : List ℕ). IsAnswered g.C.Cluster.may_answer n c.in_ok-opened.opened.file) (sym keeps.0.name) c.in_ok-opened.ensures.stands.1),
     )
 
 pub returns-clause-client : goal.returns-clause-client
 returns-clause-client g c =
     client_goes c.requires.client.0
     (used c.args.self.now _ c.in_ok-to.to.service c.index_mut-namenode.result.now c.create_by.new.namenode c.in_ok-to.ensures.1
-    c.index_mut-namenode.ensures.value refl (refl, refl, refl)) c.create_by.ensures.keeps.0.service c.create_by.ensures.keeps.1
+    c.index_mut-namenode.ensures.value refl (refl, refl, refl)) c.create_by.ensures.keeps.0.service c.create_by.ensures.keeps.1.later
 
-pub returns-in_err-file-clause-err : goal.returns-in_err-file-clause-err
-returns-in_err-file-clause-err g c =
-    let p = err_from_is_err_and c.from_residual-in_err-file.result c.from_residual-in_err-file.ensures.1 in
-    rw (p.1, p.2) (λ fine. inr (fails_at (λ at before after. FailsToCreate g.C.Cluster.serves at c.args.options.now before c.args.cluster.now c.in_err-file.field-0.0 after c.create_by.new.cluster) c.in_ok-to.ensures.0
+pub returns-in_err-opened-clause-err : goal.returns-in_err-opened-clause-err
+returns-in_err-opened-clause-err g c =
+    let p = err_from_is_err_and c.from_residual-in_err-opened.result c.from_residual-in_err-opened.ensures.1 in
+    rw (p.1, p.2) (λ fine. inr (fails_at (λ at before after. FailsToCreate g.C.Cluster.serves at c.args.options.now before c.args.cluster.now c.in_err-opened.field-0.0 after c.create_by.new.cluster) c.in_ok-to.ensures.0
     (used c.args.self.now _ c.in_ok-to.to.service c.index_mut-namenode.result.now c.create_by.new.namenode c.in_ok-to.ensures.1
-    c.index_mut-namenode.ensures.value refl (refl, refl, refl)) c.in_err-file.ensures.err))
+    c.index_mut-namenode.ensures.value refl (refl, refl, refl)) c.in_err-opened.ensures.err.0 c.create_by.ensures.keeps.0 c.in_err-opened.ensures.err.1))
+
+pub returns-in_err-opened-clause-files : goal.returns-in_err-opened-clause-files
+returns-in_err-opened-clause-files g c =
+    let at = used c.args.self.now _ c.in_ok-to.to.service c.index_mut-namenode.result.now c.create_by.new.namenode c.in_ok-to.ensures.1
+    c.index_mut-namenode.ensures.value refl (refl, refl, refl) in
+    let keeps = c.create_by.ensures.keeps in
+    keeps_files (services_but at.was at.is at.others (keeps.0.service, keeps.0.name)) keeps.1.later g.C.Cluster.allows g.C.Cluster.may_answer keeps.1.writes
+
+pub returns-clause-files : goal.returns-clause-files
+returns-clause-files g c =
+    let at = used c.args.self.now _ c.in_ok-to.to.service c.index_mut-namenode.result.now c.create_by.new.namenode c.in_ok-to.ensures.1
+    c.index_mut-namenode.ensures.value refl (refl, refl, refl) in
+    let keeps = c.create_by.ensures.keeps in
+    keeps_files (services_but at.was at.is at.others (keeps.0.service, keeps.0.name)) keeps.1.later g.C.Cluster.allows g.C.Cluster.may_answer keeps.1.writes

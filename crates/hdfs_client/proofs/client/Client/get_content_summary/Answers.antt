@@ -1,6 +1,7 @@
 -- One ask of the service to which the path leads.
 use Rattle.std.proofs.Common.{false, refl}
 use Rattle.hdfs_client.proofs.Asking.{asks_at, asks_nothing, client_later, for_memory, is_service}
+use Rattle.hdfs_client.proofs.Beside.{files_asked}
 use Rattle.hdfs_client.proofs.client.Client.get_content_summary.Goals as goal
 
 pub returns-in_err-to-clause-asked : goal.returns-in_err-to-clause-asked
@@ -19,3 +20,8 @@ pub returns-clause-client : goal.returns-clause-client
 returns-clause-client g c =
     client_later g.C.Cluster.shown g.C.Cluster.serves g.met.C.Cluster.serves_rows false _ c.args.self.now _ c.args.path.now c.args.cluster.now _ _
     c.requires.client (returns-clause-asked g c)
+
+pub returns-clause-files : goal.returns-clause-files
+returns-clause-files g c =
+    files_asked g.C.Cluster.shown g.C.Cluster.serves g.met.C.Cluster.serves_rows g.C.Cluster.allows g.C.Cluster.may_answer false _ c.args.self.now _ c.args.path.now c.args.cluster.now _ _
+    (returns-clause-asked g c)

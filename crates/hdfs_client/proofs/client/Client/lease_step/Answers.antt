@@ -6,6 +6,8 @@ use Rattle.hdfs_client.specs.Clients.{services_of}
 use Rattle.hdfs_client.specs.Leasing.{StepsOnce, or_memory}
 use Rattle.hdfs_client.proofs.Asking.{is_service}
 use Rattle.hdfs_client.proofs.ByReaders.{is_then, others_stay, was_there}
+use Rattle.hdfs_client.proofs.Beside.{keeps_files, services_but, services_trans}
+use Rattle.hdfs_client.proofs.Kept.{links_from, links_trans}
 use Rattle.hdfs_client.proofs.Leased.{GoesOn, all_turns, as_many, client_stepped, left_more, one_turn_more, same_at}
 use Rattle.hdfs_client.proofs.client.Client.lease_step.Goals as goal
 
@@ -54,6 +56,12 @@ services-preserved g c =
           c.lease_step-step.ensures.keeps (was_there c.services.self k before low c.index_mut.ensures.value) (is_then c.services.self _ k after low refl)
           (others_stay c.services.self _ k after refl (refl, refl, refl));
       left = left_more k now (services_of c.args.self.now) after c.services.invariant.left;
+      services =
+          services_trans c.services.invariant.services
+          (services_but (was_there c.services.self k before low c.index_mut.ensures.value) (is_then c.services.self _ k after low refl)
+          (others_stay c.services.self _ k after refl (refl, refl, refl))
+          (c.lease_step-step.ensures.keeps.service, c.lease_step-step.ensures.keeps.name));
+      links = links_trans c.services.invariant.links (links_from c.lease_step-step.ensures.leaves);
       many = length-set now k after ∙ c.services.invariant.many;
       rest = c.services.invariant.rest;
     }
@@ -73,3 +81,11 @@ returns-in-None-clause-steps g c =
     let done = all_turns g.C.Cluster.serves c.args.moment (services_of c.args.self.now) c.args.cluster.now (Some Idle) c.services.turn c.services.k
     (services_of c.services.self) c.services.cluster end c.services.invariant.goes_on in
     record { turns = done.0; steps = done.1; is = sym (ap or_memory (done.2 ∙ c.in-None.is)) }
+
+pub returns-in-Some-clause-files : goal.returns-in-Some-clause-files
+returns-in-Some-clause-files g c =
+    keeps_files c.services.invariant.services c.services.invariant.links.later g.C.Cluster.allows g.C.Cluster.may_answer c.services.invariant.links.writes
+
+pub returns-in-None-clause-files : goal.returns-in-None-clause-files
+returns-in-None-clause-files g c =
+    keeps_files c.services.invariant.services c.services.invariant.links.later g.C.Cluster.allows g.C.Cluster.may_answer c.services.invariant.links.writes

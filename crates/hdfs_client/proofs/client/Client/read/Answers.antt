@@ -3,6 +3,7 @@ use Rattle.std.proofs.Common.{false, Err, Ok, refl}
 use Rattle.std.proofs.lemmas.Result.{err_from_is_err_and}
 use Rattle.hdfs_cluster.specs.declared.errors.HdfsError.TheVariants as errors
 use Rattle.hdfs_client.proofs.Asking.{asks_at, asks_nothing, client_later, is_service}
+use Rattle.hdfs_client.proofs.Beside.{files_asked}
 use Rattle.hdfs_client.proofs.ByReaders.{located_if, made_if, memory_is, shows_if, was_there}
 use Rattle.hdfs_client.proofs.client.Client.read.Goals as goal
 
@@ -31,6 +32,11 @@ returns-in_err-found-clause-client g c =
     client_later g.C.Cluster.shown g.C.Cluster.serves g.met.C.Cluster.serves_rows false _ c.args.self.now _ c.args.path.now c.args.cluster.now _ _
     c.requires.client (returns-in_err-found-clause-asked g c).asks
 
+pub returns-in_err-found-clause-files : goal.returns-in_err-found-clause-files
+returns-in_err-found-clause-files g c =
+    files_asked g.C.Cluster.shown g.C.Cluster.serves g.met.C.Cluster.serves_rows g.C.Cluster.allows g.C.Cluster.may_answer false _ c.args.self.now _ c.args.path.now c.args.cluster.now _ _
+    (returns-in_err-found-clause-asked g c).asks
+
 pub returns-clause-asked : goal.returns-clause-asked
 returns-clause-asked g c = record {
   outcome = Ok c.in_ok-found.found;
@@ -43,6 +49,11 @@ pub returns-clause-client : goal.returns-clause-client
 returns-clause-client g c =
     client_later g.C.Cluster.shown g.C.Cluster.serves g.met.C.Cluster.serves_rows false _ c.args.self.now _ c.args.path.now c.args.cluster.now _ _
     c.requires.client (returns-clause-asked g c).asks
+
+pub returns-clause-files : goal.returns-clause-files
+returns-clause-files g c =
+    files_asked g.C.Cluster.shown g.C.Cluster.serves g.met.C.Cluster.serves_rows g.C.Cluster.allows g.C.Cluster.may_answer false _ c.args.self.now _ c.args.path.now c.args.cluster.now _ _
+    (returns-clause-asked g c).asks
 
 pub returns-clause-made : goal.returns-clause-made
 returns-clause-made g c =

@@ -1,14 +1,16 @@
 -- Of the directories that were passed nothing was left, and while none wants a page nothing is asked.
 use Rattle.std.proofs.Common.{◌≡◌, true, vec_len}
-use Rattle.hdfs_client.specs.Clients.{IsClientOf, mounts_of}
+use Rattle.hdfs_client.specs.Clients.{IsClientOf, Stays, mounts_of}
 use Rattle.hdfs_client.specs.Iterating.{LetsWalk, asks_none, begun_by}
 use Rattle.hdfs_client.specs.Turning.{IsPassed}
+use Rattle.hdfs_client.specs.Writing.{KeepsFiles}
 use Rattle.hdfs_client.proofs.list_iterator.ListStatusIterator.next_found.Given as goal
 
 abbrev pub invariant-directories : goal.invariant-directories
 invariant-directories g l = record {
   client : IsClientOf l.client (g.C.Cluster.shown l.cluster);
-  mounts : mounts_of l.client ≡ mounts_of l.fn.client;
+  rest : Stays l.fn.client l.client;
+  files : KeepsFiles g.C.Cluster.allows g.C.Cluster.may_answer l.fn.client (g.C.Cluster.shown l.fn.cluster) l.client (g.C.Cluster.shown l.cluster);
   recursive : l.self.recursive ≡ l.fn.self.recursive;
   lets : LetsWalk g.C.Cluster.allows g.C.Cluster.may_answer (mounts_of l.fn.client) l.fn.self.recursive (begun_by l.self);
   passed : IsPassed g.C.Cluster.may_answer (mounts_of l.fn.client) (begun_by l.fn.self) (begun_by l.self);

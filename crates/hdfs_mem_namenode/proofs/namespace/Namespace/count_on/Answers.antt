@@ -2,7 +2,7 @@
 use Rattle.std.proofs.Common.{◌≡◌, ◌++◌, ◌∷◌, [], ℕ, true, List, IsSome, is_some, sym, ◌∙◌, ap, subst, rules}
 use Rattle.std.specs.BTreeMap.{get_by_text}
 use Rattle.std.specs.String.{string_bytes}
-use Rattle.hdfs_mem_namenode.specs.Listing.{is_before}
+use Rattle.hdfs_cluster.specs.Names.{is_before}
 use Rattle.hdfs_mem_namenode.specs.Memory.{table_of}
 use Rattle.hdfs_mem_namenode.proofs.Bytes.{zero_behind}
 use Rattle.hdfs_mem_namenode.proofs.Gathering.{Counted, counted_all, counted_more, counted_none, counted_outside}

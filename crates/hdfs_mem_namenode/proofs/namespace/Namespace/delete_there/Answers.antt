@@ -6,8 +6,9 @@ use Rattle.std.specs.List.{All, Contains, list_any}
 use Rattle.std.specs.Str.{bytes_eq}
 use Rattle.hdfs_cluster.specs.declared.asks.AskFault.{AskFault}
 use Rattle.hdfs_cluster.specs.declared.picture.Entry.{Entry}
+use Rattle.hdfs_cluster.specs.Deleting.{DeletesFrom}
 use Rattle.hdfs_names.specs.Paths.{root}
-use Rattle.hdfs_mem_namenode.specs.Changing.{DeletesFrom, IsClosed, StandsForKept, frees}
+use Rattle.hdfs_mem_namenode.specs.Changing.{IsClosed, StandsForKept, frees}
 use Rattle.hdfs_mem_namenode.specs.Memory.{is_placed, table_of}
 use Rattle.hdfs_mem_namenode.proofs.Below.{IsInFront}
 use Rattle.hdfs_mem_namenode.proofs.Within.{deletes, found_below, keys_closed, keys_not_root, named_path, none_kept, some_kept}

@@ -2,7 +2,7 @@
 use Rattle.std.proofs.Common.{◌≡◌, ℕ, Bool, true, List, [], ◌∷◌, ◌++◌, is_some, sym, ◌∙◌, ap, subst}
 use Rattle.std.specs.BTreeMap.{get_by_text}
 use Rattle.std.specs.String.{string_bytes}
-use Rattle.hdfs_mem_namenode.specs.Listing.{is_before}
+use Rattle.hdfs_cluster.specs.Names.{is_before}
 use Rattle.hdfs_mem_namenode.proofs.Children.{Starts, past_behind, starts_first, starts_next, starts_outside, starts_past}
 use Rattle.hdfs_mem_namenode.proofs.Keys.{fewer_from}
 use Rattle.hdfs_mem_namenode.proofs.namespace.Namespace.next_child.Goals as goal

@@ -3,8 +3,9 @@ use Rattle.std.proofs.Common.{◌≡◌, ℕ, List, true, sym, ◌∙◌, ap}
 use Rattle.std.proofs.lemmas.Bool.{false≢true}
 use Rattle.std.specs.BTreeMap.{get_by_text}
 use Rattle.hdfs_cluster.specs.Effects.{blocks_at, table_without}
+use Rattle.hdfs_cluster.specs.Listing.{total}
 use Rattle.hdfs_names.specs.Paths.{root}
-use Rattle.hdfs_mem_namenode.specs.Memory.{table_of, total, is_dir, is_kth_at, is_placed, is_sized, AreApart, IsBare}
+use Rattle.hdfs_mem_namenode.specs.Memory.{table_of, is_dir, is_kth_at, is_placed, is_sized, AreApart, IsBare}
 use Rattle.hdfs_mem_namenode.proofs.Naming.{Sound, tree_from_tests}
 use Rattle.hdfs_mem_namenode.specs.Totals.{is_counted}
 use Rattle.hdfs_mem_namenode.proofs.NewFiles.{names_same, not_listed, put_names, put_sound, put_numbered, put_more}
