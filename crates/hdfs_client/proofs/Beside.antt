@@ -21,11 +21,14 @@ use Rattle.hdfs_namenode.specs.Clients.{name_of, proxy_of, through}
 use Rattle.hdfs_namenode.specs.declared.protocol.NamenodeProtocol.{NamenodeProtocol}
 use Rattle.hdfs_namenode.proofs.Observers.{once_leaves}
 use Rattle.hdfs_namenode.proofs.Services.{reaches_later, same_service_refl, same_service_trans}
-use Rattle.hdfs_client.specs.Clients.{AsksAt, SameBut, service_at}
+use Rattle.hdfs_names.specs.Mounts.{first_match}
+use Rattle.hdfs_names.specs.Paths.{absolute}
+use Rattle.hdfs_names.specs.declared.mounts.MountTable.{MountTable}
+use Rattle.hdfs_client.specs.Clients.{AsksAt, SameBut, leads_to, mounts_of, service_at}
 use Rattle.hdfs_client.specs.Holding.{ChangesService, MayGive}
 use Rattle.hdfs_client.specs.Readers.{ReadsBlocks, ReadsBy}
 use Rattle.hdfs_client.specs.Readers as readers
-use Rattle.hdfs_client.specs.Writing.{AreApart, IsWriterOf, KeepsFiles, KeepsOthers, OfOpen, link_in, link_of, open_of, service_of}
+use Rattle.hdfs_client.specs.Writing.{AreApart, IsWriterOf, KeepsFiles, KeepsOthers, OfOpen, ReachesWhole, link_in, link_of, open_of, service_of}
 use Rattle.hdfs_client.specs.declared.client.Client.{Client}
 use Rattle.hdfs_client.specs.declared.file_lease.FileLease.{FileLease}
 use Rattle.hdfs_client.specs.declared.file_reader.FileReader.{FileReader}
@@ -36,10 +39,12 @@ use Rattle.hdfs_client.proofs.Asking.{same_some}
 abbrev pub Keeps : NamenodeProtocol → NamenodeProtocol → Type 0
 Keeps before after = SameService (proxy_of before) (proxy_of after) × (name_of after ≡ name_of before)
 
--- so does each
+-- so does each, there is none more, and paths lead where they led
 pub record KeepsServices (client client' : Client) : Type 0 where
   pub each : (k : ℕ) (before : NamenodeProtocol) → service_at client k ≡ Some before
       → (after : NamenodeProtocol) × (service_at client' k ≡ Some after) × Keeps before after
+  pub none : (k : ℕ) → service_at client k ≡ None → service_at client' k ≡ None
+  pub mounts : mounts_of client' ≡ mounts_of client
 
 -- what is so of a file that is open, and of its service
 module _ {client client' : Client} (services : KeepsServices client client') where
@@ -67,6 +72,19 @@ module _ {client client' : Client} (services : KeepsServices client client') whe
       by (Some before) some = subst IsSome (sym (services.each (readers.service_of reader) before some).1) refl
 
   module _ {s t : Shown} (later : Later s t) where
+    -- a path that leads to a whole service does so still
+    pub still_whole : (src : List ℕ) → ReachesWhole client src s → ReachesWhole client' src t
+    still_whole src whole to namenode leads at = by (service_at client to.service) refl
+      where
+        by : (o : Option NamenodeProtocol) → service_at client to.service ≡ o → ReachesAll (proxy_of namenode) t
+        by None none = absurd (cc (at, services.none to.service none))
+        by (Some before) some =
+            let next = services.each to.service before some in
+            let led : leads_to client src ≡ Some to =
+            sym (ap (λ (m : MountTable). first_match m.fallback 0 m.mounts (absolute m.home_dir src)) services.mounts) ∙ leads in
+            subst (λ (n : NamenodeProtocol). ReachesAll (proxy_of n) t) (same_some namenode next.0 (service_at client' to.service) at next.1)
+            (reaches_later (proxy_of before) (proxy_of next.0) s t next.2.0 later (whole to before led some))
+
     -- of a writer whose link stays
     pub of_standing : (writer : FileWriter)
         → ((file : inner.FileWriter) → open_of writer ≡ Some file → (link : ℕ) → files.link_of file ≡ Some link → t.writes link ≡ s.writes link)
@@ -83,6 +101,7 @@ module _ {client client' : Client} (services : KeepsServices client client') whe
     pub keeps_files : (allows : Request → Type 0) (may_answer : Ask → Answer → Type 0) → ((link : ℕ) → t.writes link ≡ s.writes link)
         → KeepsFiles allows may_answer client s client' t
     keeps_files allows may_answer links = record {
+      whole = still_whole;
       readers = still_reads;
       stand = λ writer. of_standing writer (λ file is link named. links link);
       answered = of_named (λ name file. files.IsAnswered may_answer name file);
@@ -136,6 +155,7 @@ pub keeps_others : (allows : Request → Type 0) (may_answer : Ask → Answer �
     {s t : Shown} (writer writer' : FileWriter) → files.OnlyOwnLink s (link_of writer) t (link_of writer')
     → KeepsOthers allows may_answer client s writer client' t writer'
 keeps_others allows may_answer services writer writer' own = record {
+  whole = still_whole services own.later;
   readers = still_reads services;
   stand = λ other apart of. (stands_apart services own other apart of, still_apart services own other apart of);
   answered = of_named services (λ name file. files.IsAnswered may_answer name file);
@@ -149,10 +169,10 @@ keeps_refl n = (same_service_refl (proxy_of n), refl)
 -- where nothing is done they stay
 pub files_refl : {allows : Request → Type 0} {may_answer : Ask → Answer → Type 0} (client : Client) (shown : Shown)
     → KeepsFiles allows may_answer client shown client shown
-files_refl client shown = record { readers = λ reader is. is; stand = λ writer is. is; answered = λ writer is. is; write = λ writer is. is; close = λ writer is. is }
+files_refl client shown = record { whole = λ src is. is; readers = λ reader is. is; stand = λ writer is. is; answered = λ writer is. is; write = λ writer is. is; close = λ writer is. is }
 
 pub services_refl : (client : Client) → KeepsServices client client
-services_refl client = record { each = λ k before is. (before, is, keeps_refl before) }
+services_refl client = record { each = λ k before is. (before, is, keeps_refl before); none = λ k is. is; mounts = refl }
 
 pub services_trans : {a b c : Client} → KeepsServices a b → KeepsServices b c → KeepsServices a c
 services_trans one two = record {
@@ -160,12 +180,15 @@ services_trans one two = record {
       let mid = one.each k before is in
       let end = two.each k mid.0 mid.1 in
       (end.0, end.1, (same_service_trans (proxy_of before) (proxy_of mid.0) (proxy_of end.0) mid.2.0 end.2.0, end.2.1 ∙ mid.2.1));
+  none = λ k is. two.none k (one.none k is);
+  mounts = two.mounts ∙ one.mounts;
 }
 
 -- what two calls leave, one behind the other
 pub files_trans : {allows : Request → Type 0} {may_answer : Ask → Answer → Type 0} {a b c : Client} {s m t : Shown}
     → KeepsFiles allows may_answer a s b m → KeepsFiles allows may_answer b m c t → KeepsFiles allows may_answer a s c t
 files_trans one two = record {
+  whole = λ src is. two.whole src (one.whole src is);
   readers = λ reader is. two.readers reader (one.readers reader is);
   stand = λ writer is. two.stand writer (one.stand writer is);
   answered = λ writer is. two.answered writer (one.answered writer is);
@@ -176,8 +199,18 @@ files_trans one two = record {
 -- one of them may have changed, and keeps its name and its namenodes
 pub services_but : {k : ℕ} {client client' : Client} {before after : NamenodeProtocol} → service_at client k ≡ Some before → service_at client' k ≡ Some after
     → SameBut k client client' → Keeps before after → KeepsServices client client'
-services_but {k} {client} {client'} {before} {after} was is others keeps = record { each = λ i found at. by i found at (cases_Bool (i == k)) }
+services_but {k} {client} {client'} {before} {after} was is others keeps = record {
+  each = λ i found at. by i found at (cases_Bool (i == k));
+  none = λ i at. missing i at (cases_Bool (i == k));
+  mounts = others.mounts;
+}
   where
+    missing : (i : ℕ) → service_at client i ≡ None → ((i == k) ≡ true) ⊎ ((i == k) ≡ false) → service_at client' i ≡ None
+    missing i at (inl here) =
+        let same : i ≡ k = (Decides-eqb i k).0 here in
+        absurd (cc (at, was, ap (λ (n : ℕ). service_at client n) same))
+    missing i at (inr apart) = others.others i (λ e. false≢true (sym apart ∙ (Decides-eqb i k).1 e)) ∙ at
+
     by : (i : ℕ) (found : NamenodeProtocol) → service_at client i ≡ Some found → ((i == k) ≡ true) ⊎ ((i == k) ≡ false)
         → (next : NamenodeProtocol) × (service_at client' i ≡ Some next) × Keeps found next
     by i found at (inl here) =
@@ -194,8 +227,18 @@ services_but {k} {client} {client'} {before} {after} was is others keeps = recor
 -- the same of one that was changed so that it keeps them
 pub services_changed : {Changes : NamenodeProtocol → NamenodeProtocol → Type 0} {k : ℕ} {client client' : Client}
     → ((before after : NamenodeProtocol) → Changes before after → Keeps before after) → ChangesService Changes k client client' → KeepsServices client client'
-services_changed {Changes} {k} {client} {client'} keeps changes = record { each = λ i found at. by i found at (cases_Bool (i == k)) }
+services_changed {Changes} {k} {client} {client'} keeps changes = record {
+  each = λ i found at. by i found at (cases_Bool (i == k));
+  none = λ i at. missing i at (cases_Bool (i == k));
+  mounts = changes.others.mounts;
+}
   where
+    missing : (i : ℕ) → service_at client i ≡ None → ((i == k) ≡ true) ⊎ ((i == k) ≡ false) → service_at client' i ≡ None
+    missing i at (inl here) =
+        let same : i ≡ k = (Decides-eqb i k).0 here in
+        ap (λ (n : ℕ). service_at client' n) same ∙ changes.none (ap (λ (n : ℕ). service_at client n) (sym same) ∙ at)
+    missing i at (inr apart) = changes.others.others i (λ e. false≢true (sym apart ∙ (Decides-eqb i k).1 e)) ∙ at
+
     by : (i : ℕ) (found : NamenodeProtocol) → service_at client i ≡ Some found → ((i == k) ≡ true) ⊎ ((i == k) ≡ false)
         → (next : NamenodeProtocol) × (service_at client' i ≡ Some next) × Keeps found next
     by i found at (inl here) =

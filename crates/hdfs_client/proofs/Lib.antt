@@ -18,6 +18,7 @@ pub mod Kept
 pub mod Known
 pub mod Leading
 pub mod Leased
+pub mod Leave
 pub mod Letting
 pub mod Listed
 pub mod Looked

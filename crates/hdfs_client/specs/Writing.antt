@@ -134,10 +134,11 @@ abbrev pub LetsCloseOf : (Request → Type 0) → (Ask → Answer → Type 0) �
 LetsCloseOf allows may_answer client writer =
     OfOpen (λ namenode file. LetsClose allows may_answer (name_of namenode) (files.path_of file) (files.file_id_of file)) client writer
 
--- What a call of a client leaves of files that are open: each reader of the client is one still, and so is each writer that was one over the
--- cluster, with what was answered to it, and with the leave that it has.
+-- What a call of a client leaves of files that are open, or are to be opened: each reader of the client is one still, and so is each writer that
+-- was one over the cluster, with what was answered to it, and with the leave that it has; a path that leads to a whole service does so still.
 pub record KeepsFiles (allows : Request → Type 0) (may_answer : Ask → Answer → Type 0) (client : Client) (old : Shown) (client' : Client)
     (new : Shown) : Type 0 where
+  pub whole : (src : List ℕ) → ReachesWhole client src old → ReachesWhole client' src new
   pub readers : (reader : FileReader) → ReadsBy client reader → ReadsBy client' reader
   pub stand : (writer : FileWriter) → IsWriterOf client old writer → IsWriterOf client' new writer
   pub answered : (writer : FileWriter) → IsAnsweredTo may_answer client writer → IsAnsweredTo may_answer client' writer
@@ -156,6 +157,7 @@ AreApart writer other = (link : ℕ) → link_of writer ≡ Some link → link_o
 -- alone still.
 pub record KeepsOthers (allows : Request → Type 0) (may_answer : Ask → Answer → Type 0) (client : Client) (old : Shown) (writer : FileWriter)
     (client' : Client) (new : Shown) (writer' : FileWriter) : Type 0 where
+  pub whole : (src : List ℕ) → ReachesWhole client src old → ReachesWhole client' src new
   pub readers : (reader : FileReader) → ReadsBy client reader → ReadsBy client' reader
   pub stand : (other : FileWriter) → AreApart writer other → IsWriterOf client old other → IsWriterOf client' new other × AreApart writer' other
   pub answered : (other : FileWriter) → IsAnsweredTo may_answer client other → IsAnsweredTo may_answer client' other

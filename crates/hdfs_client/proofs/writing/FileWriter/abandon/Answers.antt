@@ -2,7 +2,7 @@
 use Rattle.std.proofs.Common.{◌≡◌, Option, None}
 use Rattle.hdfs_file_writer.specs.Writers as files
 use Rattle.hdfs_client.specs.Writing.{link_of}
-use Rattle.hdfs_client.proofs.Beside.{of_named, own_left, services_changed, stands_apart, still_reads}
+use Rattle.hdfs_client.proofs.Beside.{of_named, own_left, services_changed, stands_apart, still_reads, still_whole}
 use Rattle.hdfs_client.proofs.Leased.{by_namenodes}
 use Rattle.hdfs_cluster.specs.Requests.{LetsClose, LetsWrite}
 use Rattle.hdfs_client.proofs.writing.FileWriter.abandon.Goals as goal
@@ -13,6 +13,7 @@ returns-clause-others g c =
     let own : files.OnlyOwnLink (g.C.Cluster.shown c.args.cluster.now) (link_of c.args.self) (g.C.Cluster.shown c.leave.new.cluster) None =
     own_left g.C.Cluster.shown c.args.cluster.now c.leave.new.cluster c.args.self.file c.leave.ensures.shut (λ file is. (c.leave.ensures.left file is).0) in
     record {
+      whole = still_whole services own.later;
       readers = still_reads services;
       stand = λ other apart of. (stands_apart services own other apart of, apart);
       answered = of_named services (λ name file. files.IsAnswered g.C.Cluster.may_answer name file);

@@ -1,5 +1,5 @@
 -- A cluster in memory lets all be asked.
-use Rattle.hdfs_step_tests.proofs.Leave.{lets_text}
+use Rattle.hdfs_client.proofs.Leave.{lets_text}
 use Rattle.hdfs_step_tests.proofs.memory.globbing.glob.Goals as goal
 
 pub glob_status-found-requires-clause-allowed : goal.glob_status-found-requires-clause-allowed

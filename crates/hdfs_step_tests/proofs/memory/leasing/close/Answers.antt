@@ -1,5 +1,5 @@
 -- A cluster in memory lets all be asked.
-use Rattle.hdfs_step_tests.proofs.Leave.{lets_close}
+use Rattle.hdfs_client.proofs.Leave.{lets_close}
 use Rattle.hdfs_step_tests.proofs.memory.leasing.close.Goals as goal
 
 pub close-closed-requires-clause-allowed : goal.close-closed-requires-clause-allowed

@@ -1,5 +1,5 @@
 -- A cluster in memory lets all be asked, and answers what it may.
-use Rattle.hdfs_step_tests.proofs.Leave.{lets_append}
+use Rattle.hdfs_client.proofs.Leave.{lets_append}
 use Rattle.hdfs_step_tests.proofs.memory.storing.append_by.Goals as goal
 
 pub append-requires-clause-allowed : goal.append-requires-clause-allowed

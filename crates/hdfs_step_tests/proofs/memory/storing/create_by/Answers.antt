@@ -1,5 +1,5 @@
 -- A cluster in memory lets all be asked, and answers what it may.
-use Rattle.hdfs_step_tests.proofs.Leave.{lets_create}
+use Rattle.hdfs_client.proofs.Leave.{lets_create}
 use Rattle.hdfs_step_tests.proofs.memory.storing.create_by.Goals as goal
 
 pub create-requires-clause-allowed : goal.create-requires-clause-allowed

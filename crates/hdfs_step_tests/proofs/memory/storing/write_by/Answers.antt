@@ -1,5 +1,5 @@
 -- A cluster in memory lets all be asked.
-use Rattle.hdfs_step_tests.proofs.Leave.{lets_close, lets_write}
+use Rattle.hdfs_client.proofs.Leave.{lets_close, lets_write}
 use Rattle.hdfs_step_tests.proofs.memory.storing.write_by.Goals as goal
 
 pub write-written-requires-clause-allowed : goal.write-written-requires-clause-allowed
