@@ -5,13 +5,8 @@ use Rattle.std.specs.List.{list_any}
 use Rattle.hdfs_cluster.specs.declared.picture.Entry.{Entry}
 use Rattle.hdfs_cluster.specs.Names.{IsNameIn, is_before}
 use Rattle.hdfs_names.specs.Paths.{is_slash}
-use Rattle.hdfs_mem_namenode.specs.Listing.{IsNext, NoneBehind}
+use Rattle.hdfs_mem_namenode.specs.Listing.{IsNext, NoneBehind, Starts}
 use Rattle.hdfs_mem_namenode.proofs.Bytes.{before_from, before_front, before_trans, before_upto, begins_so, between_slash, zero_behind, zero_next}
-
-pub record Starts (names : List ℕ → Option Entry) (front after start : List ℕ) : Type 0 where
-  pub begins : (x : List ℕ) × (start ≡ front ++ x)
-  pub behind : is_before (front ++ after) start ≡ true
-  pub first : (other : List ℕ) → IsNameIn names front other → is_before after other ≡ true → is_before (front ++ other) start ≡ false
 
 module _ (names : List ℕ → Option Entry) (front after : List ℕ) where
   pub starts_first : Starts names front after ((front ++ after) ++ 0 ∷ [])

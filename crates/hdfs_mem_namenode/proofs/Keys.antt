@@ -14,6 +14,7 @@ use Rattle.std.specs.declared.cmp.Ordering.{Ordering}
 use Rattle.std.specs.declared.cmp.Ordering.TheVariants.{Less, Equal, Greater}
 use Rattle.std.specs.String.{string_bytes, string_cmp}
 use Rattle.hdfs_cluster.specs.Names.{is_before}
+use Rattle.hdfs_mem_namenode.specs.Listing.{count_from}
 use Rattle.hdfs_mem_namenode.proofs.Bytes.{before_cmp, before_trans, before_upto}
 use Rattle.hdfs_mem_namenode.proofs.Directories.{some_known}
 
@@ -53,10 +54,6 @@ module _ {A X : Type 0} (m : BTreeMap (String A) X) where
       let within : is_gt (string_cmp start k.0) ≡ false = after_cmp (string_bytes start) (string_bytes k.0) ∙ ap (λ (l : List ℕ). is_before l (string_bytes start)) (sym k.1) ∙ from in
       ap (λ (l : List ℕ). is_before l (string_bytes first)) k.1 ∙ sym (after_cmp (string_bytes first) (string_bytes k.0))
       ∙ least k.0 within (subst (λ (l : List ℕ). is_some (get_by_text m l) ≡ true) k.1 some)
-
--- how many texts don't stand before this one
-abbrev pub count_from : {A X : Type 0} → List (String A × X) → List ℕ → ℕ
-count_from es start = length (filter (λ e. not (is_before (string_bytes e.0) start)) es)
 
 not_true : (b : Bool) → b ≡ true → not b ≡ false
 not_true b is = ap not is

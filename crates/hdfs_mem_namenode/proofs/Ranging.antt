@@ -18,15 +18,17 @@ use Rattle.std.specs.Str.{bytes_eq}
 use Rattle.std.specs.String.{string_bytes, string_cmp, string_cmp_total}
 use Rattle.std.specs.declared.cmp.Ordering.{Ordering}
 use Rattle.std.specs.declared.cmp.Ordering.TheVariants.{Less, Equal, Greater}
+use Rattle.hdfs_cluster.specs.declared.messages.FileStatusMsg.{FileStatusMsg}
+use Rattle.hdfs_cluster.specs.declared.picture.BlockEntry.{BlockEntry}
 use Rattle.hdfs_cluster.specs.declared.picture.Entry.{Entry}
 use Rattle.hdfs_cluster.specs.Names.{is_before}
 use Rattle.hdfs_names.specs.Paths.{is_slash}
-use Rattle.hdfs_mem_namenode.specs.Listing.{CountsBehind}
+use Rattle.hdfs_mem_namenode.specs.Listing.{AreFrom, CountsBehind, GoesOn, IsNext, IsUnderWay, NoneBehind, Starts, count_from}
 use Rattle.hdfs_mem_namenode.proofs.Bytes.{before_cmp, before_from, before_itself, before_not, before_trans, zero_behind, zero_next}
-use Rattle.hdfs_mem_namenode.proofs.Children.{Starts, past_behind, starts_first, starts_next, starts_none, starts_outside, starts_past}
+use Rattle.hdfs_mem_namenode.proofs.Children.{past_behind, starts_first, starts_next, starts_none, starts_outside, starts_past}
 use Rattle.hdfs_mem_namenode.proofs.Directories.{some_known}
-use Rattle.hdfs_mem_namenode.proofs.Keys.{after_cmp, count_from, fewer_from}
-use Rattle.hdfs_mem_namenode.proofs.Pages.{CountsTo, counted_all, counted_more, none_counted}
+use Rattle.hdfs_mem_namenode.proofs.Keys.{after_cmp, fewer_from}
+use Rattle.hdfs_mem_namenode.proofs.Pages.{CountsTo, Listed, counted_all, counted_more, none_counted}
 
 -- a key isn't past a text exactly where it doesn't stand before it
 pub from_key : {A : Type 0} (start k : String A) → is_le (string_cmp start k) ≡ not (is_before (string_bytes k) (string_bytes start))
@@ -82,21 +84,13 @@ abbrev pub stands_from : {A X : Type 0} → List ℕ → String A × X → Bool
 stands_from start e = not (is_before (string_bytes e.0) start)
 
 module _ {A X : Type 0} (m : BTreeMap (String A) X) where
-  -- these are the entries from a text on
-  pub record AreFrom (start : List ℕ) (rest : List (String A × X)) : Type 0 where
-    pub sorted : IsStrictlySortedBy string_cmp (keys_of rest)
-    pub there : All (λ e. get_by_text m (string_bytes e.0) ≡ Some e.1) rest
-    pub from : All (λ e. is_before (string_bytes e.0) start ≡ false) rest
-    pub all : (q : List ℕ) → IsSome (get_by_text m q) → is_before q start ≡ false → list_any (λ e. bytes_eq q (string_bytes e.0)) rest ≡ true
-    pub counted : count_from m.entries start ≤ length rest
-
   weaker_all : (start : List ℕ) (es : List (String A × X)) → All (λ e. stands_from start e ≡ true) es → All (λ e. is_before (string_bytes e.0) start ≡ false) es
   weaker_all start [] all = All-nil (λ e. is_before (string_bytes e.0) start ≡ false)
   weaker_all start (e ∷ es) all =
       All-cons (λ e. is_before (string_bytes e.0) start ≡ false) e es (was_false (is_before (string_bytes e.0) start) (All-head (λ e. stands_from start e ≡ true) e es all))
       (weaker_all start es (All-tail (λ e. stands_from start e ≡ true) e es all))
 
-  pub are_from : IsOrdered string_cmp m → (start : List ℕ) → AreFrom start (filter (stands_from start) m.entries)
+  pub are_from : IsOrdered string_cmp m → (start : List ℕ) → AreFrom m start (filter (stands_from start) m.entries)
   are_from ordered start = record {
     sorted = subst (IsStrictlySortedBy string_cmp) (sym (keys_filter (λ k. not (is_before (string_bytes k) start)) m.entries)) (IsStrictlySortedBy-filter string_cmp (λ k. not (is_before (string_bytes k) start)) (keys_of m.entries) ordered);
     there = All-filter (stands_from start) (λ e. get_by_text m (string_bytes e.0) ≡ Some e.1) m.entries (All-found string_cmp_total m ordered);
@@ -115,14 +109,14 @@ module _ {A X : Type 0} (m : BTreeMap (String A) X) where
           (ap not (ap (λ (l : List ℕ). is_before l start) (sym same) ∙ from)) is
 
   -- there is none
-  pub from_none : (start : List ℕ) → AreFrom start [] → (q : List ℕ) → IsSome (get_by_text m q) → is_before q start ≡ true
+  pub from_none : (start : List ℕ) → AreFrom m start [] → (q : List ℕ) → IsSome (get_by_text m q) → is_before q start ≡ true
   from_none start are q some = by (is_before q start) refl
     where
       by : (b : Bool) → is_before q start ≡ b → b ≡ true
       by true is = refl
       by false is = absurd (false≢true (are.all q some is))
 
-  module _ (start : List ℕ) (e : String A × X) (rest : List (String A × X)) (are : AreFrom start (e ∷ rest)) where
+  module _ (start : List ℕ) (e : String A × X) (rest : List (String A × X)) (are : AreFrom m start (e ∷ rest)) where
     abbrev key : List ℕ
     key = string_bytes e.0
 
@@ -159,7 +153,7 @@ module _ {A X : Type 0} (m : BTreeMap (String A) X) where
         All-cons (λ e. is_before (string_bytes e.0) (key ++ 0 ∷ []) ≡ false) x es (zero_next key (string_bytes x.0) (less_before x.0 (All-head (λ k. string_cmp e.0 k ≡ Less) x.0 (keys_of es) all)))
         (next_from es (All-tail (λ k. string_cmp e.0 k ≡ Less) x.0 (keys_of es) all))
 
-    pub next_are : AreFrom (key ++ 0 ∷ []) rest
+    pub next_are : AreFrom m (key ++ 0 ∷ []) rest
     next_are = record {
       sorted = sorted_tail string_cmp e.0 (keys_of rest) are.sorted;
       there = All-tail (λ e. get_by_text m (string_bytes e.0) ≡ Some e.1) e rest are.there;
@@ -180,74 +174,92 @@ module _ {A X : Type 0} (m : BTreeMap (String A) X) where
     pub fewer_entries : (next : List ℕ) → is_before key next ≡ true → length (filter (stands_from next) m.entries) < length (e ∷ rest)
     fewer_entries next behind = (let fewer = fewer_from m start next key (ap is_some here) from_start behind in let so_far = are.counted in omega (arith, fewer, so_far))
 
--- so many names behind a text were counted, and these are the entries that are left
-pub record CountsAlong {A : Type 0} (m : BTreeMap (String A) Entry) (front after : List ℕ) (count : ℕ) (rest : List (String A × Entry)) : Type 0 where
-  pub last : List ℕ
-  pub start : List ℕ
-  pub counts : CountsTo (get_by_text m) front after count last
-  pub starts : Starts (get_by_text m) front last start
-  pub are : AreFrom m start rest
-
--- the first of these entries
-pub along_first : {A : Type 0} (m : BTreeMap (String A) Entry) (front after : List ℕ) → IsOrdered string_cmp m → (rest : List (String A × Entry)) (text : List ℕ) → text ≡ (front ++ after) ++ 0 ∷ [] → rest ≡ filter (stands_from text) m.entries
-    → CountsAlong m front after 0 rest
-along_first m front after ordered rest text is entries = record {
-  last = after;
+-- the entries from behind a name on
+pub goes_first : {A : Type 0} (m : BTreeMap (String A) Entry) (front after : List ℕ) → IsOrdered string_cmp m → (rest : List (String A × Entry)) (text : List ℕ) → text ≡ (front ++ after) ++ 0 ∷ [] → rest ≡ filter (stands_from text) m.entries
+    → GoesOn m front after rest
+goes_first m front after ordered rest text is entries = record {
   start = text;
-  counts = none_counted (get_by_text m) front after;
   starts = subst (Starts (get_by_text m) front after) (sym is) (starts_first (get_by_text m) front after);
   are = subst (AreFrom m text) (sym entries) (are_from m ordered text);
 }
 
--- none is left
-pub along_none : {A : Type 0} (m : BTreeMap (String A) Entry) (front after : List ℕ) (count : ℕ) (old : List (String A × Entry)) → CountsAlong m front after count old → old ≡ [] → CountsBehind (get_by_text m) front after count
-along_none m front after count old along none =
-    counted_all (get_by_text m) front after count along.last along.counts
-    (starts_none (get_by_text m) front along.last along.start along.starts (from_none m along.start (subst (AreFrom m along.start) none along.are)))
-
-module _ {A : Type 0} (m : BTreeMap (String A) Entry) (front after : List ℕ) (count : ℕ) (old : List (String A × Entry)) (along : CountsAlong m front after count old) (e : String A × Entry) (rest : List (String A × Entry)) (steps : old ≡ e ∷ rest) where
+module _ {A : Type 0} (m : BTreeMap (String A) Entry) (front last : List ℕ) (old : List (String A × Entry)) (goes : GoesOn m front last old) where
   abbrev names : List ℕ → Option Entry
   names = get_by_text m
 
-  are' : AreFrom m along.start (e ∷ rest)
-  are' = subst (AreFrom m along.start) steps along.are
+  -- none is left
+  pub goes_none : old ≡ [] → NoneBehind names front last
+  goes_none none = starts_none names front last goes.start goes.starts (from_none m goes.start (subst (AreFrom m goes.start) none goes.are))
 
-  -- it doesn't begin so
-  pub along_outside : ((r : List ℕ) → string_bytes e.0 ≡ front ++ r → ⊥) → CountsBehind names front after count
-  along_outside outside =
-      counted_all names front after count along.last along.counts
-      (starts_outside names front along.last along.start along.starts (string_bytes e.0) (from_start m along.start e rest are') (least m along.start e rest are') outside)
+  module _ (e : String A × Entry) (rest : List (String A × Entry)) (steps : old ≡ e ∷ rest) where
+    are' : AreFrom m goes.start (e ∷ rest)
+    are' = subst (AreFrom m goes.start) steps goes.are
 
-  module _ (name : List ℕ) (is : string_bytes e.0 ≡ front ++ name) where
-    -- it is a name in the directory
-    pub along_child : list_any is_slash name ≡ false → (count' : ℕ) → count' ≡ count + 1 → CountsAlong m front after count' rest
-    along_child plain count' more = record {
-      last = name;
-      start = string_bytes e.0 ++ 0 ∷ [];
-      counts = subst (λ (n : ℕ). CountsTo names front after n name) (sym more)
-          (counted_more names front after count along.last along.counts name
-          (starts_next names front along.last along.start along.starts (string_bytes e.0) (from_start m along.start e rest are') (least m along.start e rest are') name is (ap is_some (here m along.start e rest are')) plain));
-      starts = subst (Starts names front name) (ap (λ (l : List ℕ). l ++ 0 ∷ []) (sym is)) (starts_first names front name);
-      are = next_are m along.start e rest are';
-    }
+    -- the first one doesn't begin so
+    pub goes_outside : ((r : List ℕ) → string_bytes e.0 ≡ front ++ r → ⊥) → NoneBehind names front last
+    goes_outside outside = starts_outside names front last goes.start goes.starts (string_bytes e.0) (from_start m goes.start e rest are') (least m goes.start e rest are') outside
 
-    module _ (part tail : List ℕ) (parts : name ≡ part ++ 47 ∷ tail) (text : List ℕ) (at : text ≡ (front ++ part) ++ 48 ∷ []) (fresh : List (String A × Entry)) (entries : fresh ≡ filter (stands_from text) m.entries) where
-      -- it lies in a directory of the directory, which is passed over
-      pub along_past : IsOrdered string_cmp m → CountsAlong m front after count fresh
-      along_past ordered = record {
-        last = along.last;
-        start = text;
-        counts = along.counts;
-        starts = subst (Starts names front along.last) (sym at)
-            (starts_past names front along.last along.start along.starts (string_bytes e.0) (from_start m along.start e rest are') (least m along.start e rest are') name is part tail parts);
-        are = subst (AreFrom m text) (sym entries) (are_from m ordered text);
+    module _ (name : List ℕ) (is : string_bytes e.0 ≡ front ++ name) where
+      -- it is a name in the directory
+      pub goes_next : list_any is_slash name ≡ false → IsNext names front last name
+      goes_next plain =
+          starts_next names front last goes.start goes.starts (string_bytes e.0) (from_start m goes.start e rest are') (least m goes.start e rest are') name is (ap is_some (here m goes.start e rest are')) plain
+
+      pub goes_here : get_by_text m (string_bytes e.0) ≡ Some e.1
+      goes_here = here m goes.start e rest are'
+
+      pub goes_behind : GoesOn m front name rest
+      goes_behind = record {
+        start = string_bytes e.0 ++ 0 ∷ [];
+        starts = subst (Starts names front name) (ap (λ (l : List ℕ). l ++ 0 ∷ []) (sym is)) (starts_first names front name);
+        are = next_are m goes.start e rest are';
       }
 
-      pub along_fewer : length fresh < length old
-      along_fewer =
-          let behind : is_before (string_bytes e.0) text ≡ true = ap (is_before (string_bytes e.0)) at
-          ∙ past_behind names front along.last along.start along.starts (string_bytes e.0) (from_start m along.start e rest are') (least m along.start e rest are') name is part tail parts in
-          let fewer = fewer_entries m along.start e rest are' text behind in
-          let now = ap length entries in
-          let was = ap length steps in
-          omega (arith, fewer, now, was)
+      module _ (part tail : List ℕ) (parts : name ≡ part ++ 47 ∷ tail) (text : List ℕ) (at : text ≡ (front ++ part) ++ 48 ∷ []) (fresh : List (String A × Entry)) (entries : fresh ≡ filter (stands_from text) m.entries) where
+        -- it lies in a directory of the directory, which is passed over
+        pub goes_past : IsOrdered string_cmp m → GoesOn m front last fresh
+        goes_past ordered = record {
+          start = text;
+          starts = subst (Starts names front last) (sym at)
+              (starts_past names front last goes.start goes.starts (string_bytes e.0) (from_start m goes.start e rest are') (least m goes.start e rest are') name is part tail parts);
+          are = subst (AreFrom m text) (sym entries) (are_from m ordered text);
+        }
+
+        pub goes_fewer : length fresh < length old
+        goes_fewer =
+            let behind : is_before (string_bytes e.0) text ≡ true = ap (is_before (string_bytes e.0)) at
+            ∙ past_behind names front last goes.start goes.starts (string_bytes e.0) (from_start m goes.start e rest are') (least m goes.start e rest are') name is part tail parts in
+            let fewer = fewer_entries m goes.start e rest are' text behind in
+            let now = ap length entries in
+            let was = ap length steps in
+            omega (arith, fewer, now, was)
+
+-- so many names behind a text were counted, and these are the entries that are left
+pub record CountsAlong {A : Type 0} (m : BTreeMap (String A) Entry) (front after : List ℕ) (count : ℕ) (rest : List (String A × Entry)) : Type 0 where
+  pub last : List ℕ
+  pub counts : CountsTo (get_by_text m) front after count last
+  pub goes : GoesOn m front last rest
+
+pub along_first : {A : Type 0} (m : BTreeMap (String A) Entry) (front after : List ℕ) (rest : List (String A × Entry)) → GoesOn m front after rest → CountsAlong m front after 0 rest
+along_first m front after rest goes = record { last = after; counts = none_counted (get_by_text m) front after; goes = goes }
+
+module _ {A : Type 0} (m : BTreeMap (String A) Entry) (front after : List ℕ) (count : ℕ) (old : List (String A × Entry)) (along : CountsAlong m front after count old) where
+  pub along_none : NoneBehind (get_by_text m) front along.last → CountsBehind (get_by_text m) front after count
+  along_none none = counted_all (get_by_text m) front after count along.last along.counts none
+
+  pub along_child : (name : List ℕ) (rest : List (String A × Entry)) → IsNext (get_by_text m) front along.last name → GoesOn m front name rest → (count' : ℕ) → count' ≡ count + 1 → CountsAlong m front after count' rest
+  along_child name rest next goes count' more = record {
+    last = name;
+    counts = subst (λ (n : ℕ). CountsTo (get_by_text m) front after n name) (sym more) (counted_more (get_by_text m) front after count along.last along.counts name next);
+    goes = goes;
+  }
+
+-- these names behind a text were listed, and these are the entries that are left
+pub record ListedAlong {A : Type 0} (m : BTreeMap (String A) Entry) (table : ℕ → Option BlockEntry) (front from : List ℕ) (listing : List FileStatusMsg) (rest : List (String A × Entry)) : Type 0 where
+  pub last : List ℕ
+  pub listed : Listed (get_by_text m) table front from listing last
+  pub goes : GoesOn m front last rest
+
+-- it is so of a front that has the same bytes
+pub under_way : {A : Type 0} (m : BTreeMap (String A) Entry) (front front' last : List ℕ) (rest : List (String A × Entry)) → front' ≡ front → GoesOn m front last rest → IsUnderWay m front' rest
+under_way m front front' last rest same goes = record { last = last; goes = subst (λ (f : List ℕ). GoesOn m f last rest) (sym same) goes }

@@ -1,5 +1,5 @@
 //! What stands in a directory of a cluster in memory, page by page.
-ghost use Rattle.std.specs.Prelude.{◌≡◌, not, true, IsSome, ◌++◌, ◌∷◌, ℕ, List, [], false, Some, None, string_bytes, IfOk, IfErr, MatchOption};
+ghost use Rattle.std.specs.Prelude.{◌≡◌, ◌<◌, not, true, IsSome, length, ◌++◌, ◌∷◌, ℕ, List, [], false, Some, None, string_bytes, IfOk, IfErr, MatchOption};
 ghost use Rattle.std.specs.BTreeMap.{IsOrdered, get_by_text};
 ghost use Rattle.std.specs.List.{filter, list_any};
 ghost use Rattle.std.specs.String.{string_cmp};
@@ -9,7 +9,7 @@ ghost use Rattle.hdfs_cluster.specs.Picture.{kinds_in};
 ghost use Rattle.hdfs_cluster.specs.Refusals.{above_refusal};
 ghost use Rattle.hdfs_names.specs.Paths.{is_slash};
 ghost use Rattle.hdfs_mem_namenode.specs.Answering.{StandsForWritten};
-ghost use Rattle.hdfs_mem_namenode.specs.Listing.{CountsBehind, IsNext, IsPage, Lists, NoneBehind};
+ghost use Rattle.hdfs_mem_namenode.specs.Listing.{CountsBehind, GoesOn, IsNext, IsPage, IsUnderWay, Lists, NoneBehind};
 ghost use Rattle.hdfs_mem_namenode.specs.Looking.{TellsOf};
 ghost use Rattle.hdfs_mem_namenode.specs.Memory.{table_of};
 
@@ -99,56 +99,69 @@ fn entries_from<'a>(names: &'a BTreeMap<String, Entry>, start: &String) -> Range
 }
 
 impl Namespace {
-    /// What stands in the directory whose paths begin so, by the first name behind this one. What lies in its directories is passed over.
-    fn next_child(
+    /// The entries among which the names of the directory whose paths begin so are found that stand behind this one.
+    fn entries_behind(
         &self,
         alloc: Global,
         front: &str,
         after: &str,
-    ) -> Result<Option<Child<'_>>, NoMemory>
-        ensures { IfOk result (λ next. MatchOption next (NoneBehind (get_by_text self.now.names) front.now after.now)
-            (λ child. (child.path.now ≡ front.now ++ child.name.now)
-            × (get_by_text self.now.names child.path.now ≡ Some child.entry.now)
-            × IsNext (get_by_text self.now.names) front.now after.now child.name.now)) }
+    ) -> Result<Range<'_, String, Entry>, NoMemory>
+        ensures { IfOk result (GoesOn self.now.names front.now after.now) }
     {
         let mut start = joined(alloc, front, after)?;
         start.push_str("\0")?;
-        while let Some((path, entry)) = first_from(&self.names, &start) {
+        Ok(entries_from(&self.names, &start))
+    }
+
+    /// What stands in the directory whose paths begin so, by the first name among these entries, which go on behind it. What lies in its
+    /// directories is passed over.
+    fn next_child<'a>(
+        &'a self,
+        alloc: Global,
+        front: &str,
+        rest: &mut Range<'a, String, Entry>,
+    ) -> Result<Option<Child<'a>>, NoMemory>
+        requires { IsUnderWay self.now.names front.now rest.old }
+        ensures next { (last : List ℕ) → GoesOn self.now.names front.now last rest.old
+            → IfOk result (λ next. MatchOption next (NoneBehind (get_by_text self.now.names) front.now last)
+            (λ child. (child.path.now ≡ front.now ++ child.name.now)
+            × (get_by_text self.now.names child.path.now ≡ Some child.entry.now)
+            × IsNext (get_by_text self.now.names) front.now last child.name.now
+            × GoesOn self.now.names front.now child.name.now rest.new)) }
+        ensures fewer { IfOk result (λ next. IsSome next → length rest.new < length rest.old) }
+    {
+        while let Some((key, entry)) = rest.next() {
+            let path = key.as_str();
             let Some(name) = behind(path, front) else {
                 return Ok(None);
             };
             let Some(part) = first_part(name) else {
                 return Ok(Some(Child { path, name, entry }));
             };
-            start = joined(alloc, front, part)?;
-            start.push_str("0")?;
+            let mut past = joined(alloc, front, part)?;
+            past.push_str("0")?;
+            *rest = entries_from(&self.names, &past);
         }
         Ok(None)
     }
 
-    /// How many names in the directory whose paths begin so stand behind this one. They are counted as they stand in the map; what lies in
-    /// its directories is passed over.
-    fn count_behind(&self, alloc: Global, front: &str, after: &str) -> Result<u32, NoMemory>
-        ensures { IfOk result (CountsBehind (get_by_text self.now.names) front.now after.now) }
+    /// How many names of the directory whose paths begin so are among these entries.
+    fn count_in<'a>(
+        &'a self,
+        alloc: Global,
+        front: &str,
+        mut rest: Range<'a, String, Entry>,
+    ) -> Result<u32, NoMemory>
+        requires { IsUnderWay self.now.names front.now rest }
+        ensures { (last : List ℕ) → GoesOn self.now.names front.now last rest.entry
+            → IfOk result (CountsBehind (get_by_text self.now.names) front.now last) }
     {
-        let mut start = joined(alloc, front, after)?;
-        start.push_str("\0")?;
-        let mut rest = entries_from(&self.names, &start);
         let mut count: u32 = 0;
-        while let Some((path, _)) = rest.next() {
-            let Some(name) = behind(path.as_str(), front) else {
-                return Ok(count);
+        'children: while let Some(_) = self.next_child(alloc, front, &mut rest)? {
+            let Some(more) = count.checked_add(1) else {
+                return Err(NoMemory);
             };
-            let Some(part) = first_part(name) else {
-                let Some(more) = count.checked_add(1) else {
-                    return Err(NoMemory);
-                };
-                count = more;
-                continue;
-            };
-            let mut past = joined(alloc, front, part)?;
-            past.push_str("0")?;
-            rest = entries_from(&self.names, &past);
+            count = more;
         }
         Ok(count)
     }
@@ -158,19 +171,18 @@ impl Namespace {
         ensures { IfOk result (IsPage (get_by_text self.now.names) (table_of self.now.table.entries) dir.now from.now) }
     {
         let front = front_of(alloc, dir)?;
-        let mut last = from;
+        let mut rest = self.entries_behind(alloc, front.as_str(), from)?;
         let mut listing = Vec::new(alloc);
         while listing.len() < PAGE {
-            let Some(child) = self.next_child(alloc, front.as_str(), last)? else {
+            let Some(child) = self.next_child(alloc, front.as_str(), &mut rest)? else {
                 return Ok(DirList {
                     partial_listing: List::from_vec(listing),
                     remaining_entries: 0,
                 });
             };
             listing.push(self.tell(alloc, child.path, child.entry, child.name)?)?;
-            last = child.name;
         }
-        let remaining_entries = self.count_behind(alloc, front.as_str(), last)?;
+        let remaining_entries = self.count_in(alloc, front.as_str(), rest)?;
         Ok(DirList {
             partial_listing: List::from_vec(listing),
             remaining_entries,

@@ -1,7 +1,7 @@
 use Rattle.std.specs.BTreeMap.{get_by_text}
 use Rattle.std.specs.String.{string_bytes}
+use Rattle.hdfs_mem_namenode.specs.Listing.{count_from}
 use Rattle.hdfs_mem_namenode.proofs.Below.{Collects}
-use Rattle.hdfs_mem_namenode.proofs.Keys.{count_from}
 use Rattle.hdfs_mem_namenode.proofs.deleting.keys_below.Given as goal
 
 abbrev pub invariant-loop-path : goal.invariant-loop-path

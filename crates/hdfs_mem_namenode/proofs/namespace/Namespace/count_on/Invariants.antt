@@ -1,8 +1,8 @@
 use Rattle.std.specs.BTreeMap.{get_by_text}
 use Rattle.std.specs.String.{string_bytes}
+use Rattle.hdfs_mem_namenode.specs.Listing.{count_from}
 use Rattle.hdfs_mem_namenode.specs.Memory.{table_of}
 use Rattle.hdfs_mem_namenode.proofs.Gathering.{Counted}
-use Rattle.hdfs_mem_namenode.proofs.Keys.{count_from}
 use Rattle.hdfs_mem_namenode.proofs.namespace.Namespace.count_on.Given as goal
 
 abbrev pub invariant-loop-path : goal.invariant-loop-path

@@ -1,11 +1,15 @@
-use Rattle.std.specs.BTreeMap.{get_by_text}
-use Rattle.std.specs.String.{string_bytes}
-use Rattle.hdfs_mem_namenode.proofs.Children.{Starts}
-use Rattle.hdfs_mem_namenode.proofs.Keys.{count_from}
+use Rattle.std.proofs.Common.{ℕ, List, ◌≤◌, length}
+use Rattle.hdfs_mem_namenode.specs.Listing.{GoesOn, IsUnderWay}
 use Rattle.hdfs_mem_namenode.proofs.namespace.Namespace.next_child.Given as goal
 
-abbrev pub invariant-loop-path : goal.invariant-loop-path
-invariant-loop-path l = Starts (get_by_text l.self.names) l.front l.after (string_bytes l.start)
+-- what is passed over is no name in the directory, so the names behind the last one are among what is left
+abbrev pub invariant-loop-key : goal.invariant-loop-key
+invariant-loop-key l = record {
+  way : IsUnderWay l.self.names l.front l.rest;
+  same : (last : List ℕ) → GoesOn l.self.names l.front last l.initial.rest → GoesOn l.self.names l.front last l.rest;
+  few : length l.rest ≤ length l.initial.rest;
+}
 
-abbrev pub decreases-loop-path : goal.decreases-loop-path
-decreases-loop-path l = count_from l.self.names.entries (string_bytes l.start)
+-- each turn takes an entry, or begins again behind it
+abbrev pub decreases-loop-key : goal.decreases-loop-key
+decreases-loop-key l = length l.rest

@@ -1,16 +1,12 @@
-use denote.Shadow.{shadow}
-use denote.Text.{Utf8}
 use Rattle.std.proofs.Common.{◌-◌, ◌≤◌, length}
-use Rattle.std.specs.BTreeMap.{get_by_text}
 use Rattle.std.specs.String.{string_bytes}
 use Rattle.hdfs_mem_namenode.specs.Memory.{table_of}
-use Rattle.hdfs_mem_namenode.proofs.Pages.{Listed}
+use Rattle.hdfs_mem_namenode.proofs.Ranging.{ListedAlong}
 use Rattle.hdfs_mem_namenode.proofs.namespace.Namespace.page.Given as goal
 
 abbrev pub invariant-loop-alloc : goal.invariant-loop-alloc
 invariant-loop-alloc l = record {
-  utf8 : shadow (Utf8 l.last);
-  listed : Listed (get_by_text l.self.names) (table_of l.self.table.entries) (string_bytes l.front) l.from l.listing.items l.last;
+  along : ListedAlong l.self.names (table_of l.self.table.entries) (string_bytes l.front) l.from l.listing.items l.rest;
   few : length l.listing.items ≤ 1000;
 }
 
