@@ -1,14 +1,10 @@
-//! Tests of the program that are no cases of scripts: the texts of errors, what is told of them by their names, how a bad line is shown,
-//! words that are refused, sources and sinks that fail, and scripts that are too long.
+//! Tests of the program that are no cases of scripts: how a bad line is shown, words that are refused, sources and sinks that fail, and
+//! scripts that are too long.
 #![tactic(auto)]
 
 #[cfg(test)]
 mod bad_lines;
 #[cfg(test)]
-mod explanations;
-#[cfg(test)]
 mod long_scripts;
 #[cfg(test)]
 mod runs;
-#[cfg(test)]
-mod texts;

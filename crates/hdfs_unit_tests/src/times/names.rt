@@ -1,6 +1,6 @@
-// Files in one directory of a cluster in memory, which is listed page by page, or deleted, by a client of its one namenode.
-use crate::fault::Fault;
-use hdfs_cluster::{DirList, HdfsError, MemSettings};
+//! Files in one directory of a cluster in memory, which is listed page by page, or deleted, by a client of its one namenode.
+use hdfs_cluster::{DirList, HdfsError};
+use hdfs_fakes::cluster;
 use hdfs_mem_cluster::{MemCluster, let_go};
 use hdfs_namenode::{NameServiceProxy, NamenodeProtocol};
 use std::alloc::Global;
@@ -12,9 +12,9 @@ const DIR: &str = "/directory";
 const PAGES: usize = 1000;
 
 /// A client of the one namenode.
-fn client_of(alloc: Global) -> Result<NamenodeProtocol, Fault> {
+fn client_of(alloc: Global) -> Option<NamenodeProtocol> {
     let service = NameServiceProxy::new(0, 1, false, false);
-    Ok(NamenodeProtocol::new(alloc, service, [0; 16])?)
+    NamenodeProtocol::new(alloc, service, [0; 16]).ok()
 }
 
 /// Creates an empty file, and directories above it.
@@ -28,40 +28,50 @@ fn create(client: &mut NamenodeProtocol, cluster: &mut MemCluster, path: &str) -
     done
 }
 
+/// Creates the file of this number in the directory.
+fn create_part(
+    alloc: Global,
+    client: &mut NamenodeProtocol,
+    cluster: &mut MemCluster,
+    number: usize,
+) -> Option<bool> {
+    let path = format!(in alloc; "{DIR}/part-{number}").ok()?;
+    Some(create(client, cluster, path.as_str()))
+}
+
 /// Creates so many files in the directory.
 fn fill(
     alloc: Global,
     client: &mut NamenodeProtocol,
     cluster: &mut MemCluster,
     count: usize,
-) -> Result<(), Fault> {
+) -> Option<()> {
     for number in 0..count {
-        let path = format!(in alloc; "{DIR}/part-{number}")?;
-        if !create(client, cluster, path.as_str()) {
-            return Err(Fault::Refused);
+        if !create_part(alloc, client, cluster, number)? {
+            return None;
         }
     }
-    Ok(())
+    Some(())
 }
 
 /// The last name of a page, how many names it has, and whether none remains behind it.
-fn end_of(alloc: Global, page: &DirList) -> Result<(Vec<u8>, u64, bool), Fault> {
+fn end_of(alloc: Global, page: &DirList) -> Option<(Vec<u8>, u64, bool)> {
     let names = page.partial_listing.as_slice();
     let last = match names.last() {
         None => Vec::new(alloc),
-        Some(status) => Vec::from_slice(alloc, status.path.as_slice())?,
+        Some(status) => Vec::from_slice(alloc, status.path.as_slice()).ok()?,
     };
-    Ok((last, names.len() as u64, page.remaining_entries == 0))
+    Some((last, names.len() as u64, page.remaining_entries == 0))
 }
 
 /// The same of what a client is answered.
 fn page_of(
     alloc: Global,
     answered: &Result<Option<DirList>, HdfsError>,
-) -> Result<(Vec<u8>, u64, bool), Fault> {
+) -> Option<(Vec<u8>, u64, bool)> {
     match answered {
         Ok(Some(page)) => end_of(alloc, page),
-        _ => Err(Fault::Refused),
+        _ => None,
     }
 }
 
@@ -71,9 +81,9 @@ fn page_behind(
     client: &mut NamenodeProtocol,
     cluster: &mut MemCluster,
     name: &[u8],
-) -> Result<(Vec<u8>, u64, bool), Fault> {
+) -> Option<(Vec<u8>, u64, bool)> {
     if !client.is_service_of(&*cluster) {
-        return Err(Fault::Refused);
+        return None;
     }
     let answered = client.get_listing(cluster, DIR, name, false);
     let end = page_of(alloc, &answered);
@@ -82,11 +92,7 @@ fn page_behind(
 }
 
 /// Lists the directory page by page. Counts the names.
-fn list(
-    alloc: Global,
-    client: &mut NamenodeProtocol,
-    cluster: &mut MemCluster,
-) -> Result<u64, Fault> {
+fn list(alloc: Global, client: &mut NamenodeProtocol, cluster: &mut MemCluster) -> Option<u64> {
     let mut name = Vec::new(alloc);
     let mut count = 0u64;
     for _page in 0..PAGES {
@@ -94,10 +100,10 @@ fn list(
         name = last;
         count = count.saturating_add(names);
         if is_last {
-            return Ok(count);
+            return Some(count);
         }
     }
-    Err(Fault::Refused)
+    None
 }
 
 /// Deletes the directory with all that is in it.
@@ -114,6 +120,38 @@ fn delete(client: &mut NamenodeProtocol, cluster: &mut MemCluster) -> bool {
     done
 }
 
+/// Lists the directory so often. Counts the names.
+fn list_often(
+    alloc: Global,
+    client: &mut NamenodeProtocol,
+    cluster: &mut MemCluster,
+    times: usize,
+) -> Option<u64> {
+    let mut names = 0u64;
+    for _time in 0..times {
+        names = names.saturating_add(list(alloc, client, cluster)?);
+    }
+    Some(names)
+}
+
+/// Lists the directory of so many files so often, or deletes it, or does nothing. Counts the names.
+fn run_by(
+    alloc: Global,
+    client: &mut NamenodeProtocol,
+    cluster: &mut MemCluster,
+    deed: &str,
+    count: usize,
+    times: usize,
+) -> Option<u64> {
+    fill(alloc, client, cluster, count)?;
+    match deed {
+        "made" => Some(count as u64),
+        "deleted" if delete(client, cluster) => Some(count as u64),
+        "deleted" => None,
+        _ => list_often(alloc, client, cluster, times),
+    }
+}
+
 /// Fills the directory of a cluster with so many files, and then lists it so often, or deletes it. Counts the names.
 fn run(
     alloc: Global,
@@ -121,42 +159,28 @@ fn run(
     deed: &str,
     count: usize,
     times: usize,
-) -> Result<u64, Fault> {
+) -> Option<u64> {
     let mut client = client_of(alloc)?;
-    fill(alloc, &mut client, cluster, count)?;
-    if deed == "made" {
-        return Ok(count as u64);
-    }
-    if deed == "deleted" {
-        return if delete(&mut client, cluster) {
-            Ok(count as u64)
-        } else {
-            Err(Fault::Refused)
-        };
-    }
-    let mut names = 0u64;
-    for _time in 0..times {
-        names = names.saturating_add(list(alloc, &mut client, cluster)?);
-    }
-    Ok(names)
+    let names = run_by(alloc, &mut client, cluster, deed, count, times);
+    drop(client);
+    names
 }
 
 /// The same in a new cluster.
-fn run_anew(alloc: Global, deed: &str, count: usize, times: usize) -> Result<u64, Fault> {
-    let mut cluster = MemCluster::new(alloc, MemSettings::of_scripts())?;
-    let names = run(alloc, &mut cluster, deed, count, times);
-    let_go(cluster);
-    names
+fn run_anew(alloc: Global, deed: &str, count: usize, times: usize) -> Option<u64> {
+    match cluster(alloc) {
+        Ok(mut cluster) => {
+            let names = run(alloc, &mut cluster, deed, count, times);
+            let_go(cluster);
+            names
+        }
+        Err(_) => None,
+    }
 }
 
 /// Fills a directory with so many files and lists it `times` times; or fills one in a new cluster, and deletes it or doesn't, `times` times.
 /// Counts the names.
-pub(crate) fn count_names(
-    alloc: Global,
-    deed: &str,
-    count: usize,
-    times: usize,
-) -> Result<u64, Fault> {
+pub(crate) fn count_names(alloc: Global, deed: &str, count: usize, times: usize) -> Option<u64> {
     if deed == "listed" {
         return run_anew(alloc, deed, count, times);
     }
@@ -164,5 +188,5 @@ pub(crate) fn count_names(
     for _time in 0..times {
         names = names.saturating_add(run_anew(alloc, deed, count, 1)?);
     }
-    Ok(names)
+    Some(names)
 }

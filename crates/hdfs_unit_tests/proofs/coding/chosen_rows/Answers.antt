@@ -1,5 +1,6 @@
+-- Rows 2, 3 and 4 are three of the five rows of the matrix.
 use Rattle.std.proofs.Common.{refl, arith}
-use Rattle.hdfs_coding_tests.proofs.coder.chosen_rows.Goals as goal
+use Rattle.hdfs_unit_tests.proofs.coding.chosen_rows.Goals as goal
 
 pub select_rows-requires : goal.select_rows-requires
 select_rows-requires c =
