@@ -1,21 +1,23 @@
 //! Sessions that write a file of three replicas, or of one, while one call fails, or two: each is answered as by the plain program, or
 //! stops behind a part of its replies for a cause that the counts show.
 
-use crate::faults::{Ran, none_failed, pair_of, stops, told};
-use crate::{Ending, listed, noted, plain_answer, store_of};
+use crate::answers::{Ending, store_of};
+use crate::noting::{listed, noted};
+use crate::plain::plain_answer;
+use crate::sweep::faults::{Ran, none_failed, pair_of, stops, told};
 use hdfs_mem_cluster::{Counts, MemCluster, let_go};
 use std::alloc::Global;
 use std::test::Fail;
 
 /// How many sessions ran, how many of them were done, and how many stopped for each cause.
-#[derive(Clone, Copy, Debug, PartialEq, Eq)]
-pub struct Tally {
-    pub sessions: u64,
-    pub done: u64,
-    pub set_up: u64,
-    pub bad_ack: u64,
-    pub all_nodes: u64,
-    pub no_replacement: u64,
+#[derive(Clone, Copy, Debug)]
+pub(crate) struct Tally {
+    pub(crate) sessions: u64,
+    pub(crate) done: u64,
+    pub(crate) set_up: u64,
+    pub(crate) bad_ack: u64,
+    pub(crate) all_nodes: u64,
+    pub(crate) no_replacement: u64,
 }
 
 /// The settings of pipelines: when a datanode is added, whether writes go on without one, how many datanodes there are, and how many packets
@@ -300,7 +302,7 @@ fn check_pair(alloc: Global, tally: &mut Tally, way: u64, pair: u64) -> Result<(
 }
 
 /// Runs of the sessions, each with a pair of faults in a way, those with the numbers `first`, `first + step` and so on.
-pub fn check_pipelines(alloc: Global, first: usize, step: usize) -> Result<Tally, Fail> {
+pub(crate) fn check_pipelines(alloc: Global, first: usize, step: usize) -> Result<Tally, Fail> {
     let mut tally = Tally {
         sessions: 0,
         done: 0,

@@ -1,8 +1,10 @@
 //! Sessions with a single fault: what they answer, and what then stands at the other path.
 
-use crate::comparing::{COUNTS, calls_of, compare_to, wrong_answer};
-use crate::scripts::{PATHS, script_of};
-use hdfs_checking::{Ending, answer_in, plain_answer, stopped_behind, store_of};
+use crate::answers::{Ending, answer_in, store_of};
+use crate::plain::plain_answer;
+use crate::sweep::comparing::{COUNTS, calls_of, compare_to, wrong_answer};
+use crate::sweep::faults::stopped_behind;
+use crate::sweep::scripts::{PATHS, script_of};
 use hdfs_mem_cluster::{MemCluster, let_go};
 use std::alloc::Global;
 use std::test::Fail;

@@ -1,6 +1,6 @@
 //! Scripts over a cluster that can be looked at afterwards.
 
-use crate::{Ending, answer_on, store_of};
+use crate::answers::{Ending, SESSION, Way, answer_by, store_of};
 use hdfs_cluster::{Cluster, LocatedBlock, LocatedBlocks};
 use hdfs_mem_cluster::{MemCluster, let_go};
 use hdfs_namenode::{NameServiceProxy, NamenodeProtocol};
@@ -29,27 +29,38 @@ fn text_of(alloc: Global, store: &MemCluster, note: &mut Note) -> Result<String,
 /// What the program answers over a store, and the text of what it notes.
 fn noted_in(
     alloc: Global,
+    way: Way<'_>,
     script: &[u8],
     store: &mut MemCluster,
     note: &mut Note,
 ) -> Result<(Ending, String), Fail> {
-    let given = answer_on(alloc, script, store, note)?;
+    let given = answer_by(alloc, way, script, store, note)?;
     let text = text_of(alloc, store, note)?;
     Ok((given, text))
 }
 
-/// What the program answers over a store, and what it notes of that.
-pub fn noted(
+/// What the program answers over a store, by the way in which it is run, and what it notes of that.
+pub(crate) fn noted_by(
     alloc: Global,
+    way: Way<'_>,
     script: &[u8],
     store: &mut MemCluster,
 ) -> Result<(Ending, String), Fail> {
     let mut note = Box::new(alloc, Note::Nothing)?;
-    noted_in(alloc, script, store, &mut note)
+    noted_in(alloc, way, script, store, &mut note)
+}
+
+/// What the program answers in a session over a store, and what it notes of that.
+pub(crate) fn noted(
+    alloc: Global,
+    script: &[u8],
+    store: &mut MemCluster,
+) -> Result<(Ending, String), Fail> {
+    noted_by(alloc, SESSION, script, store)
 }
 
 /// What the program answers over a new cluster, and what it notes of that.
-pub fn noted_of_new(alloc: Global, script: &[u8]) -> Result<(Ending, String), Fail> {
+pub(crate) fn noted_of_new(alloc: Global, script: &[u8]) -> Result<(Ending, String), Fail> {
     let mut store = store_of(alloc, false)?;
     let told = noted(alloc, script, &mut store);
     let_go(store);
@@ -101,7 +112,7 @@ fn blocks_of(
 }
 
 /// The uuids of the datanodes that a namenode lists for the blocks of a file, block by block, each behind a blank.
-pub fn listed(alloc: Global, path: &str, store: &mut MemCluster) -> Result<String, Fail> {
+pub(crate) fn listed(alloc: Global, path: &str, store: &mut MemCluster) -> Result<String, Fail> {
     let found = blocks_of(alloc, path, store)?;
     let uuids = match &found {
         Some(found) => uuids_of(alloc, found),
@@ -112,7 +123,7 @@ pub fn listed(alloc: Global, path: &str, store: &mut MemCluster) -> Result<Strin
 }
 
 /// The stamps that a namenode lists for the blocks of a file, block by block, each behind a blank.
-pub fn stamps(alloc: Global, path: &str, store: &mut MemCluster) -> Result<String, Fail> {
+pub(crate) fn stamps(alloc: Global, path: &str, store: &mut MemCluster) -> Result<String, Fail> {
     let found = blocks_of(alloc, path, store)?;
     let stamps = match &found {
         Some(found) => stamps_of(alloc, found),

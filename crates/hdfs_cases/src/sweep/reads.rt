@@ -1,6 +1,7 @@
 //! Reads of a file of one replica to three, while a datanode fails once.
 
-use crate::{Ending, noted_of_new};
+use crate::answers::Ending;
+use crate::noting::noted_of_new;
 use std::alloc::Global;
 use std::test::Fail;
 
@@ -72,7 +73,7 @@ fn holds(alloc: Global, number: u64) -> Result<bool, Fail> {
 }
 
 /// How many of the 144 reads end as they should.
-pub fn check_reads(alloc: Global) -> Result<u64, Fail> {
+pub(crate) fn check_reads(alloc: Global) -> Result<u64, Fail> {
     let mut holding = 0u64;
     for number in 0..READS {
         if holds(alloc, number)? {

@@ -1,6 +1,7 @@
 //! All sessions of up to four calls, beside the plain program.
-use crate::scripts::{KINDS, script_of};
-use hdfs_checking::{Ending, answer, plain_answer};
+use crate::answers::{Ending, answer};
+use crate::plain::plain_answer;
+use crate::sweep::scripts::{KINDS, script_of};
 use std::alloc::Global;
 use std::test::Fail;
 
@@ -20,7 +21,10 @@ pub(crate) fn calls_of(number: usize) -> [usize; 4] {
 
 /// Why two answers to a script aren't the same.
 pub(crate) fn wrong_answer(script: &str, given: &Ending, plain: &Ending) -> Fail {
-    Fail::new(format_args!("{script}\nis answered by\n{given:?}\nand not by\n{plain:?}"))
+    Fail::new(format_args!(
+        "{script}\nis answered by {}\n{}and not by {}\n{}",
+        given.status, given.text, plain.status, plain.text
+    ))
 }
 
 /// Fails where the two answers to a script aren't the same.

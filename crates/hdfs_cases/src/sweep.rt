@@ -5,29 +5,24 @@
 //! twice: each is answered as by the plain program, or stops for a cause that the counts show. Last it reads a file of one replica to three
 //! with each single fault of a datanode.
 //!
-//! Words: a number to begin with, a step for sessions, one for pairs of a session and a fault, one for sessions over pipelines, and one for
-//! those over namenodes: of the 168,420 sessions, the 2,526,300 pairs, the 172,458 sessions over pipelines and the 340,704 over namenodes
-//! those are run with the numbers FIRST, FIRST + STEP and so on, counted for each length of sessions. All are run by `0 1 1 1 1`.
-#![tactic(auto)]
-
+//! Five numbers say which: the number to begin with, a step for sessions, one for pairs of a session and a fault, one for sessions over
+//! pipelines, and one for those over namenodes: of the 168,420 sessions, the 2,526,300 pairs, the 172,458 sessions over pipelines and the
+//! 340,704 over namenodes those are run with the numbers FIRST, FIRST + STEP and so on, counted for each length of sessions. All are run by
+//! `0 1 1 1 1`.
 mod comparing;
+mod faults;
+mod outages;
+mod pipelines;
+mod reads;
 mod scripts;
 mod single_faults;
 
 use comparing::compare_all;
-use hdfs_checking::{check_outages, check_pipelines, check_reads};
+use outages::check_outages;
+use pipelines::check_pipelines;
+use reads::check_reads;
 use single_faults::check_all;
-use std::env;
 use std::test::Fail;
-
-/// The words of the command line.
-fn words_of(rt: &HostRuntime) -> Result<Vec<String>, Fail> {
-    let mut words = Vec::new(rt.alloc());
-    for word in env::args(rt)?.skip(1) {
-        words.push(word)?;
-    }
-    Ok(words)
-}
 
 /// The number of the first session that is run of each kind, and the steps from one to the next: of those without a fault,
 /// of those with a single one, and of those over pipelines and over namenodes.
@@ -38,25 +33,6 @@ struct Steps {
     pairs: usize,
     pipelines: usize,
     outages: usize,
-}
-
-/// The number that a word says.
-fn number_of(word: &String) -> Option<usize> {
-    word.as_str().parse().ok()
-}
-
-/// The first number and the four steps that words say.
-fn steps_of(words: &[String]) -> Option<Steps> {
-    let [first, alone, pairs, pipelines, outages] = words else {
-        return None;
-    };
-    Some(Steps {
-        first: number_of(first)?,
-        alone: number_of(alone)?,
-        pairs: number_of(pairs)?,
-        pipelines: number_of(pipelines)?,
-        outages: number_of(outages)?,
-    })
 }
 
 /// Runs the sessions without a fault.
@@ -82,7 +58,7 @@ fn run_pipelines(rt: &HostRuntime, steps: Steps) -> Result<(), Fail> {
 
 /// Runs those over namenodes.
 fn run_outages(rt: &HostRuntime, steps: Steps) -> Result<(), Fail> {
-    let sessions = check_outages(rt.alloc(), steps.first, steps.outages)?.sessions;
+    let sessions = check_outages(rt.alloc(), steps.first, steps.outages)?;
     println!(rt;
         "{sessions} sessions over namenodes are done, or stop for a cause that the counts show"
     )?;
@@ -105,12 +81,20 @@ fn run_all(rt: &HostRuntime, steps: Steps) -> Result<(), Fail> {
     run_reads(rt)
 }
 
-fn main(rt: HostRuntime) -> Result<(), Fail> {
-    let words = words_of(&rt)?;
-    let steps = steps_of(words.as_slice());
-    drop(words);
-    match steps {
-        Some(steps) => run_all(&rt, steps),
-        None => Err(Fail::from("the words are a first number and four steps")),
+/// Runs all that these five numbers say; nothing where there are none.
+pub(crate) fn run_numbers(rt: &HostRuntime, numbers: &[usize]) -> Result<(), Fail> {
+    match numbers {
+        [first, alone, pairs, pipelines, outages] => run_all(
+            rt,
+            Steps {
+                first: *first,
+                alone: *alone,
+                pairs: *pairs,
+                pipelines: *pipelines,
+                outages: *outages,
+            },
+        ),
+        [] => Ok(()),
+        _ => Err(Fail::from("the numbers are a first one and four steps")),
     }
 }

@@ -1,22 +1,13 @@
 //! Sessions over one namenode or several that fail once, or twice: each is answered as by the plain program, or stops behind a part of its
 //! replies for a cause that the counts show.
 
-use crate::faults::{Ran, none_failed, pair_of, stops, told};
-use crate::{Ending, noted, plain_answer, store_of};
+use crate::answers::{Ending, store_of};
+use crate::noting::noted;
+use crate::plain::plain_answer;
+use crate::sweep::faults::{Ran, none_failed, pair_of, stops, told};
 use hdfs_mem_cluster::{Counts, MemCluster, let_go};
 use std::alloc::Global;
 use std::test::Fail;
-
-/// How many sessions ran, how many of them were done, and how many stopped at each error.
-#[derive(Clone, Copy, Debug, PartialEq, Eq)]
-pub struct Outages {
-    pub sessions: u64,
-    pub done: u64,
-    pub broken: u64,
-    pub fatal: u64,
-    pub exceptions: u64,
-    pub taken: u64,
-}
 
 /// How many namenodes there are, and which of them is active.
 const SERVICES: [(u64, u64); 6] = [(1, 0), (2, 0), (2, 1), (3, 0), (3, 1), (3, 2)];
@@ -171,70 +162,44 @@ fn most_calls(counts: &Counts) -> u64 {
     counts.calls.as_slice().iter().copied().max().unwrap_or(0)
 }
 
-/// Counts a session that stopped at this error, if its faults show its cause.
-fn note_error(
-    alloc: Global,
-    outages: &mut Outages,
-    ran: Ran<'_>,
-    counts: &Counts,
-) -> Result<bool, Fail> {
+/// Whether its faults show why a session stopped at this error.
+fn is_cause(alloc: Global, ran: Ran<'_>, counts: &Counts) -> Result<bool, Fail> {
     let (note, script) = (ran.note, ran.script);
     if note.contains(": Namenode; ") {
-        outages.broken = outages.broken.saturating_add(1);
         return Ok(most_calls(counts) >= 2);
     }
     if note.contains(": fatal RPC error: ") {
-        outages.fatal = outages.fatal.saturating_add(1);
         return Ok(script.contains(" fatal\n"));
     }
     if note.contains(": RPC error: ") {
-        outages.exceptions = outages.exceptions.saturating_add(1);
         return is_excepted(alloc, script, note);
     }
-    if note.contains(": file already exists: ") {
-        outages.taken = outages.taken.saturating_add(1);
-        return Ok(plans_taken(script));
-    }
-    Ok(false)
+    Ok(note.contains(": file already exists: ") && plans_taken(script))
 }
 
-/// Counts a session that stopped, if something failed and the counts show its cause.
-fn has_cause(
-    alloc: Global,
-    outages: &mut Outages,
-    ran: Ran<'_>,
-    store: &MemCluster,
-) -> Result<bool, Fail> {
+/// Whether something failed, and the counts show why a session stopped.
+fn has_cause(alloc: Global, ran: Ran<'_>, store: &MemCluster) -> Result<bool, Fail> {
     let counts = store.seen()?;
-    let holds = note_error(alloc, outages, ran, &counts);
+    let holds = is_cause(alloc, ran, &counts);
     let failed = !none_failed(&counts);
     drop(counts);
     Ok(holds? && failed)
 }
 
-/// Counts how a session ended. Answers whether it ended as it should.
-fn judge(
-    alloc: Global,
-    outages: &mut Outages,
-    ran: Ran<'_>,
-    plain: &Ending,
-    store: &MemCluster,
-) -> Result<bool, Fail> {
-    outages.sessions = outages.sessions.saturating_add(1);
+/// Whether a session ended as it should.
+fn judge(alloc: Global, ran: Ran<'_>, plain: &Ending, store: &MemCluster) -> Result<bool, Fail> {
     if *ran.given == *plain {
-        outages.done = outages.done.saturating_add(1);
         return Ok(true);
     }
     if !stops(ran.given, plain, &ERRORS) {
         return Ok(false);
     }
-    has_cause(alloc, outages, ran, store)
+    has_cause(alloc, ran, store)
 }
 
-/// Runs a session over a cluster, and counts how it ended. Answers whether it ended as it should.
+/// Runs a session over a cluster. Answers whether it ended as it should.
 fn check_over(
     alloc: Global,
-    outages: &mut Outages,
     script: &str,
     plain: &Ending,
     store: &mut MemCluster,
@@ -245,59 +210,38 @@ fn check_over(
         given: &given,
         note: note.as_str(),
     };
-    judge(alloc, outages, ran, plain, store)
+    judge(alloc, ran, plain, store)
 }
 
-/// Runs a session over a new cluster, and counts how it ended. Answers whether it ended as it should.
-fn check_session(
-    alloc: Global,
-    outages: &mut Outages,
-    script: &str,
-    plain: &Ending,
-) -> Result<bool, Fail> {
+/// Runs a session over a new cluster. Answers whether it ended as it should.
+fn check_session(alloc: Global, script: &str, plain: &Ending) -> Result<bool, Fail> {
     let mut store = store_of(alloc, false)?;
-    let ended = check_over(alloc, outages, script, plain, &mut store);
+    let ended = check_over(alloc, script, plain, &mut store);
     let_go(store);
     ended
 }
 
 /// Runs a session with a pair of faults in a way, beside the plain program's answer.
-fn check_beside(
-    alloc: Global,
-    outages: &mut Outages,
-    way: u64,
-    pair: u64,
-    plain: &Ending,
-) -> Result<(), Fail> {
+fn check_beside(alloc: Global, way: u64, pair: u64, plain: &Ending) -> Result<(), Fail> {
     let (first, second) = pair_of(FAULTS, pair);
     let script = script_of(alloc, way, &[first, second])?;
-    let ended = check_session(alloc, outages, script.as_str(), plain);
+    let ended = check_session(alloc, script.as_str(), plain);
     told(ended, script.as_str())
 }
 
 /// Runs a session with a pair of faults in a way.
-fn check_pair(alloc: Global, outages: &mut Outages, way: u64, pair: u64) -> Result<(), Fail> {
+fn check_pair(alloc: Global, way: u64, pair: u64) -> Result<(), Fail> {
     let plain = plain_of(alloc, way)?;
-    check_beside(alloc, outages, way, pair, &plain)
+    check_beside(alloc, way, pair, &plain)
 }
 
-/// Runs of the sessions, each with a pair of faults in a way, those with the numbers `first`, `first + step` and so on.
-pub fn check_outages(alloc: Global, first: usize, step: usize) -> Result<Outages, Fail> {
-    let mut outages = Outages {
-        sessions: 0,
-        done: 0,
-        broken: 0,
-        fatal: 0,
-        exceptions: 0,
-        taken: 0,
-    };
+/// Runs of the sessions, each with a pair of faults in a way, those with the numbers `first`, `first + step` and so on. Answers how many it
+/// ran, each of which ended as it should.
+pub(crate) fn check_outages(alloc: Global, first: usize, step: usize) -> Result<u64, Fail> {
+    let mut sessions = 0u64;
     for number in (first..(WAYS * PAIRS) as usize).step_by(step.max(1)) {
-        check_pair(
-            alloc,
-            &mut outages,
-            number as u64 / PAIRS,
-            number as u64 % PAIRS,
-        )?;
+        check_pair(alloc, number as u64 / PAIRS, number as u64 % PAIRS)?;
+        sessions = sessions.saturating_add(1);
     }
-    Ok(outages)
+    Ok(sessions)
 }

@@ -1,6 +1,6 @@
 //! What the loops over sessions with faults share: pairs of faults, where a session stopped, and what is told where it should not.
 
-use crate::Ending;
+use crate::answers::Ending;
 use hdfs_mem_cluster::Counts;
 use std::test::Fail;
 
@@ -50,7 +50,7 @@ fn behind_line<'a>(given: &'a str, plain: &'a str) -> Option<(&'a str, &'a str)>
 
 /// How many lines of another text a text has in front of the line of a fault of the next command, with one of these errors; none where it is
 /// no such text.
-pub fn stopped_behind(given: &str, plain: &str, errors: &[&str]) -> Option<usize> {
+pub(crate) fn stopped_behind(given: &str, plain: &str, errors: &[&str]) -> Option<usize> {
     let (mut rest, mut left) = (given, plain);
     for (done, number) in NUMBERS.iter().enumerate() {
         if is_fault(rest, number, errors) {
