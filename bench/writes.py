@@ -2,7 +2,7 @@
 """Times files that a session writes to a cluster in memory, and prints the figures as ratios.
 
 usage: bench/writes.py PROGRAM
-  PROGRAM  the built program hdfs_bench
+  PROGRAM  the built program hdfs_unit_tests
 
 One file of 8,000,000 bytes, in one block, with one replica and with three; and 1,000 files and 10,000 of 16,000 bytes, with three. The
 making of the commands, which have the bytes, is taken off.
@@ -20,13 +20,13 @@ FILE = 16_000
 def main():
     program = sys.argv[1]
     words = [
-        [program, "files_0", 1, BLOCK],
-        [program, "files_1", 1, BLOCK],
-        [program, "files_3", 1, BLOCK],
-        [program, "files_0", 1_000, FILE],
-        [program, "files_3", 1_000, FILE],
-        [program, "files_0", 10_000, FILE],
-        [program, "files_3", 10_000, FILE],
+        [program, "times", "files_0", 1, BLOCK],
+        [program, "times", "files_1", 1, BLOCK],
+        [program, "times", "files_3", 1, BLOCK],
+        [program, "times", "files_0", 1_000, FILE],
+        [program, "times", "files_3", 1_000, FILE],
+        [program, "times", "files_0", 10_000, FILE],
+        [program, "times", "files_3", 10_000, FILE],
     ]
     (made, one, three, few_made, few, many_made, many), numbers = fastest(RUNS, *words)
     assert numbers == [BLOCK] * 3 + [1_000 * FILE] * 2 + [10_000 * FILE] * 2

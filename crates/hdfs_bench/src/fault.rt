@@ -7,7 +7,7 @@ use std::alloc::{AllocError, AllocFailed};
 use std::io;
 use std::num::ParseIntError;
 
-#[derive(Clone, Copy, Debug, PartialEq, Eq)]
+#[derive(Clone, Copy, Debug)]
 pub(crate) enum Fault {
     /// The words are none of those that are known.
     Words,

@@ -3,27 +3,24 @@
 //! Words: `crc32c SIZE TIMES`, `crc32 SIZE TIMES`, `frames COUNT PIECE`, `packets SIZE TIMES`, `checks SIZE TIMES`,
 //! `stars STARS LENGTH`, `products FIRST TIMES`, `quotients FIRST TIMES`, `pipeline WINDOW TIMES`,
 //! `pair`, `turns` or `late` with `COUNT WINDOW`,
-//! `files_0`, `files_1`, `files_2` or `files_3` with `COUNT SIZE`, `names_made`, `names_listed` or `names_deleted` with `COUNT TIMES`, or `encode` or `decode` with a code, as in
-//! `encode_6_3 SIZE TIMES`, the code being one of `_3_2`, `_6_3` and `_10_4`.
+//! or `encode` or `decode` with a code, as in `encode_6_3 SIZE TIMES`, the code being one of `_3_2`, `_6_3` and `_10_4`. What a session does
+//! over a cluster in memory is timed by the topic `times` of hdfs_unit_tests.
 #![tactic(auto)]
 
 mod elements;
 mod fault;
 mod frames;
 mod globs;
-mod names;
 mod packets;
 mod pairs;
 mod pipelines;
 mod shards;
 mod sums;
-mod writes;
 
 use elements::{products, quotients};
 use fault::Fault;
 use frames::{count_frames, stream};
 use globs::match_stars;
-use names::count_names;
 use packets::{checked_bytes, payload_bytes};
 use pairs::{pass_by_turns, pass_by_two, pass_late};
 use pipelines::count_events;
@@ -34,7 +31,6 @@ use std::sync::Wait;
 use std::thread::Threads;
 use std::time::Clock;
 use sums::{Kind, folded_sum};
-use writes::write_files;
 
 /// What the words name, over two numbers.
 fn measure(alloc: Global, name: &str, first: usize, second: usize) -> Result<u64, Fault> {
@@ -43,12 +39,6 @@ fn measure(alloc: Global, name: &str, first: usize, second: usize) -> Result<u64
     }
     if let Some(code) = name.strip_prefix("decode") {
         return decode(alloc, code_of(code)?, first, second);
-    }
-    if let Some(replication) = name.strip_prefix("files_") {
-        return write_files(alloc, replication.parse()?, first, second);
-    }
-    if let Some(deed) = name.strip_prefix("names_") {
-        return count_names(alloc, deed, first, second);
     }
     match name {
         "products" => Ok(products(first, second)),
@@ -59,12 +49,21 @@ fn measure(alloc: Global, name: &str, first: usize, second: usize) -> Result<u64
     }
 }
 
+/// Counts the frames of a stream that is read in pieces.
+fn frames_of(alloc: Global, count: usize, piece: usize) -> Result<u64, Fault> {
+    if piece == 0 {
+        return Err(Fault::Words);
+    }
+    let stream = stream(alloc, count)?;
+    count_frames(alloc, &stream, piece)
+}
+
 /// What the words name of what is sent, over two numbers.
 fn measure_wire(alloc: Global, name: &str, first: usize, second: usize) -> Result<u64, Fault> {
     match name {
         "crc32c" => Ok(u64::from(folded_sum(alloc, Kind::Crc32c, first, second)?)),
         "crc32" => Ok(u64::from(folded_sum(alloc, Kind::Crc32, first, second)?)),
-        "frames" if second > 0 => count_frames(alloc, &stream(alloc, first)?, second),
+        "frames" => frames_of(alloc, first, second),
         "packets" => payload_bytes(alloc, first, second),
         "checks" => checked_bytes(alloc, first, second),
         _ => Err(Fault::Words),

@@ -18,12 +18,10 @@ const DELAY: u64 = 50;
 
 /// How many packets these two words ask for, and with which window.
 fn limits(count: usize, window: usize) -> Result<(u32, u32), Fault> {
-    match (u32::try_from(count), u32::try_from(window)) {
-        (Ok(count), Ok(window)) if count < u32::MAX && (1..=1000).contains(&window) => {
-            Ok((count, window))
-        }
-        _ => Err(Fault::Words),
+    if count >= 4294967295 || window == 0 || window > 1000 {
+        return Err(Fault::Words);
     }
+    Ok((count as u32, window as u32))
 }
 
 /// Two threads send so many packets and a last one over these two ends. It counts those that were sent.

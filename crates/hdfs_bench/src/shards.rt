@@ -72,36 +72,65 @@ fn encode_often(
     Ok(bytes)
 }
 
+/// The same of shards of this size.
+fn encode_by(
+    alloc: Global,
+    coder: &Coder,
+    code: Code,
+    size: usize,
+    times: usize,
+) -> Result<u64, Fault> {
+    let shards = data_shards(alloc, code, size)?;
+    encode_often(alloc, coder, &shards, times)
+}
+
 /// Encodes shards of this size so many times, and counts the bytes of parity.
 pub(crate) fn encode(alloc: Global, code: Code, size: usize, times: usize) -> Result<u64, Fault> {
     let coder = coder_of(alloc, code)?;
-    let shards = data_shards(alloc, code, size)?;
-    encode_often(alloc, &coder, &shards, times)
+    encode_by(alloc, &coder, code, size, times)
+}
+
+/// Puts the place of a shard behind the others, an empty one where it is lost.
+fn push_place(places: &mut Vec<Option<Bytes>>, shard: &Bytes, is_lost: bool) -> Result<(), Fault> {
+    if is_lost {
+        return Ok(places.push(None)?);
+    }
+    Ok(places.push(Some(shard.clone()?))?)
 }
 
 /// The places in which the first data shards are missing, as many as there are parity shards.
 fn left(alloc: Global, data: &[Bytes], parity: &[Bytes]) -> Result<Vec<Option<Bytes>>, Fault> {
     let mut places = Vec::new(alloc);
-    for (place, shard) in data.iter().chain(parity.iter()).enumerate() {
-        places.push(if place < parity.len() {
-            None
-        } else {
-            Some(shard.clone()?)
-        })?;
+    for (place, shard) in data.iter().enumerate() {
+        push_place(&mut places, shard, place < parity.len())?;
+    }
+    for shard in parity {
+        push_place(&mut places, shard, false)?;
     }
     Ok(places)
 }
 
 /// Fills the missing places, and counts the bytes of the first shard.
-fn decoded(alloc: Global, coder: &Coder, mut places: Vec<Option<Bytes>>) -> Result<u64, Fault> {
-    if !coder.are_places(&places) {
+fn decoded(alloc: Global, coder: &Coder, places: &mut [Option<Bytes>]) -> Result<u64, Fault> {
+    if !coder.are_places(places) {
         return Err(Fault::Words);
     }
-    coder.decode(alloc, &mut places)?;
+    coder.decode(alloc, places)?;
     match places.first() {
         Some(Some(shard)) => Ok(shard.len() as u64),
         _ => Err(Fault::Words),
     }
+}
+
+/// Decodes lost data shards, and counts the bytes of the first.
+fn decode_once(
+    alloc: Global,
+    coder: &Coder,
+    shards: &[Bytes],
+    parity: &[Bytes],
+) -> Result<u64, Fault> {
+    let mut places = left(alloc, shards, parity)?;
+    decoded(alloc, coder, &mut places)
 }
 
 /// Decodes lost data shards so many times, and counts the bytes of the first.
@@ -114,8 +143,7 @@ fn decode_often(
 ) -> Result<u64, Fault> {
     let mut bytes = 0u64;
     for _ in 0..times {
-        let places = left(alloc, shards, parity)?;
-        bytes = bytes.saturating_add(decoded(alloc, coder, places)?);
+        bytes = bytes.saturating_add(decode_once(alloc, coder, shards, parity)?);
     }
     Ok(bytes)
 }
@@ -126,9 +154,20 @@ fn decode_all(alloc: Global, coder: &Coder, shards: &[Bytes], times: usize) -> R
     decode_often(alloc, coder, shards, parity.as_slice(), times)
 }
 
+/// The same of shards of this size.
+fn decode_by(
+    alloc: Global,
+    coder: &Coder,
+    code: Code,
+    size: usize,
+    times: usize,
+) -> Result<u64, Fault> {
+    let shards = data_shards(alloc, code, size)?;
+    decode_all(alloc, coder, &shards, times)
+}
+
 /// Decodes as many lost data shards as there are parity shards, of this size, so many times, and counts the bytes of the first.
 pub(crate) fn decode(alloc: Global, code: Code, size: usize, times: usize) -> Result<u64, Fault> {
     let coder = coder_of(alloc, code)?;
-    let shards = data_shards(alloc, code, size)?;
-    decode_all(alloc, &coder, &shards, times)
+    decode_by(alloc, &coder, code, size, times)
 }

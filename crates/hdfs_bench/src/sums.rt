@@ -3,7 +3,7 @@ use crate::fault::Fault;
 use hdfs_wire::{crc32, crc32c};
 use std::alloc::Global;
 
-#[derive(Clone, Copy, Debug, PartialEq, Eq)]
+#[derive(Clone, Copy)]
 pub(crate) enum Kind {
     Crc32,
     Crc32c,

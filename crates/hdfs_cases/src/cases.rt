@@ -1,24 +1,26 @@
 //! The cases of a file: behind a line `== NAME` each, and a line `then` between scripts that are run over one and the same cluster.
 
+use crate::answers::{Ending, SESSION, Way, store_of};
 use crate::checks::told;
 use crate::escapes::bytes_of;
-use hdfs_checking::{Ending, noted, store_of};
+use crate::noting::noted_by;
 use hdfs_mem_cluster::{MemCluster, let_go};
 use std::alloc::Global;
 use std::fs;
 use std::test::Fail;
 
-/// A script, what is to be written for it, and the lines that say what else is to be so.
+/// How the program is run, its script, what is to be written for it, and the lines that say what else is to be so.
 #[derive(Drop)]
 pub(crate) struct Run<'a> {
+    way: Way<'a>,
     pub(crate) script: Vec<u8>,
     pub(crate) written: String,
     checks: Vec<&'a str>,
 }
 
 /// What the lines begin with that say what is to be so behind a script.
-const CHECKS: [&str; 8] = [
-    "= ", "note ", "counts ", "listed ", "stamps ", "open ", "plain", "active ",
+const CHECKS: [&str; 10] = [
+    "= ", "note ", "noted ", "counts ", "listed ", "stamps ", "open ", "plain", "active ", "fresh",
 ];
 
 /// Whether a line says what is to be so behind a script.
@@ -36,6 +38,7 @@ impl<'a> Run<'a> {
     fn read(rt: &HostRuntime, lines: &'a str) -> Result<Run<'a>, Fail> {
         let alloc = rt.alloc();
         let mut run = Run {
+            way: SESSION,
             script: Vec::new(alloc),
             written: String::new(alloc),
             checks: Vec::new(alloc),
@@ -53,22 +56,53 @@ impl<'a> Run<'a> {
         Ok(())
     }
 
-    /// Takes a line: one of the script, with a reply behind it or without; the script in one line; two files, with the script and with what is
-    /// to be written; a reply; or what else is to be so.
+    /// Takes a line: what is to be so, one that begins with a word, or one of the script, with a reply behind it or without.
     fn take(&mut self, rt: &HostRuntime, line: &'a str) -> Result<(), Fail> {
         if is_check(line) {
             return Ok(self.checks.push(line)?);
         }
-        if let Some(reply) = line.strip_prefix("> ") {
-            return self.write(reply);
+        let (word, rest) = line.split_once(' ').unwrap_or((line, ""));
+        match word {
+            ">" => self.write(rest),
+            ">>" => self.write_part(rt.alloc(), rest),
+            "from" => self.take_files(rt, rest),
+            "script" => self.take_script(rt.alloc(), rest),
+            "repeat" => self.take_repeated(rt.alloc(), rest),
+            "times" => self.take_times(rt.alloc(), rest),
+            "words" | "source" | "sink" => self.take_way(word, rest),
+            _ => self.take_line(line),
         }
-        if let Some(names) = line.strip_prefix("from ") {
-            return self.take_files(rt, names);
+    }
+
+    /// The words with which the program is run, or the call at which its source or its sink fails.
+    fn take_way(&mut self, word: &str, rest: &'a str) -> Result<(), Fail> {
+        match word {
+            "words" => self.way.words = rest,
+            "source" => self.way.source = rest.parse()?,
+            _ => self.way.sink = rest.parse()?,
         }
-        match line.strip_prefix("script ") {
-            Some(script) => self.take_script(rt.alloc(), script),
-            None => self.take_line(line),
+        Ok(())
+    }
+
+    /// A number, and a piece that stands so often behind the script.
+    fn take_repeated(&mut self, alloc: Global, rest: &str) -> Result<(), Fail> {
+        let (count, piece) = rest.split_once(' ').unwrap_or((rest, ""));
+        let piece = bytes_of(alloc, piece)?;
+        self.repeat(&piece, count.parse()?)
+    }
+
+    /// A number, so often the script stands behind itself.
+    fn take_times(&mut self, alloc: Global, count: &str) -> Result<(), Fail> {
+        let piece = Vec::from_slice(alloc, self.script.as_slice())?;
+        self.script.clear();
+        self.repeat(&piece, count.parse()?)
+    }
+
+    fn repeat(&mut self, piece: &[u8], count: u64) -> Result<(), Fail> {
+        for _ in 0..count {
+            self.script.extend_from_slice(piece)?;
         }
+        Ok(())
     }
 
     /// A script in one line.
@@ -93,6 +127,13 @@ impl<'a> Run<'a> {
     fn write(&mut self, reply: &str) -> Result<(), Fail> {
         self.written.push_str(reply)?;
         self.written.push('\n')?;
+        Ok(())
+    }
+
+    /// What is to be written, without a newline behind it.
+    fn write_part(&mut self, alloc: Global, part: &str) -> Result<(), Fail> {
+        let bytes = bytes_of(alloc, part)?;
+        self.written.push_str(str::from_utf8(&bytes)?)?;
         Ok(())
     }
 
@@ -147,7 +188,7 @@ impl<'a> Run<'a> {
         store: &mut MemCluster,
         differences: &mut String,
     ) -> Result<(), Fail> {
-        let (given, note) = noted(alloc, self.script.as_slice(), store)?;
+        let (given, note) = noted_by(alloc, self.way, self.script.as_slice(), store)?;
         self.compare(alloc, store, &given, note.as_str(), differences)
     }
 }

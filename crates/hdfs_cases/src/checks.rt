@@ -1,7 +1,11 @@
 //! What a line that says what is to be so would say, by what was found.
 
+use crate::answers::{Ending, answer};
 use crate::cases::Run;
-use hdfs_checking::{Ending, answer, listed, plain_answer, stamps};
+use crate::escapes::bytes_of;
+use crate::noting::{listed, stamps};
+use crate::plain::plain_answer;
+use hdfs_cluster::Store;
 use hdfs_mem_cluster::MemCluster;
 use std::alloc::Global;
 use std::test::Fail;
@@ -19,6 +23,8 @@ pub(crate) fn told(
     match word {
         "=" => status_line(alloc, given.status),
         "note" => note_line(alloc, rest, note),
+        "noted" => noted_line(alloc, rest, note),
+        "fresh" => fresh_line(alloc, store),
         "counts" => counts_line(alloc, rest, store),
         "listed" => listed_line(alloc, rest, store),
         "stamps" => stamps_line(alloc, rest, store),
@@ -40,6 +46,20 @@ fn note_line(alloc: Global, wanted: &str, note: &str) -> Result<String, Fail> {
         Some(front) if line.starts_with(front) => Ok(format!(in alloc; "note {wanted}")?),
         _ => Ok(format!(in alloc; "note {line}")?),
     }
+}
+
+/// The whole note, in one line where it is as that says.
+fn noted_line(alloc: Global, wanted: &str, note: &str) -> Result<String, Fail> {
+    if bytes_of(alloc, wanted)?.as_slice() == note.as_bytes() {
+        return Ok(format!(in alloc; "noted {wanted}")?);
+    }
+    Ok(format!(in alloc; "noted {note}")?)
+}
+
+/// Whether nothing was ever stored.
+fn fresh_line(alloc: Global, store: &MemCluster) -> Result<String, Fail> {
+    let line = if store.fresh() { "fresh" } else { "not fresh" };
+    Ok(String::from_str(alloc, line)?)
 }
 
 /// How often each namenode, links, or each datanode has failed.

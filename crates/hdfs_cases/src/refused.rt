@@ -1,8 +1,10 @@
 //! Scripts that are refused: a line has the number of the first bad line, the script, and what is noted, if that is told: the note's first
 //! line, and the characters below which it has marks.
 
+use crate::answers::{Ending, refused};
 use crate::escapes::bytes_of;
-use hdfs_checking::{Ending, noted_of_new, plain_answer, refused};
+use crate::noting::noted_of_new;
+use crate::plain::plain_answer;
 use std::alloc::Global;
 use std::test::Fail;
 

@@ -2,22 +2,23 @@
 use hdfs_wire::NoMemory;
 use std::alloc::Global;
 
-/// The word at this place, counted from 0, with one space between words.
-pub(crate) fn nth(argument: &str, place: usize) -> &str {
-    argument.split(' ').nth(place).unwrap_or("")
+/// The first word, and all that stands behind it.
+pub(crate) fn first(argument: &str) -> (&str, &str) {
+    argument.split_once(' ').unwrap_or((argument, ""))
 }
 
 /// All that stands behind so many words.
 pub(crate) fn behind(argument: &str, count: usize) -> &str {
-    argument
-        .splitn(count.saturating_add(1), ' ')
-        .nth(count)
-        .unwrap_or("")
+    let mut rest = argument;
+    for _ in 0..count {
+        rest = first(rest).1;
+    }
+    rest
 }
 
-/// The first word, and all that stands behind it.
-pub(crate) fn first(argument: &str) -> (&str, &str) {
-    argument.split_once(' ').unwrap_or((argument, ""))
+/// The word at this place, counted from 0, with one space between words.
+pub(crate) fn nth(argument: &str, place: usize) -> &str {
+    first(behind(argument, place)).0
 }
 
 /// The number at this place; 0 for what is none.
@@ -56,22 +57,26 @@ pub(crate) fn put_number(out: &mut String, number: u64) -> Result<(), NoMemory> 
     Ok(write!(out, "{number} ")?)
 }
 
-/// The value of a hexadecimal digit; 0 for what is none.
+/// The value of a hexadecimal digit; something for what is none.
 fn digit(c: u8) -> u8 {
-    match c {
-        b'0'..=b'9' => c - b'0',
-        b'a'..=b'f' => c - b'a' + 10,
-        _ => 0,
+    if c < b'a' {
+        c.wrapping_sub(b'0')
+    } else {
+        c.wrapping_sub(87)
     }
 }
 
-/// The bytes that hexadecimal digits stand for.
+/// The bytes that pairs of hexadecimal digits stand for.
 pub(crate) fn bytes_of(alloc: Global, digits: &str) -> Result<Vec<u8>, NoMemory> {
     let mut bytes = Vec::new(alloc);
-    for pair in digits.as_bytes().chunks(2) {
-        let high = pair.first().map_or(0, |c| digit(*c));
-        let low = pair.get(1).map_or(0, |c| digit(*c));
-        bytes.push(high.wrapping_mul(16).wrapping_add(low))?;
+    let (mut high, mut is_low) = (0u8, false);
+    for letter in digits.as_bytes() {
+        let value = digit(*letter);
+        if is_low {
+            bytes.push(high.wrapping_mul(16).wrapping_add(value))?;
+        }
+        high = value;
+        is_low = !is_low;
     }
     Ok(bytes)
 }

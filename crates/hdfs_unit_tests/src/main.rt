@@ -5,8 +5,11 @@
 mod acl;
 mod arguments;
 mod client;
+mod coding;
 mod connections;
 mod edge;
+mod errors;
+mod field;
 mod globs;
 mod leases;
 mod mounts;
@@ -15,17 +18,21 @@ mod pipeline;
 mod plain;
 mod script;
 mod settings;
+mod times;
 mod wire;
 
 use hdfs_wire::NoMemory;
 use std::alloc::Global;
-use std::io::{self, BufRead, BufReader};
+use std::io;
 
-const TOPICS: [&str; 13] = [
+const TOPICS: [&str; 17] = [
     "acl",
     "client",
+    "coding",
     "connections",
     "edge",
+    "errors",
+    "field",
     "globs",
     "leases",
     "mounts",
@@ -34,6 +41,7 @@ const TOPICS: [&str; 13] = [
     "plain",
     "script",
     "settings",
+    "times",
     "wire",
 ];
 
@@ -65,8 +73,11 @@ fn tell(alloc: Global, out: &mut String, asked: &Question<'_>) -> Result<(), NoM
     match asked.topic {
         "acl" => acl::tell(alloc, out, word, argument),
         "client" => client::tell(alloc, out, word, argument),
+        "coding" => coding::tell(alloc, out, word, argument),
         "connections" => connections::tell(alloc, out, word, argument),
         "edge" => edge::tell(alloc, out, word, argument),
+        "errors" => errors::tell(alloc, out, word, argument),
+        "field" => field::tell(alloc, out, word, argument),
         "globs" => globs::tell(alloc, out, word, argument),
         "leases" => leases::tell(alloc, out, word, argument),
         "mounts" => mounts::tell(alloc, out, word, argument),
@@ -75,6 +86,7 @@ fn tell(alloc: Global, out: &mut String, asked: &Question<'_>) -> Result<(), NoM
         "plain" => plain::tell(alloc, out, word, argument),
         "script" => script::tell(alloc, out, word, argument),
         "settings" => settings::tell(alloc, out, word, argument),
+        "times" => times::tell(alloc, out, word, argument),
         "wire" => wire::tell(alloc, out, word, argument),
         _ => arguments::no_such_word(out),
     }
@@ -82,59 +94,82 @@ fn tell(alloc: Global, out: &mut String, asked: &Question<'_>) -> Result<(), NoM
 
 /// Counts a line of the topic.
 fn count(held: &mut [u64], topic: &str) {
-    for (name, count) in TOPICS.iter().zip(held.iter_mut()) {
-        if *name == topic {
+    if let Some(place) = TOPICS.iter().position(|name| *name == topic) {
+        if let Some(count) = held.get_mut(place) {
             *count = count.saturating_add(1);
         }
     }
 }
 
-/// Asks a question, and counts its line or prints the other answer.
-fn ask(rt: &HostRuntime, asked: &Question<'_>, held: &mut [u64]) -> io::Result<()> {
-    let mut answer = String::new(rt.alloc());
-    if tell(rt.alloc(), &mut answer, asked).is_err() {
-        return println!(rt; "no memory for {} {}", asked.word, asked.argument);
+/// Puts a line of these words behind the report, with a space behind each.
+fn push_line(report: &mut String, words: &[&str]) -> Result<(), NoMemory> {
+    for word in words {
+        report.push_str(word)?;
+        report.push(' ')?;
+    }
+    Ok(report.push('\n')?)
+}
+
+/// Asks a question, and counts its line or reports the other answer.
+fn ask(
+    alloc: Global,
+    asked: &Question<'_>,
+    held: &mut [u64],
+    report: &mut String,
+) -> Result<(), NoMemory> {
+    let mut answer = String::new(alloc);
+    if tell(alloc, &mut answer, asked).is_err() {
+        answer.push_str("no memory")?;
     }
     let answer = answer.as_str().trim_end();
     if answer == asked.wanted {
         count(held, asked.topic);
         return Ok(());
     }
-    println!(rt;
-        "{} {} {} => {answer}",
-        asked.topic, asked.word, asked.argument
+    push_line(
+        report,
+        &[asked.topic, asked.word, asked.argument, "=>", answer],
     )
 }
 
 /// Asks what a line asks, if it asks something.
-fn follow(rt: &HostRuntime, line: &str, held: &mut [u64]) -> io::Result<()> {
+fn follow(
+    alloc: Global,
+    line: &str,
+    held: &mut [u64],
+    report: &mut String,
+) -> Result<(), NoMemory> {
     if line.is_empty() || line.starts_with('#') {
         return Ok(());
     }
     match asked_by(line) {
-        Some(asked) => ask(rt, &asked, held),
-        None => println!(rt; "no question: {line}"),
+        Some(asked) => ask(alloc, &asked, held, report),
+        None => push_line(report, &["no question:", line]),
     }
 }
 
-/// Prints how many lines of a topic held.
-fn print_count(rt: &HostRuntime, topic: &str, count: u64) -> io::Result<()> {
-    println!(rt; "{topic} {count}")
-}
-
-/// Prints how many lines of each topic held.
-fn print_counts(rt: &HostRuntime, held: &[u64]) -> io::Result<()> {
+/// Reports how many lines of each topic held.
+fn push_counts(held: &[u64], report: &mut String) -> Result<(), NoMemory> {
     for (topic, count) in TOPICS.iter().zip(held) {
-        print_count(rt, topic, *count)?;
+        write!(report, "{topic} {count}\n")?;
     }
     Ok(())
 }
 
-fn main(rt: HostRuntime) -> io::Result<()> {
-    let mut held = [0u64; 13];
-    for line in BufReader::new(rt.alloc(), rt.reader())?.lines(rt.alloc()) {
-        let line = line?;
-        follow(&rt, line.as_str(), &mut held)?;
+/// Asks what the lines of a text ask, and reports the other answers, and how many lines of each topic held.
+fn answer(alloc: Global, text: &str, report: &mut String) -> Result<(), NoMemory> {
+    let mut held = [0u64; 17];
+    for line in text.lines() {
+        follow(alloc, line, &mut held, report)?;
     }
-    print_counts(&rt, &held)
+    push_counts(&held, report)
+}
+
+fn main(rt: HostRuntime) -> io::Result<()> {
+    let text = io::read_to_string(rt.alloc(), rt.reader())?;
+    let mut report = String::new(rt.alloc());
+    if answer(rt.alloc(), text.as_str(), &mut report).is_err() {
+        return println!(rt; "no memory");
+    }
+    print!(rt; "{}", report.as_str())
 }

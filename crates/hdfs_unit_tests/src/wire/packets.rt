@@ -6,26 +6,33 @@ use hdfs_wire::*;
 use std::alloc::Global;
 
 /// A packet without data, the last one of its block.
-const LAST: [u8; 33] =
-    *b"\x00\x00\x00\x04\x00\x1b\x09\x08\x00\x00\x00\x00\x00\x00\x00\x11\x02\x00\x00\x00\x00\x00\x00\x00\x18\x01\x25\x00\x00\x00\x00\x28\x01";
+const LAST: &[u8] =
+    b"\x00\x00\x00\x04\x00\x1b\x09\x08\x00\x00\x00\x00\x00\x00\x00\x11\x02\x00\x00\x00\x00\x00\x00\x00\x18\x01\x25\x00\x00\x00\x00\x28\x01";
 
 /// A packet with nine bytes of data.
-const PACKET: [u8; 44] =
-    *b"\x00\x00\x00\x11\x00\x19\x09\x00\x00\x00\x00\x00\x00\x00\x00\x11\x00\x00\x00\x00\x00\x00\x00\x00\x18\x00\x25\x09\x00\x00\x00\xe3\x06\x92\x83123456789";
+const PACKET: &[u8] =
+    b"\x00\x00\x00\x11\x00\x19\x09\x00\x00\x00\x00\x00\x00\x00\x00\x11\x00\x00\x00\x00\x00\x00\x00\x00\x18\x00\x25\x09\x00\x00\x00\xe3\x06\x92\x83123456789";
 
 fn parsed(alloc: Global, bytes: &[u8]) -> Result<ReadPacket, WireFault> {
     ReadPacket::parse(alloc, Bytes::copy_from_slice(alloc, bytes)?)
 }
 
+/// The bytes of the packet, with another one at a place.
+fn changed_bytes(alloc: Global, place: usize, byte: u8) -> Result<Vec<u8>, NoMemory> {
+    let mut bytes = Vec::from_slice(alloc, PACKET)?;
+    if let Some(there) = bytes.as_mut_slice().get_mut(place) {
+        *there = byte;
+    }
+    Ok(bytes)
+}
+
 /// The packet with another byte at a place, or the last one.
 fn packet(alloc: Global, argument: &str) -> Result<ReadPacket, WireFault> {
     if nth(argument, 0) == "last" {
-        return parsed(alloc, &LAST);
+        return parsed(alloc, LAST);
     }
-    let mut bytes = PACKET;
-    if let Some(place) = bytes.get_mut(number(argument, 1) as usize) {
-        *place = nth(argument, 2).parse().unwrap_or(0);
-    }
+    let byte = nth(argument, 2).parse().unwrap_or(0);
+    let bytes = changed_bytes(alloc, number(argument, 1) as usize, byte)?;
     parsed(alloc, &bytes)
 }
 
@@ -59,11 +66,9 @@ pub(crate) fn changed(
     }
 }
 
-const ZEROS: [u8; 512] = [0; 512];
-
 /// The payload of as many zeros, 512 at most.
 fn zeros(alloc: Global, len: usize) -> Result<Bytes, NoMemory> {
-    Ok(Bytes::copy_from_slice(alloc, ZEROS.get(..len).unwrap_or(&ZEROS))?)
+    Ok(Bytes::from_vec(vec![in alloc; 0u8; len.min(512)]?)?)
 }
 
 /// A packet with this payload and the CRC-32C of 512 zeros.

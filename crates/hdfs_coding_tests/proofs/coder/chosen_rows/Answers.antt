@@ -1,7 +1,0 @@
-use Rattle.std.proofs.Common.{refl, arith}
-use Rattle.hdfs_coding_tests.proofs.coder.chosen_rows.Goals as goal
-
-pub select_rows-requires : goal.select_rows-requires
-select_rows-requires c =
-    let rows = c.in_ok-rows.ensures.coding.rows in
-    (2, (0, omega arith, refl), omega arith)
