@@ -1,0 +1,18 @@
+-- Leave for everything is leave for this.
+use Rattle.std.proofs.Common.{refl, inl, inr}
+use Rattle.hdfs_client.proofs.Beside.{files_refl}
+use Rattle.hdfs_client.proofs.Leave.{lets_append}
+use Rattle.hdfs_client_uses.proofs.Cases.{err_is, err_so}
+use Rattle.hdfs_client_uses.proofs.opening.append.Goals as goal
+
+pub append-requires-clause-allowed : goal.append-requires-clause-allowed
+append-requires-clause-allowed g c = λ to namenode leads at. lets_append g.C.Cluster.may_answer _ _ c.requires.all
+
+pub returns-in_err-check_whole-clause-err : goal.returns-in_err-check_whole-clause-err
+returns-in_err-check_whole-clause-err g c = err_is _ c.in_err-check_whole.field-0.0 c.from_residual.result (inl (c.in_err-check_whole.ensures.err, refl, refl)) c.from_residual.ensures.1
+
+pub returns-in_err-check_whole-clause-files : goal.returns-in_err-check_whole-clause-files
+returns-in_err-check_whole-clause-files g c = files_refl c.args.client.now (g.C.Cluster.shown c.args.cluster.now)
+
+pub returns-clause-err : goal.returns-clause-err
+returns-clause-err g c = err_so _ _ c.append.result (λ error why. inr why) c.append.ensures.err
