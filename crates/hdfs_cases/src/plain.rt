@@ -1,7 +1,7 @@
 //! The plain program's answer to a script.
 use crate::answers::{Ending, refused};
 use hdfs_cluster::{Line, MemSettings};
-use hdfs_model::Reply;
+use hdfs_model::{Command, PathEntry, Reply};
 use hdfs_plain::{PlainFiles, PlainFold, PlainRefusal, PlainWorld};
 use hdfs_script::{NumberedLine, Parsed, ScriptSettings, parse, session_settings};
 use hdfs_wire::List;
@@ -43,7 +43,7 @@ fn answer_commands(alloc: Global, files: &mut PlainFiles, read: &Parsed) -> Resu
     let world = world(alloc, &read.settings)?;
     let fold = hdfs_plain::run(&world, files, read.commands.as_slice());
     drop(world);
-    print(alloc, &fold?)
+    print(alloc, read.commands.as_slice(), &fold?)
 }
 
 /// Loads lines, and answers the number of the first one that the plain program doesn't take.
@@ -95,14 +95,37 @@ fn front_of(reply: &Reply) -> &'static str {
         Reply::Written { .. } => "ok written ",
         Reply::Closed => "ok closed",
         Reply::Bytes { .. } => "ok bytes ",
+        Reply::Made => "ok made",
+        Reply::Deleted => "ok deleted",
+        Reply::Info { isdir: true, .. } => "ok info dir",
+        Reply::Info { isdir: false, .. } => "ok info file ",
+        Reply::Listed { .. } => "ok list ",
     }
 }
 
-/// Adds the number or the bytes of a reply, if it has some.
+/// Adds how many entries a listing has, and behind a newline each the entries.
+fn push_entries(text: &mut String, entries: &[PathEntry]) -> Result<(), Fail> {
+    write!(text, "{}", entries.len())?;
+    for entry in entries {
+        let kind = if entry.isdir { "dir" } else { "file" };
+        write!(text, "\n{kind} {}", entry.path.as_str())?;
+    }
+    Ok(())
+}
+
+/// Adds the number, the bytes, the attributes or the entries of a reply, if it has some.
 fn push_rest(alloc: Global, text: &mut String, reply: &Reply) -> Result<(), Fail> {
     match reply {
         Reply::Written { bytes } => Ok(write!(text, "{bytes}")?),
         Reply::Bytes { bytes } => push_digits(alloc, text, bytes.as_slice()),
+        Reply::Info {
+            isdir: false,
+            length,
+            permission,
+            replication,
+            block_size,
+        } => Ok(write!(text, "{length} {permission:o} {replication} {block_size}")?),
+        Reply::Listed { entries } => push_entries(text, entries.as_slice()),
         _ => Ok(()),
     }
 }
@@ -124,7 +147,12 @@ fn push_replies(alloc: Global, text: &mut String, replies: &[Reply]) -> Result<u
 }
 
 /// Adds the lines that a fold is printed as, and answers the status.
-fn push_fold(alloc: Global, text: &mut String, fold: &PlainFold) -> Result<u8, Fail> {
+fn push_fold(
+    alloc: Global,
+    text: &mut String,
+    commands: &[Command],
+    fold: &PlainFold,
+) -> Result<u8, Fail> {
     let done = push_replies(alloc, text, fold.replies.as_slice())?;
     let Some(why) = fold.refused else {
         return Ok(0);
@@ -133,24 +161,38 @@ fn push_fold(alloc: Global, text: &mut String, fold: &PlainFold) -> Result<u8, F
         text,
         "fault {} {}\n",
         done.saturating_add(1),
-        error_name(why)
+        error_name(why, only_looks(commands.get(done)))
     )?;
     Ok(2)
 }
 
 /// What a fold is printed as.
-fn print(alloc: Global, fold: &PlainFold) -> Result<Ending, Fail> {
+fn print(alloc: Global, commands: &[Command], fold: &PlainFold) -> Result<Ending, Fail> {
     let mut text = String::new(alloc);
-    let status = push_fold(alloc, &mut text, fold)?;
+    let status = push_fold(alloc, &mut text, commands, fold)?;
     Ok(Ending { status, text })
 }
 
+/// Whether a command looks at names alone: what isn't there is told by a namenode's answer then, and by no exception.
+fn only_looks(command: Option<&Command>) -> bool {
+    match command {
+        Some(Command::Info { .. }) | Some(Command::List { .. }) => true,
+        _ => false,
+    }
+}
+
 /// The error by which the cluster in memory and the session answer a refusal.
-fn error_name(why: PlainRefusal) -> &'static str {
+fn error_name(why: PlainRefusal, looks: bool) -> &'static str {
     match why {
+        PlainRefusal::Missing if looks => "FileNotFound",
         PlainRefusal::BadPath => "InvalidPath",
-        PlainRefusal::BadRange | PlainRefusal::WrongState => "InvalidArgument",
+        PlainRefusal::BadRange | PlainRefusal::TooMany | PlainRefusal::WrongState => {
+            "InvalidArgument"
+        }
         PlainRefusal::Exists => "AlreadyExists",
-        PlainRefusal::NotDirectory | PlainRefusal::Missing | PlainRefusal::NotFile => "RPCError",
+        PlainRefusal::NotDirectory
+        | PlainRefusal::Missing
+        | PlainRefusal::NotEmpty
+        | PlainRefusal::NotFile => "RPCError",
     }
 }

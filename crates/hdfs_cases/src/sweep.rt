@@ -1,16 +1,17 @@
-//! Runs all short sessions over the cluster in memory: each is to be answered as by the plain program; and with a single fault it is to
-//! end behind the plain program's replies, with every path that the failed command doesn't name as those left it.
+//! Runs all short sessions over the cluster in memory, and all short ones on names: each is to be answered as by the plain program; and with a
+//! single fault it is to end behind the plain program's replies, with every path that the failed command doesn't name as those left it.
 //!
 //! Then it runs sessions that write a file of three replicas, or of one, while a call fails, or two, and sessions over namenodes that fail once, or
 //! twice: each is answered as by the plain program, or stops for a cause that the counts show. Last it reads a file of one replica to three
 //! with each single fault of a datanode.
 //!
 //! Five numbers say which: the number to begin with, a step for sessions, one for pairs of a session and a fault, one for sessions over
-//! pipelines, and one for those over namenodes: of the 168,420 sessions, the 2,526,300 pairs, the 172,458 sessions over pipelines and the
-//! 340,704 over namenodes those are run with the numbers FIRST, FIRST + STEP and so on, counted for each length of sessions. All are run by
-//! `0 1 1 1 1`.
+//! pipelines, and one for those over namenodes: of the 168,420 sessions, the 22,620 on names, the 2,526,300 pairs, the 172,458 sessions over
+//! pipelines and the 340,704 over namenodes those are run with the numbers FIRST, FIRST + STEP and so on, counted for each length of sessions.
+//! All are run by `0 1 1 1 1`.
 mod comparing;
 mod faults;
+mod naming;
 mod outages;
 mod pipelines;
 mod reads;
@@ -18,6 +19,7 @@ mod scripts;
 mod single_faults;
 
 use comparing::compare_all;
+use naming::compare_names;
 use outages::check_outages;
 use pipelines::check_pipelines;
 use reads::check_reads;
@@ -39,6 +41,13 @@ struct Steps {
 fn run_alone(rt: &HostRuntime, steps: Steps) -> Result<(), Fail> {
     let compared = compare_all(rt.alloc(), steps.first, steps.alone)?;
     println!(rt; "{compared} sessions are answered as by the plain program")?;
+    Ok(())
+}
+
+/// Runs the sessions on names.
+fn run_names(rt: &HostRuntime, steps: Steps) -> Result<(), Fail> {
+    let compared = compare_names(rt.alloc(), steps.first, steps.alone)?;
+    println!(rt; "{compared} sessions on names are answered as by the plain program")?;
     Ok(())
 }
 
@@ -75,6 +84,7 @@ fn run_reads(rt: &HostRuntime) -> Result<(), Fail> {
 /// Runs all of them.
 fn run_all(rt: &HostRuntime, steps: Steps) -> Result<(), Fail> {
     run_alone(rt, steps)?;
+    run_names(rt, steps)?;
     run_pairs(rt, steps)?;
     run_pipelines(rt, steps)?;
     run_outages(rt, steps)?;

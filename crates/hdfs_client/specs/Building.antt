@@ -64,6 +64,7 @@ pub record Plan : Type 0 where
   pub fallback : MountLink
   pub services : List ServicePlan
 
+-- what home directories begin with at a place
 abbrev pub root_of : Given → Place → List ℕ
 root_of given place = home_root (home_prefix given.setting place.scheme place.host)
 

@@ -193,6 +193,7 @@ abbrev pub LetsBy : (Request → Type 0) → (List ℕ → List FileStatus → T
 LetsBy allows Has mounts [] = LetsLook allows mounts root
 LetsBy allows Has mounts (part ∷ parts) = LetsReach allows Has mounts (part ∷ parts)
 
+-- leave for a pattern's text, which is nothing or its components from the root on
 abbrev pub LetsText : (Request → Type 0) → (List ℕ → List FileStatus → Type 0) → MountTable → List ℕ → Type 0
 LetsText allows Has mounts [] = Unit {0}
 LetsText allows Has mounts (c ∷ text) = LetsBy allows Has mounts (components (c ∷ text))
@@ -242,6 +243,7 @@ is_missing (errors.FileNotFound path) = true
 is_missing (errors.RPCError class message) = bytes_eq class not_found || bytes_eq class parent_not_directory
 is_missing error = false
 
+-- an error that says that nothing stands there
 abbrev pub finds_none : ClientError → Bool
 finds_none (Hdfs error) = is_missing error
 finds_none error = false

@@ -32,6 +32,7 @@ pub record Left : Type 0 where
   pub held : List FileStatusMsg
   pub more : Bool
 
+-- what is left of a directory: the entries that are held, and whether another page is to come
 abbrev pub left_of : DirListingIterator → Left
 left_of dir = record { path = dir.path; start = dir.start; held = reverse dir.left.items; more = dir.more }
 
@@ -89,6 +90,7 @@ is_sound None = true
 is_sound (Some (Ok status)) = true
 is_sound (Some (Err error)) = false
 
+-- what is so of the error, where there is one
 abbrev pub IfFails : Option (Result FileStatus HdfsError) → (HdfsError → Type 0) → Type 0
 IfFails None Is = Unit {0}
 IfFails (Some (Ok status)) Is = Unit {0}

@@ -21,6 +21,7 @@ pub record Mounted : Type 0 where
   pub fallback : Option MountLink
   pub services : List ServicePlan
 
+-- no mount, and no service
 abbrev pub nothing : Mounted
 nothing = record { links = []; fallback = None; services = [] }
 
@@ -44,6 +45,7 @@ without_end (c ∷ text) = put_before c (without_end text)
 abbrev pub link_to : List ℕ → List ℕ → ℕ → MountLink
 link_to viewfs_path path service = record { viewfs_path = without_end viewfs_path; hdfs_path = without_end path; service = service }
 
+-- how many slashes a text has
 abbrev pub slashes_in : List ℕ → ℕ
 slashes_in text = length (filter is_slash text)
 

@@ -21,6 +21,7 @@ Answers expected result = (result ≡ expected) ⊎ (result ≡ Err NoMemory)
 abbrev pub place_of : Parts → Place
 place_of url = record { scheme = url.scheme; host = option_map host_text (nonempty_host url); port = url.port; path = url.path }
 
+-- the place of a URL, or why a text isn't one
 abbrev pub seen : Result Parts ParseError → Result Place BuildError
 seen (Ok url) = Ok (place_of url)
 seen (Err error) = Err (UrlParse error)

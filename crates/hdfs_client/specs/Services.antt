@@ -56,6 +56,7 @@ abbrev pub is_some_namenode : List NamenodeAddress → Bool
 is_some_namenode [] = false
 is_some_namenode (address ∷ addresses) = true
 
+-- a service has a namenode
 abbrev pub has_namenode : ServicePlan → Bool
 has_namenode plan = is_some_namenode plan.namenodes
 

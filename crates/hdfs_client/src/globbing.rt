@@ -1,5 +1,5 @@
 //! Patterns of paths: what they reach.
-ghost use Rattle.std.specs.Prelude.{◌≡◌, ◌≢◌, ◌⊎◌, ◌++◌, ◌∷◌, ◌<◌, ◌≤◌, ℕ, List as Items, [], true, Some, None, IfOk, IfErr, length, map, string_bytes, vec_len};
+ghost use Rattle.std.specs.Prelude.{◌≡◌, ◌≢◌, ◌⊎◌, ◌++◌, ◌∷◌, ◌<◌, ◌≤◌, ℕ, List as Items, [], true, Some, None, IfOk, IfErr, vec_len};
 ghost use Rattle.hdfs_cluster.specs.declared.errors.HdfsError.TheVariants as errors;
 ghost use Rattle.hdfs_client.specs.declared.errors.ClientError.TheVariants as client_errors;
 ghost use Rattle.hdfs_client.specs.declared.status.FileStatus.{FileStatus as Status};
@@ -18,7 +18,7 @@ use picking::{parts_of, put_all, texts_of};
 
 impl Client {
     ghost use Rattle.hdfs_client.specs.Clients.{IsClientOf, Stays, mounts_of};
-    ghost use Rattle.hdfs_client.specs.Globbing.{Arrives, EachOf, EndsAt, EndsNot, FailsToList, FailsToLook, Globs, IsGlobFault, IsListed, IsLooked, IsNoPattern, IsOneOf, IsReachFault, IsReached, IsRead, IsStopped, IsTextFault, Joins, JoinsSome, LeadsTo, LetsGlob, LetsReach, LetsStep, LetsText, ReachesText, SomeOfText, StopsAtOne, is_wild, texts_of};
+    ghost use Rattle.hdfs_client.specs.Globbing.{Arrives, EachOf, EndsAt, EndsNot, FailsToList, FailsToLook, Globs, IsGlobFault, IsListed, IsLooked, IsNoPattern, IsReachFault, IsReached, IsRead, IsStopped, Joins, LeadsTo, LetsGlob, LetsReach, LetsStep, LetsText, ReachesText, StopsAtOne, is_wild, texts_of};
     ghost use Rattle.hdfs_client.specs.Listing.{HasAll, LetsListAt};
     ghost use Rattle.hdfs_client.specs.Statuses.{or_root};
     ghost use Rattle.hdfs_client.specs.Writing.{KeepsFiles};

@@ -5,7 +5,7 @@ ghost use Rattle.hdfs_cluster.specs.declared.asks.Answer.TheVariants as answers;
 ghost use Rattle.hdfs_cluster.specs.declared.errors.HdfsError.TheVariants as errors;
 ghost use Rattle.hdfs_client.specs.Calls.{Gives};
 ghost use Rattle.hdfs_client.specs.Clients.{IsClientOf, Stays, mounts_of};
-ghost use Rattle.hdfs_client.specs.Iterating.{IfFails, IsDirFault, IsEntryFault, IsPage, IsPageFault, LetsWalk, Turns, Walks, asks_none, begun_by, entered_by, fresh, is_over, left_of, wants_page};
+ghost use Rattle.hdfs_client.specs.Iterating.{IfFails, IsDirFault, IsEntryFault, IsPageFault, LetsWalk, Turns, Walks, asks_none, begun_by, entered_by, fresh, left_of, wants_page};
 ghost use Rattle.hdfs_client.specs.Listing.{LetsListAt};
 ghost use Rattle.hdfs_client.specs.Turning.{IsFoundIn, IsGiven, IsOpened, IsTurned, Opens, ended, first_ended};
 ghost use Rattle.hdfs_client.specs.Writing.{KeepsFiles};

@@ -5,7 +5,7 @@ ghost use Rattle.hdfs_cluster.specs.declared.asks.Ask.TheVariants as asks;
 ghost use Rattle.hdfs_cluster.specs.declared.asks.Answer.TheVariants as answers;
 ghost use Rattle.hdfs_file_reader.specs.Files.{EndsBehind, IsWholeFile, LetsReadBlocks};
 ghost use Rattle.hdfs_file_reader.specs.Files as files;
-ghost use Rattle.hdfs_client.specs.Readers.{IsReaderOf, Opens, service_of};
+ghost use Rattle.hdfs_client.specs.Readers.{Opens, service_of};
 
 use crate::client::Client;
 use crate::file_reader::FileReader;

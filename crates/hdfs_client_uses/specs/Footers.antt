@@ -48,10 +48,11 @@ LetsReadAny allows may_answer mounts =
     allows (AskOf asks.GetServerDefaults)
     × ((path : List ℕ) (to : Resolved) → leads_by mounts path to → LetsReadFile allows may_answer to.path 1)
 
--- how many bytes are read at the end of a file of this length, and from where on
+-- how many bytes are read at the end of a file of this length
 abbrev pub end_len : ℕ → ℕ
 end_len length = min length 8
 
+-- from where on they are read
 abbrev pub end_from : ℕ → ℕ
 end_from length = length - end_len length
 

@@ -1,5 +1,5 @@
 //! Logs that go on in new files.
-ghost use Rattle.std.specs.Prelude.{◌≡◌, IfOk, IfErr, OnOk};
+ghost use Rattle.std.specs.Prelude.{◌≡◌, IfOk};
 ghost use Rattle.hdfs_client.specs.Clients.{IsClientOf};
 ghost use Rattle.hdfs_client.specs.Writing.{KeepsFiles};
 ghost use Rattle.hdfs_client_uses.specs.Allowing.{AllowsAll};

@@ -10,15 +10,13 @@ use Rattle.hdfs_cluster.specs.declared.asks.Ask.{Ask}
 use Rattle.hdfs_cluster.specs.declared.asks.Ask.TheVariants as asks
 use Rattle.hdfs_cluster.specs.declared.asks.Answer.{Answer}
 use Rattle.hdfs_cluster.specs.declared.asks.Answer.TheVariants as answers
-use Rattle.hdfs_cluster.specs.declared.messages.DirList.{DirList}
-use Rattle.hdfs_cluster.specs.declared.messages.FileStatusMsg.{FileStatusMsg}
 use Rattle.hdfs_cluster.specs.declared.picture.BlockEntry.{BlockEntry}
 use Rattle.hdfs_cluster.specs.declared.picture.Entry.{Entry}
 use Rattle.hdfs_cluster.specs.declared.picture.Entry.TheVariants as entries
 use Rattle.hdfs_cluster.specs.Deleting.{DeletesFrom}
 use Rattle.hdfs_cluster.specs.Files.{Kind}
 use Rattle.hdfs_cluster.specs.Listing.{IsMissing, TellsListing, TellsStatus}
-use Rattle.hdfs_cluster.specs.Namenode.{FoundNothing, IsOwn, Row}
+use Rattle.hdfs_cluster.specs.Namenode.{FoundNothing, Row}
 use Rattle.hdfs_cluster.specs.Names.{is_below}
 use Rattle.hdfs_cluster.specs.Picture.{Picture, SameButActive}
 use Rattle.hdfs_cluster.specs.Refusals.{mkdirs_refusal, with_parents}

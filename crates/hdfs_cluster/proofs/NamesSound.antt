@@ -1,12 +1,11 @@
 -- What asks about names do leaves a sound picture sound: each file that is left is where it was, with the same blocks.
-use Rattle.std.proofs.Common.{◌≡◌, ℕ, ◌<◌, Bool, true, false, cond, ◌||◌, List, Option, Some, None, IsSome, refl, sym, ◌∙◌, ap, subst, arith}
+use Rattle.std.proofs.Common.{◌≡◌, ℕ, Bool, true, false, cond, List, Option, Some, None, IsSome, refl, sym, ◌∙◌, ap, subst, arith}
 use Rattle.std.proofs.lemmas.Bool.{false≢true}
 use Rattle.std.proofs.lemmas.List.{get_or_default}
 use Rattle.std.proofs.lemmas.List.Elements.{All-contains, All-contains_itself, All-weaker}
 use Rattle.std.specs.List.{All, Contains, list_any}
-use Rattle.std.specs.Prelude.{unwrap_or}
+use Rattle.std.specs.Prelude.{IsUtf8, unwrap_or}
 use Rattle.std.specs.Str.{bytes_eq}
-use Rattle.hdfs_cluster.specs.declared.asks.Ask.{Ask}
 use Rattle.hdfs_cluster.specs.declared.asks.Ask.TheVariants as asks
 use Rattle.hdfs_cluster.specs.declared.asks.Answer.{Answer}
 use Rattle.hdfs_cluster.specs.declared.asks.Answer.TheVariants as answers
@@ -25,8 +24,10 @@ use Rattle.hdfs_names.specs.Paths.{ancestors}
 module _ (p q : Picture) (sound : IsSound p) where
   -- files that are where they were, and whose blocks are still in the table
   left_sound : ((path : List ℕ) (file : FileEntry) → IsFileAt q path file → IsFileAt p path file)
-      → ((path : List ℕ) (file : FileEntry) → IsFileAt q path file → All (λ id. IsSome (q.table id)) file.blocks) → IsSound q
-  left_sound was listed = record {
+      → ((path : List ℕ) (file : FileEntry) → IsFileAt q path file → All (λ id. IsSome (q.table id)) file.blocks)
+      → ((path : List ℕ) → IsSome (q.names path) → IsUtf8 path) → IsSound q
+  left_sound was listed texts = record {
+    texts = texts;
     listed = listed;
     once = λ path other k n id here there. sound.once path other k n id (back path k id here) (back other n id there);
   }
@@ -39,6 +40,7 @@ module _ (p q : Picture) (sound : IsSound p) where
   same_sound same = left_sound was (λ path file is.
       All-weaker (λ id. IsSome (p.table id)) (λ id. IsSome (q.table id)) (λ id there. subst IsSome (sym (same.files.table id)) there) file.blocks
       (sound.listed path file (was path file is)))
+      (λ path some. sound.texts path (subst IsSome (same.files.names path) some))
     where
       was : (path : List ℕ) (file : FileEntry) → IsFileAt q path file → IsFileAt p path file
       was path file is = sym (same.files.names path) ∙ is
@@ -50,11 +52,12 @@ module _ (p q : Picture) (sound : IsSound p) where
   file_at false true (Some entry) file is = is
   file_at false false o file is = is
 
-  -- directories come in
-  pub made_sound : (src : List ℕ) → Changes p q (with_parents p.names entries.Dir src entries.Dir) p.table → IsSound q
-  made_sound src made = left_sound was (λ path file is.
+  -- directories come in, at paths that are text
+  pub made_sound : (src : List ℕ) → Changes p q (with_parents p.names entries.Dir src entries.Dir) p.table
+      → ((path : List ℕ) → IsSome (q.names path) → IsUtf8 path) → IsSound q
+  made_sound src made texts = left_sound was (λ path file is.
       All-weaker (λ id. IsSome (p.table id)) (λ id. IsSome (q.table id)) (λ id there. subst IsSome (sym (made.table id)) there) file.blocks
-      (sound.listed path file (was path file is)))
+      (sound.listed path file (was path file is))) texts
     where
       was : (path : List ℕ) (file : FileEntry) → IsFileAt q path file → IsFileAt p path file
       was path file is = file_at (bytes_eq src path) (list_any (bytes_eq path) (ancestors src)) (p.names path) file (sym (made.names path) ∙ is)
@@ -62,6 +65,10 @@ module _ (p q : Picture) (sound : IsSound p) where
   left_at : (b : Bool) (o : Option Entry) (file : FileEntry) → cond b None o ≡ Some (entries.File file) → (b ≡ false) × (o ≡ Some (entries.File file))
   left_at true o file is = absurd (cc is)
   left_at false o file is = (refl, is)
+
+  some_left : (b : Bool) (o : Option Entry) → IsSome (cond b None o) → IsSome o
+  some_left true o some = absurd (false≢true some)
+  some_left false o some = some
 
   -- one of the blocks of what stands at a path is that of a file there
   of_file : (o : Option Entry) (id : ℕ) → Contains (blocks_at o) id → (file : FileEntry) × (o ≡ Some (entries.File file)) × Contains file.blocks id
@@ -91,6 +98,7 @@ module _ (p q : Picture) (sound : IsSound p) where
         (λ id has. subst IsSome (sym (gone.stay id (not_within path file is id has)))
         (All-contains (λ id. IsSome (p.table id)) file.blocks id (sound.listed path file (stood path file is).1) has))
         file.blocks (All-contains_itself file.blocks))
+        (λ path some. sound.texts path (some_left (is_within src path) (p.names path) (subst IsSome (gone.named path) some)))
 
 -- what is answered to an ask about names
 pub info_sound : (src : List ℕ) (p q : Picture) (answer : Answer) → IsSound p → Row p (asks.GetFileInfo src) answer q → IsSound q
@@ -101,10 +109,11 @@ pub listing_sound : (src from : List ℕ) (located : Bool) (p q : Picture) (answ
 listing_sound src from located p q (answers.GetListing page) sound row = same_sound p q sound row.1
 listing_sound src from located p q answer sound row = absurd row
 
-pub mkdirs_sound : (src : List ℕ) (masked : ℕ) (parents : Bool) (p q : Picture) (answer : Answer) → IsSound p → Row p (asks.Mkdirs src masked parents) answer q → IsSound q
-mkdirs_sound src masked parents p q (answers.Mkdirs true) sound row = made_sound p q sound src row.1
-mkdirs_sound src masked parents p q (answers.Mkdirs false) sound row = absurd row
-mkdirs_sound src masked parents p q answer sound row = absurd row
+pub mkdirs_sound : (src : List ℕ) (masked : ℕ) (parents : Bool) (p q : Picture) (answer : Answer) → IsSound p → Row p (asks.Mkdirs src masked parents) answer q
+    → ((path : List ℕ) → IsSome (q.names path) → IsUtf8 path) → IsSound q
+mkdirs_sound src masked parents p q (answers.Mkdirs true) sound row texts = made_sound p q sound src row.1 texts
+mkdirs_sound src masked parents p q (answers.Mkdirs false) sound row texts = absurd row
+mkdirs_sound src masked parents p q answer sound row texts = absurd row
 
 pub delete_sound : (src : List ℕ) (recursive : Bool) (p q : Picture) (answer : Answer) → IsSound p → Row p (asks.Delete src recursive) answer q → IsSound q
 delete_sound src recursive p q (answers.Delete true) sound row = deleted_sound p q sound src recursive row.0

@@ -16,7 +16,7 @@ use Rattle.hdfs_cluster.specs.Files.{Kind, Directory, ClosedFile, OpenFile, NoFi
 use Rattle.hdfs_cluster.specs.Namenode.{Row, FoundNothing, IsShaped, IsOwn, IsRefusal, MayBeDone, IsFalse, ServesTold, StandsForAny, StandsForNoFile, StandsForRefusal, class_for, class_in_the_way, is_retriable, overwrites}
 use Rattle.hdfs_cluster.specs.Names.{HasBelow}
 use Rattle.hdfs_cluster.specs.Picture.{Picture, SameButActive, SamePicture, entry_kind, kinds}
-use Rattle.hdfs_cluster.specs.Refusals.{Refusal, BadPath, WrongState, Exists, Lacks, BadRange, above_refusal, create_refusal, append_refusal, mkdirs_refusal}
+use Rattle.hdfs_cluster.specs.Refusals.{Refusal, BadPath, WrongState, Exists, Lacks, BadRange, NotEmpty, TooMany, above_refusal, create_refusal, append_refusal, mkdirs_refusal}
 use Rattle.hdfs_cluster.specs.Repeating.{Done, DoneOrNot, Repeats}
 use Rattle.hdfs_cluster.specs.Shown.{Shown, Served, Later}
 use Rattle.hdfs_cluster.proofs.Frames.{told_after, later_refl, later_trans, rose_since}
@@ -77,6 +77,8 @@ stands_stays kind (Lacks why) class is = ap is_retriable is ∙ class_stays why
 stands_stays kind BadPath class is = absurd is
 stands_stays kind WrongState class is = absurd is
 stands_stays kind BadRange class is = absurd is
+stands_stays kind NotEmpty class is = ap is_retriable is
+stands_stays kind TooMany class is = absurd is
 
 refusal_stays : (p : Picture) (ask : Ask) (class : List ℕ) → IsRefusal p ask class → is_retriable class ≡ false
 refusal_stays p (asks.GetBlockLocations src offset length) class h = ap is_retriable h.2 ∙ class_stays h.0

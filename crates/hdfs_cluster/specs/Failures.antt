@@ -1,5 +1,6 @@
 -- What an error says has failed, and what a namenode has answered last: over any cluster, whoever answers it.
 use Rattle.std.specs.Prelude.{◌≡◌, ℕ, zero, suc, ◌<◌, Bool, true, false, List, All, Any}
+use Rattle.hdfs_cluster.specs.declared.errors.ArgFault.TheVariants as args
 use Rattle.hdfs_cluster.specs.declared.errors.HdfsError.{HdfsError}
 use Rattle.hdfs_cluster.specs.declared.errors.HdfsError.TheVariants as errors
 use Rattle.hdfs_cluster.specs.declared.errors.IoFault.TheVariants as io_faults
@@ -93,6 +94,7 @@ SaysLast last (errors.IOError (io_faults.Namenode i)) = last ≡ last_answers.Br
 SaysLast last (errors.AlreadyExists message) = IsTakenBy message last
 SaysLast last (errors.OperationFailed name) = last ≡ last_answers.Fine
 SaysLast last (errors.FileNotFound path) = last ≡ last_answers.Fine
+SaysLast last (errors.InvalidArgument (args.TooMany limit)) = last ≡ last_answers.Fine
 SaysLast last (errors.RPCError class message) = (is_taken class ≡ false) × (last ≡ last_answers.Exception class message)
 SaysLast last (errors.InvalidRPCResponse fault) = last ≡ last_answers.BadReply fault
 SaysLast last (errors.FatalRPCError class message) = last ≡ last_answers.Fatal class message

@@ -19,7 +19,7 @@ use Rattle.hdfs_cluster.specs.Effects.{Changes, KeepsBytes, HasStatus, HasBlock,
 use Rattle.hdfs_cluster.specs.Files.{Kind, Directory, ClosedFile, NoFile, NotDirectory, Missing, NotFile, no_file, OpenFile}
 use Rattle.hdfs_cluster.specs.Listing.{IsMissing, TellsListing, TellsStatus}
 use Rattle.hdfs_cluster.specs.Picture.{Picture, SameButActive, SamePicture, kinds}
-use Rattle.hdfs_cluster.specs.Refusals.{Refusal, BadPath, WrongState, Exists, Lacks, BadRange, create_refusal, append_refusal, above_refusal, mkdirs_refusal, with_parents}
+use Rattle.hdfs_cluster.specs.Refusals.{Refusal, BadPath, WrongState, Exists, Lacks, BadRange, NotEmpty, TooMany, create_refusal, append_refusal, above_refusal, mkdirs_refusal, with_parents}
 use Rattle.hdfs_cluster.specs.Sending.{uuids}
 use Rattle.hdfs_cluster.specs.Sound.{IsFileAt}
 use Rattle.hdfs_names.specs.Paths.{root}
@@ -235,6 +235,8 @@ StandsForRefusal kind (Lacks why) class = class ≡ class_for why
 StandsForRefusal kind BadPath class = ⊥
 StandsForRefusal kind WrongState class = ⊥
 StandsForRefusal kind BadRange class = ⊥
+StandsForRefusal kind NotEmpty class = class ≡ not_empty
+StandsForRefusal kind TooMany class = ⊥
 
 -- an exception of this class stands for what refuses something at a path
 abbrev pub StandsForAny : Option Kind → Option Refusal → List ℕ → Type 0

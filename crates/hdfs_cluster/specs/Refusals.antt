@@ -17,6 +17,10 @@ pub data Refusal : Type 0 where
   Lacks : NoFile → Refusal
   -- its range ends behind the file
   BadRange : Refusal
+  -- something stands below the directory at its path, and isn't to go with it
+  NotEmpty : Refusal
+  -- its directory has more entries than it allows
+  TooMany : Refusal
 
 -- what stands at a path keeps a file from being created there: a directory always, a file where it isn't overwritten
 abbrev pub is_in_the_way : Bool → Option Kind → Bool
@@ -50,6 +54,14 @@ mkdirs_refusal kinds path create_parent =
     if is_file (kinds path) then Some Exists
     else if list_any (λ ancestor. is_file (kinds ancestor)) (ancestors path) then Some (Lacks NotDirectory)
     else if not create_parent && is_none (kinds (parent_of path)) then Some (Lacks Missing)
+    else None
+
+-- Why what stands at a path isn't deleted: an ancestor is a file; something stands below it, and isn't to go with it. Where nothing stands
+-- there, nothing is to be done.
+abbrev pub delete_refusal : (List ℕ → Option Kind) → List ℕ → Bool → Bool → Option Refusal
+delete_refusal kinds path full recursive =
+    if list_any (λ ancestor. is_file (kinds ancestor)) (ancestors path) then Some (Lacks NotDirectory)
+    else if full && not recursive then Some NotEmpty
     else None
 
 -- a file that is being written isn't opened again

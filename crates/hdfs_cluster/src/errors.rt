@@ -58,6 +58,9 @@ pub enum ArgFault {
     /// `offset + len` is above the file's `length`.
     #[error("{len} bytes from offset {offset} on end behind the file's {length}")]
     Range { offset: u64, len: u64, length: u64 },
+    /// A listing has more than `limit` entries.
+    #[error("there are more than {limit} entries")]
+    TooMany { limit: u64 },
 }
 
 /// What isn't there, of which a cluster makes use.
@@ -161,6 +164,7 @@ impl ArgFault {
             ArgFault::Options => "Options",
             ArgFault::Defaults => "Defaults",
             ArgFault::Range { .. } => "Range",
+            ArgFault::TooMany { .. } => "TooMany",
         }
     }
 }

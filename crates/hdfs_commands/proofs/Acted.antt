@@ -10,7 +10,7 @@ use Rattle.hdfs_model.specs.declared.commands.Settings.{Settings}
 use Rattle.hdfs_cluster.specs.declared.errors.HdfsError.{HdfsError}
 use Rattle.hdfs_cluster.specs.declared.messages.ServerDefaults.{ServerDefaults}
 use Rattle.hdfs_model.specs.Anywhere.{IsReply}
-use Rattle.hdfs_model.specs.Causes.{Cause, CommandLost, Tells, UsesDefaults}
+use Rattle.hdfs_model.specs.Causes.{Cause, CommandLost, Sends, Tells}
 use Rattle.hdfs_cluster.specs.Files.{State, Writing, Content}
 use Rattle.hdfs_cluster.specs.Picture.{Picture}
 use Rattle.hdfs_cluster.specs.Fitting.{Fits}
@@ -31,7 +31,7 @@ use Rattle.hdfs_commands.proofs.OneFile.{not_same}
 use Rattle.hdfs_commands.proofs.Begun.{Begun}
 use Rattle.hdfs_commands.proofs.Moved.{HasMore, links_moved, links_with, session_moved, session_with, writer_cases}
 use Rattle.hdfs_commands.proofs.Sized.{remembers_failed, remembers_refl}
-use Rattle.hdfs_commands.proofs.Tallying.{sends_none, tallied_moved, tallied_with, uses_none}
+use Rattle.hdfs_commands.proofs.Tallying.{sends_none, tallied_moved, tallied_with}
 use Rattle.hdfs_commands.proofs.WithWriting.{other_there, writing_there}
 
 pub reads_same : (s t : Shown) → OnlyLooks s t → SameReads s t
@@ -45,19 +45,19 @@ abbrev pub Fails : World → State → Command → Shown → Shown → HdfsError
 Fails world state command s t error = Cause world state command s t error × AgreesBut (spared world state command error) t.picture state.files
 
 -- A command that has failed, and has left all links, datanodes and writers.
-pub idle_acts : (command : Command) → UsesDefaults command → (s t : Shown) (session session' : Session) (error : HdfsError) → Stands s session → Later s t → SameReads s t → ((link : ℕ) → t.writes link ≡ s.writes link) → SameNodes s t
+pub idle_acts : (command : Command) → (Sends command → ⊥) → (s t : Shown) (session session' : Session) (error : HdfsError) → Stands s session → Later s t → SameReads s t → ((link : ℕ) → t.writes link ≡ s.writes link) → SameNodes s t
     → ((r : List ℕ) → writer_of session' r ≡ writer_of session r) → Remembers session session' → Tells command s t error
     → ((path : List ℕ) (byte : ℕ) → CommandLost s.counts t path command byte → ⊥)
     → ((state : State) → IsReady s session state command → Fails (world_at session s) state command s t error)
     → ((state : State) → IsReady s session state command → CarriesOpen t session' state)
     → Acts command s session t (after {T = Reply} session' (Err error)) (Err error)
-idle_acts command uses s t session session' error stands later reads writes nodes writers remembers tells found told others = record {
+idle_acts command still s t session session' error stands later reads writes nodes writers remembers tells found told others = record {
   anywhere = record { later = later; reads = reads; replies = tt; tells = tells; refused = λ early. nodes; idle = λ idle. nodes };
   links = links_moved s t writes session (record session' { failed = true }) writers;
   stands = session_moved s t writes session (record session' { failed = true }) writers later.namenodes (remembers_failed session session' remembers)
       (λ failed. absurd (false≢true (sym failed))) stands;
   tallied = tallied_moved later writers;
-  limit = λ start n is tally. absurd (sends_none command s t error (uses_none command uses) tells n is);
+  limit = λ start n is tally. absurd (sends_none command s t error still tells n is);
   writers = λ r apart. writers r;
   applied = λ state ready. record {
     ok = tt;
@@ -71,14 +71,14 @@ idle_acts command uses s t session session' error stands later reads writes node
 }
 
 -- A command that has failed behind asks alone.
-pub failed_acts : (command : Command) → UsesDefaults command → (s t : Shown) (session session' : Session) (error : HdfsError) → Stands s session → OnlyLooks s t
+pub failed_acts : (command : Command) → (Sends command → ⊥) → (s t : Shown) (session session' : Session) (error : HdfsError) → Stands s session → OnlyLooks s t
     → ((r : List ℕ) → writer_of session' r ≡ writer_of session r) → Remembers session session' → Tells command s t error
     → ((path : List ℕ) (byte : ℕ) → CommandLost s.counts t path command byte → ⊥)
     → ((state : State) → IsReady s session state command → Fails (world_at session s) state command s t error)
     → ((state : State) → IsReady s session state command → CarriesOpen t session' state)
     → Acts command s session t (after {T = Reply} session' (Err error)) (Err error)
-failed_acts command uses s t session session' error stands looks writers remembers tells found told others =
-    idle_acts command uses s t session session' error stands looks.later (reads_same s t looks) looks.links.writes looks.nodes writers remembers tells found told others
+failed_acts command still s t session session' error stands looks writers remembers tells found told others =
+    idle_acts command still s t session session' error stands looks.later (reads_same s t looks) looks.links.writes looks.nodes writers remembers tells found told others
 
 -- what isn't touched agrees, whatever came of a command that had asked, and where the step is refused all of it
 pub spares_but : (world : World) (state : State) (command : Command) (error : HdfsError) (path : List ℕ) (o : Option Picture) (q : Picture) → target_of world command ≡ path → is_before_asking error ≡ false → o ≡ Some q

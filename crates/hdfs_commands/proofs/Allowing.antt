@@ -60,6 +60,10 @@ module _ {allows : Request → Type 0} (may_answer : Ask → Answer → Type 0) 
     defaults = λ some. all (AskOf asks.GetServerDefaults);
     reads = λ block located end k ask is. all (ReadOf ask);
   }
+  lets_at client path (commands.Mkdirs name permission parents) = λ fine. all (AskOf (asks.Mkdirs path permission parents))
+  lets_at client path (commands.Delete name recursive) = all (AskOf (asks.Delete path recursive))
+  lets_at client path (commands.Info name) = all (AskOf (asks.GetFileInfo path))
+  lets_at client path (commands.List name recursive limit) = λ dir start below. all (AskOf (asks.GetListing dir start false))
 
   pub lets_any : LetsAny allows may_answer
   lets_any settings command is = lets_at _ _ command

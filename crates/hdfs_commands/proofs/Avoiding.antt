@@ -1,5 +1,5 @@
 -- A command never makes a file that another client is writing.
-use Rattle.std.proofs.Common.{◌≡◌, ℕ, ◌+◌, nat_lt, length, Bool, true, false, cond, not, ◌||◌, List, [], ◌∷◌, ◌++◌, Option, Some, None, unwrap_or, refl, sym, ◌∙◌, ap, subst}
+use Rattle.std.proofs.Common.{◌≡◌, ℕ, ◌+◌, nat_lt, length, Bool, true, false, cond, not, ◌||◌, List, [], ◌∷◌, ◌++◌, map, Option, Some, None, unwrap_or, refl, sym, ◌∙◌, ap, subst}
 use Rattle.std.specs.Prelude.{All}
 use Rattle.std.specs.List.{list_any}
 use Rattle.std.specs.Str.{bytes_eq}
@@ -11,10 +11,12 @@ use Rattle.hdfs_model.specs.declared.commands.Command.TheVariants as commands
 use Rattle.hdfs_model.specs.declared.commands.Reply.{Reply}
 use Rattle.hdfs_model.specs.declared.commands.Reply.TheVariants as replies
 use Rattle.hdfs_cluster.specs.Files.{State, Content, Node, Dir, File, Writing, NoFile, kinds_of, no_file}
-use Rattle.hdfs_names.specs.Paths.{is_path, ancestors}
+use Rattle.hdfs_cluster.specs.Names.{is_within}
+use Rattle.hdfs_names.specs.Paths.{root, is_path, ancestors}
 use Rattle.hdfs_model.specs.Sessions.{Avoids, IsStrange}
 use Rattle.hdfs_cluster.specs.Reading.{range_of}
-use Rattle.hdfs_model.specs.Steps.{World, Outcome, Refused, Done, Refusal, BadPath, WrongState, BadRange, content_of, read_content, read_file, created, create_file, create_refusal, append_file, append_refusal, open_node, write_node, close_node, with_writing, with_node, without, is_opened, step, step_at, target_of}
+use Rattle.hdfs_model.specs.Steps.{World, Outcome, Refused, Done, Refusal, BadPath, WrongState, BadRange, content_of, read_content, read_file, created, create_file, create_refusal, append_file, append_refusal, open_node, write_node, close_node, with_writing, with_node, without, is_opened, is_opened_within, step, step_at, target_of, with_directory, make_directory, mkdirs_refusal, delete_files, delete_refusal, files_without, has_below, info_node, look_refusal, list_node, list_paths, entry_at, TooMany}
+use Rattle.hdfs_model.specs.Walks.{walk}
 
 refused_or : (b : Bool) (o : Outcome) (why : Refusal) (reply : Reply) (next : State) → cond b (Refused why) o ≡ Done reply next → (b ≡ false) × (o ≡ Done reply next)
 refused_or true o why reply next is = absurd (cc)
@@ -144,6 +146,46 @@ close_done state next p (Some Dir) reply is = absurd (cc)
 close_done state next p (Some (File content)) reply is = absurd (cc)
 close_done state next p (Some (Writing content)) reply is = (content, cc)
 
+-- of a new directory, and of a deletion
+dir_done : (state next : State) (p : List ℕ) (why : Option Refusal) (reply : Reply) → make_directory state p why ≡ Done reply next → next ≡ with_directory state p
+dir_done state next p None reply is = cc
+dir_done state next p (Some why) reply is = absurd (cc)
+
+delete_done : (state next : State) (p : List ℕ) (why : Option Refusal) (reply : Reply) → delete_files state p why ≡ Done reply next → next ≡ record state { files = files_without state.files p }
+delete_done state next p None reply is = cc
+delete_done state next p (Some why) reply is = absurd (cc)
+
+-- and of what tells alone
+info_done : (state next : State) (why : Option Refusal) (node : Option Node) (reply : Reply) → info_node state why node ≡ Done reply next → next ≡ state
+info_done state next (Some why) node reply is = absurd (cc)
+info_done state next None None reply is = absurd (cc)
+info_done state next None (Some node) reply is = cc
+
+list_done : (state next : State) (paths : List (List ℕ)) (limit : ℕ) (reply : Reply) → list_paths state paths limit ≡ Done reply next → next ≡ state
+list_done state next paths limit reply is = cond_done (nat_lt limit (length paths)) state next (replies.Listed (map (entry_at state) paths)) reply TooMany is
+
+listed_done : (state next : State) (p : List ℕ) (why : Option Refusal) (node : Option Node) (recursive : Bool) (limit : ℕ) (reply : Reply) → list_node state p why node recursive limit ≡ Done reply next → next ≡ state
+listed_done state next p (Some why) node recursive limit reply is = absurd (cc)
+listed_done state next p None None recursive limit reply is = absurd (cc)
+listed_done state next p None (Some Dir) recursive limit reply is = list_done state next (walk state.files state.paths p recursive) limit reply is
+listed_done state next p None (Some (File content)) recursive limit reply is = list_done state next (p ∷ []) limit reply is
+listed_done state next p None (Some (Writing content)) recursive limit reply is = list_done state next (p ∷ []) limit reply is
+
+-- a file that is being written beside a new directory was so before
+written_beside : (here above : Bool) (o : Option Node) (content : Content) → cond here (Some Dir) (cond above (Some (unwrap_or o Dir)) o) ≡ Some (Writing content) → o ≡ Some (Writing content)
+written_beside true above o content is = absurd (cc is)
+written_beside false above o content is = node_before above o content is
+
+written_without : (within : Bool) (o : Option Node) (content : Content) → cond within None o ≡ Some (Writing content) → o ≡ Some (Writing content)
+written_without true o content is = absurd (cc is)
+written_without false o content is = is
+
+strange_beside : (state : State) (p q : List ℕ) → IsStrange (with_directory state p) q → IsStrange state q
+strange_beside state p q h = (h.0, written_beside (bytes_eq p q) (list_any (bytes_eq q) (ancestors p)) (state.files q) h.0 h.1, h.2)
+
+strange_without : (state : State) (p q : List ℕ) → IsStrange (record state { files = files_without state.files p }) q → IsStrange state q
+strange_without state p q h = (h.0, written_without (is_within p q) (state.files q) h.0 h.1, h.2)
+
 strange_at : (w : World) (state next : State) (p q : List ℕ) (command : Command) (reply : Reply) → step_at w state p command ≡ Done reply next → IsStrange next q → IsStrange state q
 strange_at w state next p q (commands.Create text options) reply is h =
     let made = create_done state next p (created w options) (create_refusal (kinds_of state.files) p options.overwrite options.create_parent) reply (refused_or (is_opened state p) _ WrongState reply next is).1 in
@@ -161,14 +203,25 @@ strange_at w state next p q (commands.Close text) reply is h =
 strange_at w state next p q (commands.Read text offset len) reply is h =
     let same = file_done state next p (no_file (kinds_of state.files) p) offset len reply (refused_or (is_opened state p) _ WrongState reply next is).1 in
     subst (λ (s : State). IsStrange s q) same h
+strange_at w state next p q (commands.Mkdirs text permission parents) reply is h =
+    let made = dir_done state next p (mkdirs_refusal (kinds_of state.files) p parents) reply (refused_or (is_opened state p) _ WrongState reply next is).1 in
+    strange_beside state p q (subst (λ (s : State). IsStrange s q) made h)
+strange_at w state next p q (commands.Delete text recursive) reply is h =
+    let gone = delete_done state next p (delete_refusal (kinds_of state.files) p (has_below state p) recursive) reply (refused_or (bytes_eq root p || is_opened_within state p) _ WrongState reply next is).1 in
+    strange_without state p q (subst (λ (s : State). IsStrange s q) gone h)
+strange_at w state next p q (commands.Info text) reply is h =
+    let same = info_done state next (look_refusal (kinds_of state.files) p) (state.files p) reply (refused_or (is_opened state p) _ WrongState reply next is).1 in
+    subst (λ (s : State). IsStrange s q) same h
+strange_at w state next p q (commands.List text recursive limit) reply is h =
+    let same = listed_done state next p (look_refusal (kinds_of state.files) p) (state.files p) recursive limit reply is in
+    subst (λ (s : State). IsStrange s q) same h
 
 avoids_one : (w : World) (state next : State) (command : Command) (reply : Reply) → step w state command ≡ Done reply next → (other : Command) → Avoids w state other → Avoids w next other
 avoids_one w state next command reply is (commands.Read text offset len) avoids =
     λ strange. avoids (strange_at w state next (target_of w command) (target_of w (commands.Read text offset len)) command reply (or_refused (is_path (target_of w command)) _ BadPath reply next is).1 strange)
-avoids_one w state next command reply is (commands.Create text options) avoids = tt
-avoids_one w state next command reply is (commands.Append text) avoids = tt
-avoids_one w state next command reply is (commands.Write text bytes) avoids = tt
-avoids_one w state next command reply is (commands.Close text) avoids = tt
+avoids_one w state next command reply is (commands.Info text) avoids =
+    λ strange. avoids (strange_at w state next (target_of w command) (target_of w (commands.Info text)) command reply (or_refused (is_path (target_of w command)) _ BadPath reply next is).1 strange)
+avoids_one w state next command reply is other avoids = tt
 
 -- commands that read no such file read none behind a command that was done
 pub avoids_next : (w : World) (state next : State) (command : Command) (reply : Reply) → step w state command ≡ Done reply next → (others : List Command) → All (Avoids w state) others → All (Avoids w next) others

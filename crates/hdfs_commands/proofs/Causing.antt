@@ -12,6 +12,7 @@ use Rattle.hdfs_cluster.specs.declared.errors.ArgFault.TheVariants as args
 use Rattle.hdfs_cluster.specs.declared.errors.TransferFault.TheVariants as transfer
 use Rattle.hdfs_cluster.specs.Files.{State, Content, NoFile, NotDirectory, Missing, NotFile}
 use Rattle.hdfs_cluster.specs.Reading.{range_of}
+use Rattle.hdfs_cluster.specs.Refusals.{Lacks}
 use Rattle.hdfs_model.specs.Steps.{World, Done, content_of, step, target_of}
 use Rattle.hdfs_cluster.specs.Picture.{Picture, SameFiles, Told, kinds}
 use Rattle.hdfs_cluster.specs.Namenode.{Locates, IsNoFile, StandsForNoFile, class_for, is_taken}
@@ -71,7 +72,7 @@ module _ (w : World) (s s' : Shown) (state : State) (name path : List ℕ) (offs
     where
       by_test : (b : Bool) → is_taken class ≡ b → Cause w state command s s' (cond b (errors.AlreadyExists message) (errors.RPCError class message))
       by_test true is = (⊎_elim (λ stands. absurd (false≢true (sym (not_taken stands.0) ∙ sym (ap is_taken stands.2) ∙ is))) (λ rose. inr rose) h, tt)
-      by_test false is = (⊎_elim (λ stands. inl (stands.0, refused_read w s state name path meets p told offset len stands.0 stands.1, stands.2)) (λ rose. inr rose) h, tt)
+      by_test false is = (⊎_elim (λ stands. inl (Lacks stands.0, refused_read w s state name path meets p told offset len stands.0 stands.1, stands.2)) (λ rose. inr rose) h, tt)
 
   -- why the look-up fails
   pub looked_cause : (e : HdfsError) → ((p : Picture) → s.picture ≡ Some p → IsClosed p path → LacksBlocks p name path s e s') → Cause w state command s s' e

@@ -1,6 +1,6 @@
 -- A command that is refused before anything is asked.
-use Rattle.std.proofs.Common.{◌≡◌, ◌⊎◌, inl, inr, ℕ, Bool, true, false, not, cond, List, Result, Ok, Err, refl, sym, ◌∙◌, ap, subst}
-use Rattle.std.specs.Prelude.{IfErr, IsTrue}
+use Rattle.std.proofs.Common.{◌≡◌, ◌⊎◌, inl, inr, ℕ, Bool, true, false, cond, List, Result, Ok, Err, refl, sym, ◌∙◌, ap, subst}
+use Rattle.std.specs.Prelude.{IfErr}
 use Rattle.hdfs_model.specs.declared.commands.Command.{Command}
 use Rattle.hdfs_model.specs.declared.commands.Command.TheVariants as commands
 use Rattle.hdfs_model.specs.declared.commands.Reply.{Reply}
@@ -8,15 +8,16 @@ use Rattle.hdfs_cluster.specs.declared.errors.ArgFault.TheVariants as args
 use Rattle.hdfs_cluster.specs.declared.errors.HdfsError.{HdfsError}
 use Rattle.hdfs_cluster.specs.declared.errors.HdfsError.TheVariants as errors
 use Rattle.hdfs_model.specs.Causes.{Cause, Tells}
-use Rattle.hdfs_cluster.specs.Files.{State, kinds_of, no_file}
-use Rattle.hdfs_names.specs.Paths.{is_path}
+use Rattle.hdfs_cluster.specs.Files.{State}
+use Rattle.hdfs_names.specs.Paths.{absolute, is_path}
 use Rattle.hdfs_model.specs.Sessions.{Answers, spared}
-use Rattle.hdfs_model.specs.Owing.{Owed, OwedBy, IsNotOwed, is_misplaced}
+use Rattle.hdfs_model.specs.Owing.{Owed, IsMisplaced, IsNotOwed, MeetsNoText}
 use Rattle.hdfs_cluster.specs.Shown.{Shown}
-use Rattle.hdfs_model.specs.Steps.{World, Outcome, Refused, Done, BadPath, WrongState, created, create_file, create_refusal, append_file, append_refusal, write_node, close_node, read_file, is_opened, path_of, step, step_at, target_of}
+use Rattle.hdfs_model.specs.Steps.{World, Outcome, Refused, Done, BadPath, path_of, step, step_at, target_of}
+use Rattle.hdfs_model.proofs.Misplaced.{misplaced_step}
 use Rattle.hdfs_cluster.proofs.Frames.{later_refl, same_reads_refl}
 use Rattle.hdfs_commands.specs.Acting.{Acts, IsReady, world_at}
-use Rattle.hdfs_commands.specs.Session.{Stands, after, opened_of}
+use Rattle.hdfs_commands.specs.Session.{Stands, after, opened_of, settings_of}
 use Rattle.hdfs_commands.specs.declared.session.Session.{Session}
 use Rattle.hdfs_commands.proofs.Agreeing.{agrees_but}
 use Rattle.hdfs_commands.proofs.Sized.{remembers_failed, remembers_refl, sized_still}
@@ -79,37 +80,18 @@ path_acts s session command stands is = early_acts s session command (errors.Inv
     (let refused = bad_path (world_at session s) state command is in
     ((refused, tt), subst (λ (o : Outcome). Answers o (errors.InvalidPath (path_of command))) (sym refused) (inr tt))))
 
-not_false : (b : Bool) → not b ≡ true → b ≡ false
-not_false true is = absurd (cc)
-not_false false is = refl
-
-misplaced_at : (w : World) (state : State) (path : List ℕ) (command : Command) → is_misplaced command (is_opened state path) ≡ true → step_at w state path command ≡ Refused WrongState
-misplaced_at w state path (commands.Create text options) is =
-    ap (λ (b : Bool). cond b (Refused WrongState) (create_file state path (created w options) (create_refusal (kinds_of state.files) path options.overwrite options.create_parent))) is
-misplaced_at w state path (commands.Append text) is = ap (λ (b : Bool). cond b (Refused WrongState) (append_file state path (append_refusal (kinds_of state.files) path))) is
-misplaced_at w state path (commands.Write text bytes) is = ap (λ (b : Bool). cond b (write_node state path (state.files path) bytes) (Refused WrongState)) (not_false (is_opened state path) is)
-misplaced_at w state path (commands.Close text) is = ap (λ (b : Bool). cond b (close_node state path (state.files path)) (Refused WrongState)) (not_false (is_opened state path) is)
-misplaced_at w state path (commands.Read text offset len) is = ap (λ (b : Bool). cond b (Refused WrongState) (read_file state path (no_file (kinds_of state.files) path) offset len)) is
-
-misplaced_step : (w : World) (state : State) (command : Command) → is_path (target_of w command) ≡ true → is_misplaced command (is_opened state (target_of w command)) ≡ true → step w state command ≡ Refused WrongState
-misplaced_step w state command is placed =
-    ap (λ (b : Bool). cond b (step_at w state (target_of w command) command) (Refused BadPath)) is ∙ misplaced_at w state (target_of w command) command placed
-
 -- for what the session has open
 pub state_acts : (s : Shown) (session : Session) (command : Command) → Stands s session → is_path (target_of (world_at session s) command) ≡ true
-    → is_misplaced command (opened_of session (target_of (world_at session s) command)) ≡ true
+    → IsMisplaced (opened_of session) (target_of (world_at session s) command) command
     → Acts command s session s (after session (error_result (errors.InvalidArgument args.State))) (Err (errors.InvalidArgument args.State))
 state_acts s session command stands is placed = early_acts s session command (errors.InvalidArgument args.State) (λ n is. cc (is)) stands (tt, (tt, tt)) (λ state ready.
-    (let here = ap (is_misplaced command) (ready.ready.opened (target_of (world_at session s) command)) ∙ placed in
-    let refused = misplaced_step (world_at session s) state command is here in
+    (let refused = misplaced_step (world_at session s) (opened_of session) state command ready.ready.opened is placed in
     ((refused, tt), subst (λ (o : Outcome). Answers o (errors.InvalidArgument args.State)) (sym refused) (inr tt))))
 
 -- and where neither is broken
-pub owed_other : (w : World) (opened : List ℕ → Bool) (command : Command) (error : HdfsError) → is_path (target_of w command) ≡ true → is_misplaced command (opened (target_of w command)) ≡ false
-    → IsNotOwed error → Owed w opened command error
-owed_other w opened command error is placed owes =
-    inr (subst (λ (b : Bool). OwedBy b (is_misplaced command (opened (target_of w command))) (path_of command) error) (sym is)
-    (subst (λ (b : Bool). OwedBy true b (path_of command) error) (sym placed) owes))
+pub owed_other : (w : World) (opened : List ℕ → Bool) (command : Command) (error : HdfsError) → is_path (target_of w command) ≡ true
+    → (IsMisplaced opened (target_of w command) command → ⊥) → IsNotOwed error ⊎ MeetsNoText command error → Owed w opened command error
+owed_other w opened command error is placed owes = inr (inr (inr (is, placed, owes)))
 
 -- the path of a command wasn't had
 pub target_acts : (s : Shown) (session : Session) (command : Command) (error : HdfsError) → Stands s session
@@ -120,13 +102,34 @@ target_acts s session command error stands (inl memory) =
 target_acts s session command error stands (inr bad) =
     subst (λ (e : HdfsError). Acts command s session s (after session (error_result e)) (Err e)) (sym bad.0) (path_acts s session command stands bad.1)
 
--- a test that holds exactly where a fact is false
-pub fact_true : (test fact : Bool) → test ≡ false → (fact ≡ false → IsTrue test) → fact ≡ true
-fact_true test true fails holds = refl
-fact_true test false fails holds = absurd (let yes = holds refl in cc (yes, fails))
-
 -- what is owed where neither is broken, of whatever came
-pub owed_result : {T : Type 0} (w : World) (opened : List ℕ → Bool) (command : Command) (result : Result T HdfsError) → is_path (target_of w command) ≡ true → is_misplaced command (opened (target_of w command)) ≡ false
-    → IfErr result IsNotOwed → IfErr result (Owed w opened command)
+pub owed_result : {T : Type 0} (w : World) (opened : List ℕ → Bool) (command : Command) (result : Result T HdfsError) → is_path (target_of w command) ≡ true
+    → (IsMisplaced opened (target_of w command) command → ⊥) → IfErr result (λ error. IsNotOwed error ⊎ MeetsNoText command error)
+    → IfErr result (Owed w opened command)
 owed_result w opened command (Ok value) is placed owes = tt
 owed_result w opened command (Err error) is placed owes = owed_other w opened command error is placed owes
+
+-- of a call that says neither
+pub owed_plain : {T : Type 0} (w : World) (opened : List ℕ → Bool) (command : Command) (result : Result T HdfsError) → is_path (target_of w command) ≡ true
+    → (IsMisplaced opened (target_of w command) command → ⊥) → IfErr result IsNotOwed → IfErr result (Owed w opened command)
+owed_plain w opened command (Ok value) is placed owes = tt
+owed_plain w opened command (Err error) is placed owes = owed_other w opened command error is placed (inl owes)
+
+-- of a listing, which may say besides that a name is no text
+pub owed_listed : {T : Type 0} (name : List ℕ) (recursive : Bool) (limit : ℕ) (command : Command) → command ≡ commands.List name recursive limit → (result : Result T HdfsError)
+    → IfErr result (λ error. IsNotOwed error ⊎ (error ≡ errors.InvalidPath name)) → IfErr result (λ error. IsNotOwed error ⊎ MeetsNoText command error)
+owed_listed name recursive limit command is (Ok value) owes = tt
+owed_listed name recursive limit command is (Err error) owes = subst (λ (c : Command). IsNotOwed error ⊎ MeetsNoText c error) (sym is) owes
+
+-- and where the path wasn't had
+pub owed_target : (w : World) (opened : List ℕ → Bool) (command : Command) (error : HdfsError)
+    → (error ≡ errors.NoMemory) ⊎ ((error ≡ errors.InvalidPath (path_of command)) × (is_path (target_of w command) ≡ false)) → Owed w opened command error
+owed_target w opened command error (inl memory) = inl memory
+owed_target w opened command error (inr bad) = inr (inl (bad.1, bad.0))
+
+-- what is said of a command by its name is said of the command that has this name
+pub acts_called : (s t : Shown) (session session' : Session) (command command' : Command) (path : List ℕ) (result : Result Reply HdfsError) → command ≡ command' → path ≡ absolute (settings_of session).home (path_of command)
+    → (absolute (settings_of session).home (path_of command') ≡ path → Acts command' s session t (after session' result) result) → Acts command s session t (after session' result) result
+acts_called s t session session' command command' path result is called h =
+    subst (λ (c : Command). Acts c s session t (after session' result) result) (sym is)
+    (h (sym (called ∙ ap (λ (c : Command). absolute (settings_of session).home (path_of c)) is)))

@@ -37,7 +37,7 @@ use Rattle.hdfs_commands.specs.Session.{CarriesFile, CarriesOpen, Stands, after,
 use Rattle.hdfs_commands.specs.Whole.{KeepsBlocksWhole}
 use Rattle.hdfs_commands.specs.declared.session.Session.{Session}
 use Rattle.hdfs_commands.proofs.Acted.{idle_acts, reads_same, spares_but}
-use Rattle.hdfs_commands.proofs.Failing.{append_opens, others_open}
+use Rattle.hdfs_commands.proofs.Failing.{append_still, others_open}
 use Rattle.hdfs_file_reader.proofs.Looking.{looks_from-Leaves, looks_trans}
 use Rattle.hdfs_commands.proofs.OneFile.{apart_by_test}
 use Rattle.hdfs_namenode.specs.Relaying.{Came}
@@ -138,12 +138,12 @@ module _ (s m t u : Shown) (session session' session'' : Session) (path : List �
             replication = c.replication;
             block_size = c.block_size;
           })))
-          ((others_open command (append_opens name) s m session session' stands prepares t session'' writers remembers (appending path client flag) path (λ at'. called) over state ready o.between o.told o.q o.now o.may).each o.q o.now r other has));
+          ((others_open command (append_still name) s m session session' stands prepares t session'' writers remembers (appending path client flag) path (λ at'. called) over state ready o.between o.told o.q o.now o.may).each o.q o.now r other has));
     }
 
   pub encrypted_acts : Acts command s session u (after {T = Reply} session'' (Err unsupported)) (Err unsupported)
   encrypted_acts =
-      idle_acts command tt s u session session'' unsupported stands
+      idle_acts command (λ sends. sends) s u session session'' unsupported stands
       (later_trans s t u looks.later touches.later)
       (same_reads_trans s t u (reads_same s t looks) touches.reads)
       (λ link. touches.writes link ∙ looks.links.writes link)

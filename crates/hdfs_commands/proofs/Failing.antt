@@ -13,10 +13,10 @@ use Rattle.hdfs_cluster.specs.declared.errors.HdfsError.TheVariants as errors
 use Rattle.hdfs_cluster.specs.declared.messages.ServerDefaults.{ServerDefaults}
 use Rattle.hdfs_cluster.specs.declared.picture.LastAnswer.TheVariants as last_answers
 use Rattle.hdfs_cluster.specs.Failures.{CallsRose}
-use Rattle.hdfs_model.specs.Causes.{CanMeetEncryption, Cause, CommandLost, Tells, UsesDefaults, WantsFile}
+use Rattle.hdfs_model.specs.Causes.{CanMeetEncryption, Cause, CommandLost, Sends, Tells, UsesDefaults, WantsFile}
 use Rattle.hdfs_cluster.specs.Files.{State}
 use Rattle.hdfs_cluster.specs.Namenode.{MayBeDone}
-use Rattle.hdfs_cluster.specs.Picture.{Picture, SameButActive, SameFiles, kinds}
+use Rattle.hdfs_cluster.specs.Picture.{Picture, SameButActive, SameFiles}
 use Rattle.hdfs_model.specs.Sessions.{defaults_of, is_before_asking, spared}
 use Rattle.hdfs_cluster.specs.Limits.{are_defaults}
 use Rattle.hdfs_model.specs.Limits.{are_options}
@@ -29,7 +29,6 @@ use Rattle.hdfs_namenode.specs.Relaying.{Came, RelaysTold, TellsAsk}
 use Rattle.hdfs_namenode.proofs.Relayed.{relayed_done}
 use Rattle.hdfs_file_writer.specs.Writers as files
 use Rattle.hdfs_file_writer.specs.declared.file_writer.FileWriter.{FileWriter}
-use Rattle.std.proofs.lemmas.Bool.{false≢true}
 use Rattle.hdfs_commands.specs.Acting.{Acts, IsReady, world_at}
 use Rattle.hdfs_file_reader.specs.Looking.{OnlyLooks}
 use Rattle.hdfs_commands.specs.Preparing.{AreTold, LacksDefaults, Prepares, Remembers}
@@ -48,26 +47,26 @@ pub may_be_done : (ask : Ask) (p q : Picture) → DoneOrNot ask p q → MayBeDon
 may_be_done ask p q (inl same) = inl same
 may_be_done ask p q (inr done) = inr (inl done)
 
--- the command asks for no bytes, and uses the defaults
-pub record Opens (command : Command) : Type 0 where
-  pub uses : UsesDefaults command
+-- the command sends nothing, and asks for no bytes
+pub record IsStill (command : Command) : Type 0 where
+  pub sends : Sends command → ⊥
   pub found : (old new : Shown) (path : List ℕ) (byte : ℕ) → CommandLost old.counts new path command byte → ⊥
 
-pub create_opens : (name : List ℕ) (options : WriteOptions) → Opens (commands.Create name options)
-create_opens name options = record { uses = tt; found = λ old new path byte lost. lost }
+pub create_still : (name : List ℕ) (options : WriteOptions) → IsStill (commands.Create name options)
+create_still name options = record { sends = λ sends. sends; found = λ old new path byte lost. lost }
 
-pub append_opens : (name : List ℕ) → Opens (commands.Append name)
-append_opens name = record { uses = tt; found = λ old new path byte lost. lost }
+pub append_still : (name : List ℕ) → IsStill (commands.Append name)
+append_still name = record { sends = λ sends. sends; found = λ old new path byte lost. lost }
 
 -- options that are out of their limits
 pub options_acts : (s : Shown) (session : Session) (name : List ℕ) (options : WriteOptions) → Stands s session → are_options options ≡ false
     → Acts (commands.Create name options) s session s (after {T = Reply} session (Err (errors.InvalidArgument args.Options))) (Err (errors.InvalidArgument args.Options))
 options_acts s session name options stands out =
-    failed_acts (commands.Create name options) tt s s session session (errors.InvalidArgument args.Options) stands (looks_refl s) (λ r. refl) (remembers_refl session) (out, (tt, tt)) (λ path byte lost. lost)
+    failed_acts (commands.Create name options) (λ sends. sends) s s session session (errors.InvalidArgument args.Options) stands (looks_refl s) (λ r. refl) (remembers_refl session) (out, (tt, tt)) (λ path byte lost. lost)
     (λ state ready. ((out, tt), agrees_but (spared (world_at session s) state (commands.Create name options) (errors.InvalidArgument args.Options)) s.picture state.files ready.ready.fits.agrees))
     (λ state ready. record { each = λ p told r writer is. inr (ready.carried.each p told r writer is) })
 
-module _ (command : Command) (opens : Opens command) (s m : Shown) (session session' : Session) (stands : Stands s session)
+module _ (command : Command) (still : IsStill command) (s m : Shown) (session session' : Session) (stands : Stands s session)
     (prepares : Prepares s session m session') where
   kept : (r : List ℕ) → writer_of session' r ≡ writer_of session r
   kept r = ap (λ w. get_by_text w r) prepares.writers
@@ -88,7 +87,7 @@ module _ (command : Command) (opens : Opens command) (s m : Shown) (session sess
   -- want of memory, once the defaults were asked for
   pub starved_acts : Acts command s session m (after {T = Reply} session' (Err errors.NoMemory)) (Err errors.NoMemory)
   starved_acts =
-      failed_acts command opens.uses s m session session' errors.NoMemory stands prepares.looks kept prepares.remembers (tt, (tt, tt)) (opens.found s m)
+      failed_acts command still.sends s m session session' errors.NoMemory stands prepares.looks kept prepares.remembers (tt, (tt, tt)) (still.found s m)
       (λ state ready. ((tt, tt), agrees_but (spared (world_at session s) state command errors.NoMemory) m.picture state.files (agrees_still state ready)))
       open_still
 
@@ -98,21 +97,21 @@ module _ (command : Command) (opens : Opens command) (s m : Shown) (session sess
       let told = is_told s.picture state.files ready.ready.fits.agrees in
       ⊎_elim (λ memory. subst (Cause (world_at session s) state command s m) (sym memory) (tt, tt)) (rose_cause (world_at session s) state command s s m error (never_fall_refl s.counts) tells) (why told.0 told.1)
 
-  out_cause : (state : State) → IsReady s session state command → (defaults : ServerDefaults) → are_defaults defaults ≡ false → AreTold s (defaults_known session) defaults → Cause (world_at session s) state command s m (errors.InvalidArgument args.Defaults)
-  out_cause state ready defaults out same =
+  out_cause : UsesDefaults command → (state : State) → IsReady s session state command → (defaults : ServerDefaults) → are_defaults defaults ≡ false → AreTold s (defaults_known session) defaults → Cause (world_at session s) state command s m (errors.InvalidArgument args.Defaults)
+  out_cause uses state ready defaults out same =
       let told = is_told s.picture state.files ready.ready.fits.agrees in
-      ((opens.uses, ap (λ (o : Option Picture). are_defaults (defaults_of o)) told.1 ∙ ap are_defaults (sym (same told.0 told.1 ready.carried.defaults)) ∙ out), tt)
+      ((uses, ap (λ (o : Option Picture). are_defaults (defaults_of o)) told.1 ∙ ap are_defaults (sym (same told.0 told.1 ready.carried.defaults)) ∙ out), tt)
 
   -- no defaults
-  pub lacks_acts : (error : HdfsError) → LacksDefaults s session error m → Acts command s session m (after {T = Reply} session' (Err error)) (Err error)
-  lacks_acts error (inl fault) =
-      failed_acts command opens.uses s m session session' error stands prepares.looks kept prepares.remembers (ask_tells command s s m error (never_fall_refl s.counts) fault.0) (opens.found s m)
+  pub lacks_acts : UsesDefaults command → (error : HdfsError) → LacksDefaults s session error m → Acts command s session m (after {T = Reply} session' (Err error)) (Err error)
+  lacks_acts uses error (inl fault) =
+      failed_acts command still.sends s m session session' error stands prepares.looks kept prepares.remembers (ask_tells command s s m error (never_fall_refl s.counts) fault.0) (still.found s m)
       (λ state ready. (lacks_cause state ready error fault.0 fault.1, agrees_but (spared (world_at session s) state command error) m.picture state.files (agrees_still state ready)))
       open_still
-  lacks_acts error (inr out) =
+  lacks_acts uses error (inr out) =
       subst (λ (e : HdfsError). Acts command s session m (after {T = Reply} session' (Err e)) (Err e)) (sym out.0)
-      (failed_acts command opens.uses s m session session' (errors.InvalidArgument args.Defaults) stands prepares.looks kept prepares.remembers (opens.uses, (tt, tt)) (opens.found s m)
-      (λ state ready. (out_cause state ready out.1 out.2 out.3, agrees_but (spared (world_at session s) state command (errors.InvalidArgument args.Defaults)) m.picture state.files (agrees_still state ready)))
+      (failed_acts command still.sends s m session session' (errors.InvalidArgument args.Defaults) stands prepares.looks kept prepares.remembers (uses, (tt, tt)) (still.found s m)
+      (λ state ready. (out_cause uses state ready out.1 out.2 out.3, agrees_but (spared (world_at session s) state command (errors.InvalidArgument args.Defaults)) m.picture state.files (agrees_still state ready)))
       open_still)
 
   module _ (t : Shown) (session'' : Session) (writers : (r : List ℕ) → writer_of session'' r ≡ writer_of session' r) (remembers : Remembers session' session'') (ask : Ask) (path : List ℕ)
@@ -130,7 +129,7 @@ module _ (command : Command) (opens : Opens command) (s m : Shown) (session sess
           inr (subst (λ (y : Picture). CarriesFile y state r writer) same (record {
             content = c.content;
             named = c.named;
-            carries = o.keeps q may r (files.tail_of writer) c.content.bytes (λ is_path. false≢true (sym o.closed ∙ ap (is_opened state) (sym is_path) ∙ opened)) c.carries;
+            carries = o.keeps q may r (files.tail_of writer) c.content.bytes opened c.carries;
             replication = c.replication;
             block_size = c.block_size;
           })));
@@ -141,7 +140,7 @@ module _ (command : Command) (opens : Opens command) (s m : Shown) (session sess
         → ((state : State) → IsReady s session state command → (p : Picture) → m.picture ≡ Some p → Cause (world_at session s) state command s t error × ((q : Picture) × (t.picture ≡ Some q) × MayBeDone ask p q))
         → Acts command s session t (after {T = Reply} session'' (Err error)) (Err error)
     late_acts error late looks tells cause =
-        failed_acts command opens.uses s t session session'' error stands (looks_trans s m t prepares.looks looks) (λ r. writers r ∙ kept r) (remembers_trans session session' session'' prepares.remembers remembers) tells (opens.found s t)
+        failed_acts command still.sends s t session session'' error stands (looks_trans s m t prepares.looks looks) (λ r. writers r ∙ kept r) (remembers_trans session session' session'' prepares.remembers remembers) tells (still.found s t)
         (λ state ready.
         (let told = is_told m.picture state.files (agrees_still state ready) in
         let h = cause state ready told.0 told.1 in (
@@ -161,7 +160,7 @@ module _ (command : Command) (opens : Opens command) (s m : Shown) (session sess
         let o = over state ready p told in
         let by = refused.0 in
         subst (Cause (world_at session s) state command s t) (sym by.3)
-        (exception_cause (world_at session s) state command s t (kinds p path) o.refusal o.stepped by.0 by.1 (inl (o.refused by.0 by.2)))
+        (exception_cause (world_at session s) state command s t by.0 by.1 (inl (o.refused by.0 by.2)))
     asked_cause state ready p told error tells q (inr (inr rose)) =
         rose_cause (world_at session s) state command s m t error prepares.looks.later.counts tells rose.0
 
@@ -174,26 +173,26 @@ module _ (command : Command) (opens : Opens command) (s m : Shown) (session sess
         (asked_cause state ready p told error came.relays.tells to.0 to.2, (to.0, to.1, may_be_done ask p to.0 (relayed_done (CallsRose m.counts t) p ask (Err error) to.0 tt to.2)))))
 
 -- want of memory once the file was made, so that the session doesn't keep its writer
-pub unkept_acts : (command : Command) → Opens command → (s m t : Shown) (session session' session'' : Session) → Stands s session → Prepares s session m session'
+pub unkept_acts : (command : Command) → IsStill command → (s m t : Shown) (session session' session'' : Session) → Stands s session → Prepares s session m session'
     → ((r : List ℕ) → writer_of session'' r ≡ writer_of session' r) → Remembers session' session'' → (ask : Ask) (path : List ℕ)
     → target_of (world_at session s) command ≡ path → ((state : State) → IsReady s session state command → (p : Picture) → m.picture ≡ Some p → Over p (world_at session s) state command path ask)
     → OnlyLooks m t → ((p : Picture) → m.picture ≡ Some p → (q : Picture) × (t.picture ≡ Some q) × MayBeDone ask p q) → Acts command s session t (after {T = Reply} session'' (Err errors.NoMemory)) (Err errors.NoMemory)
-unkept_acts command opens s m t session session' session'' stands prepares writers remembers ask path called over looks done =
-    late_acts command opens s m session session' stands prepares t session'' writers remembers ask path (λ state. called) over errors.NoMemory refl looks (tt, (tt, tt)) (λ state ready p told. ((tt, tt), done p told))
+unkept_acts command still s m t session session' session'' stands prepares writers remembers ask path called over looks done =
+    late_acts command still s m session session' stands prepares t session'' writers remembers ask path (λ state. called) over errors.NoMemory refl looks (tt, (tt, tt)) (λ state ready p told. ((tt, tt), done p told))
 
 -- no status of the file was answered, of which an answer over a told picture always tells
-pub unstated_acts : (command : Command) → Opens command → (name : List ℕ) → (name ≡ path_of command) × WantsFile command → (s m t : Shown) (session session' session'' : Session) → Stands s session → Prepares s session m session'
+pub unstated_acts : (command : Command) → IsStill command → (name : List ℕ) → (name ≡ path_of command) × WantsFile command → (s m t : Shown) (session session' session'' : Session) → Stands s session → Prepares s session m session'
     → ((r : List ℕ) → writer_of session'' r ≡ writer_of session' r) → Remembers session' session'' → (ask : Ask) (path : List ℕ) → target_of (world_at session s) command ≡ path
     → ((state : State) → IsReady s session state command → (p : Picture) → m.picture ≡ Some p → Over p (world_at session s) state command path ask) → OnlyLooks m t → t.last ≡ last_answers.Fine
     → ((p : Picture) → m.picture ≡ Some p → ⊥) → Acts command s session t (after {T = Reply} session'' (Err (errors.FileNotFound name))) (Err (errors.FileNotFound name))
-unstated_acts command opens name is s m t session session' session'' stands prepares writers remembers ask path called over looks last none =
-    late_acts command opens s m session session' stands prepares t session'' writers remembers ask path (λ state. called) over (errors.FileNotFound name) refl looks (is, (last, tt)) (λ state ready p told. absurd (none p told))
+unstated_acts command still name is s m t session session' session'' stands prepares writers remembers ask path called over looks last none =
+    late_acts command still s m session session' stands prepares t session'' writers remembers ask path (λ state. called) over (errors.FileNotFound name) refl looks (is, (last, tt)) (λ state ready p told. absurd (none p told))
 
 -- the status of a new file tells encryption information, which an answer over a told picture never does
-pub unsupported_acts : (command : Command) → Opens command → CanMeetEncryption command → (s m t : Shown) (session session' session'' : Session) → Stands s session → Prepares s session m session'
+pub unsupported_acts : (command : Command) → IsStill command → CanMeetEncryption command → (s m t : Shown) (session session' session'' : Session) → Stands s session → Prepares s session m session'
     → ((r : List ℕ) → writer_of session'' r ≡ writer_of session' r) → Remembers session' session'' → (ask : Ask) (path : List ℕ) → target_of (world_at session s) command ≡ path
     → ((state : State) → IsReady s session state command → (p : Picture) → m.picture ≡ Some p → Over p (world_at session s) state command path ask) → OnlyLooks m t
     → ((p : Picture) → m.picture ≡ Some p → ⊥) → Acts command s session t (after {T = Reply} session'' (Err (errors.UnsupportedFeature features.Encryption))) (Err (errors.UnsupportedFeature features.Encryption))
-unsupported_acts command opens can s m t session session' session'' stands prepares writers remembers ask path called over looks none =
-    late_acts command opens s m session session' stands prepares t session'' writers remembers ask path (λ state. called) over (errors.UnsupportedFeature features.Encryption) refl looks (can, (tt, tt))
+unsupported_acts command still can s m t session session' session'' stands prepares writers remembers ask path called over looks none =
+    late_acts command still s m session session' stands prepares t session'' writers remembers ask path (λ state. called) over (errors.UnsupportedFeature features.Encryption) refl looks (can, (tt, tt))
     (λ state ready p told. absurd (none p told))

@@ -12,10 +12,15 @@ mod Early
 mod Encrypting
 mod Failing
 mod Limited
+mod InfoActs
+mod ListActs
 mod LookedUp
 mod Lost
 mod Moved
+mod NameAsks
+mod NamingActs
 mod OpenFiles
+mod OpenWithin
 mod Opening
 mod Owing
 mod Planting
@@ -32,6 +37,8 @@ mod Starting
 mod Stepping
 mod Still
 mod Tallying
+mod Turned
+mod WholeNaming
 mod WholeOpening
 mod WholeStarting
 mod WholeWriting

@@ -97,10 +97,7 @@ module _ (old u v : Shown) (later : Later u v) where
     command_lost_on w (commands.Read text offset len) avoids reply next done byte h =
         let closed = read_closed w state next text offset len reply done avoids in
         lost_on (target_of w (commands.Read text offset len)) closed.0 closed.1 offset (offset + len) byte h
-    command_lost_on w (commands.Create text options) avoids reply next done byte h = h
-    command_lost_on w (commands.Append text) avoids reply next done byte h = h
-    command_lost_on w (commands.Write text bytes) avoids reply next done byte h = h
-    command_lost_on w (commands.Close text) avoids reply next done byte h = h
+    command_lost_on w command avoids reply next done byte h = h
 
     -- what holds beside what has failed
     because_on : (w : World) (command : Command) → Avoids w state command → (e : HdfsError) → Because w state command old u e → Because w state command old v e

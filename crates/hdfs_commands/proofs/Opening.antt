@@ -36,25 +36,26 @@ use Rattle.hdfs_file_writer.proofs.Creating.{created_others}
 use Rattle.hdfs_file_writer.proofs.Others.{carries_others}
 use Rattle.hdfs_commands.proofs.Still.{file_stays}
 use Rattle.hdfs_commands.proofs.Begun.{closed_at, create_spares, open_spares, opened_only}
-use Rattle.hdfs_commands.proofs.Refusing.{append_step, create_step, kinds_same}
+use Rattle.hdfs_commands.proofs.Refusing.{RefusesAs, append_step, create_step, kinds_same}
 use Rattle.hdfs_commands.proofs.WithWriting.{closed_to_append}
 
 -- An ask of a command at its path, over a picture that agrees with the files: its refusals are the command's, it changes nothing that
--- the command doesn't touch, and what writers of other files carry they carry still.
+-- the command doesn't touch, and what the writers of files carry that the session has open they carry still.
 pub record Over (p : Picture) (world : World) (state : State) (command : Command) (path : List ℕ) (ask : Ask) : Type 0 where
-  pub refusal : Option Refusal
-  pub refused : (class : List ℕ) → IsRefusal p ask class → StandsForAny (kinds p path) refusal class
-  pub stepped : (why : Refusal) → refusal ≡ Some why → step world state command ≡ Refused why
+  pub refused : (class : List ℕ) → IsRefusal p ask class → RefusesAs world state command class
   pub spares : (q : Picture) → MayBeDone ask p q → (r : List ℕ) → touched state path command r ≡ false → AgreesAt q (q.names r) (state.files r)
   pub unchanged : (why : Refusal) → step world state command ≡ Refused why → (q : Picture) → MayBeDone ask p q → (r : List ℕ) → AgreesAt q (q.names r) (state.files r)
-  pub closed : is_opened state path ≡ false
-  pub keeps : (q : Picture) → MayBeDone ask p q → (r : List ℕ) (tail : Tail) (bytes : List ℕ) → r ≢ path → FileCarries p r tail bytes → FileCarries q r tail bytes
+  pub keeps : (q : Picture) → MayBeDone ask p q → (r : List ℕ) (tail : Tail) (bytes : List ℕ) → is_opened state r ≡ true → FileCarries p r tail bytes → FileCarries q r tail bytes
+
+-- a path that is open is another than one that isn't
+pub open_apart : (state : State) (path r : List ℕ) → is_opened state path ≡ false → is_opened state r ≡ true → r ≢ path
+open_apart state path r closed opened same = false≢true (sym closed ∙ ap (is_opened state) (sym same) ∙ opened)
 
 flag_is : (overwrite : Bool) → overwrites (cond overwrite 3 1) ≡ overwrite
 flag_is true = refl
 flag_is false = refl
 
-or_false : (a b : Bool) → (a || b) ≡ false → (a ≡ false) × (b ≡ false)
+pub or_false : (a b : Bool) → (a || b) ≡ false → (a ≡ false) × (b ≡ false)
 or_false true b is = absurd (false≢true (sym is))
 or_false false b is = (refl, is)
 
@@ -125,18 +126,17 @@ module _ (path client : List ℕ) (options : WriteOptions) (replication block_si
 
       pub create_over : Over p world state (commands.Create name options) path making
       create_over = record {
-        refusal = create_refusal (kinds p) path (overwrites (cond options.overwrite 3 1)) options.create_parent;
-        refused = λ class h. h;
-        stepped = λ why is. create_step world state path named closed name options called ∙ ap (create_file state path (created world options)) (refusal_same ∙ is);
+        refused = λ class h.
+            (let is : StandsForAny (kinds p path) (create_refusal (kinds p) path (overwrites (cond options.overwrite 3 1)) options.create_parent) class = h in
+            (kinds p path, is.0, create_step world state path named closed name options called ∙ ap (create_file state path (created world options)) (refusal_same ∙ is.1), is.2));
         spares = spares_made;
         unchanged = λ why is q may. ⊎_elim
             (λ same. agrees_files (Some p) (Some q) state.files same.files agrees)
             (λ done. absurd (steps_on why is done.0))
             (may_be_made q may);
-        closed = closed;
-        keeps = λ q may r tail bytes apart c. ⊎_elim
+        keeps = λ q may r tail bytes opened c. ⊎_elim
             (λ same. file_stays p q same.files same.writes r tail bytes c)
-            (λ done. created_others p q sound path made done.1 r tail bytes apart c)
+            (λ done. created_others p q sound path made done.1 r tail bytes (open_apart state path r closed opened) c)
             (may_be_made q may);
       }
 
@@ -189,9 +189,9 @@ module _ (path client : List ℕ) (flag : ℕ) where
 
       pub append_over : Over p world state (commands.Append name) path reopening
       append_over = record {
-        refusal = append_refusal (kinds p) path;
-        refused = λ class h. h;
-        stepped = λ why is. append_step world state path named closed name called ∙ ap (append_file state path) (refusal_kept ∙ is);
+        refused = λ class h.
+            (let is : StandsForAny (kinds p path) (append_refusal (kinds p) path) class = h in
+            (kinds p path, is.0, append_step world state path named closed name called ∙ ap (append_file state path) (refusal_kept ∙ is.1), is.2));
         spares = λ q may r free. ⊎_elim
             (λ same. agrees_files (Some p) (Some q) state.files same.files agrees r)
             (λ done. open_spares p q sound state agrees path done.1.file done.0.block done.1.at done.1.opens r (apart_from path r free))
@@ -200,9 +200,8 @@ module _ (path client : List ℕ) (flag : ℕ) where
             (λ same. agrees_files (Some p) (Some q) state.files same.files agrees)
             (λ done. absurd (appends_on why is done.1.none done.1.file done.1.at))
             (may_be_reopened q may);
-        closed = closed;
-        keeps = λ q may r tail bytes apart c. ⊎_elim
+        keeps = λ q may r tail bytes opened c. ⊎_elim
             (λ same. file_stays p q same.files same.writes r tail bytes c)
-            (λ done. carries_others path p q sound (opened_only p q path done.1.file done.1.at done.0.block done.1.opens) r tail bytes apart c)
+            (λ done. carries_others path p q sound (opened_only p q path done.1.file done.1.at done.0.block done.1.opens) r tail bytes (open_apart state path r closed opened) c)
             (may_be_reopened q may);
       }

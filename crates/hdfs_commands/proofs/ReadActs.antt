@@ -1,5 +1,5 @@
 -- A read as a session's command: it changes neither the files, nor what the session has open.
-use Rattle.std.proofs.Common.{inr, ◌≡◌, ℕ, ◌+◌, true, false, List, Option, Some, Result, Ok, Err, refl, sym, ◌∙◌, ap, subst, arith}
+use Rattle.std.proofs.Common.{inr, ◌≡◌, ℕ, ◌+◌, Bool, true, false, List, Option, Some, Result, Ok, Err, refl, sym, ◌∙◌, ap, subst, arith}
 use Rattle.std.specs.Prelude.{IfOk, IfErr}
 use Rattle.hdfs_model.specs.declared.commands.Command.{Command}
 use Rattle.hdfs_model.specs.declared.commands.Command.TheVariants as commands
@@ -13,7 +13,7 @@ use Rattle.hdfs_model.specs.Headline.{Applied}
 use Rattle.hdfs_names.specs.Paths.{is_path, absolute}
 use Rattle.hdfs_cluster.specs.Picture.{Picture, SameFiles}
 use Rattle.hdfs_model.specs.Sessions.{MeetsNoEncryption, defaults_of, spared, world_with}
-use Rattle.hdfs_model.specs.Owing.{is_misplaced}
+use Rattle.hdfs_model.specs.Owing.{IsMisplaced}
 use Rattle.hdfs_cluster.specs.Shown.{Shown, Later, SameLinks, SamePlaces, SameWrites}
 use Rattle.hdfs_model.specs.Steps.{World, Outcome, Done, is_opened, path_of, step, target_of}
 use Rattle.hdfs_cluster.specs.Stores.{Agrees}
@@ -165,9 +165,14 @@ module _ (old new : Shown) (session : Session) (name path : List ℕ) (offset le
     spares = λ state ready. record { each = λ p told path writer is. inr ((carried_on state ready links files).each p told path writer is) };
   }
 
+-- a path that isn't open, where that is what would be wrong
+pub not_open_by : (opened : Bool) → (opened ≡ true → ⊥) → opened ≡ false
+not_open_by true never = absurd (never refl)
+not_open_by false never = refl
+
 -- the same of the command that a read stands for
 pub read_command : (old new : Shown) (session : Session) (command : Command) (name path : List ℕ) (offset len : ℕ) → commands.Read name offset len ≡ command → is_path path ≡ true
-    → path ≡ absolute (settings_of session).home (path_of command) → is_misplaced command (opened_of session path) ≡ false → (result : Result Reply HdfsError) → Stands old session
+    → path ≡ absolute (settings_of session).home (path_of command) → (IsMisplaced (opened_of session) path command → ⊥) → (result : Result Reply HdfsError) → Stands old session
     → Applies (commands.Read name offset len) old new result → SameLinks old new
     → ((p : Picture) → old.picture ≡ Some p → IsClosed p path → (q : Picture) × (new.picture ≡ Some q) × SameFiles p q)
     → IfOk result (Gives name path offset len (defaults_known session) old new) → IfErr result (Lacks name path offset len (defaults_known session) old new)
@@ -175,16 +180,16 @@ pub read_command : (old new : Shown) (session : Session) (command : Command) (na
 read_command old new session command name path offset len is named called placed result stands anywhere links files ok err =
     subst (λ (c : Command). Acts c old session new (after session result) result) is
     (read_acts old new session name path offset len named
-    (subst (λ (c : Command). is_misplaced c (opened_of session path) ≡ false) (sym is) placed)
+    (not_open_by (opened_of session path) (subst (λ (c : Command). IsMisplaced (opened_of session) path c → ⊥) (sym is) placed))
     (subst (λ (c : Command). path ≡ absolute (settings_of session).home (path_of c)) (sym is) called)
     result stands anywhere links files ok err)
 
 -- and what its client knows of the defaults then
 pub read_knows : (old new : Shown) (session : Session) (command : Command) (name path : List ℕ) (offset len : ℕ) → commands.Read name offset len ≡ command → is_path path ≡ true
-    → path ≡ absolute (settings_of session).home (path_of command) → is_misplaced command (opened_of session path) ≡ false → (protocol : NamenodeProtocol) → AsksOn path old session.namenode new protocol
+    → path ≡ absolute (settings_of session).home (path_of command) → (IsMisplaced (opened_of session) path command → ⊥) → (protocol : NamenodeProtocol) → AsksOn path old session.namenode new protocol
     → (state : State) → IsReady old session state command → KnowsDefaults new (clients.defaults_of protocol)
 read_knows old new session command name path offset len is named called placed protocol asks state ready =
     knows_on old new session name path offset len named
-    (subst (λ (c : Command). is_misplaced c (opened_of session path) ≡ false) (sym is) placed)
+    (not_open_by (opened_of session path) (subst (λ (c : Command). IsMisplaced (opened_of session) path c → ⊥) (sym is) placed))
     (subst (λ (c : Command). path ≡ absolute (settings_of session).home (path_of c)) (sym is) called)
     state (subst (λ (c : Command). IsReady old session state c) (sym is) ready) protocol asks

@@ -46,20 +46,45 @@ module _ (may_answer : Ask → Answer → Type 0) (client path : List ℕ) (comm
   target_so error (inl none) = subst (IsAnsweredSo may_answer client path command) (sym none) tt
   target_so error (inr bad) = subst (IsAnsweredSo may_answer client path command) (sym bad.1) tt
 
+-- the command changes names alone
+abbrev pub ChangesNames : Command → Type 0
+ChangesNames (commands.Mkdirs name permission parents) = Unit {0}
+ChangesNames (commands.Delete name recursive) = Unit {0}
+ChangesNames command = ⊥
+
 -- a command that sends bytes to an open file stands for none
 pub sent_so : (may_answer : Ask → Answer → Type 0) (client path : List ℕ) (command : Command) → Sends command → (error : HdfsError) → CanEnd command error
     → IsAnsweredSo may_answer client path command error
 sent_so may_answer client path (commands.Write name bytes) sends (errors.InvalidArgument args.Defaults) can = absurd can
 sent_so may_answer client path (commands.Write name bytes) sends (errors.InvalidArgument (args.Range offset len length)) can = absurd can.0
+sent_so may_answer client path (commands.Write name bytes) sends (errors.InvalidArgument (args.TooMany limit)) can = absurd can
 sent_so may_answer client path (commands.Write name bytes) sends (errors.FileNotFound missing) can = absurd can.1
 sent_so may_answer client path (commands.Write name bytes) sends (errors.UnsupportedFeature features.Encryption) can = tt
 sent_so may_answer client path (commands.Write name bytes) sends error can = tt
 sent_so may_answer client path (commands.Close name) sends (errors.InvalidArgument args.Defaults) can = absurd can
 sent_so may_answer client path (commands.Close name) sends (errors.InvalidArgument (args.Range offset len length)) can = absurd can.0
+sent_so may_answer client path (commands.Close name) sends (errors.InvalidArgument (args.TooMany limit)) can = absurd can
 sent_so may_answer client path (commands.Close name) sends (errors.FileNotFound missing) can = absurd can.1
 sent_so may_answer client path (commands.Close name) sends (errors.UnsupportedFeature features.Encryption) can = tt
 sent_so may_answer client path (commands.Close name) sends error can = tt
 sent_so may_answer client path command sends error can = absurd sends
+
+-- a command that changes names alone stands for none
+pub named_so : (may_answer : Ask → Answer → Type 0) (client path : List ℕ) (command : Command) → ChangesNames command → (error : HdfsError) → CanEnd command error
+    → IsAnsweredSo may_answer client path command error
+named_so may_answer client path (commands.Mkdirs name permission parents) is (errors.InvalidArgument args.Defaults) can = absurd can
+named_so may_answer client path (commands.Mkdirs name permission parents) is (errors.InvalidArgument (args.Range offset len length)) can = absurd can.0
+named_so may_answer client path (commands.Mkdirs name permission parents) is (errors.InvalidArgument (args.TooMany limit)) can = absurd can
+named_so may_answer client path (commands.Mkdirs name permission parents) is (errors.FileNotFound missing) can = absurd can.1
+named_so may_answer client path (commands.Mkdirs name permission parents) is (errors.UnsupportedFeature features.Encryption) can = absurd can
+named_so may_answer client path (commands.Mkdirs name permission parents) is error can = tt
+named_so may_answer client path (commands.Delete name recursive) is (errors.InvalidArgument args.Defaults) can = absurd can
+named_so may_answer client path (commands.Delete name recursive) is (errors.InvalidArgument (args.Range offset len length)) can = absurd can.0
+named_so may_answer client path (commands.Delete name recursive) is (errors.InvalidArgument (args.TooMany limit)) can = absurd can
+named_so may_answer client path (commands.Delete name recursive) is (errors.FileNotFound missing) can = absurd can.1
+named_so may_answer client path (commands.Delete name recursive) is (errors.UnsupportedFeature features.Encryption) can = absurd can
+named_so may_answer client path (commands.Delete name recursive) is error can = tt
+named_so may_answer client path command is error can = absurd is
 
 module _ (may_answer : Ask → Answer → Type 0) (client path name : List ℕ) (offset len : ℕ) where
   -- a look-up that gives no blocks
@@ -110,3 +135,9 @@ pub sent_there : (may_answer : Ask → Answer → Type 0) (client path : List �
     → IfErr result (Tells command old new) → IfErr result (IsAnsweredSo may_answer client path command)
 sent_there may_answer client path command sends old new (Ok reply) tells = tt
 sent_there may_answer client path command sends old new (Err error) tells = sent_so may_answer client path command sends error tells.0
+
+-- and of one that changes names
+pub named_there : (may_answer : Ask → Answer → Type 0) (client path : List ℕ) (command : Command) → ChangesNames command → (old new : Shown) (result : Result Reply HdfsError)
+    → IfErr result (Tells command old new) → IfErr result (IsAnsweredSo may_answer client path command)
+named_there may_answer client path command is old new (Ok reply) tells = tt
+named_there may_answer client path command is old new (Err error) tells = named_so may_answer client path command is error tells.0

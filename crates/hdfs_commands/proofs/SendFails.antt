@@ -36,17 +36,12 @@ use Rattle.hdfs_commands.proofs.WriteFaults.{is_after_asking, tells_sending, not
 touched_sending : (command : Command) → Sends command → (state : State) (path q : List ℕ) → touched state path command q ≡ bytes_eq path q
 touched_sending (commands.Write name bytes) sends state path q = refl
 touched_sending (commands.Close name) sends state path q = refl
-touched_sending (commands.Create name options) sends state path q = absurd sends
-touched_sending (commands.Append name) sends state path q = absurd sends
-touched_sending (commands.Read name offset len) sends state path q = absurd sends
+touched_sending command sends state path q = absurd sends
 
 -- and asks for none
 loses_none : (command : Command) → Sends command → (old : FaultCounts) (new : Shown) (path : List ℕ) (byte : ℕ) → CommandLost old new path command byte → ⊥
-loses_none (commands.Write name bytes) sends old new path byte lost = lost
-loses_none (commands.Close name) sends old new path byte lost = lost
-loses_none (commands.Create name options) sends old new path byte lost = lost
-loses_none (commands.Append name) sends old new path byte lost = lost
 loses_none (commands.Read name offset len) sends old new path byte lost = absurd sends
+loses_none command sends old new path byte lost = lost
 
 module _ (command : Command) (sends : Sends command) (old new : Shown) (session session' : Session) (path : List ℕ) (writer : FileWriter)
     (here : writer_of session path ≡ Some writer) (before : Stands old session) (called : target_of (world_at session old) command ≡ path)

@@ -44,10 +44,7 @@ module _ (old middle new : Shown) (before : NeverFall old.counts middle.counts) 
 
   command_lost_since : (path : List ℕ) (command : Command) (byte : ℕ) → CommandLost middle.counts new path command byte → CommandLost old.counts new path command byte
   command_lost_since path (commands.Read text offset len) byte h = lost_since path offset (offset + len) byte h
-  command_lost_since path (commands.Create text options) byte h = h
-  command_lost_since path (commands.Append text) byte h = h
-  command_lost_since path (commands.Write text bytes) byte h = h
-  command_lost_since path (commands.Close text) byte h = h
+  command_lost_since path command byte h = h
 
   some_since : (path : List ℕ) → SomeListedFailed middle.counts new path → SomeListedFailed old.counts new path
   some_since path h = (h.0, one_rose old.counts middle.counts new.counts new.counts h.0.entry.nodes before (never_fall_refl new.counts) h.1)

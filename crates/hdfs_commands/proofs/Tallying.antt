@@ -84,4 +84,4 @@ uses_none (commands.Create name options) uses sends = sends
 uses_none (commands.Append name) uses sends = sends
 uses_none (commands.Write name bytes) uses sends = uses
 uses_none (commands.Close name) uses sends = uses
-uses_none (commands.Read name offset len) uses sends = uses
+uses_none command uses sends = uses

@@ -43,13 +43,13 @@ pub stays_files : (p q : Picture) → SameFiles p q → (path : List ℕ) → St
 stays_files p q same path = stays_named p q path (same.names path) (λ id there. (same.table id, λ node. same.held node id))
 
 -- a file that stands above a new one stood there before
-above_file : (b : Bool) (e : Option Entry) (file : FileEntry) → cond b (Some (unwrap_or e entries.Dir)) e ≡ Some (entries.File file) → e ≡ Some (entries.File file)
+pub above_file : (b : Bool) (e : Option Entry) (file : FileEntry) → cond b (Some (unwrap_or e entries.Dir)) e ≡ Some (entries.File file) → e ≡ Some (entries.File file)
 above_file true None file is = absurd (cc is)
 above_file true (Some entry) file is = is
 above_file false e file is = is
 
 -- a directory that is made has no blocks
-above_blocks : (b : Bool) (e : Option Entry) → blocks_at (cond b (Some (unwrap_or e entries.Dir)) e) ≡ blocks_at e
+pub above_blocks : (b : Bool) (e : Option Entry) → blocks_at (cond b (Some (unwrap_or e entries.Dir)) e) ≡ blocks_at e
 above_blocks true None = refl
 above_blocks true (Some entry) = refl
 above_blocks false e = refl

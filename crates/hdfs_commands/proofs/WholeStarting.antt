@@ -17,7 +17,7 @@ use Rattle.hdfs_cluster.specs.Failures.{CallsRose}
 use Rattle.hdfs_cluster.specs.Namenode.{MayBeDone}
 use Rattle.hdfs_names.specs.Paths.{absolute, is_path}
 use Rattle.hdfs_cluster.specs.Picture.{Picture, SameButActive, SameFiles}
-use Rattle.hdfs_model.specs.Owing.{is_misplaced}
+use Rattle.hdfs_model.specs.Owing.{IsMisplaced}
 use Rattle.hdfs_cluster.specs.Shown.{Shown}
 use Rattle.hdfs_cluster.specs.Sound.{IsSound, IsFileAt}
 use Rattle.hdfs_model.specs.Steps.{path_of, target_of}
@@ -42,7 +42,7 @@ use Rattle.hdfs_commands.proofs.OneFile.{not_same, same_test}
 use Rattle.hdfs_namenode.specs.Relaying.{Came}
 use Rattle.hdfs_model.specs.Opening.{appending, creating}
 use Rattle.hdfs_commands.proofs.Opening.{made, was_made, was_reopened}
-use Rattle.hdfs_commands.proofs.ReadActs.{meets}
+use Rattle.hdfs_commands.proofs.ReadActs.{meets, not_open_by}
 use Rattle.hdfs_commands.proofs.Failing.{may_be_done}
 use Rattle.hdfs_commands.proofs.Stepping.{is_closed}
 use Rattle.hdfs_commands.proofs.WholeBeside.{StaysAt, filled_beside, full_at, keeps_done, keeps_failed, stays_elsewhere, whole_behind_at, whole_beside}
@@ -114,13 +114,13 @@ module _ (old new : Shown) (session session' : Session) (name path : List ℕ) (
 
 -- so does the command that a read stands for
 pub read_whole : (old new : Shown) (session session' : Session) (command : Command) (name path : List ℕ) (offset len : ℕ) → commands.Read name offset len ≡ command → is_path path ≡ true
-    → path ≡ absolute (settings_of session).home (path_of command) → is_misplaced command (opened_of session path) ≡ false → ((r : List ℕ) → writer_of session' r ≡ writer_of session r)
+    → path ≡ absolute (settings_of session).home (path_of command) → (IsMisplaced (opened_of session) path command → ⊥) → ((r : List ℕ) → writer_of session' r ≡ writer_of session r)
     → ((p : Picture) → old.picture ≡ Some p → IsClosed p path → (q : Picture) × (new.picture ≡ Some q) × SameFiles p q)
     → (result : Result Reply HdfsError) → KeepsBlocksWhole command old session new session' result
 read_whole old new session session' command name path offset len is named called placed writers files result =
     subst (λ (c : Command). KeepsBlocksWhole c old session new session' result) is
     (reading_whole old new session session' name path offset len named
-    (subst (λ (c : Command). is_misplaced c (opened_of session path) ≡ false) (sym is) placed)
+    (not_open_by (opened_of session path) (subst (λ (c : Command). IsMisplaced (opened_of session) path c → ⊥) (sym is) placed))
     (subst (λ (c : Command). path ≡ absolute (settings_of session).home (path_of c)) (sym is) called)
     writers files result)
 

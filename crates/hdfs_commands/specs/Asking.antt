@@ -4,12 +4,15 @@
 use Rattle.std.specs.Prelude.{◌≡◌, ℕ, ◌-◌, true, false, List, Option, Some}
 use Rattle.hdfs_cluster.specs.declared.asks.Answer.{Answer}
 use Rattle.hdfs_cluster.specs.declared.asks.Ask.{Ask}
-use Rattle.hdfs_cluster.specs.Requests.{Request, IsAnsweredId, LetsClose, LetsWrite}
+use Rattle.hdfs_cluster.specs.declared.asks.Ask.TheVariants as asks
+use Rattle.hdfs_cluster.specs.Limits.{is_permission}
+use Rattle.hdfs_cluster.specs.Requests.{AskOf, Request, IsAnsweredId, LetsClose, LetsWrite}
 use Rattle.hdfs_model.specs.declared.commands.Command.{Command}
 use Rattle.hdfs_model.specs.declared.commands.Command.TheVariants as commands
 use Rattle.hdfs_model.specs.declared.commands.Settings.{Settings}
 use Rattle.hdfs_model.specs.Limits.{are_options}
-use Rattle.hdfs_model.specs.Owing.{is_misplaced}
+use Rattle.hdfs_model.specs.Listings.{LetsList}
+use Rattle.hdfs_model.specs.Owing.{IsMisplaced}
 use Rattle.hdfs_model.specs.Steps.{path_of}
 use Rattle.hdfs_names.specs.Paths.{absolute, is_path}
 use Rattle.hdfs_namenode.specs.Clients.{KeepsAnswered, client_name, name_of}
@@ -29,6 +32,11 @@ LetsAt allows may_answer client path (commands.Write name bytes) =
 LetsAt allows may_answer client path (commands.Close name) =
     (file_id : Option ℕ) → IsAnsweredId may_answer client path file_id → LetsClose allows may_answer client path file_id
 LetsAt allows may_answer client path (commands.Read name offset len) = LetsReadFile allows may_answer path len
+LetsAt allows may_answer client path (commands.Mkdirs name permission create_parent) =
+    is_permission permission ≡ true → allows (AskOf (asks.Mkdirs path permission create_parent))
+LetsAt allows may_answer client path (commands.Delete name recursive) = allows (AskOf (asks.Delete path recursive))
+LetsAt allows may_answer client path (commands.Info name) = allows (AskOf (asks.GetFileInfo path))
+LetsAt allows may_answer client path (commands.List name recursive limit) = LetsList allows may_answer recursive path
 
 -- what a command may ask for in a session with these settings: at its own path, and where that is none nothing
 abbrev pub Lets : (Request → Type 0) → (Ask → Answer → Type 0) → Settings → Command → Type 0
@@ -39,10 +47,10 @@ Lets allows may_answer settings command = is_path (absolute settings.home (path_
 abbrev pub LetsAny : (Request → Type 0) → (Ask → Answer → Type 0) → Type 0
 LetsAny allows may_answer = (settings : Settings) (command : Command) → Lets allows may_answer settings command
 
--- the same in this session: nothing where the path isn't open and should be, or the other way round
+-- the same in this session: nothing where the command is misplaced
 abbrev pub LetsPlaced : (Request → Type 0) → (Ask → Answer → Type 0) → Session → Command → Type 0
 LetsPlaced allows may_answer session command =
-    is_misplaced command (opened_of session (absolute (settings_of session).home (path_of command))) ≡ false
+    (IsMisplaced (opened_of session) (absolute (settings_of session).home (path_of command)) command → ⊥)
     → Lets allows may_answer (settings_of session) command
 
 -- the same, and nothing behind an error

@@ -14,6 +14,7 @@ use Rattle.hdfs_cluster.specs.declared.messages.LocatedBlock.{LocatedBlock}
 use Rattle.hdfs_cluster.specs.declared.messages.LocatedBlocks.{LocatedBlocks}
 use Rattle.hdfs_cluster.specs.declared.messages.ServerDefaults.{ServerDefaults}
 use Rattle.hdfs_cluster.specs.Limits.{are_defaults}
+use Rattle.hdfs_model.specs.Listings.{IsMoreThan, LacksPage}
 use Rattle.hdfs_model.specs.Opening.{AnswersDefaults, appending, creating, tells_encryption}
 use Rattle.hdfs_model.specs.declared.commands.Command.{Command}
 use Rattle.hdfs_model.specs.declared.commands.Command.TheVariants as commands
@@ -50,12 +51,19 @@ abbrev pub EndsBehindFile : (Ask → Answer → Type 0) → List ℕ → Command
 EndsBehindFile may_answer path (commands.Read name offset len) length = IsShort may_answer path offset len length
 EndsBehindFile may_answer path command length = ⊥
 
--- a command's file isn't there: its look-up had no answer, or its opening no status
+-- a command's file isn't there: its look-up had no answer, its opening no status, or nothing was told of its path
 abbrev pub LacksFile : (Ask → Answer → Type 0) → List ℕ → List ℕ → Command → Type 0
 LacksFile may_answer client path (commands.Read name offset len) = LookedUp may_answer path None
 LacksFile may_answer client path (commands.Append name) =
     (block : Option LocatedBlock) × may_answer (appending path client 4) (answers.Append (record { block = block; stat = None }))
+LacksFile may_answer client path (commands.Info name) = may_answer (asks.GetFileInfo path) (answers.GetFileInfo None)
+LacksFile may_answer client path (commands.List name recursive limit) = LacksPage may_answer recursive path
 LacksFile may_answer client path command = ⊥
+
+-- more was answered than a listing allows
+abbrev pub ListsMore : (Ask → Answer → Type 0) → List ℕ → Command → ℕ → Type 0
+ListsMore may_answer path (commands.List name recursive most) limit = IsMoreThan may_answer recursive path limit
+ListsMore may_answer path command limit = ⊥
 
 -- A command meets encryption: its file was answered to be encrypted, or the cluster to want data encrypted on its way. (Of a write its writer
 -- says it.)
@@ -75,6 +83,7 @@ IsAnsweredSo may_answer client path command (errors.InvalidArgument args.Default
     SomeDefaults may_answer (λ defaults. are_defaults defaults ≡ false)
 IsAnsweredSo may_answer client path command (errors.InvalidArgument (args.Range offset len length)) =
     EndsBehindFile may_answer path command length
+IsAnsweredSo may_answer client path command (errors.InvalidArgument (args.TooMany limit)) = ListsMore may_answer path command limit
 IsAnsweredSo may_answer client path command (errors.FileNotFound name) = LacksFile may_answer client path command
 IsAnsweredSo may_answer client path command (errors.UnsupportedFeature features.Encryption) = MeetsEncryption may_answer client path command
 IsAnsweredSo may_answer client path command error = Unit {0}

@@ -2,6 +2,9 @@
 #![tactic(auto)]
 
 mod encrypted;
+mod listing;
+mod naming;
+mod placing;
 mod reading;
 mod session;
 mod writing;

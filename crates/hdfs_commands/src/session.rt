@@ -1,10 +1,10 @@
 //! One session of commands.
-ghost use Rattle.std.specs.Prelude.{◌≡◌, ◌⊎◌, ◌<◌, ◌↔◌, Err, None, IfOk, IfErr, IsSome, IsTrue, OnOk, OnErr, true, false, List, ℕ};
+ghost use Rattle.std.specs.Prelude.{◌≡◌, ◌⊎◌, ◌<◌, Err, None, IfOk, IfErr, IsSome, OnOk, OnErr, true, false, List, ℕ};
 ghost use Rattle.hdfs_commands.specs.Acting.{Acts, world_at};
 ghost use Rattle.hdfs_cluster.specs.Files.{State};
 ghost use Rattle.hdfs_model.specs.Limits.{are_settings};
 ghost use Rattle.hdfs_names.specs.Paths.{is_path, absolute};
-ghost use Rattle.hdfs_model.specs.Owing.{Owed, is_misplaced};
+ghost use Rattle.hdfs_model.specs.Owing.{Owed};
 ghost use Rattle.hdfs_cluster.specs.Shown.{Later, SameReads};
 ghost use Rattle.hdfs_model.specs.Steps.{path_of};
 ghost use Rattle.hdfs_cluster.specs.declared.errors.HdfsError.TheVariants as errors;
@@ -88,17 +88,6 @@ impl Session {
         Ok(path)
     }
 
-    /// Whether a command finds its path open where it wants it open, and not open where it doesn't.
-    fn is_placed(&self, command: &Command, path: &str) -> bool
-        ensures { IsTrue result ↔ is_misplaced command.now (opened_of self.now path.now) ≡ false }
-    {
-        let is_open = self.writers.contains_key(path);
-        match command {
-            Command::Write { .. } | Command::Close { .. } => is_open,
-            _ => !is_open,
-        }
-    }
-
     /// Runs one command, whatever came before it.
     fn run<C: Cluster>(&mut self, cluster: &mut C, command: &Command) -> Result<Reply, HdfsError>
         requires stands { Stands (C.shown cluster.old) self.old }
@@ -128,6 +117,18 @@ impl Session {
                 offset,
                 len,
             } => self.read(cluster, name, path.as_str(), *offset, *len),
+            Command::Mkdirs {
+                permission,
+                create_parent,
+                ..
+            } => self.make_directory(cluster, path.as_str(), *permission, *create_parent),
+            Command::Delete { recursive, .. } => self.delete(cluster, path.as_str(), *recursive),
+            Command::Info { path: name } => self.info(cluster, name, path.as_str()),
+            Command::List {
+                path: name,
+                recursive,
+                limit,
+            } => self.list(cluster, name, path.as_str(), *recursive, *limit),
         }
     }
 
@@ -136,14 +137,15 @@ impl Session {
     ///
     /// | Error | Comes |
     /// |---|---|
-    /// | `InvalidPath` | where the command's path is none, with the home before it where it begins without a slash |
-    /// | `InvalidArgument(State)` | where a write or a close finds its file not open, or any other command finds it open |
-    /// | `InvalidArgument(Options)` | where an option of a new file is out of its limits, or an attribute of the file that is written |
+    /// | `InvalidPath` | where the command's path is none, with the home before it where it begins without a slash; of a listing over a cluster that tells no picture, also where a name isn't UTF-8 |
+    /// | `InvalidArgument(State)` | where a write or a close finds its file not open, a deletion finds its path or one below it open or is one of the root, or any other command but a listing finds its path open |
+    /// | `InvalidArgument(Options)` | where an option of a new file or the permission bits of a new directory are out of their limits, or an attribute of the file that is written |
     /// | `InvalidArgument(Defaults)` | where the cluster's defaults are out of their limits, and a file is created or appended to |
     /// | `InvalidArgument(Range)` | where the range ends behind the file |
-    /// | `AlreadyExists` | where something stands at the path of a new file, or a file that is appended to is being written, or where a namenode has failed |
-    /// | `FileNotFound` | where there is no file at the path |
-    /// | `RPCError` | for the same reason, or where a namenode has failed |
+    /// | `InvalidArgument(TooMany)` | where a listing has more entries than it allows |
+    /// | `AlreadyExists` | where something stands at the path of a new file, a file at that of a new directory, or a file that is appended to is being written, or where a namenode has failed |
+    /// | `FileNotFound` | where there is no file at the path, or nothing of which is to be told |
+    /// | `RPCError` | for the same reason, where a directory isn't empty and nothing is to go with it, or where a namenode has failed |
     /// | `IOError(Namenode)` | where the connection to the last namenode that was asked broke, twice |
     /// | `InvalidRPCResponse`, `FatalRPCError` | where the last namenode that was asked gave no answer that can be read, or gave up the connection |
     /// | `DataTransferError(Read)` | where each datanode has failed that holds a block of the range whole; the offset is in that block |

@@ -19,7 +19,7 @@ use Rattle.hdfs_cluster.specs.declared.store.Line.{Line}
 use Rattle.hdfs_cluster.specs.Files.{Kind, Directory, ClosedFile, OpenFile, NoFile, NotDirectory, Missing, NotFile}
 use Rattle.hdfs_cluster.specs.Namenode.{IsRefusal, StandsForAny, StandsForRefusal, class_for, class_in_the_way}
 use Rattle.hdfs_cluster.specs.Picture.{Picture}
-use Rattle.hdfs_cluster.specs.Refusals.{Refusal, BadPath, WrongState, Exists, Lacks, BadRange}
+use Rattle.hdfs_cluster.specs.Refusals.{Refusal, BadPath, WrongState, Exists, Lacks, BadRange, NotEmpty, TooMany}
 use Rattle.hdfs_mem_faults.specs.declared.fault_plan.FaultPlan.{FaultPlan}
 use Rattle.hdfs_mem_faults.specs.Plans.{SameAskFaults, ask_faults_of}
 use Rattle.hdfs_mem_faults.specs.Series.{AsksOf, ask_fault_count, is_fault}
@@ -62,6 +62,8 @@ class_for_any kind refusal class h = by_why h.0 h.2
     by_why BadPath stands = absurd stands
     by_why WrongState stands = absurd stands
     by_why BadRange stands = absurd stands
+    by_why NotEmpty stands = same_class class _ stands refl
+    by_why TooMany stands = absurd stands
 
 class_for_refusal : (p : Picture) (ask : Ask) (class : List ℕ) → IsRefusal p ask class → bytes_eq class io_exception ≡ false
 class_for_refusal p (asks.GetBlockLocations src offset length) class h = same_class class (class_for h.0) h.2 (class_for_no_file h.0)

@@ -10,6 +10,7 @@ use Rattle.hdfs_cluster.specs.Loading.{Loads, LoadsNothing, SameShown}
 use Rattle.hdfs_mem_faults.specs.declared.fault_plan.FaultPlan.{FaultPlan}
 use Rattle.hdfs_mem_namenode.specs.declared.namespace.Namespace.{Namespace}
 use Rattle.hdfs_mem_namenode.specs.Soundness.{sound_from}
+use Rattle.hdfs_mem_namenode.proofs.Keys.{texts_at}
 use Rattle.hdfs_mem_namenode.specs.Spaces.{space_of}
 use Rattle.hdfs_mem_datanodes.specs.declared.datanodes.Datanodes.{Datanodes}
 use Rattle.hdfs_mem_datanodes.specs.Nodes.{SameHeld}
@@ -63,5 +64,5 @@ module _ (space : Namespace) (settings : MemSettings) (last : LastAnswer) (failu
         files = λ state was. agrees_short p q id len uuid cuts.held short.entry short.listed node short.can (λ b. refl) (λ path. refl) state.files was;
         replicas = λ state was lie.
             loaded_more (shown_at space settings last failures (map line_of items') faults nodes' s) q state.files settings.nodes (loaded ++ lines.Short path k node len ∷ []) refl more_lines refl
-            (lie_short settings.nodes loaded p q path k node len id uuid (sound_from p space.sized space.apart) short cuts.held (λ b. refl) (λ x. refl) state.files (lie p refl));
+            (lie_short settings.nodes loaded p q path k node len id uuid (sound_from p space.sized space.apart (texts_at space.names)) short cuts.held (λ b. refl) (λ x. refl) state.files (lie p refl));
       }

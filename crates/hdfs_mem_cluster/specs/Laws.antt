@@ -16,6 +16,7 @@ use Rattle.std.specs.BTreeMap.{get_by_text}
 use Rattle.hdfs_cluster.specs.Sound.{IsSound}
 use Rattle.hdfs_cluster.proofs.Loads.{and_parts}
 use Rattle.hdfs_mem_namenode.specs.Soundness.{sound_from}
+use Rattle.hdfs_mem_namenode.proofs.Keys.{texts_at}
 use Rattle.hdfs_cluster.specs.Pipes.{IsPlaceOf, ShowsWrites}
 use Rattle.hdfs_cluster.specs.Sending.{WritePlace}
 use Rattle.hdfs_mem_datanodes.specs.declared.datanodes.Datanodes.{Datanodes}
@@ -89,6 +90,6 @@ fresh_law m p told =
           ∙ not_true m.space.grown (λ grown. m.space.more grown (λ path. bare_from_agrees (picture_of m) (bytes_eq root path) (get_by_text m.space.names path) (both.1 path))),
     )
 
--- each block of a file is in the table, and at one place
+-- each block of a file is in the table, and at one place, and names are text
 pub sound_law : (m : MemCluster) (p : Picture) → (shown_of m).picture ≡ Some p → IsSound p
-sound_law m p told = subst IsSound (told_picture m p told) (sound_from (picture_of m) m.space.sized m.space.apart)
+sound_law m p told = subst IsSound (told_picture m p told) (sound_from (picture_of m) m.space.sized m.space.apart (texts_at m.space.names))

@@ -4,6 +4,8 @@ use Rattle.std.proofs.lemmas.Bool.{false≢true}
 use Rattle.std.proofs.lemmas.Map.Entries.{place_from_lookup}
 use Rattle.std.proofs.lemmas.Map.Text.{is_eq-slice_cmp}
 use Rattle.std.proofs.lemmas.Slice.Eq.{bytes_eq-Decides}
+use Rattle.std.proofs.lemmas.Str.{IsUtf8-string_bytes}
+use Rattle.std.specs.Prelude.{IsUtf8}
 use Rattle.std.specs.BTreeMap.{BTreeMap, get, get_by_text, is_at}
 use Rattle.std.proofs.lemmas.Cmp.{nat_list_cmp_total}
 use Rattle.std.specs.Cmp.Lexicographic.{slice_cmp}
@@ -34,6 +36,10 @@ module _ {A X : Type 0} (m : BTreeMap (String A) X) where
       let known = some_known (get_by_text m q) some in
       let place = place_from_lookup (is_at (λ k. slice_cmp nat_cmp q (string_bytes k))) m.entries known.0 known.1 in
       (place.1, (bytes_eq-Decides q (string_bytes place.1)).0 (sym (is_eq-slice_cmp q (string_bytes place.1)) ∙ place.3))
+
+  -- what stands at a path stands at text
+  pub texts_at : (q : List ℕ) → IsSome (get_by_text m q) → IsUtf8 q
+  texts_at q some = let k = key_of q some in subst IsUtf8 (sym k.1) (IsUtf8-string_bytes k.0)
 
   -- where no key stands from a text on, all stand before it
   pub all_before : (start : String A) → ((k : String A) → is_gt (string_cmp start k) ≡ false → get string_cmp m k ≡ None) → (q : List ℕ) → IsSome (get_by_text m q) → is_before q (string_bytes start) ≡ true

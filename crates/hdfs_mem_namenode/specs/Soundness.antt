@@ -5,6 +5,7 @@ use Rattle.std.proofs.lemmas.Bool.Decides.{nat_tests}
 use Rattle.std.proofs.lemmas.List.Elements.{All-cons, All-nil}
 use Rattle.std.proofs.lemmas.Slice.Eq.{bytes_eq-Decides}
 use Rattle.std.specs.List.{All}
+use Rattle.std.specs.Prelude.{IsUtf8}
 use Rattle.std.specs.Str.{bytes_eq}
 use Rattle.hdfs_cluster.specs.declared.picture.BlockEntry.{BlockEntry}
 use Rattle.hdfs_cluster.specs.declared.picture.Entry.{Entry}
@@ -49,9 +50,11 @@ sized_listed table None is = All-nil (λ id. IsSome (table id))
 sized_listed table (Some entries.Dir) is = All-nil (λ id. IsSome (table id))
 sized_listed table (Some (entries.File file)) is = all_listed table file.blocks is
 
--- each block of a file is in the table, and at one place
-pub sound_from : (p : Picture) → ((path : List ℕ) → is_sized p.table (p.names path) ≡ true) → AreApart p.names → IsSound p
-sound_from p sized apart = record {
+-- each block of a file is in the table, and at one place, and names are text
+pub sound_from : (p : Picture) → ((path : List ℕ) → is_sized p.table (p.names path) ≡ true) → AreApart p.names
+    → ((path : List ℕ) → IsSome (p.names path) → IsUtf8 path) → IsSound p
+sound_from p sized apart texts = record {
+  texts = texts;
   listed = λ path file named. subst (λ (o : Option Entry). All (λ id. IsSome (p.table id)) (blocks_at o)) named (sized_listed p.table (p.names path) (sized path));
   once = λ path other k n id here there.
       (let both = and_parts (bytes_eq path other) (eqb k n) (apart path other k n id (kth path k id here) (kth other n id there)) in

@@ -1,5 +1,5 @@
 //! How what stands at a path of a cluster in memory is deleted.
-ghost use Rattle.std.specs.Prelude.{◌≡◌, ◌≢◌, ◌==◌, ◌&&◌, not, length, ◌++◌, ◌∷◌, [], string_bytes, ℕ, Bool, true, false, List, Contains, Option, Some, None, IsSome, IfOk, IfErr, OnOk, OnErr, if◌then◌else◌};
+ghost use Rattle.std.specs.Prelude.{◌≡◌, ◌≢◌, ◌==◌, ◌&&◌, not, length, ◌++◌, ◌∷◌, [], string_bytes, ℕ, true, false, List, Contains, Some, None, IsSome, IfOk, IfErr, OnOk, OnErr, if◌then◌else◌};
 ghost use Rattle.std.specs.BTreeMap.{get_by_text};
 ghost use Rattle.std.specs.List.{All, list_any};
 ghost use Rattle.std.specs.Str.{bytes_eq};

@@ -1,3 +1,17 @@
+pub mod Both
 pub mod Completing
+pub mod Deleted
+pub mod Descending
+pub mod Examples
 pub mod Folding
+pub mod Listed
+pub mod Made
+pub mod Misplaced
+pub mod Ordered
+pub mod Paged
+pub mod Planted
+pub mod Removing
 pub mod Telling
+pub mod Told
+pub mod Walking
+pub mod Within

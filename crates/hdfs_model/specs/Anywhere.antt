@@ -1,8 +1,9 @@
 -- What a session says over any cluster, whether it tells its picture or not.
-use Rattle.std.specs.Prelude.{◌≡◌, ◌≢◌, ℕ, suc, ◌-◌, List, [], ◌∷◌, length, take, Result, IfOk, IfErr, slice_get, Some, Vec}
+use Rattle.std.specs.Prelude.{◌≡◌, ◌≢◌, ℕ, suc, ◌-◌, ◌≤◌, true, false, List, [], ◌∷◌, length, take, Result, IfOk, IfErr, slice_get, Some, Vec}
 use Rattle.std.specs.declared.alloc.Global.{Global}
 use Rattle.hdfs_model.specs.declared.commands.Command.{Command}
 use Rattle.hdfs_model.specs.declared.commands.Command.TheVariants as commands
+use Rattle.hdfs_model.specs.declared.commands.PathEntry.{PathEntry}
 use Rattle.hdfs_model.specs.declared.commands.Reply.{Reply}
 use Rattle.hdfs_model.specs.declared.commands.Reply.TheVariants as replies
 use Rattle.hdfs_model.specs.declared.commands.Fault.{Fault}
@@ -13,13 +14,26 @@ use Rattle.hdfs_cluster.specs.Failures.{NodesFailTimes}
 use Rattle.hdfs_cluster.specs.Shown.{Shown, Later, SameReads, SameNodes}
 use Rattle.hdfs_model.specs.Causes.{Tells, IsEarly, TouchesNothing}
 
--- The reply is one to the command, and a write has taken all of its bytes. (Which bytes a read gives a told picture says.)
+-- the reply tells what stands at a path; of a directory no number
+abbrev pub IsInfo : Reply → Type 0
+IsInfo (replies.Info true size permission replication block_size) =
+    (size ≡ 0) × (permission ≡ 0) × (replication ≡ 0) × (block_size ≡ 0)
+IsInfo (replies.Info false size permission replication block_size) = Unit {0}
+IsInfo reply = ⊥
+
+-- The reply is one to the command, a write has taken all of its bytes, and a listing has no more entries than the command allows. (Which
+-- bytes a read gives, and what is told of what stands at paths, a told picture says.)
 abbrev pub IsReply : Command → Reply → Type 0
 IsReply (commands.Create path options) reply = reply ≡ replies.Created
 IsReply (commands.Append path) reply = reply ≡ replies.Appended
 IsReply (commands.Write path bytes) reply = reply ≡ replies.Written (length bytes)
 IsReply (commands.Close path) reply = reply ≡ replies.Closed
 IsReply (commands.Read path offset len) reply = (bytes : List ℕ) × (reply ≡ replies.Bytes bytes)
+IsReply (commands.Mkdirs path permission create_parent) reply = reply ≡ replies.Made
+IsReply (commands.Delete path recursive) reply = reply ≡ replies.Deleted
+IsReply (commands.Info path) reply = IsInfo reply
+IsReply (commands.List path recursive limit) reply =
+    (entries : List PathEntry) × (reply ≡ replies.Listed entries) × (length entries ≤ limit)
 
 -- One command: a reply is one to it. No read link was changed, closed or left open, and an error tells what it stands for. A
 -- refusal, and a command that neither asks for bytes nor sends any, touch no datanode. (What becomes of write links a session

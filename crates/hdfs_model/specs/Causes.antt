@@ -12,10 +12,10 @@ use Rattle.hdfs_cluster.specs.declared.errors.Feature.TheVariants as features
 use Rattle.hdfs_cluster.specs.Counts.{FaultCounts, Rose}
 use Rattle.hdfs_cluster.specs.Failures.{CallsRose, HasFailed, IsOfAsk, MayReplace, Means, failure_of}
 use Rattle.hdfs_cluster.specs.Files.{State, Content, NoFile, File, Writing}
-use Rattle.hdfs_cluster.specs.Limits.{are_defaults, are_attributes}
+use Rattle.hdfs_cluster.specs.Limits.{are_defaults, are_attributes, is_permission}
 use Rattle.hdfs_model.specs.Limits.{are_options}
-use Rattle.hdfs_model.specs.Steps.{World, Outcome, Refused, Done, Refusal, BadPath, WrongState, Exists, Lacks, BadRange, content_of, step, path_of, target_of}
-use Rattle.hdfs_cluster.specs.Namenode.{class_for}
+use Rattle.hdfs_model.specs.Steps.{World, Outcome, Refused, Done, Refusal, BadPath, WrongState, Exists, Lacks, BadRange, NotEmpty, TooMany, content_of, step, path_of, target_of}
+use Rattle.hdfs_cluster.specs.Namenode.{class_for, not_empty}
 use Rattle.hdfs_cluster.specs.Shown.{Shown}
 use Rattle.hdfs_cluster.specs.Lost.{FileLost, SomeListedFailed, PipelineFailed}
 
@@ -32,14 +32,25 @@ IsDone outcome = (reply : Reply) × (next : State) × (outcome ≡ Done reply ne
 abbrev pub IsLacking : Outcome → Type 0
 IsLacking outcome = (why : NoFile) × (outcome ≡ Refused (Lacks why))
 
--- an exception of this class stands for that
-abbrev pub StandsForLacking : Outcome → List ℕ → Type 0
-StandsForLacking outcome class = (why : NoFile) × (outcome ≡ Refused (Lacks why)) × (class ≡ class_for why)
+-- the class of the exceptions that stand for a refusal, but for those by which something stands at the path already
+abbrev pub IsClassFor : Refusal → List ℕ → Type 0
+IsClassFor (Lacks why) class = class ≡ class_for why
+IsClassFor NotEmpty class = class ≡ not_empty
+IsClassFor why class = ⊥
+
+-- an exception of this class stands for what the step is refused for
+abbrev pub StandsForRefused : Outcome → List ℕ → Type 0
+StandsForRefused outcome class = (why : Refusal) × (outcome ≡ Refused why) × IsClassFor why class
 
 -- the offset and the length that a command asks for
 abbrev pub Asks : Command → ℕ → ℕ → Type 0
 Asks (commands.Read path o l) offset len = (offset ≡ o) × (len ≡ l)
 Asks command offset len = ⊥
+
+-- the command allows so many entries
+abbrev pub Allows : Command → ℕ → Type 0
+Allows (commands.List path recursive most) limit = limit ≡ most
+Allows command limit = ⊥
 
 -- the command sends bytes to datanodes
 abbrev pub Sends : Command → Type 0
@@ -59,6 +70,10 @@ TouchesNothing (commands.Append path) = Unit {0}
 TouchesNothing (commands.Write path bytes) = bytes ≡ []
 TouchesNothing (commands.Close path) = ⊥
 TouchesNothing (commands.Read path offset len) = len ≡ 0
+TouchesNothing (commands.Mkdirs path permission create_parent) = Unit {0}
+TouchesNothing (commands.Delete path recursive) = Unit {0}
+TouchesNothing (commands.Info path) = Unit {0}
+TouchesNothing (commands.List path recursive limit) = Unit {0}
 
 -- the command asks for bytes, or sends some
 abbrev pub MovesBytes : Command → Type 0
@@ -80,16 +95,20 @@ OpensEncrypted state path (commands.Append text) = IsEncryptedAt state path
 OpensEncrypted state path (commands.Read text offset len) = IsEncryptedAt state path
 OpensEncrypted state path command = ⊥
 
--- the command can meet encryption: it is neither a close nor a write of no bytes
+-- the command can meet encryption: it opens a file, or writes some bytes
 abbrev pub CanMeetEncryption : Command → Type 0
+CanMeetEncryption (commands.Create path options) = Unit {0}
+CanMeetEncryption (commands.Append path) = Unit {0}
 CanMeetEncryption (commands.Write path bytes) = bytes ≢ []
-CanMeetEncryption (commands.Close path) = ⊥
-CanMeetEncryption command = Unit {0}
+CanMeetEncryption (commands.Read path offset len) = Unit {0}
+CanMeetEncryption command = ⊥
 
--- the command wants a file that is there and isn't open
+-- the command wants a file that is there and isn't open, or is to tell what stands at its path
 abbrev pub WantsFile : Command → Type 0
 WantsFile (commands.Append path) = Unit {0}
 WantsFile (commands.Read path offset len) = Unit {0}
+WantsFile (commands.Info path) = Unit {0}
+WantsFile (commands.List path recursive limit) = Unit {0}
 WantsFile command = ⊥
 
 -- the command uses the cluster's defaults
@@ -98,21 +117,23 @@ UsesDefaults (commands.Create path options) = Unit {0}
 UsesDefaults (commands.Append path) = Unit {0}
 UsesDefaults command = ⊥
 
--- the command's options are out of their limits, or it writes some bytes to a file, whose attributes may be
+-- the command's options or its permission bits are out of their limits, or it writes some bytes to a file, whose attributes may be
 abbrev pub OptionsMayBeOut : Command → Type 0
 OptionsMayBeOut (commands.Create path options) = are_options options ≡ false
 OptionsMayBeOut (commands.Write path bytes) = bytes ≢ []
+OptionsMayBeOut (commands.Mkdirs path permission create_parent) = is_permission permission ≡ false
 OptionsMayBeOut command = ⊥
 
 -- the length of the file at a path
 abbrev pub HasLength : State → List ℕ → ℕ → Type 0
 HasLength state path n = (content : Content) × (content_of (state.files path) ≡ Some content) × (n ≡ length content.bytes)
 
--- an option of the command is out of its limits, or an attribute of the file to which it writes some bytes
+-- an option of the command or its permission bits are out of their limits, or an attribute of the file to which it writes some bytes
 abbrev pub OptionsOut : State → List ℕ → Command → Type 0
 OptionsOut state path (commands.Create text options) = are_options options ≡ false
 OptionsOut state path (commands.Write text bytes) =
     (bytes ≢ []) × (content : Content) × (state.files path ≡ Some (Writing content)) × (are_attributes content.attributes ≡ false)
+OptionsOut state path (commands.Mkdirs text permission create_parent) = is_permission permission ≡ false
 OptionsOut state path command = ⊥
 
 -- a datanode of a pipeline of the file at a path, which is being written, may have to be replaced
@@ -130,6 +151,7 @@ CanEnd command (errors.InvalidArgument args.State) = Unit {0}
 CanEnd command (errors.InvalidArgument args.Options) = OptionsMayBeOut command
 CanEnd command (errors.InvalidArgument args.Defaults) = UsesDefaults command
 CanEnd command (errors.InvalidArgument (args.Range offset len length)) = Asks command offset len × (length < offset + len)
+CanEnd command (errors.InvalidArgument (args.TooMany limit)) = Allows command limit
 CanEnd command (errors.OperationFailed name) = IsClose command
 CanEnd command (errors.UnsupportedFeature features.Encryption) = CanMeetEncryption command
 CanEnd command (errors.FileNotFound path) = (path ≡ path_of command) × WantsFile command
@@ -174,6 +196,8 @@ Because world state command old new (errors.InvalidArgument args.Defaults) =
     UsesDefaults command × (are_defaults world.defaults ≡ false)
 Because world state command old new (errors.InvalidArgument (args.Range offset len length)) =
     (step world state command ≡ Refused BadRange) × HasLength state (target_of world command) length
+Because world state command old new (errors.InvalidArgument (args.TooMany limit)) =
+    (step world state command ≡ Refused TooMany) × Allows command limit
 Because world state command old new (errors.AlreadyExists message) = (step world state command ≡ Refused Exists) ⊎ CallsRose old.counts new
 Because world state command old new (errors.OperationFailed name) =
     IsDone (step world state command) × (name ≡ target_of world command)
@@ -181,7 +205,7 @@ Because world state command old new (errors.UnsupportedFeature features.Encrypti
     (IsDone (step world state command) × MovesEncrypted world command) ⊎ OpensEncrypted state (target_of world command) command
 Because world state command old new (errors.FileNotFound name) = IsLacking (step world state command)
 Because world state command old new (errors.RPCError class message) =
-    StandsForLacking (step world state command) class ⊎ CallsRose old.counts new
+    StandsForRefused (step world state command) class ⊎ CallsRose old.counts new
 Because world state command old new error = IsOfAsk error
 
 -- the cause of an error of a command over a state: that, and what it says has failed
@@ -196,4 +220,6 @@ IsKind Exists (errors.AlreadyExists message) = Unit {0}
 IsKind (Lacks why) (errors.FileNotFound path) = Unit {0}
 IsKind (Lacks why) (errors.RPCError class message) = Unit {0}
 IsKind BadRange (errors.InvalidArgument (args.Range offset len length)) = Unit {0}
+IsKind NotEmpty (errors.RPCError class message) = Unit {0}
+IsKind TooMany (errors.InvalidArgument (args.TooMany limit)) = Unit {0}
 IsKind why error = ⊥

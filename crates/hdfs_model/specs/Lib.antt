@@ -3,9 +3,12 @@ pub mod Causes
 pub mod Folds
 pub mod Headline
 pub mod Limits
+pub mod Listings
 pub mod Opening
 pub mod Owing
 pub mod Scenes
 pub mod Sessions
+pub mod Statuses
 pub mod Steps
 pub mod Stored
+pub mod Walks

@@ -26,10 +26,14 @@ abbrev pub are_settings : Settings → Bool
 are_settings settings = begins_with_slash settings.home && is_small settings.rebuild_limit && is_small settings.window
 
 -- The numbers that a command brings or uses are in their limits: the options and the defaults where it creates, the defaults
--- where it appends.
+-- where it appends, the permission bits of a directory that it makes.
 abbrev pub are_numbers : ServerDefaults → Command → Bool
 are_numbers defaults (commands.Create path options) = are_options options && are_defaults defaults
 are_numbers defaults (commands.Append path) = are_defaults defaults
 are_numbers defaults (commands.Write path bytes) = true
 are_numbers defaults (commands.Close path) = true
 are_numbers defaults (commands.Read path offset len) = true
+are_numbers defaults (commands.Mkdirs path permission create_parent) = is_permission permission
+are_numbers defaults (commands.Delete path recursive) = true
+are_numbers defaults (commands.Info path) = true
+are_numbers defaults (commands.List path recursive limit) = true

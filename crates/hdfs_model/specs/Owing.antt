@@ -1,18 +1,26 @@
 -- What a command is refused for before anything is asked: the path rule, and what the session has open.
-use Rattle.std.specs.Prelude.{◌≡◌, ◌⊎◌, ℕ, Bool, true, false, not, List}
+use Rattle.std.specs.Prelude.{◌≡◌, ◌⊎◌, ℕ, Bool, true, false, List}
 use Rattle.hdfs_model.specs.declared.commands.Command.{Command}
 use Rattle.hdfs_model.specs.declared.commands.Command.TheVariants as commands
 use Rattle.hdfs_cluster.specs.declared.errors.ArgFault.TheVariants as args
 use Rattle.hdfs_cluster.specs.declared.errors.HdfsError.{HdfsError}
 use Rattle.hdfs_cluster.specs.declared.errors.HdfsError.TheVariants as errors
-use Rattle.hdfs_names.specs.Paths.{is_path}
+use Rattle.hdfs_cluster.specs.Names.{is_within}
+use Rattle.hdfs_names.specs.Paths.{root, is_path}
 use Rattle.hdfs_model.specs.Steps.{World, path_of, target_of}
 
--- a write and a close want the path open, all others want it not
-abbrev pub is_misplaced : Command → Bool → Bool
-is_misplaced (commands.Write path bytes) is_open = not is_open
-is_misplaced (commands.Close path) is_open = not is_open
-is_misplaced command is_open = is_open
+-- one of the paths that are open is this one, or lies below it
+abbrev pub IsOpenWithin : (List ℕ → Bool) → List ℕ → Type 0
+IsOpenWithin opened path = (other : List ℕ) × (opened other ≡ true) × (is_within path other ≡ true)
+
+-- A write and a close want the path open. A deletion wants neither the path nor one below it open, and isn't one of the root; a listing takes
+-- each path as it is; all others want the path not open.
+abbrev pub IsMisplaced : (List ℕ → Bool) → List ℕ → Command → Type 0
+IsMisplaced opened path (commands.Write text bytes) = opened path ≡ false
+IsMisplaced opened path (commands.Close text) = opened path ≡ false
+IsMisplaced opened path (commands.Delete text recursive) = (path ≡ root) ⊎ IsOpenWithin opened path
+IsMisplaced opened path (commands.List text recursive limit) = ⊥
+IsMisplaced opened path command = opened path ≡ true
 
 -- the error says neither of the path rule nor of what the session has open
 abbrev pub IsNotOwed : HdfsError → Type 0
@@ -20,15 +28,19 @@ IsNotOwed (errors.InvalidPath text) = ⊥
 IsNotOwed (errors.InvalidArgument args.State) = ⊥
 IsNotOwed error = Unit {0}
 
--- the error that is owed where the path rule is broken, or what the session has open
-abbrev pub OwedBy : Bool → Bool → List ℕ → HdfsError → Type 0
-OwedBy false misplaced path error = error ≡ errors.InvalidPath path
-OwedBy true true path error = error ≡ errors.InvalidArgument args.State
-OwedBy true false path error = IsNotOwed error
+-- a listing may meet a name that is no text, over a cluster that tells no picture
+abbrev pub MeetsNoText : Command → HdfsError → Type 0
+MeetsNoText (commands.List text recursive limit) error = error ≡ errors.InvalidPath text
+MeetsNoText command error = ⊥
+
+-- The error that is owed at a path: where that breaks the path rule, where the command is misplaced there, and elsewhere.
+abbrev pub OwedAt : (List ℕ → Bool) → List ℕ → Command → HdfsError → Type 0
+OwedAt opened path command error =
+    ((is_path path ≡ false) × (error ≡ errors.InvalidPath (path_of command)))
+    ⊎ ((is_path path ≡ true) × IsMisplaced opened path command × (error ≡ errors.InvalidArgument args.State))
+    ⊎ ((is_path path ≡ true) × (IsMisplaced opened path command → ⊥) × (IsNotOwed error ⊎ MeetsNoText command error))
 
 -- What a command is refused for before anything is asked, exactly: the path rule comes first, then what the session has open.
 -- Want of memory may come instead.
 abbrev pub Owed : World → (List ℕ → Bool) → Command → HdfsError → Type 0
-Owed world opened command error =
-    (error ≡ errors.NoMemory)
-    ⊎ OwedBy (is_path (target_of world command)) (is_misplaced command (opened (target_of world command))) (path_of command) error
+Owed world opened command error = (error ≡ errors.NoMemory) ⊎ OwedAt opened (target_of world command) command error

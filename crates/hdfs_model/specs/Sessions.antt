@@ -14,6 +14,7 @@ use Rattle.hdfs_names.specs.Paths.{ancestors}
 use Rattle.hdfs_cluster.specs.Files.{State, Writing, Content}
 use Rattle.hdfs_cluster.specs.Limits.{are_attributes}
 use Rattle.hdfs_model.specs.Limits.{are_numbers}
+use Rattle.hdfs_cluster.specs.Names.{is_within}
 use Rattle.hdfs_cluster.specs.Picture.{Picture}
 use Rattle.hdfs_model.specs.Steps.{World, Outcome, Refused, Done, target_of, is_opened, step}
 use Rattle.hdfs_model.specs.Folds.{Folded, Ends, Stops}
@@ -51,9 +52,10 @@ SameOpened opened state = (path : List ℕ) → is_opened state path ≡ opened 
 abbrev pub IsStrange : State → List ℕ → Type 0
 IsStrange state path = (content : Content) × (state.files path ≡ Some (Writing content)) × (is_opened state path ≡ false)
 
--- the command doesn't read a file that another client is writing
+-- the command neither reads a file that another client is writing nor asks how long that is
 abbrev pub Avoids : World → State → Command → Type 0
 Avoids world state (commands.Read path offset len) = IsStrange state (target_of world (commands.Read path offset len)) → ⊥
+Avoids world state (commands.Info path) = IsStrange state (target_of world (commands.Info path)) → ⊥
 Avoids world state command = Unit {0}
 
 -- the attributes of the file that a write of some bytes goes on with are in their limits
@@ -80,11 +82,19 @@ AreLimited world state (command ∷ commands) =
     IsLimited world state command × ((reply : Reply) (next : State) → step world state command ≡ Done reply next
     → AreLimited world next commands)
 
--- The paths that a command touches: its own where it writes, and where it creates those above it at which nothing stood. One
--- that only reads touches none.
+-- a path, and those above it at which nothing stands
+abbrev pub is_or_above : State → List ℕ → List ℕ → Bool
+is_or_above state path q = bytes_eq path q || (is_none (state.files q) && list_any (bytes_eq q) (ancestors path))
+
+-- The paths that a command touches: its own where it writes; where it creates a file or makes a directory, also those above it at which
+-- nothing stood; where it deletes, also those below it. One that only reads or lists touches none.
 abbrev pub touched : State → List ℕ → Command → List ℕ → Bool
-touched state path (commands.Create text options) q = bytes_eq path q || (is_none (state.files q) && list_any (bytes_eq q) (ancestors path))
+touched state path (commands.Create text options) q = is_or_above state path q
+touched state path (commands.Mkdirs text permission create_parent) q = is_or_above state path q
+touched state path (commands.Delete text recursive) q = is_within path q
 touched state path (commands.Read text offset len) q = false
+touched state path (commands.Info text) q = false
+touched state path (commands.List text recursive limit) q = false
 touched state path command q = bytes_eq path q
 
 -- whether an error comes before anything is asked that has an effect

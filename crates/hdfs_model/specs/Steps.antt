@@ -1,18 +1,22 @@
 -- What one command does to the state of the files, and what it is answered.
-use Rattle.std.specs.Prelude.{ℕ, ◌+◌, nat_lt, Bool, false, not, List, [], ◌∷◌, ◌++◌, length, filter, Option, Some, None, unwrap_or, if◌then◌else◌}
+use Rattle.std.specs.Prelude.{ℕ, ◌+◌, nat_lt, Bool, true, false, not, ◌&&◌, ◌||◌, List, [], ◌∷◌, ◌++◌, length, map, filter, Option, Some, None, is_some, unwrap_or, if◌then◌else◌}
 use Rattle.std.specs.List.{list_any}
 use Rattle.std.specs.Str.{bytes_eq}
 use Rattle.hdfs_cluster.specs.declared.messages.ServerDefaults.{ServerDefaults}
 use Rattle.hdfs_model.specs.declared.commands.Command.{Command}
 use Rattle.hdfs_model.specs.declared.commands.Command.TheVariants as commands
+use Rattle.hdfs_model.specs.declared.commands.PathEntry.{PathEntry}
 use Rattle.hdfs_model.specs.declared.commands.Reply.{Reply}
 use Rattle.hdfs_model.specs.declared.commands.Reply.TheVariants as replies
 use Rattle.hdfs_model.specs.declared.commands.WriteOptions.{WriteOptions}
-use Rattle.hdfs_names.specs.Paths.{is_path, absolute, ancestors}
+use Rattle.hdfs_names.specs.Paths.{root, is_path, absolute, ancestors}
 use Rattle.hdfs_names.specs.declared.replacement.Policy.{Policy}
 use Rattle.hdfs_cluster.specs.Files.{State, Node, Dir, File, Writing, Content, NoFile, Missing, no_file, kinds_of}
+use Rattle.hdfs_cluster.specs.Loading.{is_directory}
+use Rattle.hdfs_cluster.specs.Names.{is_below, is_within}
 use Rattle.hdfs_cluster.specs.Reading.{range_of}
-pub use Rattle.hdfs_cluster.specs.Refusals.{Refusal, BadPath, WrongState, Exists, Lacks, BadRange, create_refusal, append_refusal, with_parents}
+pub use Rattle.hdfs_cluster.specs.Refusals.{Refusal, BadPath, WrongState, Exists, Lacks, BadRange, NotEmpty, TooMany, create_refusal, append_refusal, mkdirs_refusal, delete_refusal, look_refusal, with_parents}
+use Rattle.hdfs_model.specs.Walks.{walk}
 
 -- what a step comes to: a refusal, or a reply and the next state
 pub data Outcome : Type 0 where
@@ -111,7 +115,71 @@ close_node state path (Some (File content)) = Refused WrongState
 close_node state path (Some (Writing content)) =
     Done replies.Closed (record (with_node state path (File content)) { opened = without path state.opened })
 
--- A command at its path. A write and a close are refused where the session hasn't the path open, all others where it has.
+-- the state with a directory at a path, and above it
+abbrev pub with_directory : State → List ℕ → State
+with_directory state path = record state {
+  files = with_parents state.files Dir path Dir;
+  paths = path ∷ (ancestors path ++ state.paths);
+}
+
+-- a directory is made where nothing refuses it; one that is there stays
+abbrev pub make_directory : State → List ℕ → Option Refusal → Outcome
+make_directory state path (Some why) = Refused why
+make_directory state path None = Done replies.Made (with_directory state path)
+
+-- the map without what stands at a path and below it
+abbrev pub files_without : {X : Type 0} → (List ℕ → Option X) → List ℕ → List ℕ → Option X
+files_without map path q = if is_within path q then None else map q
+
+-- something stands below a path
+abbrev pub has_below : State → List ℕ → Bool
+has_below state path = list_any (λ q. is_below path q && is_some (state.files q)) state.paths
+
+-- what stands at a path and below it goes where nothing refuses it
+abbrev pub delete_files : State → List ℕ → Option Refusal → Outcome
+delete_files state path (Some why) = Refused why
+delete_files state path None = Done replies.Deleted (record state { files = files_without state.files path })
+
+-- the session of a state has a path open, or one below it
+abbrev pub is_opened_within : State → List ℕ → Bool
+is_opened_within state path = list_any (is_within path) state.opened
+
+-- what is told of a file: how many bytes it has, and its attributes
+abbrev pub file_info : Content → Reply
+file_info content =
+    replies.Info false (length content.bytes) content.attributes.permission content.attributes.replication content.attributes.block_size
+
+-- what is told of what stands at a path; of a directory no more than that it is one
+abbrev pub info_of : Node → Reply
+info_of Dir = replies.Info true 0 0 0 0
+info_of (File content) = file_info content
+info_of (Writing content) = file_info content
+
+-- it is told of what stands at a path where nothing refuses it
+abbrev pub info_node : State → Option Refusal → Option Node → Outcome
+info_node state (Some why) _ = Refused why
+info_node state None None = Refused (Lacks Missing)
+info_node state None (Some node) = Done (info_of node) state
+
+-- an entry of a listing: a path, and whether a directory stands there
+abbrev pub entry_at : State → List ℕ → PathEntry
+entry_at state path = record { path = path; isdir = is_directory (state.files path) }
+
+-- the entries at these paths, where they are no more than are allowed
+abbrev pub list_paths : State → List (List ℕ) → ℕ → Outcome
+list_paths state paths limit =
+    if nat_lt limit (length paths) then Refused TooMany else Done (replies.Listed (map (entry_at state) paths)) state
+
+-- a directory is listed by its walk, and a file by itself
+abbrev pub list_node : State → List ℕ → Option Refusal → Option Node → Bool → ℕ → Outcome
+list_node state path (Some why) _ recursive limit = Refused why
+list_node state path None None recursive limit = Refused (Lacks Missing)
+list_node state path None (Some Dir) recursive limit = list_paths state (walk state.files state.paths path recursive) limit
+list_node state path None (Some (File content)) recursive limit = list_paths state (path ∷ []) limit
+list_node state path None (Some (Writing content)) recursive limit = list_paths state (path ∷ []) limit
+
+-- A command at its path. A write and a close are refused where the session hasn't the path open. A deletion is refused where it has the path
+-- or one below it open, and of the root. A listing is never refused for what is open, and all others are where the session has the path open.
 abbrev pub step_at : World → State → List ℕ → Command → Outcome
 step_at world state path (commands.Create text options) =
     if is_opened state path then Refused WrongState
@@ -124,6 +192,17 @@ step_at world state path (commands.Close text) =
     if is_opened state path then close_node state path (state.files path) else Refused WrongState
 step_at world state path (commands.Read text offset len) =
     if is_opened state path then Refused WrongState else read_file state path (no_file (kinds_of state.files) path) offset len
+step_at world state path (commands.Mkdirs text permission create_parent) =
+    if is_opened state path then Refused WrongState
+    else make_directory state path (mkdirs_refusal (kinds_of state.files) path create_parent)
+step_at world state path (commands.Delete text recursive) =
+    if bytes_eq root path || is_opened_within state path then Refused WrongState
+    else delete_files state path (delete_refusal (kinds_of state.files) path (has_below state path) recursive)
+step_at world state path (commands.Info text) =
+    if is_opened state path then Refused WrongState
+    else info_node state (look_refusal (kinds_of state.files) path) (state.files path)
+step_at world state path (commands.List text recursive limit) =
+    list_node state path (look_refusal (kinds_of state.files) path) (state.files path) recursive limit
 
 -- the path that a command names, as it is written
 abbrev pub path_of : Command → List ℕ
@@ -132,6 +211,10 @@ path_of (commands.Append path) = path
 path_of (commands.Write path bytes) = path
 path_of (commands.Close path) = path
 path_of (commands.Read path offset len) = path
+path_of (commands.Mkdirs path permission create_parent) = path
+path_of (commands.Delete path recursive) = path
+path_of (commands.Info path) = path
+path_of (commands.List path recursive limit) = path
 
 -- the path at which a command is done
 abbrev pub target_of : World → Command → List ℕ

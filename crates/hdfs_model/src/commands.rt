@@ -133,15 +133,59 @@ impl WriteOptions {
 #[derive(Drop)]
 pub enum Command {
     /// Creates a file, and opens it.
-    Create { path: Text, options: WriteOptions },
+    Create {
+        path: Text,
+        options: WriteOptions,
+    },
     /// Opens the closed file at `path`, to be gone on with.
-    Append { path: Text },
+    Append {
+        path: Text,
+    },
     /// Puts bytes behind those of the open file at `path`.
-    Write { path: Text, bytes: Blob },
+    Write {
+        path: Text,
+        bytes: Blob,
+    },
     /// Closes the open file at `path`.
-    Close { path: Text },
+    Close {
+        path: Text,
+    },
     /// Reads `len` bytes from `offset` of the closed file at `path`.
-    Read { path: Text, offset: u64, len: u64 },
+    Read {
+        path: Text,
+        offset: u64,
+        len: u64,
+    },
+    /// Makes a directory at `path`, and those above it that aren't there where `create_parent` says so. One that is there stays.
+    Mkdirs {
+        path: Text,
+        permission: u32,
+        create_parent: bool,
+    },
+    /// Lets go of what stands at `path`: of a directory with all that is below it where `recursive` says so, else only where nothing is
+    /// below it. Where nothing stands there, nothing is done.
+    Delete {
+        path: Text,
+        recursive: bool,
+    },
+    /// Tells what stands at `path`.
+    Info {
+        path: Text,
+    },
+    /// Lists what stands in the directory at `path`, and where `recursive` says so also below it, if that is no more than `limit` entries.
+    /// A file is listed alone.
+    List {
+        path: Text,
+        recursive: bool,
+        limit: u64,
+    },
+}
+
+/// An entry of a listing: a path, and whether a directory stands there.
+#[derive(Debug, Drop)]
+pub struct PathEntry {
+    pub path: Text,
+    pub isdir: bool,
 }
 
 impl Command {
@@ -156,7 +200,11 @@ impl Command {
             | Command::Append { path }
             | Command::Write { path, .. }
             | Command::Close { path }
-            | Command::Read { path, .. } => path,
+            | Command::Read { path, .. }
+            | Command::Mkdirs { path, .. }
+            | Command::Delete { path, .. }
+            | Command::Info { path }
+            | Command::List { path, .. } => path,
         }
     }
 }
@@ -167,9 +215,27 @@ pub enum Reply {
     Created,
     Appended,
     /// How many bytes were written.
-    Written { bytes: u64 },
+    Written {
+        bytes: u64,
+    },
     Closed,
-    Bytes { bytes: Blob },
+    Bytes {
+        bytes: Blob,
+    },
+    Made,
+    /// Nothing stands at the path now.
+    Deleted,
+    /// A directory, of which each number is 0; or a file: how many bytes it has, its permission bits, its replication and its block size.
+    Info {
+        isdir: bool,
+        length: u64,
+        permission: u32,
+        replication: u32,
+        block_size: u64,
+    },
+    Listed {
+        entries: List<PathEntry>,
+    },
 }
 
 /// Where a session stopped: at which command, counted from 1, or at 0 before the first; with which error; and with which

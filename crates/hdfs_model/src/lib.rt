@@ -3,4 +3,4 @@
 
 mod commands;
 
-pub use commands::{Command, Fault, Reply, Settings, WriteOptions};
+pub use commands::{Command, Fault, PathEntry, Reply, Settings, WriteOptions};

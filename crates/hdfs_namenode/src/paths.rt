@@ -60,6 +60,7 @@ impl NamenodeProtocol {
             (as_answer answers.GetFileInfo result) (through self.new cluster.new) }
         ensures came { ReachesAll (proxy_of self.old) (C.shown cluster.old) → Came (C.shown cluster.old)
             (asks.GetFileInfo src.now) (as_answer answers.GetFileInfo result) (C.shown cluster.new) }
+        ensures answered { IfOk result (λ status. C.may_answer (asks.GetFileInfo src.now) (answers.GetFileInfo status)) }
         ensures keeps { SameClient self.old self.new }
     {
         let ask = Ask::GetFileInfo {

@@ -1,5 +1,5 @@
 -- What commands and lines make of the plain program's files.
-use Rattle.std.proofs.Common.{◌≡◌, ℕ, Bool, true, false, cond, not, ◌||◌, List, [], ◌∷◌, ◌++◌, Option, Some, None, unwrap_or, refl, sym, ◌∙◌, ap}
+use Rattle.std.proofs.Common.{◌≡◌, ℕ, Bool, true, false, cond, not, ◌||◌, List, [], ◌∷◌, ◌++◌, Option, Some, None, is_some, unwrap_or, refl, sym, ◌∙◌, ap, subst}
 use Rattle.std.proofs.Math.Path.{fun_ext}
 use Rattle.std.proofs.lemmas.Bool.{false≢true}
 use Rattle.std.proofs.lemmas.List.Folds.{list_any-append}
@@ -23,11 +23,21 @@ use Rattle.hdfs_plain.proofs.Parents.{bytes_eq_flip}
 pub files_same : (plain : PlainFiles) (state : State) → Holds plain state → state.files ≡ files_of plain
 files_same plain state holds = fun_ext holds.files
 
+-- a path is in a list of which it is the first
+listed_first : (path q : List ℕ) (paths : List (List ℕ)) (b : Bool) → bytes_eq path q ≡ b → (b ≡ false → list_any (bytes_eq q) paths ≡ true) → (bytes_eq q path || list_any (bytes_eq q) paths) ≡ true
+listed_first path q paths true same later = ap (λ (b : Bool). b || list_any (bytes_eq q) paths) (bytes_eq_flip q path ∙ same)
+listed_first path q paths false other later = ap (λ (b : Bool). b || list_any (bytes_eq q) paths) (bytes_eq_flip q path ∙ other) ∙ later refl
+
+or_either : (a b : Bool) → (a ≡ false → b ≡ true) → (a || b) ≡ true
+or_either true b later = refl
+or_either false b later = later refl
+
 -- something new is put at a path
 pub holds_with_new : (old new : PlainFiles) (state : State) (path : List ℕ) (node : PlainNode) (is_node : Node) → Holds old state → node_of node ≡ is_node
     → ((q : List ℕ) → look_up new q ≡ cond (bytes_eq path q) (Some node) (look_up old q)) → ((q : List ℕ) → has_open new q ≡ has_open old q) → Holds new (with_new state path is_node)
 holds_with_new old new state path node is_node holds is updates same = record {
   files = λ q. at_test (bytes_eq path q) q ∙ ap (option_map node_of) (sym (updates q));
+  listed = λ q some. listed_first path q state.paths (bytes_eq path q) refl (λ off. holds.listed q (was (bytes_eq path q) q off (subst (λ (o : Option PlainNode). is_some o ≡ true) (updates q) some)));
   opened = λ q. holds.opened q ∙ sym (same q);
 }
   where
@@ -35,16 +45,25 @@ holds_with_new old new state path node is_node holds is updates same = record {
     at_test true q = ap Some (sym is)
     at_test false q = holds.files q
 
+    was : (b : Bool) (q : List ℕ) → b ≡ false → is_some (cond b (Some node) (look_up old q)) ≡ true → is_some (look_up old q) ≡ true
+    was true q off some = absurd (false≢true (sym off))
+    was false q off some = some
+
 -- a node is put at a path, at which something stands
-pub holds_with_node : (old new : PlainFiles) (state : State) (path : List ℕ) (node : PlainNode) → Holds old state → Puts old path node new → Holds new (with_node state path (node_of node))
-holds_with_node old new state path node holds puts = record {
+pub holds_with_node : (old new : PlainFiles) (state : State) (path : List ℕ) (node : PlainNode) → Holds old state → is_some (look_up old path) ≡ true → Puts old path node new → Holds new (with_node state path (node_of node))
+holds_with_node old new state path node holds there puts = record {
   files = λ q. at_test (bytes_eq path q) q ∙ ap (option_map node_of) (sym (puts.nodes q));
+  listed = λ q some. holds.listed q (was (bytes_eq path q) q (bytes_eq-Decides path q).0 (subst (λ (o : Option PlainNode). is_some o ≡ true) (puts.nodes q) some));
   opened = λ q. holds.opened q ∙ ap (λ o. has_open (record old { opened = o }) q) (sym puts.opened);
 }
   where
     at_test : (b : Bool) (q : List ℕ) → cond b (Some (node_of node)) (state.files q) ≡ option_map node_of (cond b (Some node) (look_up old q))
     at_test true q = refl
     at_test false q = holds.files q
+
+    was : (b : Bool) (q : List ℕ) → (b ≡ true → path ≡ q) → is_some (cond b (Some node) (look_up old q)) ≡ true → is_some (look_up old q) ≡ true
+    was true q same some = subst (λ (r : List ℕ). is_some (look_up old r) ≡ true) (same refl) there
+    was false q same some = some
 
 -- the paths but for one are the paths at another than that
 any_without : (path q : List ℕ) (paths : List (List ℕ)) → list_any (bytes_eq q) (without path paths) ≡ cond (bytes_eq path q) false (list_any (bytes_eq q) paths)
@@ -71,14 +90,30 @@ any_without path q (x ∷ rest) = kept (bytes_eq path x) (bytes_eq path q) refl 
     kept false false here there so_far = ap (λ (b : Bool). bytes_eq q x || b) so_far
 
 -- a file that was being written is closed
-pub holds_closed : (old mid new : PlainFiles) (state : State) (path : List ℕ) (node : PlainNode) → Holds old state → Puts old path node mid → ((q : List ℕ) → look_up new q ≡ look_up mid q) → ((q : List ℕ) → has_open new q ≡ cond (bytes_eq path q) false (has_open mid q))
+pub holds_closed : (old mid new : PlainFiles) (state : State) (path : List ℕ) (node : PlainNode) → Holds old state → is_some (look_up old path) ≡ true → Puts old path node mid → ((q : List ℕ) → look_up new q ≡ look_up mid q) → ((q : List ℕ) → has_open new q ≡ cond (bytes_eq path q) false (has_open mid q))
     → Holds new (record (with_node state path (node_of node)) { opened = without path state.opened })
-holds_closed old mid new state path node holds puts same removed =
-    let put = holds_with_node old mid state path node holds puts in
+holds_closed old mid new state path node holds there puts same removed =
+    let put = holds_with_node old mid state path node holds there puts in
     record {
       files = λ q. put.files q ∙ ap (option_map node_of) (sym (same q));
+      listed = λ q some. put.listed q (subst (λ (o : Option PlainNode). is_some o ≡ true) (same q) some);
       opened = λ q. any_without path q state.opened ∙ ap (λ (b : Bool). cond (bytes_eq path q) false b) (put.opened q) ∙ sym (removed q);
     }
+
+-- Where something is put at a path, and directories above it, the state's paths with these have what is there.
+pub listed_with_parents : (old new : PlainFiles) (state : State) (path : List ℕ) (node : PlainNode) → Holds old state
+    → ((q : List ℕ) → look_up new q ≡ cond (bytes_eq path q) (Some node) (with_directories (look_up old) nodes.Dir path q))
+    → (q : List ℕ) → is_some (look_up new q) ≡ true → list_any (bytes_eq q) (path ∷ (ancestors path ++ state.paths)) ≡ true
+listed_with_parents old new state path node holds updates q some =
+    listed_first path q (ancestors path ++ state.paths) (bytes_eq path q) refl (λ off.
+    list_any-append (bytes_eq q) (ancestors path) state.paths
+    ∙ or_either (list_any (bytes_eq q) (ancestors path)) (list_any (bytes_eq q) state.paths) (λ none. holds.listed q
+    (was (bytes_eq path q) (list_any (bytes_eq q) (ancestors path)) off none (subst (λ (o : Option PlainNode). is_some o ≡ true) (updates q) some))))
+  where
+    was : (b a : Bool) → b ≡ false → a ≡ false → is_some (cond b (Some node) (cond a (Some (unwrap_or (look_up old q) nodes.Dir)) (look_up old q))) ≡ true → is_some (look_up old q) ≡ true
+    was true a off none some = absurd (false≢true (sym off))
+    was false true off none some = absurd (false≢true (sym none))
+    was false false off none some = some
 
 -- a file that is being written is put at a path, and directories above it
 pub holds_with_writing : (old new : PlainFiles) (state : State) (path : List ℕ) (node : PlainNode) (content : Content) → Holds old state → node_of node ≡ Writing content
@@ -86,6 +121,7 @@ pub holds_with_writing : (old new : PlainFiles) (state : State) (path : List ℕ
 holds_with_writing old new state path node content holds is updates opens = record {
   files = λ q. ap (λ (o : Option Node). cond (bytes_eq path q) (Some (Writing content)) (cond (list_any (bytes_eq q) (ancestors path)) (Some (unwrap_or o Dir)) o)) (holds.files q)
       ∙ at_tests (bytes_eq path q) (list_any (bytes_eq q) (ancestors path)) (look_up old q) ∙ ap (option_map node_of) (sym (updates q));
+  listed = listed_with_parents old new state path node holds updates;
   opened = λ q. ap (λ (b : Bool). b || is_opened state q) (bytes_eq_flip q path) ∙ or_cond (bytes_eq path q) (is_opened state q) ∙ ap (λ (b : Bool). cond (bytes_eq path q) true b) (holds.opened q) ∙ sym (opens q);
 }
   where

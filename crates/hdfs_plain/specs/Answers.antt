@@ -1,9 +1,13 @@
 -- What the plain program answers, in the words of the fold.
-use Rattle.std.specs.Prelude.{◌≡◌, false, List, Option, Some, None}
+use Rattle.std.specs.Prelude.{◌≡◌, ℕ, Bool, false, not, List, [], ◌∷◌, Option, Some, None, if◌then◌else◌}
+use Rattle.hdfs_model.specs.declared.commands.Command.{Command}
+use Rattle.hdfs_model.specs.declared.commands.Command.TheVariants as commands
 use Rattle.hdfs_model.specs.declared.commands.Reply.{Reply}
 use Rattle.hdfs_cluster.specs.Files.{State, NotDirectory, Missing, NotFile}
-use Rattle.hdfs_model.specs.Steps.{World, Refusal, BadPath, WrongState, Exists, Lacks, BadRange, Outcome, Refused, Done}
+use Rattle.hdfs_model.specs.Steps.{World, Refusal, BadPath, WrongState, Exists, Lacks, BadRange, NotEmpty, TooMany, Outcome, Refused, Done}
+use Rattle.hdfs_cluster.specs.Loading.{is_directory}
 use Rattle.hdfs_model.specs.Folds.{Folded, Ends, Stops}
+use Rattle.hdfs_model.specs.Walks.{walk}
 use Rattle.hdfs_plain.specs.declared.files.PlainFiles.{PlainFiles}
 use Rattle.hdfs_plain.specs.declared.outcome.PlainRefusal.{PlainRefusal}
 use Rattle.hdfs_plain.specs.declared.outcome.PlainRefusal.TheVariants as refusals
@@ -27,6 +31,21 @@ refusal_of refusals.NotDirectory = Lacks NotDirectory
 refusal_of refusals.Missing = Lacks Missing
 refusal_of refusals.NotFile = Lacks NotFile
 refusal_of refusals.BadRange = BadRange
+refusal_of refusals.NotEmpty = NotEmpty
+refusal_of refusals.TooMany = TooMany
+
+-- A command finds its own path open where it wants it closed, or closed where it wants it open. A deletion looks at more than its own path, and
+-- a listing at nothing of the kind.
+abbrev pub is_misplaced : Command → Bool → Bool
+is_misplaced (commands.Write path bytes) is_open = not is_open
+is_misplaced (commands.Close path) is_open = not is_open
+is_misplaced (commands.Delete path recursive) is_open = false
+is_misplaced (commands.List path recursive limit) is_open = false
+is_misplaced command is_open = is_open
+
+-- the paths that are listed with what stands at a path: of a directory its walk, else the path itself
+abbrev pub listed_with : State → List ℕ → Bool → List (List ℕ)
+listed_with state path recursive = if is_directory (state.files path) then walk state.files state.paths path recursive else path ∷ []
 
 -- A plain answer to a command over a state stands for an outcome: a refusal, over files that stay, or a reply, with the files
 -- of the next state.

@@ -1,5 +1,5 @@
 -- What the plain program's files stand for.
-use Rattle.std.specs.Prelude.{◌≡◌, ℕ, Bool, List, Option, Some, option_map, unwrap_or, if◌then◌else◌}
+use Rattle.std.specs.Prelude.{◌≡◌, ℕ, Bool, true, List, Option, Some, None, is_some, option_map, string_bytes, unwrap_or, if◌then◌else◌}
 use Rattle.std.specs.List.{list_any}
 use Rattle.std.specs.Str.{bytes_eq}
 use Rattle.std.specs.BTreeMap.{get_by_text}
@@ -9,6 +9,7 @@ use Rattle.hdfs_plain.specs.declared.files.PlainFiles.{PlainFiles}
 use Rattle.hdfs_plain.specs.declared.files.PlainNode.{PlainNode}
 use Rattle.hdfs_plain.specs.declared.files.PlainNode.TheVariants as nodes
 use Rattle.hdfs_cluster.specs.Files.{Files, Node, Dir, File, Writing, Content, State}
+use Rattle.hdfs_cluster.specs.Names.{is_within}
 use Rattle.hdfs_names.specs.Paths.{ancestors}
 use Rattle.hdfs_model.specs.Steps.{is_opened}
 
@@ -34,9 +35,14 @@ has_open plain = contains_text plain.opened
 abbrev pub files_of : PlainFiles → Files
 files_of plain path = option_map node_of (look_up plain path)
 
--- the files are those of the state, and the session has the same paths open
+-- whether the session has a path open, or one below it
+abbrev pub has_open_within : PlainFiles → List ℕ → Bool
+has_open_within plain path = list_any (λ key. is_within path (string_bytes key)) plain.opened.keys
+
+-- The files are those of the state, which lists each path at which something stands, and the session has the same paths open.
 pub record Holds (plain : PlainFiles) (state : State) : Type 0 where
   pub files : (path : List ℕ) → state.files path ≡ files_of plain path
+  pub listed : (path : List ℕ) → is_some (look_up plain path) ≡ true → list_any (bytes_eq path) state.paths ≡ true
   pub opened : (path : List ℕ) → is_opened state path ≡ has_open plain path
 
 -- a node was put at a path, and nothing else changed

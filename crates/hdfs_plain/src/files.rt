@@ -118,7 +118,8 @@ impl PlainFiles {
         false
     }
 
-    fn is_file(&self, path: &str) -> bool
+    /// Whether a file stands at a path.
+    pub(crate) fn is_file(&self, path: &str) -> bool
         ensures { result ≡ spec.is_file (spec.kinds_of (files_of self.now) path.now) }
     {
         match self.nodes.get(path) {
@@ -203,7 +204,8 @@ impl PlainFiles {
         }
     }
 
-    fn is_directory(&self, path: &str) -> bool
+    /// Whether a directory stands at a path.
+    pub(crate) fn is_directory(&self, path: &str) -> bool
         ensures { result ≡ is_directory (files_of self.now path.now) }
     {
         match self.nodes.get(path) {

@@ -2,6 +2,8 @@
 #![tactic(auto)]
 
 mod files;
+mod names;
+mod naming;
 mod outcome;
 mod replicas;
 mod running;

@@ -26,6 +26,12 @@ pub enum PlainRefusal {
     /// The range ends behind the file.
     #[error("the range ends behind the file")]
     BadRange,
+    /// Something stands below the directory, and isn't to go with it.
+    #[error("the directory isn't empty")]
+    NotEmpty,
+    /// There are more entries than the command allows.
+    #[error("there are more entries than the command allows")]
+    TooMany,
 }
 
 /// What a command answers.

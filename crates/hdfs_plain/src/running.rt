@@ -2,11 +2,10 @@
 ghost use Rattle.std.specs.Prelude.{◌≡◌, ◌++◌, ◌∷◌, [], ℕ, take, Option, Some, None, IfOk};
 ghost use Rattle.hdfs_cluster.specs.Files.{State};
 ghost use Rattle.hdfs_model.specs.Folds.{fold};
-ghost use Rattle.hdfs_model.specs.Owing as owing;
 ghost use Rattle.hdfs_model.specs.Steps as spec;
 ghost use Rattle.hdfs_model.specs.Steps.{step, step_at};
 ghost use Rattle.hdfs_plain.specs.Plain.{Holds};
-ghost use Rattle.hdfs_plain.specs.Answers.{Comes, folded_of, world_of};
+ghost use Rattle.hdfs_plain.specs.Answers.{Comes, folded_of, is_misplaced as is_misplaced_at, world_of};
 
 use crate::files::PlainFiles;
 use crate::outcome::{PlainOutcome, PlainRefusal};
@@ -29,13 +28,14 @@ pub struct PlainFold {
     pub refused: Option<PlainRefusal>,
 }
 
-// Whether a command wants a path closed that is open, or open that isn't.
+// Whether a command wants its own path closed where it is open, or open where it isn't. A deletion looks by itself, and a listing doesn't care.
 fn is_misplaced(command: &Command, is_open: bool) -> bool
-    ensures { result ≡ owing.is_misplaced command.now is_open }
+    ensures { result ≡ is_misplaced_at command.now is_open }
 {
     match command {
         Command::Write { .. } | Command::Close { .. } => !is_open,
-        Command::Create { .. } | Command::Append { .. } | Command::Read { .. } => is_open,
+        Command::Delete { .. } | Command::List { .. } => false,
+        _ => is_open,
     }
 }
 
@@ -58,6 +58,14 @@ fn run_at(
         Command::Write { bytes, .. } => Ok(files.write(path, bytes.as_slice())?),
         Command::Close { .. } => Ok(files.close(path)?),
         Command::Read { offset, len, .. } => Ok(files.read(path, *offset, *len)?),
+        Command::Mkdirs { create_parent, .. } => Ok(files.make_directory(path, *create_parent)?),
+        Command::Delete { recursive, .. } => Ok(files.delete(path, *recursive)?),
+        Command::Info { .. } => Ok(files.info(path)),
+        Command::List {
+            recursive,
+            limit,
+            ..
+        } => Ok(files.list(path, *recursive, *limit)?),
     }
 }
 
@@ -71,6 +79,10 @@ fn path_of(command: &Command) -> &str
         Command::Write { path, .. } => path.as_str(),
         Command::Close { path } => path.as_str(),
         Command::Read { path, .. } => path.as_str(),
+        Command::Mkdirs { path, .. } => path.as_str(),
+        Command::Delete { path, .. } => path.as_str(),
+        Command::Info { path } => path.as_str(),
+        Command::List { path, .. } => path.as_str(),
     }
 }
 

@@ -24,8 +24,8 @@ impl PlainFiles {
         Ok(())
     }
 
-    // Makes a directory of each path above this one at which nothing stands.
-    fn make_parents(&mut self, path: &str) -> Result<(), NoMemory>
+    /// Makes a directory of each path above this one at which nothing stands.
+    pub(crate) fn make_parents(&mut self, path: &str) -> Result<(), NoMemory>
         ensures { OnOk result (MakesParents self.old path.now self.new) }
     {
         let Some(front) = nearest_ancestor(path) else {

@@ -48,6 +48,10 @@ A script has lines for settings, then for directories, files and short replicas 
   do write PATH HEX                                 puts bytes behind those of an open file
   do close PATH                                     closes an open file
   do read PATH OFFSET LENGTH                        reads a part of a file
+  do mkdirs PATH PERM PARENT                        makes a directory
+  do delete PATH RECURSIVE                          lets go of what stands at a path, of a directory with all below it
+  do info PATH                                      tells what stands at a path
+  do list PATH RECURSIVE LIMIT                      lists at most so many entries of a directory
   # ...                                             a comment; an empty line is one too
 
 Bytes are pairs of lower-case hexadecimal digits, or `-` for none.

@@ -21,8 +21,8 @@ use Rattle.hdfs_script.specs.declared.entry.Place.{Place}
 use Rattle.hdfs_script.specs.declared.entry.ScriptSettings.{ScriptSettings}
 use Rattle.hdfs_script.specs.declared.entry.Setting.{Setting}
 use Rattle.hdfs_script.specs.declared.entry.Setting.TheVariants as settings
-use Rattle.hdfs_script.specs.Commands.{create_entry, flag_of, options_of, read_entry, write_entry}
-use Rattle.hdfs_script.specs.Entries.{ascii_entry, ask_fault, ask_kind, ask_of, attributes_of, best_effort_entry, cluster_entry, default_entry, encrypt_entry, entry_of, exception_fault, fault_entry, file_entry, from_one, from_zero, link_entry, link_kind, node_entry, node_fault, policy_entry, policy_named, read_fault, read_kind, read_of, set_entry, short_entry, short_of, three_words, words_entry, writing_entry}
+use Rattle.hdfs_script.specs.Commands.{create_entry, delete_entry, flag_of, list_entry, mkdirs_entry, options_of, read_entry, write_entry}
+use Rattle.hdfs_script.specs.Entries.{ascii_entry, ask_fault, ask_kind, ask_of, attributes_of, best_effort_entry, cluster_entry, default_entry, encrypt_entry, entry_of, exception_fault, fault_entry, file_entry, from_one, from_zero, link_entry, link_kind, node_entry, node_fault, policy_entry, policy_named, read_fault, read_kind, read_of, set_entry, short_entry, short_of, three_words, path_command, word_command, words_command, words_entry, writing_entry}
 use Rattle.hdfs_script.specs.Numbers.{hex_bytes, is_number, number, value_from}
 use Rattle.hdfs_script.specs.Parsing.{good_front}
 use Rattle.hdfs_script.specs.Scripts.{ends_bad, entries_in, first_place, line_entries, may_set, may_stand, no_settings, place_behind, script_limit, session_settings, settings_from, with_setting}
@@ -199,6 +199,37 @@ allowed_read path None len = tt
 allowed_read path (Some offset) None = tt
 allowed_read path (Some offset) (Some len) = allowed_if (is_word path) _ _ tt tt
 
+allowed_mkdirs : (path : List ℕ) (permission : Option ℕ) (create_parent : Option Bool) → SetsAllowed (mkdirs_entry path permission create_parent)
+allowed_mkdirs path None create_parent = tt
+allowed_mkdirs path (Some permission) None = tt
+allowed_mkdirs path (Some permission) (Some create_parent) = allowed_if (is_word path) _ _ tt tt
+
+allowed_delete : (path : List ℕ) (recursive : Option Bool) → SetsAllowed (delete_entry path recursive)
+allowed_delete path None = tt
+allowed_delete path (Some recursive) = allowed_if (is_word path) _ _ tt tt
+
+allowed_list : (path : List ℕ) (recursive : Option Bool) (limit : Option ℕ) → SetsAllowed (list_entry path recursive limit)
+allowed_list path None limit = tt
+allowed_list path (Some recursive) None = tt
+allowed_list path (Some recursive) (Some limit) = allowed_if (is_word path) _ _ tt tt
+
+allowed_path_command : (call path : List ℕ) → SetsAllowed (path_command call path)
+allowed_path_command call path =
+    allowed_if (bytes_eq call (codes "append")) _ _ (allowed_if (is_word path) _ _ tt tt)
+    (allowed_if (bytes_eq call (codes "close")) _ _ (allowed_if (is_word path) _ _ tt tt)
+    (allowed_if (bytes_eq call (codes "info")) _ _ (allowed_if (is_word path) _ _ tt tt) tt))
+
+allowed_word_command : (call path a : List ℕ) → SetsAllowed (word_command call path a)
+allowed_word_command call path a =
+    allowed_if (bytes_eq call (codes "write")) _ _ (allowed_write path (hex_bytes a))
+    (allowed_if (bytes_eq call (codes "delete")) _ _ (allowed_delete path (flag_of a)) tt)
+
+allowed_words_command : (call path a b : List ℕ) → SetsAllowed (words_command call path a b)
+allowed_words_command call path a b =
+    allowed_if (bytes_eq call (codes "read")) _ _ (allowed_read path (number 10 (2 ^ 64) a) (number 10 (2 ^ 64) b))
+    (allowed_if (bytes_eq call (codes "mkdirs")) _ _ (allowed_mkdirs path (number 8 (2 ^ 32) a) (flag_of b))
+    (allowed_if (bytes_eq call (codes "list")) _ _ (allowed_list path (flag_of a) (number 10 (2 ^ 64) b)) tt))
+
 -- lines of three words and more
 allowed_fault : (call a b : List ℕ) → SetsAllowed (fault_entry call a b)
 allowed_fault call a b =
@@ -209,8 +240,7 @@ allowed_fault call a b =
 allowed_three : (a b c : List ℕ) → SetsAllowed (three_words a b c)
 allowed_three a b c =
     allowed_if (bytes_eq a (codes "set")) _ _ (allowed_set b c)
-    (allowed_if (bytes_eq a (codes "do") && bytes_eq b (codes "append")) _ _ (allowed_if (is_word c) _ _ tt tt)
-    (allowed_if (bytes_eq a (codes "do") && bytes_eq b (codes "close")) _ _ (allowed_if (is_word c) _ _ tt tt) tt))
+    (allowed_if (bytes_eq a (codes "do")) _ _ (allowed_path_command b c) tt)
 
 allowed_words : (words : List (List ℕ)) → SetsAllowed (words_entry words)
 allowed_words [] = tt
@@ -219,11 +249,11 @@ allowed_words (a ∷ b ∷ []) = allowed_if (bytes_eq a (codes "dir")) _ _ (allo
 allowed_words (a ∷ b ∷ c ∷ []) = allowed_three a b c
 allowed_words (a ∷ b ∷ c ∷ d ∷ []) =
     allowed_if (bytes_eq a (codes "fault")) _ _ (allowed_fault b c d)
-    (allowed_if (bytes_eq a (codes "do") && bytes_eq b (codes "write")) _ _ (allowed_write c (hex_bytes d)) tt)
+    (allowed_if (bytes_eq a (codes "do")) _ _ (allowed_word_command b c d) tt)
 allowed_words (a ∷ b ∷ c ∷ d ∷ e ∷ []) =
     allowed_if (bytes_eq a (codes "fault") && bytes_eq b (codes "read")) _ _ (allowed_read_fault (read_kind e) c d)
     (allowed_if (bytes_eq a (codes "fault") && bytes_eq b (codes "ask")) _ _ (allowed_ask_fault (ask_kind e) c d)
-    (allowed_if (bytes_eq a (codes "do") && bytes_eq b (codes "read")) _ _ (allowed_read c (number 10 (2 ^ 64) d) (number 10 (2 ^ 64) e))
+    (allowed_if (bytes_eq a (codes "do")) _ _ (allowed_words_command b c d e)
     (allowed_if (bytes_eq a (codes "short")) _ _ (allowed_short b c d e) tt)))
 allowed_words (a ∷ b ∷ c ∷ d ∷ e ∷ f ∷ []) =
     allowed_if (bytes_eq a (codes "file")) _ _ (allowed_file b (attributes_of c d e) (hex_bytes f))

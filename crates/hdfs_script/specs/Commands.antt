@@ -59,3 +59,22 @@ close_entry path = if is_word path then Runs (commands.Close path) else Bad
 abbrev pub read_entry : List ℕ → Option ℕ → Option ℕ → Entry
 read_entry path (Some offset) (Some len) = if is_word path then Runs (commands.Read path offset len) else Bad
 read_entry _ _ _ = Bad
+
+-- `do mkdirs PATH PERM PARENT`: permission bits in octal digits, and whether directories above that aren't there are made
+abbrev pub mkdirs_entry : List ℕ → Option ℕ → Option Bool → Entry
+mkdirs_entry path (Some permission) (Some create_parent) = if is_word path then Runs (commands.Mkdirs path permission create_parent) else Bad
+mkdirs_entry _ _ _ = Bad
+
+-- `do delete PATH RECURSIVE`: whether what lies below goes too
+abbrev pub delete_entry : List ℕ → Option Bool → Entry
+delete_entry path None = Bad
+delete_entry path (Some recursive) = if is_word path then Runs (commands.Delete path recursive) else Bad
+
+-- `do info PATH`
+abbrev pub info_entry : List ℕ → Entry
+info_entry path = if is_word path then Runs (commands.Info path) else Bad
+
+-- `do list PATH RECURSIVE LIMIT`: whether what lies below is listed too, and how many entries are allowed
+abbrev pub list_entry : List ℕ → Option Bool → Option ℕ → Entry
+list_entry path (Some recursive) (Some limit) = if is_word path then Runs (commands.List path recursive limit) else Bad
+list_entry _ _ _ = Bad

@@ -18,7 +18,7 @@ use Rattle.hdfs_script.specs.declared.entry.Entry.{Entry}
 use Rattle.hdfs_script.specs.declared.entry.Entry.TheVariants.{Blank, Sets, Loads, Runs, Bad}
 use Rattle.hdfs_script.specs.declared.entry.Setting.{Setting}
 use Rattle.hdfs_script.specs.declared.entry.Setting.TheVariants as settings
-use Rattle.hdfs_script.specs.Commands.{append_entry, close_entry, create_entry, flag_of, options_of, read_entry, write_entry}
+use Rattle.hdfs_script.specs.Commands.{append_entry, close_entry, create_entry, delete_entry, flag_of, info_entry, list_entry, mkdirs_entry, options_of, read_entry, write_entry}
 use Rattle.hdfs_script.specs.Numbers.{number, hex_bytes}
 use Rattle.hdfs_script.specs.Words.{is_word}
 
@@ -200,13 +200,18 @@ exception_fault namenode nth kind class =
 abbrev pub two_words : List ℕ → List ℕ → Entry
 two_words a b = if bytes_eq a (codes "dir") then dir_entry b else Bad
 
--- three words: `set KEY VALUE`, `do append PATH` or `do close PATH`
+-- `do append PATH`, `do close PATH` or `do info PATH`
+abbrev pub path_command : List ℕ → List ℕ → Entry
+path_command call path =
+    if bytes_eq call (codes "append") then append_entry path
+    else if bytes_eq call (codes "close") then close_entry path
+    else if bytes_eq call (codes "info") then info_entry path
+    else Bad
+
+-- three words: `set KEY VALUE`, or a command with its path alone
 abbrev pub three_words : List ℕ → List ℕ → List ℕ → Entry
 three_words a b c =
-    if bytes_eq a (codes "set") then set_entry b c
-    else if bytes_eq a (codes "do") && bytes_eq b (codes "append") then append_entry c
-    else if bytes_eq a (codes "do") && bytes_eq b (codes "close") then close_entry c
-    else Bad
+    if bytes_eq a (codes "set") then set_entry b c else if bytes_eq a (codes "do") then path_command b c else Bad
 
 -- `fault link N KIND`, `fault ack D N` or `fault send D N`
 abbrev pub fault_entry : List ℕ → List ℕ → List ℕ → Entry
@@ -216,19 +221,32 @@ fault_entry call a b =
     else if bytes_eq call (codes "send") then node_fault faults.SendTo a b
     else Bad
 
--- four words: a fault of a pipeline, or `do write PATH HEX`
-abbrev pub four_words : List ℕ → List ℕ → List ℕ → List ℕ → Entry
-four_words a b c d =
-    if bytes_eq a (codes "fault") then fault_entry b c d
-    else if bytes_eq a (codes "do") && bytes_eq b (codes "write") then write_entry c (hex_bytes d)
+-- `do write PATH HEX` or `do delete PATH RECURSIVE`
+abbrev pub word_command : List ℕ → List ℕ → List ℕ → Entry
+word_command call path a =
+    if bytes_eq call (codes "write") then write_entry path (hex_bytes a)
+    else if bytes_eq call (codes "delete") then delete_entry path (flag_of a)
     else Bad
 
--- five words: `fault read D N KIND`, `fault ask I N KIND`, `do read PATH OFFSET LEN` or `short PATH K D LEN`
+-- four words: a fault of a pipeline, or a command with its path and a word more
+abbrev pub four_words : List ℕ → List ℕ → List ℕ → List ℕ → Entry
+four_words a b c d =
+    if bytes_eq a (codes "fault") then fault_entry b c d else if bytes_eq a (codes "do") then word_command b c d else Bad
+
+-- `do read PATH OFFSET LEN`, `do mkdirs PATH PERM PARENT` or `do list PATH RECURSIVE LIMIT`
+abbrev pub words_command : List ℕ → List ℕ → List ℕ → List ℕ → Entry
+words_command call path a b =
+    if bytes_eq call (codes "read") then read_entry path (number 10 (2 ^ 64) a) (number 10 (2 ^ 64) b)
+    else if bytes_eq call (codes "mkdirs") then mkdirs_entry path (number 8 (2 ^ 32) a) (flag_of b)
+    else if bytes_eq call (codes "list") then list_entry path (flag_of a) (number 10 (2 ^ 64) b)
+    else Bad
+
+-- five words: `fault read D N KIND`, `fault ask I N KIND`, a command with its path and two words more, or `short PATH K D LEN`
 abbrev pub five_words : List ℕ → List ℕ → List ℕ → List ℕ → List ℕ → Entry
 five_words a b c d e =
     if bytes_eq a (codes "fault") && bytes_eq b (codes "read") then read_fault (read_kind e) c d
     else if bytes_eq a (codes "fault") && bytes_eq b (codes "ask") then ask_fault (ask_kind e) c d
-    else if bytes_eq a (codes "do") && bytes_eq b (codes "read") then read_entry c (number 10 (2 ^ 64) d) (number 10 (2 ^ 64) e)
+    else if bytes_eq a (codes "do") then words_command b c d e
     else if bytes_eq a (codes "short") then short_entry b c d e
     else Bad
 

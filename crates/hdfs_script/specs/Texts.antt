@@ -1,6 +1,7 @@
 -- The text that a session's replies and its fault are printed as.
-use Rattle.std.specs.Prelude.{ℕ, List, [], ◌∷◌, ◌++◌, codes, decimal}
+use Rattle.std.specs.Prelude.{ℕ, zero, suc, ◌+◌, ◌/◌, ◌%◌, nat_lt, Bool, true, false, List, [], ◌∷◌, ◌++◌, length, codes, decimal, if◌then◌else◌}
 use Rattle.hex.specs.Hex.{encode_lower}
+use Rattle.hdfs_model.specs.declared.commands.PathEntry.{PathEntry}
 use Rattle.hdfs_model.specs.declared.commands.Reply.{Reply}
 use Rattle.hdfs_model.specs.declared.commands.Reply.TheVariants as replies
 use Rattle.hdfs_model.specs.declared.commands.Fault.{Fault}
@@ -20,15 +21,63 @@ bytes_line bytes = codes "ok bytes " ++ hex_text bytes ++ codes "\n"
 abbrev pub written_line : ℕ → List ℕ
 written_line count = codes "ok written " ++ decimal count ++ codes "\n"
 
--- the line of a reply
+-- at most so many octal digits of a number, before others
+abbrev pub octal_before : ℕ → ℕ → List ℕ → List ℕ
+octal_before zero n behind = behind
+octal_before (suc more) n behind = if nat_lt n 8 then (48 + n) ∷ behind else octal_before more (n / 8) ((48 + n % 8) ∷ behind)
+
+-- the octal digits of a number below 2^32, which are at most eleven
+unfoldable pub octal : ℕ → List ℕ
+octal n = octal_before 11 n []
+
+-- that there is a file, and its length
+abbrev pub length_text : ℕ → List ℕ
+length_text size = codes "ok info file " ++ decimal size ++ codes " "
+
+-- the replication and the block size of a file
+abbrev pub sizes_text : ℕ → ℕ → List ℕ
+sizes_text replication block_size = codes " " ++ decimal replication ++ codes " " ++ decimal block_size ++ codes "\n"
+
+-- the line of what stands at a path: `dir`; or `file`, its length, its permission bits in octal digits, its replication and its block size
+abbrev pub info_line : Bool → ℕ → ℕ → ℕ → ℕ → List ℕ
+info_line true size permission replication block_size = codes "ok info dir\n"
+info_line false size permission replication block_size = length_text size ++ (octal permission ++ sizes_text replication block_size)
+
+-- whether an entry is a directory
+abbrev pub kind_text : Bool → List ℕ
+kind_text true = codes "dir "
+kind_text false = codes "file "
+
+-- the line of an entry: `dir` or `file`, and its path
+abbrev pub entry_line : PathEntry → List ℕ
+entry_line entry = kind_text entry.isdir ++ entry.path ++ codes "\n"
+
+-- a line for each entry
+abbrev pub entries_text : List PathEntry → List ℕ
+entries_text [] = []
+entries_text (entry ∷ rest) = entry_line entry ++ entries_text rest
+
+-- the line of how many entries a listing has
+abbrev pub count_line : ℕ → List ℕ
+count_line count = codes "ok list " ++ decimal count ++ codes "\n"
+
+-- the lines of a listing: how many entries it has, and each of them
+abbrev pub listed_text : List PathEntry → List ℕ
+listed_text entries = count_line (length entries) ++ entries_text entries
+
+-- the lines of a reply, one for all but a listing
 abbrev pub reply_text : Reply → List ℕ
 reply_text replies.Created = codes "ok created\n"
 reply_text replies.Appended = codes "ok appended\n"
 reply_text (replies.Written count) = written_line count
 reply_text replies.Closed = codes "ok closed\n"
 reply_text (replies.Bytes bytes) = bytes_line bytes
+reply_text replies.Made = codes "ok made\n"
+reply_text replies.Deleted = codes "ok deleted\n"
+reply_text (replies.Info isdir size permission replication block_size) = info_line isdir size permission replication block_size
+reply_text (replies.Listed entries) = listed_text entries
 
--- a line for each reply
+-- the lines of each reply
 abbrev pub replies_text : List Reply → List ℕ
 replies_text [] = []
 replies_text (reply ∷ rest) = reply_text reply ++ replies_text rest

@@ -7,7 +7,7 @@ use crate::words::is_text;
 use crate::wrong::Why;
 
 // A line's first word, its second one where that is a word of the form, how many words it has, and what is wrong where it has others.
-const FORMS: [(&str, &str, usize, Why); 14] = [
+const FORMS: [(&str, &str, usize, Why); 18] = [
     ("set", "", 3, Why::SetWords),
     ("dir", "", 2, Why::DirWords),
     ("file", "", 6, Why::FileWords),
@@ -22,6 +22,10 @@ const FORMS: [(&str, &str, usize, Why); 14] = [
     ("do", "write", 4, Why::WriteWords),
     ("do", "close", 3, Why::CloseWords),
     ("do", "read", 5, Why::ReadWords),
+    ("do", "mkdirs", 5, Why::MkdirsWords),
+    ("do", "delete", 4, Why::DeleteWords),
+    ("do", "info", 3, Why::InfoWords),
+    ("do", "list", 5, Why::ListWords),
 ];
 
 /// What is wrong with so many words that begin with these two, where they are of no line: one is missing, or too much, or no line

@@ -10,11 +10,13 @@ mod forms;
 mod line;
 mod marks;
 mod names;
+mod naming;
 mod numbers;
 mod parsing;
 mod printing;
 mod setting;
 mod settings;
+mod telling;
 mod words;
 mod wrong;
 

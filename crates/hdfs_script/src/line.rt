@@ -11,6 +11,7 @@ use crate::entry::{Entry, Reading, bad};
 use crate::fault::{ask_fault, exception_fault, fault_entry, read_fault};
 use crate::file::{attributes, dir_entry, file_entry, short_entry};
 use crate::forms::no_line;
+use crate::naming::{delete_entry, info_entry, list_entry, mkdirs_entry};
 use crate::setting::set_entry;
 use crate::words::{is_ascii, is_text, words};
 use crate::wrong::{Why, Wrong};
@@ -59,6 +60,28 @@ fn six_words(
     Ok(no_line(kind, call, 6))
 }
 
+// A command with its path and two words more.
+fn words_command(
+    alloc: Global,
+    call: &[u8],
+    path: &[u8],
+    a: &[u8],
+    b: &[u8],
+) -> Result<Reading, NoMemory>
+    ensures { IfOk result (λ reading. result_ok reading ≡ good (spec.words_command call.now path.now a.now b.now)) }
+{
+    if is_text(call, "read") {
+        return Ok(read_entry(alloc, path, a, b)?);
+    }
+    if is_text(call, "mkdirs") {
+        return Ok(mkdirs_entry(alloc, path, a, b)?);
+    }
+    if is_text(call, "list") {
+        return Ok(list_entry(alloc, path, a, b)?);
+    }
+    Ok(no_line(b"do", call, 5))
+}
+
 // A line of five words.
 fn five_words(
     alloc: Global,
@@ -77,13 +100,26 @@ fn five_words(
     if is_text(kind, "fault") && is_text(call, "ask") {
         return Ok(ask_fault(a, b, c));
     }
-    if is_text(kind, "do") && is_text(call, "read") {
-        return Ok(read_entry(alloc, a, b, c)?);
+    if is_text(kind, "do") {
+        return Ok(words_command(alloc, call, a, b, c)?);
     }
     if is_text(kind, "short") {
         return Ok(short_entry(alloc, call, a, b, c)?);
     }
     Ok(no_line(kind, call, 5))
+}
+
+// A command with its path and a word more.
+fn word_command(alloc: Global, call: &[u8], path: &[u8], a: &[u8]) -> Result<Reading, NoMemory>
+    ensures { IfOk result (λ reading. result_ok reading ≡ good (spec.word_command call.now path.now a.now)) }
+{
+    if is_text(call, "write") {
+        return Ok(write_entry(alloc, path, a)?);
+    }
+    if is_text(call, "delete") {
+        return Ok(delete_entry(alloc, path, a)?);
+    }
+    Ok(no_line(b"do", call, 4))
 }
 
 // A line of four words.
@@ -100,10 +136,26 @@ fn four_words(
     if is_text(kind, "fault") {
         return Ok(fault_entry(call, a, b));
     }
-    if !is_text(kind, "do") || !is_text(call, "write") {
+    if !is_text(kind, "do") {
         return Ok(no_line(kind, call, 4));
     }
-    Ok(write_entry(alloc, a, b)?)
+    Ok(word_command(alloc, call, a, b)?)
+}
+
+// A command with its path alone.
+fn path_command(alloc: Global, call: &[u8], path: &[u8]) -> Result<Reading, NoMemory>
+    ensures { IfOk result (λ reading. result_ok reading ≡ good (spec.path_command call.now path.now)) }
+{
+    if is_text(call, "append") {
+        return Ok(append_entry(alloc, path)?);
+    }
+    if is_text(call, "close") {
+        return Ok(close_entry(alloc, path)?);
+    }
+    if is_text(call, "info") {
+        return Ok(info_entry(alloc, path)?);
+    }
+    Ok(no_line(b"do", call, 3))
 }
 
 // A line of three words.
@@ -116,13 +168,7 @@ fn three_words(alloc: Global, kind: &[u8], call: &[u8], a: &[u8]) -> Result<Read
     if !is_text(kind, "do") {
         return Ok(no_line(kind, call, 3));
     }
-    if is_text(call, "append") {
-        return Ok(append_entry(alloc, a)?);
-    }
-    if is_text(call, "close") {
-        return Ok(close_entry(alloc, a)?);
-    }
-    Ok(no_line(kind, call, 3))
+    Ok(path_command(alloc, call, a)?)
 }
 
 // A line of two words.

@@ -6,6 +6,7 @@ ghost use Rattle.hdfs_script.specs.Texts.{hex_text, bytes_line, fault_line, writ
 ghost use Rattle.hdfs_streams.specs.Streams.{Prints};
 
 use crate::names::variant_name;
+use crate::telling::{write_info, write_listed};
 use hdfs_model::{Fault, Reply};
 use hdfs_streams::{IoFailed, Sink, write_all};
 use itoa::Buffer;
@@ -69,7 +70,7 @@ fn write_written<K: Sink>(sink: &mut K, count: u64) -> Result<(), IoFailed>
     write_pieces(sink, &pieces)
 }
 
-/// Writes a reply's line.
+/// Writes a reply's lines.
 pub fn write_reply<K: Sink>(sink: &mut K, reply: &Reply) -> Result<(), IoFailed>
     ensures { Prints (K.shown sink.old) (reply_text reply.now) result (K.shown sink.new) }
 {
@@ -79,10 +80,27 @@ pub fn write_reply<K: Sink>(sink: &mut K, reply: &Reply) -> Result<(), IoFailed>
         Reply::Written { bytes } => write_written(sink, *bytes),
         Reply::Closed => write_all(sink, b"ok closed\n"),
         Reply::Bytes { bytes } => write_bytes(sink, bytes.as_slice()),
+        Reply::Made => write_all(sink, b"ok made\n"),
+        Reply::Deleted => write_all(sink, b"ok deleted\n"),
+        Reply::Info {
+            isdir,
+            length,
+            permission,
+            replication,
+            block_size,
+        } => write_info(
+            sink,
+            *isdir,
+            *length,
+            *permission,
+            *replication,
+            *block_size,
+        ),
+        Reply::Listed { entries } => write_listed(sink, entries.as_slice()),
     }
 }
 
-/// Writes a line for each reply.
+/// Writes the lines of each reply.
 pub fn write_replies<K: Sink>(sink: &mut K, replies: &[Reply]) -> Result<(), IoFailed>
     ensures { Prints (K.shown sink.old) (replies_text replies.now) result (K.shown sink.new) }
 {
@@ -92,8 +110,8 @@ pub fn write_replies<K: Sink>(sink: &mut K, replies: &[Reply]) -> Result<(), IoF
     Ok(())
 }
 
-// Writes pieces, one behind another.
-fn write_pieces<K: Sink>(sink: &mut K, pieces: &[&[u8]]) -> Result<(), IoFailed>
+/// Writes pieces, one behind another.
+pub(crate) fn write_pieces<K: Sink>(sink: &mut K, pieces: &[&[u8]]) -> Result<(), IoFailed>
     ensures { Prints (K.shown sink.old) (concat (map (λ piece. piece.now) pieces.now)) result (K.shown sink.new) }
 {
     for piece in pieces {

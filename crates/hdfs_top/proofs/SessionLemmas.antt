@@ -41,10 +41,9 @@ limited_settings settings given is limited = ap are_settings is ∙ limited
 avoids_closed : (w : World) (state : State) (command : Command) → IsClosed state → Avoids w state command
 avoids_closed w state (commands.Read path offset len) closed =
     λ strange. closed.written (target_of w (commands.Read path offset len)) strange.0 strange.1
-avoids_closed w state (commands.Create path options) closed = tt
-avoids_closed w state (commands.Append path) closed = tt
-avoids_closed w state (commands.Write path bytes) closed = tt
-avoids_closed w state (commands.Close path) closed = tt
+avoids_closed w state (commands.Info path) closed =
+    λ strange. closed.written (target_of w (commands.Info path)) strange.0 strange.1
+avoids_closed w state command closed = tt
 
 ready : (w : World) (old : Shown) (state : State) (commands : List Command) → IsKnownStore old state → Ready w (record { opened = none_open; shown = old }) state commands
 ready w old state commands known = record {

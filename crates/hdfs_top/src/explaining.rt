@@ -36,7 +36,7 @@ pub struct Explanation {
 }
 
 /// What the errors mean, each in a row of its own.
-pub const EXPLANATIONS: [Explanation; 24] = [
+pub const EXPLANATIONS: [Explanation; 25] = [
     Explanation {
         error: "InvalidPath",
         kind: "",
@@ -84,6 +84,14 @@ pub const EXPLANATIONS: [Explanation; 24] = [
         comes: "a read: the range ends behind the file",
         after: BEFORE,
         next: "give a range inside the file",
+    },
+    Explanation {
+        error: "InvalidArgument",
+        kind: "TooMany",
+        says: "invalid argument: TooMany",
+        comes: "a list: there are more entries than its limit",
+        after: BEFORE,
+        next: "give a higher limit, or list a directory below",
     },
     Explanation {
         error: "FileNotFound",
@@ -316,5 +324,6 @@ fn kind_of_argument(fault: &ArgFault) -> &'static str {
         ArgFault::Options => "Options",
         ArgFault::Defaults => "Defaults",
         ArgFault::Range { .. } => "Range",
+        ArgFault::TooMany { .. } => "TooMany",
     }
 }

@@ -29,6 +29,7 @@ fn argument_fault(name: &str) -> Option<ArgFault> {
         "Settings" => Some(ArgFault::Settings),
         "Options" => Some(ArgFault::Options),
         "Defaults" => Some(ArgFault::Defaults),
+        "TooMany" => Some(ArgFault::TooMany { limit: 5 }),
         "Range" => Some(ArgFault::Range {
             offset: 2,
             len: 3,

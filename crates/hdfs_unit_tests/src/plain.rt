@@ -1,7 +1,7 @@
 //! The plain program: commands over the root alone, and replicas that are cut.
 use crate::arguments::{first, no_such_word, number, put_bytes, put_flag, put_number, small};
 use hdfs_cluster::{Attributes, Line, MemSettings, ServerDefaults};
-use hdfs_model::{Command, Reply, WriteOptions};
+use hdfs_model::{Command, PathEntry, Reply, WriteOptions};
 use hdfs_plain::*;
 use hdfs_wire::{Blob, NoMemory, Text};
 use std::alloc::Global;
@@ -30,6 +30,28 @@ fn write(alloc: Global, path: Text) -> Result<Command, NoMemory> {
     Ok(Command::Write { path, bytes })
 }
 
+/// A command on names of this kind: `mkdirs` makes directories above too, `delete` lets go of all below, `remove` of nothing below, and `list`
+/// wants at most three entries, of all below.
+fn naming(kind: &str, path: Text) -> Command {
+    match kind {
+        "mkdirs" => Command::Mkdirs {
+            path,
+            permission: 0o755,
+            create_parent: true,
+        },
+        "info" => Command::Info { path },
+        "list" => Command::List {
+            path,
+            recursive: true,
+            limit: 3,
+        },
+        _ => Command::Delete {
+            path,
+            recursive: kind == "delete",
+        },
+    }
+}
+
 /// A command of this kind. A write brings the bytes 1 and 2, and a read asks for two bytes from the second on.
 fn command(alloc: Global, kind: &str, path: &str) -> Result<Command, NoMemory> {
     let path = Text::from_str(alloc, path)?;
@@ -41,11 +63,12 @@ fn command(alloc: Global, kind: &str, path: &str) -> Result<Command, NoMemory> {
         "append" => Ok(Command::Append { path }),
         "write" => write(alloc, path),
         "close" => Ok(Command::Close { path }),
-        _ => Ok(Command::Read {
+        "read" => Ok(Command::Read {
             path,
             offset: 1,
             len: 2,
         }),
+        _ => Ok(naming(kind, path)),
     }
 }
 
@@ -66,7 +89,15 @@ fn fold(alloc: Global, commands: &[Command]) -> Result<PlainFold, NoMemory> {
     run(&world, &mut files, commands)
 }
 
-/// Puts how many replies there are, and the bytes of the last one, or why a command is refused, behind the text.
+/// Puts the paths of entries behind the text.
+fn put_paths(out: &mut String, entries: &[PathEntry]) -> Result<(), NoMemory> {
+    for entry in entries {
+        write!(out, "{} ", entry.path.as_str())?;
+    }
+    Ok(())
+}
+
+/// Puts how many replies there are, and the bytes or the paths of the last one, or why a command is refused, behind the text.
 fn put_fold(out: &mut String, fold: &PlainFold) -> Result<(), NoMemory> {
     if let Some(why) = fold.refused {
         return Ok(write!(out, "refused {why:?}")?);
@@ -74,6 +105,8 @@ fn put_fold(out: &mut String, fold: &PlainFold) -> Result<(), NoMemory> {
     put_number(out, fold.replies.as_slice().len() as u64)?;
     match fold.replies.as_slice().last() {
         Some(Reply::Bytes { bytes }) => put_bytes(out, bytes.as_slice()),
+        Some(Reply::Listed { entries }) => put_paths(out, entries.as_slice()),
+        Some(Reply::Info { length, .. }) => put_number(out, *length),
         _ => no_such_word(out),
     }
 }

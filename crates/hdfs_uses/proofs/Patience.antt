@@ -28,10 +28,7 @@ nothing_known p (Some known) is = absurd (cc)
 -- a read's step and what it avoids are told by the home alone
 avoids_from : (w w' : World) (state : State) (command : Command) → IsRead command → w'.home ≡ w.home → Avoids w state command → Avoids w' state command
 avoids_from w w' state (commands.Read path offset len) reads same avoids = subst (λ (home : List ℕ). IsStrange state (absolute home path) → ⊥) (sym same) avoids
-avoids_from w w' state (commands.Create path options) reads same avoids = absurd reads
-avoids_from w w' state (commands.Append path) reads same avoids = absurd reads
-avoids_from w w' state (commands.Write path bytes) reads same avoids = absurd reads
-avoids_from w w' state (commands.Close path) reads same avoids = absurd reads
+avoids_from w w' state command reads same avoids = absurd reads
 
 read_at : State → List ℕ → ℕ → ℕ → List ℕ → Outcome
 read_at state path offset len home =
@@ -40,10 +37,7 @@ read_at state path offset len home =
 step_from : (w w' : World) (state : State) (command : Command) → IsRead command → w'.home ≡ w.home → step w' state command ≡ step w state command
 unfolding read_at
 step_from w w' state (commands.Read path offset len) reads same = ap (read_at state path offset len) same
-step_from w w' state (commands.Create path options) reads same = absurd reads
-step_from w w' state (commands.Append path) reads same = absurd reads
-step_from w w' state (commands.Write path bytes) reads same = absurd reads
-step_from w w' state (commands.Close path) reads same = absurd reads
+step_from w w' state command reads same = absurd reads
 
 both_false : (b : Bool) → (b && false) ≡ false
 both_false true = refl
@@ -52,10 +46,7 @@ both_false false = refl
 -- a read spares no path
 none_spared : (w : World) (state : State) (command : Command) → IsRead command → (error : HdfsError) (path : List ℕ) → spared w state command error path ≡ false
 none_spared w state (commands.Read text offset len) reads error path = both_false (not (is_before_asking error) && does (step w state (commands.Read text offset len)))
-none_spared w state (commands.Create text options) reads error path = absurd reads
-none_spared w state (commands.Append text) reads error path = absurd reads
-none_spared w state (commands.Write text bytes) reads error path = absurd reads
-none_spared w state (commands.Close text) reads error path = absurd reads
+none_spared w state command reads error path = absurd reads
 
 -- a session that was just made, for a read
 module _ (start now : Shown) (settings : Settings) (session : Session) (command : Command) (reads : IsRead command) (same : settings_of session ≡ settings)

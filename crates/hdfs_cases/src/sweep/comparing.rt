@@ -37,7 +37,7 @@ pub(crate) fn compare_to(script: &str, given: &Ending, plain: &Ending) -> Result
 }
 
 /// Runs a script, which is to be answered as by the plain program.
-fn compare_script(alloc: Global, script: &str) -> Result<(), Fail> {
+pub(crate) fn compare_script(alloc: Global, script: &str) -> Result<(), Fail> {
     let plain = plain_answer(alloc, script.as_bytes())?;
     let given = answer(alloc, script.as_bytes())?;
     compare_to(script, &given, &plain)

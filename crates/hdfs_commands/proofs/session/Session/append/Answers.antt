@@ -19,7 +19,7 @@ use Rattle.hdfs_model.specs.Opening.{appending}
 use Rattle.hdfs_commands.specs.Preparing.{sizes_by}
 use Rattle.hdfs_commands.specs.Session.{after}
 use Rattle.hdfs_commands.proofs.Encrypting.{encrypted_acts, encrypted_whole}
-use Rattle.hdfs_commands.proofs.Failing.{append_opens, lacks_acts, refused_acts, starved_acts, unkept_acts, unstated_acts}
+use Rattle.hdfs_commands.proofs.Failing.{append_still, lacks_acts, refused_acts, starved_acts, unkept_acts, unstated_acts}
 use Rattle.hdfs_commands.proofs.Moved.{kept_by, put_by}
 use Rattle.hdfs_commands.proofs.Opening.{was_reopened}
 use Rattle.hdfs_file_reader.proofs.Looking.{looks_from-Leaves}
@@ -57,14 +57,14 @@ pub returns-in_err-defaults-clause-acts : goal.returns-in_err-defaults-clause-ac
 returns-in_err-defaults-clause-acts g c =
     let p = err_from_is_err_and c.from_residual.result c.from_residual.ensures.1 in
     let name = c.args.name.now in
-    rw (p.1, p.2) (λ called. lacks_acts (commands.Append name) (append_opens name) (g.C.Cluster.shown c.args.cluster.now) (g.C.Cluster.shown c.defaults.new.cluster) c.args.self.now c.defaults.new.self
-    c.requires.stands c.in_err-defaults.ensures.prepares c.in_err-defaults.field-0.0 c.in_err-defaults.ensures.err)
+    rw (p.1, p.2) (λ called. lacks_acts (commands.Append name) (append_still name) (g.C.Cluster.shown c.args.cluster.now) (g.C.Cluster.shown c.defaults.new.cluster) c.args.self.now c.defaults.new.self
+    c.requires.stands c.in_err-defaults.ensures.prepares tt c.in_err-defaults.field-0.0 c.in_err-defaults.ensures.err)
 
 pub returns-in_err-key-clause-acts : goal.returns-in_err-key-clause-acts
 returns-in_err-key-clause-acts g c =
     let p = err_from_is_err_and c.from_residual-in_err-key.result c.from_residual-in_err-key.ensures.1 in
     let name = c.args.name.now in
-    rw (p.1, p.2) (λ called. starved_acts (commands.Append name) (append_opens name) (g.C.Cluster.shown c.args.cluster.now) (g.C.Cluster.shown c.defaults.new.cluster) c.args.self.now c.defaults.new.self
+    rw (p.1, p.2) (λ called. starved_acts (commands.Append name) (append_still name) (g.C.Cluster.shown c.args.cluster.now) (g.C.Cluster.shown c.defaults.new.cluster) c.args.self.now c.defaults.new.self
     c.requires.stands c.in_ok-defaults.ensures.prepares)
 
 pub returns-in_err-block-clause-acts : goal.returns-in_err-block-clause-acts
@@ -77,7 +77,7 @@ returns-in_err-block-clause-acts g c =
     let had = c.in_ok-defaults.ensures in
     let client = session.namenode.client in
     let on = c.ask_append.ensures.asked in
-    rw (p.1, p.2) (λ called. refused_acts (commands.Append name) (append_opens name) s m c.args.self.now session c.requires.stands had.prepares
+    rw (p.1, p.2) (λ called. refused_acts (commands.Append name) (append_still name) s m c.args.self.now session c.requires.stands had.prepares
     (g.C.Cluster.shown c.ask_append.new.cluster) c.ask_append.new.self (λ q. ap (λ w. get_by_text w q) on.writers) on.remembers
     (appending c.args.path client 4) c.args.path (λ state. called)
     (appended_over s m c.args.self.now session c.args.path c.in_ok-defaults.defaults had.prepares had.ok c.requires.path c.requires.placed (g.met.C.Cluster.sound c.defaults.new.cluster) name client 4 called)
@@ -102,7 +102,7 @@ returns-in_default-clause-acts g c = λ called.
     let on = c.ask_append.ensures.asked in
     let came = c.in_ok-block.ensures.came in
     subst (λ (x : List ℕ). Acts (commands.Append name) s c.args.self.now t (after {T = Reply} asked (Err (errors.FileNotFound x))) (Err (errors.FileNotFound x))) (sym c.in_ok-copy.ensures)
-    (unstated_acts (commands.Append name) (append_opens name) name (refl, tt) s m t c.args.self.now session asked c.requires.stands
+    (unstated_acts (commands.Append name) (append_still name) name (refl, tt) s m t c.args.self.now session asked c.requires.stands
     had.prepares (λ q. ap (λ w. get_by_text w q) on.writers) on.remembers (appending c.args.path client 4) c.args.path called
     (appended_over s m c.args.self.now session c.args.path c.in_ok-defaults.defaults had.prepares had.ok c.requires.path c.requires.placed (g.met.C.Cluster.sound c.defaults.new.cluster) name client 4 called)
     (looks_from-Leaves m t came.relays.leaves) came.relays.fine
@@ -121,7 +121,7 @@ returns-in_err-copy-clause-acts g c =
     let appended : Appended = c.in_ok-block.field-0 in
     let on = c.ask_append.ensures.asked in
     let came = c.in_ok-block.ensures.came in
-    rw (p.1, p.2) (λ called. unkept_acts (commands.Append name) (append_opens name) s m t c.args.self.now session c.ask_append.new.self c.requires.stands
+    rw (p.1, p.2) (λ called. unkept_acts (commands.Append name) (append_still name) s m t c.args.self.now session c.ask_append.new.self c.requires.stands
     had.prepares (λ q. ap (λ w. get_by_text w q) on.writers) on.remembers (appending c.args.path client 4) c.args.path called
     (appended_over s m c.args.self.now session c.args.path c.in_ok-defaults.defaults had.prepares had.ok c.requires.path c.requires.placed (g.met.C.Cluster.sound c.defaults.new.cluster) name client 4 called)
     (looks_from-Leaves m t came.relays.leaves)
@@ -141,7 +141,7 @@ returns-in_err-keep-clause-acts g c =
     let appended : Appended = c.in_ok-block.field-0 in
     let on = c.ask_append.ensures.asked in
     let came = c.in_ok-block.ensures.came in
-    rw (p.1, p.2) (λ called. unkept_acts (commands.Append name) (append_opens name) s m t c.args.self.now session (record asked { writers = c.keep.new.writers }) c.requires.stands
+    rw (p.1, p.2) (λ called. unkept_acts (commands.Append name) (append_still name) s m t c.args.self.now session (record asked { writers = c.keep.new.writers }) c.requires.stands
     had.prepares (λ q. kept_by asked.writers c.keep.new.writers c.in_err-keep.ensures.err q ∙ ap (λ w. get_by_text w q) on.writers)
     (remembers_trans session asked (record asked { writers = c.keep.new.writers }) on.remembers (remembers_with asked c.keep.new.writers)) (appending c.args.path client 4) c.args.path called
     (appended_over s m c.args.self.now session c.args.path c.in_ok-defaults.defaults had.prepares had.ok c.requires.path c.requires.placed (g.met.C.Cluster.sound c.defaults.new.cluster) name client 4 called)

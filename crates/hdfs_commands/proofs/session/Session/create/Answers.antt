@@ -20,7 +20,7 @@ use Rattle.hdfs_model.specs.Opening.{AnswersDefaults, LetsCreate}
 use Rattle.hdfs_model.specs.Opening.{create_flag, creating}
 use Rattle.hdfs_commands.specs.Preparing.{sizes_by}
 use Rattle.hdfs_commands.specs.Session.{after}
-use Rattle.hdfs_commands.proofs.Failing.{create_opens, lacks_acts, options_acts, refused_acts, starved_acts, unkept_acts, unsupported_acts}
+use Rattle.hdfs_commands.proofs.Failing.{create_still, lacks_acts, options_acts, refused_acts, starved_acts, unkept_acts, unsupported_acts}
 use Rattle.hdfs_commands.proofs.Moved.{kept_by, put_by}
 use Rattle.hdfs_commands.proofs.Opening.{was_made, was_plain}
 use Rattle.hdfs_file_reader.proofs.Looking.{looks_from-Leaves, looks_trans}
@@ -63,13 +63,13 @@ returns-then-not-are_limited-clause-acts g c = λ name called.
 pub returns-in_err-defaults-clause-acts : goal.returns-in_err-defaults-clause-acts
 returns-in_err-defaults-clause-acts g c =
     let p = err_from_is_err_and c.from_residual.result c.from_residual.ensures.1 in
-    rw (p.1, p.2) (λ name called. lacks_acts (commands.Create name c.args.options.now) (create_opens name c.args.options.now) (g.C.Cluster.shown c.args.cluster.now) (g.C.Cluster.shown c.defaults.new.cluster) c.args.self.now c.defaults.new.self
-    c.requires.stands c.in_err-defaults.ensures.prepares c.in_err-defaults.field-0.0 c.in_err-defaults.ensures.err)
+    rw (p.1, p.2) (λ name called. lacks_acts (commands.Create name c.args.options.now) (create_still name c.args.options.now) (g.C.Cluster.shown c.args.cluster.now) (g.C.Cluster.shown c.defaults.new.cluster) c.args.self.now c.defaults.new.self
+    c.requires.stands c.in_err-defaults.ensures.prepares tt c.in_err-defaults.field-0.0 c.in_err-defaults.ensures.err)
 
 pub returns-in_err-key-clause-acts : goal.returns-in_err-key-clause-acts
 returns-in_err-key-clause-acts g c =
     let p = err_from_is_err_and c.from_residual-in_err-key.result c.from_residual-in_err-key.ensures.1 in
-    rw (p.1, p.2) (λ name called. starved_acts (commands.Create name c.args.options.now) (create_opens name c.args.options.now) (g.C.Cluster.shown c.args.cluster.now) (g.C.Cluster.shown c.defaults.new.cluster) c.args.self.now c.defaults.new.self
+    rw (p.1, p.2) (λ name called. starved_acts (commands.Create name c.args.options.now) (create_still name c.args.options.now) (g.C.Cluster.shown c.args.cluster.now) (g.C.Cluster.shown c.defaults.new.cluster) c.args.self.now c.defaults.new.self
     c.requires.stands c.in_ok-defaults.ensures.prepares)
 
 pub returns-in_err-status-clause-acts : goal.returns-in_err-status-clause-acts
@@ -85,7 +85,7 @@ returns-in_err-status-clause-acts g c =
     let k = unwrap_or options.block_size d.block_size in
     let client = session.namenode.client in
     let on = c.ask_create.ensures.asked in
-    rw (p.1, p.2) (λ name called. refused_acts (commands.Create name options) (create_opens name options) s m c.args.self.now session c.requires.stands had.prepares
+    rw (p.1, p.2) (λ name called. refused_acts (commands.Create name options) (create_still name options) s m c.args.self.now session c.requires.stands had.prepares
     (g.C.Cluster.shown c.ask_create.new.cluster) c.ask_create.new.self (λ q. ap (λ w. get_by_text w q) on.writers) on.remembers
     (creating c.args.path client options r k) c.args.path (λ state. called)
     (created_over s m c.args.self.now session c.args.path d had.prepares had.ok c.requires.path c.requires.placed (g.met.C.Cluster.sound c.defaults.new.cluster) name client options r k called)
@@ -114,7 +114,7 @@ returns-in_err-keep-clause-acts g c =
     let status = c.in_ok-status.status in
     let on = c.ask_create.ensures.asked in
     let came = c.in_ok-status.ensures.came in
-    rw (p.1, p.2) (λ name called. unkept_acts (commands.Create name options) (create_opens name options) s m t c.args.self.now session (record asked { writers = c.keep.new.writers }) c.requires.stands
+    rw (p.1, p.2) (λ name called. unkept_acts (commands.Create name options) (create_still name options) s m t c.args.self.now session (record asked { writers = c.keep.new.writers }) c.requires.stands
     had.prepares (λ q. kept_by asked.writers c.keep.new.writers c.in_err-keep.ensures.err q ∙ ap (λ w. get_by_text w q) on.writers)
     (remembers_trans session asked (record asked { writers = c.keep.new.writers }) on.remembers (remembers_with asked c.keep.new.writers))
     (creating c.args.path client options r k) c.args.path called
@@ -276,7 +276,7 @@ returns-then-encrypted-clause-acts g c = λ name called.
     let refused = c.refuse_created.new.self in
     let h = c.refuse_created.ensures in
     subst (λ (e : HdfsError). Acts (commands.Create name options) s c.args.self.now u (after {T = Reply} refused (Err e)) (Err e)) (sym h.is)
-    (unsupported_acts (commands.Create name options) (create_opens name options) tt s m u c.args.self.now session refused c.requires.stands had.prepares
+    (unsupported_acts (commands.Create name options) (create_still name options) tt s m u c.args.self.now session refused c.requires.stands had.prepares
     (λ q. ap (λ w. get_by_text w q) (h.asked.writers ∙ on.writers)) (remembers_trans session asked refused on.remembers h.asked.remembers)
     (creating c.args.path client options r k) c.args.path called
     (created_over s m c.args.self.now session c.args.path d had.prepares had.ok c.requires.path c.requires.placed (g.met.C.Cluster.sound c.defaults.new.cluster) name client options r k called)

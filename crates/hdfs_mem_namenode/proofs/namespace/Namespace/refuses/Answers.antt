@@ -19,3 +19,9 @@ returns-then-lacks_parent c =
 
 pub returns : goal.returns
 returns c = above _ _ _ c.in_default.ensures (sym c.is_below_file.ensures ∙ c.if-is_below_file.false) ∙ ap (λ (x : Bool). cond x (Some (Lacks Missing)) None) (sym c.lacks_parent.ensures ∙ c.if-lacks_parent.false)
+
+in_the_way : (a b c : Bool) → a ≡ true → cond a (Some Exists) (cond b (Some (Lacks NotDirectory)) (cond c (Some (Lacks Missing)) None)) ≡ Some Exists
+in_the_way a b c is = ap (λ (x : Bool). cond x (Some Exists) (cond b (Some (Lacks NotDirectory)) (cond c (Some (Lacks Missing)) None))) is
+
+pub returns-in-Some : goal.returns-in-Some
+returns-in-Some c = (Exists, in_the_way _ _ _ c.in-Some.ensures.0, c.in-Some.ensures.1)

@@ -1,0 +1,6 @@
+mod Dues
+mod Ends
+mod Gathering
+mod Names
+mod Nexts
+mod Turning

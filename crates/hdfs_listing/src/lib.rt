@@ -1,0 +1,7 @@
+//! Listings of directories of one service, and of what lies below them.
+#![tactic(auto)]
+
+mod listing;
+mod walk;
+
+pub use listing::list_path;
