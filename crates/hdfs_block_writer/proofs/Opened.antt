@@ -29,7 +29,7 @@ use Rattle.hdfs_block_writer.proofs.Wrote.{gave_up_ended, pipe_is}
 module _ (plan : BlockPlan) (settings : RebuildSettings) (link : ℕ) (client : List ℕ) (w : BlockWriter) (core : Pipeline) (a b : Shown)
     (to_write : IsToWrite plan.block) (rebuilds : plan.rebuilds ≤ settings.rebuild_limit)
     (windows : (1 ≤ settings.window) × (settings.window ≤ 1000)) (empty : core ≡ empty_pipeline settings.window (length plan.block.locs))
-    (opened : WriteOpened a (setup_of plan.block plan.chunk client) link b)
+    (opened : WriteOpened a (setup_of plan client) link b)
     (piped : w.pipe ≡ Some (record { plan = plan; core = core; link = link })) (none : w.packet ≡ None) (with : w.settings ≡ settings)
     (len : w.length ≡ plan.block.b.num_bytes) where
   abbrev new_pipe : BlockPipeline
@@ -42,7 +42,7 @@ module _ (plan : BlockPlan) (settings : RebuildSettings) (link : ℕ) (client : 
   unfilled = ap filling_of none
 
   abbrev new_write : OpenWrite
-  new_write = record { setup = setup_of plan.block plan.chunk client; end = None; waiting = [] }
+  new_write = record { setup = setup_of plan client; end = None; waiting = [] }
 
   standing : IsStanding settings b new_pipe []
   standing = record {
@@ -91,8 +91,8 @@ module _ (plan : BlockPlan) (settings : RebuildSettings) (link : ℕ) (client : 
 
   pub new_begins : BeginsWhole a plan w b
   new_begins p bytes told written whole =
-      let t = told_after (Starts link (setup_of plan.block plan.chunk client)) a.picture b.picture p opened.starts told in
-      let carried = carries_begins p t.0 (setup_of plan.block plan.chunk client) link plan.block.b.num_bytes bytes t.2 whole in
+      let t = told_after (Starts link (setup_of plan client)) a.picture b.picture p opened.starts told in
+      let carried = carries_begins p t.0 (setup_of plan client) link plan.block.b.num_bytes bytes t.2 whole in
       let linked = carried.linked in
       let safe : length bytes ≡ safe_of w new_pipe = omega (arith, len, ap length unfilled, whole.stores.length) in (
         t.0,

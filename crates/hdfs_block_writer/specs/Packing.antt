@@ -1,9 +1,9 @@
 -- How a writer packs the bytes of a block, and what it asks a pipeline for.
 use Rattle.std.specs.Prelude.{◌≡◌, ℕ, pos, ◌+◌, ◌-◌, ◌%◌, ◌==◌, false, List, [], ◌∷◌, length, Option, Some, None, if◌then◌else◌}
 use Rattle.hdfs_wire.specs.Outgoing.{Outgoing, limit_of}
-use Rattle.hdfs_cluster.specs.declared.messages.LocatedBlock.{LocatedBlock}
 use Rattle.hdfs_cluster.specs.declared.messages.Setup.{Setup}
 use Rattle.hdfs_cluster.specs.declared.messages.Stage.TheVariants as stages
+use Rattle.hdfs_rebuild.specs.declared.block_plan.BlockPlan.{BlockPlan}
 
 -- the bytes in the packet that is being filled
 abbrev pub filling_of : Option Outgoing → List ℕ
@@ -33,18 +33,18 @@ AreNext chunk size start seqno [] = Unit {0}
 AreNext chunk size start seqno (packet ∷ packets) =
     IsNext chunk size start seqno packet × AreNext chunk size (start + length packet.payload) (seqno + 1) packets
 
--- what the pipeline of a block is asked for: the block is new where it has no bytes, else it is gone on with behind those
-abbrev pub setup_of : LocatedBlock → ℕ → List ℕ → Setup
-setup_of located chunk client = record {
-  block = located.b;
-  stage = if located.b.num_bytes == 0 then stages.Create else stages.Append;
-  locs = located.locs;
-  storage_types = located.storage_types;
-  storage_ids = located.storage_ids;
-  stamp = located.b.generation_stamp;
-  min_bytes = located.b.num_bytes;
-  max_bytes = located.b.num_bytes;
-  chunk = chunk;
-  token = located.block_token;
+-- what the first pipeline of a plan's block is asked for: the block is new where it was created, else it is gone on with behind its bytes
+abbrev pub setup_of : BlockPlan → List ℕ → Setup
+setup_of plan client = record {
+  block = plan.block.b;
+  stage = if plan.created then stages.Create else stages.Append;
+  locs = plan.block.locs;
+  storage_types = plan.block.storage_types;
+  storage_ids = plan.block.storage_ids;
+  stamp = plan.block.b.generation_stamp;
+  min_bytes = plan.block.b.num_bytes;
+  max_bytes = plan.block.b.num_bytes;
+  chunk = plan.chunk;
+  token = plan.block.block_token;
   client = client;
 }

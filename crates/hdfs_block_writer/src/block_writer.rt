@@ -66,14 +66,14 @@ impl BlockWriter {
         sizes: BlockSizes,
     ) -> Result<BlockWriter, WriteFault>
         requires plan { IsToBegin plan settings.now sizes }
-        requires allowed { C.allows (SetupOf (setup_of plan.block plan.chunk (name_of namenode.now))) }
+        requires allowed { C.allows (SetupOf (setup_of plan (name_of namenode.now))) }
         ensures stands { IfOk result (λ writer. Stands (C.shown cluster.new) writer) }
         ensures new { IfOk result (λ writer. IsNew plan settings.now sizes.block_size sizes.packet_size writer) }
         ensures opened { IfOk result (λ writer. OpensLink (C.shown cluster.old)
-            (setup_of plan.block plan.chunk (name_of namenode.now)) writer (C.shown cluster.new)) }
+            (setup_of plan (name_of namenode.now)) writer (C.shown cluster.new)) }
         ensures begins { IfOk result (λ writer. BeginsWhole (C.shown cluster.old) plan writer (C.shown cluster.new)) }
         ensures err { IfErr result (λ fault. OpensNone (C.shown cluster.old)
-            (setup_of plan.block plan.chunk (name_of namenode.now)) fault (C.shown cluster.new)) }
+            (setup_of plan (name_of namenode.now)) fault (C.shown cluster.new)) }
     {
         let client = namenode.client_name();
         let opening = Opening::first(&plan, settings.window);

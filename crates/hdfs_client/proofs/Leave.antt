@@ -27,7 +27,8 @@ lets_block may_answer client path first all = record {
 pub lets_write : {allows : Request → Type 0} (may_answer : Ask → Answer → Type 0) (client path : List ℕ) (file_id : Option ℕ)
     → ((request : Request) → allows request) → LetsWrite allows may_answer client path file_id
 lets_write may_answer client path file_id all = record {
-  adds = λ previous answered. all _;
+  adds = λ previous excluded answered first. all _;
+  gives_up = λ located added. all _;
   opens = λ located created answered setup is. all _;
   blocks = λ first created answered. lets_block may_answer client path first all;
 }

@@ -89,7 +89,7 @@ abbrev pub LacksDefaults : {C : Type 0} → (C → ℕ → Ask → Result Answer
 LacksDefaults serves before old error after new =
     AsksInVain serves before old error after new ⊎ HasBadDefaults serves before old error after new
 
--- with what a file is written that has this replication and block size
+-- with what a file is written that has this replication and block size: another first pipeline of a block is tried at most three times
 abbrev pub sizes_by : RebuildSettings → ServerDefaults → ℕ → ℕ → WriteSizes
 sizes_by rebuilding defaults replication block_size = record {
   replication = replication;
@@ -97,6 +97,7 @@ sizes_by rebuilding defaults replication block_size = record {
   chunk = defaults.bytes_per_checksum;
   packet_size = defaults.write_packet_size;
   rebuilding = rebuilding;
+  setup_limit = 3;
   encrypted = defaults.encrypt_data_transfer;
 }
 

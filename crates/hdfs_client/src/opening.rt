@@ -103,6 +103,9 @@ fn hold(
     Ok(OpenedFile { file, lease })
 }
 
+/// How often another first pipeline of a block is tried at most.
+const SETUP_LIMIT: u32 = 3;
+
 /// With what a file is written that has this replication and block size.
 fn sizes_by(
     rebuilding: RebuildSettings,
@@ -118,6 +121,7 @@ fn sizes_by(
         chunk: defaults.bytes_per_checksum,
         packet_size: defaults.write_packet_size,
         rebuilding,
+        setup_limit: SETUP_LIMIT,
         encrypted: defaults.encrypt_data_transfer,
     }
 }

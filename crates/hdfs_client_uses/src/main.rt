@@ -158,6 +158,6 @@ fn main(rt: HostRuntime) -> Result<(), Failed> {
     run(&rt, Trouble::SafeMode)?;
     println!(rt; "without the first pipeline:")?;
     run(&rt, Trouble::Pipelines(1))?;
-    println!(rt; "without the first three:")?;
-    run(&rt, Trouble::Pipelines(3))
+    println!(rt; "without the first five:")?;
+    run(&rt, Trouble::Pipelines(5))
 }

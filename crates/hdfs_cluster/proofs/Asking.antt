@@ -7,9 +7,10 @@ use Rattle.hdfs_cluster.specs.declared.asks.Answer.TheVariants as answers
 use Rattle.hdfs_cluster.specs.declared.asks.AskFault.{AskFault}
 use Rattle.hdfs_cluster.specs.declared.asks.AskFault.TheVariants as faults
 use Rattle.hdfs_cluster.specs.declared.messages.Block.{Block}
+use Rattle.hdfs_cluster.specs.declared.messages.DatanodeInfo.{DatanodeInfo}
 use Rattle.hdfs_cluster.specs.declared.messages.LocatedBlock.{LocatedBlock}
 use Rattle.hdfs_cluster.specs.declared.picture.FileEntry.{FileEntry}
-use Rattle.hdfs_cluster.specs.Effects.{KeepsBytes, Opens, AddsBlock, ClosesIf}
+use Rattle.hdfs_cluster.specs.Effects.{KeepsBytes, Opens, AddsBlock, Abandons, ClosesIf}
 use Rattle.hdfs_cluster.specs.Picture.{Picture, SameButActive}
 use Rattle.hdfs_cluster.specs.Namenode.{Row, IsOwnOf, MayBeDone, OwnKeeps, ServesTold, src_of}
 
@@ -27,9 +28,14 @@ opens_keeps : (src : List ℕ) (file : FileEntry) (block : Option LocatedBlock) 
 opens_keeps src file None p q opens = opens.1.bytes
 opens_keeps src file (Some block) p q opens = opens.6.bytes
 
-adds_keeps : (src : List ℕ) (file : FileEntry) (previous : Option Block) (block : LocatedBlock) (p q : Picture) → AddsBlock src file previous block p q → KeepsBytes p q
-adds_keeps src file previous block p q (inl again) = again.changes.bytes
-adds_keeps src file previous block p q (inr added) = added.changes.bytes
+adds_keeps : (src : List ℕ) (file : FileEntry) (previous : Option Block) (excludes : List DatanodeInfo) (block : LocatedBlock) (p q : Picture)
+    → AddsBlock src file previous excludes block p q → KeepsBytes p q
+adds_keeps src file previous excludes block p q (inl again) = again.changes.bytes
+adds_keeps src file previous excludes block p q (inr added) = added.changes.bytes
+
+abandons_keeps : (src : List ℕ) (file : FileEntry) (block : Block) (p q : Picture) → Abandons src file block p q → KeepsBytes p q
+abandons_keeps src file block p q (inl gone) = gone.changes.bytes
+abandons_keeps src file block p q (inr kept) = kept.1.bytes
 
 closes_keeps : (b : Bool) (src : List ℕ) (file : FileEntry) (last : Option Block) (p q : Picture) → ClosesIf b src file last p q → KeepsBytes p q
 closes_keeps true src file last p q changes = changes.bytes
@@ -42,7 +48,8 @@ row_keeps p q (asks.GetBlockLocations src offset length) (answers.GetBlockLocati
 row_keeps p q asks.GetServerDefaults (answers.GetServerDefaults defaults) row = keeps_same p q row.1
 row_keeps p q (asks.Create src masked client flag parents replication block_size) (answers.Create status) row = row.2.changes.bytes
 row_keeps p q (asks.Append src client flag) (answers.Append appended) row = opens_keeps src row.1.0 appended.block p q row.1.3
-row_keeps p q (asks.AddBlock src client previous excludes file_id) (answers.AddBlock block) row = adds_keeps src row.0 previous block p q row.2
+row_keeps p q (asks.AddBlock src client previous excludes file_id) (answers.AddBlock block) row = adds_keeps src row.0 previous excludes block p q row.2
+row_keeps p q (asks.AbandonBlock block src client file_id) answers.AbandonBlock row = abandons_keeps src row.0 block p q row.3
 row_keeps p q (asks.Complete src client last file_id) (answers.Complete true) row = closes_keeps row.0.is_open src row.0 last p q row.2.1
 row_keeps p q (asks.UpdateBlockForPipeline block client) (answers.UpdateBlockForPipeline located) row = keeps_same p q row.1
 row_keeps p q (asks.GetAdditionalDatanode src block existing excludes count client ids) (answers.GetAdditionalDatanode located) row = keeps_same p q row.2

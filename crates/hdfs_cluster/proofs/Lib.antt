@@ -2,6 +2,7 @@ pub mod Asking
 pub mod Failures
 pub mod Frames
 pub mod Framing
+pub mod GivingUp
 pub mod Loads
 pub mod NamesRepeating
 pub mod NamesSound

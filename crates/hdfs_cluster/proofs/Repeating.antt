@@ -73,7 +73,7 @@ changes_both p q r n m l t f g names table = record {
   bytes = keeps_trans p q r f.bytes g.bytes;
 }
 
-here_text : {X : Type 0} (path : List ℕ) (x y : X) → cond (bytes_eq path path) x y ≡ x
+pub here_text : {X : Type 0} (path : List ℕ) (x y : X) → cond (bytes_eq path path) x y ≡ x
 here_text path x y = ap (λ (b : Bool). cond b x y) ((bytes_eq-Decides path path).1 refl)
 
 here_id : {X : Type 0} (n : ℕ) (x y : X) → cond (n == n) x y ≡ x
@@ -366,7 +366,7 @@ module _ (src client : List ℕ) (previous : Option Block) (excludes : List Data
   length_same : (q : Picture) → SameButActive p q → with_length q.table previous ≡ with_length p.table previous
   length_same q same = ap (λ (t : ℕ → Option BlockEntry). with_length t previous) (table_same p q same)
 
-  adds_left : (f : FileEntry) (found : LocatedBlock) (q r : Picture) → SameButActive p q → AddsBlock src f previous found q r → AddsBlock src f previous found p r
+  adds_left : (f : FileEntry) (found : LocatedBlock) (q r : Picture) → SameButActive p q → AddsBlock src f previous excludes found q r → AddsBlock src f previous excludes found p r
   adds_left f found q r same (inl again) = inl (record {
     id = again.id;
     retried = retried_from q.table p.table f.blocks again.id (λ id. sym (same.files.table id)) again.retried;
@@ -384,13 +384,14 @@ module _ (src client : List ℕ) (previous : Option Block) (excludes : List Data
       few = fresh.fresh.few;
       apart = fresh.fresh.apart;
       bare = All-weaker (λ node. q.held node fresh.id ≡ []) (λ node. p.held node fresh.id ≡ []) (λ node none. sym (same.files.held node fresh.id) ∙ none) fresh.entry.nodes fresh.fresh.bare;
+      others = fresh.fresh.others;
     };
     answered = fresh.answered;
     changes = changes_left p q r _ _ _ _ same (ap (λ (n : List ℕ → Option Entry). with_entry n src (record f { blocks = f.blocks ++ fresh.id ∷ [] })) (names_same p q same))
         (ap (λ (t : ℕ → Option BlockEntry). with_block t fresh.id fresh.entry) (length_same q same)) fresh.changes;
   })
 
-  adds_right : (f : FileEntry) (found : LocatedBlock) (q r : Picture) → AddsBlock src f previous found p q → SameButActive q r → AddsBlock src f previous found p r
+  adds_right : (f : FileEntry) (found : LocatedBlock) (q r : Picture) → AddsBlock src f previous excludes found p q → SameButActive q r → AddsBlock src f previous excludes found p r
   adds_right f found q r (inl again) same = inl (record { id = again.id; retried = again.retried; answered = again.answered; changes = changes_right p q r _ _ again.changes same })
   adds_right f found q r (inr fresh) same = inr (record { id = fresh.id; entry = fresh.entry; first = fresh.first; fresh = fresh.fresh; answered = fresh.answered; changes = changes_right p q r _ _ fresh.changes same })
 
@@ -421,7 +422,7 @@ module _ (src client : List ℕ) (previous : Option Block) (excludes : List Data
   entry_same : (e : Option BlockEntry) (x y : BlockEntry) → e ≡ Some x → e ≡ Some y → x ≡ y
   entry_same e x y a b = cc (a, b)
 
-  module _ (found : LocatedBlock) (q : Picture) (fresh : AddsNew src file previous found p q) where
+  module _ (found : LocatedBlock) (q : Picture) (fresh : AddsNew src file previous excludes found p q) where
     abbrev grown : FileEntry
     grown = record file { blocks = file.blocks ++ fresh.id ∷ [] }
 
@@ -435,7 +436,7 @@ module _ (src client : List ℕ) (previous : Option Block) (excludes : List Data
     retried_now = record { front = file.blocks; last = refl; behind = ends; entry = fresh.entry; is = listed_new; empty = fresh.fresh.empty }
 
     -- asked again, it is the block of the first effect
-    gives_again : (found' : LocatedBlock) (r : Picture) → GivesAgain src grown previous found' q r → AddsBlock src file previous found' p r
+    gives_again : (found' : LocatedBlock) (r : Picture) → GivesAgain src grown previous found' q r → AddsBlock src file previous excludes found' p r
     gives_again found' r again =
         let id : again.id ≡ fresh.id = push_same again.retried.front file.blocks again.id fresh.id (sym again.retried.last) in
         let entry : again.retried.entry ≡ fresh.entry = entry_same (q.table again.id) again.retried.entry fresh.entry again.retried.is (ap q.table id ∙ listed_new) in
@@ -458,19 +459,19 @@ module _ (src client : List ℕ) (previous : Option Block) (excludes : List Data
         push_same (a ∷ c ∷ xs) [] x y same = absurd (cc same)
         push_same (a ∷ xs) (b ∷ ys) x y same = push_same xs ys x y (cc same)
 
-    adds_again : (found' : LocatedBlock) (r : Picture) (g : FileEntry) → IsFileAt q src g → AddsBlock src g previous found' q r → AddsBlock src file previous found' p r
-    adds_again found' r g at h = by (subst (λ (x : FileEntry). AddsBlock src x previous found' q r) (same_file g grown (q.names src) at named_grown) h)
+    adds_again : (found' : LocatedBlock) (r : Picture) (g : FileEntry) → IsFileAt q src g → AddsBlock src g previous excludes found' q r → AddsBlock src file previous excludes found' p r
+    adds_again found' r g at h = by (subst (λ (x : FileEntry). AddsBlock src x previous excludes found' q r) (same_file g grown (q.names src) at named_grown) h)
       where
-        by : AddsBlock src grown previous found' q r → AddsBlock src file previous found' p r
+        by : AddsBlock src grown previous excludes found' q r → AddsBlock src file previous excludes found' p r
         by (inl again) = gives_again found' r again
         by (inr other) = absurd (other.first fresh.id retried_now)
 
-  adds_twice : (found found' : LocatedBlock) (q r : Picture) (g : FileEntry) → AddsBlock src file previous found p q → IsFileAt q src g → AddsBlock src g previous found' q r → AddsBlock src file previous found' p r
+  adds_twice : (found found' : LocatedBlock) (q r : Picture) (g : FileEntry) → AddsBlock src file previous excludes found p q → IsFileAt q src g → AddsBlock src g previous excludes found' q r → AddsBlock src file previous excludes found' p r
   adds_twice found found' q r g (inl again) at h = absurd (never again.id again.retried)
   adds_twice found found' q r g (inr fresh) at h = adds_again found q fresh found' r g at h
 
-  own_file : (f : FileEntry) (found : LocatedBlock) (q : Picture) → IsFileAt p src f → AddsBlock src f previous found p q → AddsBlock src file previous found p q
-  own_file f found q at h = subst (λ (x : FileEntry). AddsBlock src x previous found p q) (same_file f file (p.names src) at is) h
+  own_file : (f : FileEntry) (found : LocatedBlock) (q : Picture) → IsFileAt p src f → AddsBlock src f previous excludes found p q → AddsBlock src file previous excludes found p q
+  own_file f found q at h = subst (λ (x : FileEntry). AddsBlock src x previous excludes found p q) (same_file f file (p.names src) at is) h
 
   add_left : (q r : Picture) (b : Answer) → SameButActive p q → Row q adding b r → Row p adding b r
   add_left q r (answers.AddBlock found) same row = (row.0, sym (same.files.names src) ∙ row.1, adds_left row.0 found q r same row.2)
@@ -489,7 +490,7 @@ module _ (src client : List ℕ) (previous : Option Block) (excludes : List Data
   open_then : (q : Picture) (a : Answer) → Row p adding a q → (g : FileEntry) × IsFileAt q src g × (g.is_open ≡ true) × HasBlock g.blocks previous
   open_then q (answers.AddBlock found) row = by (own_file row.0 found q row.1 row.2)
     where
-      by : AddsBlock src file previous found p q → (g : FileEntry) × IsFileAt q src g × (g.is_open ≡ true) × HasBlock g.blocks previous
+      by : AddsBlock src file previous excludes found p q → (g : FileEntry) × IsFileAt q src g × (g.is_open ≡ true) × HasBlock g.blocks previous
       by (inl again) = absurd (never again.id again.retried)
       by (inr fresh) = (grown found q fresh, named_grown found q fresh, still, has_more previous file.blocks fresh.id (has_last previous file.blocks ends))
   open_then q a row = absurd row

@@ -35,6 +35,13 @@ CallsRoseTimes namenodes (suc times) before now =
     (between : FaultCounts) × CallsRoseTimes namenodes times before between × NeverFall between now
     × ((i : ℕ) × (i < namenodes) × Rose (between.calls i) (now.calls i))
 
+-- datanodes have failed so many times, one time behind another
+abbrev pub NodesRoseTimes : ℕ → FaultCounts → FaultCounts → Type 0
+NodesRoseTimes zero before now = NeverFall before now
+NodesRoseTimes (suc times) before now =
+    (between : FaultCounts) × NodesRoseTimes times before between × NeverFall between now
+    × ((node : List ℕ) × Rose (between.nodes node) (now.nodes node))
+
 -- each count is what it was
 pub record SameCounts (before now : FaultCounts) : Type 0 where
   pub asks : (i : ℕ) → now.asks i ≡ before.asks i

@@ -116,14 +116,16 @@ pub record IsEntry (block : LocatedBlock) (id : ℕ) (entry : BlockEntry) : Type
   pub stamp : block.b.generation_stamp ≡ entry.stamp
   pub nodes : uuids block.locs ≡ entry.nodes
 
--- A new block: no file had it, it is empty, and it is on 1 up to the replication distinct datanodes, which hold nothing of it.
-pub record IsNewBlock (old : Picture) (file : FileEntry) (id : ℕ) (entry : BlockEntry) : Type 0 where
+-- A new block: no file had it, it is empty, and it is on 1 up to the replication distinct datanodes, which hold nothing of it, and of which
+-- none is to be left out.
+pub record IsNewBlock (old : Picture) (file : FileEntry) (excludes : List DatanodeInfo) (id : ℕ) (entry : BlockEntry) : Type 0 where
   pub absent : old.table id ≡ None
   pub empty : entry.length ≡ 0
   pub some : 0 < length entry.nodes
   pub few : length entry.nodes ≤ file.attributes.replication
   pub apart : IsDistinct bytes_eq entry.nodes
   pub bare : All (λ node. old.held node id ≡ []) entry.nodes
+  pub others : All (λ node. Contains (uuids excludes) node → ⊥) entry.nodes
 
 -- the length of the previous block is set, and the file's last block, which is empty, is given again
 pub record GivesAgain (src : List ℕ) (file : FileEntry) (previous : Option Block) (block : LocatedBlock) (old new : Picture) : Type 0 where
@@ -133,18 +135,38 @@ pub record GivesAgain (src : List ℕ) (file : FileEntry) (previous : Option Blo
   pub changes : Changes old new old.names (with_length old.table previous)
 
 -- the length of the previous block is set, and the file has a new block behind the others
-pub record AddsNew (src : List ℕ) (file : FileEntry) (previous : Option Block) (block : LocatedBlock) (old new : Picture) : Type 0 where
+pub record AddsNew (src : List ℕ) (file : FileEntry) (previous : Option Block) (excludes : List DatanodeInfo) (block : LocatedBlock)
+    (old new : Picture) : Type 0 where
   pub id : ℕ
   pub entry : BlockEntry
   pub first : (last : ℕ) → IsRetried old.table file.blocks previous last → ⊥
-  pub fresh : IsNewBlock old file id entry
+  pub fresh : IsNewBlock old file excludes id entry
   pub answered : IsEntry block id entry
   pub changes : Changes old new (with_entry old.names src (record file { blocks = file.blocks ++ id ∷ [] }))
       (with_block (with_length old.table previous) id entry)
 
 -- a block more of a file
-abbrev pub AddsBlock : List ℕ → FileEntry → Option Block → LocatedBlock → Picture → Picture → Type 0
-AddsBlock src file previous block old new = GivesAgain src file previous block old new ⊎ AddsNew src file previous block old new
+abbrev pub AddsBlock : List ℕ → FileEntry → Option Block → List DatanodeInfo → LocatedBlock → Picture → Picture → Type 0
+AddsBlock src file previous excludes block old new =
+    GivesAgain src file previous block old new ⊎ AddsNew src file previous excludes block old new
+
+-- the named block is the last of a file's blocks, and empty
+pub record IsEmptyLast (table : ℕ → Option BlockEntry) (blocks : List ℕ) (block : Block) : Type 0 where
+  pub front : List ℕ
+  pub last : blocks ≡ front ++ block.block_id ∷ []
+  pub entry : BlockEntry
+  pub is : table block.block_id ≡ Some entry
+  pub empty : entry.length ≡ 0
+
+-- a file has its last block, which is empty, no more, and nobody has it
+pub record GivesUp (src : List ℕ) (file : FileEntry) (block : Block) (old new : Picture) : Type 0 where
+  pub gone : IsEmptyLast old.table file.blocks block
+  pub changes : Changes old new (with_entry old.names src (record file { blocks = gone.front })) (table_without old.table (block.block_id ∷ []))
+
+-- so it is once an open file's block is given up: it is gone, and one that the file doesn't have stays what it is
+abbrev pub Abandons : List ℕ → FileEntry → Block → Picture → Picture → Type 0
+Abandons src file block old new =
+    GivesUp src file block old new ⊎ ((Contains file.blocks block.block_id → ⊥) × Changes old new old.names old.table)
 
 -- an open file is closed, and the length of its last block is set; a closed one stays as it is
 abbrev pub ClosesIf : Bool → List ℕ → FileEntry → Option Block → Picture → Picture → Type 0

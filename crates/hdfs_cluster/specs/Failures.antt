@@ -1,5 +1,5 @@
 -- What an error says has failed, and what a namenode has answered last: over any cluster, whoever answers it.
-use Rattle.std.specs.Prelude.{◌≡◌, ℕ, zero, suc, ◌<◌, Bool, true, false, List, All, Any}
+use Rattle.std.specs.Prelude.{◌≡◌, ◌⊎◌, ℕ, zero, suc, ◌<◌, Bool, true, false, List, All, Any}
 use Rattle.hdfs_cluster.specs.declared.errors.ArgFault.TheVariants as args
 use Rattle.hdfs_cluster.specs.declared.errors.HdfsError.{HdfsError}
 use Rattle.hdfs_cluster.specs.declared.errors.HdfsError.TheVariants as errors
@@ -7,7 +7,7 @@ use Rattle.hdfs_cluster.specs.declared.errors.IoFault.TheVariants as io_faults
 use Rattle.hdfs_cluster.specs.declared.errors.TransferFault.TheVariants as transfer
 use Rattle.hdfs_cluster.specs.declared.picture.LastAnswer.{LastAnswer}
 use Rattle.hdfs_cluster.specs.declared.picture.LastAnswer.TheVariants as last_answers
-use Rattle.hdfs_cluster.specs.Counts.{CallsRoseTimes, FaultCounts, Rose, RoseTwice}
+use Rattle.hdfs_cluster.specs.Counts.{CallsRoseTimes, FaultCounts, NodesRoseTimes, Rose, RoseTwice}
 use Rattle.hdfs_cluster.specs.Namenode.{is_taken}
 use Rattle.hdfs_names.specs.Replacements.{ShouldReplace}
 use Rattle.hdfs_names.specs.declared.replacement.Policy.{Policy}
@@ -30,6 +30,11 @@ abbrev pub NodesFailTimes : ℕ → Shown → Shown → Type 0
 NodesFailTimes zero old new = Later old new
 NodesFailTimes (suc times) old new =
     (between : Shown) × NodesFailTimes times old between × Later between new × SomeNodeRose between.counts new
+
+-- Pipelines couldn't be set up, the further tries among them that are allowed: the links have failed, or datanodes once more than that, one
+-- time behind another.
+abbrev pub SetupsFailed : ℕ → FaultCounts → FaultCounts → Type 0
+SetupsFailed limit old new = Rose old.links new.links ⊎ NodesRoseTimes (suc limit) old new
 
 -- of a pipeline of so many replicas a datanode is to be replaced by this policy, where some number of them are left
 abbrev pub MayReplace : Policy → ℕ → Type 0
@@ -57,14 +62,16 @@ pub data Failure : Type 0 where
   Times : ℕ → Failure
   -- the links
   TheLinks : Failure
+  -- the links or a datanode
+  ASetup : Failure
   -- a datanode
   ADatanode : Failure
 
 -- what an error says has failed
 abbrev pub failure_of : HdfsError → Failure
 failure_of (errors.IOError (io_faults.Namenode last)) = Twice last
-failure_of (errors.IOError io_faults.Link) = TheLinks
-failure_of (errors.DataTransferError transfer.Setup) = TheLinks
+failure_of (errors.IOError io_faults.Link) = ASetup
+failure_of (errors.DataTransferError transfer.Setup) = ASetup
 failure_of (errors.DataTransferError (transfer.BadAck seqno)) = TheLinks
 failure_of (errors.DataTransferError transfer.AllNodes) = ADatanode
 failure_of (errors.DataTransferError transfer.NoReplacement) = ADatanode
@@ -82,6 +89,7 @@ HasFailed NoAnswer old new = EachAsked old.counts new × CallsRose old.counts ne
 HasFailed (Twice i) old new = EachAsked old.counts new × (i < new.namenodes) × RoseTwice (old.counts.calls i) (new.counts.calls i)
 HasFailed (Times n) old new = CallsRoseTimes new.namenodes n old.counts new.counts
 HasFailed TheLinks old new = Rose old.counts.links new.counts.links
+HasFailed ASetup old new = Rose old.counts.links new.counts.links ⊎ SomeNodeRose old.counts new
 HasFailed ADatanode old new = SomeNodeRose old.counts new
 
 -- the last answer of a namenode was an exception that says that something stands at the path, with this message

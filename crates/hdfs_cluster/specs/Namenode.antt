@@ -15,7 +15,7 @@ use Rattle.hdfs_cluster.specs.declared.picture.Entry.TheVariants as entries
 use Rattle.hdfs_cluster.specs.declared.picture.BlockEntry.{BlockEntry}
 use Rattle.hdfs_cluster.specs.declared.picture.FileEntry.{FileEntry}
 use Rattle.hdfs_cluster.specs.Deleting.{DeletesFrom, IsNotEmpty}
-use Rattle.hdfs_cluster.specs.Effects.{Changes, KeepsBytes, HasStatus, HasBlock, IsLast, Creates, Opens, AddsBlock, Completes, HasGreaterStamp, IsBeingWritten, HasOneMore, AddsOneOf, NamesPipeline}
+use Rattle.hdfs_cluster.specs.Effects.{Changes, KeepsBytes, HasStatus, HasBlock, IsLast, Creates, Opens, AddsBlock, Abandons, IsEmptyLast, Completes, HasGreaterStamp, IsBeingWritten, HasOneMore, AddsOneOf, NamesPipeline}
 use Rattle.hdfs_cluster.specs.Files.{Kind, Directory, ClosedFile, NoFile, NotDirectory, Missing, NotFile, no_file, OpenFile}
 use Rattle.hdfs_cluster.specs.Listing.{IsMissing, TellsListing, TellsStatus}
 use Rattle.hdfs_cluster.specs.Picture.{Picture, SameButActive, SamePicture, kinds}
@@ -154,6 +154,7 @@ IsShaped asks.GetServerDefaults (answers.GetServerDefaults defaults) = Unit {0}
 IsShaped (asks.Create src masked client flag parents replication block_size) (answers.Create status) = Unit {0}
 IsShaped (asks.Append src client flag) (answers.Append appended) = IfSome appended.block IsToWrite
 IsShaped (asks.AddBlock src client previous excludes file_id) (answers.AddBlock block) = IsToWrite block × (block.b.num_bytes ≡ 0)
+IsShaped (asks.AbandonBlock block src client file_id) answers.AbandonBlock = Unit {0}
 IsShaped (asks.Complete src client last file_id) (answers.Complete done) = Unit {0}
 IsShaped (asks.UpdateBlockForPipeline block client) (answers.UpdateBlockForPipeline located) = Unit {0}
 IsShaped (asks.GetAdditionalDatanode src block existing excludes count client ids) (answers.GetAdditionalDatanode located) =
@@ -199,7 +200,9 @@ Row old (asks.Append src client flag) (answers.Append appended) new =
     (append_refusal (kinds old) src ≡ None)
     × ((file : FileEntry) × IsFileAt old src file × HasStatus file appended.stat × Opens src file appended.block old new)
 Row old (asks.AddBlock src client previous excludes file_id) (answers.AddBlock block) new =
-    (file : FileEntry) × IsFileAt old src file × AddsBlock src file previous block old new
+    (file : FileEntry) × IsFileAt old src file × AddsBlock src file previous excludes block old new
+Row old (asks.AbandonBlock block src client file_id) answers.AbandonBlock new =
+    (file : FileEntry) × IsFileAt old src file × (file.is_open ≡ true) × Abandons src file block old new
 Row old (asks.Complete src client last file_id) (answers.Complete true) new =
     (file : FileEntry) × IsFileAt old src file × Completes src file last old new
 Row old (asks.UpdateBlockForPipeline block client) (answers.UpdateBlockForPipeline located) new =
@@ -260,8 +263,9 @@ IsRefusal p (asks.Delete src recursive) class =
 IsRefusal p ask class = ⊥
 
 -- The answer is the implementation's own: the blocks of a file that is being written; a block more of what is no open file,
--- or behind a block that it doesn't have; the closing of what is no file with this last block; a pipeline of a block that isn't
--- listed, or that no open file has; and all answers to asks that have no row.
+-- or behind a block that it doesn't have; to give up a block of what is no open file, or one that it has and isn't its last or isn't empty; the
+-- closing of what is no file with this last block; a pipeline of a block that isn't listed, or that no open file has; and all answers to asks
+-- that have no row.
 abbrev pub IsOwn : Picture → Ask → Type 0
 IsOwn p (asks.GetBlockLocations src offset length) = kinds p src ≡ Some OpenFile
 IsOwn p asks.GetServerDefaults = ⊥
@@ -269,6 +273,9 @@ IsOwn p (asks.Create src masked client flag parents replication block_size) = �
 IsOwn p (asks.Append src client flag) = ⊥
 IsOwn p (asks.AddBlock src client previous excludes file_id) =
     (file : FileEntry) → IsFileAt p src file → file.is_open ≡ true → HasBlock file.blocks previous → ⊥
+IsOwn p (asks.AbandonBlock block src client file_id) =
+    (file : FileEntry) → IsFileAt p src file → file.is_open ≡ true
+    → IsEmptyLast p.table file.blocks block ⊎ (Contains file.blocks block.block_id → ⊥) → ⊥
 IsOwn p (asks.Complete src client last file_id) = (file : FileEntry) → IsFileAt p src file → IsLast file.blocks last → ⊥
 IsOwn p (asks.UpdateBlockForPipeline block client) = p.table block.block_id ≡ None
 IsOwn p (asks.GetAdditionalDatanode src block existing excludes count client ids) = IsBeingWritten p src block → ⊥
@@ -289,6 +296,7 @@ src_of asks.GetServerDefaults = Some []
 src_of (asks.Create src masked client flag parents replication block_size) = Some src
 src_of (asks.Append src client flag) = Some src
 src_of (asks.AddBlock src client previous excludes file_id) = Some src
+src_of (asks.AbandonBlock block src client file_id) = Some src
 src_of (asks.Complete src client last file_id) = Some src
 src_of (asks.UpdateBlockForPipeline block client) = Some []
 src_of (asks.GetAdditionalDatanode src block existing excludes count client ids) = Some src

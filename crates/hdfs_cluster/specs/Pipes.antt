@@ -4,9 +4,12 @@ use Rattle.hdfs_wire.specs.declared.ack.Ack.{Ack}
 use Rattle.hdfs_wire.specs.Outgoing.{Outgoing}
 use Rattle.hdfs_cluster.specs.declared.asks.LinkFault.{LinkFault}
 use Rattle.hdfs_cluster.specs.declared.asks.LinkFault.TheVariants as faults
+use Rattle.hdfs_cluster.specs.declared.messages.DatanodeInfo.{DatanodeInfo}
 use Rattle.hdfs_cluster.specs.declared.messages.Setup.{Setup}
+use Rattle.hdfs_cluster.specs.declared.messages.Stage.{Stage}
+use Rattle.hdfs_cluster.specs.declared.messages.Stage.TheVariants as stages
 use Rattle.hdfs_cluster.specs.declared.picture.OpenWrite.{OpenWrite}
-use Rattle.hdfs_cluster.specs.Counts.{Rose}
+use Rattle.hdfs_cluster.specs.Counts.{FaultCounts, Rose}
 use Rattle.hdfs_cluster.specs.Picture.{Picture, SamePicture, Told}
 use Rattle.hdfs_cluster.specs.Sending.{Came, Broke, WritePlace, uuids, end_of, seqno_of}
 use Rattle.hdfs_cluster.specs.Shown.{Shown, Later, SameReadPlaces, IsUnused}
@@ -45,12 +48,23 @@ pub record WriteOpened (old : Shown) (setup : Setup) (link : ℕ) (new : Shown) 
   pub opened : new.writes link ≡ Some (record { setup = setup; end = None; waiting = [] })
   pub starts : Told (Starts link setup) old.picture new.picture
 
--- No pipeline was set up. Beside want of memory this comes only where the count of the links rose.
+-- what has failed where a pipeline is set up: the first datanode of a new one, and the links of one that is gone on with
+abbrev pub SetupFailedAt : Stage → List DatanodeInfo → FaultCounts → FaultCounts → Type 0
+SetupFailedAt stages.Create [] old new = Rose old.links new.links
+SetupFailedAt stages.Create (first ∷ rest) old new = Rose (old.nodes first.id.datanode_uuid) (new.nodes first.id.datanode_uuid)
+SetupFailedAt stages.Append nodes old new = Rose old.links new.links
+SetupFailedAt stages.Recovery nodes old new = Rose old.links new.links
+
+-- the same of a set-up
+abbrev pub SetupFailed : Setup → FaultCounts → FaultCounts → Type 0
+SetupFailed setup old new = SetupFailedAt setup.stage setup.locs old new
+
+-- No pipeline was set up. Beside want of memory this comes only where what has to do with its stage has failed.
 pub record WriteNotOpened (old : Shown) (setup : Setup) (fault : LinkFault) (new : Shown) : Type 0 where
   pub only : OnlyWrites old new
   pub writes : (other : ℕ) → new.writes other ≡ old.writes other
   pub picture : Told SamePicture old.picture new.picture
-  pub cause : fault ≢ faults.NoMemory → Rose old.counts.links new.counts.links
+  pub cause : fault ≢ faults.NoMemory → SetupFailed setup old.counts new.counts
 
 -- a packet begins where the last one ended, or the first anywhere from 0 on
 abbrev pub BeginsAt : Option ℕ → ℤ → Type 0

@@ -1,6 +1,6 @@
 -- What a cluster is asked for, and what its client has leave to ask for. A cluster says once and for all which requests it allows, and a
 -- call that makes one wants leave for it. So a function over any cluster makes no request but those that its own clauses give it leave for.
-use Rattle.std.specs.Prelude.{◌≡◌, ◌≢◌, ◌⊎◌, ℕ, ◌+◌, ◌-◌, ◌^◌, ◌==◌, Bool, true, false, List, [], ◌∷◌, Contains, length, map, Option, Some, None, IfSome, if◌then◌else◌, slice_get}
+use Rattle.std.specs.Prelude.{◌≡◌, ◌≢◌, ◌⊎◌, ℕ, ◌+◌, ◌-◌, ◌^◌, ◌==◌, Bool, true, false, List, [], ◌∷◌, All, Contains, length, map, Option, Some, None, IfSome, if◌then◌else◌, slice_get}
 use Rattle.std.specs.List.{list_any}
 use Rattle.hdfs_cluster.specs.declared.asks.Answer.{Answer}
 use Rattle.hdfs_cluster.specs.declared.asks.Answer.TheVariants as answers
@@ -40,10 +40,11 @@ pub record IsLocated (may_answer : Ask → Answer → Type 0) (path : List ℕ) 
   pub answered : may_answer (asks.GetBlockLocations path 0 (2 ^ 63 - 1)) (answers.GetBlockLocations (Some found))
   pub among : Contains found.blocks block
 
--- it was answered as one block more of the file at a path, which has this id, behind any block and on any datanode
+-- it was answered as one block more of the file at a path, which has this id, behind any block and on any datanode but some
 pub record IsAdded (may_answer : Ask → Answer → Type 0) (client path : List ℕ) (file_id : Option ℕ) (located : LocatedBlock) : Type 0 where
   pub previous : Option Block
-  pub answered : may_answer (asks.AddBlock path client previous [] file_id) (answers.AddBlock located)
+  pub excluded : List DatanodeInfo
+  pub answered : may_answer (asks.AddBlock path client previous excluded file_id) (answers.AddBlock located)
 
 -- it was answered as the last block of the file at a path, when that was opened to be gone on with
 pub record IsReopened (may_answer : Ask → Answer → Type 0) (client path : List ℕ) (located : LocatedBlock) : Type 0 where
@@ -120,11 +121,11 @@ pub record IsAnsweredBlock (may_answer : Ask → Answer → Type 0) (client path
   pub named : IsNamed may_answer client first block
 
 -- The first pipeline of a block is set up as the block was answered: on its datanodes, in their storages, with its generation stamp and its
--- token, and with just its bytes. It is new where it has none, else it is gone on with behind those. How many bytes have a checksum together
--- is free.
-pub record IsFirstSetup (located : LocatedBlock) (client : List ℕ) (setup : Setup) : Type 0 where
+-- token, and with just its bytes. It is new where the block was answered as one more, else the block is gone on with behind those. How many
+-- bytes have a checksum together is free.
+pub record IsFirstSetup (created : Bool) (located : LocatedBlock) (client : List ℕ) (setup : Setup) : Type 0 where
   pub block : setup.block ≡ located.b
-  pub stage : setup.stage ≡ (if located.b.num_bytes == 0 then stages.Create else stages.Append)
+  pub stage : setup.stage ≡ (if created then stages.Create else stages.Append)
   pub nodes : setup.locs ≡ located.locs
   pub types : setup.storage_types ≡ located.storage_types
   pub ids : setup.storage_ids ≡ located.storage_ids
@@ -219,13 +220,21 @@ LetsWriteBlocks allows may_answer client path file_id =
     (first : LocatedBlock) (created : Bool) → IsAnsweredLocated may_answer client path file_id created first
     → LetsWriteBlock allows may_answer client path first
 
--- Leave to write the file at a path, which has this id: a block more is asked for behind none or one that was answered, on any datanode, and
--- the first pipeline of one that was answered is set up.
+-- these datanodes are the first ones of blocks that were answered as one more of the file at a path
+abbrev pub AreFirst : (Ask → Answer → Type 0) → List ℕ → List ℕ → Option ℕ → List DatanodeInfo → Type 0
+AreFirst may_answer client path file_id nodes =
+    All (λ node. (located : LocatedBlock) × IsAdded may_answer client path file_id located × (slice_get located.locs 0 ≡ Some node)) nodes
+
+-- Leave to write the file at a path, which has this id: a block more is asked for behind none or one that was answered, on any datanode but
+-- such as were the first ones of such blocks; one that was answered as one more is given up; and the first pipeline of one that was answered
+-- is set up.
 pub record LetsWrite (allows : Request → Type 0) (may_answer : Ask → Answer → Type 0) (client path : List ℕ) (file_id : Option ℕ) : Type 0 where
-  pub adds : (previous : Option Block) → IsAnsweredLast may_answer client path file_id previous
-      → allows (AskOf (asks.AddBlock path client previous [] file_id))
+  pub adds : (previous : Option Block) (excluded : List DatanodeInfo) → IsAnsweredLast may_answer client path file_id previous
+      → AreFirst may_answer client path file_id excluded → allows (AskOf (asks.AddBlock path client previous excluded file_id))
+  pub gives_up : (located : LocatedBlock) → IsAdded may_answer client path file_id located
+      → allows (AskOf (asks.AbandonBlock located.b path client file_id))
   pub opens : (located : LocatedBlock) (created : Bool) → IsAnsweredLocated may_answer client path file_id created located
-      → (setup : Setup) → IsFirstSetup located client setup → allows (SetupOf setup)
+      → (setup : Setup) → IsFirstSetup created located client setup → allows (SetupOf setup)
   pub blocks : LetsWriteBlocks allows may_answer client path file_id
 
 -- leave to close the file at a path, which has this id, behind none of its blocks or one that was answered

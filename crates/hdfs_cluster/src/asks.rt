@@ -40,12 +40,20 @@ pub enum Ask {
         client_name: Text,
         flag: u32,
     },
-    /// A block more of the open file at `src`, behind its block `previous`, which has the length that it is named with.
+    /// A block more of the open file at `src`, behind its block `previous`, which has the length that it is named with; on none of
+    /// `excludes`.
     AddBlock {
         src: Text,
         client_name: Text,
         previous: Option<Block>,
         excludes: List<DatanodeInfo>,
+        file_id: Option<u64>,
+    },
+    /// The block, which is the last one of the open file at `src` and empty, is to be none of it any more.
+    AbandonBlock {
+        block: Block,
+        src: Text,
+        client_name: Text,
         file_id: Option<u64>,
     },
     /// The open file at `src` is to be closed. `last` is its last block, with its length.
@@ -181,6 +189,7 @@ pub enum Answer {
     Create(Option<FileStatusMsg>),
     Append(Appended),
     AddBlock(LocatedBlock),
+    AbandonBlock,
     /// Whether the file is closed.
     Complete(bool),
     /// The block with its new stamp, and its token.

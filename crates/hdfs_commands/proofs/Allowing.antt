@@ -50,7 +50,8 @@ module _ {allows : Request → Type 0} (may_answer : Ask → Answer → Type 0) 
     closes = λ appended answered encrypted. lets_close client path (id_in appended.stat);
   }
   lets_at client path (commands.Write name bytes) = λ file_id answered. record {
-    adds = λ previous answered. all (AskOf (asks.AddBlock path client previous [] file_id));
+    adds = λ previous excluded answered first. all (AskOf (asks.AddBlock path client previous excluded file_id));
+    gives_up = λ located added. all (AskOf (asks.AbandonBlock located.b path client file_id));
     opens = λ located created answered setup first. all (SetupOf setup);
     blocks = lets_blocks client path file_id;
   }
@@ -124,6 +125,7 @@ module _ {may_answer : Ask → Answer → Type 0} (all : (ask : Ask) (answer : A
       → IsAnsweredLocated may_answer client path file_id created located
   any_located client path file_id true located = record {
     previous = None;
+    excluded = [];
     answered = all (asks.AddBlock path client None [] file_id) (answers.AddBlock located);
   }
   any_located client path file_id false located = any_reopened client path located

@@ -28,7 +28,7 @@ use Rattle.hdfs_file_writer.proofs.Others.{agrees_others, carries_others}
 use Rattle.hdfs_file_writer.proofs.Placing.{at_id, at_path, contains_last}
 use Rattle.hdfs_file_writer.proofs.Reopening.{opened_carries}
 use Rattle.hdfs_file_writer.proofs.Storing.{stores_keeps}
-use Rattle.hdfs_commands.proofs.Planting.{any_contains}
+use Rattle.hdfs_model.proofs.Planted.{any_contains}
 use Rattle.hdfs_commands.proofs.WithWriting.{IsClear, clear_over, others_there, state_with_writing}
 
 -- From one picture to the next a file with this content was opened at a path: the next agrees with the state in which it is being

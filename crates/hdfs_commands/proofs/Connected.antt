@@ -22,7 +22,7 @@ connected session cache protocol = record session { connections = cache; namenod
 
 sized_connected : (session : Session) (cache : ConnectionCache) (protocol : NamenodeProtocol) (same : SameButKnown session.namenode protocol) (writer : FileWriter) → IsSized session writer → IsSized (connected session cache protocol) writer
 sized_connected session cache protocol same writer h =
-    record { known = h.known; is_known = same.known h.known h.is_known; rebuilding = h.rebuilding; chunk = h.chunk; packet_size = h.packet_size; encrypted = h.encrypted }
+    record { known = h.known; is_known = same.known h.known h.is_known; rebuilding = h.rebuilding; setups = h.setups; chunk = h.chunk; packet_size = h.packet_size; encrypted = h.encrypted }
 
 stands_connected : (shown : Shown) (session : Session) (cache : ConnectionCache) (protocol : NamenodeProtocol) (same : SameButKnown session.namenode protocol) → Stands shown session → Stands shown (connected session cache protocol)
 stands_connected shown session cache protocol same h = record {

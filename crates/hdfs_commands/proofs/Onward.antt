@@ -18,7 +18,7 @@ use Rattle.hdfs_cluster.specs.Files.{State, Content, File}
 use Rattle.hdfs_model.specs.Sessions.{Avoids}
 use Rattle.hdfs_cluster.specs.Shown.{Shown, Later, SameReadPlaces, SameReads}
 use Rattle.hdfs_model.specs.Steps.{World, Done, step, target_of}
-use Rattle.hdfs_cluster.proofs.Failures.{each_rose, failed_on, one_rose}
+use Rattle.hdfs_cluster.proofs.Failures.{each_rose, failed_on, one_rose, setups_until}
 use Rattle.hdfs_cluster.proofs.Frames.{never_fall_refl, rose_since, told_after}
 use Rattle.hdfs_file_writer.proofs.Storing.{contains_head, contains_later}
 use Rattle.hdfs_commands.specs.Session.{LeavesFiles}
@@ -113,7 +113,9 @@ module _ (old u v : Shown) (later : Later u v) where
     because_on w command avoids (errors.DataTransferError (transfer.RebuildLimit rebuilds)) h = (h.0, h.1, some_on (target_of w command) h.2)
     because_on w command avoids (errors.AlreadyExists message) h = ⊎_elim (λ is. inl is) (λ rose. inr (failed_on old u v ANamenode later rose)) h
     because_on w command avoids (errors.RPCError class message) h = ⊎_elim (λ is. inl is) (λ rose. inr (failed_on old u v ANamenode later rose)) h
-    because_on w command avoids (errors.IOError io_faults.Link) h = h
+    because_on w command avoids (errors.IOError io_faults.Link) h = (h.0, setups_until w.setup_limit old.counts u.counts v.counts h.1 later.counts)
+    because_on w command avoids (errors.DataTransferError transfer.Setup) h =
+        (h.0, setups_until w.setup_limit old.counts u.counts v.counts h.1 later.counts)
     because_on w command avoids (errors.InvalidArgument args.State) h = h
     because_on w command avoids (errors.UnsupportedFeature features.Encryption) h = h
     because_on w command avoids e h = h

@@ -119,7 +119,7 @@ module _ (command : Command) (sends : Sends command) (old new : Shown) (session 
       touches limit
       (λ state ready o.
       cause_sending path command sends old new (world_at session old) state called (done state o) (sizes_of writer)
-      (ap (λ (r : RebuildSettings). r.rebuild_limit) (before.sized path writer here).rebuilding)
+      (ap (λ (r : RebuildSettings). r.rebuild_limit) (before.sized path writer here).rebuilding) (before.sized path writer here).setups
       (ap (λ (r : RebuildSettings). r.replace.best_effort) (before.sized path writer here).rebuilding) (replaces_at state o) error tells (causes_at error causes o.picture o.file.content.bytes o.told o.file.carries))
 
   -- a write of bytes that are to be encrypted

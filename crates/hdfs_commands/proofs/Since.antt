@@ -15,7 +15,7 @@ use Rattle.hdfs_cluster.specs.Failures.{ANamenode, failure_of}
 use Rattle.hdfs_cluster.specs.Files.{State}
 use Rattle.hdfs_cluster.specs.Shown.{Shown}
 use Rattle.hdfs_model.specs.Steps.{World, target_of}
-use Rattle.hdfs_cluster.proofs.Failures.{each_rose, failed_since, one_rose}
+use Rattle.hdfs_cluster.proofs.Failures.{each_rose, failed_since, one_rose, setups_since}
 use Rattle.hdfs_cluster.proofs.Frames.{never_fall_refl, rose_since}
 use Rattle.hdfs_file_writer.proofs.Joining.{help_since}
 
@@ -61,7 +61,9 @@ module _ (old middle new : Shown) (before : NeverFall old.counts middle.counts) 
   because_since w state command (errors.DataTransferError (transfer.RebuildLimit rebuilds)) h = (h.0, h.1, some_since (target_of w command) h.2)
   because_since w state command (errors.AlreadyExists message) h = ⊎_elim (λ is. inl is) (λ rose. inr (failed_since old middle new ANamenode before rose)) h
   because_since w state command (errors.RPCError class message) h = ⊎_elim (λ is. inl is) (λ rose. inr (failed_since old middle new ANamenode before rose)) h
-  because_since w state command (errors.IOError io_faults.Link) h = h
+  because_since w state command (errors.IOError io_faults.Link) h = (h.0, setups_since w.setup_limit old.counts middle.counts new.counts before h.1)
+  because_since w state command (errors.DataTransferError transfer.Setup) h =
+      (h.0, setups_since w.setup_limit old.counts middle.counts new.counts before h.1)
   because_since w state command (errors.InvalidArgument args.State) h = h
   because_since w state command (errors.UnsupportedFeature features.Encryption) h = h
   because_since w state command e h = h

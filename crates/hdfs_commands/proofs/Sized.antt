@@ -62,6 +62,7 @@ module _ (session session' : Session) (remembers : Remembers session session') w
     known = sized.known;
     is_known = remembers.known sized.known sized.is_known;
     rebuilding = ap (λ (s : WriteSizes). s.rebuilding) same ∙ sized.rebuilding ∙ ap rebuilding_by (sym remembers.settings);
+    setups = ap (λ (s : WriteSizes). s.setup_limit) same ∙ sized.setups ∙ ap (λ (s : Settings). s.setup_limit) (sym remembers.settings);
     chunk = ap (λ (s : WriteSizes). s.chunk) same ∙ sized.chunk;
     packet_size = ap (λ (s : WriteSizes). s.packet_size) same ∙ sized.packet_size;
     encrypted = ap (λ (s : WriteSizes). s.encrypted) same ∙ sized.encrypted;
@@ -70,7 +71,7 @@ module _ (session session' : Session) (remembers : Remembers session session') w
   -- it gives a file the sizes that it gave it
   pub sizes_still : (d : ServerDefaults) (replication block_size : ℕ) → sizes_by session' d replication block_size ≡ sizes_by session d replication block_size
   sizes_still d replication block_size =
-      ap (λ (x : RebuildSettings). record (sizes_by session d replication block_size) { rebuilding = x }) (ap rebuilding_by remembers.settings)
+      ap (λ (s : Settings). record (sizes_by session d replication block_size) { rebuilding = rebuilding_by s; setup_limit = s.setup_limit }) remembers.settings
 
   -- so is a new one, which was given them
   pub sized_by : (d : ServerDefaults) (writer : FileWriter) (replication block_size : ℕ)
@@ -79,6 +80,7 @@ module _ (session session' : Session) (remembers : Remembers session session') w
     known = d;
     is_known = knows;
     rebuilding = ap (λ (s : WriteSizes). s.rebuilding) sizes ∙ ap rebuilding_by (sym remembers.settings);
+    setups = ap (λ (s : WriteSizes). s.setup_limit) sizes ∙ ap (λ (s : Settings). s.setup_limit) (sym remembers.settings);
     chunk = ap (λ (s : WriteSizes). s.chunk) sizes;
     packet_size = ap (λ (s : WriteSizes). s.packet_size) sizes;
     encrypted = ap (λ (s : WriteSizes). s.encrypted) sizes;

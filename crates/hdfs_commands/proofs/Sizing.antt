@@ -47,7 +47,9 @@ module _ (session : Session) (d : ServerDefaults) (settings : are_settings sessi
   pub are_packets_by : (replication block_size : ℕ) → ArePackets (sizes_by session d replication block_size)
   are_packets_by replication block_size =
       let w = session.settings.window in
-      let parts = and_parts (begins_with_slash session.settings.home && is_small session.settings.rebuild_limit) (is_small w) settings in
+      let all = and_parts (begins_with_slash session.settings.home && is_small session.settings.rebuild_limit && is_small w)
+      (nat_le session.settings.setup_limit 100) settings in
+      let parts = and_parts (begins_with_slash session.settings.home && is_small session.settings.rebuild_limit) (is_small w) all.0 in
       let both = and_parts (nat_le 1 w) (nat_le w 1000) parts.1 in
       record {
         packet = packet_sizes d.bytes_per_checksum d.write_packet_size (and_parts (is_replication d.replication && is_block_size d.block_size) (are_sizes d.bytes_per_checksum d.write_packet_size) defaults).1;

@@ -10,7 +10,8 @@ use Rattle.hdfs_cluster.specs.Files.{State, IsState, IsTree, Node, Dir, Writing,
 use Rattle.hdfs_names.specs.Paths.{ancestors, is_path}
 use Rattle.hdfs_cluster.specs.Refusals.{append_refusal, create_refusal, open_refusal}
 use Rattle.hdfs_model.specs.Steps.{with_writing}
-use Rattle.hdfs_commands.proofs.Planting.{any_contains, nothing_refuses, tree_with_new}
+use Rattle.hdfs_model.proofs.Planted.{any_contains, tree_with_new}
+use Rattle.hdfs_commands.proofs.Planting.{nothing_refuses}
 
 -- What stands at a path and above it lets a file be opened there to be written.
 pub record IsClear (kinds : List ℕ → Option Kind) (path : List ℕ) : Type 0 where
@@ -50,7 +51,7 @@ module _ (state : State) (path : List ℕ) (content : Content) where
   -- it is a state
   pub state_with_writing : IsState state → is_path path ≡ true → IsClear (kinds_of state.files) path → IsState (with_writing state path content)
   state_with_writing is named clear = record {
-    tree = tree_with_new (kinds_of state.files) (kinds_of (with_writing state path content).files) path is.tree named clear.above clear.free
+    tree = tree_with_new (kinds_of state.files) (kinds_of (with_writing state path content).files) path OpenFile is.tree named clear.above (λ dir. absurd (clear.free dir))
         (λ r. kind_at (bytes_eq path r) (list_any (bytes_eq r) (ancestors path)) (state.files r));
     listed = λ r there. listed_at r (bytes_eq path r) (list_any (bytes_eq r) (ancestors path)) (bytes_eq-Decides path r).0 (any_contains (ancestors path) r) (is.listed r) there;
   }

@@ -7,7 +7,7 @@ use Rattle.hdfs_cluster.specs.declared.errors.Feature.TheVariants as features
 use Rattle.hdfs_cluster.specs.declared.errors.IoFault.TheVariants as io_faults
 use Rattle.hdfs_cluster.specs.declared.errors.TransferFault.TheVariants as transfer
 use Rattle.hdfs_cluster.specs.Lost.{PipelineFailed, SomeListedFailed}
-use Rattle.hdfs_cluster.specs.Failures.{MayReplace}
+use Rattle.hdfs_cluster.specs.Failures.{MayReplace, SetupsFailed}
 use Rattle.hdfs_model.specs.Causes.{IsClose, IsDone, CanEnd, ReplacesAt, Sends, Tells, IsEarly, Because, Cause}
 use Rattle.hdfs_cluster.specs.Files.{State}
 use Rattle.hdfs_model.specs.Sessions.{is_before_asking}
@@ -80,10 +80,14 @@ module _ (path : List ℕ) where
 
     -- and it has its cause, where the step is done, and pipelines are rebuilt as the world has it
     module _ (old new : Shown) (world : World) (state : State) (called : target_of world command ≡ path) (done : IsDone (step world state command)) (sizes : WriteSizes)
-        (limit : sizes.rebuilding.rebuild_limit ≡ world.rebuild_limit) (effort : sizes.rebuilding.replace.best_effort ≡ world.best_effort)
+        (limit : sizes.rebuilding.rebuild_limit ≡ world.rebuild_limit) (setups : sizes.setup_limit ≡ world.setup_limit) (effort : sizes.rebuilding.replace.best_effort ≡ world.best_effort)
         (replaces : MayReplace sizes.rebuilding.replace.policy sizes.replication → ReplacesAt world state path) where
+      tried : SetupsFailed sizes.setup_limit old.counts new.counts → SetupsFailed world.setup_limit old.counts new.counts
+      tried h = subst (λ (n : ℕ). SetupsFailed n old.counts new.counts) setups h
+
       because_sending : (error : HdfsError) → IsOfClose path error → CauseOfWrite sizes path old new error → Because world state command old new error
-      because_sending (errors.IOError io_faults.Link) of cause = done
+      because_sending (errors.IOError io_faults.Link) of cause = (done, tried cause)
+      because_sending (errors.DataTransferError transfer.Setup) of cause = (done, tried cause)
       because_sending (errors.DataTransferError (transfer.Read byte)) of cause = absurd of
       because_sending (errors.DataTransferError transfer.AllNodes) of cause = (done, subst (PipelineFailed old.counts new) (sym called) cause)
       because_sending (errors.DataTransferError transfer.NoReplacement) of cause = (

@@ -59,5 +59,6 @@ sizes_by session defaults replication block_size = record {
   chunk = defaults.bytes_per_checksum;
   packet_size = defaults.write_packet_size;
   rebuilding = rebuilding_by (settings_of session);
+  setup_limit = (settings_of session).setup_limit;
   encrypted = defaults.encrypt_data_transfer;
 }

@@ -72,12 +72,13 @@ after session (Err error) = record session { failed = true }
 abbrev pub rebuilding_by : Settings → RebuildSettings
 rebuilding_by settings = record { window = settings.window; rebuild_limit = settings.rebuild_limit; replace = settings.replace }
 
--- A writer rebuilds pipelines as the session's settings say, has the sizes of packets of the cluster's defaults, which the session knows,
--- and goes by them on whether data is to be encrypted.
+-- A writer sets up and rebuilds pipelines as the session's settings say, has the sizes of packets of the cluster's defaults, which the session
+-- knows, and goes by them on whether data is to be encrypted.
 pub record IsSized (session : Session) (writer : FileWriter) : Type 0 where
   pub known : ServerDefaults
   pub is_known : defaults_known session ≡ Some known
   pub rebuilding : (files.sizes_of writer).rebuilding ≡ rebuilding_by session.settings
+  pub setups : (files.sizes_of writer).setup_limit ≡ session.settings.setup_limit
   pub chunk : (files.sizes_of writer).chunk ≡ known.bytes_per_checksum
   pub packet_size : (files.sizes_of writer).packet_size ≡ known.write_packet_size
   pub encrypted : (files.sizes_of writer).encrypted ≡ known.encrypt_data_transfer

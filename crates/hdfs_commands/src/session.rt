@@ -218,6 +218,7 @@ fn copy_settings(alloc: Global, settings: &Settings) -> Result<Settings, HdfsErr
         client: settings.client,
         replace: settings.replace,
         rebuild_limit: settings.rebuild_limit,
+        setup_limit: settings.setup_limit,
         window: settings.window,
     })
 }

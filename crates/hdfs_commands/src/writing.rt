@@ -119,6 +119,7 @@ impl Session {
                 rebuild_limit: self.settings.rebuild_limit,
                 replace: self.settings.replace,
             },
+            setup_limit: self.settings.setup_limit,
             encrypted: defaults.encrypt_data_transfer,
         }
     }

@@ -24,6 +24,7 @@ pub fn settings(alloc: Global) -> Result<Settings, NoMemory> {
         replace: ReplaceDatanodeOnFailure::new(Policy::Default, false),
         rebuild_limit: 8,
         window: 100,
+        setup_limit: 3,
     })
 }
 

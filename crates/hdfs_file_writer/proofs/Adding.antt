@@ -3,6 +3,7 @@ use Rattle.std.proofs.Common.{◌≡◌, ◌≢◌, ⊎_elim, ℕ, ◌+◌, ◌<
 use Rattle.std.proofs.lemmas.List.{append-nil, length-append, get_or-append-add, get_or_append_left, get_or_default}
 use Rattle.std.specs.Prelude.{Contains, slice_index_or, IsSome, option_map}
 use Rattle.hdfs_cluster.specs.declared.messages.Block.{Block}
+use Rattle.hdfs_cluster.specs.declared.messages.DatanodeInfo.{DatanodeInfo}
 use Rattle.hdfs_cluster.specs.declared.messages.LocatedBlock.{LocatedBlock}
 use Rattle.hdfs_cluster.specs.declared.picture.BlockEntry.{BlockEntry}
 use Rattle.hdfs_cluster.specs.declared.picture.Entry.TheVariants as entries
@@ -42,7 +43,7 @@ named_after p q path file table changes =
     changes.names path ∙ ⊎_elim (λ here. here.1) (λ away. absurd (away.0 refl)) (at_path path path (Some (entries.File file)) (p.names path))
 
 -- a file whose blocks store its bytes has a new one behind them, which stores none
-module _ (p q : Picture) (sound : IsSound p) (path : List ℕ) (file : FileEntry) (is : IsFileAt p path file) (previous : Option Block) (bytes : List ℕ) (found : LocatedBlock) (added : AddsNew path file previous found p q)
+module _ (p q : Picture) (sound : IsSound p) (path : List ℕ) (file : FileEntry) (is : IsFileAt p path file) (previous : Option Block) (bytes : List ℕ) {excludes : List DatanodeInfo} (found : LocatedBlock) (added : AddsNew path file previous excludes found p q)
     (stored : ((other : ℕ) → Contains file.blocks other → q.table other ≡ with_length p.table previous other) → StoresBlocks q file.blocks bytes) where
   abbrev pub grown_file : FileEntry
   grown_file = record file { blocks = file.blocks ++ added.id ∷ [] }
@@ -96,7 +97,7 @@ module _ (p q : Picture) (sound : IsSound p) (path : List ℕ) (file : FileEntry
   first_retried last again = absurd (omega (arith, ap length (sym again.last ∙ none), length-append again.front (last ∷ [])))
 
   -- is a new one
-  pub first_new : (found : LocatedBlock) → AddsBlock path file None found p q → AddsNew path file None found p q
+  pub first_new : {excludes : List DatanodeInfo} (found : LocatedBlock) → AddsBlock path file None excludes found p q → AddsNew path file None excludes found p q
   first_new found adds = ⊎_elim (λ again. absurd (first_retried again.id again.retried)) (λ added. added) adds
 
   pub first_stored : (bytes : List ℕ) → bytes ≡ [] → ((other : ℕ) → Contains file.blocks other → q.table other ≡ with_length p.table None other) → StoresBlocks q file.blocks bytes
@@ -154,5 +155,6 @@ module _ (p q : Picture) (sound : IsSound p) (path : List ℕ) (file : FileEntry
       let there : Contains again.front block.block_id = subst (λ (l : List ℕ). Contains l block.block_id) (sym again.behind.1) (contains_last again.behind.0 block.block_id) in
       not_twice p sound path file is again.front last again.last block.block_id there (named ∙ sym same)
 
-  pub behind_new : (found : LocatedBlock) → AddsBlock path file (Some block) found p q → AddsNew path file (Some block) found p q
+  pub behind_new : {excludes : List DatanodeInfo} (found : LocatedBlock) → AddsBlock path file (Some block) excludes found p q
+      → AddsNew path file (Some block) excludes found p q
   behind_new found adds = ⊎_elim (λ again. absurd (never_again again.id again.retried)) (λ added. added) adds

@@ -6,10 +6,11 @@ use Rattle.hdfs_cluster.specs.declared.asks.Answer.{Answer}
 use Rattle.hdfs_cluster.specs.declared.asks.Ask.{Ask}
 use Rattle.hdfs_cluster.specs.declared.messages.Block.{Block}
 use Rattle.hdfs_cluster.specs.declared.messages.LocatedBlock.{LocatedBlock}
-use Rattle.hdfs_cluster.specs.Requests.{AsFirst, IsAnsweredBlock, IsAnsweredId, IsAnsweredLast, IsAnsweredLocated, IsReopened, LetsGoOn, LetsWriteBlock, LetsWriteBlocks, Request}
+use Rattle.hdfs_cluster.specs.Requests.{AsFirst, IsFirstSetup, IsAnsweredBlock, IsAnsweredId, IsAnsweredLast, IsAnsweredLocated, IsReopened, LetsGoOn, LetsWriteBlock, LetsWriteBlocks, Request}
 use Rattle.hdfs_cluster.specs.Shown.{Shown}
 use Rattle.hdfs_block_writer.specs.BlockWriters.{MayGoOn, link_in, link_of}
 use Rattle.hdfs_block_writer.specs.OpenPipelines.{KeepsBlock}
+use Rattle.hdfs_block_writer.specs.Packing.{setup_of}
 use Rattle.hdfs_block_writer.specs.Written.{ClosesAnswered, GoesOnAnswered, IsNew, PipelineStays}
 use Rattle.hdfs_block_writer.specs.declared.block_writer.BlockWriter.{BlockWriter}
 use Rattle.hdfs_block_writer.proofs.Sent.{pipe_of}
@@ -19,7 +20,7 @@ use Rattle.hdfs_rebuild.specs.declared.block_plan.BlockPlan.{BlockPlan}
 use Rattle.hdfs_rebuild.specs.declared.block_plan.RebuildSettings.{RebuildSettings}
 use Rattle.hdfs_file_writer.specs.declared.file_writer.FileWriter.{FileWriter}
 use Rattle.hdfs_file_writer.specs.declared.sizes.WriteSizes.{WriteSizes}
-use Rattle.hdfs_file_writer.specs.Writers.{BlockStands, IsAnswered, IsAnsweredPlan, IsAnsweredTail, Keeps, tail_by, tail_done}
+use Rattle.hdfs_file_writer.specs.Writers.{BlockStands, IsAnswered, IsAnsweredPlan, IsAnsweredTail, Keeps, plan_of, tail_by, tail_done}
 
 -- the block of a writer of a block was answered
 abbrev pub IsAnsweredPipe : (Ask → Answer → Type 0) → List ℕ → List ℕ → Option ℕ → BlockWriter → Type 0
@@ -148,3 +149,9 @@ pub answered_failed : {may_answer : Ask → Answer → Type 0} {client : List �
     → w'.failed ≡ true → IsAnswered may_answer client w → IsAnswered may_answer client w'
 answered_failed w w' keeps none done failed answered =
     answered_idle w w' keeps none done answered (λ fine. absurd (false≢true (sym fine ∙ failed)))
+
+-- the first pipeline of a writer's block is set up as the block was answered
+pub first_setup : (w : FileWriter) (located : LocatedBlock) (created : Bool) (client : List ℕ)
+    → IsFirstSetup created located client (setup_of (plan_of w located created) client)
+first_setup w located created client =
+    record { block = refl; stage = refl; nodes = refl; types = refl; ids = refl; stamp = refl; bytes = (refl, refl); token = refl; named = refl }

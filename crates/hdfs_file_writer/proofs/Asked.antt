@@ -25,20 +25,20 @@ module _ (risen : Type 0) (src client : List ℕ) (previous : Option Block) (exc
   abbrev adding : Ask
   adding = asks.AddBlock src client previous excludes id
 
-  adds_by : (found : LocatedBlock) → Row p adding (answers.AddBlock found) q → AddsBlock src file previous found p q
-  adds_by found row = subst (λ (f : FileEntry). AddsBlock src f previous found p q) (same_file_at p src row.0 file row.1 is) row.2
+  adds_by : (found : LocatedBlock) → Row p adding (answers.AddBlock found) q → AddsBlock src file previous excludes found p q
+  adds_by found row = subst (λ (f : FileEntry). AddsBlock src f previous excludes found p q) (same_file_at p src row.0 file row.1 is) row.2
 
   -- a block that was answered was added
-  pub added : (found : LocatedBlock) → RelaysTold risen p adding (Ok (answers.AddBlock found)) q → AddsBlock src file previous found p q
+  pub added : (found : LocatedBlock) → RelaysTold risen p adding (Ok (answers.AddBlock found)) q → AddsBlock src file previous excludes found p q
   added found told = adds_by found (relayed_row risen p adding (answers.AddBlock found) q (λ same. absurd (cc same)) (λ same. absurd (cc same)) told)
 
-  may_be_added : DoneOrNot adding p q → SameButActive p q ⊎ ((found : LocatedBlock) × AddsBlock src file previous found p q)
+  may_be_added : DoneOrNot adding p q → SameButActive p q ⊎ ((found : LocatedBlock) × AddsBlock src file previous excludes found p q)
   may_be_added (inl same) = inl same
   may_be_added (inr (answers.AddBlock found, shaped, row)) = inr (found, adds_by found row)
   may_be_added (inr (answer, shaped, row)) = absurd row
 
   -- one that wasn't answered may have been
-  pub not_added : (error : HdfsError) → RelaysTold risen p adding (Err error) q → SameButActive p q ⊎ ((found : LocatedBlock) × AddsBlock src file previous found p q)
+  pub not_added : (error : HdfsError) → RelaysTold risen p adding (Err error) q → SameButActive p q ⊎ ((found : LocatedBlock) × AddsBlock src file previous excludes found p q)
   not_added error told = may_be_added (relayed_done risen p adding (Err error) q tt told)
 
   -- and an error that is no want of memory comes only where a namenode has failed

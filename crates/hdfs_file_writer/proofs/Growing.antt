@@ -81,7 +81,8 @@ longer_by p q path file file' id named named' more =
     omega (arith, before, after, ap length more, length-append file.blocks (id ∷ []))
 
 -- a block more
-pub grows : (p q : Picture) → IsSound p → (path : List ℕ) (last : Option Block) (bytes : List ℕ) (c : FileCarries p path (tail_done last) bytes) (found : LocatedBlock) → AddsBlock path c.file last found p q → Grown p path bytes found q
+pub grows : (p q : Picture) → IsSound p → (path : List ℕ) (last : Option Block) (bytes : List ℕ) (c : FileCarries p path (tail_done last) bytes) {excludes : List DatanodeInfo} (found : LocatedBlock)
+    → AddsBlock path c.file last excludes found p q → Grown p path bytes found q
 grows p q sound path None bytes c found adds =
     let new = adding.first_new p q sound path c.file c.named c.carries.0 found adds in
     let stored = adding.first_stored p q sound path c.file c.named c.carries.0 bytes c.carries.1 in record {

@@ -5,6 +5,7 @@ use Rattle.hdfs_cluster.specs.declared.attributes.Attributes.{Attributes}
 use Rattle.hdfs_cluster.specs.declared.errors.HdfsError.{HdfsError}
 use Rattle.hdfs_cluster.specs.declared.errors.HdfsError.TheVariants as errors
 use Rattle.hdfs_cluster.specs.declared.errors.Feature.TheVariants as features
+use Rattle.hdfs_cluster.specs.declared.errors.IoFault.TheVariants as io_faults
 use Rattle.hdfs_cluster.specs.declared.errors.TransferFault.TheVariants as transfer
 use Rattle.hdfs_cluster.specs.declared.picture.FileEntry.{FileEntry}
 use Rattle.hdfs_cluster.specs.Failures.{CallsRose, ANamenode, TheLinks}
@@ -16,7 +17,7 @@ use Rattle.hdfs_cluster.specs.Picture.{Picture}
 use Rattle.hdfs_cluster.specs.Shown.{SameNodes, Shown, Later}
 use Rattle.hdfs_cluster.specs.Sound.{IsFileAt}
 use Rattle.hdfs_cluster.specs.Stores.{AgreesAt}
-use Rattle.hdfs_cluster.proofs.Failures.{each_rose, failed_since, means_since, one_rose}
+use Rattle.hdfs_cluster.proofs.Failures.{each_rose, failed_since, means_since, one_rose, setups_since}
 use Rattle.hdfs_cluster.proofs.Frames.{never_fall_refl}
 use Rattle.hdfs_file_writer.specs.declared.file_writer.FileWriter.{FileWriter}
 use Rattle.hdfs_file_writer.specs.declared.sizes.WriteSizes.{WriteSizes}
@@ -86,6 +87,10 @@ help_since a b c fall (inr calls) = inr (failed_since a b c ANamenode fall calls
 
 pub cause_since : (sizes : WriteSizes) (path : List ℕ) (a b c : Shown) (e : HdfsError) → Later a b → CauseOfWrite sizes path b c e
     → CauseOfWrite sizes path a c e
+cause_since sizes path a b c (errors.IOError io_faults.Link) later h =
+    setups_since sizes.setup_limit a.counts b.counts c.counts later.counts h
+cause_since sizes path a b c (errors.DataTransferError transfer.Setup) later h =
+    setups_since sizes.setup_limit a.counts b.counts c.counts later.counts h
 cause_since sizes path a b c (errors.DataTransferError transfer.AllNodes) later h = all_since path a b c later h
 cause_since sizes path a b c (errors.DataTransferError transfer.NoReplacement) later h =
     (h.0, help_since a b c later.counts h.1, some_since path a b c later h.2, h.3)

@@ -11,6 +11,7 @@ pub mod Asked
 pub mod Beside
 pub mod Blocks
 pub mod Growing
+pub mod GivingBack
 pub mod Filling
 pub mod Completing
 pub mod Steps
@@ -18,6 +19,7 @@ pub mod Times
 pub mod Joining
 pub mod Closing
 pub mod Standing
+pub mod Tried
 pub mod Reopening
 pub mod Creating
 pub mod WholeBlocks

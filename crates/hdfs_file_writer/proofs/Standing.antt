@@ -1,5 +1,5 @@
 -- How a writer of a file stands behind each step, and what the step has done.
-use Rattle.std.proofs.Common.{◌≡◌, ⊎_elim, ℕ, ◌<◌, ◌≤◌, min, Bool, true, false, List, [], Option, Some, None, IsSome, refl, sym, ◌∙◌, ap, subst, arith}
+use Rattle.std.proofs.Common.{◌≡◌, inl, inr, ⊎_elim, ℕ, ◌<◌, ◌≤◌, min, Bool, true, false, List, [], Option, Some, None, IsSome, refl, sym, ◌∙◌, ap, subst, arith}
 use Rattle.std.proofs.lemmas.Bool.{cases_lt, false≢true}
 use Rattle.std.specs.Prelude.{Ok, Err, IfSome}
 use Rattle.hdfs_cluster.specs.declared.asks.Answer.TheVariants as answers
@@ -8,8 +8,10 @@ use Rattle.hdfs_cluster.specs.declared.asks.LinkFault.{LinkFault}
 use Rattle.hdfs_cluster.specs.declared.errors.HdfsError.{HdfsError}
 use Rattle.hdfs_cluster.specs.declared.errors.HdfsError.TheVariants as errors
 use Rattle.hdfs_cluster.specs.declared.messages.Block.{Block}
+use Rattle.hdfs_cluster.specs.declared.messages.DatanodeInfo.{DatanodeInfo}
 use Rattle.hdfs_cluster.specs.declared.messages.LocatedBlock.{LocatedBlock}
 use Rattle.hdfs_cluster.specs.declared.messages.Setup.{Setup}
+use Rattle.hdfs_cluster.specs.Failures.{SetupsFailed}
 use Rattle.hdfs_cluster.specs.Namenode.{IsToWrite}
 use Rattle.hdfs_cluster.specs.Pipes.{WriteNotOpened}
 use Rattle.hdfs_cluster.specs.Shown.{SameNodes, Shown}
@@ -26,14 +28,15 @@ use Rattle.hdfs_block_writer.specs.Written.{Closes, GaveUp, IsCarrying, OpensNon
 use Rattle.hdfs_block_writer.proofs.Wrote.{pipe_is}
 use Rattle.hdfs_file_writer.specs.declared.file_writer.FileWriter.{FileWriter}
 use Rattle.hdfs_file_writer.specs.declared.sizes.WriteSizes.{WriteSizes}
-use Rattle.hdfs_file_writer.specs.Faults.{error_of}
+use Rattle.hdfs_file_writer.specs.Faults.{error_of, is_of_setup}
 use Rattle.hdfs_file_writer.specs.Tails.{IsFull}
 use Rattle.hdfs_file_writer.specs.Writers.{AreLimited, ArePackets, AreSizes, plan_of, link_of, link_by, tail_by, tail_of, Keeps, Stands, IsBetweenBlocks, HasRoom, BlockStands, IsPlanOf, OnlyOwnLink, Wrote, Adds, FailsOtherwise, rebuilds_by}
 use Rattle.hdfs_namenode.specs.Relaying.{Came}
-use Rattle.hdfs_file_writer.proofs.Moving.{own_link_refl, own_link_left, own_link_opened, own_link_unopened, only_file_refl}
+use Rattle.hdfs_file_writer.proofs.Joining.{fails_after}
+use Rattle.hdfs_file_writer.proofs.Moving.{own_link_refl, own_link_left, own_link_opened, own_link_trans, own_link_unopened, only_file_refl}
 use Rattle.hdfs_file_writer.proofs.Placing.{some_none}
-use Rattle.hdfs_file_writer.proofs.Steps.{Shows, ended_carries, gave_up_touches, gave_up_cause, unopened_cause, wrote_carries, added_carries, opened_carries, settled_carries, unopened_touches, unopened_tells, unopened_apart, unanswered_touches, unanswered_rose}
-use Rattle.hdfs_file_writer.proofs.Tallying.{limit_given_up, no_limit, rebuilds_new, tallies_anew, tallies_more, unopened_no_limit}
+use Rattle.hdfs_file_writer.proofs.Steps.{Shows, ended_carries, gave_up_touches, gave_up_cause, unopened_cause, wrote_carries, added_carries, opened_carries, settled_carries, touches_behind, unopened_touches, unopened_tells, unopened_apart, unanswered_touches, unanswered_rose}
+use Rattle.hdfs_file_writer.proofs.Tallying.{limit_behind, limit_given_up, no_limit, rebuilds_new, tallies_anew, tallies_more, unopened_no_limit}
 use Rattle.hdfs_file_writer.proofs.Telling.{tells_asked, apart_asked, tells_fault, apart_fault, asked_cause}
 
 -- there was no memory before anything was done
@@ -157,22 +160,24 @@ module _ (a b : Shown) (sound : Shows IsSound a) (sound' : Shows IsSound b) (w :
     done = λ fine'' none. absurd (cc (none, going'));
   }
 
-idle_own : (a x : Shown) (w : FileWriter) (y : Option ℕ) → w.going ≡ None → OnlyOwnLink a None x y → OnlyOwnLink a (link_of w) x y
+pub idle_own : (a x : Shown) (w : FileWriter) (y : Option ℕ) → w.going ≡ None → OnlyOwnLink a None x y → OnlyOwnLink a (link_of w) x y
 idle_own a x w y none own = subst (λ (g : Option BlockWriter). OnlyOwnLink a (link_by g) x y) (sym none) own
 
 -- a writer of a file that asks for a block
-module _ (a m : Shown) (sound : Shows IsSound a) (w : FileWriter) (between : IsBetweenBlocks w) (client : List ℕ) where
-  added_wrote : (found : LocatedBlock) → found.b.num_bytes ≡ 0 → IsFull w.sizes.block_size (tail_of w) → Came a (asks.AddBlock w.path client w.last [] w.file_id) (Ok (answers.AddBlock found)) m → Wrote a w [] m (record w { going = None; reopened = Some found })
+module _ (a m : Shown) (sound : Shows IsSound a) (w : FileWriter) (between : IsBetweenBlocks w) (client : List ℕ) (excluded : List DatanodeInfo) where
+  added_wrote : (found : LocatedBlock) → found.b.num_bytes ≡ 0 → IsFull w.sizes.block_size (tail_of w) → Came a (asks.AddBlock w.path client w.last excluded w.file_id) (Ok (answers.AddBlock found)) m → Wrote a w [] m (record w { going = None; reopened = Some found })
   added_wrote found empty full came = record {
     keeps = record { path = refl; file_id = refl; sizes = refl };
     own = idle_own a m w None between.none (own_link_left a m None came.relays.leaves);
     tallies = tallies_anew a m w (record w { going = None; reopened = Some found }) refl came.relays.leaves.later;
-    carries = added_carries a m sound w between client found empty full came;
+    carries = added_carries a m sound w between client excluded found empty full came;
   }
 
   -- it has one more
-  pub answered_adds : (found : LocatedBlock) → IsFull w.sizes.block_size (tail_of w) → Came a (asks.AddBlock w.path client w.last [] w.file_id) (Ok (answers.AddBlock found)) m → Adds a w found m
+  pub answered_adds : (found : LocatedBlock) → IsFull w.sizes.block_size (tail_of w) → Came a (asks.AddBlock w.path client w.last excluded w.file_id) (Ok (answers.AddBlock found)) m
+      → Adds client excluded a w found m
   answered_adds found full came = record {
+    came = came;
     block = came.relays.shaped.0;
     empty = came.relays.shaped.1;
     nodes = came.relays.leaves.nodes;
@@ -181,16 +186,16 @@ module _ (a m : Shown) (sound : Shows IsSound a) (w : FileWriter) (between : IsB
   }
 
   -- or there was no answer
-  pub unanswered_fails : (error : HdfsError) → Came a (asks.AddBlock w.path client w.last [] w.file_id) (Err error) m → FailsOtherwise a w error m
+  pub unanswered_fails : (error : HdfsError) → Came a (asks.AddBlock w.path client w.last excluded w.file_id) (Err error) m → FailsOtherwise a w error m
   unanswered_fails error came = record {
     fails = record {
       own = idle_own a m w None between.none (own_link_left a m None came.relays.leaves);
       tells = tells_asked a m error came.relays.tells;
       limit = λ start n is fails. absurd (no_limit came.relays.tells.0 is);
       refused = λ refusal. absurd (apart_asked error came.relays.tells.0 refusal);
-      touches = unanswered_touches a m sound w between client error came;
+      touches = unanswered_touches a m sound w between client excluded error came;
       cause = λ p bytes told c.
-          asked_cause w.sizes w.path a a m error came.relays.tells (λ some. unanswered_rose a m sound w between client error some came p bytes told c);
+          asked_cause w.sizes w.path a a m error came.relays.tells (λ some. unanswered_rose a m sound w between client excluded error some came p bytes told c);
     };
     apart = apart_asked error came.relays.tells.0;
   }
@@ -208,26 +213,34 @@ module _ (m b : Shown) (w : FileWriter) (found : LocatedBlock) (none : w.going �
     carries = opened_carries m b w found none reopened w' block created settings size packet setup going' new opens begins;
   }
 
-  not_opened_fails : (setup : Setup) (fault : LinkFault) → WriteNotOpened m setup fault b → FailsOtherwise m w (error_of (fault_of fault)) b
-  not_opened_fails setup fault not_opened = record {
-    fails = record {
-      own = idle_own m b w None none (own_link_unopened m b setup fault None not_opened);
-      tells = unopened_tells m b w found none reopened setup fault not_opened;
-      limit = λ start n is fails. absurd (unopened_no_limit fault n is);
-      refused = λ refusal. absurd (unopened_apart fault refusal);
-      touches = unopened_touches m b w found none reopened setup fault not_opened;
-      cause = λ p bytes told c. unopened_cause w.sizes w.path m b fault;
-    };
-    apart = unopened_apart fault;
-  }
+  -- It isn't set up, behind calls of a writer from which on first pipelines couldn't be.
+  module _ (start : Shown) (x : FileWriter) (wrote : Wrote start x [] m w) (setup : Setup) where
+    not_opened_fails : (fault : LinkFault) → (is_of_setup (fault_of fault) ≡ true → SetupsFailed x.sizes.setup_limit start.counts b.counts)
+        → WriteNotOpened m setup fault b → FailsOtherwise start x (error_of (fault_of fault)) b
+    not_opened_fails fault setups not_opened = record {
+      fails = record {
+        own =
+            own_link_trans start m b (link_of x) (link_of w) None wrote.own
+            (idle_own m b w None none (own_link_unopened m b setup fault None not_opened));
+        tells = unopened_tells x.sizes.setup_limit start b fault setups;
+        limit = limit_behind b (error_of (fault_of fault)) wrote (λ from n is fails. absurd (unopened_no_limit fault n is));
+        refused = λ refusal. absurd (unopened_apart fault refusal);
+        touches =
+            touches_behind start m b x w [] wrote.keeps.path wrote.carries (unopened_touches m b w found none reopened setup fault not_opened);
+        cause = λ p bytes told c. unopened_cause x.sizes x.path start b fault setups;
+      };
+      apart = unopened_apart fault;
+    }
 
-  pub unopened_fails : (setup : Setup) (fault : WriteFault) → OpensNone m setup fault b → FailsOtherwise m w (error_of fault) b
-  unopened_fails setup fault opens = ⊎_elim
-      (λ starved.
-      subst (λ (f : WriteFault). FailsOtherwise m w (error_of f) b) (sym starved.0)
-      (subst (λ (x : Shown). FailsOtherwise m w errors.NoMemory x) (sym starved.1) (starved_fails m w (ap link_by none))))
-      (λ n. subst (λ (f : WriteFault). FailsOtherwise m w (error_of f) b) (sym n.1) (not_opened_fails setup n.0 n.2))
-      opens
+    pub unopened_fails : (fault : WriteFault) → (is_of_setup fault ≡ true → SetupsFailed x.sizes.setup_limit start.counts b.counts)
+        → OpensNone m setup fault b → FailsOtherwise start x (error_of fault) b
+    unopened_fails fault setups (inl (memory, same)) =
+        subst (λ (f : WriteFault). FailsOtherwise start x (error_of f) b) (sym memory)
+        (subst (λ (s : Shown). FailsOtherwise start x errors.NoMemory s) (sym same)
+        (fails_after start m m x w [] errors.NoMemory wrote (starved_fails m w (ap link_by none))))
+    unopened_fails fault setups (inr (why, is, not_opened)) =
+        subst (λ (f : WriteFault). FailsOtherwise start x (error_of f) b) (sym is)
+        (not_opened_fails why (λ of. setups (ap is_of_setup is ∙ of)) not_opened)
 
 -- a block that isn't gone on with is done
 pub settled_wrote : (a : Shown) (w w' : FileWriter) (found : LocatedBlock) → Keeps w w' → w.going ≡ None → w.reopened ≡ Some found → IsBetweenBlocks w' → w'.last ≡ Some found.b → Wrote a w [] a w'

@@ -1,5 +1,5 @@
 -- What each step of a writer of a file comes to.
-use Rattle.std.proofs.Common.{◌≡◌, ⊎_elim, ℕ, ◌+◌, ◌≤◌, Bool, List, [], ◌++◌, length, Option, Some, None, IsSome, refl, sym, ◌∙◌, ap, subst}
+use Rattle.std.proofs.Common.{◌≡◌, ⊎_elim, ℕ, ◌+◌, ◌≤◌, Bool, true, List, [], ◌++◌, length, Option, Some, None, IsSome, refl, sym, ◌∙◌, ap, subst}
 use Rattle.std.proofs.lemmas.List.{append-nil}
 use Rattle.std.specs.Prelude.{Contains, Ok, Err, slice_index_or}
 use Rattle.hdfs_cluster.specs.declared.asks.Answer.TheVariants as answers
@@ -9,10 +9,11 @@ use Rattle.hdfs_cluster.specs.declared.asks.LinkFault.TheVariants as link_faults
 use Rattle.hdfs_cluster.specs.declared.errors.HdfsError.{HdfsError}
 use Rattle.hdfs_cluster.specs.declared.errors.HdfsError.TheVariants as errors
 use Rattle.hdfs_cluster.specs.declared.messages.Block.{Block}
+use Rattle.hdfs_cluster.specs.declared.messages.DatanodeInfo.{DatanodeInfo}
 use Rattle.hdfs_cluster.specs.declared.messages.LocatedBlock.{LocatedBlock}
 use Rattle.hdfs_cluster.specs.declared.messages.Setup.{Setup}
 use Rattle.hdfs_cluster.specs.declared.picture.Entry.{Entry}
-use Rattle.hdfs_cluster.specs.Failures.{CallsRose}
+use Rattle.hdfs_cluster.specs.Failures.{CallsRose, SetupsFailed}
 use Rattle.hdfs_cluster.specs.Effects.{AddsBlock, blocks_at}
 use Rattle.hdfs_cluster.specs.Picture.{Picture, SamePicture}
 use Rattle.hdfs_cluster.specs.Pipes.{WriteNotOpened}
@@ -20,6 +21,7 @@ use Rattle.hdfs_cluster.specs.Sending.{uuids}
 use Rattle.hdfs_cluster.specs.Shown.{Shown}
 use Rattle.hdfs_cluster.specs.Sound.{IsSound}
 use Rattle.hdfs_cluster.specs.Writing.{Starts}
+use Rattle.hdfs_cluster.proofs.Failures.{setup_fails}
 use Rattle.hdfs_cluster.proofs.Frames.{told_after}
 use Rattle.hdfs_block_reader.specs.Carrying.{HoldsWhole}
 use Rattle.hdfs_rebuild.specs.declared.block_plan.BlockPipeline.{BlockPipeline}
@@ -35,7 +37,7 @@ use Rattle.hdfs_block_writer.proofs.Wrote.{pipe_is}
 use Rattle.hdfs_file_writer.specs.declared.file_writer.FileWriter.{FileWriter}
 use Rattle.hdfs_file_writer.specs.declared.sizes.WriteSizes.{WriteSizes}
 use Rattle.hdfs_file_writer.specs.Failing.{TellsWrite, CauseOfWrite, IsNoRefusal}
-use Rattle.hdfs_file_writer.specs.Faults.{error_of}
+use Rattle.hdfs_file_writer.specs.Faults.{error_of, is_of_setup}
 use Rattle.hdfs_file_writer.specs.OnlyFiles.{OnlyFile, SameFile}
 use Rattle.hdfs_file_writer.specs.Tails.{Tail, Finished, Reopened, Going, tail_length, IsFull, FillsBlocks, StoresFront, TailCarries, FileCarries}
 use Rattle.hdfs_file_writer.specs.WholeBlocks.{StaysWhole}
@@ -68,11 +70,19 @@ carries_nothing a writer p bytes told c = (
   stays_unchanged writer.sizes.block_size p (blocks_in p writer) (tail_of writer),
 )
 
--- no fault of a set-up is that of a pipeline
-pub unopened_cause : (sizes : WriteSizes) (path : List ℕ) (a b : Shown) (fault : LinkFault) → CauseOfWrite sizes path a b (error_of (fault_of fault))
-unopened_cause sizes path a b link_faults.NoMemory = tt
-unopened_cause sizes path a b link_faults.Broken = tt
-unopened_cause sizes path a b link_faults.Refused = tt
+-- what a fault of a set-up says has failed, where first pipelines couldn't be set up
+pub unopened_cause : (sizes : WriteSizes) (path : List ℕ) (a b : Shown) (fault : LinkFault)
+    → (is_of_setup (fault_of fault) ≡ true → SetupsFailed sizes.setup_limit a.counts b.counts) → CauseOfWrite sizes path a b (error_of (fault_of fault))
+unopened_cause sizes path a b link_faults.NoMemory setups = tt
+unopened_cause sizes path a b link_faults.Broken setups = setups refl
+unopened_cause sizes path a b link_faults.Refused setups = setups refl
+
+-- as it is told
+pub unopened_tells : (limit : ℕ) (a b : Shown) (fault : LinkFault)
+    → (is_of_setup (fault_of fault) ≡ true → SetupsFailed limit a.counts b.counts) → TellsWrite a b (error_of (fault_of fault))
+unopened_tells limit a b link_faults.NoMemory setups = (tt, (tt, tt))
+unopened_tells limit a b link_faults.Broken setups = (tt, (tt, setup_fails limit a b (setups refl)))
+unopened_tells limit a b link_faults.Refused setups = (tt, (tt, setup_fails limit a b (setups refl)))
 
 -- and none is for encryption
 pub unopened_apart : (fault : LinkFault) → IsNoRefusal (error_of (fault_of fault))
@@ -86,7 +96,8 @@ as_done writer between p path bytes c =
     subst (λ (o : Option LocatedBlock). FileCarries p path (tail_by None o writer.last) bytes) between.done
     (subst (λ (g : Option BlockWriter). FileCarries p path (tail_by g writer.reopened writer.last) bytes) between.none c)
 
-from_done : (p : Picture) (path : List ℕ) (writer : FileWriter) → IsBetweenBlocks writer → (bytes : List ℕ) → FileCarries p path (tail_done writer.last) bytes → FileCarries p path (tail_of writer) bytes
+-- and back
+pub from_done : (p : Picture) (path : List ℕ) (writer : FileWriter) → IsBetweenBlocks writer → (bytes : List ℕ) → FileCarries p path (tail_done writer.last) bytes → FileCarries p path (tail_of writer) bytes
 from_done p path writer between bytes c =
     subst (λ (g : Option BlockWriter). FileCarries p path (tail_by g writer.reopened writer.last) bytes) (sym between.none)
     (subst (λ (o : Option LocatedBlock). FileCarries p path (tail_by None o writer.last) bytes) (sym between.done) c)
@@ -237,21 +248,22 @@ fills_behind p q w between bytes c size full found empty longer =
 
 -- and the blocks before it are whole
 whole_behind : (p q : Picture) → IsSound p → (w : FileWriter) → IsBetweenBlocks w → (bytes : List ℕ) (c : FileCarries p w.path (tail_done w.last) bytes)
-    (size : ℕ) → IsFull size (tail_of w) → (found : LocatedBlock) → AddsBlock w.path c.file w.last found p q
+    (size : ℕ) → IsFull size (tail_of w) → {excludes : List DatanodeInfo} (found : LocatedBlock) → AddsBlock w.path c.file w.last excludes found p q
     → StaysWhole size p (blocks_in p w) (tail_of w) q (blocks_in q w)
 whole_behind p q sound w between bytes c size full found adds =
     subst (λ (l : List ℕ). StaysWhole size p l (tail_of w) q (blocks_in q w)) (sym (ap blocks_at c.named))
     (subst (λ (t : Tail). StaysWhole size p c.file.blocks t q (blocks_in q w)) (sym (tail_between w between))
     (stays_grown p q sound w.path w.last bytes c found adds size (subst (IsFull size) (tail_between w between) full)))
 
-module _ (a m : Shown) (sound : Shows IsSound a) (writer : FileWriter) (between : IsBetweenBlocks writer) (client : List ℕ) where
+module _ (a m : Shown) (sound : Shows IsSound a) (writer : FileWriter) (between : IsBetweenBlocks writer) (client : List ℕ)
+    (excluded : List DatanodeInfo) where
   -- a block was answered, which is to be written
-  pub added_carries : (found : LocatedBlock) → found.b.num_bytes ≡ 0 → IsFull writer.sizes.block_size (tail_of writer) → Came a (asks.AddBlock writer.path client writer.last [] writer.file_id) (Ok (answers.AddBlock found)) m → CarriesMore a writer [] m (record writer { going = None; reopened = Some found })
+  pub added_carries : (found : LocatedBlock) → found.b.num_bytes ≡ 0 → IsFull writer.sizes.block_size (tail_of writer) → Came a (asks.AddBlock writer.path client writer.last excluded writer.file_id) (Ok (answers.AddBlock found)) m → CarriesMore a writer [] m (record writer { going = None; reopened = Some found })
   added_carries found empty full came p bytes told c =
       let c' = as_done writer between p writer.path bytes c in
-      let one = came.told p told (adding_repeats p (sound p told) writer.path writer.last bytes c' client [] writer.file_id) in
+      let one = came.told p told (adding_repeats p (sound p told) writer.path writer.last bytes c' client excluded writer.file_id) in
       let q = one.0 in
-      let adds = added (CallsRose a.counts m) writer.path client writer.last [] writer.file_id p c'.file c'.named q found one.2 in
+      let adds = added (CallsRose a.counts m) writer.path client writer.last excluded writer.file_id p c'.file c'.named q found one.2 in
       let g = grows p q (sound p told) writer.path writer.last bytes c' found adds in (
         q,
         one.1,
@@ -268,24 +280,24 @@ module _ (a m : Shown) (sound : Shows IsSound a) (writer : FileWriter) (between 
       )
 
   -- no block was answered
-  pub unanswered_touches : (error : HdfsError) → Came a (asks.AddBlock writer.path client writer.last [] writer.file_id) (Err error) m → TouchesFile a writer m
+  pub unanswered_touches : (error : HdfsError) → Came a (asks.AddBlock writer.path client writer.last excluded writer.file_id) (Err error) m → TouchesFile a writer m
   unanswered_touches error came p bytes told c =
       let c' = as_done writer between p writer.path bytes c in
-      let one = came.told p told (adding_repeats p (sound p told) writer.path writer.last bytes c' client [] writer.file_id) in (
+      let one = came.told p told (adding_repeats p (sound p told) writer.path writer.last bytes c' client excluded writer.file_id) in (
         one.0,
         one.1,
         ⊎_elim (λ same. only_file_active writer.path p one.0 same)
             (λ found. (grows p one.0 (sound p told) writer.path writer.last bytes c' found.0 found.1).only)
-            (not_added (CallsRose a.counts m) writer.path client writer.last [] writer.file_id p c'.file c'.named one.0 error one.2),
+            (not_added (CallsRose a.counts m) writer.path client writer.last excluded writer.file_id p c'.file c'.named one.0 error one.2),
       )
 
   -- but for want of memory, only where a namenode has failed
-  pub unanswered_rose : (error : HdfsError) → (error ≡ errors.NoMemory → ⊥) → Came a (asks.AddBlock writer.path client writer.last [] writer.file_id) (Err error) m
+  pub unanswered_rose : (error : HdfsError) → (error ≡ errors.NoMemory → ⊥) → Came a (asks.AddBlock writer.path client writer.last excluded writer.file_id) (Err error) m
       → (p : Picture) (bytes : List ℕ) → a.picture ≡ Some p → FileCarries p writer.path (tail_of writer) bytes → CallsRose a.counts m
   unanswered_rose error some came p bytes told c =
       let c' = as_done writer between p writer.path bytes c in
-      let one = came.told p told (adding_repeats p (sound p told) writer.path writer.last bytes c' client [] writer.file_id) in
-      add_rose (CallsRose a.counts m) writer.path client writer.last [] writer.file_id p c'.file c'.named one.0 error some one.2
+      let one = came.told p told (adding_repeats p (sound p told) writer.path writer.last bytes c' client excluded writer.file_id) in
+      add_rose (CallsRose a.counts m) writer.path client writer.last excluded writer.file_id p c'.file c'.named one.0 error some one.2
 
 -- a block that is to be gone on with
 module _ (m b : Shown) (writer : FileWriter) (found : LocatedBlock) (none : writer.going ≡ None) (reopened : writer.reopened ≡ Some found) where
@@ -335,11 +347,6 @@ module _ (m b : Shown) (writer : FileWriter) (found : LocatedBlock) (none : writ
   unopened_touches setup fault not_opened p bytes told c =
       let after = told_after SamePicture m.picture b.picture p not_opened.picture told in
       (after.0, after.1, only_file_active writer.path p after.0 after.2.rest)
-
-  pub unopened_tells : (setup : Setup) (fault : LinkFault) → WriteNotOpened m setup fault b → TellsWrite m b (error_of (fault_of fault))
-  unopened_tells setup link_faults.NoMemory not_opened = (tt, (tt, tt))
-  unopened_tells setup link_faults.Broken not_opened = (tt, (tt, not_opened.cause (λ same. absurd (cc same))))
-  unopened_tells setup link_faults.Refused not_opened = (tt, (tt, not_opened.cause (λ same. absurd (cc same))))
 
 -- a block that isn't gone on with is the last that is done
 pub settled_carries : (a : Shown) (writer writer' : FileWriter) (found : LocatedBlock) → writer.going ≡ None → writer.reopened ≡ Some found → IsBetweenBlocks writer' → writer'.last ≡ Some found.b → CarriesMore a writer [] a writer'

@@ -46,7 +46,8 @@ pub asked_cause : (sizes : WriteSizes) (path : List ℕ) (a b c : Shown) (error 
 asked_cause sizes path a b c errors.NoMemory tells rose = tt
 asked_cause sizes path a b c (errors.AlreadyExists message) tells rose = rose (λ same. absurd (cc same))
 asked_cause sizes path a b c (errors.RPCError class message) tells rose = rose (λ same. absurd (cc same))
-asked_cause sizes path a b c (errors.IOError fault) tells rose = tt
+asked_cause sizes path a b c (errors.IOError io_faults.Link) tells rose = absurd tells.0
+asked_cause sizes path a b c (errors.IOError (io_faults.Namenode last)) tells rose = tt
 asked_cause sizes path a b c (errors.InvalidRPCResponse fault) tells rose = tt
 asked_cause sizes path a b c (errors.FatalRPCError class message) tells rose = tt
 asked_cause sizes path a b c error tells rose = absurd tells.0
@@ -56,8 +57,8 @@ pub tells_fault : (a b : Shown) (settings : RebuildSettings) (plan : BlockPlan) 
     → HasCause settings plan W a fault b → TellsWrite a b (error_of fault)
 tells_fault a b settings plan W faults.NoMemory cause = (tt, (tt, tt))
 tells_fault a b settings plan W faults.Failed cause = absurd cause
-tells_fault a b settings plan W faults.Link cause = (tt, (tt, cause.1))
-tells_fault a b settings plan W faults.Setup cause = (tt, (tt, cause.1))
+tells_fault a b settings plan W faults.Link cause = (tt, (tt, inl cause.1))
+tells_fault a b settings plan W faults.Setup cause = (tt, (tt, inl cause.1))
 tells_fault a b settings plan W (faults.BadAck seqno) cause = (tt, (tt, cause))
 tells_fault a b settings plan W faults.AllNodes cause = (tt, (tt, cause.0))
 tells_fault a b settings plan W faults.NoReplacement cause = (tt, (tt, cause.1))
@@ -118,8 +119,8 @@ module _ (a b : Shown) (path : List ℕ) (file : FileEntry) (front : List ℕ) (
       → CauseOfWrite sizes path a b (error_of fault)
   fault_cause sizes faults.NoMemory same cause = tt
   fault_cause sizes faults.Failed same cause = tt
-  fault_cause sizes faults.Link same cause = tt
-  fault_cause sizes faults.Setup same cause = tt
+  fault_cause sizes faults.Link same cause = inl cause.1
+  fault_cause sizes faults.Setup same cause = inl cause.1
   fault_cause sizes (faults.BadAck seqno) same cause = tt
   fault_cause sizes faults.AllNodes same cause = all_failed cause.1
   fault_cause sizes faults.NoReplacement same cause = (cause.0, help_failed cause.2, listed_failed cause.3, may_replace sizes plan same cause.4)

@@ -2,6 +2,7 @@
 use Rattle.std.proofs.Common.{◌≡◌, ◌≢◌, ⊎_elim, ℕ, zero, suc, List, [], ◌∷◌, ◌++◌, Option, Some, None, IsSome, refl, sym, ◌∙◌, ap, subst, arith}
 use Rattle.std.specs.Prelude.{Contains, option_map}
 use Rattle.hdfs_cluster.specs.declared.messages.Block.{Block}
+use Rattle.hdfs_cluster.specs.declared.messages.DatanodeInfo.{DatanodeInfo}
 use Rattle.hdfs_cluster.specs.declared.messages.LocatedBlock.{LocatedBlock}
 use Rattle.hdfs_cluster.specs.declared.picture.BlockEntry.{BlockEntry}
 use Rattle.hdfs_cluster.specs.declared.picture.Entry.{Entry}
@@ -82,7 +83,7 @@ module _ (p q : Picture) (path : List ℕ) (file : FileEntry) (is : IsFileAt p p
   }
 
   -- a new block behind the others
-  module _ (found : LocatedBlock) (added : AddsNew path file previous found p q) where
+  module _ {excludes : List DatanodeInfo} (found : LocatedBlock) (added : AddsNew path file previous excludes found p q) where
     abbrev grown_file : FileEntry
     grown_file = record file { blocks = file.blocks ++ added.id ∷ [] }
 

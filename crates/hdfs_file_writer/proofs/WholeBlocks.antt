@@ -3,6 +3,7 @@ use Rattle.std.proofs.Common.{◌≡◌, ◌≢◌, ⊎_elim, ℕ, ◌+◌, ◌<
 use Rattle.std.proofs.lemmas.List.{length-append, get_or-append-add, get_or_append_left, get_or_default}
 use Rattle.std.specs.Prelude.{All, Contains, slice_index_or}
 use Rattle.hdfs_cluster.specs.declared.messages.Block.{Block}
+use Rattle.hdfs_cluster.specs.declared.messages.DatanodeInfo.{DatanodeInfo}
 use Rattle.hdfs_cluster.specs.declared.messages.LocatedBlock.{LocatedBlock}
 use Rattle.hdfs_cluster.specs.declared.picture.FileEntry.{FileEntry}
 use Rattle.hdfs_cluster.specs.Effects.{of_length, with_length, with_block, blocks_at, AddsNew, AddsBlock}
@@ -150,6 +151,10 @@ module _ (p q : Picture) (sound : IsSound p) (path : List ℕ) (file : FileEntry
   all_whole = behind_last (IsWhole p) (IsWhole q) file.blocks tail.1.front block.block_id tail.1.ends
       (λ k lt whole. whole_kept p q (slice_index_or file.blocks k 0) (kept_before k lt) whole) last_whole
 
+  -- and those before the last stay
+  pub done_stays : (size : ℕ) (done : Tail) → StaysWhole size p file.blocks done q file.blocks
+  done_stays size done = stays_kept size p q file.blocks file.blocks done refl kept_before
+
   -- all are of the size that the last one has
   pub all_full : (size : ℕ) → block.num_bytes ≡ size → (from : ℕ) → AllBetween (IsOfSize p size) from file.blocks
       → AllBehind (IsOfSize q size) from file.blocks
@@ -168,8 +173,8 @@ module _ (p q : Picture) (sound : IsSound p) (path : List ℕ) (file : FileEntry
   }
 
 -- the table has for the old blocks what it had, with the length of the last one
-pub old_table : (p q : Picture) (path : List ℕ) (file : FileEntry) (previous : Option Block) (found : LocatedBlock)
-    (added : AddsNew path file previous found p q) (other : ℕ) → IsSome (p.table other) → q.table other ≡ with_length p.table previous other
+pub old_table : (p q : Picture) (path : List ℕ) (file : FileEntry) (previous : Option Block) {excludes : List DatanodeInfo} (found : LocatedBlock)
+    (added : AddsNew path file previous excludes found p q) (other : ℕ) → IsSome (p.table other) → q.table other ≡ with_length p.table previous other
 old_table p q path file previous found added other some =
     added.changes.table other
     ∙ ⊎_elim
@@ -196,8 +201,8 @@ closes_none size p q blocks tail none =
 
 -- a new block stands behind full ones
 stays_behind : (p q : Picture) (sound : IsSound p) (path : List ℕ) (file : FileEntry) (is : IsFileAt p path file) (block : Block) (bytes : List ℕ)
-    (tail : TailCarries p path file.blocks (Finished block.block_id block.num_bytes) bytes) (found : LocatedBlock)
-    (added : AddsNew path file (Some block) found p q) (size : ℕ) → size ≤ block.num_bytes
+    (tail : TailCarries p path file.blocks (Finished block.block_id block.num_bytes) bytes) {excludes : List DatanodeInfo} (found : LocatedBlock)
+    (added : AddsNew path file (Some block) excludes found p q) (size : ℕ) → size ≤ block.num_bytes
     → StaysWhole size p file.blocks (Finished block.block_id block.num_bytes) q (file.blocks ++ added.id ∷ [])
 stays_behind p q sound path file is block bytes tail found added size full =
     let table : (other : ℕ) → Contains file.blocks other → q.table other ≡ with_length p.table (Some block) other =
@@ -209,15 +214,15 @@ stays_behind p q sound path file is block bytes tail found added size full =
     }
 
 -- the blocks of a file that has one more
-grown_blocks : (p q : Picture) (path : List ℕ) (file : FileEntry) (previous : Option Block) (found : LocatedBlock)
-    (added : AddsNew path file previous found p q) → blocks_at (q.names path) ≡ file.blocks ++ added.id ∷ []
+grown_blocks : (p q : Picture) (path : List ℕ) (file : FileEntry) (previous : Option Block) {excludes : List DatanodeInfo} (found : LocatedBlock)
+    (added : AddsNew path file previous excludes found p q) → blocks_at (q.names path) ≡ file.blocks ++ added.id ∷ []
 grown_blocks p q path file previous found added =
     ap blocks_at (adding.named_after p q path (record file { blocks = file.blocks ++ added.id ∷ [] })
     (with_block (with_length p.table previous) added.id added.entry) added.changes)
 
 -- a block more of a file
 pub stays_grown : (p q : Picture) → IsSound p → (path : List ℕ) (last : Option Block) (bytes : List ℕ) (c : FileCarries p path (tail_done last) bytes)
-    (found : LocatedBlock) → AddsBlock path c.file last found p q → (size : ℕ) → IsFull size (tail_done last)
+    {excludes : List DatanodeInfo} (found : LocatedBlock) → AddsBlock path c.file last excludes found p q → (size : ℕ) → IsFull size (tail_done last)
     → StaysWhole size p c.file.blocks (tail_done last) q (blocks_at (q.names path))
 stays_grown p q sound path None bytes c found adds size full =
     let new = adding.first_new p q sound path c.file c.named c.carries.0 found adds in

@@ -5,7 +5,7 @@ use Rattle.hdfs_cluster.specs.declared.errors.HdfsError.TheVariants as errors
 use Rattle.hdfs_cluster.specs.declared.errors.Feature.TheVariants as features
 use Rattle.hdfs_cluster.specs.declared.errors.IoFault.TheVariants as io_faults
 use Rattle.hdfs_cluster.specs.declared.errors.TransferFault.TheVariants as transfer
-use Rattle.hdfs_cluster.specs.Failures.{CallsRose, IsOfAsk, MayReplace, Means}
+use Rattle.hdfs_cluster.specs.Failures.{CallsRose, IsOfAsk, MayReplace, Means, SetupsFailed}
 use Rattle.hdfs_cluster.specs.Lost.{PipelineFailed, SomeListedFailed}
 use Rattle.hdfs_cluster.specs.Counts.{Rose}
 use Rattle.hdfs_cluster.specs.Shown.{Shown}
@@ -48,8 +48,11 @@ TellsClose path old new error = IsOfClose path error × Means old new error
 -- none came for one that failed is told only without best effort, where the links or a namenode have failed too and the policy replaces
 -- datanodes of a file of this replication, and the limit of
 -- rebuilds is the one of the settings; both only where a listed datanode has failed. Bytes are refused for encryption only
--- where the sizes say so.
+-- where the sizes say so. That a pipeline wasn't set up is told only where the links have failed, or datanodes once more than the sizes allow
+-- another new block to be tried.
 abbrev pub CauseOfWrite : WriteSizes → List ℕ → Shown → Shown → HdfsError → Type 0
+CauseOfWrite sizes path old new (errors.IOError io_faults.Link) = SetupsFailed sizes.setup_limit old.counts new.counts
+CauseOfWrite sizes path old new (errors.DataTransferError transfer.Setup) = SetupsFailed sizes.setup_limit old.counts new.counts
 CauseOfWrite sizes path old new (errors.DataTransferError transfer.AllNodes) = PipelineFailed old.counts new path
 CauseOfWrite sizes path old new (errors.DataTransferError transfer.NoReplacement) =
     (sizes.rebuilding.replace.best_effort ≡ false) × (Rose old.counts.links new.counts.links ⊎ CallsRose old.counts new)

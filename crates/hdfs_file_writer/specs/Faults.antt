@@ -1,4 +1,5 @@
 -- What a fault of a writer of a block is for a writer of a file.
+use Rattle.std.specs.Prelude.{Bool, true, false}
 use Rattle.hdfs_rebuild.specs.declared.block_plan.WriteFault.{WriteFault}
 use Rattle.hdfs_rebuild.specs.declared.block_plan.WriteFault.TheVariants as faults
 use Rattle.hdfs_cluster.specs.declared.errors.HdfsError.{HdfsError}
@@ -17,3 +18,9 @@ error_of faults.AllNodes = errors.DataTransferError transfer.AllNodes
 error_of faults.NoReplacement = errors.DataTransferError transfer.NoReplacement
 error_of (faults.RebuildLimit rebuilds) = errors.DataTransferError (transfer.RebuildLimit rebuilds)
 error_of (faults.Namenode error) = error
+
+-- the fault is that a pipeline wasn't set up: the connection broke, or the set-up was refused
+abbrev pub is_of_setup : WriteFault → Bool
+is_of_setup faults.Link = true
+is_of_setup faults.Setup = true
+is_of_setup fault = false

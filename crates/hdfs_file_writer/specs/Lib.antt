@@ -2,5 +2,6 @@ pub mod Faults
 pub mod Failing
 pub mod OnlyFiles
 pub mod Tails
+pub mod Tries
 pub mod WholeBlocks
 pub mod Writers

@@ -2,8 +2,11 @@
 use Rattle.std.specs.Prelude.{◌≡◌, ◌≢◌, ℕ, suc, ◌^◌, ◌<◌, ◌≤◌, true, false, Bool, List, [], ◌++◌, Option, Some, None, IsSome, IfSome, Result, Ok, Err}
 use Rattle.hdfs_wire.specs.Outgoing.{ArePacketSizes}
 use Rattle.hdfs_cluster.specs.declared.asks.Answer.{Answer}
+use Rattle.hdfs_cluster.specs.declared.asks.Answer.TheVariants as answers
 use Rattle.hdfs_cluster.specs.declared.asks.Ask.{Ask}
+use Rattle.hdfs_cluster.specs.declared.asks.Ask.TheVariants as asks
 use Rattle.hdfs_cluster.specs.declared.messages.Block.{Block}
+use Rattle.hdfs_cluster.specs.declared.messages.DatanodeInfo.{DatanodeInfo}
 use Rattle.hdfs_cluster.specs.declared.messages.LocatedBlock.{LocatedBlock}
 use Rattle.hdfs_cluster.specs.declared.errors.ArgFault.TheVariants as args
 use Rattle.hdfs_cluster.specs.declared.errors.HdfsError.{HdfsError}
@@ -20,6 +23,7 @@ use Rattle.hdfs_cluster.specs.Stores.{AgreesAt}
 use Rattle.hdfs_cluster.specs.Writing.{SameRecords}
 use Rattle.hdfs_namenode.specs.Asked.{ReachesAll}
 use Rattle.hdfs_namenode.specs.Clients.{name_of, proxy_of}
+use Rattle.hdfs_namenode.specs.Relaying.{Came}
 use Rattle.hdfs_namenode.specs.declared.protocol.NamenodeProtocol.{NamenodeProtocol}
 use Rattle.hdfs_block_writer.specs.BlockWriters as blocks
 use Rattle.hdfs_block_writer.specs.OpenPipelines as pipelines
@@ -316,9 +320,11 @@ pub record FailsOtherwise (old : Shown) (writer : FileWriter) (error : HdfsError
   pub fails : Fails old writer error new
   pub apart : IsNoRefusal error
 
--- A namenode has answered this block, which stands behind those that are done: it has no bytes, and is to be written. No datanode
--- has failed.
-pub record Adds (old : Shown) (writer : FileWriter) (located : LocatedBlock) (new : Shown) : Type 0 where
+-- A namenode has answered this block, which is on none of some datanodes and stands behind those that are done: it has no bytes, and is to be
+-- written. No datanode has failed.
+pub record Adds (client : List ℕ) (excluded : List DatanodeInfo) (old : Shown) (writer : FileWriter) (located : LocatedBlock) (new : Shown)
+    : Type 0 where
+  pub came : Came old (asks.AddBlock writer.path client writer.last excluded writer.file_id) (Ok (answers.AddBlock located)) new
   pub block : IsToWrite located
   pub empty : located.b.num_bytes ≡ 0
   pub nodes : SameNodes old new

@@ -1,6 +1,6 @@
 //! What a fault of a writer of a block is for a writer of a file.
 ghost use Rattle.std.specs.Prelude.{◌≡◌};
-ghost use Rattle.hdfs_file_writer.specs.Faults.{error_of};
+ghost use Rattle.hdfs_file_writer.specs.Faults.{error_of, is_of_setup};
 
 use hdfs_cluster::{HdfsError, IoFault, TransferFault};
 use hdfs_rebuild::WriteFault;
@@ -24,4 +24,11 @@ pub(crate) fn error_of(fault: WriteFault) -> HdfsError
         }
         WriteFault::Namenode(error) => error,
     }
+}
+
+/// Whether the fault is that a pipeline wasn't set up.
+pub(crate) fn is_of_setup(fault: &WriteFault) -> bool
+    ensures { result ≡ is_of_setup fault.now }
+{
+    matches!(fault, WriteFault::Link | WriteFault::Setup)
 }

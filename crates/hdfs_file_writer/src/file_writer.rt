@@ -124,7 +124,8 @@ impl FileWriter {
     /// that it has no room for. No bytes touch nothing of the cluster, and nothing refuses them.
     ///
     /// Errors: `NoMemory`; `Failed` after an earlier error; `InvalidArgument(Options)` for any byte where the file's replication or
-    /// block size is out of its limits; `IOError(Link)` and `DataTransferError(Setup)` where a pipeline wasn't set up, a rebuilt one too;
+    /// block size is out of its limits; `IOError(Link)` and `DataTransferError(Setup)` where a pipeline wasn't set up: the first one of a
+    /// new block, as often as the sizes let another one be tried, of one that is gone on with, or a rebuilt one;
     /// `DataTransferError(AllNodes)` where each datanode of a pipeline has failed; `DataTransferError(NoReplacement)` where a datanode
     /// was to be added in the place of one that failed, none could be, and the settings don't let a write go on without it;
     /// `DataTransferError(RebuildLimit)` where a pipeline has failed that was rebuilt as often as the settings say;
@@ -211,7 +212,7 @@ impl FileWriter {
             Ok(()) => {}
             Err(error) => return error,
         }
-        match self.next_block(cluster, namenode) {
+        match self.next_block(cluster, namenode, &[]) {
             Ok(located) => {
                 drop(located);
                 HdfsError::UnsupportedFeature(Feature::Encryption)

@@ -3,6 +3,7 @@
 
 mod faults;
 mod file_writer;
+mod new_block;
 mod next_block;
 mod sizes;
 

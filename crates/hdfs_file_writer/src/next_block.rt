@@ -1,19 +1,20 @@
-//! A writer's next block: the one before it is ended, and one that has room for a byte is begun.
+//! A writer's next block: the one before it is ended, and one is asked for and opened that has room for a byte.
 ghost use Rattle.std.specs.Prelude.{◌≡◌, ◌<◌, ◌≤◌, [], false, None, Some, IsTrue, ◌↔◌, IfOk, IfErr, IfSome, OnOk};
 
 use crate::faults::error_of;
 use crate::file_writer::FileWriter;
 use hdfs_block_writer::{BlockSizes, BlockWriter};
-use hdfs_cluster::{Cluster, HdfsError, LocatedBlock};
+use hdfs_cluster::{Cluster, DatanodeInfo, HdfsError, LocatedBlock};
 use hdfs_namenode::NamenodeProtocol;
-use hdfs_rebuild::BlockPlan;
+use hdfs_rebuild::{BlockPlan, WriteFault};
 use hdfs_wire::NoMemory;
 
 impl FileWriter {
-    ghost use Rattle.hdfs_cluster.specs.Requests.{IsAdded, IsFirstSetup, SetupOf};
+    ghost use Rattle.hdfs_cluster.specs.Requests.{AreFirst, IsAdded, IsFirstSetup, SetupOf};
     ghost use Rattle.hdfs_cluster.specs.declared.messages.Setup.{Setup};
     ghost use Rattle.hdfs_namenode.specs.Clients.{SameClient, name_of};
     ghost use Rattle.hdfs_file_writer.specs.Tails.{IsFull};
+    ghost use Rattle.hdfs_file_writer.specs.Tries.{NotSetUp};
     ghost use Rattle.hdfs_file_writer.specs.Writers.{plan_of, path_of, file_id_of, tail_of, CanGoOn, IsAnswered, IsAtWork, IsToOpen, MayAdd, MayBegin, MayFinish, MayWrite, Keeps, IsBetweenBlocks, HasRoom, Wrote, Adds, FailsOtherwise};
 
     /// Ends the block that is being written, or leaves the one that was to be gone on with.
@@ -67,16 +68,16 @@ impl FileWriter {
     }
 
     /// Opens the pipeline of a block that has room for a byte: `created` where it is new.
-    fn open_block<C: Cluster>(
+    pub(crate) fn open_block<C: Cluster>(
         &mut self,
         cluster: &mut C,
         namenode: &NamenodeProtocol,
         located: LocatedBlock,
         created: bool,
-    ) -> Result<(), HdfsError>
+    ) -> Result<(), WriteFault>
         requires begins { MayBegin self.old }
         requires located { IsToOpen C.may_answer (name_of namenode.now) self.old created located }
-        requires allowed { (setup : Setup) → IsFirstSetup located (name_of namenode.now) setup
+        requires allowed { (setup : Setup) → IsFirstSetup created located (name_of namenode.now) setup
             → C.allows (SetupOf setup) }
         requires answered { IsAnswered C.may_answer (name_of namenode.now) self.old }
         ensures keeps { Keeps self.old self.new }
@@ -84,13 +85,12 @@ impl FileWriter {
             × HasRoom self.new) }
         ensures wrote { OnOk result (Wrote (C.shown cluster.old) (record self.old { reopened = Some located }) []
             (C.shown cluster.new) self.new) }
-        ensures err { IfErr result (λ error. FailsOtherwise (C.shown cluster.old)
-            (record self.old { reopened = Some located }) error
-            (C.shown cluster.new)) }
+        ensures err { IfErr result (λ fault. (self.new ≡ self.old) × NotSetUp (name_of namenode.now) created located
+            (C.shown cluster.old) fault (C.shown cluster.new)) }
     {
         let plan = match self.plan(located, created) {
             Ok(plan) => plan,
-            Err(_) => return Err(HdfsError::NoMemory),
+            Err(_) => return Err(WriteFault::NoMemory),
         };
         let sizes = BlockSizes {
             block_size: self.sizes.block_size,
@@ -108,20 +108,23 @@ impl FileWriter {
                 self.going = Some(block);
                 Ok(())
             }
-            Err(fault) => Err(error_of(fault)),
+            Err(fault) => Err(fault),
         }
     }
 
-    /// Asks for a block behind those that are done, the last of which is full.
+    /// Asks for a block behind those that are done, the last of which is full, on none of these datanodes.
     pub(crate) fn next_block<C: Cluster>(
         &self,
         cluster: &mut C,
         namenode: &mut NamenodeProtocol,
+        excluded: &[DatanodeInfo],
     ) -> Result<LocatedBlock, HdfsError>
         requires adds { MayAdd C.allows C.may_answer namenode.old (C.shown cluster.old) self.now }
-        requires between { IsBetweenBlocks self.now }
-        requires fine { self.now.failed ≡ false }
-        ensures adds { IfOk result (λ located. Adds (C.shown cluster.old) self.now located (C.shown cluster.new)) }
+        requires begins { IsBetweenBlocks self.now × (self.now.failed ≡ false) }
+        requires first { AreFirst C.may_answer (name_of namenode.old) (path_of self.now) (file_id_of self.now)
+            excluded.now }
+        ensures adds { IfOk result (λ located. Adds (name_of namenode.old) excluded.now (C.shown cluster.old) self.now
+            located (C.shown cluster.new)) }
         ensures answered { IfOk result (IsAdded C.may_answer (name_of namenode.old) (path_of self.now)
             (file_id_of self.now)) }
         ensures err { IfErr result (λ error. FailsOtherwise (C.shown cluster.old) self.now error
@@ -132,35 +135,10 @@ impl FileWriter {
             cluster,
             self.path.as_str(),
             self.last.as_ref(),
-            &[],
+            excluded,
             self.file_id,
         ) {
             Ok(located) => Ok(located),
-            Err(error) => Err(error),
-        }
-    }
-
-    /// Begins a block behind those that are done, the last of which is full.
-    fn begin_block<C: Cluster>(
-        &mut self,
-        cluster: &mut C,
-        namenode: &mut NamenodeProtocol,
-    ) -> Result<(), HdfsError>
-        requires adds { MayAdd C.allows C.may_answer namenode.old (C.shown cluster.old) self.old }
-        requires begins { MayBegin self.old }
-        ensures keeps { Keeps self.old self.new × SameClient namenode.old namenode.new }
-        ensures goes { OnOk result (CanGoOn C.may_answer (name_of namenode.old) (C.shown cluster.new) self.new
-            × HasRoom self.new) }
-        ensures wrote { OnOk result (Wrote (C.shown cluster.old) self.old [] (C.shown cluster.new) self.new) }
-        ensures err { IfErr result (λ error. FailsOtherwise (C.shown cluster.old) self.old error
-            (C.shown cluster.new)) }
-    {
-        let located = match self.next_block(cluster, namenode) {
-            Ok(located) => located,
-            Err(error) => return Err(error),
-        };
-        match self.open_block(cluster, namenode, located, true) {
-            Ok(()) => Ok(()),
             Err(error) => Err(error),
         }
     }
@@ -204,7 +182,7 @@ impl FileWriter {
             Some(located) => {
                 return match self.open_block(cluster, namenode, located, false) {
                     Ok(()) => Ok(()),
-                    Err(error) => Err(error),
+                    Err(fault) => Err(error_of(fault)),
                 };
             }
             None => {}

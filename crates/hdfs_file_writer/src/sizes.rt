@@ -4,8 +4,9 @@ ghost use Rattle.std.specs.Prelude.{◌↔◌, IsTrue};
 use hdfs_rebuild::RebuildSettings;
 
 /// The replication of a file; the size of its blocks, of the chunks that have a checksum together, and of packets, in bytes (a
-/// packet size of 0 stands for one chunk); and how the pipelines of its blocks are rebuilt, with how many packets may wait in them for
-/// their acknowledgement. `encrypted` says that the cluster wants data encrypted on its way to datanodes, so that no byte can be written.
+/// packet size of 0 stands for one chunk); how the pipelines of its blocks are rebuilt, with how many packets may wait in them for
+/// their acknowledgement; and how often another new block is tried, at most, where the first pipeline of one can't be set up.
+/// `encrypted` says that the cluster wants data encrypted on its way to datanodes, so that no byte can be written.
 #[derive(Clone, Copy, Debug)]
 pub struct WriteSizes {
     pub replication: u32,
@@ -13,6 +14,7 @@ pub struct WriteSizes {
     pub chunk: u32,
     pub packet_size: u32,
     pub rebuilding: RebuildSettings,
+    pub setup_limit: u32,
     pub encrypted: bool,
 }
 

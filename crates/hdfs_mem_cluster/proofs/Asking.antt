@@ -1,5 +1,5 @@
 -- Which calls on write links are counted, and which of them fail.
-use Rattle.std.proofs.Common.{◌≡◌, ◌≢◌, ℕ, ℤ, ◌+◌, ◌^◌, ◌<◌, ◌≤◌, zero, suc, Bool, true, false, ◌&&◌, ◌||◌, not, eqb, List, [], ◌∷◌, length, get_or, map, take, drop, Option, Some, None, is_some, IsSome, IfSome, Result, Ok, Err, refl, sym, ◌∙◌, ap, subst, arith, add-one}
+use Rattle.std.proofs.Common.{◌≡◌, ◌≢◌, ℕ, ℤ, ◌+◌, ◌^◌, ◌<◌, ◌≤◌, zero, suc, Bool, true, false, ◌&&◌, ◌||◌, not, eqb, List, [], ◌∷◌, length, get_or, map, take, drop, Option, Some, None, is_none, is_some, IsSome, IfSome, Result, Ok, Err, refl, sym, ◌∙◌, ap, subst, arith, add-one}
 use Rattle.std.proofs.lemmas.Bool.{false≢true}
 use Rattle.std.proofs.lemmas.Bool.Decides.{nat_tests}
 use Rattle.std.proofs.lemmas.List.Sums.{sum_by-cons}
@@ -12,6 +12,7 @@ use Rattle.hdfs_wire.specs.declared.ack.Ack.{Ack}
 use Rattle.hdfs_wire.specs.declared.values.NoMemory.{NoMemory}
 use Rattle.hdfs_wire.specs.Outgoing.{Outgoing}
 use Rattle.hdfs_cluster.specs.declared.asks.LinkFault.{LinkFault}
+use Rattle.hdfs_cluster.specs.declared.messages.Setup.{Setup}
 use Rattle.hdfs_cluster.specs.declared.asks.LinkFault.TheVariants as link_faults
 use Rattle.hdfs_cluster.specs.declared.picture.OpenWrite.{OpenWrite}
 use Rattle.hdfs_cluster.specs.declared.store.Line.{Line}
@@ -20,7 +21,7 @@ use Rattle.hdfs_cluster.specs.declared.store.LinkKind.TheVariants as kinds
 use Rattle.hdfs_cluster.specs.Sending.{seqno_of, uuids}
 use Rattle.hdfs_mem_faults.specs.declared.fault_plan.FaultPlan.{FaultPlan}
 use Rattle.hdfs_mem_faults.specs.declared.node_plan.NodeCall.TheVariants as calls
-use Rattle.hdfs_mem_faults.specs.Calls.{is_at_once, is_bad_ack, one_if}
+use Rattle.hdfs_mem_faults.specs.Calls.{is_at_once, is_bad_ack, is_first, one_if}
 use Rattle.hdfs_mem_faults.specs.Following.{Follows}
 use Rattle.hdfs_mem_faults.specs.Plans.{Counts, Forgets, SamePlan, SetsUp, calls_of, fails_at, has_node, has_series, is_bad, link_faults_of, node_faults_of}
 use Rattle.hdfs_mem_faults.specs.Series.{Series, SetUps, AsksOf, acks_of, kind_of, plans, sends_to}
@@ -30,7 +31,8 @@ use Rattle.hdfs_mem_cluster.specs.declared.mem_cluster.MemCluster.{MemCluster}
 use Rattle.hdfs_mem_cluster.specs.declared.mem_link.MemLink.{MemLink}
 use Rattle.hdfs_mem_cluster.specs.declared.mem_link.MemLink.TheVariants as links
 use Rattle.hdfs_mem_cluster.specs.declared.write_link.MemWrite.{MemWrite}
-use Rattle.hdfs_mem_cluster.specs.Counting.{AsksAck, AsksSend, AsksSetUp, CanCount, CountsNothing, first_of}
+use Rattle.hdfs_mem_cluster.specs.Counting.{AsksAck, AsksSend, AsksSetUp, CanCount, CountsNothing, first_of, has_failed_set_up}
+use Rattle.hdfs_mem_cluster.specs.SettingUp.{blamed}
 use Rattle.hdfs_mem_cluster.specs.Failures.{failure_of, is_broken, is_counted, planned_failure}
 use Rattle.hdfs_mem_cluster.specs.Links.{write_told, OnWrites, AckedOn, AreEarlier, SendsOn, among, first_uuid}
 use Rattle.hdfs_mem_cluster.specs.Lines.{line_of}
@@ -97,7 +99,7 @@ still_bad : (b t u : Bool) → u ≡ (b && not t) → t ≡ false → u ≡ b
 still_bad b t u is own = is ∙ ap (λ (x : Bool). b && not x) own ∙ and_true b
 
 -- the set-up of a pipeline was counted
-module _ (m m' : MemCluster) (mid : FaultPlan) (link : ℕ) (kind : Option LinkKind) (rest : SameNodes m.nodes m'.nodes) (forgets : Forgets m.faults link mid) (sets : SetsUp mid link kind m'.faults) where
+module _ (m m' : MemCluster) (setup : Setup) (mid : FaultPlan) (link : ℕ) (kind : Option LinkKind) (rest : SameNodes m.nodes m'.nodes) (forgets : Forgets m.faults link mid) (sets : SetsUp mid link (blamed setup) kind m'.faults) where
   kind_is : calls_of m.faults SetUps + 1 < 2 ^ 64 → kind ≡ kind_of (map line_of m.loaded.items) (calls_of m.faults SetUps + 1)
   kind_is room =
       let loaded = map line_of m.loaded.items in
@@ -120,7 +122,10 @@ module _ (m m' : MemCluster) (mid : FaultPlan) (link : ℕ) (kind : Option LinkK
   opened_bad (Ok l) is = λ can. ap (is_bad m'.faults) is ∙ own_bad ∙ ap is_bad_ack (kind_is can.room)
   opened_bad (Err fault) is = tt
 
-  pub asks_set_up : (result : Result ℕ LinkFault) → is_counted result ≡ true → failure_of result ≡ planned_failure kind → IfOk result (λ l. l ≡ link) → write_told (slab.get m.links link) ≡ None → AsksSetUp m result m'
+  failed_at_once : (result : Result ℕ LinkFault) → is_counted result ≡ true → failure_of result ≡ planned_failure kind → has_failed_set_up result ≡ is_at_once kind
+  failed_at_once result counted fails = ap (λ (b : Bool). b && is_some (failure_of result)) counted ∙ ap is_some fails ∙ at_once kind
+
+  pub asks_set_up : (result : Result ℕ LinkFault) → is_counted result ≡ true → failure_of result ≡ planned_failure kind → IfOk result (λ l. l ≡ link) → write_told (slab.get m.links link) ≡ None → AsksSetUp m setup result m'
   asks_set_up result counted fails opened vacant = record {
     call = record {
       own = λ can.
@@ -134,28 +139,29 @@ module _ (m m' : MemCluster) (mid : FaultPlan) (link : ℕ) (kind : Option LinkK
     exact = λ can sure. fails ∙ ap planned_failure (kind_is can.room);
     bad = opened_bad result opened;
     others = λ l shown. other_bad l (λ same. false≢true (sym (ap is_some (ap (λ (k : ℕ). write_told (slab.get m.links k)) same ∙ vacant)) ∙ shown));
-    links = sets.faults ∙ ap (λ (n : ℕ). n + one_if (is_at_once kind)) forgets.faults
-        ∙ ap (λ (b : Bool). link_faults_of m.faults + one_if b) (sym (ap (λ (b : Bool). b && is_some (failure_of result)) counted ∙ ap is_some fails ∙ at_once kind));
-    nodes = λ d. sets.nodes d ∙ forgets.nodes d;
+    links = sets.faults ∙ ap (λ (n : ℕ). n + one_if (is_at_once kind && is_none (blamed setup))) forgets.faults
+        ∙ ap (λ (b : Bool). link_faults_of m.faults + one_if (b && is_none (blamed setup))) (sym (failed_at_once result counted fails));
+    nodes = λ d. sets.nodes d ∙ ap (λ (n : ℕ). n + one_if (is_at_once kind && is_first (blamed setup) d)) (forgets.nodes d)
+        ∙ ap (λ (b : Bool). node_faults_of m.faults d + one_if (b && is_first (blamed setup) d)) (sym (failed_at_once result counted fails));
   }
 
 -- it was not, for want of memory
-pub asks_no_set_up : (m m' : MemCluster) → SameNodes m.nodes m'.nodes → ((s : Series) → calls_of m'.faults s ≡ calls_of m.faults s) → ((d : List ℕ) → has_node m'.faults d ≡ has_node m.faults d)
+pub asks_no_set_up : (m m' : MemCluster) (setup : Setup) → SameNodes m.nodes m'.nodes → ((s : Series) → calls_of m'.faults s ≡ calls_of m.faults s) → ((d : List ℕ) → has_node m'.faults d ≡ has_node m.faults d)
     → ((l : ℕ) → IsSome (write_told (slab.get m.links l)) → is_bad m'.faults l ≡ is_bad m.faults l) → link_faults_of m'.faults ≡ link_faults_of m.faults → ((d : List ℕ) → node_faults_of m'.faults d ≡ node_faults_of m.faults d)
-    → AsksSetUp m (Err link_faults.NoMemory) m'
-asks_no_set_up m m' rest calls there bad links nodes = record {
+    → AsksSetUp m setup (Err link_faults.NoMemory) m'
+asks_no_set_up m m' setup rest calls there bad links nodes = record {
   call = record { own = λ can. omega (arith, calls SetUps); others = λ s apart. calls s; there = nodes_stay m m' rest there };
   exact = λ can counted. absurd (false≢true counted);
   bad = tt;
   others = bad;
   links = omega (arith, links);
-  nodes = nodes;
+  nodes = λ d. omega (arith, nodes d);
 }
 
 -- nor where memory was wanted once the link was forgotten
-pub asks_forgotten : (m m' : MemCluster) (mid : FaultPlan) (link : ℕ) → SameNodes m.nodes m'.nodes → Forgets m.faults link mid → SamePlan mid m'.faults → write_told (slab.get m.links link) ≡ None → AsksSetUp m (Err link_faults.NoMemory) m'
-asks_forgotten m m' mid link rest forgets same vacant =
-    asks_no_set_up m m' rest (λ s. same.calls s ∙ forgets.calls s) (λ d. same.plans.there d ∙ forgets.plans.there d)
+pub asks_forgotten : (m m' : MemCluster) (setup : Setup) (mid : FaultPlan) (link : ℕ) → SameNodes m.nodes m'.nodes → Forgets m.faults link mid → SamePlan mid m'.faults → write_told (slab.get m.links link) ≡ None → AsksSetUp m setup (Err link_faults.NoMemory) m'
+asks_forgotten m m' setup mid link rest forgets same vacant =
+    asks_no_set_up m m' setup rest (λ s. same.calls s ∙ forgets.calls s) (λ d. same.plans.there d ∙ forgets.plans.there d)
     (λ l shown. same.links.bad l ∙ still_bad (is_bad m.faults l) (eqb link l) (is_bad mid l) (forgets.left l)
     (other_link link l (λ equal. false≢true (sym (ap is_some (ap (λ (k : ℕ). write_told (slab.get m.links k)) equal ∙ vacant)) ∙ shown))))
     (same.links.faults ∙ forgets.faults) (λ d. same.nodes d ∙ forgets.nodes d)

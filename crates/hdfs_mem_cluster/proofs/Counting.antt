@@ -1,14 +1,18 @@
 -- What a counted call does to the counts of a cluster, and which of them fail.
-use Rattle.std.proofs.Common.{◌≡◌, ◌≢◌, ⊎_elim, ℕ, ◌+◌, ◌-◌, ◌^◌, ◌<◌, ◌≤◌, min, nat_lt, Bool, true, false, ◌&&◌, if◌then◌else◌, List, Option, Some, None, is_some, map, refl, sym, ◌∙◌, ap, subst, arith}
+use Rattle.std.proofs.Common.{◌≡◌, ◌≢◌, ⊎_elim, ℕ, ◌+◌, ◌-◌, ◌^◌, ◌<◌, ◌≤◌, min, nat_lt, Bool, true, false, ◌&&◌, if◌then◌else◌, List, [], ◌∷◌, Option, Some, None, is_some, map, refl, sym, ◌∙◌, ap, subst, arith}
 use Rattle.std.proofs.lemmas.Bool.{cases_eq, false≢true}
 use Rattle.std.proofs.lemmas.Slice.Eq.{bytes_eq-Decides}
 use Rattle.std.specs.Str.{bytes_eq}
 use Rattle.hdfs_cluster.specs.declared.asks.LinkFault.{LinkFault}
+use Rattle.hdfs_cluster.specs.declared.messages.DatanodeInfo.{DatanodeInfo}
+use Rattle.hdfs_cluster.specs.declared.messages.Stage.{Stage}
+use Rattle.hdfs_cluster.specs.declared.messages.Stage.TheVariants as stages
 use Rattle.hdfs_cluster.specs.declared.store.FaultLine.{FaultLine}
 use Rattle.hdfs_cluster.specs.declared.store.LinkKind.{LinkKind}
 use Rattle.hdfs_cluster.specs.declared.store.LinkKind.TheVariants as link_kinds
 use Rattle.hdfs_cluster.specs.declared.mem_settings.MemSettings.{MemSettings}
 use Rattle.hdfs_cluster.specs.Counts.{NeverFall, Rose}
+use Rattle.hdfs_cluster.specs.Pipes.{SetupFailedAt}
 use Rattle.hdfs_mem_faults.specs.declared.fault_plan.FaultPlan.{FaultPlan}
 use Rattle.hdfs_mem_faults.specs.declared.node_plan.NodeCall.{NodeCall}
 use Rattle.hdfs_mem_faults.specs.Calls.{after_one, is_at_once, one_if}
@@ -20,6 +24,7 @@ use Rattle.hdfs_mem_cluster.specs.declared.mem_cluster.MemCluster.{MemCluster}
 use Rattle.hdfs_mem_cluster.specs.Counting.{CallsNode, CountsNothing}
 use Rattle.hdfs_mem_cluster.specs.Failures.{planned_failure}
 use Rattle.hdfs_mem_cluster.specs.Lines.{line_of}
+use Rattle.hdfs_mem_cluster.specs.SettingUp.{blamed_at}
 use Rattle.hdfs_mem_cluster.specs.MemShown.{HasNodesOf, counts_at, failed_calls, namenode_faults, shown_of}
 use Rattle.hdfs_mem_datanodes.specs.Nodes.{SameNodes}
 
@@ -78,8 +83,8 @@ pub rose_counts : (old new : FaultPlan) (call : NodeCall) (u : List ℕ) → Cou
 rose_counts old new call u h = omega (arith, own_count old new call u true h)
 
 -- the set-up of a pipeline
-pub falls_set_up : (old new : FaultPlan) (link : ℕ) (kind : Option LinkKind) → SetsUp old link kind new → NoneFalls old new
-falls_set_up old new link kind h = record { asked = asks_grow old new SetUps h.call; asks = h.asks; links = omega (arith, h.faults); nodes = λ d. omega (arith, h.nodes d) }
+pub falls_set_up : (old new : FaultPlan) (link : ℕ) (first : Option (List ℕ)) (kind : Option LinkKind) → SetsUp old link first kind new → NoneFalls old new
+falls_set_up old new link first kind h = record { asked = asks_grow old new SetUps h.call; asks = h.asks; links = omega (arith, h.faults); nodes = λ d. omega (arith, h.nodes d) }
 
 pub falls_end : (old new : FaultPlan) (link : ℕ) → Forgets old link new → NoneFalls old new
 falls_end old new link h = record { asked = λ i. omega (arith, h.calls (AsksOf i)); asks = h.asks; links = omega (arith, h.faults); nodes = λ d. omega (arith, h.nodes d) }
@@ -106,11 +111,28 @@ at_once (Some link_kinds.Broken) = refl
 at_once (Some link_kinds.Refused) = refl
 at_once (Some link_kinds.BadAck) = refl
 
--- a set-up that fails raises the links' count
-pub rose_set_up : (old mid new : FaultPlan) (link : ℕ) (kind : Option LinkKind) (fault : LinkFault) → Forgets old link mid → SetsUp mid link kind new → planned_failure kind ≡ Some fault → Rose (link_faults_of old) (link_faults_of new)
-rose_set_up old mid new link kind fault forgets sets is =
-    let once : is_at_once kind ≡ true = sym (at_once kind) ∙ ap is_some is in
-    omega (arith, sets.faults, forgets.faults, ap one_if once)
+-- the count has risen of the datanode to which the failure of a set-up is put down, or that of the links
+abbrev pub BlamedRose : Option (List ℕ) → FaultPlan → FaultPlan → Type 0
+BlamedRose None old new = Rose (link_faults_of old) (link_faults_of new)
+BlamedRose (Some first) old new = Rose (node_faults_of old first) (node_faults_of new first)
+
+-- a set-up that fails raises it
+pub rose_set_up : (old mid new : FaultPlan) (link : ℕ) (first : Option (List ℕ)) (kind : Option LinkKind) (fault : LinkFault) → Forgets old link mid → SetsUp mid link first kind new → planned_failure kind ≡ Some fault → BlamedRose first old new
+rose_set_up old mid new link None kind fault forgets sets is =
+    let once : one_if (is_at_once kind && true) ≡ 1 = ap (λ (b : Bool). one_if (b && true)) (sym (at_once kind) ∙ ap is_some is) in
+    omega (arith, sets.faults, forgets.faults, once)
+rose_set_up old mid new link (Some first) kind fault forgets sets is =
+    let once : one_if (is_at_once kind && bytes_eq first first) ≡ 1 =
+    ap (λ (b : Bool). one_if (b && bytes_eq first first)) (sym (at_once kind) ∙ ap is_some is) ∙ ap one_if ((bytes_eq-Decides first first).1 refl) in
+    omega (arith, sets.nodes first, forgets.nodes first, once)
+
+-- so what has to do with the stage of a set-up has failed
+pub stage_failed : (settings : MemSettings) (calls : ℕ) (old new : FaultPlan) (stage : Stage) (nodes : List DatanodeInfo) → BlamedRose (blamed_at stage nodes) old new
+    → SetupFailedAt stage nodes (counts_at settings calls old) (counts_at settings calls new)
+stage_failed settings calls old new stages.Create [] rose = rose
+stage_failed settings calls old new stages.Create (first ∷ rest) rose = rose
+stage_failed settings calls old new stages.Append nodes rose = rose
+stage_failed settings calls old new stages.Recovery nodes rose = rose
 
 -- no namenode has failed
 abbrev pub SameCalls : MemCluster → MemCluster → Type 0
@@ -171,7 +193,7 @@ calls_nothing m m' call u counted fails rest same uncounted good =
     }
 
 -- no datanode has failed more often than lines are faults of it
-pub nodes_planned : (m : MemCluster) (d : List ℕ) → (shown_of m).counts.nodes d ≤ node_fault_count (shown_of m).loaded.lines d
+pub nodes_planned : (m : MemCluster) (d : List ℕ) → (shown_of m).counts.nodes d + (shown_of m).counts.links ≤ node_fault_count (shown_of m).loaded.lines d + link_fault_count (shown_of m).loaded.lines
 nodes_planned m d = node_faults-le m.faults (map line_of m.loaded.items) m.follows d
 
 -- nor have the links

@@ -18,7 +18,7 @@ use Rattle.hdfs_cluster.specs.declared.store.AskKind.{AskKind}
 use Rattle.hdfs_cluster.specs.declared.store.Line.{Line}
 use Rattle.hdfs_cluster.specs.Files.{Kind, Directory, ClosedFile, OpenFile, NoFile, NotDirectory, Missing, NotFile}
 use Rattle.hdfs_cluster.specs.Namenode.{IsRefusal, StandsForAny, StandsForRefusal, class_for, class_in_the_way}
-use Rattle.hdfs_cluster.specs.Picture.{Picture}
+use Rattle.hdfs_cluster.specs.Picture.{Picture, SamePicture}
 use Rattle.hdfs_cluster.specs.Refusals.{Refusal, BadPath, WrongState, Exists, Lacks, BadRange, NotEmpty, TooMany}
 use Rattle.hdfs_mem_faults.specs.declared.fault_plan.FaultPlan.{FaultPlan}
 use Rattle.hdfs_mem_faults.specs.Plans.{SameAskFaults, ask_faults_of}
@@ -29,8 +29,7 @@ use Rattle.hdfs_mem_cluster.specs.declared.mem_cluster.MemCluster.{MemCluster}
 use Rattle.hdfs_mem_namenode.specs.Answering.{Answers, AnswersAbout, space_in}
 use Rattle.hdfs_mem_namenode.specs.Adding.{Space}
 use Rattle.hdfs_mem_namenode.specs.Rows.{NamesRefusal}
-use Rattle.hdfs_mem_namenode.specs.Pipelines.{AreBarred, IsOfOpen, is_barred}
-use Rattle.hdfs_mem_namenode.proofs.Answering.{same_picture}
+use Rattle.hdfs_mem_namenode.specs.Pipelines.{AreBarred, IsOfOpen, LacksPlace, is_barred}
 use Rattle.hdfs_mem_cluster.specs.Lines.{NeedsFault, line_of}
 use Rattle.hdfs_mem_cluster.specs.Laws.{nil_from_test}
 use Rattle.hdfs_mem_cluster.specs.MemShown.{failed_calls, is_fresh_of, namenode_faults, picture_of, shown_of}
@@ -125,13 +124,19 @@ lacks_datanode p src text is_text block client existing excludes number ids coun
       subst (λ (l : List DatanodeInfo). AreBarred (is_barred existing l) count) is_outs (subst (λ (l : List DatanodeInfo). AreBarred (is_barred l outs) count) is_olds barred),
     )
 
+-- each is excluded, for a block more
+pub lacks_place : (p : Picture) (src text : List ℕ) → text ≡ src → (client : List ℕ) (previous : Option Block) (excludes : List DatanodeInfo) (file_id : Option ℕ) (count : ℕ) (outs : List DatanodeInfo) → outs ≡ excludes
+    → LacksPlace (space_in p) count text previous outs → LacksDatanode count p (asks.AddBlock src client previous excludes file_id)
+lacks_place p src text is_text client previous excludes file_id count outs is_outs lacks =
+    subst (λ (l : List DatanodeInfo). LacksPlace (space_in p) count src previous l) is_outs (subst (λ (t : List ℕ). LacksPlace (space_in p) count t previous outs) is_text lacks)
+
 -- what is answered then
-pub responds_none : (loaded : List Line) (count : ℕ) (p : Picture) (i : ℕ) (ask : Ask) → i ≡ p.active → LacksDatanode count p ask → (fault : AskFault) → StandsForNone loaded fault → Responds loaded count p i ask (Err fault) p
-responds_none loaded count p i ask here lacks faults.NoMemory stands = inl (same_picture p)
-responds_none loaded count p i ask here lacks (faults.Exception class message) stands = inr (inl (record { here = here; lacks = lacks; planned = stands.0; is = cc (stands.1, stands.2); same = same_picture p }))
-responds_none loaded count p i ask here lacks faults.Broken stands = absurd stands
-responds_none loaded count p i ask here lacks (faults.BadReply fault) stands = absurd stands
-responds_none loaded count p i ask here lacks (faults.Fatal class message) stands = absurd stands
+pub responds_none : (loaded : List Line) (count : ℕ) (p q : Picture) (i : ℕ) (ask : Ask) → SamePicture p q → i ≡ p.active → LacksDatanode count p ask → (fault : AskFault) → StandsForNone loaded fault → Responds loaded count p i ask (Err fault) q
+responds_none loaded count p q i ask same here lacks faults.NoMemory stands = inl same
+responds_none loaded count p q i ask same here lacks (faults.Exception class message) stands = inr (inl (record { here = here; lacks = lacks; planned = stands.0; is = cc (stands.1, stands.2); same = same }))
+responds_none loaded count p q i ask same here lacks faults.Broken stands = absurd stands
+responds_none loaded count p q i ask same here lacks (faults.BadReply fault) stands = absurd stands
+responds_none loaded count p q i ask same here lacks (faults.Fatal class message) stands = absurd stands
 
 -- the count of the active namenode, and that of another one
 at_active : (settings : MemSettings) (calls i : ℕ) → i ≡ settings.active → failed_calls settings calls i ≡ calls

@@ -16,7 +16,6 @@ pub mod Opening
 pub mod Others
 pub mod Packets
 pub mod Places
-pub mod Placing
 pub mod Puts
 pub mod Serving
 pub mod SettingUp

@@ -1,11 +1,9 @@
 -- A new file lies whole.
-use Rattle.std.proofs.Common.{◌≡◌, ⊎_elim, ℕ, ◌+◌, ◌*◌, ◌<◌, ◌-◌, ◌^◌, zero, suc, min, Bool, cond, List, [], ◌∷◌, ◌++◌, length, take, drop, get_or, Option, Some, unwrap_or, refl, sym, ◌∙◌, ap, subst, arith, codes, length-append}
+use Rattle.std.proofs.Common.{◌≡◌, ⊎_elim, ℕ, ◌+◌, ◌*◌, ◌<◌, ◌-◌, ◌^◌, zero, suc, min, Bool, cond, List, [], ◌∷◌, ◌++◌, length, take, drop, get_or, Option, Some, unwrap_or, refl, sym, ◌∙◌, ap, subst, arith, length-append}
 use Rattle.std.proofs.lemmas.Bool.{cases_eq}
-use Rattle.std.proofs.lemmas.Fmt.{decimal_injective}
-use Rattle.std.proofs.lemmas.List.{length-take, length-drop, drop-drop, get_or_append_left, get_or-append_right, append_cancel_left}
+use Rattle.std.proofs.lemmas.List.{length-take, length-drop, drop-drop, get_or_append_left, get_or-append_right}
 use Rattle.std.proofs.lemmas.List.Elements.{All-get_or}
 use Rattle.std.proofs.lemmas.Slice.Eq.{bytes_eq-Decides}
-use Rattle.std.specs.Fmt.{decimal}
 use Rattle.hdfs_cluster.specs.declared.attributes.Attributes.{Attributes}
 use Rattle.hdfs_cluster.specs.declared.picture.BlockEntry.{BlockEntry}
 use Rattle.hdfs_cluster.specs.declared.picture.Entry.TheVariants as entries
@@ -19,6 +17,7 @@ use Rattle.hdfs_cluster.specs.Replicas.{HasReplicas, LieAs, LiesAs, block_bytes,
 use Rattle.hdfs_cluster.specs.Shown.{Shown}
 use Rattle.hdfs_mem_faults.specs.Series.{uuid_of}
 use Rattle.hdfs_mem_datanodes.specs.Uuids.{lowest}
+use Rattle.hdfs_mem_namenode.proofs.Placing.{uuid_injective}
 use Rattle.hdfs_mem_cluster.specs.Cutting.{HoldsPiece, IsCut}
 use Rattle.hdfs_mem_cluster.proofs.Numbered.{left_push}
 
@@ -33,9 +32,6 @@ lowest_at (suc n) d none below =
     (λ same. (let zero_behind : d - n ≡ 0 = omega (arith, same) in get_or-append_right (lowest n) (uuid_of n ∷ []) n d none (lowest_length n) (omega (arith, same)) ∙ ap (λ (i : ℕ). get_or (uuid_of n ∷ []) i none) zero_behind ∙ ap uuid_of (sym same)))
     (λ apart. get_or_append_left (lowest n) (uuid_of n ∷ []) none d (omega (arith, below, apart, lowest_length n)) ∙ lowest_at n d none (omega (arith, below, apart)))
     (cases_eq d n)
-
-pub uuid_injective : (d e : ℕ) → d < 2 ^ 64 → e < 2 ^ 64 → uuid_of d ≡ uuid_of e → d ≡ e
-uuid_injective d e low below is = decimal_injective d e low below (append_cancel_left (codes "dn") (decimal d) (decimal e) is)
 
 module _ (table : ℕ → Option BlockEntry) (held : List ℕ → ℕ → List ℕ) (nodes : List (List ℕ)) (size : ℕ) where
   drop_next : (k : ℕ) (bytes : List ℕ) → drop (suc k * size) bytes ≡ drop (k * size) (drop size bytes)

@@ -1,5 +1,5 @@
 -- What a namenode of a cluster in memory answers to asks that no command of a session makes.
-use Rattle.std.proofs.Common.{◌≡◌, inl, inr, ℕ, Bool, true, false, List, Result, Ok, Err, refl, sym, subst}
+use Rattle.std.proofs.Common.{◌≡◌, inl, inr, ℕ, false, List, Result, refl, sym, subst}
 use Rattle.std.proofs.lemmas.Bool.{false≢true}
 use Rattle.std.specs.Prelude.{IfOk}
 use Rattle.hdfs_cluster.specs.declared.asks.Ask.{Ask}
@@ -20,6 +20,7 @@ answers_other p i asks.GetServerDefaults here other unnamed = absurd (false≢tr
 answers_other p i (asks.Create src masked client flag parents replication block_size) here other unnamed = absurd (false≢true (sym other))
 answers_other p i (asks.Append src client flag) here other unnamed = absurd (false≢true (sym other))
 answers_other p i (asks.AddBlock src client previous excludes file_id) here other unnamed = absurd (false≢true (sym other))
+answers_other p i (asks.AbandonBlock block src client file_id) here other unnamed = absurd (false≢true (sym other))
 answers_other p i (asks.Complete src client last file_id) here other unnamed = absurd (false≢true (sym other))
 answers_other p i (asks.UpdateBlockForPipeline block client) here other unnamed = absurd (false≢true (sym other))
 answers_other p i (asks.GetAdditionalDatanode src block existing excludes count client ids) here other unnamed = absurd (false≢true (sym other))

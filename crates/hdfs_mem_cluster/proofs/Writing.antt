@@ -15,7 +15,6 @@ use Rattle.hdfs_cluster.specs.declared.mem_settings.MemSettings.{MemSettings}
 use Rattle.hdfs_cluster.specs.declared.picture.LastAnswer.{LastAnswer}
 use Rattle.hdfs_cluster.specs.declared.picture.OpenWrite.{OpenWrite}
 use Rattle.hdfs_cluster.specs.declared.store.Line.{Line}
-use Rattle.hdfs_cluster.specs.Counts.{Rose}
 use Rattle.hdfs_cluster.specs.Picture.{Picture}
 use Rattle.hdfs_cluster.specs.Pipes.{WriteOpened, WriteNotOpened, Sent, NotSent}
 use Rattle.hdfs_cluster.specs.Sending.{WritePlace, IsDisturbed, MovesOn, StaysHeld, uuids, end_of, seqno_of, put_packet, put_packets}
@@ -23,7 +22,6 @@ use Rattle.hdfs_cluster.specs.Shown.{Shown, Later}
 use Rattle.hdfs_cluster.specs.Writing.{IsLeftAlone, WritesAt, Sends, Starts, IsFresh, IsBehind}
 use Rattle.hdfs_mem_faults.specs.declared.fault_plan.FaultPlan.{FaultPlan}
 use Rattle.hdfs_mem_faults.specs.declared.node_plan.NodeCall.TheVariants as calls
-use Rattle.hdfs_mem_faults.specs.Plans.{link_faults_of}
 use Rattle.hdfs_mem_faults.specs.Series.{sends_to}
 use Rattle.hdfs_mem_namenode.specs.declared.namespace.Namespace.{Namespace}
 use Rattle.hdfs_mem_datanodes.specs.declared.datanodes.Datanodes.{Datanodes}
@@ -36,7 +34,8 @@ use Rattle.hdfs_mem_datanodes.specs.Nodes.{held_in, undisturbed_in, is_named, is
 use Rattle.hdfs_mem_cluster.specs.Writes.{told_at, told_of, place_at, place_of, disturbed_at, SameWrite, PutsPacket}
 use Rattle.hdfs_mem_cluster.proofs.Packets.{last_end-push, put_packets-push, waiting-push, named_at, named_any, contains_named, answered}
 use Rattle.hdfs_mem_cluster.proofs.Places.{slot_stays, place_same_for, place_same_at}
-use Rattle.hdfs_mem_cluster.proofs.Counting.{same_namenodes, NoneFalls, falls_counts, rose_counts}
+use Rattle.hdfs_mem_cluster.specs.SettingUp.{blamed}
+use Rattle.hdfs_mem_cluster.proofs.Counting.{same_namenodes, BlamedRose, NoneFalls, falls_counts, rose_counts, stage_failed}
 use Rattle.hdfs_mem_cluster.proofs.Stills.{shown_at, still_later, broke_off_sent, links_from_write}
 
 -- the test on a block
@@ -81,7 +80,7 @@ other_link false false u' link other apart is = ap not is
 pub not_opened_write : (space : Namespace) (settings : MemSettings) (last : LastAnswer) (failures : ℕ) (loaded : List Line) (faults faults' : FaultPlan) (nodes nodes' : Datanodes) (s s' : Slab MemLink) (link : ℕ) (setup : Setup) (fault : LinkFault)
     → NoneFalls faults faults' → slab.get s link ≡ None → ((l : ℕ) → slab.get s' l ≡ slab.get s l)
     → ((d : List ℕ) (b other : ℕ) → (link ≡ other → ⊥) → undisturbed_in nodes' d b other ≡ undisturbed_in nodes d b other) → ((d : List ℕ) (b : ℕ) → held_in nodes' d b ≡ held_in nodes d b)
-    → (fault ≢ link_faults.NoMemory → Rose (link_faults_of faults) (link_faults_of faults'))
+    → (fault ≢ link_faults.NoMemory → BlamedRose (blamed setup) faults faults')
     → WriteNotOpened (shown_at space settings last failures loaded faults nodes s) setup fault (shown_at space settings last failures loaded faults' nodes' s')
 not_opened_write space settings last failures loaded faults faults' nodes nodes' s s' link setup fault fall vacant slots others bytes rose = record {
   only = record { later = still_later space settings last failures loaded faults faults' fall nodes nodes' s s'; last = refl; calls = same_namenodes settings failures faults faults' fall.asks; reads = λ l. ap read_told (slots l); places = λ l is. ap read_place (slots l) };
@@ -97,7 +96,7 @@ not_opened_write space settings last failures loaded faults faults' nodes nodes'
     };
     active = refl;
   };
-  cause = rose;
+  cause = λ apart. stage_failed settings failures faults faults' setup.stage setup.locs (rose apart);
 }
 
 module _ (space : Namespace) (settings : MemSettings) (last : LastAnswer) (failures : ℕ) (loaded : List Line) (faults faults' : FaultPlan) (fall : NoneFalls faults faults') (nodes nodes' : Datanodes) (s s' : Slab MemLink) (link : ℕ) (w : MemWrite) (updates : Updates s s' link (Some (links.Write w))) where

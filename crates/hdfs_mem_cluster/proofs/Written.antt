@@ -1,5 +1,5 @@
 -- What the active namenode answers to a writer.
-use Rattle.std.proofs.Common.{◌≡◌, ◌⊎◌, ⊎_elim, inl, inr, ℕ, ◌<◌, ◌≤◌, Bool, true, false, cond, List, [], length, Option, Some, None, Ok, Err, refl, sym, ap, subst, arith}
+use Rattle.std.proofs.Common.{◌≡◌, ◌⊎◌, ⊎_elim, inl, inr, ℕ, ◌<◌, ◌≤◌, min, Bool, true, false, cond, List, [], length, Option, Some, None, Ok, Err, refl, sym, ap, subst, arith}
 use Rattle.std.specs.BTreeMap.{get_by_text}
 use Rattle.slab.specs.Slab.{Slab}
 use Rattle.hdfs_cluster.specs.declared.asks.Ask.TheVariants as asks
@@ -15,24 +15,25 @@ use Rattle.hdfs_cluster.specs.declared.mem_settings.MemSettings.{MemSettings}
 use Rattle.hdfs_cluster.specs.declared.picture.BlockEntry.{BlockEntry}
 use Rattle.hdfs_cluster.specs.declared.picture.Entry.{Entry}
 use Rattle.hdfs_cluster.specs.declared.picture.Entry.TheVariants as entries
-use Rattle.hdfs_cluster.specs.Effects.{AddsNew, Changes, ClosesIf, GivesAgain, HasBlock, HasStatus, IsLast, blocks_at, table_without, with_entry, with_length}
+use Rattle.hdfs_cluster.specs.Effects.{Abandons, AddsNew, Changes, ClosesIf, GivesAgain, HasBlock, HasStatus, IsLast, blocks_at, table_without, with_entry, with_length}
 use Rattle.hdfs_cluster.specs.Namenode.{new_file, overwrites}
 use Rattle.hdfs_cluster.specs.Picture.{Picture, SamePicture, kinds_in}
 use Rattle.hdfs_cluster.specs.Refusals.{create_refusal, with_parents}
+use Rattle.hdfs_cluster.specs.Sending.{uuids}
+use Rattle.hdfs_mem_faults.specs.Series.{uuid_of}
 use Rattle.hdfs_mem_namenode.specs.declared.namespace.Namespace.{Namespace}
 use Rattle.hdfs_mem_datanodes.specs.declared.datanodes.Datanodes.{Datanodes}
 use Rattle.hdfs_mem_cluster.specs.declared.mem_link.MemLink.{MemLink}
 use Rattle.hdfs_mem_namenode.specs.Answering.{Answers, StandsForStray, StandsForWritten}
-use Rattle.hdfs_mem_namenode.specs.Adding.{AddsLast, GivesLast, places, with_open}
+use Rattle.hdfs_mem_namenode.specs.Adding.{AddsLast, GivesLast, MayBeGivenUp, TakesOrNot, places, with_open}
 use Rattle.hdfs_mem_namenode.specs.Spaces.{space_of}
 use Rattle.hdfs_mem_namenode.specs.Memory.{table_of}
-use Rattle.hdfs_mem_datanodes.specs.Uuids.{lowest}
-use Rattle.hdfs_mem_datanodes.specs.Nodes.{held_in}
-use Rattle.std.specs.List.{All, IsDistinct}
+use Rattle.hdfs_mem_namenode.proofs.Answering.{not_among}
+use Rattle.hdfs_mem_namenode.proofs.Placing.{all_free, free_few}
+use Rattle.hdfs_mem_datanodes.specs.Nodes.{held_in, is_named}
+use Rattle.std.specs.List.{All, Contains, IsDistinct}
 use Rattle.std.specs.Str.{bytes_eq}
 use Rattle.hdfs_mem_cluster.specs.MemShown.{picture_at}
-use Rattle.hdfs_mem_cluster.proofs.NewLying.{lowest_length}
-use Rattle.hdfs_mem_cluster.proofs.Placing.{lowest_distinct}
 
 -- the names and the table stay
 abbrev pub SameSpace : Namespace → Namespace → Type 0
@@ -62,11 +63,12 @@ module _ (space space' : Namespace) (nodes : Datanodes) (settings : MemSettings)
       → GivesAgain src file previous block p q
   gives_last src file previous block h = record { id = h.id; retried = h.retried; answered = h.answered; changes = changes_space _ _ h.same h.listed }
 
-  adds_last : (src : List ℕ) (file : FileEntry) (previous : Option Block) (block : LocatedBlock) → get_by_text space.names src ≡ Some (entries.File file)
-      → AddsLast (space_of space nodes) nodes.count src file previous (space_of space' nodes) block → AddsNew src file previous block p q
-  adds_last src file previous block is h =
-      let n = places file.attributes.replication nodes.count in
-      let long : length (lowest n) ≡ n = lowest_length n in
+  adds_last : (src : List ℕ) (file : FileEntry) (previous : Option Block) (excludes : List DatanodeInfo) (block : LocatedBlock) → get_by_text space.names src ≡ Some (entries.File file)
+      → AddsLast (space_of space nodes) nodes.count src file previous excludes (space_of space' nodes) block → AddsNew src file previous excludes block p q
+  adds_last src file previous excludes block is h =
+      let most = min file.attributes.replication 256 in
+      let few : length (places excludes file.attributes.replication nodes.count) ≤ file.attributes.replication = omega (arith, free_few (is_named excludes) most nodes.count) in
+      let on = sym h.adds.on in
       record {
         id = h.adds.id;
         entry = h.adds.entry;
@@ -74,14 +76,20 @@ module _ (space space' : Namespace) (nodes : Datanodes) (settings : MemSettings)
         fresh = record {
           absent = h.adds.absent;
           empty = h.adds.empty;
-          some = subst (λ (ns : List (List ℕ)). 0 < length ns) (sym h.adds.on) (omega (arith, long, h.replicated, nodes.some));
-          few = subst (λ (ns : List (List ℕ)). length ns ≤ file.attributes.replication) (sym h.adds.on) (omega (arith, long));
-          apart = subst (IsDistinct bytes_eq) (sym h.adds.on) (lowest_distinct n (omega arith));
-          bare = subst (All (λ node. held_in nodes node h.adds.id ≡ [])) (sym h.adds.on) h.adds.bare;
+          some = subst (λ (ns : List (List ℕ)). 0 < length ns) on h.some;
+          few = subst (λ (ns : List (List ℕ)). length ns ≤ file.attributes.replication) on few;
+          apart = subst (IsDistinct bytes_eq) on h.apart;
+          bare = subst (All (λ node. held_in nodes node h.adds.id ≡ [])) on h.adds.bare;
+          others = subst (All (λ node. Contains (uuids excludes) node → ⊥)) on
+              (all_free (is_named excludes) most (λ node. Contains (uuids excludes) node → ⊥) nodes.count (λ k below is. not_among excludes (uuid_of k) is));
         };
         answered = h.adds.answered;
         changes = changes_space _ _ (h.adds.behind file is) h.adds.listed;
       }
+
+  takes_last : (src : List ℕ) (file : FileEntry) (block : Block) → TakesOrNot (get_by_text space.names) (table_of space.table.entries) src file block (get_by_text space'.names) (table_of space'.table.entries) → Abandons src file block p q
+  takes_last src file block (inl taken) = inl (record { gone = taken.gone; changes = changes_space _ _ taken.shorter taken.listed })
+  takes_last src file block (inr kept) = inr (kept.0, changes_space _ _ kept.1 kept.2)
 
   module _ (i : ℕ) (here : i ≡ settings.active) (text src : List ℕ) (is : text ≡ src) where
     pub answers_created : (masked : ℕ) (client : List ℕ) (flag : ℕ) (parents : Bool) (replication block_size : ℕ) (status : FileStatusMsg)
@@ -128,13 +136,14 @@ module _ (space space' : Namespace) (nodes : Datanodes) (settings : MemSettings)
     answers_not_completed client last file_id (faults.BadReply fault) stray same = absurd stray
     answers_not_completed client last file_id (faults.Fatal class message) stray same = absurd stray
 
-    pub answers_added : (client : List ℕ) (previous : Option Block) (excludes : List DatanodeInfo) (file_id : Option ℕ) (block : LocatedBlock) → (file : FileEntry) × (get_by_text space.names text ≡ Some (entries.File file))
+    pub answers_added : (client : List ℕ) (previous : Option Block) (excludes outs : List DatanodeInfo) → outs ≡ excludes → (file_id : Option ℕ) (block : LocatedBlock) → (file : FileEntry) × (get_by_text space.names text ≡ Some (entries.File file))
         × (GivesLast (space_of space nodes) file previous (space_of space' nodes) block
-        ⊎ AddsLast (space_of space nodes) nodes.count text file previous (space_of space' nodes) block)
+        ⊎ AddsLast (space_of space nodes) nodes.count text file previous outs (space_of space' nodes) block)
         → Answers p i (asks.AddBlock src client previous excludes file_id) (Ok (answers.AddBlock block)) q
-    answers_added client previous excludes file_id block done =
-        subst (λ (s : List ℕ). Answers p i (asks.AddBlock s client previous excludes file_id) (Ok (answers.AddBlock block)) q) is
-        (here, refl, tt, (done.0, done.1, ⊎_elim (λ again. inl (gives_last text done.0 previous block again)) (λ new. inr (adds_last text done.0 previous block done.1 new)) done.2))
+    answers_added client previous excludes outs is_outs file_id block done =
+        subst (λ (l : List DatanodeInfo). Answers p i (asks.AddBlock src client previous l file_id) (Ok (answers.AddBlock block)) q) is_outs
+        (subst (λ (s : List ℕ). Answers p i (asks.AddBlock s client previous outs file_id) (Ok (answers.AddBlock block)) q) is
+        (here, refl, tt, (done.0, done.1, ⊎_elim (λ again. inl (gives_last text done.0 previous block again)) (λ new. inr (adds_last text done.0 previous outs block done.1 new)) done.2)))
 
     pub answers_not_added : (client : List ℕ) (previous : Option Block) (excludes : List DatanodeInfo) (file_id : Option ℕ) (fault : AskFault)
         → StandsForStray ((file : FileEntry) → get_by_text space.names text ≡ Some (entries.File file) → file.is_open ≡ true → HasBlock file.blocks previous → ⊥) fault
@@ -147,3 +156,22 @@ module _ (space space' : Namespace) (nodes : Datanodes) (settings : MemSettings)
     answers_not_added client previous excludes file_id faults.Broken stray same = absurd stray
     answers_not_added client previous excludes file_id (faults.BadReply fault) stray same = absurd stray
     answers_not_added client previous excludes file_id (faults.Fatal class message) stray same = absurd stray
+
+    pub answers_abandoned : (block : Block) (client : List ℕ) (file_id : Option ℕ) → (file : FileEntry) × (get_by_text space.names text ≡ Some (entries.File file)) × (file.is_open ≡ true)
+        × TakesOrNot (get_by_text space.names) (table_of space.table.entries) text file block (get_by_text space'.names) (table_of space'.table.entries)
+        → Answers p i (asks.AbandonBlock block src client file_id) (Ok answers.AbandonBlock) q
+    answers_abandoned block client file_id done =
+        subst (λ (s : List ℕ). Answers p i (asks.AbandonBlock block s client file_id) (Ok answers.AbandonBlock) q) is
+        (here, refl, tt, (done.0, done.1, done.2, takes_last text done.0 block done.3))
+
+    pub answers_not_abandoned : (block : Block) (client : List ℕ) (file_id : Option ℕ) (fault : AskFault)
+        → StandsForStray ((file : FileEntry) → get_by_text space.names text ≡ Some (entries.File file) → file.is_open ≡ true → MayBeGivenUp (table_of space.table.entries) file block → ⊥) fault
+        → (space'.names ≡ space.names) × (space'.table ≡ space.table)
+        → Answers p i (asks.AbandonBlock block src client file_id) (Err fault) q
+    answers_not_abandoned block client file_id faults.NoMemory stray same = same_parts same
+    answers_not_abandoned block client file_id (faults.Exception class message) stray same =
+        subst (λ (s : List ℕ). Answers p i (asks.AbandonBlock block s client file_id) (Err (faults.Exception class message)) q) is
+        (stray.2, same_parts same, inr (here, inr (inl (stray.0, stray.1))))
+    answers_not_abandoned block client file_id faults.Broken stray same = absurd stray
+    answers_not_abandoned block client file_id (faults.BadReply fault) stray same = absurd stray
+    answers_not_abandoned block client file_id (faults.Fatal class message) stray same = absurd stray

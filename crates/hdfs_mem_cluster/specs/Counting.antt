@@ -1,5 +1,5 @@
 -- Which calls of a cluster in memory are counted, and which of them fail.
-use Rattle.std.specs.Prelude.{◌≡◌, ◌≢◌, ℕ, ℤ, ◌+◌, ◌-◌, ◌%◌, ◌^◌, ◌<◌, ◌==◌, ◌&&◌, min, not, Bool, true, false, List, [], ◌∷◌, length, slice_index_or, Option, Some, IsSome, IsSomeAnd, is_some, Result, Err, IfOk}
+use Rattle.std.specs.Prelude.{◌≡◌, ◌≢◌, ℕ, ℤ, ◌+◌, ◌-◌, ◌%◌, ◌^◌, ◌<◌, ◌==◌, ◌&&◌, min, not, Bool, true, false, List, [], ◌∷◌, length, slice_index_or, Option, Some, IsSome, IsSomeAnd, is_none, is_some, Result, Err, IfOk}
 use Rattle.hdfs_wire.specs.declared.ack.Ack.{Ack}
 use Rattle.hdfs_wire.specs.declared.read_packet.ReadPacket.{ReadPacket}
 use Rattle.hdfs_cluster.specs.declared.asks.Ask.{Ask}
@@ -7,6 +7,7 @@ use Rattle.hdfs_cluster.specs.declared.asks.Answer.{Answer}
 use Rattle.hdfs_cluster.specs.declared.asks.AskFault.{AskFault}
 use Rattle.hdfs_cluster.specs.declared.asks.LinkFault.{LinkFault}
 use Rattle.hdfs_cluster.specs.declared.asks.LinkFault.TheVariants as link_faults
+use Rattle.hdfs_cluster.specs.declared.messages.Setup.{Setup}
 use Rattle.hdfs_cluster.specs.declared.picture.OpenRead.{OpenRead}
 use Rattle.hdfs_cluster.specs.declared.picture.OpenWrite.{OpenWrite}
 use Rattle.hdfs_cluster.specs.declared.picture.ReadPlace.{ReadPlace}
@@ -16,13 +17,14 @@ use Rattle.hdfs_cluster.specs.declared.store.ReadKind.{ReadKind}
 use Rattle.hdfs_cluster.specs.Counts.{SameCounts}
 use Rattle.hdfs_cluster.specs.Pipes.{IsWellFormed, nodes_of as write_nodes}
 use Rattle.hdfs_cluster.specs.Shown.{Served}
-use Rattle.hdfs_mem_faults.specs.Calls.{is_bad_ack, one_if}
+use Rattle.hdfs_mem_faults.specs.Calls.{is_bad_ack, is_first, one_if}
 use Rattle.hdfs_mem_faults.specs.Plans.{calls_of, has_series, is_bad}
 use Rattle.hdfs_mem_faults.specs.Series.{Series, SetUps, AsksOf, ask_kind_of, kind_of, opens_of, packet_kind_of, plans, reads_of, sends_to, uuid_of}
 use Rattle.hdfs_mem_cluster.specs.declared.mem_cluster.MemCluster.{MemCluster}
 use Rattle.hdfs_mem_cluster.specs.Failures.{failure_of, is_broken, is_counted, is_refused, planned_failure, planned_transfer_failure}
 use Rattle.hdfs_mem_cluster.specs.Coming.{ComesTo}
 use Rattle.hdfs_mem_cluster.specs.Responding.{AskComesTo, failed_after, has_failed, is_answered}
+use Rattle.hdfs_mem_cluster.specs.SettingUp.{blamed}
 use Rattle.hdfs_mem_cluster.specs.Telling.{TellsAll}
 use Rattle.hdfs_mem_cluster.specs.MemShown.{HasNode, HasNodesOf, nodes_of, picture_of, shown_of}
 
@@ -139,15 +141,20 @@ AsksSend old write result new = CallsNode old (first_of write) (sends_to (first_
 abbrev pub next_kind_of : MemCluster → Option LinkKind
 next_kind_of m = kind_of (shown_of m).loaded.lines (calls_at m SetUps + 1)
 
--- The set-up of a pipeline was asked for. It has the next number, and fails exactly as a line plans that number to: the links'
--- count rises by one, or the first acknowledgement of the link is bad.
-pub record AsksSetUp (old : MemCluster) (result : Result ℕ LinkFault) (new : MemCluster) : Type 0 where
+-- there was memory for a set-up, and it failed
+abbrev pub has_failed_set_up : Result ℕ LinkFault → Bool
+has_failed_set_up result = is_counted result && is_some (failure_of result)
+
+-- The set-up of a pipeline was asked for. It has the next number, and fails exactly as a line plans that number to: the count of the first
+-- datanode of a new pipeline rises by one, or that of the links where one is gone on with; or the first acknowledgement of the link is bad.
+pub record AsksSetUp (old : MemCluster) (setup : Setup) (result : Result ℕ LinkFault) (new : MemCluster) : Type 0 where
   pub call : CountsCall old SetUps (is_counted result) new
   pub exact : CanCount old SetUps → is_counted result ≡ true → failure_of result ≡ planned_failure (next_kind_of old)
   pub bad : IfOk result (λ link. CanCount old SetUps → is_bad_at new link ≡ is_bad_ack (next_kind_of old))
   pub others : (link : ℕ) → IsSome ((shown_of old).writes link) → is_bad_at new link ≡ is_bad_at old link
-  pub links : (shown_of new).counts.links ≡ (shown_of old).counts.links + one_if (is_counted result && is_some (failure_of result))
-  pub nodes : (d : List ℕ) → (shown_of new).counts.nodes d ≡ (shown_of old).counts.nodes d
+  pub links : (shown_of new).counts.links ≡ (shown_of old).counts.links + one_if (has_failed_set_up result && is_none (blamed setup))
+  pub nodes : (d : List ℕ) → (shown_of new).counts.nodes d
+      ≡ (shown_of old).counts.nodes d + one_if (has_failed_set_up result && is_first (blamed setup) d)
 
 -- A transfer was asked for. It has the next number of the set-ups, and fails exactly as a line plans that number to: then the
 -- links' count rises by one. No count of a datanode rises, and the same acknowledgements are bad.

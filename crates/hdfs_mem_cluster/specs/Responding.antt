@@ -21,14 +21,24 @@ use Rattle.hdfs_mem_faults.specs.Series.{is_fault}
 use Rattle.hdfs_mem_namenode.specs.declared.namespace.Namespace.{Namespace}
 use Rattle.hdfs_mem_datanodes.specs.declared.datanodes.Datanodes.{Datanodes}
 use Rattle.hdfs_mem_cluster.specs.declared.mem_link.MemLink.{MemLink}
-use Rattle.hdfs_mem_namenode.specs.Answering.{Answers, AnswersAbout, is_about_names, no_such_method}
-use Rattle.hdfs_mem_namenode.specs.Pipelines.{AreBarred, is_barred}
+use Rattle.hdfs_mem_namenode.specs.Answering.{Answers, AnswersAbout, no_such_method, space_in}
+use Rattle.hdfs_mem_namenode.specs.Pipelines.{AreBarred, LacksPlace, is_barred}
 use Rattle.hdfs_mem_cluster.specs.MemShown.{picture_at}
 
 -- a new file is asked for
 abbrev pub IsCreate : Ask → Type 0
 IsCreate (asks.Create src masked client flag parents replication block_size) = Unit {0}
 IsCreate ask = ⊥
+
+-- a block more is asked for
+abbrev pub IsAddBlock : Ask → Type 0
+IsAddBlock (asks.AddBlock src client previous excludes file_id) = Unit {0}
+IsAddBlock ask = ⊥
+
+-- a block is to be given up
+abbrev pub IsAbandonBlock : Ask → Type 0
+IsAbandonBlock (asks.AbandonBlock block src client file_id) = Unit {0}
+IsAbandonBlock ask = ⊥
 
 -- a datanode more is asked for
 abbrev pub IsGetAdditionalDatanode : Ask → Type 0
@@ -47,6 +57,7 @@ is_of_session asks.GetServerDefaults = true
 is_of_session (asks.Create src masked client flag parents replication block_size) = true
 is_of_session (asks.Append src client flag) = true
 is_of_session (asks.AddBlock src client previous excludes file_id) = true
+is_of_session (asks.AbandonBlock block src client file_id) = true
 is_of_session (asks.Complete src client last file_id) = true
 is_of_session (asks.UpdateBlockForPipeline block client) = true
 is_of_session (asks.GetAdditionalDatanode src block existing excludes count client ids) = true
@@ -91,8 +102,10 @@ StandsForNone loaded faults.NoMemory = Unit {0}
 StandsForNone loaded (faults.Exception class message) = (list_any is_fault loaded ≡ true) × (class ≡ io_exception) × (message ≡ [])
 StandsForNone loaded fault = ⊥
 
--- a datanode more is asked for, of a block of an open file, and each of so many datanodes is existing or excluded
+-- A datanode more is asked for, of a block of an open file, and each of so many datanodes is existing or excluded; or a block more of an open
+-- file that has no empty one to be given again, and each of them is excluded.
 abbrev pub LacksDatanode : ℕ → Picture → Ask → Type 0
+LacksDatanode count p (asks.AddBlock src client previous excludes file_id) = LacksPlace (space_in p) count src previous excludes
 LacksDatanode count p (asks.GetAdditionalDatanode src block existing excludes number client ids) =
     IsBeingWritten p src block × AreBarred (is_barred existing excludes) count
 LacksDatanode count p ask = ⊥
@@ -115,6 +128,12 @@ abbrev pub RespondsHere : List Line → ℕ → Namespace → Ask → Result Ans
 RespondsHere loaded count space ask result =
     (nodes : Datanodes) (settings : MemSettings) (links : Slab MemLink) (i : ℕ) → i ≡ settings.active
     → Responds loaded count (picture_at space nodes settings links) i ask result (picture_at space nodes settings links)
+
+-- the same where names and blocks may change, beside these datanodes
+abbrev pub RespondsBeside : List Line → Datanodes → Namespace → Ask → Result Answer AskFault → Namespace → Type 0
+RespondsBeside loaded nodes old ask result new =
+    (settings : MemSettings) (links : Slab MemLink) (i : ℕ) → i ≡ settings.active
+    → Responds loaded nodes.count (picture_at old nodes settings links) i ask result (picture_at new nodes settings links)
 
 -- there was memory for an ask, and so it is counted
 abbrev pub is_answered : Result Answer AskFault → Bool

@@ -151,7 +151,7 @@ impl Cluster for MemCluster {
         ensures err { IfErr result (λ fault. WriteNotOpened (shown_of self.old) setup fault (shown_of self.new)) }
 
         // A fault line acts at exactly its set-up.
-        ensures asks { AsksSetUp self.old result self.new }
+        ensures asks { AsksSetUp self.old setup result self.new }
     {
         let link = self.links.vacant_key();
         let entered = enter(

@@ -1,5 +1,5 @@
 //! How often the objects of a cluster in memory have failed.
-ghost use Rattle.std.specs.Prelude.{◌≡◌, ◌≢◌, ◌<◌, ◌≤◌, ℕ, List as Items, length, slice_index, IfOk};
+ghost use Rattle.std.specs.Prelude.{◌≡◌, ◌≢◌, ◌+◌, ◌<◌, ◌≤◌, ℕ, List as Items, length, slice_index, IfOk};
 ghost use Rattle.hdfs_mem_faults.specs.Plans.{node_faults_of};
 ghost use Rattle.hdfs_mem_faults.specs.Series.{ask_fault_count, link_fault_count, node_fault_count, uuid_of};
 ghost use Rattle.hdfs_mem_cluster.specs.MemShown.{failed_calls, namenode_faults};
@@ -67,12 +67,12 @@ impl MemCluster {
     ghost use Rattle.hdfs_mem_cluster.specs.Lines.{NeedsFault};
     ghost use Rattle.hdfs_mem_cluster.specs.MemShown.{picture_of, shown_of, Sees};
 
-    /// How often each object has failed. Neither a datanode nor the links have failed more often than faults were loaded for
-    /// them, nor has a namenode that isn't active; and no namenode has failed before a fault was loaded.
+    /// How often each object has failed. The links have failed no more often than faults were loaded for them, nor has a namenode that
+    /// isn't active, nor a datanode together with the links than for these two; and no namenode has failed before a fault was loaded.
     pub fn seen(&self) -> Result<Counts, NoMemory>
         ensures sees { IfOk result (Sees self.now) }
-        ensures planned { (d : Items ℕ) → (shown_of self.now).counts.nodes d
-            ≤ node_fault_count (shown_of self.now).loaded.lines d }
+        ensures planned { (d : Items ℕ) → (shown_of self.now).counts.nodes d + (shown_of self.now).counts.links
+            ≤ node_fault_count (shown_of self.now).loaded.lines d + link_fault_count (shown_of self.now).loaded.lines }
         ensures planned_calls { (i : ℕ) → NeedsFault (shown_of self.now).loaded.lines
             ((shown_of self.now).counts.calls i) }
         ensures planned_asks { (i : ℕ) → i ≢ (picture_of self.now).active

@@ -8,7 +8,7 @@ ghost use Rattle.hdfs_mem_cluster.specs.declared.mem_link.MemLink.{MemLink};
 ghost use Rattle.hdfs_mem_faults.specs.Series.{is_fault};
 ghost use Rattle.hdfs_mem_cluster.specs.Lines.{line_of};
 ghost use Rattle.hdfs_mem_cluster.specs.MemShown.{picture_at};
-ghost use Rattle.hdfs_mem_cluster.specs.Responding.{AnswersHere, IsCreate, IsGetAdditionalDatanode, IsUpdatePipeline, Responds, RespondsHere, StandsForNone, StandsForOther, is_failure};
+ghost use Rattle.hdfs_mem_cluster.specs.Responding.{AnswersHere, IsAbandonBlock, IsAddBlock, IsCreate, IsGetAdditionalDatanode, IsUpdatePipeline, Responds, RespondsBeside, RespondsHere, StandsForNone, StandsForOther, is_failure};
 ghost use Rattle.hdfs_mem_cluster.specs.Responding as spec;
 ghost use Rattle.hdfs_mem_datanodes.specs.Nodes.{SameNodes};
 
@@ -104,6 +104,47 @@ fn create(alloc: Global, space: &mut Namespace, ask: &Ask) -> Result<Answer, Ask
     Ok(Answer::Create(Some(status)))
 }
 
+/// What the active namenode responds to an ask of `addBlock`.
+fn add_block(
+    alloc: Global,
+    loaded: &[Kept],
+    space: &mut Namespace,
+    nodes: &Datanodes,
+    ask: &Ask,
+) -> Result<Answer, AskFault>
+    requires { IsAddBlock ask.now }
+    ensures responds { RespondsBeside (map line_of loaded.now) nodes.now space.old ask.now result space.new }
+    ensures shape { IfOk result (IsShaped ask.now) }
+{
+    let Ask::AddBlock {
+        src,
+        previous,
+        excludes,
+        ..
+    } = ask
+    else {
+        unreachable!();
+    };
+    let excludes = excludes.as_slice();
+    match space.extend(alloc, nodes, src.as_str(), previous, excludes)? {
+        Some(block) => Ok(Answer::AddBlock(block)),
+        None => Err(no_datanode(alloc, loaded)?),
+    }
+}
+
+/// What the active namenode answers to an ask of `abandonBlock`.
+fn abandon_block(alloc: Global, space: &mut Namespace, ask: &Ask) -> Result<Answer, AskFault>
+    requires { IsAbandonBlock ask.now }
+    ensures answers { AnswersHere space.old ask.now result space.new }
+    ensures shape { IfOk result (IsShaped ask.now) }
+{
+    let Ask::AbandonBlock { block, src, .. } = ask else {
+        unreachable!();
+    };
+    space.abandon(alloc, src.as_str(), block)?;
+    Ok(Answer::AbandonBlock)
+}
+
 /// What the active namenode responds to an ask of `getAdditionalDatanode`.
 fn additional_datanode(
     alloc: Global,
@@ -164,6 +205,7 @@ fn is_of_session(ask: &Ask) -> bool
             | Ask::Create { .. }
             | Ask::Append { .. }
             | Ask::AddBlock { .. }
+            | Ask::AbandonBlock { .. }
             | Ask::Complete { .. }
             | Ask::UpdateBlockForPipeline { .. }
             | Ask::GetAdditionalDatanode { .. }
@@ -216,10 +258,8 @@ pub(crate) fn respond(
         Ask::GetServerDefaults => Ok(Answer::GetServerDefaults(known.config.settings.defaults)),
         Ask::Create { .. } => create(alloc, space, ask),
         Ask::Append { src, .. } => Ok(Answer::Append(space.append(alloc, nodes, src.as_str())?)),
-        Ask::AddBlock { src, previous, .. } => {
-            let block = space.extend(alloc, nodes, src.as_str(), previous)?;
-            Ok(Answer::AddBlock(block))
-        }
+        Ask::AddBlock { .. } => add_block(alloc, known.loaded, space, nodes, ask),
+        Ask::AbandonBlock { .. } => abandon_block(alloc, space, ask),
         Ask::Complete { src, last, .. } => {
             space.complete(alloc, src.as_str(), last)?;
             Ok(Answer::Complete(true))

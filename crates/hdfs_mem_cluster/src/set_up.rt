@@ -1,14 +1,16 @@
 //! How a pipeline is set up in a cluster in memory.
-ghost use Rattle.std.specs.Prelude.{◌≡◌, ℕ, List, true, map, IfOk, OnOk};
+ghost use Rattle.std.specs.Prelude.{◌≡◌, ℕ, List, true, map, option_copied, IfOk, OnOk};
 ghost use Rattle.slab.specs.Slab.{HasRoomFor};
 ghost use Rattle.hdfs_mem_cluster.specs.Failures.{failure_of, planned_failure};
-ghost use Rattle.hdfs_mem_cluster.specs.SettingUp.{CountsSetUp};
+ghost use Rattle.hdfs_cluster.specs.declared.messages.Stage.TheVariants as stages;
+ghost use Rattle.hdfs_mem_cluster.specs.SettingUp.{CountsSetUp, blamed, blamed_at};
 ghost use Rattle.hdfs_mem_datanodes.specs.Nodes.{held_in, undisturbed_in, is_named, SameNodes};
 
 use crate::mem_link::MemLink;
-use hdfs_cluster::{LinkFault, LinkKind, Setup};
+use hdfs_cluster::{DatanodeInfo, LinkFault, LinkKind, Setup, Stage};
 use hdfs_mem_datanodes::{Datanodes, Held};
 use hdfs_mem_faults::FaultPlan;
+use hdfs_wire::Text;
 use slab::Slab;
 use std::alloc::Global;
 
@@ -21,6 +23,27 @@ fn failure(kind: Option<LinkKind>) -> Option<LinkFault>
         Some(LinkKind::Refused) => Some(LinkFault::Refused),
         Some(LinkKind::BadAck) => None,
         None => None,
+    }
+}
+
+/// The uuid of the first of these datanodes.
+fn first_uuid(nodes: &[DatanodeInfo]) -> Option<&Text>
+    ensures { option_copied result ≡ blamed_at stages.Create nodes.now }
+{
+    match nodes.first() {
+        Some(node) => Some(&node.id.datanode_uuid),
+        None => None,
+    }
+}
+
+/// The datanode to which the failure of a set-up is put down: the first one of a new pipeline. That of one that is gone on with is put
+/// down to the links.
+fn blamed(setup: &Setup) -> Option<&Text>
+    ensures { option_copied result ≡ blamed setup.now }
+{
+    match setup.stage {
+        Stage::Create => first_uuid(setup.locs.as_slice()),
+        Stage::Append | Stage::Recovery => None,
     }
 }
 
@@ -43,14 +66,14 @@ pub(crate) fn enter(
     ensures others { (d : List ℕ) (b other : ℕ) → (link ≡ other → ⊥)
         → undisturbed_in nodes.new d b other ≡ undisturbed_in nodes.old d b other }
     ensures bytes { (d : List ℕ) (b : ℕ) → held_in nodes.new d b ≡ held_in nodes.old d b }
-    ensures counts { CountsSetUp faults.old link (failure_of result) faults.new }
+    ensures counts { CountsSetUp faults.old link (blamed setup.now) (failure_of result) faults.new }
     ensures rest { SameNodes nodes.old nodes.new }
 {
     faults.end(link);
     links.reserve(1)?;
     let locs = setup.locs.as_slice();
     let base = nodes.enter_all(alloc, locs, setup.block.block_id, link)?;
-    match failure(faults.set_up(link)?) {
+    match failure(faults.set_up(alloc, link, blamed(setup))?) {
         None => Ok(base),
         Some(fault) => Err(fault),
     }

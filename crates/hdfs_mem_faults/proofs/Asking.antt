@@ -9,7 +9,7 @@ use Rattle.hdfs_mem_faults.specs.declared.fault_plan.FaultPlan.{FaultPlan}
 use Rattle.hdfs_mem_faults.specs.declared.tally.Tally.{Tally}
 use Rattle.hdfs_mem_faults.specs.Asks.{ChangesAsks, CountsAsked, PlansAsk, SameAsks, ask_kind_at, asks_at, asks_in, failed_asks}
 use Rattle.hdfs_mem_faults.specs.Calls.{after_one, next_fails, next_kind, one_if}
-use Rattle.hdfs_mem_faults.specs.Plans.{CountsAsk, PlansFault, SamePlan, SamePlans, ask_kind, calls_of, fails_at, kind_at, may_come, packet_kind}
+use Rattle.hdfs_mem_faults.specs.Plans.{CountsAsk, PlansFault, SamePlan, SamePlans, ask_kind, calls_of, fails_at, kind_at, packet_kind}
 use Rattle.hdfs_mem_faults.specs.Series.{Series, SetUps, AsksOf, CallsOf, is_fault_at}
 use Rattle.hdfs_mem_faults.proofs.Lines.{none_is}
 use Rattle.hdfs_mem_faults.proofs.Planning.{none_after, or_none, or_nothing}

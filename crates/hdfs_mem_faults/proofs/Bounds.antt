@@ -1,5 +1,6 @@
--- No object has failed more often than lines are faults of it.
-use Rattle.std.proofs.Common.{◌≡◌, ℕ, ◌+◌, ◌≤◌, Bool, true, false, ◌&&◌, eqb, List, [], ◌∷◌, Option, Some, None, is_some, refl, arith}
+-- No namenode has failed more often than lines are faults of it, nor have the links; and no datanode has, together with these, more often than
+-- lines are faults of either.
+use Rattle.std.proofs.Common.{◌≡◌, ℕ, ◌+◌, ◌*◌, ◌^◌, ◌≤◌, Bool, true, false, ◌&&◌, eqb, List, [], ◌∷◌, Option, Some, None, is_some, refl, arith}
 use Rattle.std.proofs.lemmas.Bool.{or_parts}
 use Rattle.std.proofs.lemmas.List.Sums.{sum_by-cons}
 use Rattle.std.specs.List.{list_any}
@@ -9,6 +10,7 @@ use Rattle.hdfs_cluster.specs.declared.store.Line.TheVariants as lines
 use Rattle.hdfs_cluster.specs.declared.store.FaultLine.TheVariants as faults
 use Rattle.hdfs_cluster.specs.declared.store.ReadKind.TheVariants as read_kinds
 use Rattle.hdfs_mem_faults.specs.declared.fault_plan.FaultPlan.{FaultPlan}
+use Rattle.hdfs_mem_faults.specs.declared.links.Links.{Links}
 use Rattle.hdfs_mem_faults.specs.declared.node_plan.NodeCall.{NodeCall}
 use Rattle.hdfs_mem_faults.specs.declared.node_plan.NodeCall.TheVariants as calls
 use Rattle.hdfs_mem_faults.specs.declared.node_plan.NodePlan.{NodePlan}
@@ -16,12 +18,13 @@ use Rattle.hdfs_mem_faults.specs.declared.tally.Tally.{Tally}
 use Rattle.hdfs_mem_faults.specs.Asks.{ask_kind_at, asks_at, failed_asks}
 use Rattle.hdfs_mem_faults.specs.Calls.{fails_in, one_if}
 use Rattle.hdfs_mem_faults.specs.Following.{Follows}
+use Rattle.hdfs_mem_faults.specs.Linking.{firsts_in}
 use Rattle.hdfs_mem_faults.specs.NodePlans.{failed_in, node_at, planned_in}
 use Rattle.hdfs_mem_faults.specs.Plans.{ask_faults_of, fails_at, link_faults_of, node_faults_of}
 use Rattle.hdfs_mem_faults.specs.Series.{Series, SetUps, AsksOf, CallsOf, acks_of, ask_fault_count, is_fault, is_fault_at, is_of, link_fault_count, node_fault_count, nth_of, of_fault, opens_of, plans, reads_of, same_series, sends_to, series_fault_count, series_of}
 use Rattle.hdfs_mem_faults.specs.Tallies.{is_planned}
 use Rattle.hdfs_mem_faults.proofs.Lines.{none_is}
-use Rattle.hdfs_mem_faults.proofs.Failing.{fails-more, fails-never, fails-only, fails-or}
+use Rattle.hdfs_mem_faults.proofs.Failing.{fails-len, fails-more, fails-never, fails-only, fails-or}
 
 -- a line makes one call of its series fail, and none of another
 fails-line : (s : Series) (line : Line) (n : ℕ) → fails_in (λ k. of_fault (is_fault_at s k) line) n ≤ one_if (of_fault (λ fault. same_series (series_of fault) s) line)
@@ -90,14 +93,19 @@ node_le d loaded (Some node) planned =
     let opens = tally_le node.opens (opens_of d) loaded (planned calls.Open) in
     omega (arith, acks, sends, reads, opens, four_series d loaded)
 
--- THE LAW for datanodes: none has failed more often than lines are faults of it
-pub node_faults-le : (plan : FaultPlan) (loaded : List Line) → Follows plan loaded → (d : List ℕ) → node_faults_of plan d ≤ node_fault_count loaded d
-node_faults-le plan loaded follows d = node_le d loaded (node_at plan.nodes d) (λ call k. follows.planned (CallsOf call d) k)
+-- set-ups have failed no more often than lines are faults of them, whether that was put down to the links or to a datanode
+set_ups-le : (plan : FaultPlan) (loaded : List Line) → Follows plan loaded → (d : List ℕ) → link_faults_of plan + firsts_in plan.links d ≤ link_fault_count loaded
+set_ups-le plan loaded follows d =
+    omega (arith, plan.links.counted d, fails-more (fails_at plan SetUps) (plans loaded SetUps) plan.links.set_ups (follows.planned SetUps), fails-lines SetUps loaded plan.links.set_ups)
+
+-- THE LAW for datanodes: none has failed, together with the links, more often than lines are faults of it or of set-ups
+pub node_faults-le : (plan : FaultPlan) (loaded : List Line) → Follows plan loaded → (d : List ℕ) → node_faults_of plan d + link_faults_of plan ≤ node_fault_count loaded d + link_fault_count loaded
+node_faults-le plan loaded follows d =
+    omega (arith, node_le d loaded (node_at plan.nodes d) (λ call k. follows.planned (CallsOf call d) k), set_ups-le plan loaded follows d)
 
 -- THE LAW for links: they have failed no more often than lines are faults of set-ups
 pub link_faults-le : (plan : FaultPlan) (loaded : List Line) → Follows plan loaded → link_faults_of plan ≤ link_fault_count loaded
-link_faults-le plan loaded follows =
-    omega (arith, plan.links.counted, fails-more (fails_at plan SetUps) (plans loaded SetUps) plan.links.set_ups (follows.planned SetUps), fails-lines SetUps loaded plan.links.set_ups)
+link_faults-le plan loaded follows = omega (arith, set_ups-le plan loaded follows [])
 
 -- the same of a namenode, which may have no tally
 asks_le : (i : ℕ) (loaded : List Line) (o : Option (Tally AskKind)) → ((k : ℕ) → is_some (ask_kind_at o k) ≡ true → plans loaded (AsksOf i) k ≡ true) → failed_asks o ≤ ask_fault_count loaded i
@@ -122,3 +130,16 @@ no_faults (line ∷ loaded) s none =
     let parts = or_parts (is_fault line) (list_any is_fault loaded) none in
     let counts : series_fault_count (line ∷ loaded) s ≡ one_if (is_of_series s line) + series_fault_count loaded s = sum_by-cons (λ l. one_if (is_of_series s l)) line loaded in
     omega (arith, counts, no_fault_of s line parts.0, no_faults loaded s parts.1)
+
+-- a tally fails seldom
+pub failed_few : {K : Type 0} (tally : Tally K) → tally.failed ≤ 2 ^ 60
+failed_few tally = omega (arith, tally.counted, fails-len tally.planned tally.calls, tally.few)
+
+-- so does a datanode
+pub node_few : (o : Option NodePlan) → failed_in o ≤ 4 * 2 ^ 60
+node_few None = omega arith
+node_few (Some node) = omega (arith, failed_few node.acks, failed_few node.sends, failed_few node.reads, failed_few node.opens)
+
+-- and set-ups whose failure is put down to it
+pub firsts_few : (links : Links) (d : List ℕ) → firsts_in links d ≤ 2 ^ 60
+firsts_few links d = omega (arith, links.counted d, fails-len links.kinds links.set_ups, links.few)

@@ -1,9 +1,9 @@
 -- How many of the first so many calls fail.
-use Rattle.std.proofs.Common.{◌≡◌, ℕ, ◌+◌, ◌<◌, ◌≤◌, zero, suc, Bool, true, false, ◌||◌, eqb, cond, List, [], ◌∷◌, length, Option, Some, is_some, refl, sym, ◌∙◌, ap, subst, arith, add-one}
+use Rattle.std.proofs.Common.{◌≡◌, ℕ, ◌+◌, ◌<◌, ◌≤◌, zero, suc, Bool, true, false, ◌||◌, eqb, cond, List, [], ◌∷◌, length, Option, Some, None, is_some, Result, Ok, Err, IfOk, OnErr, if◌then◌else◌, refl, sym, ◌∙◌, ap, subst, arith, add-one}
 use Rattle.std.proofs.lemmas.Bool.Decides.{nat_tests}
 use Rattle.std.specs.Map.{lookup}
 use Rattle.std.specs.Ordering.{nat_cmp}
-use Rattle.std.specs.BTreeMap.{BTreeMap, btree_map_len, get, is_at}
+use Rattle.std.specs.BTreeMap.{BTreeMap, IsUnchanged, btree_map_len, get, is_at}
 use Rattle.hdfs_mem_faults.specs.Calls.{fails_in, one_if}
 
 -- whether a number is planned to fail, in some way
@@ -100,3 +100,9 @@ fails-listed (e ∷ entries) n =
 -- no more calls fail than numbers are planned
 pub fails-len : {K : Type 0} (planned : BTreeMap ℕ K) (n : ℕ) → fails_in (is_kind planned) n ≤ btree_map_len planned
 fails-len planned n = fails-listed planned.entries n
+
+-- one number more is planned at most
+pub few_stay : {E K : Type 0} (r : Result (Option K) E) (old new : BTreeMap ℕ K) (n : ℕ) → IfOk r (λ was. btree_map_len new ≡ btree_map_len old + (if is_some was then 0 else 1)) → OnErr r (IsUnchanged old new) → btree_map_len old < n → btree_map_len new ≤ n
+few_stay (Ok None) old new n ok err below = omega (arith, ok, below)
+few_stay (Ok (Some was)) old new n ok err below = omega (arith, ok, below)
+few_stay (Err e) old new n ok err below = omega (arith, ap length err, below)

@@ -92,8 +92,8 @@ pub ask_follows : (old new : FaultPlan) (loaded : List Line) (i : ℕ) (fails : 
 ask_follows old new loaded i fails counts = kept_follows old new loaded (counts.call.plans, one_call_le old new (AsksOf i) counts.call)
 
 -- a set-up of a pipeline
-pub set_up_follows : (old new : FaultPlan) (loaded : List Line) (link : ℕ) (kind : Option LinkKind) → SetsUp old link kind new → Follows old loaded → Follows new loaded
-set_up_follows old new loaded link kind sets = kept_follows old new loaded (sets.call.plans, one_call_le old new SetUps sets.call)
+pub set_up_follows : (old new : FaultPlan) (loaded : List Line) (link : ℕ) (first : Option (List ℕ)) (kind : Option LinkKind) → SetsUp old link first kind new → Follows old loaded → Follows new loaded
+set_up_follows old new loaded link first kind sets = kept_follows old new loaded (sets.call.plans, one_call_le old new SetUps sets.call)
 
 -- a transfer
 pub transfer_follows : (old new : FaultPlan) (loaded : List Line) (kind : Option LinkKind) → CountsTransfer old kind new → Follows old loaded → Follows new loaded

@@ -1,12 +1,13 @@
 -- The links' count, with the acknowledgements that are still to be bad, against what is planned.
-use Rattle.std.proofs.Common.{◌≡◌, ℕ, ◌+◌, ◌≤◌, Bool, true, false, cond, List, Option, Some, None, is_some, Result, Ok, Err, OnOk, OnErr, refl, sym, ◌∙◌, ap, arith}
+use Rattle.std.proofs.Common.{◌≡◌, ℕ, ◌+◌, ◌≤◌, Bool, true, false, cond, List, Option, Some, None, is_none, is_some, Result, Ok, Err, OnOk, OnErr, refl, sym, ◌∙◌, ap, arith}
 use Rattle.std.specs.Map.{lookup}
 use Rattle.std.specs.Ordering.{nat_cmp}
 use Rattle.std.specs.BTreeMap.{BTreeMap, is_at, get, Updates, IsUnchanged}
 use Rattle.hdfs_cluster.specs.declared.store.LinkKind.{LinkKind}
 use Rattle.hdfs_cluster.specs.declared.store.LinkKind.TheVariants as link_kinds
-use Rattle.hdfs_mem_faults.specs.Calls.{fails_in, is_at_once, is_bad_ack, one_if}
-use Rattle.hdfs_mem_faults.proofs.Failing.{fails-next, is_kind}
+use Rattle.std.specs.Str.{bytes_eq}
+use Rattle.hdfs_mem_faults.specs.Calls.{fails_in, is_at_once, is_bad_ack, is_first, one_if}
+use Rattle.hdfs_mem_faults.proofs.Failing.{fails-next, is_kind, one-le}
 
 -- what is there stays there when something is put in
 some_at : {X : Type 0} (b : Bool) (v : X) (o : Option X) → is_some o ≡ true → is_some (cond b (Some v) o) ≡ true
@@ -25,16 +26,14 @@ once_or_bad (Some link_kinds.Broken) = refl
 once_or_bad (Some link_kinds.Refused) = refl
 once_or_bad (Some link_kinds.BadAck) = refl
 
--- the bound after one set-up more
-pub bound_next : (kinds : BTreeMap ℕ LinkKind) (set_ups reached failed was is : ℕ) (kind : Option LinkKind) → failed + was ≤ fails_in (is_kind kinds) set_ups → reached ≡ set_ups + 1 → kind ≡ get nat_cmp kinds reached → is ≤ was + one_if (is_bad_ack kind) → failed + one_if (is_at_once kind) + is ≤ fails_in (is_kind kinds) reached
-bound_next kinds set_ups reached failed was is kind bound next planned len =
+-- the bound after one set-up or one transfer more, which has failed once at most
+pub bound_next : (kinds : BTreeMap ℕ LinkKind) (set_ups reached was now : ℕ) (kind : Option LinkKind) → was ≤ fails_in (is_kind kinds) set_ups → reached ≡ set_ups + 1 → kind ≡ get nat_cmp kinds reached → now ≤ was + one_if (is_some kind) → now ≤ fails_in (is_kind kinds) reached
+bound_next kinds set_ups reached was now kind bound next planned once =
     let here : is_kind kinds (set_ups + 1) ≡ is_some kind = ap (is_kind kinds) (sym next) ∙ ap is_some (sym planned) in
     let more : fails_in (is_kind kinds) reached ≡ fails_in (is_kind kinds) set_ups + one_if (is_some kind) = ap (fails_in (is_kind kinds)) next ∙ fails-next (is_kind kinds) set_ups (is_some kind) here in
-    omega (arith, bound, len, more, once_or_bad kind)
+    omega (arith, bound, once, more)
 
--- the bound after one transfer more
-pub bound_transfer : (kinds : BTreeMap ℕ LinkKind) (set_ups reached failed bad : ℕ) (kind : Option LinkKind) → failed + bad ≤ fails_in (is_kind kinds) set_ups → reached ≡ set_ups + 1 → kind ≡ get nat_cmp kinds reached → failed + one_if (is_some kind) + bad ≤ fails_in (is_kind kinds) reached
-bound_transfer kinds set_ups reached failed bad kind bound next planned =
-    let here : is_kind kinds (set_ups + 1) ≡ is_some kind = ap (is_kind kinds) (sym next) ∙ ap is_some (sym planned) in
-    let more : fails_in (is_kind kinds) reached ≡ fails_in (is_kind kinds) set_ups + one_if (is_some kind) = ap (fails_in (is_kind kinds)) next ∙ fails-next (is_kind kinds) set_ups (is_some kind) here in
-    omega (arith, bound, more)
+-- a failure is put down once: to the links, or to one datanode
+pub put_once : (first : Option (List ℕ)) (d : List ℕ) → one_if (is_none first) + one_if (is_first first d) ≤ 1
+put_once None d = omega arith
+put_once (Some first) d = omega (arith, one-le (bytes_eq first d))

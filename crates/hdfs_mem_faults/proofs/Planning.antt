@@ -1,9 +1,8 @@
 -- What a fault of a datanode plans.
-use Rattle.std.proofs.Common.{◌≡◌, ◌≢◌, ℕ, Bool, true, false, nat_lt, ◌&&◌, ◌||◌, eqb, cond, List, Option, Some, None, is_some, refl, sym, ◌∙◌, ap, subst}
+use Rattle.std.proofs.Common.{◌≡◌, ◌≢◌, ℕ, ◌+◌, Bool, true, false, nat_lt, ◌&&◌, ◌||◌, eqb, cond, List, Option, Some, None, is_some, refl, sym, ◌∙◌, ap, subst}
 use Rattle.std.specs.Option.{option_or}
 use Rattle.std.specs.Str.{bytes_eq}
 use Rattle.std.proofs.lemmas.Slice.Eq.{bytes_eq-Decides}
-use Rattle.hdfs_cluster.specs.declared.store.AskKind.{AskKind}
 use Rattle.hdfs_cluster.specs.declared.store.FaultLine.{FaultLine}
 use Rattle.hdfs_cluster.specs.declared.store.FaultLine.TheVariants as faults
 use Rattle.hdfs_cluster.specs.declared.store.ReadKind.{ReadKind}
@@ -15,6 +14,7 @@ use Rattle.hdfs_mem_faults.specs.declared.node_plan.NodeFault.{NodeFault}
 use Rattle.hdfs_mem_faults.specs.declared.node_plan.NodeFault.TheVariants as node_faults
 use Rattle.hdfs_mem_faults.specs.declared.node_plan.NodePlan.{NodePlan}
 use Rattle.hdfs_mem_faults.specs.declared.nodes.Nodes.{Nodes}
+use Rattle.hdfs_mem_faults.specs.Linking.{firsts_in}
 use Rattle.hdfs_mem_faults.specs.NodePlans.{PlansCall, call_of, calls_in, failed_in, may_come_in, node_at, packet_fault, packet_kind_at, planned_in, read_fault}
 use Rattle.hdfs_mem_faults.specs.Plans.{PlansFault, ask_kind, calls_of, fails_at, has_series, kind_at, may_come, packet_kind}
 use Rattle.hdfs_mem_faults.specs.Series.{Series, SetUps, AsksOf, CallsOf, ask_kind_in, kind_in, nth_of, packet_kind_in, reads_failing, reads_of, same_call, same_series, series_of, uuid_of}
@@ -145,7 +145,7 @@ module _ (old : FaultPlan) (nodes : Nodes) (failing : NodeFault) (uuid : List �
       ask_kinds = λ i k. or_none (ask_kind old i k) (ask_kind_in i k fault) (may_come old fault) (unasked i k);
       there = each_node (λ o p. is_some p ≡ is_some o) (λ o. refl) here.there;
       calls = calls_after;
-      nodes = each_node (λ o p. failed_in p ≡ failed_in o) (λ o. refl) here.failed;
+      nodes = λ d. ap (λ (n : ℕ). n + firsts_in old.links d) (each_node (λ o p. failed_in p ≡ failed_in o) (λ o. refl) here.failed d);
       asks = λ i. refl;
       links = record { faults = refl; bad = λ link. refl };
     }

@@ -1,9 +1,10 @@
 -- What a change at one key of a map with text keys does to what is looked up.
-use Rattle.std.proofs.Common.{◌≡◌, ◌≢◌, ℕ, Bool, true, false, cond, List, Option, Some, None, is_some, refl, sym, ◌∙◌, subst}
+use Rattle.std.proofs.Common.{◌≡◌, ◌≢◌, ℕ, ◌+◌, Bool, true, false, cond, List, Option, Some, None, is_some, unwrap_or, refl, sym, ◌∙◌, ap, subst, arith}
 use Rattle.std.specs.Str.{bytes_eq}
 use Rattle.std.specs.Map.{update}
 use Rattle.std.proofs.lemmas.Slice.Eq.{bytes_eq-Decides}
 use Rattle.hdfs_mem_faults.specs.declared.node_plan.NodePlan.{NodePlan}
+use Rattle.hdfs_mem_faults.specs.Calls.{one_if}
 use Rattle.hdfs_mem_faults.specs.NodePlans.{AddsOnly, SameNode}
 
 module _ {X : Type 0} (look after : List ℕ → Option X) (key : List ℕ) (w : X) (updates : (q : List ℕ) → after q ≡ update bytes_eq look key (Some w) q) where
@@ -33,6 +34,15 @@ module _ {X : Type 0} (look after : List ℕ → Option X) (key : List ℕ) (w :
     -- what holds of the old value and the new one at the key, and of each other value and itself, holds at each key
     pub update_related : R (look key) (Some w) → (q : List ℕ) → R (look q) (after q)
     update_related here q = subst (λ (o : Option X). R (look q) o) (sym (updates q)) (at_key (bytes_eq key q) q (bytes_eq-Decides key q).0 here)
+
+-- a key whose number is one more than it was, or 1 where it had none
+pub one_more_at : (look after : List ℕ → Option ℕ) (key : List ℕ) (w : ℕ) → ((q : List ℕ) → after q ≡ update bytes_eq look key (Some w) q) → w ≡ unwrap_or (look key) 0 + 1
+    → (q : List ℕ) → unwrap_or (after q) 0 ≡ unwrap_or (look q) 0 + one_if (bytes_eq key q)
+one_more_at look after key w updates is q = ap (λ (o : Option ℕ). unwrap_or o 0) (updates q) ∙ by_test (bytes_eq key q) (bytes_eq-Decides key q).0
+  where
+    by_test : (b : Bool) → (b ≡ true → key ≡ q) → unwrap_or (cond b (Some w) (look q)) 0 ≡ unwrap_or (look q) 0 + one_if b
+    by_test true same = is ∙ ap (λ (k : List ℕ). unwrap_or (look k) 0 + 1) (same refl)
+    by_test false same = omega arith
 
 -- nothing is there
 pub none_from : {X : Type 0} (o : Option X) → is_some o ≡ false → o ≡ None

@@ -1,5 +1,6 @@
 -- How the calls of a series are counted.
-use Rattle.std.specs.Prelude.{ℕ, zero, suc, ◌+◌, ◌-◌, ◌^◌, min, nat_lt, Bool, true, false, ◌&&◌, Option, Some, None, if◌then◌else◌}
+use Rattle.std.specs.Prelude.{ℕ, zero, suc, ◌+◌, ◌-◌, ◌^◌, min, nat_lt, Bool, true, false, ◌&&◌, List, Option, Some, None, if◌then◌else◌}
+use Rattle.std.specs.Str.{bytes_eq}
 use Rattle.hdfs_cluster.specs.declared.store.LinkKind.{LinkKind}
 use Rattle.hdfs_cluster.specs.declared.store.LinkKind.TheVariants as link_kinds
 
@@ -37,3 +38,8 @@ is_bad_ack None = false
 is_bad_ack (Some link_kinds.Broken) = false
 is_bad_ack (Some link_kinds.Refused) = false
 is_bad_ack (Some link_kinds.BadAck) = true
+
+-- the failure of a set-up is put down to this datanode: to the one that is named with it, if one is
+abbrev pub is_first : Option (List ℕ) → List ℕ → Bool
+is_first None d = false
+is_first (Some first) d = bytes_eq first d

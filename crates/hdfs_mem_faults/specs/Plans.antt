@@ -1,5 +1,5 @@
 -- What a `FaultPlan` has counted and plans, and what its calls do.
-use Rattle.std.specs.Prelude.{◌≡◌, ◌≢◌, ℕ, ◌+◌, ◌≤◌, nat_lt, Bool, true, false, not, ◌&&◌, ◌||◌, ◌==◌, List, Option, None, is_some, if◌then◌else◌}
+use Rattle.std.specs.Prelude.{◌≡◌, ◌≢◌, ℕ, ◌+◌, ◌≤◌, nat_lt, Bool, true, false, not, ◌&&◌, ◌||◌, ◌==◌, List, Option, None, is_none, is_some, if◌then◌else◌}
 use Rattle.std.specs.Option.{option_or}
 use Rattle.std.specs.Ordering.{nat_cmp}
 use Rattle.std.specs.BTreeMap.{get}
@@ -10,7 +10,8 @@ use Rattle.hdfs_cluster.specs.declared.store.LinkKind.{LinkKind}
 use Rattle.hdfs_cluster.specs.declared.store.ReadKind.{ReadKind}
 use Rattle.hdfs_mem_faults.specs.declared.fault_plan.FaultPlan.{FaultPlan}
 use Rattle.hdfs_mem_faults.specs.Asks.{ask_kind_at, asks_at, asks_in, failed_asks}
-use Rattle.hdfs_mem_faults.specs.Calls.{after_one, is_at_once, is_bad_ack, next_fails, next_kind, one_if}
+use Rattle.hdfs_mem_faults.specs.Calls.{after_one, is_at_once, is_bad_ack, is_first, next_fails, next_kind, one_if}
+use Rattle.hdfs_mem_faults.specs.Linking.{firsts_in}
 use Rattle.hdfs_mem_faults.specs.NodePlans.{calls_in, failed_in, node_at, packet_kind_at, planned_in}
 use Rattle.hdfs_mem_faults.specs.Series.{Series, SetUps, AsksOf, CallsOf, ask_kind_in, is_fault_at, is_of, kind_in, nth_of, packet_kind_in, series_of}
 
@@ -56,9 +57,9 @@ fails_at plan (CallsOf call uuid) nth = planned_in (node_at plan.nodes uuid) cal
 abbrev pub is_bad : FaultPlan → ℕ → Bool
 is_bad plan link = contains nat_cmp plan.links.bad link
 
--- how often a datanode has failed; one that isn't there never has
+-- how often a datanode has failed: in its own calls, and in set-ups whose failure was put down to it
 abbrev pub node_faults_of : FaultPlan → List ℕ → ℕ
-node_faults_of plan uuid = failed_in (node_at plan.nodes uuid)
+node_faults_of plan uuid = failed_in (node_at plan.nodes uuid) + firsts_in plan.links uuid
 
 -- how often a namenode has failed as it was planned to
 abbrev pub ask_faults_of : FaultPlan → ℕ → ℕ
@@ -169,14 +170,14 @@ pub record CountsAsk (old : FaultPlan) (i : ℕ) (fails : Bool) (new : FaultPlan
   pub nodes : SameNodeFaults old new
   pub links : SameLinks old new
 
--- One set-up of a pipeline was counted. It fails as its number is planned to: the links have then failed once more, or the next
--- acknowledgement of this link is bad.
-pub record SetsUp (old : FaultPlan) (link : ℕ) (kind : Option LinkKind) (new : FaultPlan) : Type 0 where
+-- One set-up of a pipeline was counted. It fails as its number is planned to: the datanode to which its failure is put down has then failed
+-- once more, or where none is named the links have; or the next acknowledgement of this link is bad.
+pub record SetsUp (old : FaultPlan) (link : ℕ) (first : Option (List ℕ)) (kind : Option LinkKind) (new : FaultPlan) : Type 0 where
   pub call : CountsOne old SetUps new
   pub as_planned : kind ≡ next_kind (kind_at old) (calls_of old SetUps)
-  pub faults : link_faults_of new ≡ link_faults_of old + one_if (is_at_once kind)
+  pub faults : link_faults_of new ≡ link_faults_of old + one_if (is_at_once kind && is_none first)
   pub bad : (l : ℕ) → is_bad new l ≡ (is_bad old l || (is_bad_ack kind && (link == l)))
-  pub nodes : SameNodeFaults old new
+  pub nodes : (d : List ℕ) → node_faults_of new d ≡ node_faults_of old d + one_if (is_at_once kind && is_first first d)
   pub asks : SameAskFaults old new
 
 -- One transfer was counted, as a set-up. It fails as its number is planned to: the links have then failed once more, however it

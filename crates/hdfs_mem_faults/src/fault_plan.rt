@@ -8,7 +8,7 @@ use crate::links::Links;
 use crate::node_plan::{NodeCall, NodeFault};
 use crate::nodes::Nodes;
 use hdfs_cluster::{AskKind, FaultLine, LinkKind, ReadKind};
-use hdfs_wire::NoMemory;
+use hdfs_wire::{NoMemory, Text};
 use std::alloc::Global;
 
 /// The calls of a cluster that were counted, which of them are planned to fail, and how often each object has failed.
@@ -101,13 +101,18 @@ impl FaultPlan {
         self.asks.failed(namenode)
     }
 
-    /// Counts the set-up of a pipeline that gets this link if it succeeds, and says how it fails. The links' count rises at
-    /// once, but for a bad acknowledgement.
-    pub fn set_up(&mut self, link: u64) -> Result<Option<LinkKind>, NoMemory>
-        ensures ok { IfOk result (λ kind. SetsUp self.old link kind self.new) }
+    /// Counts the set-up of a pipeline that gets this link if it succeeds, and says how it fails. But for a bad acknowledgement the
+    /// count of the datanode `first` rises at once, or where none is named that of the links.
+    pub fn set_up(
+        &mut self,
+        alloc: Global,
+        link: u64,
+        first: Option<&Text>,
+    ) -> Result<Option<LinkKind>, NoMemory>
+        ensures ok { IfOk result (λ kind. SetsUp self.old link (option_copied first.entry) kind self.new) }
         ensures err { OnErr result (SamePlan self.old self.new) }
     {
-        self.links.set_up(link)
+        self.links.set_up(alloc, link, first)
     }
 
     /// How the next set-up of a pipeline, or the next transfer, fails. Nothing is counted.
@@ -180,11 +185,11 @@ impl FaultPlan {
         self.nodes.count(NodeCall::Read, node)
     }
 
-    /// How often a datanode has failed. One that isn't there never has.
+    /// How often a datanode has failed: in its own calls, and in set-ups whose failure was put down to it.
     pub fn node_faults(&self, uuid: &str) -> u64
         ensures { result ≡ node_faults_of self.now uuid.now }
     {
-        self.nodes.failed(uuid)
+        self.nodes.failed(uuid) + self.links.first_faults(uuid)
     }
 
     /// How often links have failed.

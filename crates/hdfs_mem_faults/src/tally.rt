@@ -9,7 +9,7 @@ use std::alloc::Global;
 use std::collections::BTreeMap;
 
 /// How many numbers are planned at most. No memory holds as many.
-const MOST: usize = 1 << 60;
+pub(crate) const MOST: usize = 1 << 60;
 
 /// A series of calls, which are counted from 1 on: how many there were, which numbers are planned to fail and how, and how many
 /// calls have failed.

@@ -67,7 +67,7 @@ named_at (node ∷ locs) uuid zero within is = or_left (bytes_eq uuid node.id.da
 named_at (node ∷ locs) uuid (suc k) within is = or_right (bytes_eq uuid node.id.datanode_uuid) (is_named locs uuid) (named_at locs uuid k (omega arith) is)
 
 -- one that is not named is not among them
-not_among : (locs : List DatanodeInfo) (uuid : List ℕ) → is_named locs uuid ≡ false → Contains (uuids locs) uuid → ⊥
+pub not_among : (locs : List DatanodeInfo) (uuid : List ℕ) → is_named locs uuid ≡ false → Contains (uuids locs) uuid → ⊥
 not_among locs uuid unnamed has = false≢true (sym unnamed ∙ named_at locs uuid has.0 has.1 has.2)
 
 -- the datanode that is added is one more, and neither existing nor left out
@@ -181,6 +181,7 @@ shaped_one_more src block client existing excludes number ids count olds outs is
 
 serves_own : (p : Picture) (ask : Ask) → IsStray p ask → IsOwn p ask
 serves_own p (asks.AddBlock src client previous excludes file_id) h = h
+serves_own p (asks.AbandonBlock block src client file_id) h = h
 serves_own p (asks.Complete src client last file_id) h = h
 serves_own p (asks.UpdateBlockForPipeline block client) h = h
 serves_own p (asks.GetAdditionalDatanode src block existing excludes count client ids) h = h
@@ -193,6 +194,7 @@ unknown_own p asks.GetServerDefaults h = h
 unknown_own p (asks.Create src masked client flag parents replication block_size) h = h
 unknown_own p (asks.Append src client flag) h = absurd h
 unknown_own p (asks.AddBlock src client previous excludes file_id) h = absurd h
+unknown_own p (asks.AbandonBlock block src client file_id) h = absurd h
 unknown_own p (asks.Complete src client last file_id) h = absurd h
 unknown_own p (asks.UpdateBlockForPipeline block client) h = absurd h
 unknown_own p (asks.GetAdditionalDatanode src block existing excludes count client ids) h = absurd h

@@ -1,12 +1,12 @@
 -- The paths that begin so are found one behind another.
-use Rattle.std.proofs.Common.{◌≡◌, ℕ, ◌<◌, Bool, true, false, List, [], ◌∷◌, ◌++◌, Option, IsSome, append_assoc, refl, sym, ◌∙◌, ap, subst}
+use Rattle.std.proofs.Common.{◌≡◌, ℕ, Bool, true, false, List, [], ◌∷◌, ◌++◌, Option, IsSome, append_assoc, refl, sym, ◌∙◌, ap, subst}
 use Rattle.std.proofs.lemmas.Bool.{false≢true}
 use Rattle.std.proofs.lemmas.List.{append-nil}
 use Rattle.std.proofs.lemmas.List.Elements.{All-nil, All-push, Contains-append_left, Contains-push}
 use Rattle.std.specs.List.{All, Contains}
 use Rattle.hdfs_cluster.specs.declared.picture.Entry.{Entry}
 use Rattle.hdfs_cluster.specs.Names.{is_before}
-use Rattle.hdfs_mem_namenode.proofs.Bytes.{before_from, before_front, before_itself, before_neither, before_not, before_trans, before_upto, begins_so, zero_behind, zero_next}
+use Rattle.hdfs_mem_namenode.proofs.Bytes.{before_front, before_neither, begins_so, zero_next}
 
 -- something stands at a path that begins so
 abbrev pub IsInFront : (List ℕ → Option Entry) → List ℕ → List ℕ → Type 0

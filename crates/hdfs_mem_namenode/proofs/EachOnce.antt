@@ -1,5 +1,5 @@
 -- Texts of which each is taken once are some of those that were there, and no two of them are the same.
-use Rattle.std.proofs.Common.{◌≡◌, ℕ, Bool, true, false, cond, ◌||◌, List, [], ◌∷◌, ◌++◌, refl, ◌∙◌}
+use Rattle.std.proofs.Common.{◌≡◌, ℕ, Bool, true, false, cond, List, [], ◌∷◌, ◌++◌, refl, ◌∙◌}
 use Rattle.std.proofs.lemmas.Bool.{or_parts}
 use Rattle.std.proofs.lemmas.List.Elements.{All-append, All-cons, All-head, All-nil, All-tail}
 use Rattle.std.proofs.lemmas.Map.Keys.{IsDistinct-cons, IsDistinct-head, IsDistinct-tail}
@@ -29,7 +29,7 @@ all_push P (first ∷ texts) text held here = (held.0, all_push P texts text hel
 none_apart : (P : List ℕ → Type 0) → AllByRecursion P []
 none_apart P = tt
 
-distinct_push : (texts : List (List ℕ)) (text : List ℕ) → list_any (bytes_eq text) texts ≡ false → IsDistinct bytes_eq texts
+pub distinct_push : (texts : List (List ℕ)) (text : List ℕ) → list_any (bytes_eq text) texts ≡ false → IsDistinct bytes_eq texts
     → IsDistinct bytes_eq (texts ++ text ∷ [])
 distinct_push [] text apart distinct = IsDistinct-cons bytes_eq text [] (none_apart (λ y. bytes_eq text y ≡ false)) distinct
 distinct_push (first ∷ texts) text apart distinct =

@@ -1,5 +1,5 @@
 -- The paths that begin so are found one behind another, in order, and counted.
-use Rattle.std.proofs.Common.{◌≡◌, ℕ, ◌+◌, ◌*◌, ◌-◌, ◌^◌, min, Bool, true, false, List, [], ◌∷◌, ◌++◌, Option, Some, IsSome, is_some, unwrap_or, Result, Ok, Err, append_assoc, refl, sym, ◌∙◌, ap, subst, arith}
+use Rattle.std.proofs.Common.{◌≡◌, ℕ, ◌+◌, ◌*◌, Bool, true, false, List, [], ◌∷◌, ◌++◌, Option, Some, IsSome, is_some, unwrap_or, Result, Ok, Err, append_assoc, refl, sym, ◌∙◌, ap, subst, arith}
 use Rattle.std.proofs.lemmas.Bool.{false≢true}
 use Rattle.std.proofs.lemmas.List.{append-nil}
 use Rattle.std.proofs.lemmas.List.Elements.{All-nil, All-push, Contains-append_left, Contains-push}
@@ -11,7 +11,7 @@ use Rattle.hdfs_cluster.specs.declared.picture.BlockEntry.{BlockEntry}
 use Rattle.hdfs_cluster.specs.declared.picture.Entry.{Entry}
 use Rattle.hdfs_cluster.specs.Names.{Rises, front_of, is_before}
 use Rattle.hdfs_mem_namenode.specs.Counting.{ArePathsBehind, Counts, CountsOn, IsNamedBehind, bytes_at, directories_at, files_at, replicas_at, summary_of, told, with_one}
-use Rattle.hdfs_mem_namenode.specs.Looking.{attributes_of, length_of}
+use Rattle.hdfs_mem_namenode.specs.Looking.{length_of}
 use Rattle.hdfs_mem_namenode.proofs.Bytes.{before_from, before_neither, begins_so, zero_behind, zero_next}
 use Rattle.hdfs_mem_namenode.proofs.Pages.{last_from, last_push, rises_append}
 

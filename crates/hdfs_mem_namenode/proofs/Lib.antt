@@ -10,6 +10,7 @@ pub mod EachOnce
 pub mod FileChanges
 pub mod Fronts
 pub mod Gathering
+pub mod GivingUp
 pub mod Keys
 pub mod Locating
 pub mod Moving
@@ -18,6 +19,7 @@ pub mod NewDirectories
 pub mod NewFiles
 pub mod Numbers
 pub mod Pages
+pub mod Placing
 pub mod Ranging
 pub mod Removing
 pub mod Rows

@@ -1,9 +1,9 @@
 -- A file that moves onto a free path in a directory leaves a namespace sound: its blocks go with it, and are of no other file.
-use Rattle.std.proofs.Common.{◌≡◌, ◌⊎◌, ⊎_elim, ℕ, Bool, true, false, cond, not, ◌&&◌, ◌||◌, eqb, List, [], ◌∷◌, ◌++◌, Option, Some, None, IsSome, is_some, is_none, refl, sym, ◌∙◌, ap, subst}
+use Rattle.std.proofs.Common.{◌≡◌, ⊎_elim, ℕ, Bool, true, false, cond, not, ◌&&◌, ◌||◌, eqb, List, [], ◌∷◌, Option, Some, None, IsSome, is_some, is_none, refl, sym, ◌∙◌, ap}
 use Rattle.std.proofs.lemmas.Bool.{false≢true}
 use Rattle.std.proofs.lemmas.List.Elements.{All-head, All-tail}
 use Rattle.std.proofs.lemmas.Slice.Eq.{bytes_eq-Decides}
-use Rattle.std.specs.List.{All, list_all, list_any}
+use Rattle.std.specs.List.{All, list_any}
 use Rattle.std.specs.Option.{option_map}
 use Rattle.std.specs.Str.{bytes_eq}
 use Rattle.hdfs_cluster.specs.declared.picture.BlockEntry.{BlockEntry}
@@ -11,15 +11,14 @@ use Rattle.hdfs_cluster.specs.declared.picture.Entry.{Entry}
 use Rattle.hdfs_cluster.specs.declared.picture.Entry.TheVariants as entries
 use Rattle.hdfs_cluster.specs.declared.picture.FileEntry.{FileEntry}
 use Rattle.hdfs_cluster.specs.Effects.{blocks_at, with_entry}
-use Rattle.hdfs_cluster.specs.Files.{Kind, Directory, ClosedFile, OpenFile, NotDirectory, Missing, IsTree, is_file, no_file_at}
-use Rattle.hdfs_cluster.specs.Listing.{total}
+use Rattle.hdfs_cluster.specs.Files.{Directory, ClosedFile, OpenFile, NotDirectory, Missing, is_file, no_file_at}
 use Rattle.hdfs_cluster.specs.Picture.{entry_kind, kinds_in}
-use Rattle.hdfs_cluster.specs.Refusals.{Exists, Lacks, append_refusal, create_refusal, is_in_the_way, open_refusal}
+use Rattle.hdfs_cluster.specs.Refusals.{Exists, Lacks, is_in_the_way, open_refusal}
 use Rattle.hdfs_cluster.proofs.Trees.{ancestors_cases}
 use Rattle.hdfs_names.specs.Paths.{root, ancestors, is_path, parent_of}
 use Rattle.hdfs_mem_namenode.specs.Adding.{AreNew, IsPlace}
 use Rattle.hdfs_mem_namenode.specs.Changing.{IsClosed, frees}
-use Rattle.hdfs_mem_namenode.specs.Memory.{IsBare, is_dir, is_kth, is_kth_at, is_sized}
+use Rattle.hdfs_mem_namenode.specs.Memory.{IsBare, is_dir, is_kth, is_sized}
 use Rattle.hdfs_mem_namenode.specs.Renaming.{MayMove, moved}
 use Rattle.hdfs_mem_namenode.specs.Totals.{is_counted}
 use Rattle.hdfs_mem_namenode.proofs.Apart.{no_kth}

@@ -1,5 +1,5 @@
 -- What a directory that is made keeps of a namespace: each path has a directory, or what it had.
-use Rattle.std.proofs.Common.{◌≡◌, ◌⊎◌, inl, inr, ⊎_elim, ℕ, Bool, true, false, cond, List, Option, Some, None, IsSome, is_some, unwrap_or, refl, sym, ◌∙◌, ap, subst}
+use Rattle.std.proofs.Common.{◌≡◌, ◌⊎◌, inl, inr, ⊎_elim, ℕ, Bool, true, false, cond, List, Option, Some, None, is_some, unwrap_or, refl, sym, ◌∙◌, ap, subst}
 use Rattle.std.proofs.Math.Path.{fun_ext}
 use Rattle.std.proofs.lemmas.Bool.{false≢true}
 use Rattle.std.proofs.lemmas.Slice.Eq.{bytes_eq-Decides}
@@ -13,9 +13,9 @@ use Rattle.hdfs_cluster.specs.Effects.{blocks_at}
 use Rattle.hdfs_cluster.specs.Files.{ClosedFile, Directory, IsTree, OpenFile, NotDirectory, Missing, is_file}
 use Rattle.hdfs_cluster.specs.Namenode.{new_file}
 use Rattle.hdfs_cluster.specs.Picture.{entry_kind, kinds_in}
-use Rattle.hdfs_cluster.specs.Refusals.{Refusal, Exists, Lacks, with_parents}
+use Rattle.hdfs_cluster.specs.Refusals.{Exists, Lacks, with_parents}
 use Rattle.hdfs_names.specs.Paths.{root, is_path, ancestors}
-use Rattle.hdfs_mem_namenode.specs.Memory.{IsBare, is_bare_at, is_dir, is_kth, is_kth_at, is_sized}
+use Rattle.hdfs_mem_namenode.specs.Memory.{IsBare, is_bare_at, is_dir, is_kth, is_sized}
 use Rattle.hdfs_mem_namenode.specs.Totals.{is_counted}
 use Rattle.hdfs_mem_namenode.proofs.Apart.{apart_fewer, no_kth}
 use Rattle.hdfs_mem_namenode.proofs.Directories.{tree_with_parents}

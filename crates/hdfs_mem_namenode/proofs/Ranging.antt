@@ -1,5 +1,5 @@
 -- The entries of a map of texts from a text on, one behind another, and the names in a directory that are counted along them.
-use Rattle.std.proofs.Common.{◌≡◌, ℕ, zero, suc, ◌+◌, ◌<◌, ◌≤◌, Bool, true, false, cond, not, ◌||◌, List, [], ◌∷◌, ◌++◌, length, Option, Some, IsSome, is_some, String, refl, sym, ◌∙◌, ap, subst, arith}
+use Rattle.std.proofs.Common.{◌≡◌, ℕ, zero, suc, ◌+◌, ◌<◌, Bool, true, false, cond, not, ◌||◌, List, [], ◌∷◌, ◌++◌, length, Option, Some, IsSome, is_some, String, refl, sym, ◌∙◌, ap, subst, arith}
 use Rattle.std.proofs.lemmas.Bool.{false≢true}
 use Rattle.std.proofs.lemmas.List.Elements.{All-cons, All-filter, All-head, All-nil, All-tail}
 use Rattle.std.proofs.lemmas.List.Kept.{IsStrictlySortedBy-filter}
@@ -8,7 +8,7 @@ use Rattle.std.proofs.lemmas.Map.Keys.{sorted_tail}
 use Rattle.std.proofs.lemmas.Map.Text.{is_eq-slice_cmp}
 use Rattle.std.proofs.lemmas.Map.Views.{All-after_first, All-found}
 use Rattle.std.proofs.lemmas.Slice.Eq.{bytes_eq-Decides}
-use Rattle.std.specs.BTreeMap.{BTreeMap, IsOrdered, get, get_by_text, is_at}
+use Rattle.std.specs.BTreeMap.{BTreeMap, IsOrdered, get_by_text, is_at}
 use Rattle.std.specs.Cmp.Lexicographic.{slice_cmp}
 use Rattle.std.specs.List.{All, filter, list_any, slice_get}
 use Rattle.std.specs.List.Sorted.{IsStrictlySortedBy}
@@ -23,7 +23,7 @@ use Rattle.hdfs_cluster.specs.declared.picture.BlockEntry.{BlockEntry}
 use Rattle.hdfs_cluster.specs.declared.picture.Entry.{Entry}
 use Rattle.hdfs_cluster.specs.Names.{is_before}
 use Rattle.hdfs_names.specs.Paths.{is_slash}
-use Rattle.hdfs_mem_namenode.specs.Listing.{AreFrom, CountsBehind, GoesOn, IsNext, IsUnderWay, NoneBehind, Starts, count_from}
+use Rattle.hdfs_mem_namenode.specs.Listing.{AreFrom, CountsBehind, GoesOn, IsNext, IsUnderWay, NoneBehind, Starts}
 use Rattle.hdfs_mem_namenode.proofs.Bytes.{before_cmp, before_from, before_itself, before_not, before_trans, zero_behind, zero_next}
 use Rattle.hdfs_mem_namenode.proofs.Children.{past_behind, starts_first, starts_next, starts_none, starts_outside, starts_past}
 use Rattle.hdfs_mem_namenode.proofs.Directories.{some_known}

@@ -129,6 +129,7 @@ module _ (p q : Picture) (bytes : KeepsBytes p q) (active : q.active ≡ p.activ
       absurd (not_still (space_in p) (space_in q) (asks.Create src masked client flag parents replication block_size) answer refl h)
   row_or_own (asks.Append src client flag) answer h = absurd (not_still (space_in p) (space_in q) (asks.Append src client flag) answer refl h)
   row_or_own (asks.AddBlock src client previous excludes file_id) answer h = absurd (not_still (space_in p) (space_in q) (asks.AddBlock src client previous excludes file_id) answer refl h)
+  row_or_own (asks.AbandonBlock block src client file_id) answer h = absurd (not_still (space_in p) (space_in q) (asks.AbandonBlock block src client file_id) answer refl h)
   row_or_own (asks.Complete src client last file_id) answer h = absurd (not_still (space_in p) (space_in q) (asks.Complete src client last file_id) answer refl h)
   row_or_own (asks.UpdateBlockForPipeline block client) answer h = absurd (not_still (space_in p) (space_in q) (asks.UpdateBlockForPipeline block client) answer refl h)
   row_or_own (asks.GetAdditionalDatanode src block existing excludes count client ids) answer h =
@@ -150,6 +151,7 @@ module _ (p q : Picture) (bytes : KeepsBytes p q) (active : q.active ≡ p.activ
   refusal_or_own (asks.Create src masked client flag parents replication block_size) class h = (let is = h.1 in absurd (cc))
   refusal_or_own (asks.Append src client flag) class h = (let is = h.1 in absurd (cc))
   refusal_or_own (asks.AddBlock src client previous excludes file_id) class h = (let is = h.1 in absurd (cc))
+  refusal_or_own (asks.AbandonBlock block src client file_id) class h = (let is = h.1 in absurd (cc))
   refusal_or_own (asks.Complete src client last file_id) class h = (let is = h.1 in absurd (cc))
   refusal_or_own (asks.UpdateBlockForPipeline block client) class h = (let is = h.1 in absurd (cc))
   refusal_or_own (asks.GetAdditionalDatanode src block existing excludes count client ids) class h = (let is = h.1 in absurd (cc))

@@ -1,19 +1,21 @@
 -- How blocks and files come into a cluster in memory.
-use Rattle.std.specs.Prelude.{◌≡◌, ◌≢◌, ◌<◌, ◌==◌, ℕ, Bool, true, false, List, [], ◌∷◌, ◌++◌, length, min, filter, slice_index_or, Contains, Option, Some, None, unwrap_or, if◌then◌else◌}
-use Rattle.std.specs.List.{All, fold, list_any}
+use Rattle.std.specs.Prelude.{◌≡◌, ◌≢◌, ◌⊎◌, ◌<◌, ◌==◌, ◌&&◌, ℕ, zero, suc, nat_lt, not, Bool, true, false, List, [], ◌∷◌, ◌++◌, length, min, filter, slice_index_or, Contains, Option, Some, None, unwrap_or, if◌then◌else◌}
+use Rattle.std.specs.List.{All, IsDistinct, fold, list_any}
 use Rattle.std.specs.Str.{bytes_eq}
 use Rattle.hdfs_cluster.specs.declared.picture.Entry.{Entry}
 use Rattle.hdfs_cluster.specs.declared.picture.Entry.TheVariants as entries
 use Rattle.hdfs_cluster.specs.declared.picture.BlockEntry.{BlockEntry}
 use Rattle.hdfs_cluster.specs.declared.picture.FileEntry.{FileEntry}
 use Rattle.hdfs_cluster.specs.declared.messages.Block.{Block}
+use Rattle.hdfs_cluster.specs.declared.messages.DatanodeInfo.{DatanodeInfo}
 use Rattle.hdfs_cluster.specs.declared.messages.LocatedBlock.{LocatedBlock}
-use Rattle.hdfs_cluster.specs.Effects.{HasBlock, IsEntry, IsLast, IsRetried, with_block, with_entry, with_length}
+use Rattle.hdfs_cluster.specs.Effects.{HasBlock, IsEmptyLast, IsEntry, IsLast, IsRetried, table_without, with_block, with_entry, with_length}
 use Rattle.hdfs_cluster.specs.Listing.{total}
 use Rattle.hdfs_names.specs.Paths.{is_path, ancestors, parent_of}
 use Rattle.hdfs_cluster.specs.Picture.{Picture}
 use Rattle.hdfs_mem_namenode.specs.Memory.{is_length, is_dir, is_kth, is_kth_at}
-use Rattle.hdfs_mem_datanodes.specs.Uuids.{lowest}
+use Rattle.hdfs_mem_datanodes.specs.Nodes.{is_named}
+use Rattle.hdfs_mem_faults.specs.Series.{uuid_of}
 
 -- a file can stand at the path: it is new, and its parent is a directory
 pub record IsPlace (names : List ℕ → Option Entry) (path : List ℕ) : Type 0 where
@@ -93,9 +95,23 @@ pub record Space : Type 0 where
   pub table : ℕ → Option BlockEntry
   pub held : List ℕ → ℕ → List ℕ
 
--- on how many of so many datanodes a block of this replication is put
-abbrev pub places : ℕ → ℕ → ℕ
-places replication count = min (min replication 256) count
+-- the names and the block table are as they were
+abbrev pub SameSpace : Space → Space → Type 0
+SameSpace old new = ((path : List ℕ) → new.names path ≡ old.names path) × ((id : ℕ) → new.table id ≡ old.table id)
+
+-- datanodes with one more behind them, where it isn't barred and they are fewer than so many
+abbrev pub with_free : (List ℕ → Bool) → ℕ → List (List ℕ) → List ℕ → List (List ℕ)
+with_free barred most nodes uuid = if nat_lt (length nodes) most && not (barred uuid) then nodes ++ uuid ∷ [] else nodes
+
+-- of so many datanodes the lowest-numbered ones that aren't barred, and no more of them than so many
+abbrev pub free_nodes : (List ℕ → Bool) → ℕ → ℕ → List (List ℕ)
+free_nodes barred most zero = []
+free_nodes barred most (suc n) = with_free barred most (free_nodes barred most n) (uuid_of n)
+
+-- The datanodes on which a new block of this replication is put, of so many: the lowest-numbered ones but those that are to be left out, as many
+-- as its replication, or as there are, or as an answer can name.
+abbrev pub places : List DatanodeInfo → ℕ → ℕ → List (List ℕ)
+places excludes replication count = free_nodes (is_named excludes) (min replication 256) count
 
 -- A new block is listed on these datanodes, each of which holds nothing of it, behind the others of the file at a path.
 pub record AddsBehind (old : Space) (path : List ℕ) (previous : Option Block) (nodes : List (List ℕ)) (new : Space) (block : LocatedBlock) : Type 0 where
@@ -118,12 +134,35 @@ pub record GivesLast (old : Space) (file : FileEntry) (previous : Option Block) 
   pub same : (q : List ℕ) → new.names q ≡ old.names q
   pub listed : (b : ℕ) → new.table b ≡ with_length old.table previous b
 
--- The file has a new block, and no empty one that it could be given again. Of so many datanodes it is on the lowest-numbered
--- ones, as many as the file's replication, or as there are, or as an answer can name.
-pub record AddsLast (old : Space) (count : ℕ) (path : List ℕ) (file : FileEntry) (previous : Option Block) (new : Space) (block : LocatedBlock) : Type 0 where
+-- The file has a new block, and no empty one that it could be given again. Of so many datanodes it is on the lowest-numbered ones that
+-- aren't to be left out (`places`), of which there are some.
+pub record AddsLast (old : Space) (count : ℕ) (path : List ℕ) (file : FileEntry) (previous : Option Block) (excludes : List DatanodeInfo)
+    (new : Space) (block : LocatedBlock) : Type 0 where
   pub first : (last : ℕ) → IsRetried old.table file.blocks previous last → ⊥
-  pub replicated : 0 < file.attributes.replication
-  pub adds : AddsBehind old path previous (lowest (places file.attributes.replication count)) new block
+  pub some : 0 < length (places excludes file.attributes.replication count)
+  pub apart : IsDistinct bytes_eq (places excludes file.attributes.replication count)
+  pub adds : AddsBehind old path previous (places excludes file.attributes.replication count) new block
+
+-- a file with these blocks
+abbrev pub with_blocks : FileEntry → List ℕ → FileEntry
+with_blocks file ids = record { attributes = file.attributes; blocks = ids; is_open = file.is_open }
+
+-- The last block of the file at a path, which is empty, is none of its blocks any more, and isn't listed any more.
+pub record TakesLast (names : List ℕ → Option Entry) (table : ℕ → Option BlockEntry) (path : List ℕ) (file : FileEntry) (block : Block)
+    (names' : List ℕ → Option Entry) (table' : ℕ → Option BlockEntry) : Type 0 where
+  pub gone : IsEmptyLast table file.blocks block
+  pub shorter : (q : List ℕ) → names' q ≡ with_entry names path (with_blocks file gone.front) q
+  pub listed : (id : ℕ) → table' id ≡ table_without table (block.block_id ∷ []) id
+
+-- that, or the file doesn't have the block, and nothing changes
+abbrev pub TakesOrNot : (List ℕ → Option Entry) → (ℕ → Option BlockEntry) → List ℕ → FileEntry → Block → (List ℕ → Option Entry) → (ℕ → Option BlockEntry) → Type 0
+TakesOrNot names table path file block names' table' =
+    TakesLast names table path file block names' table'
+    ⊎ ((Contains file.blocks block.block_id → ⊥) × ((q : List ℕ) → names' q ≡ names q) × ((id : ℕ) → table' id ≡ table id))
+
+-- an open file's block can be given up: it is its last one and empty, or the file doesn't have it
+abbrev pub MayBeGivenUp : (ℕ → Option BlockEntry) → FileEntry → Block → Type 0
+MayBeGivenUp table file block = IsEmptyLast table file.blocks block ⊎ (Contains file.blocks block.block_id → ⊥)
 
 -- a block of the same length with this generation stamp, on these datanodes
 abbrev pub with_pipeline : BlockEntry → ℕ → List (List ℕ) → BlockEntry

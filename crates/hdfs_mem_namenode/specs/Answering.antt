@@ -49,9 +49,10 @@ abbrev pub IsLocated : Answer → Type 0
 IsLocated (answers.GetBlockLocations None) = ⊥
 IsLocated answer = Unit {0}
 
--- a block is named that isn't listed, or that no open file has, or none where there is one
+-- a block is named that isn't listed, or that no open file has, or that can't be given up, or none where there is one
 abbrev pub IsStray : Picture → Ask → Type 0
 IsStray p (asks.AddBlock src client previous excludes file_id) = IsOwn p (asks.AddBlock src client previous excludes file_id)
+IsStray p (asks.AbandonBlock block src client file_id) = IsOwn p (asks.AbandonBlock block src client file_id)
 IsStray p (asks.Complete src client last file_id) = IsOwn p (asks.Complete src client last file_id)
 IsStray p (asks.UpdateBlockForPipeline block client) = IsOwn p (asks.UpdateBlockForPipeline block client)
 IsStray p (asks.GetAdditionalDatanode src block existing excludes count client ids) =
@@ -66,6 +67,7 @@ IsUnknown asks.GetServerDefaults = ⊥
 IsUnknown (asks.Create src masked client flag parents replication block_size) = ⊥
 IsUnknown (asks.Append src client flag) = ⊥
 IsUnknown (asks.AddBlock src client previous excludes file_id) = ⊥
+IsUnknown (asks.AbandonBlock block src client file_id) = ⊥
 IsUnknown (asks.Complete src client last file_id) = ⊥
 IsUnknown (asks.UpdateBlockForPipeline block client) = ⊥
 IsUnknown (asks.GetAdditionalDatanode src block existing excludes count client ids) = ⊥

@@ -1,5 +1,5 @@
 -- What stands at a path of a cluster in memory and below it, counted.
-use Rattle.std.specs.Prelude.{◌≡◌, ℕ, ◌+◌, ◌*◌, ◌-◌, ◌^◌, min, sum_by, true, List, [], ◌∷◌, ◌++◌, All, Contains, Option, Some, None, IsSome, unwrap_or}
+use Rattle.std.specs.Prelude.{◌≡◌, ℕ, ◌+◌, ◌*◌, ◌-◌, ◌^◌, min, sum_by, true, List, ◌∷◌, ◌++◌, All, Contains, Option, Some, None, IsSome, unwrap_or}
 use Rattle.hdfs_cluster.specs.declared.messages.Summary.{Summary}
 use Rattle.hdfs_cluster.specs.declared.picture.BlockEntry.{BlockEntry}
 use Rattle.hdfs_cluster.specs.declared.picture.Entry.{Entry}

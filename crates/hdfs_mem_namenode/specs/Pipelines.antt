@@ -11,8 +11,8 @@ use Rattle.hdfs_cluster.specs.declared.picture.BlockEntry.{BlockEntry}
 use Rattle.hdfs_cluster.specs.declared.picture.Entry.{Entry}
 use Rattle.hdfs_cluster.specs.declared.picture.Entry.TheVariants as entries
 use Rattle.hdfs_cluster.specs.declared.picture.FileEntry.{FileEntry}
-use Rattle.hdfs_cluster.specs.Effects.{IsEntry, names_of, with_block}
-use Rattle.hdfs_mem_namenode.specs.Adding.{with_pipeline}
+use Rattle.hdfs_cluster.specs.Effects.{HasBlock, IsEntry, IsRetried, names_of, with_block}
+use Rattle.hdfs_mem_namenode.specs.Adding.{Space, with_pipeline}
 use Rattle.hdfs_mem_datanodes.specs.Nodes.{is_named}
 
 -- the block is listed, and the answer has its length, its datanodes, and a greater generation stamp
@@ -41,6 +41,16 @@ is_barred existing excludes uuid = is_named existing uuid || (is_named excludes 
 -- each of so many datanodes is barred
 abbrev pub AreBarred : (List ℕ → Bool) → ℕ → Type 0
 AreBarred barred count = (k : ℕ) → k < count → barred (uuid_of k) ≡ true
+
+-- A block more is asked for of an open file, behind a block that it has. It has no empty one that it could be given again, and each of so
+-- many datanodes is to be left out.
+pub record LacksPlace (old : Space) (count : ℕ) (path : List ℕ) (previous : Option Block) (excludes : List DatanodeInfo) : Type 0 where
+  pub file : FileEntry
+  pub is : old.names path ≡ Some (entries.File file)
+  pub is_open : file.is_open ≡ true
+  pub has : HasBlock file.blocks previous
+  pub first : (last : ℕ) → IsRetried old.table file.blocks previous last → ⊥
+  pub barred : AreBarred (is_named excludes) count
 
 -- of so many datanodes the one with this number isn't barred, and each below it is
 pub record IsLowestFree (barred : List ℕ → Bool) (count number : ℕ) : Type 0 where

@@ -1,25 +1,26 @@
 //! How a block is added to a file in a cluster in memory.
-ghost use Rattle.std.specs.Prelude.{◌≡◌, ◌+◌, ◌<◌, ◌≤◌, ◌⊎◌, ℕ, true, List, [], Option, Some, None, All, IfOk, IfErr, IfSome, OnOk, OnErr};
+ghost use Rattle.std.specs.Prelude.{◌≡◌, ◌+◌, ◌<◌, ◌≤◌, ◌⊎◌, ℕ, true, List as Items, [], length, Option, Some, None, All, IfOk, IfErr, IfSome, OnOk, OnErr, MatchOption};
 ghost use Rattle.std.specs.BTreeMap.{get_by_text};
 ghost use Rattle.hdfs_cluster.specs.declared.picture.Entry.TheVariants as entries;
 ghost use Rattle.hdfs_cluster.specs.declared.picture.BlockEntry.{BlockEntry};
 ghost use Rattle.hdfs_cluster.specs.declared.picture.FileEntry.{FileEntry};
 ghost use Rattle.hdfs_cluster.specs.Effects.{HasBlock, IsEntry, with_block, with_entry, with_length};
 ghost use Rattle.hdfs_cluster.specs.Namenode.{IsToWrite};
-ghost use Rattle.hdfs_mem_namenode.specs.Adding.{AddsBehind, AddsLast, CanTake, GivesLast, places, with_more};
+ghost use Rattle.hdfs_mem_namenode.specs.Adding.{AddsBehind, AddsLast, CanTake, GivesLast, SameSpace, with_more};
+ghost use Rattle.hdfs_mem_namenode.specs.Pipelines.{LacksPlace};
 ghost use Rattle.hdfs_mem_namenode.specs.Spaces.{space_of};
 ghost use Rattle.hdfs_mem_namenode.specs.Answering.{StandsForStray};
 ghost use Rattle.hdfs_mem_namenode.specs.Memory.{table_of};
-ghost use Rattle.hdfs_mem_datanodes.specs.Uuids.{lowest};
 ghost use Rattle.hdfs_mem_datanodes.specs.Nodes.{held_in};
 
 use crate::blocks::{has_block, push_id, retried, set_length};
-use crate::namenode::{MAX_LOCATIONS, NOT_FOUND, block_to_write, exception};
+use crate::namenode::{NOT_FOUND, block_to_write, exception};
 use crate::namespace::{FIRST_BLOCK, Namespace};
+use crate::pipelines::places;
 use crate::totals::set_total;
-use hdfs_cluster::{AskFault, Block, BlockEntry, LocatedBlock};
+use hdfs_cluster::{AskFault, Block, BlockEntry, DatanodeInfo, LocatedBlock};
 use hdfs_mem_datanodes::Datanodes;
-use hdfs_wire::{NoMemory, Text};
+use hdfs_wire::{List, NoMemory, Text};
 use std::alloc::Global;
 
 impl Namespace {
@@ -49,11 +50,11 @@ impl Namespace {
         requires free { self.old.next_block ≤ id }
         requires empty { entry.length ≡ 0 }
         ensures names { OnOk result ((file : FileEntry) → get_by_text self.old.names src.now ≡ Some (entries.File file)
-            → (q : List ℕ) → get_by_text self.new.names q ≡ with_entry (get_by_text self.old.names) src.now
+            → (q : Items ℕ) → get_by_text self.new.names q ≡ with_entry (get_by_text self.old.names) src.now
             (with_more file id) q) }
         ensures table { OnOk result ((b : ℕ) → table_of self.new.table.entries b
             ≡ with_block (with_length (table_of self.old.table.entries) previous.now) id entry b) }
-        ensures err { OnErr result (((q : List ℕ) → get_by_text self.new.names q ≡ get_by_text self.old.names q)
+        ensures err { OnErr result (((q : Items ℕ) → get_by_text self.new.names q ≡ get_by_text self.old.names q)
             × ((b : ℕ) → table_of self.new.table.entries b ≡ table_of self.old.table.entries b)) }
     {
         let Some(next) = id.checked_add(FIRST_BLOCK) else {
@@ -74,24 +75,23 @@ impl Namespace {
         }
     }
 
-    /// Adds a new block to the file at a path, on the lowest-numbered datanodes.
+    /// Adds a new block to the file at a path, on these datanodes.
     fn add_behind(
         &mut self,
         alloc: Global,
         nodes: &Datanodes,
         src: &str,
         previous: &Option<Block>,
-        replication: u32,
+        on: List<Text>,
         sum: u64,
     ) -> Result<LocatedBlock, NoMemory>
         requires { CanTake (get_by_text self.old.names) (table_of self.old.table.entries) src.now previous.now sum }
-        ensures added { IfOk result (AddsBehind (space_of self.old nodes.now) src.now previous.now
-            (lowest (places replication nodes.now.count)) (space_of self.new nodes.now)) }
+        ensures added { IfOk result (AddsBehind (space_of self.old nodes.now) src.now previous.now on
+            (space_of self.new nodes.now)) }
         ensures shape { IfOk result (λ block. IsToWrite block × (block.b.num_bytes ≡ 0)) }
-        ensures err { OnErr result (((q : List ℕ) → get_by_text self.new.names q ≡ get_by_text self.old.names q)
+        ensures err { OnErr result (((q : Items ℕ) → get_by_text self.new.names q ≡ get_by_text self.old.names q)
             × ((b : ℕ) → table_of self.new.table.entries b ≡ table_of self.old.table.entries b)) }
     {
-        let on = nodes.lowest(alloc, replication.min(MAX_LOCATIONS as u32))?;
         let Some(id) = self.free_id(nodes, on.as_slice()) else {
             return Err(NoMemory);
         };
@@ -137,24 +137,52 @@ impl Namespace {
         Ok(block)
     }
 
-    /// Adds a block to the open file at a path, or gives its last one again. No replica is made of a file with none.
+    /// Adds a new block to the file at a path, on these datanodes; none where there is none of them.
+    fn add_on(
+        &mut self,
+        alloc: Global,
+        nodes: &Datanodes,
+        src: &str,
+        previous: &Option<Block>,
+        on: List<Text>,
+        sum: u64,
+    ) -> Result<Option<LocatedBlock>, NoMemory>
+        requires { CanTake (get_by_text self.old.names) (table_of self.old.table.entries) src.now previous.now sum }
+        ensures added { IfOk result (λ found. MatchOption found
+            ((on ≡ []) × SameSpace (space_of self.old nodes.now) (space_of self.new nodes.now))
+            (λ block. (0 < length on) × AddsBehind (space_of self.old nodes.now) src.now previous.now on
+            (space_of self.new nodes.now) block)) }
+        ensures shape { IfOk result (λ found. IfSome found (λ block. IsToWrite block × (block.b.num_bytes ≡ 0))) }
+        ensures err { OnErr result (SameSpace (space_of self.old nodes.now) (space_of self.new nodes.now)) }
+    {
+        if on.as_slice().is_empty() {
+            return Ok(None);
+        }
+        Ok(Some(self.add_behind(alloc, nodes, src, previous, on, sum)?))
+    }
+
+    /// Adds a block to the open file at a path, on none of `excludes`, or gives its last one again; none where no datanode is left for a
+    /// new one. No replica is made of a file with none.
     pub fn extend(
         &mut self,
         alloc: Global,
         nodes: &Datanodes,
         src: &str,
         previous: &Option<Block>,
-    ) -> Result<LocatedBlock, AskFault>
-        ensures added { IfOk result (λ block. (file : FileEntry)
-            × (get_by_text self.old.names src.now ≡ Some (entries.File file))
+        excludes: &[DatanodeInfo],
+    ) -> Result<Option<LocatedBlock>, AskFault>
+        ensures added { IfOk result (λ found. MatchOption found
+            (LacksPlace (space_of self.old nodes.now) nodes.now.count src.now previous.now excludes.now
+            × SameSpace (space_of self.old nodes.now) (space_of self.new nodes.now))
+            (λ block. (file : FileEntry) × (get_by_text self.old.names src.now ≡ Some (entries.File file))
             × (GivesLast (space_of self.old nodes.now) file previous.now (space_of self.new nodes.now) block
-            ⊎ AddsLast (space_of self.old nodes.now) nodes.now.count src.now file previous.now
-            (space_of self.new nodes.now) block)) }
-        ensures shape { IfOk result (λ block. IsToWrite block × (block.b.num_bytes ≡ 0)) }
+            ⊎ AddsLast (space_of self.old nodes.now) nodes.now.count src.now file previous.now excludes.now
+            (space_of self.new nodes.now) block))) }
+        ensures shape { IfOk result (λ found. IfSome found (λ block. IsToWrite block × (block.b.num_bytes ≡ 0))) }
         ensures stray { IfErr result (StandsForStray ((file : FileEntry)
             → get_by_text self.old.names src.now ≡ Some (entries.File file)
             → file.is_open ≡ true → HasBlock file.blocks previous.now → ⊥)) }
-        ensures err { OnErr result (((q : List ℕ) → get_by_text self.new.names q ≡ get_by_text self.old.names q)
+        ensures err { OnErr result (((q : Items ℕ) → get_by_text self.new.names q ≡ get_by_text self.old.names q)
             × ((b : ℕ) → table_of self.new.table.entries b ≡ table_of self.old.table.entries b)) }
     {
         let Some(file) = self.file(src) else {
@@ -175,8 +203,11 @@ impl Namespace {
             return Err(AskFault::NoMemory);
         };
         match retried(&self.table, ids, previous) {
-            Some(id) => Ok(self.give_again(alloc, src, previous, sum, id)?),
-            None => Ok(self.add_behind(alloc, nodes, src, previous, replication, sum)?),
+            Some(id) => Ok(Some(self.give_again(alloc, src, previous, sum, id)?)),
+            None => {
+                let on = places(alloc, nodes, excludes, replication)?;
+                Ok(self.add_on(alloc, nodes, src, previous, on, sum)?)
+            }
         }
     }
 }

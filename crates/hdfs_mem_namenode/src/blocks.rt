@@ -4,13 +4,15 @@ ghost use Rattle.std.specs.BTreeMap.{get_by_text};
 ghost use Rattle.hdfs_cluster.specs.declared.picture.BlockEntry.{BlockEntry};
 ghost use Rattle.hdfs_cluster.specs.declared.picture.Entry.TheVariants as entries;
 ghost use Rattle.hdfs_cluster.specs.declared.picture.FileEntry.{FileEntry};
-ghost use Rattle.hdfs_cluster.specs.Effects.{HasBlock, IsLast, IsRetried, with_block, with_entry, with_length};
+ghost use Rattle.hdfs_cluster.specs.Effects.{HasBlock, IsEmptyLast, IsLast, IsRetried, with_block, with_entry, with_length};
 ghost use Rattle.hdfs_mem_namenode.specs.Memory.{table_of};
-ghost use Rattle.hdfs_mem_namenode.specs.Adding.{with_more, with_open, with_pipeline};
+ghost use Rattle.hdfs_mem_namenode.specs.Adding.{with_blocks, with_more, with_open, with_pipeline};
 
 use hdfs_cluster::{Block, BlockEntry, Entry};
 use hdfs_wire::{List, NoMemory, Text};
+use std::alloc::Global;
 use std::collections::BTreeMap;
+use std::mem;
 
 /// Whether a file ends with the named block.
 pub(crate) fn is_last(ids: &[u64], named: &Option<Block>) -> bool
@@ -168,5 +170,53 @@ pub(crate) fn kth_id(ids: &[u64], number: u32) -> Option<u64>
     match ids.get(number as usize) {
         None => None,
         Some(id) => Some(*id),
+    }
+}
+
+/// Whether a block is listed, and empty.
+fn is_empty(table: &BTreeMap<u64, BlockEntry>, id: u64) -> bool
+    ensures { IsTrue result ↔ ((entry : BlockEntry) × (table_of table.now.entries id ≡ Some entry)
+        × (entry.length ≡ 0)) }
+{
+    match table.get(&id) {
+        None => false,
+        Some(entry) => entry.length == 0,
+    }
+}
+
+/// Whether the named block is the last of these, and empty.
+pub(crate) fn is_empty_last(table: &BTreeMap<u64, BlockEntry>, ids: &[u64], block: &Block) -> bool
+    ensures { IsTrue result ↔ IsEmptyLast (table_of table.now.entries) ids.now block.now }
+{
+    match last_id(ids) {
+        None => false,
+        Some(last) => last == block.block_id && is_empty(table, last),
+    }
+}
+
+/// Takes the last block off those of what stands at a path, where it is a file.
+fn pop_id_at(alloc: Global, entry: &mut Entry)
+    ensures { (file : FileEntry) (front : List ℕ) (id : ℕ) → entry.old ≡ entries.File file
+        → file.blocks ≡ front ++ id ∷ [] → entry.new ≡ entries.File (with_blocks file front) }
+{
+    match entry {
+        Entry::Dir => {}
+        Entry::File(file) => {
+            let mut ids = mem::replace(&mut file.blocks, List::new(alloc)).into_vec();
+            ids.pop();
+            file.blocks = List::from_vec(ids);
+        }
+    }
+}
+
+/// Takes the last block off those of the file at a path.
+pub(crate) fn pop_id(alloc: Global, names: &mut BTreeMap<String, Entry>, src: &str)
+    ensures { (file : FileEntry) (front : List ℕ) (id : ℕ) → get_by_text names.old src.now ≡ Some (entries.File file)
+        → file.blocks ≡ front ++ id ∷ []
+        → (q : List ℕ) → get_by_text names.new q
+        ≡ with_entry (get_by_text names.old) src.now (with_blocks file front) q }
+{
+    if let Some(entry) = names.get_mut(src) {
+        pop_id_at(alloc, entry);
     }
 }

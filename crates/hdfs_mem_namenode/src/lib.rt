@@ -1,6 +1,7 @@
 //! The names and blocks of a cluster in memory, and what a namenode answers from them.
 #![tactic(auto)]
 
+mod abandoning;
 mod adding;
 mod appending;
 mod blocks;

@@ -2,11 +2,13 @@
 ghost use Rattle.std.specs.Prelude.{◌≡◌, ◌≢◌, ◌↔◌, ◌||◌, ℕ, List, IsTrue, IsSome, Some, IfOk, IfErr, IfSome, OnOk, OnErr, MatchOption};
 ghost use Rattle.std.specs.BTreeMap.{get_by_text};
 ghost use Rattle.std.specs.BTreeSet.{contains_text};
+ghost use Rattle.std.specs.List.{IsDistinct};
 ghost use Rattle.std.specs.Str.{bytes_eq};
 ghost use Rattle.hdfs_mem_faults.specs.Series.{uuid_of};
 ghost use Rattle.hdfs_cluster.specs.Effects.{names_of};
 ghost use Rattle.hdfs_cluster.specs.Namenode.{IsToWrite};
 ghost use Rattle.hdfs_mem_namenode.specs.Answering.{StandsForStray};
+ghost use Rattle.hdfs_mem_namenode.specs.Adding.{free_nodes, places};
 ghost use Rattle.hdfs_mem_namenode.specs.Memory.{table_of};
 ghost use Rattle.hdfs_mem_namenode.specs.Pipelines.{AddsLowest, AreBarred, GivesStamp, IsBehind, IsLowestFree, IsOfOpen, Renews, is_addressed, is_barred};
 ghost use Rattle.hdfs_mem_datanodes.specs.Nodes.{is_named};
@@ -100,6 +102,46 @@ fn lowest_free(
         }
     }
     Ok(None)
+}
+
+/// The uuids of the lowest-numbered datanodes that aren't in a set, and no more of them than so many.
+fn free_nodes(
+    alloc: Global,
+    nodes: &Datanodes,
+    barred: &BTreeSet<String>,
+    most: usize,
+) -> Result<List<Text>, NoMemory>
+    ensures free { IfOk result (λ free. free ≡ free_nodes (contains_text barred.now) most nodes.now.count) }
+    ensures apart { IfOk result (IsDistinct bytes_eq) }
+{
+    let mut free = List::new(alloc);
+    for number in 0..nodes.count {
+        if free.as_slice().len() >= most {
+            return Ok(free);
+        }
+        let uuid = uuid(alloc, number)?;
+        if !barred.contains(uuid.as_str()) {
+            free.push(Text::from_string(uuid))?;
+        }
+    }
+    Ok(free)
+}
+
+/// The datanodes of a new block of this replication: the lowest-numbered ones but those that are to be left out, as many as an answer
+/// can name at most.
+pub(crate) fn places(
+    alloc: Global,
+    nodes: &Datanodes,
+    excludes: &[DatanodeInfo],
+    replication: u32,
+) -> Result<List<Text>, NoMemory>
+    ensures on { IfOk result (λ on. on ≡ places excludes.now replication nodes.now.count) }
+    ensures apart { IfOk result (IsDistinct bytes_eq) }
+{
+    let mut barred = BTreeSet::new(alloc);
+    bar(alloc, &mut barred, excludes)?;
+    let most = (replication as usize).min(MAX_LOCATIONS);
+    free_nodes(alloc, nodes, &barred, most)
 }
 
 /// A block on the existing datanodes, and behind them on the one with this uuid. There is no memory for too many of them, nor for

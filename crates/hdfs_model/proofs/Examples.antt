@@ -19,6 +19,7 @@ world = record {
   home = codes "/user/user";
   defaults = record { block_size = 8; bytes_per_checksum = 4; write_packet_size = 41; replication = 3; encrypt_data_transfer = false };
   rebuild_limit = 8;
+  setup_limit = 3;
   policy = Never;
   best_effort = false;
 }

@@ -10,7 +10,7 @@ use Rattle.hdfs_cluster.specs.declared.errors.TransferFault.TheVariants as trans
 use Rattle.hdfs_cluster.specs.declared.errors.ArgFault.TheVariants as args
 use Rattle.hdfs_cluster.specs.declared.errors.Feature.TheVariants as features
 use Rattle.hdfs_cluster.specs.Counts.{FaultCounts, Rose}
-use Rattle.hdfs_cluster.specs.Failures.{CallsRose, HasFailed, IsOfAsk, MayReplace, Means, failure_of}
+use Rattle.hdfs_cluster.specs.Failures.{CallsRose, HasFailed, IsOfAsk, MayReplace, Means, SetupsFailed, failure_of}
 use Rattle.hdfs_cluster.specs.Files.{State, Content, NoFile, File, Writing}
 use Rattle.hdfs_cluster.specs.Limits.{are_defaults, are_attributes, is_permission}
 use Rattle.hdfs_model.specs.Limits.{are_options}
@@ -178,7 +178,10 @@ IsEarly command error = ⊥
 -- Why a command over a state ends with an error, beside what has failed: from what is shown before the command to what is shown once
 -- it has ended. Want of memory says nothing, nor does an error of an ask but an exception.
 abbrev pub Because : World → State → Command → Shown → Shown → HdfsError → Type 0
-Because world state command old new (errors.IOError io_faults.Link) = IsDone (step world state command)
+Because world state command old new (errors.IOError io_faults.Link) =
+    IsDone (step world state command) × SetupsFailed world.setup_limit old.counts new.counts
+Because world state command old new (errors.DataTransferError transfer.Setup) =
+    IsDone (step world state command) × SetupsFailed world.setup_limit old.counts new.counts
 Because world state command old new (errors.DataTransferError (transfer.Read byte)) =
     IsDone (step world state command) × CommandLost old.counts new (target_of world command) command byte
 Because world state command old new (errors.DataTransferError transfer.AllNodes) =

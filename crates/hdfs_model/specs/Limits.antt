@@ -21,9 +21,11 @@ begins_with_slash (c ∷ rest) = c == 47
 abbrev pub is_small : ℕ → Bool
 is_small n = nat_le 1 n && nat_le n 1000
 
--- the settings of a session are in their limits: its home begins with a slash, and its limit of rebuilds and its window are from 1 to 1,000
+-- the settings of a session are in their limits: its home begins with a slash, its limit of rebuilds and its window are from 1 to 1,000, and
+-- its limit of further first pipelines is up to 100
 abbrev pub are_settings : Settings → Bool
-are_settings settings = begins_with_slash settings.home && is_small settings.rebuild_limit && is_small settings.window
+are_settings settings =
+    begins_with_slash settings.home && is_small settings.rebuild_limit && is_small settings.window && nat_le settings.setup_limit 100
 
 -- The numbers that a command brings or uses are in their limits: the options and the defaults where it creates, the defaults
 -- where it appends, the permission bits of a directory that it makes.

@@ -32,6 +32,7 @@ world_with settings defaults = record {
   home = settings.home;
   defaults = defaults;
   rebuild_limit = settings.rebuild_limit;
+  setup_limit = settings.setup_limit;
   policy = settings.replace.policy;
   best_effort = settings.replace.best_effort;
 }

@@ -23,12 +23,14 @@ pub data Outcome : Type 0 where
   Refused : Refusal → Outcome
   Done : Reply → State → Outcome
 
--- What a step takes beside the state: the directory under which relative paths stand, and the cluster's defaults. Causes name two
--- settings more, which no step uses: how often a block's pipeline is rebuilt at most, and whether writes go on in best effort.
+-- What a step takes beside the state: the directory under which relative paths stand, and the cluster's defaults. Causes name four
+-- settings more, which no step uses: how often a block's pipeline is rebuilt at most, how often another first one is tried at most, the policy
+-- by which datanodes are replaced, and whether writes go on in best effort.
 pub record World : Type 0 where
   pub home : List ℕ
   pub defaults : ServerDefaults
   pub rebuild_limit : ℕ
+  pub setup_limit : ℕ
   pub policy : Policy
   pub best_effort : Bool
 

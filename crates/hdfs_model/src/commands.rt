@@ -9,7 +9,8 @@ use thiserror::Error;
 
 /// What a session is run with. `home` is the directory under which relative paths stand, and `client` are the sixteen bytes of the
 /// client's name. `replace` says when a datanode is added to a pipeline in the place of one that failed. The pipeline of a block is
-/// rebuilt at most `rebuild_limit` times, and at most `window` packets of it wait for their acknowledgement, each from 1 to 1,000.
+/// rebuilt at most `rebuild_limit` times, and at most `window` packets of it wait for their acknowledgement, each from 1 to 1,000. Where the
+/// first pipeline of a new block can't be set up, at most `setup_limit` other ones are tried, from 0 to 100.
 #[derive(Drop)]
 pub struct Settings {
     pub home: Text,
@@ -17,6 +18,7 @@ pub struct Settings {
     pub replace: ReplaceDatanodeOnFailure,
     pub rebuild_limit: u32,
     pub window: u32,
+    pub setup_limit: u32,
 }
 
 /// How often the pipeline of a block may be rebuilt at most.
@@ -25,9 +27,12 @@ const MAX_REBUILDS: u32 = 1_000;
 /// How many packets of a block may wait at most.
 const MAX_WINDOW: u32 = 1_000;
 
+/// How often another first pipeline of a block may be tried at most.
+const MAX_SETUPS: u32 = 100;
+
 impl Settings {
-    /// Whether the settings are in their limits: the home begins with a slash, and the limit of rebuilds and the window are from 1 to
-    /// 1,000.
+    /// Whether the settings are in their limits: the home begins with a slash, the limit of rebuilds and the window are from 1 to 1,000, and
+    /// the limit of further first pipelines is up to 100.
     pub fn are_limited(&self) -> bool
         ensures { result ≡ are_settings self.now }
     {
@@ -36,6 +41,7 @@ impl Settings {
             && self.rebuild_limit <= MAX_REBUILDS
             && self.window >= 1
             && self.window <= MAX_WINDOW
+            && self.setup_limit <= MAX_SETUPS
     }
 }
 

@@ -128,6 +128,31 @@ impl NamenodeProtocol {
         }
     }
 
+    /// Gives up `block`, the last block of the open file at `src`, which is empty: the file has it no more. One that the file doesn't
+    /// have is no error.
+    pub fn abandon_block<C: Cluster>(
+        &mut self,
+        cluster: &mut C,
+        block: &Block,
+        src: &str,
+        file_id: Option<u64>,
+    ) -> Result<(), HdfsError>
+        requires service { IsServiceOf (proxy_of self.old) (C.shown cluster.old) }
+        requires allowed { C.allows (AskOf (asks.AbandonBlock block.now src.now (name_of self.old) file_id)) }
+        ensures asked { AskedOnce C.serves true (asks.AbandonBlock block.now src.now (name_of self.old) file_id)
+            (through self.old cluster.old) (as_answer (λ _. answers.AbandonBlock) result)
+            (through self.new cluster.new) }
+        ensures came { ReachesAll (proxy_of self.old) (C.shown cluster.old) → Came (C.shown cluster.old)
+            (asks.AbandonBlock block.now src.now (name_of self.old) file_id)
+            (as_answer (λ _. answers.AbandonBlock) result) (C.shown cluster.new) }
+        ensures keeps { SameClient self.old self.new }
+    {
+        let ask = self.abandon_block_ask(block, src, file_id)?;
+        let answer = self.ask(cluster, ask, true);
+        drop(answer?);
+        Ok(())
+    }
+
     /// Whether the open file at `src` is closed now. `last` is its last block, with its length.
     pub fn complete<C: Cluster>(
         &mut self,
@@ -280,6 +305,23 @@ impl NamenodeProtocol {
             client_name: self.client.copy(self.alloc)?,
             previous: copy_block(self.alloc, previous)?,
             excludes: copy_nodes(self.alloc, excludes)?,
+            file_id,
+        })
+    }
+
+    /// The ask of `abandon_block`.
+    fn abandon_block_ask(
+        &self,
+        block: &Block,
+        src: &str,
+        file_id: Option<u64>,
+    ) -> Result<Ask, NoMemory>
+        ensures { IfOk result (λ ask. ask ≡ asks.AbandonBlock block.now src.now (name_of self.now) file_id) }
+    {
+        Ok(Ask::AbandonBlock {
+            block: block.copy(self.alloc)?,
+            src: Text::from_str(self.alloc, src)?,
+            client_name: self.client.copy(self.alloc)?,
             file_id,
         })
     }

@@ -20,7 +20,7 @@ use Rattle.hdfs_plain.specs.Plain.{Holds}
 
 -- the world that a plain one stands for
 abbrev pub world_of : PlainWorld → World
-world_of plain = record { home = plain.home; defaults = plain.defaults; rebuild_limit = 0; policy = Never; best_effort = false }
+world_of plain = record { home = plain.home; defaults = plain.defaults; rebuild_limit = 0; setup_limit = 0; policy = Never; best_effort = false }
 
 -- the refusal that a plain one stands for
 abbrev pub refusal_of : PlainRefusal → Refusal

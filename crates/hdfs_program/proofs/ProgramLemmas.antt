@@ -173,7 +173,8 @@ unfailed_new old new parsed is_new planned lines faultless =
     record {
       calls = λ i. planned.calls i (ap (list_any is_fault_line) loaded ∙ no_fault parsed.lines faultless);
       links = omega (arith, planned.links, ap link_fault_count loaded, link_fault_of_none parsed.lines faultless);
-      nodes = λ d. omega (arith, planned.nodes d, ap (λ ls. node_fault_count ls d) loaded, node_fault_of_none d parsed.lines faultless);
+      nodes = λ d.
+          omega (arith, planned.nodes d, ap (λ ls. node_fault_count ls d) loaded, node_fault_of_none d parsed.lines faultless, ap link_fault_count loaded, link_fault_of_none parsed.lines faultless);
     }
 
 -- where the lines were loaded, the script decides

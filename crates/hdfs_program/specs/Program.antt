@@ -1,5 +1,5 @@
 -- What the program does over a new cluster in memory.
-use Rattle.std.specs.Prelude.{◌≡◌, ◌≢◌, ◌⊎◌, ℕ, ◌≤◌, Bool, true, false, List, [], Ok, Err}
+use Rattle.std.specs.Prelude.{◌≡◌, ◌≢◌, ◌⊎◌, ℕ, ◌+◌, ◌≤◌, Bool, true, false, List, [], Ok, Err}
 use Rattle.std.specs.List.{list_any}
 use Rattle.hdfs_model.specs.declared.commands.Reply.{Reply}
 use Rattle.hdfs_model.specs.declared.commands.Fault.{Fault}
@@ -43,12 +43,13 @@ pub record IsNew (store : Shown) : Type 0 where
   pub no_line : store.loaded.lines ≡ []
   pub unfailed : IsUnfailed store.counts
 
--- No count of the links or of a datanode has risen but as often as fault lines were loaded for it, and none of a namenode before one
--- was loaded.
+-- The count of the links has risen no more often than fault lines were loaded for them, and with it that of a datanode no more often than
+-- lines were for the two; and none of a namenode before one was loaded.
 pub record FailsAsPlanned (store : Shown) : Type 0 where
   pub calls : (i : ℕ) → NeedsFault store.loaded.lines (store.counts.calls i)
   pub links : store.counts.links ≤ link_fault_count store.loaded.lines
-  pub nodes : (d : List ℕ) → store.counts.nodes d ≤ node_fault_count store.loaded.lines d
+  pub nodes : (d : List ℕ) → store.counts.nodes d + store.counts.links
+      ≤ node_fault_count store.loaded.lines d + link_fault_count store.loaded.lines
 
 -- no line of the script plans a fault
 abbrev pub IsFaultless : Script → Type 0

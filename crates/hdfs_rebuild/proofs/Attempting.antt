@@ -7,13 +7,15 @@ use Rattle.hdfs_cluster.specs.declared.asks.LinkFault.{LinkFault}
 use Rattle.hdfs_cluster.specs.declared.asks.LinkFault.TheVariants as link_faults
 use Rattle.hdfs_cluster.specs.declared.errors.HdfsError.{HdfsError}
 use Rattle.hdfs_cluster.specs.declared.messages.Setup.{Setup}
+use Rattle.hdfs_cluster.specs.declared.messages.Stage.{Stage}
+use Rattle.hdfs_cluster.specs.declared.messages.Stage.TheVariants as stages
 use Rattle.hdfs_cluster.specs.declared.picture.BlockEntry.{BlockEntry}
 use Rattle.hdfs_cluster.specs.declared.picture.OpenWrite.{OpenWrite}
 use Rattle.hdfs_cluster.specs.Failures.{CallsRose}
 use Rattle.hdfs_cluster.specs.Counts.{Rose}
 use Rattle.hdfs_cluster.specs.Namenode.{IsToWrite}
 use Rattle.hdfs_cluster.specs.Picture.{Picture, SamePicture}
-use Rattle.hdfs_cluster.specs.Pipes.{WriteEnded, WriteOpened}
+use Rattle.hdfs_cluster.specs.Pipes.{SetupFailed, SetupFailedAt, WriteEnded, WriteOpened}
 use Rattle.hdfs_cluster.specs.Sending.{WritePlace, uuids}
 use Rattle.hdfs_cluster.specs.Shown.{Shown, Later}
 use Rattle.hdfs_cluster.specs.Writing.{Releases}
@@ -348,22 +350,25 @@ module _ (plan : BlockPlan) (opening : Opening) (client : List ℕ) (replay : Li
         );
   }
 
--- No link was opened.
-pub opens_none : (plan : BlockPlan) (setup : Setup) (a : Shown) (fault : WriteFault) (b : Shown) → OpensNone a setup fault b
-    → ResumedNot plan a fault b
-opens_none plan setup a fault b (inl (memory, same)) = subst (λ (x : Shown). ResumedNot plan a fault x) (sym same) (record {
+-- No link was opened to go on with the block.
+pub opens_none : (plan : BlockPlan) (setup : Setup) → setup.stage ≡ stages.Recovery → (a : Shown) (fault : WriteFault) (b : Shown)
+    → OpensNone a setup fault b → ResumedNot plan a fault b
+opens_none plan setup stage a fault b (inl (memory, same)) = subst (λ (x : Shown). ResumedNot plan a fault x) (sym same) (record {
   links = keeps_links_refl a;
   cause = inl (inl memory);
   touches = λ p known told w. (p, told, only_block_of_refl plan.block.b.block_id p);
 })
-opens_none plan setup a fault b (inr (why, is, none)) = record {
+opens_none plan setup stage a fault b (inr (why, is, none)) = record {
   links = record { later = none.only.later; reads = record { links = none.only.reads; places = none.only.places }; writes = none.writes };
-  cause = by_why why is none.cause;
+  cause = by_why why is (λ some. rose (none.cause some));
   touches = λ p known told w.
       let x = told_after SamePicture a.picture b.picture p none.picture told in
       (x.0, x.1, only_block_of-same plan.block.b.block_id p x.0 x.2.rest);
 }
   where
+    rose : SetupFailed setup a.counts b.counts → Rose a.counts.links b.counts.links
+    rose failed = subst (λ (at : Stage). SetupFailedAt at setup.locs a.counts b.counts) stage failed
+
     by_why : (w : LinkFault) → fault ≡ fault_of w → (w ≢ link_faults.NoMemory → Rose a.counts.links b.counts.links) → ResumeCause plan a fault b
     by_why link_faults.NoMemory is rose = inl (inl is)
     by_why link_faults.Broken is rose = inr (inl is, rose (λ same. cc))

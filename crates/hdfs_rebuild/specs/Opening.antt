@@ -1,5 +1,5 @@
 -- How the pipeline of a block is opened: the first one, and one after another has failed.
-use Rattle.std.specs.Prelude.{◌≡◌, ◌⊎◌, ℕ, ◌==◌, List, if◌then◌else◌}
+use Rattle.std.specs.Prelude.{◌≡◌, ◌⊎◌, ℕ, List, if◌then◌else◌}
 use Rattle.hdfs_cluster.specs.declared.asks.LinkFault.{LinkFault}
 use Rattle.hdfs_cluster.specs.declared.asks.LinkFault.TheVariants as links
 use Rattle.hdfs_cluster.specs.declared.messages.Block.{Block}
@@ -12,10 +12,10 @@ use Rattle.hdfs_rebuild.specs.declared.block_plan.WriteFault.{WriteFault}
 use Rattle.hdfs_rebuild.specs.declared.block_plan.WriteFault.TheVariants as faults
 use Rattle.hdfs_rebuild.specs.declared.opening.Opening.{Opening}
 
--- the first pipeline of a plan: the block is new where it has no bytes, else it is gone on with behind those
+-- the first pipeline of a plan: the block is new where it was when its writer began, else it is gone on with behind its bytes
 abbrev pub first_of : BlockPlan → ℕ → Opening
 first_of plan window = record {
-  stage = if plan.block.b.num_bytes == 0 then stages.Create else stages.Append;
+  stage = if plan.created then stages.Create else stages.Append;
   stamp = plan.block.b.generation_stamp;
   least = plan.block.b.num_bytes;
   window = window;

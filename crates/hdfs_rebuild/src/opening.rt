@@ -27,21 +27,19 @@ pub struct Opening {
 }
 
 impl Opening {
-    /// Of the first pipeline of a plan: the block is new where it has no bytes, else it is gone on with behind those.
+    /// Of the first pipeline of a plan: the block is new where it was when its writer began, else it is gone on with behind its bytes.
     pub fn first(plan: &BlockPlan, window: u32) -> Opening
         ensures { result ≡ first_of plan.now window }
     {
-        let least = plan.block.b.num_bytes;
-        let stage = if least == 0 {
+        let stage = if plan.created {
             Stage::Create
         } else {
             Stage::Append
         };
-        let stamp = plan.block.b.generation_stamp;
         Opening {
             stage,
-            stamp,
-            least,
+            stamp: plan.block.b.generation_stamp,
+            least: plan.block.b.num_bytes,
             window,
         }
     }

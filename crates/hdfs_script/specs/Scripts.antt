@@ -206,6 +206,7 @@ session_settings given = record {
   replace = given.replace;
   rebuild_limit = given.rebuild_limit;
   window = given.window;
+  setup_limit = 3;
 }
 
 -- The defaults over which a script's session runs: its own, or those of a store that isn't fresh.

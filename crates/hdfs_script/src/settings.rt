@@ -18,6 +18,9 @@ const HOMES: &str = "/user/";
 // How often the pipeline of a block is rebuilt at most where a script sets nothing.
 const REBUILDS: u32 = 8;
 
+// How often another first pipeline of a block is tried at most.
+const SETUPS: u32 = 3;
+
 // How many packets of a block wait for their acknowledgement at most where a script sets nothing.
 const WINDOW: u32 = 100;
 
@@ -69,5 +72,6 @@ pub fn session_settings(alloc: Global, given: &ScriptSettings) -> Result<Setting
         replace: given.replace,
         rebuild_limit: given.rebuild_limit,
         window: given.window,
+        setup_limit: SETUPS,
     })
 }

@@ -9,10 +9,10 @@ use std::fmt;
 const BEFORE: &str = "the files are as they were";
 
 const ITS_PATH: &str =
-    "the command's file may be in any state, and so may directories that a create was to make; every other path is as it was";
+    "the command's path may be in any state, and so may directories that it was to make and what is below a path that it was to delete; every other path is as it was";
 
 const REFUSED_OR_ITS_PATH: &str =
-    "where the namenode refused the command the files are as they were; else its file may be in any state, and every other path is as it was";
+    "where the namenode refused the command the files are as they were; else its path may be in any state, and so may directories that it was to make and what is below a path that it was to delete; every other path is as it was";
 
 const NEW_FILE: &str = "write a new file";
 
@@ -161,7 +161,7 @@ pub const EXPLANATIONS: [Explanation; 25] = [
         error: "IOError",
         kind: "Link",
         says: "IO error occurred while communicating with HDFS: Link",
-        comes: "a write, a close: the links have failed: a connection broke while a pipeline was set up",
+        comes: "a write, a close: a connection broke while a pipeline was set up: the links have failed, or the first datanodes of new ones",
         after: ITS_PATH,
         next: NEW_FILE,
     },
@@ -169,7 +169,7 @@ pub const EXPLANATIONS: [Explanation; 25] = [
         error: "DataTransferError",
         kind: "Setup",
         says: "data transfer error: Setup",
-        comes: "a write, a close: the links have failed: the set-up of a pipeline was refused",
+        comes: "a write, a close: the set-up of a pipeline was refused: the links have failed, or the first datanodes of new ones",
         after: ITS_PATH,
         next: NEW_FILE,
     },

@@ -23,6 +23,7 @@ pub(crate) fn settings(alloc: Global) -> Result<Settings, Failed> {
         replace: ReplaceDatanodeOnFailure::new(Policy::Default, false),
         rebuild_limit: 8,
         window: 80,
+        setup_limit: 3,
     })
 }
 

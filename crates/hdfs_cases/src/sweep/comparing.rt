@@ -28,7 +28,7 @@ pub(crate) fn wrong_answer(script: &str, given: &Ending, plain: &Ending) -> Fail
 }
 
 /// Fails where the two answers to a script aren't the same.
-pub(crate) fn compare_to(script: &str, given: &Ending, plain: &Ending) -> Result<(), Fail> {
+fn compare_to(script: &str, given: &Ending, plain: &Ending) -> Result<(), Fail> {
     if given == plain {
         Ok(())
     } else {

@@ -106,6 +106,24 @@ fn add_block(
     drop(added);
 }
 
+/// `abandonBlock PATH ID STAMP LENGTH`
+fn abandon_block(
+    client: &mut NamenodeProtocol,
+    cluster: &mut MemCluster,
+    words: &Words<'_>,
+    block: &Block,
+    said: &mut Said,
+)
+    requires { IsServiceOf (proxy_of client.old) (shown_of cluster.old) }
+{
+    let done = client.abandon_block(cluster, block, words[1], None);
+    match &done {
+        Ok(()) => said.word("done"),
+        Err(error) => tell_error(error, said),
+    }
+    drop(done);
+}
+
 /// Whether a file is closed.
 fn tell_truth(truth: &Result<bool, HdfsError>, said: &mut Said) {
     match truth {
@@ -335,6 +353,7 @@ fn take_block(
     let block = block_of(alloc, words);
     match words[0] {
         "addBlock" => add_block(client, cluster, words, &block, said),
+        "abandonBlock" => abandon_block(client, cluster, words, &block, said),
         _ => complete(client, cluster, words, &block, said),
     }
     drop(block);
@@ -352,7 +371,7 @@ pub(crate) fn take(
     match words[0] {
         "create" => create(client, cluster, words, said),
         "append" => append(client, cluster, words, said),
-        "addBlock" | "complete" => take_block(alloc, client, cluster, words, said),
+        "addBlock" | "abandonBlock" | "complete" => take_block(alloc, client, cluster, words, said),
         "locate" => locate(alloc, client, cluster, words, said),
         "getServerDefaults" => get_server_defaults(client, cluster, said),
         "updateBlockForPipeline" => {

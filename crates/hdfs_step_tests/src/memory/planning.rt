@@ -3,7 +3,7 @@ use crate::memory::failing::fault_of;
 use crate::steps::{Said, Words, number, small};
 use hdfs_cluster::LinkKind;
 use hdfs_mem_faults::{FaultPlan, Tally};
-use hdfs_wire::NoMemory;
+use hdfs_wire::{NoMemory, Text};
 use std::alloc::Global;
 
 /// A plan of two datanodes, and a tally of calls.
@@ -61,12 +61,28 @@ fn plan_fault(alloc: Global, plan: &mut FaultPlan, words: &Words<'_>, said: &mut
     }
 }
 
+/// A set-up that gets this link, and whose failure is put down to a datanode where one is named.
+fn take_set_up(alloc: Global, plan: &mut FaultPlan, words: &Words<'_>, said: &mut Said) {
+    if words[3].is_empty() {
+        tell_set_up(plan.set_up(alloc, number(words[2]), None), said);
+        return;
+    }
+    match Text::from_str(alloc, words[3]) {
+        Ok(first) => {
+            let kind = plan.set_up(alloc, number(words[2]), Some(&first));
+            drop(first);
+            tell_set_up(kind, said);
+        }
+        Err(_) => said.fails("NoMemory"),
+    }
+}
+
 /// A call of a plan.
 fn take_plan(alloc: Global, plan: &mut FaultPlan, words: &Words<'_>, said: &mut Said) {
     match words[1] {
         "fault" => plan_fault(alloc, plan, words, said),
         "addNodes" => tell_done(plan.add_nodes(alloc, small(words[2])), said),
-        "setUp" => tell_set_up(plan.set_up(number(words[2])), said),
+        "setUp" => take_set_up(alloc, plan, words, said),
         "badAck" => said.truth(plan.bad_ack(number(words[2]))),
         "end" => plan.end(number(words[2])),
         "linkFaults" => said.number(plan.link_faults()),

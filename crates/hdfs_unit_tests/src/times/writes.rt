@@ -17,6 +17,7 @@ fn settings(alloc: Global) -> Option<Settings> {
         replace: ReplaceDatanodeOnFailure::new(Policy::Default, false),
         rebuild_limit: 8,
         window: 100,
+        setup_limit: 3,
     })
 }
 

@@ -71,4 +71,4 @@ returns-in_ok-no_datanode-in-None-clause-responds c = λ nodes settings links i 
     let fault = c.in_ok-no_datanode-in-None.field-0 in
     let barred = subst (λ (found : Option LocatedBlock). MatchOption found (AreBarred (is_barred olds outs) count) (λ located. (located.b ≡ e.blk) × AddsLowest count olds outs located.locs)) c.in-None.is h.added in
     let lacks = lacks_datanode at e.src text c.as_str.ensures e.blk e.client_name e.existings e.excludes e.num_additional_nodes e.existing_storage_uuids count olds outs c.as_slice-existing.ensures c.as_slice-excludes.ensures h.written barred in
-    subst (λ (ask : Ask). Responds loaded count at i ask (Err fault) at) (sym e.is) (responds_none loaded count at i _ here lacks fault c.in_ok-no_datanode-in-None.ensures)
+    subst (λ (ask : Ask). Responds loaded count at i ask (Err fault) at) (sym e.is) (responds_none loaded count at at i _ (same_picture at) here lacks fault c.in_ok-no_datanode-in-None.ensures)

@@ -12,7 +12,7 @@ use Rattle.hdfs_mem_namenode.specs.Memory.{table_of}
 use Rattle.hdfs_mem_datanodes.specs.Nodes.{held_in}
 use Rattle.hdfs_mem_cluster.specs.MemShown.{picture_at}
 use Rattle.hdfs_mem_namenode.proofs.Answering.{answers_found, answers_excused, answers_stamped, answers_not_stamped, same_picture, shaped_found}
-use Rattle.hdfs_mem_cluster.proofs.Written.{answers_added, answers_not_added, answers_completed, answers_not_completed, same_parts}
+use Rattle.hdfs_mem_cluster.proofs.Written.{answers_completed, answers_not_completed, same_parts}
 use Rattle.hdfs_mem_cluster.proofs.Opening.{answers_appended, answers_not_appended}
 use Rattle.hdfs_mem_cluster.proofs.responding.respond.Goals as goal
 
@@ -60,26 +60,6 @@ returns-in_ok-complete-in-Complete-clause-responds c = λ links.
     let q = picture_at c.complete.new.self c.args.nodes.now config.settings links in
     inl (subst (λ (ask : Ask). Answers (picture_at c.args.space.now c.args.nodes.now config.settings links) c.args.i ask (Ok (answers.Complete true)) q) (sym e.is)
     (answers_completed c.args.space.now c.complete.new.self c.args.nodes.now config.settings links c.args.i c.if-i-known.false c.as_str-in-Complete.result.now e.src c.as_str-in-Complete.ensures e.client_name e.last e.file_id c.in_ok-complete-in-Complete.ensures.done))
-
-pub returns-in_err-block-in-AddBlock-clause-responds : goal.returns-in_err-block-in-AddBlock-clause-responds
-returns-in_err-block-in-AddBlock-clause-responds c = λ links.
-    let config = c.args.known.now.config.now in
-    let e = c.in-AddBlock in
-    let r = err_from_is_err_and c.from_residual-in_err-block-in-AddBlock.result c.from_residual-in_err-block-in-AddBlock.ensures.1 in
-    let fault = c.in_err-block-in-AddBlock.field-0.0 in
-    let h = c.in_err-block-in-AddBlock.ensures in
-    let q = picture_at c.extend.new.self c.args.nodes.now config.settings links in
-    rw (r.1, r.2) (inl (subst (λ (ask : Ask). Answers (picture_at c.args.space.now c.args.nodes.now config.settings links) c.args.i ask (Err fault) q) (sym e.is)
-    (answers_not_added c.args.space.now c.extend.new.self c.args.nodes.now config.settings links c.args.i c.if-i-known.false c.as_str-in-AddBlock.result.now e.src c.as_str-in-AddBlock.ensures e.client_name e.previous e.excludes e.file_id fault h.stray h.err)))
-
-pub returns-in_ok-block-in-AddBlock-clause-responds : goal.returns-in_ok-block-in-AddBlock-clause-responds
-returns-in_ok-block-in-AddBlock-clause-responds c = λ links.
-    let config = c.args.known.now.config.now in
-    let e = c.in-AddBlock in
-    let block = c.in_ok-block-in-AddBlock.block in
-    let q = picture_at c.extend.new.self c.args.nodes.now config.settings links in
-    inl (subst (λ (ask : Ask). Answers (picture_at c.args.space.now c.args.nodes.now config.settings links) c.args.i ask (Ok (answers.AddBlock block)) q) (sym e.is)
-    (answers_added c.args.space.now c.extend.new.self c.args.nodes.now config.settings links c.args.i c.if-i-known.false c.as_str-in-AddBlock.result.now e.src c.as_str-in-AddBlock.ensures e.client_name e.previous e.excludes e.file_id block c.in_ok-block-in-AddBlock.ensures.added))
 
 pub returns-in_err-append-in-Append-clause-responds : goal.returns-in_err-append-in-Append-clause-responds
 returns-in_err-append-in-Append-clause-responds c = λ links.

@@ -1,5 +1,5 @@
 -- One path after another is forgotten.
-use Rattle.std.proofs.Common.{◌≡◌, ℕ, cond, List, ◌∷◌, [], ◌++◌, None, take, sym, ◌∙◌, ap}
+use Rattle.std.proofs.Common.{ℕ, cond, List, ◌∷◌, [], ◌++◌, None, take, sym, ◌∙◌, ap}
 use Rattle.std.proofs.lemmas.List.{take_more}
 use Rattle.std.proofs.lemmas.Map.Text.{btree_map_updates_text}
 use Rattle.std.specs.BTreeMap.{get_by_text}

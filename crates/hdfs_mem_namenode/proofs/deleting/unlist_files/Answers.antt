@@ -1,5 +1,5 @@
 -- The blocks of one file after another are taken out.
-use Rattle.std.proofs.Common.{◌≡◌, ℕ, cond, List, ◌∷◌, [], ◌++◌, None, take, sym, ◌∙◌, ap}
+use Rattle.std.proofs.Common.{ℕ, cond, List, ◌∷◌, [], ◌++◌, None, take, sym, ◌∙◌, ap}
 use Rattle.std.proofs.lemmas.List.{take_more}
 use Rattle.std.specs.BTreeMap.{get_by_text}
 use Rattle.hdfs_cluster.specs.Effects.{blocks_at, table_without}

@@ -1,5 +1,5 @@
 -- The keys of the range are those that don't stand before its start.
-use Rattle.std.proofs.Common.{◌≡◌, ℕ, Bool, not, ◌&&◌, refl, sym, ◌∙◌, ap, true, false}
+use Rattle.std.proofs.Common.{◌≡◌, Bool, ◌&&◌, refl, ◌∙◌, ap, true, false}
 use Rattle.std.proofs.Math.Path.{fun_ext}
 use Rattle.std.specs.List.{filter}
 use Rattle.hdfs_mem_namenode.proofs.Ranging.{from_key}

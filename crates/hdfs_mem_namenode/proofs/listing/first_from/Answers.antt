@@ -1,12 +1,6 @@
 -- The first key of a range is the least that doesn't stand before its start.
-use Rattle.std.proofs.Common.{◌≡◌, ℕ, List, false, sym, ◌∙◌, ap, rules}
-use Rattle.std.proofs.lemmas.Grind.{common_steps}
-use Rattle.std.specs.List.{slice_get}
-use Rattle.std.specs.Option.{IfSome}
+use Rattle.std.proofs.Common.{sym, ◌∙◌}
 use Rattle.std.specs.String.{string_bytes}
-use Rattle.std.specs.BTreeMap.{get_by_text}
-use Rattle.hdfs_cluster.specs.Names.{is_before}
-use Rattle.hdfs_mem_namenode.proofs.Bytes.{before_cmp}
 use Rattle.hdfs_mem_namenode.proofs.Keys.{after_cmp, all_before, first_key}
 use Rattle.hdfs_mem_namenode.proofs.listing.first_from.Goals as goal
 

@@ -1,5 +1,5 @@
 -- One uuid after another is put in.
-use Rattle.std.proofs.Common.{◌≡◌, ◌<◌, ◌||◌, Bool, true, false, length, refl, sym, ◌∙◌, ap, take}
+use Rattle.std.proofs.Common.{◌<◌, ◌||◌, Bool, length, sym, ◌∙◌, ap, take}
 use Rattle.std.proofs.lemmas.List.Folds.{list_any_more}
 use Rattle.std.specs.BTreeSet.{contains_text}
 use Rattle.std.specs.Str.{bytes_eq}

@@ -1,5 +1,5 @@
 -- The new place is taken, the old one is left, and what stood there is put back.
-use Rattle.std.proofs.Common.{◌≡◌, ℕ, List, Some, None, IsSome, cond, is_some, refl, sym, ◌∙◌, ap}
+use Rattle.std.proofs.Common.{◌≡◌, ℕ, List, Some, None, cond, is_some, refl, sym, ◌∙◌, ap}
 use Rattle.std.proofs.lemmas.Bool.{false≢true}
 use Rattle.std.proofs.lemmas.Map.Text.{btree_map_updates_text}
 use Rattle.std.specs.BTreeMap.{get_by_text}

@@ -17,7 +17,8 @@ pub returns-in_err-core-clause-err : goal.returns-in_err-core-clause-err
 returns-in_err-core-clause-err g c =
     let p = err_from_is_err_and c.from_residual.result c.from_residual.ensures.1 in
     rw (p.1, p.2)
-    (opens_none c.args.plan.now (setup_for c.args.plan.now c.args.opening c.client_name-client.result.now) (g.C.Cluster.shown c.args.cluster.now)
+    (opens_none c.args.plan.now (setup_for c.args.plan.now c.args.opening c.client_name-client.result.now) c.requires.allowed.stage
+    (g.C.Cluster.shown c.args.cluster.now)
     c.in_err-core.field-0.0 (g.C.Cluster.shown c.open_pipeline.new.cluster) c.in_err-core.ensures.err)
 
 pub replay_and_name-requires-clause-reaches : goal.replay_and_name-requires-clause-reaches

@@ -1,48 +1,84 @@
 -- The goals of FileWriter::begin_block.
-use Rattle.std.proofs.Common.{arith, [], Some, List, ℕ, sym, subst, true}
-use Rattle.hdfs_file_writer.proofs.Joining.{wrote_trans, fails_after}
-use Rattle.hdfs_file_writer.specs.Writers.{CanGoOn, IsAnswered}
-use Rattle.hdfs_cluster.specs.Requests.{IsAdded, IsFirstSetup}
+use Rattle.std.proofs.Common.{◌∙◌, [], List, ℕ, refl, sym, subst}
+use Rattle.hdfs_cluster.specs.Requests.{AreFirst, LetsWrite}
+use Rattle.hdfs_namenode.specs.Clients.{name_of, proxy_of}
+use Rattle.hdfs_namenode.proofs.Services.{reaches_later, same_client_refl, same_client_trans}
+use Rattle.hdfs_file_writer.specs.declared.file_writer.FileWriter.{FileWriter}
+use Rattle.hdfs_file_writer.specs.Tries.{HasTried}
+use Rattle.hdfs_file_writer.specs.Writers.{CanGoOn, FailsOtherwise, IsAnswered, MayAdd, MayBegin, Wrote}
+use Rattle.hdfs_file_writer.proofs.Joining.{wrote_trans}
+use Rattle.hdfs_file_writer.proofs.Tried.{none_first, none_tried}
 use Rattle.hdfs_file_writer.proofs.file_writer.FileWriter.begin_block.Goals as goal
 
-pub returns-in-Ok-open_block-clause-wrote : goal.returns-in-Ok-open_block-clause-wrote
-returns-in-Ok-open_block-clause-wrote g c =
-    let s = g.C.Cluster.shown c.args.cluster.now in
-    let m = g.C.Cluster.shown c.next_block.new.cluster in
-    let w = c.args.self.now in
-    wrote_trans s m (g.C.Cluster.shown c.open_block.new.cluster) w (record w { reopened = Some c.in-Ok.located }) c.open_block.new.self [] []
-    c.in-Ok.ensures.adds.wrote c.in-Ok-open_block.ensures.wrote
-
-pub returns-in-Err-open_block-clause-err : goal.returns-in-Err-open_block-clause-err
-returns-in-Err-open_block-clause-err g c =
-    let s = g.C.Cluster.shown c.args.cluster.now in
-    let m = g.C.Cluster.shown c.next_block.new.cluster in
-    let w = c.args.self.now in
-    fails_after s m (g.C.Cluster.shown c.open_block.new.cluster) w (record w { reopened = Some c.in-Ok.located }) [] c.in-Err-open_block.error
-    c.in-Ok.ensures.adds.wrote c.in-Err-open_block.ensures.err
-
-pub open_block-requires-clause-located : goal.open_block-requires-clause-located
-open_block-requires-clause-located g c = record {
-  answered =
-      subst (λ (client : List ℕ). IsAdded g.C.Cluster.may_answer client c.args.self.now.path c.args.self.now.file_id c.in-Ok.located)
-      (sym c.next_block.ensures.client.name) c.in-Ok.ensures.answered;
-  block = c.in-Ok.ensures.adds.block;
-  room = omega (arith, c.in-Ok.ensures.adds.empty, c.requires.begins.sizes.limited.block);
+pub tries-init : goal.tries-init
+tries-init g c = record {
+  same = refl;
+  client = same_client_refl c.args.namenode.now;
+  first = none_first g.C.Cluster.may_answer (name_of c.args.namenode.now) c.args.self.now.path c.args.self.now.file_id c.new-tries.result.excluded
+      c.new-tries.ensures.0;
+  tried = none_tried (g.C.Cluster.shown c.args.cluster.now) c.args.self.now c.new-tries.result c.new-tries.ensures.1;
 }
 
-pub open_block-requires-clause-answered : goal.open_block-requires-clause-answered
-open_block-requires-clause-answered g c =
-    subst (λ (client : List ℕ). IsAnswered g.C.Cluster.may_answer client c.args.self.now) (sym c.next_block.ensures.client.name) c.requires.adds.answered
+pub try_block-requires-clause-adds : goal.try_block-requires-clause-adds
+try_block-requires-clause-adds g c =
+    let before = c.tries.invariant in
+    let s = g.C.Cluster.shown c.args.cluster.now in
+    let now = g.C.Cluster.shown c.tries.cluster in
+    let w = c.args.self.now in
+    let client = before.client in
+    subst (λ (x : FileWriter). MayAdd g.C.Cluster.allows g.C.Cluster.may_answer c.tries.namenode now x) (sym before.same)
+    (record {
+      reaches =
+          reaches_later (proxy_of c.args.namenode.now) (proxy_of c.tries.namenode) s now client.service before.tried.wrote.own.later
+          c.requires.adds.reaches;
+      allowed =
+          subst (λ (name : List ℕ). LetsWrite g.C.Cluster.allows g.C.Cluster.may_answer name w.path w.file_id) (sym client.name)
+          c.requires.adds.allowed;
+      answered = subst (λ (name : List ℕ). IsAnswered g.C.Cluster.may_answer name w) (sym client.name) c.requires.adds.answered;
+      full = c.requires.adds.full;
+    })
 
-pub returns-in-Ok-open_block-clause-goes : goal.returns-in-Ok-open_block-clause-goes
-returns-in-Ok-open_block-clause-goes g c =
-    let goes = c.in-Ok-open_block.ensures.goes in (
-      subst (λ (client : List ℕ). CanGoOn g.C.Cluster.may_answer client (g.C.Cluster.shown c.open_block.new.cluster) c.open_block.new.self)
-          c.next_block.ensures.client.name goes.0,
-      goes.1,
+pub try_block-requires-clause-begins : goal.try_block-requires-clause-begins
+try_block-requires-clause-begins g c = subst MayBegin (sym c.tries.invariant.same) c.requires.begins
+
+pub returns-in-Ok-true-clause-wrote : goal.returns-in-Ok-true-clause-wrote
+returns-in-Ok-true-clause-wrote g c =
+    let before = c.tries.invariant in
+    let begun = c.in-Ok-true.ensures.begun c.in-Ok-true.field-0-test in
+    subst (λ (x : FileWriter). Wrote (g.C.Cluster.shown c.args.cluster.now) x [] (g.C.Cluster.shown c.try_block.new.cluster) c.try_block.new.self)
+    before.same
+    (wrote_trans (g.C.Cluster.shown c.args.cluster.now) (g.C.Cluster.shown c.tries.cluster) (g.C.Cluster.shown c.try_block.new.cluster)
+    c.tries.self c.tries.self c.try_block.new.self [] [] before.tried.wrote begun.2)
+
+pub returns-in-Ok-true-clause-goes : goal.returns-in-Ok-true-clause-goes
+returns-in-Ok-true-clause-goes g c =
+    let begun = c.in-Ok-true.ensures.begun c.in-Ok-true.field-0-test in (
+      subst (λ (client : List ℕ). CanGoOn g.C.Cluster.may_answer client (g.C.Cluster.shown c.try_block.new.cluster) c.try_block.new.self)
+          c.tries.invariant.client.name begun.1,
+      begun.0,
     )
 
-pub open_block-requires-clause-allowed : goal.open_block-requires-clause-allowed
-open_block-requires-clause-allowed g c = λ setup first.
-    c.requires.adds.allowed.opens c.in-Ok.located true c.in-Ok.ensures.answered setup
-    (subst (λ (client : List ℕ). IsFirstSetup c.in-Ok.located client setup) c.next_block.ensures.client.name first)
+pub returns-in-Err-clause-err : goal.returns-in-Err-clause-err
+returns-in-Err-clause-err g c =
+    let before = c.tries.invariant in
+    subst (λ (x : FileWriter). FailsOtherwise (g.C.Cluster.shown c.args.cluster.now) x c.in-Err.error (g.C.Cluster.shown c.try_block.new.cluster))
+    before.same
+    (c.in-Err.ensures.err (g.C.Cluster.shown c.args.cluster.now) before.tried)
+
+pub tries-preserved : goal.tries-preserved
+tries-preserved g c =
+    let before = c.tries.invariant in
+    let again = c.in-Ok-false.ensures.again c.in-Ok-false.field-0-test in
+    let s = g.C.Cluster.shown c.args.cluster.now in
+    let new = g.C.Cluster.shown c.try_block.new.cluster in
+    record {
+      same = again.same ∙ before.same;
+      client = same_client_trans c.args.namenode.now c.tries.namenode c.try_block.new.namenode before.client c.try_block.ensures.keeps.1;
+      first =
+          subst (λ (x : FileWriter). AreFirst g.C.Cluster.may_answer (name_of c.try_block.new.namenode) x.path x.file_id c.try_block.new.tries.excluded)
+          (sym again.same)
+          (subst (λ (name : List ℕ). AreFirst g.C.Cluster.may_answer name c.tries.self.path c.tries.self.file_id c.try_block.new.tries.excluded)
+          (sym c.try_block.ensures.keeps.1.name) again.first);
+      tried =
+          subst (λ (x : FileWriter). HasTried s x c.try_block.new.tries new) (sym again.same) (again.tried s before.tried);
+    }

@@ -2,6 +2,7 @@
 use Rattle.std.proofs.Common.{[], sym, ◌∙◌, subst, ◌≡◌, None, Some, Option, IsSome, List, ℕ, refl, false}
 use Rattle.std.proofs.lemmas.Bool.{false≢true}
 use Rattle.std.specs.Prelude.{IfSome}
+use Rattle.hdfs_cluster.specs.declared.errors.HdfsError.{HdfsError}
 use Rattle.hdfs_cluster.specs.declared.messages.LocatedBlock.{LocatedBlock}
 use Rattle.hdfs_cluster.specs.Namenode.{IsToWrite}
 use Rattle.hdfs_namenode.specs.Clients.{proxy_of, name_of}
@@ -9,11 +10,12 @@ use Rattle.hdfs_namenode.proofs.Services.{reaches_later, same_client_trans}
 use Rattle.hdfs_file_writer.specs.declared.file_writer.FileWriter.{FileWriter}
 use Rattle.hdfs_file_writer.specs.declared.sizes.WriteSizes.{WriteSizes}
 use Rattle.hdfs_file_writer.specs.Tails.{IsFull}
-use Rattle.hdfs_file_writer.specs.Writers.{CanGoOn, HasRoom, IsToOpen, Keeps, MayFinish, tail_of, Wrote, IsAnswered}
+use Rattle.hdfs_file_writer.specs.Writers.{CanGoOn, FailsOtherwise, HasRoom, IsToOpen, Keeps, MayFinish, tail_of, Wrote, IsAnswered}
 use Rattle.hdfs_file_writer.proofs.Joining.{keeps_trans, wrote_nothing, wrote_trans, fails_after}
 use Rattle.hdfs_file_writer.proofs.Standing.{full_without_room}
 use Rattle.hdfs_file_writer.proofs.Allowed.{answered_idle, answered_reopened, at_file}
 use Rattle.hdfs_cluster.specs.Requests.{LetsWrite}
+use Rattle.hdfs_file_writer.proofs.Tried.{reopened_fails}
 use Rattle.hdfs_file_writer.proofs.file_writer.FileWriter.make_room.Goals as goal
 
 -- a block that is to be gone on with is to be written
@@ -130,3 +132,13 @@ returns-in-Err-begin_block-clause-keeps g c = (
       c.begin_block.ensures.keeps.0,
   same_client_trans c.args.namenode.now c.finish_block.new.namenode c.begin_block.new.namenode c.finish_block.ensures.keeps.2 c.begin_block.ensures.keeps.1,
 )
+
+pub returns-in-Err-clause-err : goal.returns-in-Err-clause-err
+returns-in-Err-clause-err g c =
+    let s = g.C.Cluster.shown c.args.cluster.now in
+    let t = g.C.Cluster.shown c.open_block.new.cluster in
+    let w = c.args.self.now in
+    let some = c.in-Some.ensures.some in
+    let none : w.going ≡ None = c.requires.may.stands.apart (subst IsSome (sym some.0) refl) in
+    subst (λ (e : HdfsError). FailsOtherwise s w e t) (sym c.error_of.ensures)
+    (reopened_fails s t w c.in-Some.located none some.0 (name_of c.args.namenode.now) c.in-Err.fault c.in-Err.ensures.err.1)

@@ -1,5 +1,5 @@
 -- The goals of FileWriter::next_block.
-use Rattle.std.proofs.Common.{refl, ◌≡◌, [], subst}
+use Rattle.std.proofs.Common.{refl, ◌≡◌, subst}
 use Rattle.hdfs_namenode.specs.Clients.{name_of, proxy_of}
 use Rattle.hdfs_namenode.proofs.Relayed.{came_as}
 use Rattle.hdfs_namenode.proofs.Services.{reaches_service}
@@ -17,28 +17,29 @@ add_block-requires-clause-service g c = reaches_service (proxy_of c.args.namenod
 pub returns-in-Err-clause-err : goal.returns-in-Err-clause-err
 returns-in-Err-clause-err g c =
     unanswered_fails (g.C.Cluster.shown c.args.cluster.now) (g.C.Cluster.shown c.add_block.new.cluster) (g.met.C.Cluster.sound c.args.cluster.now)
-    c.args.self.now c.requires.between (name_of c.args.namenode.now) c.in-Err.error
+    c.args.self.now c.requires.begins.0 (name_of c.args.namenode.now) c.args.excluded.now c.in-Err.error
     (came_as (cc (c.as_str.ensures, c.as_ref.ensures.value)) refl (c.in-Err.ensures.came c.requires.adds.reaches))
 
 pub returns-in-Ok-clause-adds : goal.returns-in-Ok-clause-adds
 returns-in-Ok-clause-adds g c =
     answered_adds (g.C.Cluster.shown c.args.cluster.now) (g.C.Cluster.shown c.add_block.new.cluster) (g.met.C.Cluster.sound c.args.cluster.now)
-    c.args.self.now c.requires.between (name_of c.args.namenode.now) c.in-Ok.located c.requires.adds.full
+    c.args.self.now c.requires.begins.0 (name_of c.args.namenode.now) c.args.excluded.now c.in-Ok.located c.requires.adds.full
     (came_as (cc (c.as_str.ensures, c.as_ref.ensures.value)) refl (c.in-Ok.ensures.came c.requires.adds.reaches))
 
 pub returns-in-Ok-clause-answered : goal.returns-in-Ok-clause-answered
 returns-in-Ok-clause-answered g c =
     let w = c.args.self.now in
-    let asked : asks.AddBlock c.as_str.result.now (name_of c.args.namenode.now) (option_copied c.as_ref.result) [] w.file_id
-    ≡ asks.AddBlock w.path (name_of c.args.namenode.now) w.last [] w.file_id = cc (c.as_str.ensures, c.as_ref.ensures.value) in
+    let asked : asks.AddBlock c.as_str.result.now (name_of c.args.namenode.now) (option_copied c.as_ref.result) c.args.excluded.now w.file_id
+    ≡ asks.AddBlock w.path (name_of c.args.namenode.now) w.last c.args.excluded.now w.file_id = cc (c.as_str.ensures, c.as_ref.ensures.value) in
     record {
       previous = w.last;
+      excluded = c.args.excluded.now;
       answered = subst (λ (ask : Ask). g.C.Cluster.may_answer ask (answers.AddBlock c.in-Ok.located)) asked c.in-Ok.ensures.answered;
     }
 
 pub add_block-requires-clause-allowed : goal.add_block-requires-clause-allowed
 add_block-requires-clause-allowed g c =
     let w = c.args.self.now in
-    let asked : asks.AddBlock c.as_str.result.now (name_of c.args.namenode.now) (option_copied c.as_ref.result) [] w.file_id
-    ≡ asks.AddBlock w.path (name_of c.args.namenode.now) w.last [] w.file_id = cc (c.as_str.ensures, c.as_ref.ensures.value) in
-    allowed_as g.C.Cluster.allows asked (c.requires.adds.allowed.adds w.last (c.requires.adds.answered.last c.requires.fine))
+    let asked : asks.AddBlock c.as_str.result.now (name_of c.args.namenode.now) (option_copied c.as_ref.result) c.args.excluded.now w.file_id
+    ≡ asks.AddBlock w.path (name_of c.args.namenode.now) w.last c.args.excluded.now w.file_id = cc (c.as_str.ensures, c.as_ref.ensures.value) in
+    allowed_as g.C.Cluster.allows asked (c.requires.adds.allowed.adds w.last c.args.excluded.now (c.requires.adds.answered.last c.requires.begins.1) c.requires.first)

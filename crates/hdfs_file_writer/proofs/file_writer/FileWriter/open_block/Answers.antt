@@ -1,26 +1,23 @@
 -- The goals of FileWriter::open_block.
-use Rattle.std.proofs.Common.{Some, refl, sym, subst, arith, ◌≡◌, ap}
-use Rattle.hdfs_cluster.specs.declared.errors.HdfsError.{HdfsError}
+use Rattle.std.proofs.Common.{Some, inl, refl, sym, subst, arith}
 use Rattle.hdfs_namenode.specs.Clients.{name_of}
 use Rattle.hdfs_block_writer.specs.Packing.{setup_of}
 use Rattle.hdfs_rebuild.specs.declared.block_plan.BlockPlan.{BlockPlan}
 use Rattle.hdfs_block_writer.specs.BlockWriters.{IsToBegin}
 use Rattle.hdfs_block_writer.specs.Written.{BeginsWhole, IsNew}
-use Rattle.hdfs_file_writer.specs.Writers.{FailsOtherwise, plan_of}
-use Rattle.hdfs_file_writer.proofs.Standing.{begun_stands, opened_wrote, unopened_fails}
-use Rattle.hdfs_file_writer.proofs.Allowed.{answered_new, answered_with}
+use Rattle.hdfs_file_writer.specs.Writers.{plan_of}
+use Rattle.hdfs_file_writer.proofs.Standing.{begun_stands, opened_wrote}
+use Rattle.hdfs_file_writer.proofs.Allowed.{answered_new, answered_with, first_setup}
 use Rattle.hdfs_cluster.specs.Requests.{IsAnsweredLocated, IsFirstSetup}
-use Rattle.hdfs_cluster.specs.declared.messages.LocatedBlock.{LocatedBlock}
 use Rattle.hdfs_file_writer.proofs.file_writer.FileWriter.open_block.Goals as goal
 
 pub replicated-requires-clause-allowed : goal.replicated-requires-clause-allowed
 replicated-requires-clause-allowed g c =
     let plan = c.in-Ok.plan in
     let client = name_of c.args.namenode.now in
-    let located : plan.block ≡ c.args.located = ap (λ (x : BlockPlan). x.block) c.in-Ok.ensures in
-    c.requires.allowed (setup_of plan.block plan.chunk client)
-    (subst (λ (x : LocatedBlock). IsFirstSetup x client (setup_of plan.block plan.chunk client)) located
-    (record { block = refl; stage = refl; nodes = refl; types = refl; ids = refl; stamp = refl; bytes = (refl, refl); token = refl; named = refl }))
+    c.requires.allowed (setup_of plan client)
+    (subst (λ (x : BlockPlan). IsFirstSetup c.args.created c.args.located client (setup_of x client)) (sym c.in-Ok.ensures)
+    (first_setup c.args.self.now c.args.located c.args.created client))
 
 pub replicated-requires-clause-plan : goal.replicated-requires-clause-plan
 replicated-requires-clause-plan g c =
@@ -47,7 +44,7 @@ returns-in-Ok-replicated-clause-goes g c =
     let client = name_of c.args.namenode.now in (
       record {
         stands = begun_stands (g.C.Cluster.shown c.replicated.new.cluster) (g.C.Cluster.shown c.args.cluster.now) w (record w { going = Some block }) block c.args.located created
-            (setup_of plan.block plan.chunk (name_of c.args.namenode.now)) c.requires.begins.sizes c.requires.begins.plain c.requires.begins.fine
+            (setup_of plan (name_of c.args.namenode.now)) c.requires.begins.sizes c.requires.begins.plain c.requires.begins.fine
             (record { path = refl; file_id = refl; sizes = refl }) refl c.requires.begins.between.done c.in-Ok-replicated.ensures.stands new c.in-Ok-replicated.ensures.opened;
         fine = c.requires.begins.fine;
         answered =
@@ -68,7 +65,7 @@ returns-in-Ok-replicated-clause-wrote g c =
     let block = c.in-Ok-replicated.block in
     let created = c.args.created in
     opened_wrote s t (record w { reopened = Some c.args.located }) c.args.located c.requires.begins.between.none refl (record w { going = Some block }) block created
-    w.sizes.rebuilding w.sizes.block_size w.sizes.packet_size (setup_of plan.block plan.chunk (name_of c.args.namenode.now))
+    w.sizes.rebuilding w.sizes.block_size w.sizes.packet_size (setup_of plan (name_of c.args.namenode.now))
     (record { path = refl; file_id = refl; sizes = refl }) refl
     (subst (λ (x : BlockPlan). IsNew x w.sizes.rebuilding w.sizes.block_size w.sizes.packet_size block) c.in-Ok.ensures c.in-Ok-replicated.ensures.new)
     c.in-Ok-replicated.ensures.opened
@@ -76,10 +73,24 @@ returns-in-Ok-replicated-clause-wrote g c =
 
 pub returns-in-Err-replicated-clause-err : goal.returns-in-Err-replicated-clause-err
 returns-in-Err-replicated-clause-err g c =
-    let s = g.C.Cluster.shown c.args.cluster.now in
-    let t = g.C.Cluster.shown c.replicated.new.cluster in
-    let w = c.args.self.now in
-    let plan = c.in-Ok.plan in
-    subst (λ (e : HdfsError). FailsOtherwise s (record w { reopened = Some c.args.located }) e t) (sym c.error_of.ensures)
-    (unopened_fails s t (record w { reopened = Some c.args.located }) c.args.located c.requires.begins.between.none refl
-    (setup_of plan.block plan.chunk (name_of c.args.namenode.now)) c.in-Err-replicated.fault c.in-Err-replicated.ensures.err)
+    let client = name_of c.args.namenode.now in (
+      refl,
+      record {
+        setup = setup_of c.in-Ok.plan client;
+        first =
+            subst (λ (x : BlockPlan). IsFirstSetup c.args.created c.args.located client (setup_of x client)) (sym c.in-Ok.ensures)
+            (first_setup c.args.self.now c.args.located c.args.created client);
+        none = c.in-Err-replicated.ensures.err;
+      },
+    )
+
+pub returns-in-Err-clause-err : goal.returns-in-Err-clause-err
+returns-in-Err-clause-err g c =
+    let client = name_of c.args.namenode.now in (
+      refl,
+      record {
+        setup = setup_of (plan_of c.args.self.now c.args.located c.args.created) client;
+        first = first_setup c.args.self.now c.args.located c.args.created client;
+        none = inl (refl, refl);
+      },
+    )

@@ -11,6 +11,7 @@ use Rattle.hdfs_file_writer.specs.Writers.{HasRoom, Keeps, MayFinish, link_by, t
 use Rattle.hdfs_file_writer.proofs.Allowed.{at_file}
 use Rattle.hdfs_file_writer.proofs.Joining.{wrote_nothing, wrote_trans, fails_after, refused}
 use Rattle.hdfs_file_writer.proofs.Standing.{encrypted_none, full_without_room}
+use Rattle.hdfs_file_writer.proofs.Tried.{none_first}
 use Rattle.hdfs_file_writer.proofs.file_writer.FileWriter.refuse.Goals as goal
 
 pub returns-in-Some-clause-fails : goal.returns-in-Some-clause-fails
@@ -90,3 +91,7 @@ finish_block-requires-clause-may g c =
       answered = c.requires.may.answered;
       stands = c.requires.may.stands;
     })
+
+pub next_block-requires-clause-first : goal.next_block-requires-clause-first
+next_block-requires-clause-first g c =
+    none_first g.C.Cluster.may_answer (name_of c.finish_block.new.namenode) c.finish_block.new.self.path c.finish_block.new.self.file_id [] refl

@@ -1,13 +1,13 @@
 -- A pipeline is set up in a slot that was vacant, or the set-up fails.
-use Rattle.std.proofs.Common.{◌≡◌, ℕ, List, Some, None, map, sym, ◌∙◌, ap, subst}
+use Rattle.std.proofs.Common.{◌≡◌, ℕ, Some, None, map, sym, ◌∙◌, ap, subst}
 use Rattle.slab.specs.Slab as slab
 use Rattle.slab.specs.Slab.{Slab, Updates}
-use Rattle.hdfs_cluster.specs.declared.messages.DatanodeInfo.{DatanodeInfo}
 use Rattle.hdfs_cluster.specs.Pipes.{WriteOpened}
 use Rattle.hdfs_mem_cluster.specs.declared.mem_link.MemLink.{MemLink}
 use Rattle.hdfs_mem_cluster.specs.declared.mem_link.MemLink.TheVariants as links
 use Rattle.hdfs_mem_cluster.specs.Lines.{line_of}
 use Rattle.hdfs_mem_cluster.specs.Links.{write_told}
+use Rattle.hdfs_mem_cluster.specs.SettingUp.{blamed}
 use Rattle.hdfs_mem_cluster.proofs.Earlier.{changed_earlier, later_earlier, same_earlier}
 use Rattle.hdfs_mem_cluster.proofs.SettingUp.{asks_failed, asks_opened, counts_fall, counts_follow, counts_rose}
 use Rattle.hdfs_mem_cluster.proofs.Stills.{shown_at}
@@ -24,9 +24,9 @@ invariant_of-self-in-Err-1 c =
     record {
       counted = e.ensures.rest.count ∙ m.counted;
       unfailed = m.unfailed;
-      follows = counts_follow m.faults e.new.faults c.vacant_key-link.result (Some c.in-Err.fault) counts (map line_of m.loaded.items) m.follows;
+      follows = counts_follow m.faults e.new.faults c.vacant_key-link.result (blamed c.args.setup) (Some c.in-Err.fault) counts (map line_of m.loaded.items) m.follows;
       earlier = same_earlier m.links e.new.links e.new.faults (λ l. ap (λ s. slab.get s l) e.ensures.slots)
-          (later_earlier m.links m.faults e.new.faults (counts_fall m.faults e.new.faults c.vacant_key-link.result (Some c.in-Err.fault) counts) m.earlier);
+          (later_earlier m.links m.faults e.new.faults (counts_fall m.faults e.new.faults c.vacant_key-link.result (blamed c.args.setup) (Some c.in-Err.fault) counts) m.earlier);
     }
 
 pub returns-in-Err-clause-err : goal.returns-in-Err-clause-err
@@ -35,12 +35,12 @@ returns-in-Err-clause-err c =
     let e = c.enter-entered in
     let counts = c.in-Err.ensures.counts in
     not_opened_write m.space m.config.settings m.last m.calls (map line_of m.loaded.items) m.faults e.new.faults m.nodes e.new.nodes m.links e.new.links c.vacant_key-link.result c.args.setup c.in-Err.fault
-    (counts_fall m.faults e.new.faults c.vacant_key-link.result (Some c.in-Err.fault) counts) c.vacant_key-link.ensures.vacant (λ l. ap (λ s. slab.get s l) e.ensures.slots) e.ensures.others e.ensures.bytes
-    (counts_rose m.faults e.new.faults c.vacant_key-link.result c.in-Err.fault counts)
+    (counts_fall m.faults e.new.faults c.vacant_key-link.result (blamed c.args.setup) (Some c.in-Err.fault) counts) c.vacant_key-link.ensures.vacant (λ l. ap (λ s. slab.get s l) e.ensures.slots) e.ensures.others e.ensures.bytes
+    (counts_rose m.faults e.new.faults c.vacant_key-link.result (blamed c.args.setup) c.in-Err.fault counts)
 
 pub returns-in-Err-clause-asks : goal.returns-in-Err-clause-asks
 returns-in-Err-clause-asks c =
-    asks_failed c.args.self.now _ c.vacant_key-link.result c.enter-entered.ensures.rest (ap write_told c.vacant_key-link.ensures.vacant) c.in-Err.fault c.in-Err.ensures.counts
+    asks_failed c.args.self.now _ c.args.setup c.vacant_key-link.result c.enter-entered.ensures.rest (ap write_told c.vacant_key-link.ensures.vacant) c.in-Err.fault c.in-Err.ensures.counts
 
 -- ---- it didn't
 
@@ -52,10 +52,10 @@ invariant_of-self c =
     record {
       counted = e.ensures.rest.count ∙ m.counted;
       unfailed = m.unfailed;
-      follows = counts_follow m.faults e.new.faults c.vacant_key-link.result None counts (map line_of m.loaded.items) m.follows;
+      follows = counts_follow m.faults e.new.faults c.vacant_key-link.result (blamed c.args.setup) None counts (map line_of m.loaded.items) m.follows;
       earlier = changed_earlier e.new.links c.insert_reserved.new.self e.new.faults c.insert_reserved.result (Some (links.Write c.new-write.result)) c.insert_reserved.ensures.updates (λ read is. absurd (cc))
           (same_earlier m.links e.new.links e.new.faults (λ l. ap (λ s. slab.get s l) e.ensures.slots)
-          (later_earlier m.links m.faults e.new.faults (counts_fall m.faults e.new.faults c.vacant_key-link.result None counts) m.earlier));
+          (later_earlier m.links m.faults e.new.faults (counts_fall m.faults e.new.faults c.vacant_key-link.result (blamed c.args.setup) None counts) m.earlier));
     }
 
 pub returns-in-Ok-clause-ok : goal.returns-in-Ok-clause-ok
@@ -68,7 +68,7 @@ returns-in-Ok-clause-ok c =
     let reserved : Updates e.new.links c.insert_reserved.new.self key (Some (links.Write w)) = subst (λ (l : ℕ). Updates e.new.links c.insert_reserved.new.self l (Some (links.Write w))) (sym same) c.insert_reserved.ensures.updates in
     let updates : Updates m.links c.insert_reserved.new.self key (Some (links.Write w)) = record { changed = reserved.changed; others = λ l apart. reserved.others l apart ∙ ap (λ s. slab.get s l) e.ensures.slots } in
     subst (λ (l : ℕ). WriteOpened (shown_at m.space m.config.settings m.last m.calls (map line_of m.loaded.items) m.faults m.nodes m.links) c.args.setup l (shown_at m.space m.config.settings m.last m.calls (map line_of m.loaded.items) e.new.faults e.new.nodes c.insert_reserved.new.self)) same
-    (opened_write m.space m.config.settings m.last m.calls (map line_of m.loaded.items) m.faults e.new.faults (counts_fall m.faults e.new.faults key None c.in-Ok.ensures.counts) m.nodes e.new.nodes m.links c.insert_reserved.new.self key w updates
+    (opened_write m.space m.config.settings m.last m.calls (map line_of m.loaded.items) m.faults e.new.faults (counts_fall m.faults e.new.faults key (blamed c.args.setup) None c.in-Ok.ensures.counts) m.nodes e.new.nodes m.links c.insert_reserved.new.self key w updates
     c.args.setup c.vacant_key-link.ensures.vacant c.new-write.ensures.setup c.new-write.ensures.sent c.new-write.ensures.responses c.new-write.ensures.acknowledged
     (c.new-write.ensures.base ∙ c.in-Ok.ensures.base) c.in-Ok.ensures.entered e.ensures.others e.ensures.bytes)
 
@@ -77,4 +77,4 @@ returns-in-Ok-clause-asks c =
     let m = c.args.self.now in
     let e = c.enter-entered in
     let same : c.insert_reserved.result ≡ c.vacant_key-link.result = c.insert_reserved.ensures.key ∙ ap (λ (s : Slab MemLink). s.vacant_key) e.ensures.slots ∙ sym c.vacant_key-link.ensures.value in
-    asks_opened m _ c.vacant_key-link.result e.ensures.rest (ap write_told c.vacant_key-link.ensures.vacant) c.insert_reserved.result same c.in-Ok.ensures.counts
+    asks_opened m _ c.args.setup c.vacant_key-link.result e.ensures.rest (ap write_told c.vacant_key-link.ensures.vacant) c.insert_reserved.result same c.in-Ok.ensures.counts

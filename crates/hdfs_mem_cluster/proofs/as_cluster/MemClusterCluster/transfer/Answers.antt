@@ -1,5 +1,5 @@
 -- A block is given to other datanodes, or the transfer fails.
-use Rattle.std.proofs.Common.{◌≡◌, inl, Bool, true, Some, is_some, Ok, map, refl, sym, ◌∙◌, ap, arith}
+use Rattle.std.proofs.Common.{◌≡◌, inl, true, is_some, Ok, map, refl, sym, ◌∙◌, ap, arith}
 use Rattle.std.proofs.lemmas.Result.{err_from_is_err_and}
 use Rattle.hdfs_cluster.specs.declared.asks.LinkFault.TheVariants as link_faults
 use Rattle.hdfs_mem_faults.specs.Calls.{one_if}

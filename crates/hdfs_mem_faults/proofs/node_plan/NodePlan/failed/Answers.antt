@@ -1,12 +1,7 @@
 -- Each of its tallies has failed no more often than numbers are planned, and so the four together fit.
-use Rattle.std.proofs.Common.{◌^◌, ◌≤◌, arith}
-use Rattle.hdfs_mem_faults.specs.declared.tally.Tally.{Tally}
-use Rattle.hdfs_mem_faults.proofs.Failing.{fails-len}
+use Rattle.std.proofs.Common.{arith}
+use Rattle.hdfs_mem_faults.proofs.Bounds.{failed_few}
 use Rattle.hdfs_mem_faults.proofs.node_plan.NodePlan.failed.Goals as goal
-
--- a tally fails seldom
-failed_few : {K : Type 0} (tally : Tally K) → tally.failed ≤ 2 ^ 60
-failed_few tally = omega (arith, tally.counted, fails-len tally.planned tally.calls, tally.few)
 
 pub overflow_add-result : goal.overflow_add-result
 overflow_add-result c =

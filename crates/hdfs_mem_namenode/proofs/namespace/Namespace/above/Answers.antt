@@ -1,5 +1,5 @@
 -- A file above the path is the refusal.
-use Rattle.std.proofs.Common.{◌≡◌, Bool, cond, Some, None, refl, sym, ◌∙◌, ap}
+use Rattle.std.proofs.Common.{Bool, cond, Some, None, refl, sym, ◌∙◌, ap}
 use Rattle.hdfs_cluster.specs.Files.{NotDirectory}
 use Rattle.hdfs_cluster.specs.Refusals.{Lacks}
 use Rattle.hdfs_mem_namenode.proofs.namespace.Namespace.above.Goals as goal

@@ -1,5 +1,5 @@
 -- What stands at a path is deleted, or nothing stands there, or an exception stands for what keeps it.
-use Rattle.std.proofs.Common.{◌≡◌, ℕ, List, refl, sym, ap}
+use Rattle.std.proofs.Common.{refl, ap}
 use Rattle.std.specs.BTreeMap.{get_by_text}
 use Rattle.hdfs_mem_namenode.specs.Memory.{table_of}
 use Rattle.hdfs_mem_namenode.specs.Spaces.{space_with}

@@ -1,5 +1,5 @@
 -- A directory is made, or an exception stands for what refuses it.
-use Rattle.std.proofs.Common.{◌≡◌, ℕ, List, refl, sym, ap}
+use Rattle.std.proofs.Common.{refl, ap}
 use Rattle.hdfs_mem_namenode.specs.Memory.{table_of}
 use Rattle.hdfs_mem_namenode.specs.Spaces.{space_with}
 use Rattle.hdfs_mem_namenode.proofs.Rows.{err_made}

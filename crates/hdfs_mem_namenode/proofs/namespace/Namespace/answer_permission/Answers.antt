@@ -1,5 +1,5 @@
 -- The permission is set, or an exception stands for why there is no file.
-use Rattle.std.proofs.Common.{◌≡◌, ℕ, List, refl, sym, ap}
+use Rattle.std.proofs.Common.{refl, ap}
 use Rattle.std.specs.BTreeMap.{get_by_text}
 use Rattle.hdfs_mem_namenode.specs.Memory.{table_of}
 use Rattle.hdfs_mem_namenode.specs.Spaces.{space_with}

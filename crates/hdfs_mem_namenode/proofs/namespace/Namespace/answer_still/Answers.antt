@@ -1,10 +1,10 @@
 -- What isn't kept is set where something stands.
-use Rattle.std.proofs.Common.{◌≡◌, ℕ, List, Some, Ok, Err, refl, sym, ◌∙◌, ap, subst}
+use Rattle.std.proofs.Common.{Err, refl, sym, subst}
 use Rattle.hdfs_cluster.specs.declared.asks.Answer.{Answer}
 use Rattle.hdfs_cluster.specs.declared.asks.AskFault.{AskFault}
 use Rattle.hdfs_mem_namenode.specs.Rows.{AnswersNames, NamesRow}
 use Rattle.hdfs_mem_namenode.specs.Spaces.{space_with}
-use Rattle.hdfs_mem_namenode.proofs.Rows.{same_space, serves_about, still_refused, still_row}
+use Rattle.hdfs_mem_namenode.proofs.Rows.{same_space, still_refused, still_row}
 use Rattle.hdfs_mem_namenode.proofs.namespace.Namespace.answer_still.Goals as goal
 
 pub returns-in-Ok-clause-answers : goal.returns-in-Ok-clause-answers

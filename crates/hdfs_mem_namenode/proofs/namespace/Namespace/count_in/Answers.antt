@@ -1,7 +1,4 @@
 -- Each name that is found is counted, until there is none.
-use Rattle.std.proofs.Common.{◌≡◌, ℕ, List, sym, ◌∙◌, ap, subst}
-use Rattle.std.specs.BTreeMap.{get_by_text}
-use Rattle.hdfs_mem_namenode.specs.Listing.{GoesOn, IsNext, IsUnderWay}
 use Rattle.hdfs_mem_namenode.proofs.Ranging.{along_child, along_first, along_none}
 use Rattle.hdfs_mem_namenode.proofs.namespace.Namespace.count_in.Goals as goal
 

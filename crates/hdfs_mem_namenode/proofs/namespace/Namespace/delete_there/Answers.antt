@@ -1,15 +1,12 @@
 -- The path and what was found below it is taken away.
-use Rattle.std.proofs.Common.{◌≡◌, ◌≢◌, ℕ, Bool, true, false, not, ◌&&◌, eqb, List, [], ◌∷◌, ◌++◌, length, Option, IsSome, is_some, inr, refl, sym, ◌∙◌, ap, subst}
-use Rattle.std.proofs.lemmas.Bool.{false≢true}
+use Rattle.std.proofs.Common.{◌≡◌, ℕ, false, not, ◌&&◌, eqb, List, [], ◌∷◌, ◌++◌, length, Option, IsSome, inr, refl, sym, ◌∙◌, ap, subst}
 use Rattle.std.specs.BTreeMap.{get_by_text}
 use Rattle.std.specs.List.{All, Contains, list_any}
 use Rattle.std.specs.Str.{bytes_eq}
-use Rattle.hdfs_cluster.specs.declared.asks.AskFault.{AskFault}
 use Rattle.hdfs_cluster.specs.declared.picture.Entry.{Entry}
-use Rattle.hdfs_cluster.specs.Deleting.{DeletesFrom}
 use Rattle.hdfs_names.specs.Paths.{root}
-use Rattle.hdfs_mem_namenode.specs.Changing.{IsClosed, StandsForKept, frees}
-use Rattle.hdfs_mem_namenode.specs.Memory.{is_placed, table_of}
+use Rattle.hdfs_mem_namenode.specs.Changing.{IsClosed, StandsForKept}
+use Rattle.hdfs_mem_namenode.specs.Memory.{table_of}
 use Rattle.hdfs_mem_namenode.proofs.Below.{IsInFront}
 use Rattle.hdfs_mem_namenode.proofs.Within.{deletes, found_below, keys_closed, keys_not_root, named_path, none_kept, some_kept}
 use Rattle.hdfs_mem_namenode.proofs.namespace.Namespace.delete_there.Goals as goal

@@ -1,4 +1,4 @@
-use Rattle.std.proofs.Common.{◌≡◌, ◌++◌, ◌∷◌, [], ℕ, List, ◌∙◌, ap}
+use Rattle.std.proofs.Common.{◌++◌, ◌∷◌, [], ℕ, List, ◌∙◌, ap}
 use Rattle.std.specs.String.{string_bytes}
 use Rattle.hdfs_mem_namenode.proofs.Ranging.{goes_first}
 use Rattle.hdfs_mem_namenode.proofs.namespace.Namespace.entries_behind.Goals as goal

@@ -1,5 +1,5 @@
 -- Where nothing refuses it a directory is there, or nothing is and no file stands above.
-use Rattle.std.proofs.Common.{◌≡◌, sym, ◌∙◌}
+use Rattle.std.proofs.Common.{sym, ◌∙◌}
 use Rattle.std.specs.BTreeMap.{get_by_text}
 use Rattle.hdfs_mem_namenode.proofs.Naming.{tree_from_tests}
 use Rattle.hdfs_mem_namenode.proofs.NewDirectories.{dir_there, none_there, refused_not, same_made}

@@ -3,7 +3,6 @@ use Rattle.std.proofs.Common.{◌≡◌, ℕ, List, true, None, cond, sym, ◌�
 use Rattle.std.proofs.lemmas.Bool.{false≢true}
 use Rattle.std.proofs.lemmas.Map.Text.{btree_map_updates_text}
 use Rattle.std.specs.BTreeMap.{get_by_text}
-use Rattle.std.specs.Str.{bytes_eq}
 use Rattle.hdfs_names.specs.Paths.{root}
 use Rattle.hdfs_mem_namenode.specs.Memory.{table_of, is_dir, is_placed, is_sized, AreApart, IsBare}
 use Rattle.hdfs_mem_namenode.specs.Renaming.{moved}

@@ -1,9 +1,9 @@
 -- Entry after entry is taken: one that lies in a directory of the directory is passed over, with all that lies there.
-use Rattle.std.proofs.Common.{Global, String, ◌≡◌, ◌++◌, ◌∷◌, ◌<◌, ◌≤◌, [], ℕ, List, length, sym, ◌∙◌, ap, subst, arith}
+use Rattle.std.proofs.Common.{Global, String, ◌++◌, ◌∷◌, [], ℕ, List, sym, ◌∙◌, ap, arith}
 use Rattle.std.specs.BTreeMap.{get_by_text}
 use Rattle.std.specs.String.{string_bytes}
 use Rattle.hdfs_cluster.specs.declared.picture.Entry.{Entry}
-use Rattle.hdfs_mem_namenode.specs.Listing.{GoesOn, IsUnderWay}
+use Rattle.hdfs_mem_namenode.specs.Listing.{GoesOn}
 use Rattle.hdfs_mem_namenode.proofs.Ranging.{goes_behind, goes_fewer, goes_here, goes_next, goes_none, goes_outside, goes_past}
 use Rattle.hdfs_mem_namenode.proofs.namespace.Namespace.next_child.Goals as goal
 

@@ -1,12 +1,12 @@
 -- Name after name is listed, until the page is full or there is none.
-use Rattle.std.proofs.Common.{◌≡◌, ◌<◌, ◌≤◌, ◌++◌, ℕ, List, [], ◌∷◌, length, length-append, arith, sym, ◌∙◌, ap, subst}
+use Rattle.std.proofs.Common.{◌≡◌, ◌++◌, ℕ, List, [], ◌∷◌, length, length-append, arith, sym, ◌∙◌, ap, subst}
 use Rattle.std.specs.BTreeMap.{get_by_text}
 use Rattle.std.specs.String.{string_bytes}
 use Rattle.hdfs_cluster.specs.declared.messages.FileStatusMsg.{FileStatusMsg}
 use Rattle.hdfs_mem_namenode.specs.Listing.{CountsBehind, GoesOn, IsNext, IsPage, NoneBehind}
 use Rattle.hdfs_mem_namenode.specs.Memory.{table_of}
 use Rattle.hdfs_mem_namenode.proofs.Pages.{Listed, listed_more, none_listed, page_last, page_rest}
-use Rattle.hdfs_mem_namenode.proofs.Ranging.{ListedAlong, under_way}
+use Rattle.hdfs_mem_namenode.proofs.Ranging.{under_way}
 use Rattle.hdfs_mem_namenode.proofs.namespace.Namespace.page.Goals as goal
 
 pub loop-alloc-init : goal.loop-alloc-init

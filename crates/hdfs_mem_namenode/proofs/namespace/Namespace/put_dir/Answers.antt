@@ -1,5 +1,5 @@
 -- Directories keep the tree, and the blocks of all files.
-use Rattle.std.proofs.Common.{◌≡◌, ℕ, List, true, sym, ◌∙◌, ap}
+use Rattle.std.proofs.Common.{◌≡◌, ℕ, List, true, sym}
 use Rattle.std.proofs.lemmas.Bool.{false≢true}
 use Rattle.std.specs.BTreeMap.{get_by_text}
 use Rattle.hdfs_names.specs.Paths.{root}

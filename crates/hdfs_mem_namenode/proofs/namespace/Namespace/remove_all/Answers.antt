@@ -1,5 +1,5 @@
 -- What goes leaves the tree, and the blocks of all that stays.
-use Rattle.std.proofs.Common.{◌≡◌, ◌∙◌, ℕ, Bool, not, eqb, length, sym, ap}
+use Rattle.std.proofs.Common.{◌∙◌, ℕ, not, eqb, sym, ap}
 use Rattle.std.specs.BTreeMap.{get_by_text}
 use Rattle.hdfs_mem_namenode.specs.Memory.{table_of}
 use Rattle.hdfs_mem_namenode.proofs.Naming.{Sound}

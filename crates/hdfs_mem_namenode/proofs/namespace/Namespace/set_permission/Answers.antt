@@ -1,5 +1,5 @@
 -- A directory is no file.
-use Rattle.std.proofs.Common.{◌≡◌, Some, refl, sym, ◌∙◌, ap}
+use Rattle.std.proofs.Common.{Some, refl, sym, ◌∙◌, ap}
 use Rattle.std.specs.BTreeMap.{get_by_text}
 use Rattle.hdfs_cluster.specs.Files.{NotFile}
 use Rattle.hdfs_mem_namenode.proofs.Naming.{tree_from_tests}
