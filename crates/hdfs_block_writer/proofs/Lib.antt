@@ -15,6 +15,7 @@ pub mod PushedEnded
 pub mod PushingOn
 pub mod Rebuilt
 pub mod Received
+pub mod Seeing
 pub mod Sent
 pub mod Standing
 pub mod Wrote

@@ -8,7 +8,7 @@ use Rattle.hdfs_cluster.specs.declared.asks.Ask.{Ask}
 use Rattle.hdfs_cluster.specs.Requests.{Request, LetsGoOn}
 use Rattle.hdfs_cluster.specs.Namenode.{IsToWrite}
 use Rattle.hdfs_cluster.specs.Shown.{Shown}
-use Rattle.hdfs_namenode.specs.Asked.{ReachesAll}
+use Rattle.hdfs_namenode.specs.Asked.{IsServiceOf}
 use Rattle.hdfs_namenode.specs.Clients.{name_of, proxy_of}
 use Rattle.hdfs_namenode.specs.declared.protocol.NamenodeProtocol.{NamenodeProtocol}
 use Rattle.hdfs_pipeline.specs.Driving.{IsNotLast}
@@ -134,18 +134,18 @@ pub record IsToBegin (plan : BlockPlan) (settings : RebuildSettings) (sizes : Bl
   pub window : (1 ≤ settings.window) × (settings.window ≤ 1000)
   pub size : (plan.block.b.num_bytes ≤ sizes.block_size) × (sizes.block_size < 2 ^ 63)
 
--- What a call of a writer wants: the client's service has all namenodes of the cluster, there is leave to go on with the block in the client's
+-- What a call of a writer wants: the client's service is one of the cluster's, there is leave to go on with the block in the client's
 -- name, and the writer stands.
 pub record IsServed (allows : Request → Type 0) (may_answer : Ask → Answer → Type 0) (namenode : NamenodeProtocol) (shown : Shown)
     (writer : BlockWriter) : Type 0 where
-  pub reaches : ReachesAll (proxy_of namenode) shown
+  pub service : IsServiceOf (proxy_of namenode) shown
   pub allowed : MayGoOn allows may_answer (name_of namenode) writer
   pub stands : Stands shown writer
 
 -- The same of sending its packet, which may be full. The writer hasn't failed.
 pub record MaySend (allows : Request → Type 0) (may_answer : Ask → Answer → Type 0) (namenode : NamenodeProtocol) (shown : Shown)
     (writer : BlockWriter) : Type 0 where
-  pub reaches : ReachesAll (proxy_of namenode) shown
+  pub service : IsServiceOf (proxy_of namenode) shown
   pub allowed : MayGoOn allows may_answer (name_of namenode) writer
   pub holds : Holds shown writer
   pub is_open : IsSome writer.pipe

@@ -5,7 +5,7 @@ use Rattle.hdfs_cluster.specs.declared.asks.Answer.{Answer}
 use Rattle.hdfs_cluster.specs.declared.asks.Ask.{Ask}
 use Rattle.hdfs_cluster.specs.declared.picture.OpenWrite.{OpenWrite}
 use Rattle.hdfs_cluster.specs.Requests.{LetsGoOn, Request}
-use Rattle.hdfs_namenode.specs.Asked.{ReachesAll}
+use Rattle.hdfs_namenode.specs.Asked.{IsServiceOf}
 use Rattle.hdfs_namenode.specs.Clients.{name_of, proxy_of}
 use Rattle.hdfs_namenode.specs.declared.protocol.NamenodeProtocol.{NamenodeProtocol}
 use Rattle.hdfs_cluster.specs.Pipes.{FollowsOn}
@@ -35,11 +35,11 @@ pub record CameFrom (before : Shown) (core : Pipeline) (came : List Outgoing) (n
   pub drives : Drives before pipe.link core
   pub set_up : (write : OpenWrite) → before.writes pipe.link ≡ Some write → write.setup.locs ≡ pipe.plan.block.locs
 
--- What driving a pipeline on to its end wants: the client's service has all namenodes of the cluster, there is leave to go on with its block
+-- What driving a pipeline on to its end wants: the client's service is one of the cluster's, there is leave to go on with its block
 -- behind it, and it can be rebuilt.
 pub record MayDrive (allows : Request → Type 0) (may_answer : Ask → Answer → Type 0) (namenode : NamenodeProtocol) (settings : RebuildSettings)
     (shown : Shown) (pipe : BlockPipeline) : Type 0 where
-  pub reaches : ReachesAll (proxy_of namenode) shown
+  pub service : IsServiceOf (proxy_of namenode) shown
   pub allowed : LetsGoOn allows may_answer (name_of namenode) pipe.plan.src pipe.plan.block
   pub standing : IsStanding settings shown pipe []
 

@@ -47,7 +47,8 @@ fn named(plan: BlockPlan, length: u64) -> Block
 impl BlockWriter {
     ghost use Rattle.hdfs_cluster.specs.Pipes.{WriteEnded};
     ghost use Rattle.hdfs_cluster.specs.Requests.{SetupOf};
-    ghost use Rattle.hdfs_namenode.specs.Clients.{SameClient, name_of};
+    ghost use Rattle.hdfs_namenode.specs.Clients.{SameClient, name_of, through};
+    ghost use Rattle.hdfs_namenode.specs.Views.{InEachView, Seen};
     ghost use Rattle.hdfs_block_writer.specs.Packing.{setup_of};
     ghost use Rattle.hdfs_rebuild.specs.declared.block_plan.BlockPipeline.{BlockPipeline};
     ghost use Rattle.hdfs_block_writer.specs.BlockWriters.{length_of, size_of, HasFailed, IsServed, IsToBegin, MaySend, SendsFull, Holds, Stands};
@@ -124,9 +125,10 @@ impl BlockWriter {
         requires { MaySend C.allows C.may_answer namenode.old (C.shown cluster.old) self.old }
         ensures holds { OnOk result (Holds (C.shown cluster.new) self.new × (self.new.packet ≡ None)) }
         ensures full { OnOk result (StaysFull self.old self.new) }
-        ensures wrote { OnOk result (Wrote (C.shown cluster.old) self.old [] (C.shown cluster.new) self.new) }
-        ensures err { IfErr result (λ fault. Fails (C.shown cluster.old) self.old fault (C.shown cluster.new)
-            self.new) }
+        ensures wrote { OnOk result (Seen C.shown (through namenode.old cluster.old) cluster.new
+            (λ old new. Wrote old self.old [] new self.new)) }
+        ensures err { IfErr result (λ fault. Seen C.shown (through namenode.old cluster.old) cluster.new
+            (λ old new. Fails old self.old fault new self.new)) }
         ensures answered { OnOk result (GoesOnAnswered C.may_answer (name_of namenode.old) self.old self.new) }
         ensures client { SameClient namenode.old namenode.new }
     {
@@ -152,9 +154,10 @@ impl BlockWriter {
         requires may { MaySend C.allows C.may_answer namenode.old (C.shown cluster.old) self.old }
         requires full { SendsFull self.old }
         ensures stands { OnOk result (Stands (C.shown cluster.new) self.new) }
-        ensures wrote { OnOk result (Wrote (C.shown cluster.old) self.old [] (C.shown cluster.new) self.new) }
-        ensures err { IfErr result (λ fault. Fails (C.shown cluster.old) self.old fault (C.shown cluster.new)
-            self.new) }
+        ensures wrote { OnOk result (Seen C.shown (through namenode.old cluster.old) cluster.new
+            (λ old new. Wrote old self.old [] new self.new)) }
+        ensures err { IfErr result (λ fault. Seen C.shown (through namenode.old cluster.old) cluster.new
+            (λ old new. Fails old self.old fault new self.new)) }
         ensures answered { OnOk result (GoesOnAnswered C.may_answer (name_of namenode.old) self.old self.new) }
         ensures client { SameClient namenode.old namenode.new }
     {
@@ -176,10 +179,11 @@ impl BlockWriter {
         requires open { IsSome self.old.pipe }
         requires room { (self.old.length + length bytes.now ≤ self.old.block_size) × (0 < length bytes.now) }
         ensures stands { OnOk result (Stands (C.shown cluster.new) self.new) }
-        ensures wrote { IfOk result (λ n. (0 < n) × (n ≤ length bytes.now)
-            × Wrote (C.shown cluster.old) self.old (take n bytes.now) (C.shown cluster.new) self.new) }
-        ensures err { IfErr result (λ fault. Fails (C.shown cluster.old) self.old fault (C.shown cluster.new)
-            self.new) }
+        ensures count { IfOk result (λ n. (0 < n) × (n ≤ length bytes.now)) }
+        ensures wrote { IfOk result (λ n. Seen C.shown (through namenode.old cluster.old) cluster.new
+            (λ old new. Wrote old self.old (take n bytes.now) new self.new)) }
+        ensures err { IfErr result (λ fault. Seen C.shown (through namenode.old cluster.old) cluster.new
+            (λ old new. Fails old self.old fault new self.new)) }
         ensures answered { OnOk result (GoesOnAnswered C.may_answer (name_of namenode.old) self.old self.new) }
         ensures client { SameClient namenode.old namenode.new }
     {
@@ -202,9 +206,10 @@ impl BlockWriter {
         requires open { IsSome self.old.pipe }
         requires room { self.old.length + length bytes.now ≤ self.old.block_size }
         ensures stands { OnOk result (Stands (C.shown cluster.new) self.new) }
-        ensures wrote { OnOk result (Wrote (C.shown cluster.old) self.old bytes.now (C.shown cluster.new) self.new) }
-        ensures err { IfErr result (λ fault. Fails (C.shown cluster.old) self.old fault (C.shown cluster.new)
-            self.new) }
+        ensures wrote { OnOk result (Seen C.shown (through namenode.old cluster.old) cluster.new
+            (λ old new. Wrote old self.old bytes.now new self.new)) }
+        ensures err { IfErr result (λ fault. Seen C.shown (through namenode.old cluster.old) cluster.new
+            (λ old new. Fails old self.old fault new self.new)) }
         ensures answered { OnOk result (GoesOnAnswered C.may_answer (name_of namenode.old) self.old self.new) }
         ensures client { SameClient namenode.old namenode.new }
     {
@@ -230,14 +235,14 @@ impl BlockWriter {
         requires { IsServed C.allows C.may_answer namenode.old (C.shown cluster.old) self.old }
         ensures stands { Stands (C.shown cluster.new) self.new }
         ensures count { IfOk result (λ n. n ≡ min (length bytes.now) (size_of self.old - length_of self.old)) }
-        ensures err { IfErr result (λ fault. Fails (C.shown cluster.old) self.old fault (C.shown cluster.new)
-            self.new) }
+        ensures err { IfErr result (λ fault. Seen C.shown (through namenode.old cluster.old) cluster.new
+            (λ old new. Fails old self.old fault new self.new)) }
         ensures failed { HasFailed self.old
             → (result ≡ Err faults.Failed) × (self.new ≡ self.old) × (cluster.new ≡ cluster.old) }
 
         // Over a told picture these bytes are carried too, whatever datanodes fail, and nothing changes but the block.
-        ensures wrote { IfOk result (λ n. Wrote (C.shown cluster.old) self.old (take n bytes.now) (C.shown cluster.new)
-            self.new) }
+        ensures wrote { IfOk result (λ n. Seen C.shown (through namenode.old cluster.old) cluster.new
+            (λ old new. Wrote old self.old (take n bytes.now) new self.new)) }
         ensures answered { OnOk result (GoesOnAnswered C.may_answer (name_of namenode.old) self.old self.new) }
         ensures client { SameClient namenode.old namenode.new }
     {
@@ -258,9 +263,12 @@ impl BlockWriter {
     ) -> Result<Block, WriteFault>
         requires may { MaySend C.allows C.may_answer namenode.old (C.shown cluster.old) self.old }
         requires none { self.old.packet ≡ None }
-        ensures closed { IfOk result (λ block. Closes (C.shown cluster.old) self.old block (C.shown cluster.new)) }
-        ensures last { OnOk result (WaitsForLast C.shown C.ends cluster.old self.old cluster.new) }
-        ensures err { IfErr result (λ fault. GaveUp (C.shown cluster.old) self.old fault (C.shown cluster.new)) }
+        ensures closed { IfOk result (λ block. Seen C.shown (through namenode.old cluster.old) cluster.new
+            (λ old new. Closes old self.old block new)) }
+        ensures last { OnOk result (InEachView C.shown (through namenode.old cluster.old)
+            (λ see. WaitsForLast (λ c. see (C.shown c)) C.ends cluster.old self.old cluster.new)) }
+        ensures err { IfErr result (λ fault. Seen C.shown (through namenode.old cluster.old) cluster.new
+            (λ old new. GaveUp old self.old fault new)) }
         ensures answered { IfOk result (ClosesAnswered C.may_answer (name_of namenode.old) self.old) }
         ensures client { SameClient namenode.old namenode.new }
     {
@@ -287,11 +295,14 @@ impl BlockWriter {
         namenode: &mut NamenodeProtocol,
     ) -> Result<Block, WriteFault>
         requires { IsServed C.allows C.may_answer namenode.old (C.shown cluster.old) self }
-        ensures closed { IfOk result (λ block. Closes (C.shown cluster.old) self block (C.shown cluster.new)) }
+        ensures closed { IfOk result (λ block. Seen C.shown (through namenode.old cluster.old) cluster.new
+            (λ old new. Closes old self block new)) }
 
         // Over a told picture the last packet of the block is an empty one that is marked so, and the datanodes have received it.
-        ensures last { OnOk result (WaitsForLast C.shown C.ends cluster.old self cluster.new) }
-        ensures err { IfErr result (λ fault. GaveUp (C.shown cluster.old) self fault (C.shown cluster.new)) }
+        ensures last { OnOk result (InEachView C.shown (through namenode.old cluster.old)
+            (λ see. WaitsForLast (λ c. see (C.shown c)) C.ends cluster.old self cluster.new)) }
+        ensures err { IfErr result (λ fault. Seen C.shown (through namenode.old cluster.old) cluster.new
+            (λ old new. GaveUp old self fault new)) }
         ensures failed { HasFailed self → (result ≡ Err faults.Failed) × (cluster.new ≡ cluster.old) }
         ensures answered { IfOk result (ClosesAnswered C.may_answer (name_of namenode.old) self) }
         ensures client { SameClient namenode.old namenode.new }
@@ -308,9 +319,12 @@ impl BlockWriter {
         namenode: &mut NamenodeProtocol,
     ) -> Result<Block, WriteFault>
         requires { IsServed C.allows C.may_answer namenode.old (C.shown cluster.old) self.old }
-        ensures closed { IfOk result (λ block. Closes (C.shown cluster.old) self.old block (C.shown cluster.new)) }
-        ensures last { OnOk result (WaitsForLast C.shown C.ends cluster.old self.old cluster.new) }
-        ensures err { IfErr result (λ fault. GaveUp (C.shown cluster.old) self.old fault (C.shown cluster.new)) }
+        ensures closed { IfOk result (λ block. Seen C.shown (through namenode.old cluster.old) cluster.new
+            (λ old new. Closes old self.old block new)) }
+        ensures last { OnOk result (InEachView C.shown (through namenode.old cluster.old)
+            (λ see. WaitsForLast (λ c. see (C.shown c)) C.ends cluster.old self.old cluster.new)) }
+        ensures err { IfErr result (λ fault. Seen C.shown (through namenode.old cluster.old) cluster.new
+            (λ old new. GaveUp old self.old fault new)) }
         ensures failed { HasFailed self.old → (result ≡ Err faults.Failed) × (cluster.new ≡ cluster.old) }
         ensures answered { IfOk result (ClosesAnswered C.may_answer (name_of namenode.old) self.old) }
         ensures client { SameClient namenode.old namenode.new }

@@ -48,8 +48,9 @@ fn bytes_of(packet: &Option<WritePacket>) -> u64
 
 impl BlockWriter {
     ghost use Rattle.hdfs_cluster.specs.Requests.{LetsGoOn};
-    ghost use Rattle.hdfs_namenode.specs.Asked.{ReachesAll};
-    ghost use Rattle.hdfs_namenode.specs.Clients.{SameClient, name_of, proxy_of};
+    ghost use Rattle.hdfs_namenode.specs.Asked.{IsServiceOf};
+    ghost use Rattle.hdfs_namenode.specs.Clients.{SameClient, name_of, proxy_of, through};
+    ghost use Rattle.hdfs_namenode.specs.Views.{InEachView, Seen};
     ghost use Rattle.hdfs_pipeline.specs.Pipelines.{Done};
     ghost use Rattle.hdfs_block_reader.specs.Carrying.{total};
     ghost use Rattle.hdfs_rebuild.specs.Plans.{StaysAnswered};
@@ -68,10 +69,10 @@ impl BlockWriter {
         requires may { MayDrive C.allows C.may_answer namenode.old self.now.settings (C.shown cluster.old) pipe }
         requires ended { IsSome pipe.core.end × (pipe.core.end ≡ Some Done → ⊥) }
         requires few { (total pipe.core.pushed + unsent ≤ self.now.length) × (self.now.length < 2 ^ 63) }
-        ensures ok { IfOk result (λ pipe'. RebuildsEnded self.now.settings (C.shown cluster.old) pipe
-            (C.shown cluster.new) pipe') }
-        ensures err { IfErr result (λ fault. FallsEnded self.now.settings (C.shown cluster.old) pipe fault
-            (C.shown cluster.new)) }
+        ensures ok { IfOk result (λ pipe'. Seen C.shown (through namenode.old cluster.old) cluster.new
+            (λ old new. RebuildsEnded self.now.settings old pipe new pipe')) }
+        ensures err { IfErr result (λ fault. Seen C.shown (through namenode.old cluster.old) cluster.new
+            (λ old new. FallsEnded self.now.settings old pipe fault new)) }
         ensures answered { IfOk result (λ pipe'.
             StaysAnswered C.may_answer (name_of namenode.old) pipe.plan pipe'.plan) }
         ensures client { SameClient namenode.old namenode.new }
@@ -114,13 +115,13 @@ impl BlockWriter {
         mut pipe: BlockPipeline,
         packet: WritePacket,
     ) -> Result<PushedOnce, WriteFault>
-        requires reaches { ReachesAll (proxy_of namenode.old) (C.shown cluster.old) }
+        requires service { IsServiceOf (proxy_of namenode.old) (C.shown cluster.old) }
         requires allowed { LetsGoOn C.allows C.may_answer (name_of namenode.old) pipe.plan.src pipe.plan.block }
         requires can { CanPush self.now.settings (C.shown cluster.old) pipe self.now.length packet }
-        ensures ok { IfOk result (λ pushed.
-            PushesOnce self.now.settings (C.shown cluster.old) pipe packet pushed (C.shown cluster.new)) }
-        ensures err { IfErr result (λ fault.
-            PushesNot self.now.settings (C.shown cluster.old) pipe packet fault (C.shown cluster.new)) }
+        ensures ok { IfOk result (λ pushed. Seen C.shown (through namenode.old cluster.old) cluster.new
+            (λ old new. PushesOnce self.now.settings old pipe packet pushed new)) }
+        ensures err { IfErr result (λ fault. Seen C.shown (through namenode.old cluster.old) cluster.new
+            (λ old new. PushesNot self.now.settings old pipe packet fault new)) }
         ensures answered { IfOk result (λ pushed.
             StaysAnswered C.may_answer (name_of namenode.old) pipe.plan pushed.pipe.plan) }
         ensures client { SameClient namenode.old namenode.new }
@@ -150,13 +151,13 @@ impl BlockWriter {
         pipe: BlockPipeline,
         packet: WritePacket,
     ) -> Result<BlockPipeline, WriteFault>
-        requires reaches { ReachesAll (proxy_of namenode.old) (C.shown cluster.old) }
+        requires service { IsServiceOf (proxy_of namenode.old) (C.shown cluster.old) }
         requires allowed { LetsGoOn C.allows C.may_answer (name_of namenode.old) pipe.plan.src pipe.plan.block }
         requires can { CanPush self.now.settings (C.shown cluster.old) pipe self.now.length packet }
-        ensures ok { IfOk result (λ pipe'. Pushes self.now.settings (C.shown cluster.old) pipe packet
-            (C.shown cluster.new) pipe') }
-        ensures err { IfErr result (λ fault.
-            PushesNot self.now.settings (C.shown cluster.old) pipe packet fault (C.shown cluster.new)) }
+        ensures ok { IfOk result (λ pipe'. Seen C.shown (through namenode.old cluster.old) cluster.new
+            (λ old new. Pushes self.now.settings old pipe packet new pipe')) }
+        ensures err { IfErr result (λ fault. Seen C.shown (through namenode.old cluster.old) cluster.new
+            (λ old new. PushesNot self.now.settings old pipe packet fault new)) }
         ensures answered { IfOk result (λ pipe'.
             StaysAnswered C.may_answer (name_of namenode.old) pipe.plan pipe'.plan) }
         ensures client { SameClient namenode.old namenode.new }
@@ -185,11 +186,12 @@ impl BlockWriter {
         requires may { MayDrive C.allows C.may_answer namenode.old self.now.settings (C.shown cluster.old) pipe }
         requires ending { IsEnding pipe }
         requires few { (total pipe.core.pushed ≤ self.now.length) × (self.now.length < 2 ^ 63) }
-        ensures ok { IfOk result (λ settled. Settles self.now.settings (C.shown cluster.old) pipe settled
-            (C.shown cluster.new)) }
-        ensures last { IfOk result (λ settled. ReceivesOnce C.shown C.ends cluster.old pipe settled cluster.new) }
-        ensures err { IfErr result (λ fault. FallsFor self.now.settings (C.shown cluster.old) pipe [] fault
-            (C.shown cluster.new)) }
+        ensures ok { IfOk result (λ settled. Seen C.shown (through namenode.old cluster.old) cluster.new
+            (λ old new. Settles self.now.settings old pipe settled new)) }
+        ensures last { IfOk result (λ settled. InEachView C.shown (through namenode.old cluster.old)
+            (λ see. ReceivesOnce (λ c. see (C.shown c)) C.ends cluster.old pipe settled cluster.new)) }
+        ensures err { IfErr result (λ fault. Seen C.shown (through namenode.old cluster.old) cluster.new
+            (λ old new. FallsFor self.now.settings old pipe [] fault new)) }
         ensures answered { IfOk result (λ settled.
             StaysAnswered C.may_answer (name_of namenode.old) pipe.plan (plan_in settled)) }
         ensures client { SameClient namenode.old namenode.new }
@@ -235,11 +237,12 @@ impl BlockWriter {
         requires may { MayDrive C.allows C.may_answer namenode.old self.now.settings (C.shown cluster.old) pipe }
         requires ending { IsEnding pipe }
         requires few { (total pipe.core.pushed ≤ self.now.length) × (self.now.length < 2 ^ 63) }
-        ensures finishes { IfOk result (λ plan. Finishes self.now.settings (C.shown cluster.old) pipe
-            (C.shown cluster.new) plan) }
-        ensures last { OnOk result (ReceivesAll C.shown C.ends cluster.old pipe cluster.new) }
-        ensures err { IfErr result (λ fault. FinishesNot self.now.settings (C.shown cluster.old) pipe fault
-            (C.shown cluster.new)) }
+        ensures finishes { IfOk result (λ plan. Seen C.shown (through namenode.old cluster.old) cluster.new
+            (λ old new. Finishes self.now.settings old pipe new plan)) }
+        ensures last { OnOk result (InEachView C.shown (through namenode.old cluster.old)
+            (λ see. ReceivesAll (λ c. see (C.shown c)) C.ends cluster.old pipe cluster.new)) }
+        ensures err { IfErr result (λ fault. Seen C.shown (through namenode.old cluster.old) cluster.new
+            (λ old new. FinishesNot self.now.settings old pipe fault new)) }
         ensures answered { IfOk result (StaysAnswered C.may_answer (name_of namenode.old) pipe.plan) }
         ensures client { SameClient namenode.old namenode.new }
     {

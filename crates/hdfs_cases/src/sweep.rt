@@ -1,5 +1,5 @@
 //! Runs all short sessions over the cluster in memory, and all short ones on names: each is to be answered as by the plain program; and with a
-//! single fault it is to end behind the plain program's replies, with every path that the failed command doesn't name as those left it.
+//! single fault it is so too, or ends behind the plain program's replies, with every path that the failed command doesn't name as those left it.
 //!
 //! Then it runs sessions that write a file of three replicas, or of one, while a call fails, or two, and sessions over namenodes that fail once, or
 //! twice: each is answered as by the plain program, or stops for a cause that the counts show. Last it reads a file of one replica to three

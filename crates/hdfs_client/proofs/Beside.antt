@@ -9,7 +9,7 @@ use Rattle.hdfs_cluster.specs.declared.errors.HdfsError.{HdfsError}
 use Rattle.hdfs_cluster.specs.Repeating.{Leaves}
 use Rattle.hdfs_cluster.specs.Requests.{LetsClose, LetsWrite, Request}
 use Rattle.hdfs_cluster.specs.declared.picture.OpenWrite.{OpenWrite}
-use Rattle.hdfs_cluster.specs.Shown.{Later, Served, Shown}
+use Rattle.hdfs_cluster.specs.Shown.{Served, Shown}
 use Rattle.hdfs_file_reader.specs.declared.file_blocks.FileBlocks.{FileBlocks}
 use Rattle.hdfs_file_writer.specs.Writers as files
 use Rattle.hdfs_file_writer.specs.declared.file_writer.FileWriter as inner
@@ -20,7 +20,7 @@ use Rattle.hdfs_namenode.specs.Asked.{ReachesAll, SameService}
 use Rattle.hdfs_namenode.specs.Clients.{name_of, proxy_of, through}
 use Rattle.hdfs_namenode.specs.declared.protocol.NamenodeProtocol.{NamenodeProtocol}
 use Rattle.hdfs_namenode.proofs.Observers.{once_leaves}
-use Rattle.hdfs_namenode.proofs.Services.{reaches_later, same_service_refl, same_service_trans}
+use Rattle.hdfs_namenode.proofs.Services.{reaches_same, same_service_refl, same_service_trans}
 use Rattle.hdfs_names.specs.Mounts.{first_match}
 use Rattle.hdfs_names.specs.Paths.{absolute}
 use Rattle.hdfs_names.specs.declared.mounts.MountTable.{MountTable}
@@ -28,12 +28,13 @@ use Rattle.hdfs_client.specs.Clients.{AsksAt, SameBut, leads_to, mounts_of, serv
 use Rattle.hdfs_client.specs.Holding.{ChangesService, MayGive}
 use Rattle.hdfs_client.specs.Readers.{ReadsBlocks, ReadsBy}
 use Rattle.hdfs_client.specs.Readers as readers
-use Rattle.hdfs_client.specs.Writing.{AreApart, IsWriterOf, KeepsFiles, KeepsOthers, OfOpen, ReachesWhole, link_in, link_of, open_of, service_of}
+use Rattle.hdfs_client.specs.Writing.{IsWriterOf, KeepsFiles, KeepsOthers, OfOpen, ReachesWhole, WritesWhole, link_in, link_of, open_of, service_of}
 use Rattle.hdfs_client.specs.declared.client.Client.{Client}
 use Rattle.hdfs_client.specs.declared.file_lease.FileLease.{FileLease}
 use Rattle.hdfs_client.specs.declared.file_reader.FileReader.{FileReader}
 use Rattle.hdfs_client.specs.declared.writing.FileWriter.{FileWriter}
 use Rattle.hdfs_client.proofs.Asking.{same_some}
+use Rattle.hdfs_client.proofs.Written.{OwnLink}
 
 -- a service asks the same namenodes in the same name
 abbrev pub Keeps : NamenodeProtocol → NamenodeProtocol → Type 0
@@ -71,7 +72,7 @@ module _ {client client' : Client} (services : KeepsServices client client') whe
       by None none = absurd (cc (is, none))
       by (Some before) some = subst IsSome (sym (services.each (readers.service_of reader) before some).1) refl
 
-  module _ {s t : Shown} (later : Later s t) where
+  module _ {s t : Shown} (count : t.namenodes ≡ s.namenodes) where
     -- a path that leads to a whole service does so still
     pub still_whole : (src : List ℕ) → ReachesWhole client src s → ReachesWhole client' src t
     still_whole src whole to namenode leads at = by (service_at client to.service) refl
@@ -83,19 +84,21 @@ module _ {client client' : Client} (services : KeepsServices client client') whe
             let led : leads_to client src ≡ Some to =
             sym (ap (λ (m : MountTable). first_match m.fallback 0 m.mounts (absolute m.home_dir src)) services.mounts) ∙ leads in
             subst (λ (n : NamenodeProtocol). ReachesAll (proxy_of n) t) (same_some namenode next.0 (service_at client' to.service) at next.1)
-            (reaches_later (proxy_of before) (proxy_of next.0) s t next.2.0 later (whole to before led some))
+            (reaches_same (proxy_of before) (proxy_of next.0) s t next.2.0 count (whole to before led some))
 
     -- of a writer whose link stays
     pub of_standing : (writer : FileWriter)
         → ((file : inner.FileWriter) → open_of writer ≡ Some file → (link : ℕ) → files.link_of file ≡ Some link → t.writes link ≡ s.writes link)
         → IsWriterOf client s writer → IsWriterOf client' t writer
     of_standing writer links =
-        of_kept (λ namenode file. ReachesAll (proxy_of namenode) s × files.Stands s file) (λ namenode file. ReachesAll (proxy_of namenode) t × files.Stands t file)
-        writer
-        (λ before after file is keeps so. (
-          reaches_later (proxy_of before) (proxy_of after) s t keeps.0 later so.0,
-          stands_beside s t file (links file is) so.1,
-        ))
+        of_kept (λ namenode file. files.Stands s file) (λ namenode file. files.Stands t file) writer
+        (λ before after file is keeps so. stands_beside s t file (links file is) so)
+
+    -- one that writes a file of a whole service does so still
+    pub writes_whole : (writer : FileWriter) → WritesWhole client s writer → WritesWhole client' t writer
+    writes_whole writer =
+        of_kept (λ namenode file. ReachesAll (proxy_of namenode) s) (λ namenode file. ReachesAll (proxy_of namenode) t) writer
+        (λ before after file is keeps so. reaches_same (proxy_of before) (proxy_of after) s t keeps.0 count so)
 
     -- readers and writers stay
     pub keeps_files : (allows : Request → Type 0) (may_answer : Ask → Answer → Type 0) → ((link : ℕ) → t.writes link ≡ s.writes link)
@@ -103,6 +106,7 @@ module _ {client client' : Client} (services : KeepsServices client client') whe
     keeps_files allows may_answer links = record {
       whole = still_whole;
       readers = still_reads;
+      wholes = writes_whole;
       stand = λ writer. of_standing writer (λ file is link named. links link);
       answered = of_named (λ name file. files.IsAnswered may_answer name file);
       write = of_named (λ name file. LetsWrite allows may_answer name (files.path_of file) (files.file_id_of file));
@@ -120,23 +124,23 @@ own_left {C} shown old new None shut left =
 own_left {C} shown old new (Some file) shut left = left file refl
 
 -- calls in the name of a writer without a link leave all links
-pub own_nothing : {s t : Shown} → files.OnlyOwnLink s None t None → (link : ℕ) → t.writes link ≡ s.writes link
+pub own_nothing : {s t : Shown} → OwnLink s None t None → (link : ℕ) → t.writes link ≡ s.writes link
 own_nothing {s} {t} own link = by (s.writes link) refl
   where
     by : (o : Option OpenWrite) → s.writes link ≡ o → t.writes link ≡ s.writes link
     by None closed = own.none link (inl closed) (λ is. absurd (cc is)) ∙ sym closed
     by (Some write) kept = own.others link (subst IsSome (sym kept) refl) (λ is. absurd (cc is))
 
-module _ {client client' : Client} (services : KeepsServices client client') {s t : Shown} {before after : Option ℕ} (own : files.OnlyOwnLink s before t after)
+module _ {client client' : Client} (services : KeepsServices client client') {s t : Shown} {before after : Option ℕ} (own : OwnLink s before t after)
     (other : FileWriter) (apart : (link : ℕ) → before ≡ Some link → link_of other ≡ Some link → ⊥) (of : IsWriterOf client s other) where
   -- its link is open
   opened : (file : inner.FileWriter) → open_of other ≡ Some file → (link : ℕ) → files.link_of file ≡ Some link → IsSome (s.writes link)
-  opened file is link named = link_is_open s file (of file is).2.1 link named
+  opened file is link named = link_is_open s file (of file is).2 link named
 
   -- another writer stays one
   pub stands_apart : IsWriterOf client' t other
   stands_apart =
-      of_standing services own.later other
+      of_standing services own.namenodes other
       (λ file is link named. own.others link (opened file is link named) (λ same. apart link same (ap link_in is ∙ named))) of
 
   -- and has its link alone
@@ -152,11 +156,12 @@ module _ {client client' : Client} (services : KeepsServices client client') {s 
 
 -- behind a call of a writer that writes over this link, and then over that one
 pub keeps_others : (allows : Request → Type 0) (may_answer : Ask → Answer → Type 0) {client client' : Client} (services : KeepsServices client client')
-    {s t : Shown} (writer writer' : FileWriter) → files.OnlyOwnLink s (link_of writer) t (link_of writer')
+    {s t : Shown} (writer writer' : FileWriter) → OwnLink s (link_of writer) t (link_of writer')
     → KeepsOthers allows may_answer client s writer client' t writer'
 keeps_others allows may_answer services writer writer' own = record {
-  whole = still_whole services own.later;
+  whole = still_whole services own.namenodes;
   readers = still_reads services;
+  wholes = writes_whole services own.namenodes;
   stand = λ other apart of. (stands_apart services own other apart of, still_apart services own other apart of);
   answered = of_named services (λ name file. files.IsAnswered may_answer name file);
   write = of_named services (λ name file. LetsWrite allows may_answer name (files.path_of file) (files.file_id_of file));
@@ -169,7 +174,7 @@ keeps_refl n = (same_service_refl (proxy_of n), refl)
 -- where nothing is done they stay
 pub files_refl : {allows : Request → Type 0} {may_answer : Ask → Answer → Type 0} (client : Client) (shown : Shown)
     → KeepsFiles allows may_answer client shown client shown
-files_refl client shown = record { whole = λ src is. is; readers = λ reader is. is; stand = λ writer is. is; answered = λ writer is. is; write = λ writer is. is; close = λ writer is. is }
+files_refl client shown = record { whole = λ src is. is; readers = λ reader is. is; wholes = λ writer is. is; stand = λ writer is. is; answered = λ writer is. is; write = λ writer is. is; close = λ writer is. is }
 
 pub services_refl : (client : Client) → KeepsServices client client
 services_refl client = record { each = λ k before is. (before, is, keeps_refl before); none = λ k is. is; mounts = refl }
@@ -190,6 +195,7 @@ pub files_trans : {allows : Request → Type 0} {may_answer : Ask → Answer →
 files_trans one two = record {
   whole = λ src is. two.whole src (one.whole src is);
   readers = λ reader is. two.readers reader (one.readers reader is);
+  wholes = λ writer is. two.wholes writer (one.wholes writer is);
   stand = λ writer is. two.stand writer (one.stand writer is);
   answered = λ writer is. two.answered writer (one.answered writer is);
   write = λ writer is. two.write writer (one.write writer is);
@@ -263,12 +269,12 @@ module _ {C : Type 0} (shown : C → Shown) (serves : C → ℕ → Ask → Resu
   files_asked write ask client client' src old new outcome at =
       let leaves : Leaves (shown old) (shown new) =
       once_leaves shown serves rows write (ask at.to.path) (through at.before old) outcome (through at.after new) at.asked in
-      keeps_files (services_but at.was at.is at.others (at.keeps.service, at.keeps.name)) leaves.later allows may_answer leaves.writes
+      keeps_files (services_but at.was at.is at.others (at.keeps.service, at.keeps.name)) leaves.later.namenodes allows may_answer leaves.writes
 
 -- so does a read of a range
 pub files_read : (allows : Request → Type 0) (may_answer : Ask → Answer → Type 0) {old new : Shown} {client client' : Client} {file : FileBlocks}
     {service offset len : ℕ} {result : Result (List ℕ) HdfsError} → ReadsBlocks old client file service offset len result new client'
     → KeepsFiles allows may_answer client old client' new
 files_read allows may_answer reads =
-    keeps_files (services_but reads.was reads.is reads.others (reads.leaves.same.service, reads.leaves.same.name)) reads.leaves.later allows may_answer
+    keeps_files (services_but reads.was reads.is reads.others (reads.leaves.same.service, reads.leaves.same.name)) reads.leaves.later.namenodes allows may_answer
     reads.leaves.links.writes

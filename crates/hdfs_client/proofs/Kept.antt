@@ -1,29 +1,31 @@
 -- What stays of a service that is asked more than once.
-use Rattle.std.proofs.Common.{◌≡◌, ℕ, List, refl, sym, ◌∙◌, subst}
+use Rattle.std.proofs.Common.{◌≡◌, ℕ, List, Some, refl, sym, ◌∙◌, subst}
 use Rattle.hdfs_cluster.specs.declared.asks.Ask.TheVariants as asks
+use Rattle.hdfs_cluster.specs.Picture.{Picture}
 use Rattle.hdfs_cluster.specs.Repeating.{Leaves}
 use Rattle.hdfs_cluster.specs.Shown.{Shown}
-use Rattle.hdfs_cluster.proofs.Frames.{later_trans}
 use Rattle.hdfs_model.specs.Opening.{appending, create_flag, creating}
 use Rattle.hdfs_model.specs.declared.commands.WriteOptions.{WriteOptions}
 use Rattle.hdfs_leases.specs.declared.file_leases.FileLeases.{FileLeases}
-use Rattle.hdfs_namenode.specs.Asked.{ReachesAll, SameService}
+use Rattle.hdfs_namenode.specs.Asked.{IsServiceOf, SameService}
 use Rattle.hdfs_namenode.specs.Clients.{ChangesLeases, SameClient, proxy_of}
 use Rattle.hdfs_namenode.specs.declared.protocol.NamenodeProtocol.{NamenodeProtocol}
 use Rattle.hdfs_namenode.specs.declared.proxy.NameServiceProxy.{NameServiceProxy}
-use Rattle.hdfs_namenode.proofs.Services.{reaches_later, same_service_refl, same_service_trans}
+use Rattle.hdfs_namenode.specs.Views.{View, Whole, OfService, HasView, see}
+use Rattle.hdfs_namenode.proofs.Seeing.{view_same}
+use Rattle.hdfs_namenode.proofs.Services.{same_service_refl, same_service_trans, service_same}
 use Rattle.hdfs_client.specs.Holding.{KeepsLeases}
 use Rattle.hdfs_client.specs.Opening.{KeepsName, KeepsService, LeavesLinks}
 
--- it keeps its name, its service and its key, no count falls, and no link changes
+-- it keeps its name, its service and its key, no namenode is lost, and no link changes
 abbrev pub Goes : NamenodeProtocol → Shown → NamenodeProtocol → Shown → Type 0
 Goes before old after new = KeepsService before after × LeavesLinks old new
 
 pub links_from : {s t : Shown} → Leaves s t → LeavesLinks s t
-links_from leaves = record { later = leaves.later; writes = leaves.writes }
+links_from leaves = record { namenodes = leaves.later.namenodes; writes = leaves.writes }
 
 pub links_trans : {s m t : Shown} → LeavesLinks s m → LeavesLinks m t → LeavesLinks s t
-links_trans {s} {m} {t} one two = record { later = later_trans s m t one.later two.later; writes = λ link. two.writes link ∙ one.writes link }
+links_trans one two = record { namenodes = two.namenodes ∙ one.namenodes; writes = λ link. two.writes link ∙ one.writes link }
 
 pub service_from-client : {a b : NamenodeProtocol} → SameClient a b → KeepsService a b
 service_from-client same = record { service = same.service; name = same.name; key = same.key }
@@ -65,9 +67,17 @@ goes_leases goes changes = (service_trans goes.0 (service_from-leases changes), 
 pub keeps_same : {a b : FileLeases} → b ≡ a → KeepsLeases a b
 keeps_same {a} {b} same = subst (KeepsLeases a) (sym same) (record { held = λ namespace id. refl; last = refl })
 
--- it reaches all namenodes still
-pub goes_reaches : {a b : NamenodeProtocol} {s t : Shown} → Goes a s b t → ReachesAll (proxy_of a) s → ReachesAll (proxy_of b) t
-goes_reaches {a} {b} {s} {t} goes reaches = reaches_later (proxy_of a) (proxy_of b) s t goes.0.service goes.1.later reaches
+-- it is a service of the cluster still, and has the view that it had
+pub goes_service : {a b : NamenodeProtocol} {s t : Shown} → Goes a s b t → IsServiceOf (proxy_of a) s → IsServiceOf (proxy_of b) t
+goes_service {a} {b} {s} {t} goes of = service_same (proxy_of a) (proxy_of b) s t goes.0.service goes.1.namenodes of
+
+pub goes_view : {a b : NamenodeProtocol} {s t : Shown} (view : View) → Goes a s b t → HasView (proxy_of a) s view → HasView (proxy_of b) t view
+goes_view {a} {b} {s} {t} view goes has = view_same view (proxy_of a) (proxy_of b) s t goes.0.service goes.1.namenodes has
+
+-- what is told in a view is told
+pub picture_seen : (view : View) (s : Shown) (p : Picture) → (see view s).picture ≡ Some p → s.picture ≡ Some p
+picture_seen Whole s p is = is
+picture_seen (OfService first count) s p is = absurd (cc is)
 
 -- the ask for a new file, from its parts
 pub making : (options : WriteOptions) {at path name client : List ℕ} {flag replication replication' block_size block_size' : ℕ} → at ≡ path → name ≡ client

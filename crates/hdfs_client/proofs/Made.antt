@@ -36,7 +36,7 @@ new_service first plan id service shown by some within =
       within = omega (arith, new.first, new.count, within);
       from = omega (arith, new.first, new.remembered);
       below = omega (arith, new.first, new.count, new.remembered, one);
-      observer = subst (λ (o : Option ℕ). IfSome o (λ i. i < (proxy_of service).first + (proxy_of service).count)) (sym new.unknown) tt;
+      observer = subst (λ (o : Option ℕ). IfSome o (λ i. ((proxy_of service).first ≤ i) × (i < (proxy_of service).first + (proxy_of service).count))) (sym new.unknown) tt;
     }
 
 -- behind the last one there is none

@@ -1,5 +1,5 @@
 -- Asking for the cluster's defaults changes nothing of a told picture but which namenode is active, whether they were known or asked for.
-use Rattle.std.proofs.Common.{◌≡◌, inl, inr, Option, Some, None, Result, Err, refl, sym, subst}
+use Rattle.std.proofs.Common.{◌≡◌, inl, inr, Option, Some, None, Result, refl, sym, subst}
 use Rattle.hdfs_cluster.specs.declared.asks.Answer.{Answer}
 use Rattle.hdfs_cluster.specs.declared.asks.Answer.TheVariants as answers
 use Rattle.hdfs_cluster.specs.declared.asks.Ask.TheVariants as asks
@@ -12,9 +12,10 @@ use Rattle.hdfs_cluster.specs.Namenode.{Row}
 use Rattle.hdfs_cluster.specs.Picture.{Picture, SameButActive, Told}
 use Rattle.hdfs_cluster.specs.Repeating.{DoneOrNot}
 use Rattle.hdfs_cluster.specs.Shown.{Shown}
-use Rattle.hdfs_cluster.proofs.Frames.{later_refl, same_files_refl, told_refl}
+use Rattle.hdfs_cluster.proofs.Frames.{same_files_refl, told_refl}
 use Rattle.hdfs_cluster.proofs.Repeating.{defaults_repeats}
 use Rattle.hdfs_namenode.specs.Relaying.{Came, CameCached}
+use Rattle.hdfs_namenode.specs.Views.{View, see}
 use Rattle.hdfs_namenode.proofs.Relayed.{relayed_done}
 use Rattle.hdfs_client.specs.Opening.{LeavesLinks}
 
@@ -40,6 +41,10 @@ told_each P Q (Some a) (Some b) h each =
     let same : to.0 ≡ b = cc to.1 in
     subst (λ (x : Picture). Q a x) same to.2
 
+-- links that are seen to stay stay
+pub links_shown : (view : View) {s t : Shown} → LeavesLinks (see view s) (see view t) → LeavesLinks s t
+links_shown view h = record { namenodes = h.namenodes; writes = h.writes }
+
 -- what asking for the defaults leaves
 pub record Quiet (s t : Shown) : Type 0 where
   pub links : LeavesLinks s t
@@ -48,7 +53,7 @@ pub record Quiet (s t : Shown) : Type 0 where
 module _ {s t : Shown} where
   quiet_asked : {result : Result Answer HdfsError} → Came s asks.GetServerDefaults result t → Quiet s t
   quiet_asked {result} came = record {
-    links = record { later = came.relays.leaves.later; writes = came.relays.leaves.writes };
+    links = record { namenodes = came.relays.leaves.later.namenodes; writes = came.relays.leaves.writes };
     picture = told_each KeepsBytes SameButActive s.picture t.picture came.relays.leaves.bytes
         (λ p told. (let to = came.told p told (defaults_repeats p) in
         (to.0, to.1, done_leaves p to.0 (relayed_done (CallsRose s.counts t) p asks.GetServerDefaults result to.0 came.relays.shaped to.2))));
@@ -61,4 +66,4 @@ module _ {s t : Shown} where
         by_known : (o : Option ServerDefaults) → known ≡ o → Quiet s t
         by_known None is = quiet_asked (came.asked is)
         by_known (Some kept) is = subst (Quiet s) (sym (came.known kept is).1)
-            (record { links = record { later = later_refl s; writes = λ link. refl }; picture = told_refl SameButActive s.picture active_refl })
+            (record { links = record { namenodes = refl; writes = λ link. refl }; picture = told_refl SameButActive s.picture active_refl })

@@ -1,14 +1,14 @@
 -- A client that has used one of its services stays a client of its cluster, and its writers stay its own.
-use Rattle.std.proofs.Common.{◌≡◌, ◌≢◌, ◌⊎◌, inl, inr, ℕ, zero, suc, ◌<◌, ◌==◌, length, Bool, true, false, List, [], ◌∷◌, get_or, set, Option, Some, slice_get, refl, sym, ◌∙◌, ap, subst, arith}
+use Rattle.std.proofs.Common.{◌≡◌, ◌≢◌, ◌⊎◌, inl, inr, ℕ, zero, suc, ◌<◌, ◌==◌, length, true, false, List, [], ◌∷◌, get_or, set, Some, slice_get, sym, ◌∙◌, ap, subst, arith}
 use Rattle.std.proofs.lemmas.Bool.{cases_Bool, false≢true}
 use Rattle.std.proofs.lemmas.Bool.Decides.{Decides-eqb}
-use Rattle.hdfs_cluster.specs.Shown.{Later, Shown}
+use Rattle.hdfs_cluster.specs.Shown.{Shown}
 use Rattle.hdfs_file_writer.specs.declared.file_writer.FileWriter as inner
 use Rattle.hdfs_names.specs.declared.mounts.Resolved.{Resolved}
 use Rattle.hdfs_namenode.specs.Asked.{IsServiceOf, SameService}
 use Rattle.hdfs_namenode.specs.Clients.{leases_of, proxy_of}
 use Rattle.hdfs_namenode.specs.declared.protocol.NamenodeProtocol.{NamenodeProtocol}
-use Rattle.hdfs_namenode.proofs.Services.{same_service_refl, service_later}
+use Rattle.hdfs_namenode.proofs.Services.{same_service_refl, service_same}
 use Rattle.hdfs_client.specs.Clients.{IsClientOf, SameBut, addresses_of, leads_to, mounts_of, replacement_of, service_at, services_of}
 use Rattle.hdfs_client.specs.Holding.{KeepsLeases}
 use Rattle.hdfs_client.specs.Opening.{KeepsService}
@@ -75,9 +75,9 @@ of_put P services k after {file} within so other there =
 
 -- it stays a client of the cluster
 pub client_goes : {client client' : Client} {k : ℕ} {before after : NamenodeProtocol} {old new : Shown} → IsClientOf client old
-    → Used client k before after client' → SameService (proxy_of before) (proxy_of after) → Later old new → IsClientOf client' new
-client_goes {client} {client'} {k} {before} {after} {old} {new} of at same later = record {
-  many = later.namenodes ∙ of.many ∙ ap length (sym at.others.addresses);
+    → Used client k before after client' → SameService (proxy_of before) (proxy_of after) → new.namenodes ≡ old.namenodes → IsClientOf client' new
+client_goes {client} {client'} {k} {before} {after} {old} {new} of at same count = record {
+  many = count ∙ of.many ∙ ap length (sym at.others.addresses);
   each = λ i namenode is. by i namenode is (cases_Bool (i == k));
 }
   where
@@ -85,10 +85,10 @@ client_goes {client} {client'} {k} {before} {after} {old} {new} of at same later
     by i namenode is (inl here) =
         let there : service_at client' i ≡ Some after = ap (λ (n : ℕ). service_at client' n) ((Decides-eqb i k).0 here) ∙ at.is in
         subst (λ (n : NamenodeProtocol). IsServiceOf (proxy_of n) new) (same_some namenode after (service_at client' i) is there)
-        (service_later (proxy_of before) (proxy_of after) old new same later (of.each k before at.was))
+        (service_same (proxy_of before) (proxy_of after) old new same count (of.each k before at.was))
     by i namenode is (inr apart) =
         let other : i ≢ k = λ e. false≢true (sym apart ∙ (Decides-eqb i k).1 e) in
-        service_later (proxy_of namenode) (proxy_of namenode) old new (same_service_refl (proxy_of namenode)) later
+        service_same (proxy_of namenode) (proxy_of namenode) old new (same_service_refl (proxy_of namenode)) count
         (of.each i namenode (sym (at.others.others i other) ∙ is))
 
 -- a file was opened so

@@ -19,7 +19,7 @@ use Rattle.hdfs_cluster.specs.Limits.{are_defaults}
 use Rattle.hdfs_cluster.specs.Namenode.{new_file}
 use Rattle.hdfs_cluster.specs.Picture.{Picture, SameButActive}
 use Rattle.hdfs_cluster.specs.Requests.{id_in}
-use Rattle.hdfs_cluster.specs.Shown.{Later, Shown}
+use Rattle.hdfs_cluster.specs.Shown.{Shown}
 use Rattle.hdfs_cluster.specs.Sound.{IsFileAt}
 use Rattle.hdfs_cluster.specs.Stores.{StoresBlocks}
 use Rattle.hdfs_file_writer.specs.Tails.{Tail, Bare, FileCarries}
@@ -30,6 +30,7 @@ use Rattle.hdfs_model.specs.Opening.{AnswersDefaults, appending, creating, tells
 use Rattle.hdfs_model.specs.declared.commands.WriteOptions.{WriteOptions}
 use Rattle.hdfs_namenode.specs.Asked.{Asked, AskedOnce, SameService}
 use Rattle.hdfs_namenode.specs.Clients.{defaults_of, key_of, leases_of, name_of, proxy_of, through}
+use Rattle.hdfs_namenode.specs.Views.{Seen}
 use Rattle.hdfs_namenode.specs.declared.protocol.NamenodeProtocol.{NamenodeProtocol}
 use Rattle.hdfs_rebuild.specs.declared.block_plan.RebuildSettings.{RebuildSettings}
 use Rattle.hdfs_client.specs.Holding.{TakesLease, lease_by}
@@ -45,9 +46,9 @@ pub record KeepsService (before after : NamenodeProtocol) : Type 0 where
 abbrev pub KeepsName : NamenodeProtocol → NamenodeProtocol → Type 0
 KeepsName before after = KeepsService before after × (leases_of after ≡ leases_of before)
 
--- no count fell, and each link to write over is what it was
+-- there are as many namenodes, and each link to write over is what it was
 pub record LeavesLinks (old new : Shown) : Type 0 where
-  pub later : Later old new
+  pub namenodes : new.namenodes ≡ old.namenodes
   pub writes : (link : ℕ) → new.writes link ≡ old.writes link
 
 -- these defaults of the cluster were answered, or a service has kept them
@@ -206,8 +207,7 @@ pub record LacksStatus {C : Type 0} (serves : C → ℕ → Ask → Result Answe
   pub is : (error ≡ errors.FileNotFound name) ⊎ (error ≡ errors.NoMemory)
 
 -- a writer was closed, or this is why not
-pub record ClosesAgain (old : Shown) (writer : FileWriter) (new : Shown) : Type 0 where
-  pub result : Result Unit HdfsError
+pub record ClosesAgain (old : Shown) (writer : FileWriter) (result : Result Unit HdfsError) (new : Shown) : Type 0 where
   pub closed : OnOk result (Closed old writer new)
   pub failed : IfErr result (λ error. FailsToClose old writer error new)
 
@@ -223,8 +223,9 @@ pub record RefusesOpened {C : Type 0} (shown : C → Shown) (serves : C → ℕ 
   pub at : path_of writer ≡ path
   pub id : file_id_of writer ≡ id_in appended.stat
   pub stands : tail_of writer ≡ tail_opened appended.block None
-  pub closes : ClosesAgain (shown mid) writer (shown new)
-  pub is : error ≡ refusal closes.result
+  pub result : Result Unit HdfsError
+  pub closes : Seen shown (through between mid) new (λ old new. ClosesAgain old writer result new)
+  pub is : error ≡ refusal result
 
 -- Behind its defaults, which it keeps, a service opens no file: just this ask for it failed, or nothing is told of the file, or it is
 -- encrypted, or there was no memory for its lease.

@@ -13,7 +13,8 @@ use Rattle.hdfs_model.specs.Opening as opening
 use Rattle.hdfs_model.specs.declared.commands.WriteOptions.{WriteOptions}
 use Rattle.hdfs_names.specs.declared.mounts.Resolved.{Resolved}
 use Rattle.hdfs_namenode.specs.Asked.{ReachesAll}
-use Rattle.hdfs_namenode.specs.Clients.{leases_of, name_of, proxy_of}
+use Rattle.hdfs_namenode.specs.Clients.{leases_of, name_of, proxy_of, through}
+use Rattle.hdfs_namenode.specs.Views.{Seen}
 use Rattle.hdfs_namenode.specs.declared.protocol.NamenodeProtocol.{NamenodeProtocol}
 use Rattle.hdfs_rebuild.specs.declared.block_plan.RebuildSettings.{RebuildSettings}
 use Rattle.hdfs_client.specs.Clients.{SameBut, leads_to, replacement_of, service_at}
@@ -116,9 +117,18 @@ abbrev pub OfOpen : (NamenodeProtocol → inner.FileWriter → Type 0) → Clien
 OfOpen P client writer = (file : inner.FileWriter) → open_of writer ≡ Some file
     → (namenode : NamenodeProtocol) × (service_at client (service_of writer) ≡ Some namenode) × P namenode file
 
--- A writer is one of a client over a cluster: while it is open its service is all namenodes of that, and it stands as its last call left it.
+-- a writer is one of a client over a cluster: while it is open its service is one of the client's, and it stands as its last call left it
 abbrev pub IsWriterOf : Client → Shown → FileWriter → Type 0
-IsWriterOf client shown writer = OfOpen (λ namenode file. ReachesAll (proxy_of namenode) shown × files.Stands shown file) client writer
+IsWriterOf client shown writer = OfOpen (λ namenode file. files.Stands shown file) client writer
+
+-- it writes a file of a service that is all namenodes of the cluster, and is asked plainly
+abbrev pub WritesWhole : Client → Shown → FileWriter → Type 0
+WritesWhole client shown writer = OfOpen (λ namenode file. ReachesAll (proxy_of namenode) shown) client writer
+
+-- from one moment to another this is so, as the service sees it whose file a writer writes
+abbrev pub SeenBy : {C : Type 0} → (C → Shown) → Client → FileWriter → C → C → (Shown → Shown → Type 0) → Type 0
+SeenBy shown client writer old new IsSo =
+    (namenode : NamenodeProtocol) → service_at client (service_of writer) ≡ Some namenode → Seen shown (through namenode old) new IsSo
 
 -- the file's id and the blocks that an open writer writes were answered to its client
 abbrev pub IsAnsweredTo : (Ask → Answer → Type 0) → Client → FileWriter → Type 0
@@ -135,11 +145,13 @@ LetsCloseOf allows may_answer client writer =
     OfOpen (λ namenode file. LetsClose allows may_answer (name_of namenode) (files.path_of file) (files.file_id_of file)) client writer
 
 -- What a call of a client leaves of files that are open, or are to be opened: each reader of the client is one still, and so is each writer that
--- was one over the cluster, with what was answered to it, and with the leave that it has; a path that leads to a whole service does so still.
+-- was one over the cluster, with what was answered to it, and with the leave that it has; a path that leads to a whole service does so still,
+-- and so does a writer write a file of one.
 pub record KeepsFiles (allows : Request → Type 0) (may_answer : Ask → Answer → Type 0) (client : Client) (old : Shown) (client' : Client)
     (new : Shown) : Type 0 where
   pub whole : (src : List ℕ) → ReachesWhole client src old → ReachesWhole client' src new
   pub readers : (reader : FileReader) → ReadsBy client reader → ReadsBy client' reader
+  pub wholes : (writer : FileWriter) → WritesWhole client old writer → WritesWhole client' new writer
   pub stand : (writer : FileWriter) → IsWriterOf client old writer → IsWriterOf client' new writer
   pub answered : (writer : FileWriter) → IsAnsweredTo may_answer client writer → IsAnsweredTo may_answer client' writer
   pub write : (writer : FileWriter) → LetsWriteOf allows may_answer client writer → LetsWriteOf allows may_answer client' writer
@@ -159,6 +171,7 @@ pub record KeepsOthers (allows : Request → Type 0) (may_answer : Ask → Answe
     (client' : Client) (new : Shown) (writer' : FileWriter) : Type 0 where
   pub whole : (src : List ℕ) → ReachesWhole client src old → ReachesWhole client' src new
   pub readers : (reader : FileReader) → ReadsBy client reader → ReadsBy client' reader
+  pub wholes : (other : FileWriter) → WritesWhole client old other → WritesWhole client' new other
   pub stand : (other : FileWriter) → AreApart writer other → IsWriterOf client old other → IsWriterOf client' new other × AreApart writer' other
   pub answered : (other : FileWriter) → IsAnsweredTo may_answer client other → IsAnsweredTo may_answer client' other
   pub write : (other : FileWriter) → LetsWriteOf allows may_answer client other → LetsWriteOf allows may_answer client' other

@@ -12,7 +12,8 @@ ghost use Rattle.hdfs_file_writer.specs.Writers.{IsAnswered, Stands, file_id_of,
 ghost use Rattle.hdfs_model.specs.Limits.{are_options};
 ghost use Rattle.hdfs_model.specs.Opening as asking;
 ghost use Rattle.hdfs_model.specs.Opening.{LetsAppend, LetsCreate};
-ghost use Rattle.hdfs_namenode.specs.Asked.{AskedOnce, ReachesAll};
+ghost use Rattle.hdfs_namenode.specs.Asked.{AskedOnce, IsServiceOf};
+ghost use Rattle.hdfs_namenode.specs.Views.{Seen};
 ghost use Rattle.hdfs_namenode.specs.Clients.{ChangesLeases, SameClient, leases_of, name_of, proxy_of, through};
 
 use crate::file_lease::FileLease;
@@ -131,11 +132,12 @@ fn limited_defaults<C: Cluster>(
     cluster: &mut C,
     namenode: &mut NamenodeProtocol,
 ) -> Result<ServerDefaults, HdfsError>
-    requires reaches { ReachesAll (proxy_of namenode.old) (C.shown cluster.old) }
+    requires service { IsServiceOf (proxy_of namenode.old) (C.shown cluster.old) }
     requires allowed { C.allows (AskOf asks.GetServerDefaults) }
     ensures knows { IfOk result (λ defaults. KnowsDefaults C.serves namenode.old cluster.old defaults namenode.new
         cluster.new) }
-    ensures picture { Told SameButActive (C.shown cluster.old).picture (C.shown cluster.new).picture }
+    ensures picture { Seen C.shown (through namenode.old cluster.old) cluster.new
+        (λ old new. Told SameButActive old.picture new.picture) }
     ensures known { IfOk result (IsKnown C.may_answer namenode.old) }
     ensures err { IfErr result (λ error. LacksDefaults C.serves namenode.old cluster.old error namenode.new
         cluster.new) }
@@ -154,7 +156,7 @@ fn refuse_created<C: Cluster>(
     namenode: &mut NamenodeProtocol,
     path: &str,
 ) -> HdfsError
-    requires reaches { ReachesAll (proxy_of namenode.old) (C.shown cluster.old) }
+    requires service { IsServiceOf (proxy_of namenode.old) (C.shown cluster.old) }
     requires allowed { C.allows (AskOf (asks.Delete path.now false)) }
     ensures deleted { (outcome : Result Answer HdfsError) × AskedOnce C.serves true (asks.Delete path.now false)
         (through namenode.old cluster.old) outcome (through namenode.new cluster.new)
@@ -179,14 +181,14 @@ pub(crate) fn create_by<C: Cluster>(
     options: &WriteOptions,
     rebuilding: RebuildSettings,
 ) -> Result<OpenedFile, HdfsError>
-    requires reaches { ReachesAll (proxy_of namenode.old) (C.shown cluster.old) }
+    requires service { IsServiceOf (proxy_of namenode.old) (C.shown cluster.old) }
     requires allowed { LetsCreate C.allows C.may_answer (IsKnown C.may_answer namenode.old) (name_of namenode.old)
         path options.now }
     requires limits { (are_options options.now ≡ true) × (1 ≤ rebuilding.window) × (rebuilding.window ≤ 1000) }
     ensures created { IfOk result (λ opened. CreatesBy C.serves path options.now rebuilding namenode.old cluster.old
         opened.file opened.lease namenode.new cluster.new) }
-    ensures begins { IfOk result (λ opened. BeginsNew (C.shown cluster.old) path options.now opened.file
-        (C.shown cluster.new)) }
+    ensures begins { IfOk result (λ opened. Seen C.shown (through namenode.old cluster.old) cluster.new
+        (λ old new. BeginsNew old path options.now opened.file new)) }
     ensures stands { IfOk result (λ opened. Stands (C.shown cluster.new) opened.file
         × IsAnswered C.may_answer (name_of namenode.old) opened.file) }
     ensures err { IfErr result (λ error. FailsToCreate C.serves path options.now namenode.old cluster.old error
@@ -220,13 +222,13 @@ fn refuse_opened<C: Cluster>(
     namenode: &mut NamenodeProtocol,
     writer: FileWriter,
 ) -> HdfsError
-    requires reaches { ReachesAll (proxy_of namenode.old) (C.shown cluster.old) }
+    requires service { IsServiceOf (proxy_of namenode.old) (C.shown cluster.old) }
     requires stands { Stands (C.shown cluster.old) writer × (has_failed writer ≡ false) }
     requires idle { link_of writer ≡ None }
     requires allowed { LetsClose C.allows C.may_answer (name_of namenode.old) (path_of writer) (file_id_of writer) }
     requires answered { IsAnswered C.may_answer (name_of namenode.old) writer }
-    ensures closes { (closes : ClosesAgain (C.shown cluster.old) writer (C.shown cluster.new))
-        × (result ≡ spec.refusal closes.result) }
+    ensures closes { (closed : Result Unit HdfsError) × Seen C.shown (through namenode.old cluster.old) cluster.new
+        (λ old new. ClosesAgain old writer closed new) × (result ≡ spec.refusal closed) }
     ensures keeps { SameClient namenode.old namenode.new × LeavesLinks (C.shown cluster.old) (C.shown cluster.new) }
 {
     let closed = writer.close(cluster, namenode);
@@ -248,13 +250,13 @@ pub(crate) fn append_by<C: Cluster>(
     name: &str,
     rebuilding: RebuildSettings,
 ) -> Result<OpenedFile, HdfsError>
-    requires reaches { ReachesAll (proxy_of namenode.old) (C.shown cluster.old) }
+    requires service { IsServiceOf (proxy_of namenode.old) (C.shown cluster.old) }
     requires allowed { LetsAppend C.allows C.may_answer (name_of namenode.old) path }
     requires limits { (1 ≤ rebuilding.window) × (rebuilding.window ≤ 1000) }
     ensures opened { IfOk result (λ opened. OpensBy C.serves path rebuilding namenode.old cluster.old
         opened.file opened.lease namenode.new cluster.new) }
-    ensures begins { IfOk result (λ opened. BeginsAgain (C.shown cluster.old) path opened.file
-        (C.shown cluster.new)) }
+    ensures begins { IfOk result (λ opened. Seen C.shown (through namenode.old cluster.old) cluster.new
+        (λ old new. BeginsAgain old path opened.file new)) }
     ensures stands { IfOk result (λ opened. Stands (C.shown cluster.new) opened.file
         × IsAnswered C.may_answer (name_of namenode.old) opened.file) }
     ensures err { IfErr result (λ error. FailsToAppend C.shown C.serves path name.now namenode.old cluster.old error

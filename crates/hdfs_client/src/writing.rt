@@ -34,10 +34,12 @@ pub struct FileWriter {
 impl Client {
     ghost use Rattle.hdfs_client.specs.Clients.{IsClientOf};
     ghost use Rattle.hdfs_client.specs.Opening.{BeginsAgain, BeginsNew, CreatesBy, FailsToAppend, FailsToCreate, OpensBy};
-    ghost use Rattle.hdfs_client.specs.Writing.{IsAnsweredTo, IsWriterOf, KeepsFiles, LetsAppend, LetsCreate, OpensAt, OpensNone, ReachesWhole, rebuilding_of};
+    ghost use Rattle.hdfs_client.specs.Writing.{IsAnsweredTo, IsWriterOf, KeepsFiles, LetsAppend, LetsCreate, OpensAt, OpensNone, ReachesWhole, WritesWhole, rebuilding_of};
+    ghost use Rattle.hdfs_namenode.specs.Clients.{through};
+    ghost use Rattle.hdfs_namenode.specs.Views.{Seen};
 
-    /// Whether files at a path can be written over a cluster for now: the service to which it leads is all namenodes of the cluster, has no
-    /// observers, and isn't to be in step.
+    /// Whether the service to which a path leads is all namenodes of a cluster, has no observers, and isn't to be in step: what is written by
+    /// it is then what the cluster stores.
     pub fn is_whole<C: Cluster>(&self, cluster: &C, path: &str) -> Result<bool, NoMemory>
         requires client { IsClientOf self.now (C.shown cluster.now) }
         ensures { IfOk result (λ whole. IsTrue whole ↔ ReachesWhole self.now path.now (C.shown cluster.now)) }
@@ -68,18 +70,18 @@ impl Client {
         path: &str,
         options: &WriteOptions,
     ) -> Result<FileWriter, HdfsError>
-        requires client { IsClientOf self.old (C.shown cluster.old)
-            × ReachesWhole self.old path.now (C.shown cluster.old) }
+        requires client { IsClientOf self.old (C.shown cluster.old) }
         requires allowed { LetsCreate C.allows C.may_answer self.old path.now options.now }
         ensures refused { are_options options.now ≡ false → (result ≡ Err (errors.InvalidArgument args.Options))
             × (self.new ≡ self.old) × (cluster.new ≡ cluster.old) }
         ensures created { IfOk result (λ writer. OpensAt (λ at before file lease after. CreatesBy C.serves at options.now
             (rebuilding_of self.old) before cluster.old file lease after cluster.new) self.old path.now writer self.new) }
         ensures begins { IfOk result (λ writer. OpensAt (λ at before file lease after.
-            BeginsNew (C.shown cluster.old) at options.now file
-            (C.shown cluster.new)) self.old path.now writer self.new) }
+            Seen C.shown (through before cluster.old) cluster.new (λ old new. BeginsNew old at options.now file new))
+            self.old path.now writer self.new) }
         ensures stands { IfOk result (λ writer. IsWriterOf self.new (C.shown cluster.new) writer
-            × IsAnsweredTo C.may_answer self.new writer) }
+            × IsAnsweredTo C.may_answer self.new writer
+            × (ReachesWhole self.old path.now (C.shown cluster.old) → WritesWhole self.new (C.shown cluster.new) writer)) }
         ensures err { are_options options.now ≡ true → IfErr result (λ error. OpensNone (λ error at before after.
             FailsToCreate C.serves at options.now before cluster.old error after cluster.new) self.old path.now
             cluster.old error self.new cluster.new) }
@@ -113,16 +115,16 @@ impl Client {
         cluster: &mut C,
         path: &str,
     ) -> Result<FileWriter, HdfsError>
-        requires client { IsClientOf self.old (C.shown cluster.old)
-            × ReachesWhole self.old path.now (C.shown cluster.old) }
+        requires client { IsClientOf self.old (C.shown cluster.old) }
         requires allowed { LetsAppend C.allows C.may_answer self.old path.now }
         ensures opened { IfOk result (λ writer. OpensAt (λ at before file lease after. OpensBy C.serves at
             (rebuilding_of self.old) before cluster.old file lease after cluster.new) self.old path.now writer self.new) }
         ensures begins { IfOk result (λ writer. OpensAt (λ at before file lease after.
-            BeginsAgain (C.shown cluster.old) at file
-            (C.shown cluster.new)) self.old path.now writer self.new) }
+            Seen C.shown (through before cluster.old) cluster.new (λ old new. BeginsAgain old at file new))
+            self.old path.now writer self.new) }
         ensures stands { IfOk result (λ writer. IsWriterOf self.new (C.shown cluster.new) writer
-            × IsAnsweredTo C.may_answer self.new writer) }
+            × IsAnsweredTo C.may_answer self.new writer
+            × (ReachesWhole self.old path.now (C.shown cluster.old) → WritesWhole self.new (C.shown cluster.new) writer)) }
         ensures err { IfErr result (λ error. OpensNone (λ error at before after.
             FailsToAppend C.shown C.serves at path.now before cluster.old error after cluster.new) self.old path.now
             cluster.old error self.new cluster.new) }
@@ -148,7 +150,7 @@ impl FileWriter {
     ghost use Rattle.hdfs_cluster.specs.Shown.{Later, Shown};
     ghost use Rattle.hdfs_client.specs.Clients.{IsClientOf};
     ghost use Rattle.hdfs_client.specs.Holding.{ChangesService, GivesBack, MayGive};
-    ghost use Rattle.hdfs_client.specs.Writing.{GoesOn, IsAnsweredTo, IsWriterOf, KeepsOthers, LetsCloseOf, LetsWriteOf, is_closed, lease_of, open_of, service_of, why_shut};
+    ghost use Rattle.hdfs_client.specs.Writing.{GoesOn, IsAnsweredTo, IsWriterOf, KeepsOthers, LetsCloseOf, LetsWriteOf, SeenBy, WritesWhole, is_closed, lease_of, open_of, service_of, why_shut};
     ghost use Rattle.hdfs_namenode.specs.Clients.{SameClient};
     ghost use Rattle.hdfs_file_writer.specs.Writers as inner;
     ghost use Rattle.hdfs_file_writer.specs.declared.file_writer.FileWriter.{FileWriter as Inner};
@@ -172,19 +174,21 @@ impl FileWriter {
             × (client.new ≡ client.old)
             × (cluster.new ≡ cluster.old) }
         ensures wrote { IfOk result (λ n. (n ≡ length bytes.now) × GoesOn (λ file file'.
-            inner.Wrote (C.shown cluster.old) file bytes.now (C.shown cluster.new) file') self.old self.new) }
+            SeenBy C.shown client.old self.old cluster.old cluster.new (λ old new. inner.Wrote old file bytes.now new file'))
+            self.old self.new) }
         ensures state { GoesOn (λ file file'. inner.IsIdle file bytes.now cluster.old result file' cluster.new
             × (OnOk result (inner.has_failed file' ≡ false)) × (OnErr result (inner.has_failed file' ≡ true)))
             self.old self.new }
         ensures still { (is_closed self.new ≡ is_closed self.old) × (service_of self.new ≡ service_of self.old)
             × (lease_of self.new ≡ lease_of self.old) }
         ensures err { IfErr result (λ error. (file : Inner) → open_of self.old ≡ Some file
-            → inner.has_failed file ≡ false
-            → inner.AreLimited (inner.sizes_of file) → inner.Fails (C.shown cluster.old) file error
-            (C.shown cluster.new)) }
+            → inner.has_failed file ≡ false → inner.AreLimited (inner.sizes_of file)
+            → SeenBy C.shown client.old self.old cluster.old cluster.new (λ old new. inner.Fails old file error new)) }
         ensures writer { IsWriterOf client.new (C.shown cluster.new) self.new
             × IsAnsweredTo C.may_answer client.new self.new
             × ChangesService SameClient (service_of self.old) client.old client.new }
+        ensures whole { WritesWhole client.old (C.shown cluster.old) self.old
+            → WritesWhole client.new (C.shown cluster.new) self.new }
         ensures others { KeepsOthers C.allows C.may_answer client.old (C.shown cluster.old) self.old client.new
             (C.shown cluster.new) self.new }
         ensures client { IsClientOf client.new (C.shown cluster.new) }
@@ -223,12 +227,12 @@ impl FileWriter {
         ensures again { open_of self.old ≡ None → (result ≡ (if is_closed self.old then Ok tt else Err errors.Failed))
             × (self.new ≡ self.old) × (client.new ≡ client.old) × (cluster.new ≡ cluster.old) }
         ensures closed { OnOk result ((file : Inner) → open_of self.old ≡ Some file
-            → inner.Closed (C.shown cluster.old) file (C.shown cluster.new)) }
+            → SeenBy C.shown client.old self.old cluster.old cluster.new (λ old new. inner.Closed old file new)) }
         ensures failed { (file : Inner) → open_of self.old ≡ Some file → inner.has_failed file ≡ true
             → (result ≡ Err errors.Failed) × (cluster.new ≡ cluster.old) }
         ensures err { IfErr result (λ error. (file : Inner) → open_of self.old ≡ Some file
             → inner.has_failed file ≡ false
-            → inner.FailsToClose (C.shown cluster.old) file error (C.shown cluster.new)) }
+            → SeenBy C.shown client.old self.old cluster.old cluster.new (λ old new. inner.FailsToClose old file error new)) }
         ensures shut { (open_of self.new ≡ None) × (is_closed self.new ≡ is_ok result)
             × (OnErr result (lease_of self.new ≡ lease_of self.old))
             × (is_some (open_of self.old) ≡ true → OnOk result (lease_of self.new ≡ None)) }

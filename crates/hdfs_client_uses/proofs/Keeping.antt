@@ -8,7 +8,8 @@ use Rattle.hdfs_client.specs.Writing.{KeepsFiles, KeepsOthers, link_of}
 use Rattle.hdfs_client.specs.declared.client.Client.{Client}
 use Rattle.hdfs_client.specs.declared.writing.FileWriter.{FileWriter}
 
-none_of : {T : Type 0} {x : T} {o : Option T} → o ≡ Some x → o ≡ None → ⊥
+-- nothing is none and some
+pub none_of : {T : Type 0} {x : T} {o : Option T} → o ≡ Some x → o ≡ None → ⊥
 none_of some none = absurd (cc (some, none))
 
 module _ {allows : Request → Type 0} {may_answer : Ask → Answer → Type 0} where
@@ -16,6 +17,7 @@ module _ {allows : Request → Type 0} {may_answer : Ask → Answer → Type 0} 
   others_refl client shown writer = record {
     whole = λ src is. is;
     readers = λ reader is. is;
+    wholes = λ other is. is;
     stand = λ other apart is. (is, apart);
     answered = λ other is. is;
     write = λ other is. is;
@@ -27,6 +29,7 @@ module _ {allows : Request → Type 0} {may_answer : Ask → Answer → Type 0} 
   others_trans one two = record {
     whole = λ src is. two.whole src (one.whole src is);
     readers = λ reader is. two.readers reader (one.readers reader is);
+    wholes = λ other is. two.wholes other (one.wholes other is);
     stand = λ other apart is. (let mid = one.stand other apart is in two.stand other mid.1 mid.0);
     answered = λ other is. two.answered other (one.answered other is);
     write = λ other is. two.write other (one.write other is);
@@ -39,6 +42,7 @@ module _ {allows : Request → Type 0} {may_answer : Ask → Answer → Type 0} 
   files_others one two = record {
     whole = λ src is. two.whole src (one.whole src is);
     readers = λ reader is. two.readers reader (one.readers reader is);
+    wholes = λ other is. two.wholes other (one.wholes other is);
     stand = λ other apart is. two.stand other apart (one.stand other is);
     answered = λ other is. two.answered other (one.answered other is);
     write = λ other is. two.write other (one.write other is);
@@ -51,6 +55,7 @@ module _ {allows : Request → Type 0} {may_answer : Ask → Answer → Type 0} 
   others_files one two = record {
     whole = λ src is. two.whole src (one.whole src is);
     readers = λ reader is. two.readers reader (one.readers reader is);
+    wholes = λ other is. two.wholes other (one.wholes other is);
     stand = λ other apart is. (let mid = one.stand other apart is in (two.stand other mid.0, mid.1));
     answered = λ other is. two.answered other (one.answered other is);
     write = λ other is. two.write other (one.write other is);
@@ -63,6 +68,7 @@ module _ {allows : Request → Type 0} {may_answer : Ask → Answer → Type 0} 
   files_alone none one = record {
     whole = one.whole;
     readers = one.readers;
+    wholes = one.wholes;
     stand = λ other is. (one.stand other (λ link own theirs. none_of own none) is).0;
     answered = one.answered;
     write = one.write;

@@ -1,5 +1,6 @@
 mod Cases
 mod Keeping
+mod Whole
 mod Finished
 mod Ending
 mod Ends

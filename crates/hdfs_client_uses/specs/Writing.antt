@@ -16,7 +16,7 @@ use Rattle.hdfs_file_writer.specs.Writers as files
 use Rattle.hdfs_file_writer.specs.declared.file_writer.FileWriter as inner
 use Rattle.hdfs_model.specs.declared.commands.WriteOptions.{WriteOptions}
 use Rattle.hdfs_client.specs.Opening.{BeginsAgain, BeginsNew, CreatesBy, FailsToAppend, FailsToCreate, OpensBy}
-use Rattle.hdfs_client.specs.Writing.{GoesOn, OpensAt, OpensNone, ReachesWhole, open_of, rebuilding_of}
+use Rattle.hdfs_client.specs.Writing.{GoesOn, IsWriterOf, OpensAt, OpensNone, ReachesWhole, WritesWhole, open_of, rebuilding_of}
 use Rattle.hdfs_client.specs.declared.client.Client.{Client}
 use Rattle.hdfs_client.specs.declared.writing.FileWriter.{FileWriter}
 
@@ -24,7 +24,7 @@ use Rattle.hdfs_client.specs.declared.writing.FileWriter.{FileWriter}
 abbrev pub plain_options : WriteOptions
 plain_options = record { block_size = None; replication = None; permission = 420; overwrite = false; create_parent = true }
 
--- files at a path can't be written for now: its service isn't whole; or there was no memory to tell
+-- files at a path aren't written for now: its service isn't whole; or there was no memory to tell
 abbrev pub IsNotWhole : Client → List ℕ → Shown → HdfsError → Type 0
 IsNotWhole client path shown error =
     ((error ≡ errors.InvalidArgument args.Settings) × ¬ (ReachesWhole client path shown)) ⊎ (error ≡ errors.NoMemory)
@@ -62,6 +62,10 @@ BegunNew client path old writer client' new =
 abbrev pub BegunAgain : Client → List ℕ → Shown → FileWriter → Client → Shown → Type 0
 BegunAgain client path old writer client' new =
     OpensAt (λ at before file lease after. BeginsAgain old at file new) client path writer client'
+
+-- a writer of a client that writes a file of a whole service
+abbrev pub IsWholeWriter : Client → Shown → FileWriter → Type 0
+IsWholeWriter client shown writer = IsWriterOf client shown writer × WritesWhole client shown writer
 
 -- an open writer stands as its last call left it
 abbrev pub AreStanding : Shown → FileWriter → Type 0

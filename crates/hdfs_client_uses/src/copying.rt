@@ -3,12 +3,12 @@ ghost use Rattle.std.specs.Prelude.{◌≡◌, ◌++◌, ◌∷◌, ℕ, List as
 ghost use Rattle.hdfs_client.specs.Clients.{IsClientOf, mounts_of};
 ghost use Rattle.hdfs_client.specs.Readers.{ReadsBy, Stands, length_of};
 ghost use Rattle.hdfs_client.specs.Streams.{Streams, is_ended, is_over, reader_of};
-ghost use Rattle.hdfs_client.specs.Writing.{GoesOn, IsAnsweredTo, IsWriterOf, KeepsFiles, KeepsOthers, link_of, open_of};
+ghost use Rattle.hdfs_client.specs.Writing.{GoesOn, IsAnsweredTo, KeepsFiles, KeepsOthers, link_of, open_of};
 ghost use Rattle.hdfs_client.specs.declared.file_reader.FileReader.{FileReader as Reader};
 ghost use Rattle.hdfs_file_writer.specs.Writers.{Wrote};
 ghost use Rattle.hdfs_client_uses.specs.Allowing.{AllowsAll};
 ghost use Rattle.hdfs_client_uses.specs.Copying.{CopiesAll, CopiesFile, CopiesTree, Fills, IsCopied, IsTarget, IsUntold, PoursAll, PoursOne, WritesFile};
-ghost use Rattle.hdfs_client_uses.specs.Writing.{AreStanding};
+ghost use Rattle.hdfs_client_uses.specs.Writing.{AreStanding, IsWholeWriter};
 
 use crate::opening::create;
 use hdfs_client::{Client, ClientError, FileReader, FileStatus, FileWriter, RangeStream};
@@ -169,7 +169,7 @@ fn fill<C: Cluster>(
 ) -> Result<(), HdfsError>
     requires client { IsClientOf client.old (C.shown cluster.old) }
     requires reader { Stands reader.now × ReadsBy client.old reader.now }
-    requires writer { IsWriterOf client.old (C.shown cluster.old) writer × IsAnsweredTo C.may_answer client.old writer }
+    requires writer { IsWholeWriter client.old (C.shown cluster.old) writer × IsAnsweredTo C.may_answer client.old writer }
     requires all { AllowsAll C.allows }
     ensures fills { OnOk result ((bytes : Items ℕ) × Fills reader.now client.old (C.shown cluster.old) writer bytes
         (C.shown cluster.new)) }
@@ -192,7 +192,7 @@ fn pour<C: Cluster>(
 ) -> Result<(), HdfsError>
     requires client { IsClientOf client.old (C.shown cluster.old) }
     requires reader { Stands reader.now × ReadsBy client.old reader.now }
-    requires writer { IsWriterOf client.old (C.shown cluster.old) writer.old
+    requires writer { IsWholeWriter client.old (C.shown cluster.old) writer.old
         × IsAnsweredTo C.may_answer client.old writer.old }
     requires all { AllowsAll C.allows }
     ensures fills { OnOk result ((open_of writer.new ≡ None) × ((bytes : Items ℕ)
@@ -219,12 +219,12 @@ fn pour_pieces<C: Cluster>(
 ) -> Result<(), HdfsError>
     requires client { IsClientOf client.old (C.shown cluster.old) }
     requires pieces { Streams pieces.old × ReadsBy client.old (reader_of pieces.old) × (is_ended pieces.old ≡ false) }
-    requires writer { IsWriterOf client.old (C.shown cluster.old) writer.old
+    requires writer { IsWholeWriter client.old (C.shown cluster.old) writer.old
         × IsAnsweredTo C.may_answer client.old writer.old }
     requires all { AllowsAll C.allows }
     ensures pours { OnOk result (PoursAll client.old (C.shown cluster.old) pieces.old writer.old client.new
         (C.shown cluster.new) pieces.new writer.new) }
-    ensures writer { IsWriterOf client.new (C.shown cluster.new) writer.new
+    ensures writer { IsWholeWriter client.new (C.shown cluster.new) writer.new
         × IsAnsweredTo C.may_answer client.new writer.new }
     ensures mounts { OnOk result (mounts_of client.new ≡ mounts_of client.old) }
     ensures others { KeepsOthers C.allows C.may_answer client.old (C.shown cluster.old) writer.old client.new
@@ -246,13 +246,13 @@ fn pour_next<C: Cluster>(
 ) -> Result<(), HdfsError>
     requires client { IsClientOf client.old (C.shown cluster.old) }
     requires pieces { Streams pieces.old × ReadsBy client.old (reader_of pieces.old) × (is_over pieces.old ≡ false) }
-    requires writer { IsWriterOf client.old (C.shown cluster.old) writer.old
+    requires writer { IsWholeWriter client.old (C.shown cluster.old) writer.old
         × IsAnsweredTo C.may_answer client.old writer.old }
     requires all { AllowsAll C.allows }
     ensures pours { OnOk result (PoursOne client.old (C.shown cluster.old) pieces.old writer.old (C.shown cluster.new)
         pieces.new writer.new) }
     ensures stands { Streams pieces.new × ReadsBy client.new (reader_of pieces.new) }
-    ensures writer { IsWriterOf client.new (C.shown cluster.new) writer.new
+    ensures writer { IsWholeWriter client.new (C.shown cluster.new) writer.new
         × IsAnsweredTo C.may_answer client.new writer.new }
     ensures mounts { OnOk result (mounts_of client.new ≡ mounts_of client.old) }
     ensures others { KeepsOthers C.allows C.may_answer client.old (C.shown cluster.old) writer.old client.new
@@ -273,13 +273,13 @@ fn pour_piece<C: Cluster>(
     piece: Result<Blob, HdfsError>,
 ) -> Result<(), HdfsError>
     requires client { IsClientOf client.old (C.shown cluster.old) }
-    requires writer { IsWriterOf client.old (C.shown cluster.old) writer.old
+    requires writer { IsWholeWriter client.old (C.shown cluster.old) writer.old
         × IsAnsweredTo C.may_answer client.old writer.old }
     requires all { AllowsAll C.allows }
     ensures wrote { OnOk result ((bytes : Items ℕ) × (piece ≡ Ok bytes)
         × GoesOn (λ file file'. Wrote (C.shown cluster.old) file bytes (C.shown cluster.new) file') writer.old
         writer.new) }
-    ensures writer { IsWriterOf client.new (C.shown cluster.new) writer.new
+    ensures writer { IsWholeWriter client.new (C.shown cluster.new) writer.new
         × IsAnsweredTo C.may_answer client.new writer.new }
     ensures readers { (reader : Reader) → ReadsBy client.old reader → ReadsBy client.new reader }
     ensures mounts { OnOk result (mounts_of client.new ≡ mounts_of client.old) }

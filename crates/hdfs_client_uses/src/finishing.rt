@@ -1,10 +1,10 @@
 //! A record that is written to a file, which is closed.
 ghost use Rattle.std.specs.Prelude.{◌≡◌, None, OnOk, IfErr};
 ghost use Rattle.hdfs_client.specs.Clients.{IsClientOf};
-ghost use Rattle.hdfs_client.specs.Writing.{IsAnsweredTo, IsWriterOf, KeepsFiles, KeepsOthers, link_of, open_of};
+ghost use Rattle.hdfs_client.specs.Writing.{IsAnsweredTo, KeepsFiles, KeepsOthers, link_of, open_of};
 ghost use Rattle.hdfs_cluster.specs.Shown.{Shown};
 ghost use Rattle.hdfs_client_uses.specs.Allowing.{AllowsAll};
-ghost use Rattle.hdfs_client_uses.specs.Writing.{AreStanding, FailsToFinish, Finishes};
+ghost use Rattle.hdfs_client_uses.specs.Writing.{AreStanding, FailsToFinish, Finishes, IsWholeWriter};
 
 use hdfs_client::{Client, FileWriter};
 use hdfs_cluster::{Cluster, HdfsError};
@@ -17,7 +17,7 @@ pub(crate) fn finish<C: Cluster>(
     bytes: &[u8],
 ) -> Result<(), HdfsError>
     requires client { IsClientOf client.old (C.shown cluster.old) }
-    requires writer { IsWriterOf client.old (C.shown cluster.old) writer × IsAnsweredTo C.may_answer client.old writer }
+    requires writer { IsWholeWriter client.old (C.shown cluster.old) writer × IsAnsweredTo C.may_answer client.old writer }
     requires all { AllowsAll C.allows }
     ensures stored { OnOk result (Finishes (C.shown cluster.old) writer bytes.now (C.shown cluster.new)) }
     ensures err { IfErr result (λ error. (last : Shown)
@@ -39,7 +39,7 @@ fn write_all<C: Cluster>(
     bytes: &[u8],
 ) -> Result<(), HdfsError>
     requires client { IsClientOf client.old (C.shown cluster.old) }
-    requires writer { IsWriterOf client.old (C.shown cluster.old) writer.old
+    requires writer { IsWholeWriter client.old (C.shown cluster.old) writer.old
         × IsAnsweredTo C.may_answer client.old writer.old }
     requires all { AllowsAll C.allows }
     ensures stored { OnOk result ((open_of writer.new ≡ None)

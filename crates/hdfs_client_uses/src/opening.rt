@@ -1,15 +1,15 @@
-//! Files that are opened to be written, where that can be done.
+//! Files that are opened to be written, where their service is whole.
 ghost use Rattle.std.specs.Prelude.{◌≡◌, OnOk, IfErr, IfOk};
 ghost use Rattle.hdfs_client.specs.Clients.{IsClientOf};
-ghost use Rattle.hdfs_client.specs.Writing.{IsAnsweredTo, IsWriterOf, KeepsFiles, ReachesWhole};
+ghost use Rattle.hdfs_client.specs.Writing.{IsAnsweredTo, KeepsFiles, ReachesWhole};
 ghost use Rattle.hdfs_client_uses.specs.Allowing.{AllowsAll};
-ghost use Rattle.hdfs_client_uses.specs.Writing.{AppendedAt, BegunAgain, BegunNew, CreatedAt, IsNotWhole, NotAppended, NotCreated};
+ghost use Rattle.hdfs_client_uses.specs.Writing.{AppendedAt, BegunAgain, BegunNew, CreatedAt, IsNotWhole, IsWholeWriter, NotAppended, NotCreated};
 
 use hdfs_client::{Client, FileWriter};
 use hdfs_cluster::{ArgFault, Cluster, HdfsError};
 use hdfs_model::WriteOptions;
 
-/// Refuses a path whose service isn't all namenodes of the cluster, or is to be asked in step.
+/// Refuses a path whose service isn't all namenodes of the cluster, or is to be asked in step: what is stored by it isn't told.
 fn check_whole<C: Cluster>(client: &Client, cluster: &C, path: &str) -> Result<(), HdfsError>
     requires client { IsClientOf client.now (C.shown cluster.now) }
     ensures ok { OnOk result (ReachesWhole client.now path.now (C.shown cluster.now)) }
@@ -36,7 +36,7 @@ pub(crate) fn create<C: Cluster>(
         client.new cluster.new) }
     ensures begins { IfOk result (λ writer. BegunNew client.old path.now (C.shown cluster.old) writer client.new
         (C.shown cluster.new)) }
-    ensures stands { IfOk result (λ writer. IsWriterOf client.new (C.shown cluster.new) writer
+    ensures stands { IfOk result (λ writer. IsWholeWriter client.new (C.shown cluster.new) writer
         × IsAnsweredTo C.may_answer client.new writer) }
     ensures err { IfErr result (λ error. NotCreated C.shown C.serves client.old path.now cluster.old error client.new
         cluster.new) }
@@ -62,7 +62,7 @@ pub(crate) fn append<C: Cluster>(
         client.new cluster.new) }
     ensures begins { IfOk result (λ writer. BegunAgain client.old path.now (C.shown cluster.old) writer client.new
         (C.shown cluster.new)) }
-    ensures stands { IfOk result (λ writer. IsWriterOf client.new (C.shown cluster.new) writer
+    ensures stands { IfOk result (λ writer. IsWholeWriter client.new (C.shown cluster.new) writer
         × IsAnsweredTo C.may_answer client.new writer) }
     ensures err { IfErr result (λ error. NotAppended C.shown C.serves client.old path.now cluster.old error client.new
         cluster.new) }

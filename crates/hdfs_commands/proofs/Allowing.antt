@@ -1,6 +1,6 @@
 -- A cluster that allows all requests lets any command be run, and one that may answer anything may have answered what a session has open.
 use Rattle.std.specs.Prelude.{IfSome}
-use Rattle.std.proofs.Common.{◌≡◌, ℕ, Bool, true, false, List, [], map, Option, Some, None, inl, inr, refl}
+use Rattle.std.proofs.Common.{ℕ, Bool, true, false, List, [], map, Option, Some, None, inl, inr, refl}
 use Rattle.hdfs_cluster.specs.declared.asks.Answer.{Answer}
 use Rattle.hdfs_cluster.specs.declared.asks.Answer.TheVariants as answers
 use Rattle.hdfs_cluster.specs.declared.asks.Ask.{Ask}

@@ -4,7 +4,7 @@ use Rattle.std.proofs.lemmas.Bool.{false≢true}
 use Rattle.std.specs.List.{Contains, list_any}
 use Rattle.hdfs_cluster.specs.Files.{Kind, Directory, is_file, NotDirectory, Missing}
 use Rattle.hdfs_names.specs.Paths.{ancestors, parent_of}
-use Rattle.hdfs_cluster.specs.Refusals.{Refusal, create_refusal, is_in_the_way, Exists, Lacks}
+use Rattle.hdfs_cluster.specs.Refusals.{create_refusal, is_in_the_way, Exists, Lacks}
 use Rattle.hdfs_model.proofs.Planted.{kind_clear, none_is_file}
 
 refusal_by : (way above missing : Bool) → cond way (Some Exists) (cond above (Some (Lacks NotDirectory)) (cond missing (Some (Lacks Missing)) None)) ≡ None → (way ≡ false) × (above ≡ false)

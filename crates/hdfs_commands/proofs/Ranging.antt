@@ -9,7 +9,6 @@ use Rattle.hdfs_cluster.specs.declared.errors.HdfsError.TheVariants as errors
 use Rattle.hdfs_cluster.specs.declared.messages.LocatedBlocks.{LocatedBlocks}
 use Rattle.hdfs_cluster.specs.declared.messages.ServerDefaults.{ServerDefaults}
 use Rattle.hdfs_model.specs.Causes.{Cause, IsEarly, Tells}
-use Rattle.hdfs_cluster.specs.Failures.{IsOfAsk}
 use Rattle.hdfs_cluster.specs.Files.{State}
 use Rattle.hdfs_cluster.specs.Namenode.{Locates}
 use Rattle.hdfs_cluster.specs.Picture.{Picture, SameFiles}
@@ -25,16 +24,16 @@ use Rattle.hdfs_namenode.specs.declared.protocol.NamenodeProtocol.{NamenodeProto
 use Rattle.hdfs_namenode.proofs.Services.{reaches_later, same_service_trans}
 use Rattle.hdfs_file_reader.specs.Files.{EndsBehind, LacksRange, LosesByte, OnlyReadsFile}
 use Rattle.hdfs_file_reader.specs.Looking.{FilesStay, IsClosed, OnlyLooks}
-use Rattle.hdfs_file_reader.specs.Ranges.{FailsAt}
 use Rattle.hdfs_file_reader.specs.Transferring.{LacksTransfer, MayMove, SameButKnown, Unsupported}
 use Rattle.hdfs_file_reader.proofs.Looking.{files_read}
 use Rattle.hdfs_commands.specs.Meeting.{AsksOn, KnowsDefaults, KnowsWorld, Meets}
 use Rattle.hdfs_commands.proofs.Agreeing.{is_told}
-use Rattle.hdfs_commands.proofs.Causing.{agrees_read, blocks_cause, encrypted_cause, moves_cause, not_early, opens_plain, range_cause, tells_from-FailsAt}
+use Rattle.hdfs_commands.proofs.Causing.{agrees_read, blocks_cause, moves_cause, not_early, opens_plain, range_cause, tells_from-FailsAt}
 use Rattle.hdfs_commands.proofs.Owing.{ask_not_owed, reader_not_owed}
 use Rattle.hdfs_commands.proofs.Prepared.{known_told, told_known}
 use Rattle.hdfs_commands.proofs.Refusing.{ask_tells, rose_cause}
 use Rattle.hdfs_commands.proofs.Stepping.{is_closed}
+use Rattle.hdfs_namenode.specs.Views.{Whole}
 
 -- what is known stays known
 same_known_trans : (a b c : NamenodeProtocol) → SameClient a b → SameButKnown b c → SameButKnown a c
@@ -111,7 +110,7 @@ module _ (path : List ℕ) (s m t : Shown) (a b c : NamenodeProtocol) (stay : Fi
     transfer_cause within e (inl asked) =
         let told = is_told s.picture state.files meets.agrees in
         let there = stay told.0 told.1 (is_closed w s state name path meets told.0 told.1) in
-        let vain = asked.1 reaches_still in
+        let vain = asked Whole reaches_still in
         ⊎_elim (λ memory. subst (Cause w state (commands.Read name offset len) s t) (sym memory) (tt, tt))
         (λ rose. rose_cause w state (commands.Read name offset len) s m t e looks.later.counts vain.0 rose)
         (vain.1 there.0 there.1)
@@ -150,7 +149,7 @@ module _ (name : List ℕ) (offset len length : ℕ) (s m t : Shown) (b c : Name
   lacks_tells e (inl behind) reaches =
       subst (λ (x : HdfsError). IsNotOwed x × Tells (commands.Read name offset len) s t x) (sym behind.0) (tt, (((refl, refl), behind.1), (tt, tt)))
   lacks_tells e (inr (inl (inl asked, nodes))) reaches =
-      let vain = asked.1 reaches in (ask_not_owed m t e vain.0, ask_tells (commands.Read name offset len) s m t e looks.later.counts vain.0)
+      let vain = asked Whole reaches in (ask_not_owed m t e vain.0, ask_tells (commands.Read name offset len) s m t e looks.later.counts vain.0)
   lacks_tells e (inr (inl (inr moves, nodes))) reaches = plain_tells name offset len s t e moves.0
   lacks_tells e (inr (inr fails)) reaches = (reader_not_owed (λ byte. 0 < len) e fails, tells_from-FailsAt name offset len s t e fails)
 

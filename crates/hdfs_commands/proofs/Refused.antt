@@ -1,5 +1,5 @@
 -- Errors that stand for what was answered, and those that don't.
-use Rattle.std.proofs.Common.{◌≡◌, ◌⊎◌, inl, inr, ℕ, ◌+◌, ◌<◌, List, Option, Some, None, Result, Ok, Err, sym, subst, true, false}
+use Rattle.std.proofs.Common.{◌≡◌, ◌⊎◌, inl, inr, ℕ, ◌+◌, ◌<◌, List, Option, Some, None, Result, Ok, Err, refl, sym, subst, true, false}
 use Rattle.std.specs.Prelude.{IfErr, IfSome, IsSomeAnd}
 use Rattle.hdfs_cluster.specs.declared.asks.Answer.{Answer}
 use Rattle.hdfs_cluster.specs.declared.asks.Ask.{Ask}
@@ -19,11 +19,12 @@ use Rattle.hdfs_model.specs.Opening.{AnswersDefaults}
 use Rattle.hdfs_model.specs.declared.commands.Command.{Command}
 use Rattle.hdfs_model.specs.declared.commands.Command.TheVariants as commands
 use Rattle.hdfs_model.specs.declared.commands.Reply.{Reply}
-use Rattle.hdfs_namenode.specs.Clients.{KeepsAnswered, defaults_of}
+use Rattle.hdfs_namenode.specs.Clients.{KeepsAnswered, defaults_of, proxy_of}
 use Rattle.hdfs_namenode.specs.declared.protocol.NamenodeProtocol.{NamenodeProtocol}
 use Rattle.hdfs_commands.specs.Preparing.{LacksDefaults}
 use Rattle.hdfs_commands.specs.Refusing.{IsAnsweredSo, IsShort, SomeDefaults, WantsEncryption}
 use Rattle.hdfs_commands.specs.declared.session.Session.{Session}
+use Rattle.hdfs_namenode.specs.Views.{view_of}
 
 module _ (may_answer : Ask → Answer → Type 0) (client path : List ℕ) (command : Command) where
   -- an error of an ask stands for no answer
@@ -114,7 +115,7 @@ module _ (may_answer : Ask → Answer → Type 0) (client path name : List ℕ) 
   ranged_so length old new namenode namenode' error (inl behind) keeps short =
       subst (IsAnsweredSo may_answer client path (commands.Read name offset len)) (sym behind.0) (short behind.1)
   ranged_so length old new namenode namenode' error (inr (inl (inl asked, nodes))) keeps short =
-      asked_so may_answer client path (commands.Read name offset len) error asked.0
+      asked_so may_answer client path (commands.Read name offset len) error (asked (view_of (proxy_of namenode)) (refl, refl)).0.0
   ranged_so length old new namenode namenode' error (inr (inl (inr moves, nodes))) keeps short =
       subst (IsAnsweredSo may_answer client path (commands.Read name offset len)) (sym moves.0)
       (inr (wants (defaults_of namenode') keeps moves.2))

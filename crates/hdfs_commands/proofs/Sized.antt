@@ -15,7 +15,6 @@ use Rattle.hdfs_namenode.proofs.Services.{reaches_same, same_service_refl, same_
 use Rattle.hdfs_file_writer.specs.Writers.{sizes_of}
 use Rattle.hdfs_file_writer.specs.declared.file_writer.FileWriter.{FileWriter}
 use Rattle.hdfs_file_writer.specs.declared.sizes.WriteSizes.{WriteSizes}
-use Rattle.hdfs_rebuild.specs.declared.block_plan.RebuildSettings.{RebuildSettings}
 use Rattle.hdfs_commands.specs.Preparing.{Remembers, sizes_by}
 use Rattle.hdfs_commands.specs.Session.{Carried, IsSized, defaults_known, rebuilding_by}
 use Rattle.hdfs_commands.specs.declared.session.Session.{Session}

@@ -6,11 +6,9 @@ use Rattle.hdfs_cluster.specs.declared.errors.HdfsError.TheVariants as errors
 use Rattle.hdfs_cluster.specs.declared.messages.ServerDefaults.{ServerDefaults}
 use Rattle.hdfs_cluster.specs.Limits.{are_defaults}
 use Rattle.hdfs_cluster.specs.Picture.{Picture, SameButActive, Told}
-use Rattle.hdfs_cluster.specs.Failures.{CallsRose}
 use Rattle.hdfs_cluster.specs.Shown.{Shown}
 use Rattle.hdfs_namenode.specs.Asked.{SameService}
 use Rattle.hdfs_namenode.specs.Clients.{name_of, proxy_of}
-use Rattle.hdfs_namenode.specs.Relaying.{TellsAsk}
 use Rattle.hdfs_file_writer.specs.declared.sizes.WriteSizes.{WriteSizes}
 use Rattle.hdfs_file_reader.specs.Looking.{OnlyLooks}
 use Rattle.hdfs_file_reader.specs.Transferring.{AskedInVain}

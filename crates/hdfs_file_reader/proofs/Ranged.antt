@@ -1,22 +1,24 @@
 -- A range of a file, from whether its bytes may be moved to the blocks that are read.
-use Rattle.std.proofs.Common.{◌≡◌, ℕ, ◌+◌, List, [], get_or, Option, Some, refl, sym, ◌∙◌, ap, subst, arith}
+use Rattle.std.proofs.Common.{◌≡◌, ◌⊎◌, inl, inr, ℕ, ◌+◌, List, [], get_or, Option, Some, refl, sym, ◌∙◌, ap, subst, arith}
 use Rattle.hdfs_cluster.specs.declared.errors.HdfsError.{HdfsError}
 use Rattle.hdfs_cluster.specs.declared.errors.HdfsError.TheVariants as errors
 use Rattle.hdfs_cluster.specs.declared.errors.TransferFault.TheVariants as transfer
 use Rattle.hdfs_cluster.specs.declared.messages.LocatedBlock.{LocatedBlock}
 use Rattle.hdfs_cluster.specs.declared.messages.ServerDefaults.{ServerDefaults}
+use Rattle.hdfs_cluster.specs.Failures.{IsOfAsk}
 use Rattle.hdfs_cluster.specs.Lost.{AllFailed, ByteLost}
 use Rattle.hdfs_cluster.specs.Picture.{Picture, SameButActive, SameFiles, Told}
 use Rattle.hdfs_cluster.specs.Shown.{OnlyReads, SameLinks, Shown}
 use Rattle.hdfs_cluster.proofs.Frames.{later_refl, later_trans, rose_since, same_files_refl, same_files_trans, same_links_refl, same_links_trans, told_after, told_refl, told_trans, told_weaker}
 use Rattle.hdfs_namenode.specs.Asked.{ReachesAll}
 use Rattle.hdfs_namenode.specs.Clients.{defaults_of, proxy_of}
+use Rattle.hdfs_namenode.specs.Views.{Whole}
 use Rattle.hdfs_namenode.specs.declared.protocol.NamenodeProtocol.{NamenodeProtocol}
 use Rattle.hdfs_namenode.proofs.Services.{same_service_refl}
 use Rattle.hdfs_file_reader.specs.Files.{LosesByte, OnlyReadsFile}
 use Rattle.hdfs_file_reader.specs.Looking.{OnlyLooks}
 use Rattle.hdfs_file_reader.specs.Ranges.{FailsAt, Stored}
-use Rattle.hdfs_file_reader.specs.Transferring.{AreDefaultsOf, SameButKnown, StaysKnown}
+use Rattle.hdfs_file_reader.specs.Transferring.{AreDefaultsOf, LacksTransfer, SameButKnown, StaysKnown}
 use Rattle.hdfs_file_reader.proofs.Staying.{byte_lost, locates_blocks, stores_blocks}
 use Rattle.hdfs_file_reader.proofs.Transfers.{known_still}
 
@@ -113,3 +115,11 @@ loses_since s m t blocks from end e looks picture h content stored byte is =
           (let d = get_or back.entry.nodes k [] in
           rose_since (s.counts.nodes d) (m.counts.nodes d) (t.counts.nodes d) (t.counts.nodes d) (looks.later.counts.nodes d) (back.all_failed k below whole) (omega arith));
     }
+
+-- ---- bytes that may not be moved
+
+-- why they may not be names no byte
+pub lacks_no_byte : (len : ℕ) (s t : Shown) (n n' : NamenodeProtocol) (e : HdfsError) → ReachesAll (proxy_of n) s → LacksTransfer len s n e t n'
+    → (byte : ℕ) → e ≡ errors.DataTransferError (transfer.Read byte) → ⊥
+lacks_no_byte len s t n n' e reaches (inl asked) byte is = subst IsOfAsk is (asked Whole reaches).0.0
+lacks_no_byte len s t n n' e reaches (inr plain) byte is = absurd (cc)

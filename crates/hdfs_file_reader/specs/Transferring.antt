@@ -4,12 +4,13 @@ use Rattle.hdfs_cluster.specs.declared.errors.Feature.TheVariants as features
 use Rattle.hdfs_cluster.specs.declared.errors.HdfsError.{HdfsError}
 use Rattle.hdfs_cluster.specs.declared.errors.HdfsError.TheVariants as errors
 use Rattle.hdfs_cluster.specs.declared.messages.ServerDefaults.{ServerDefaults}
-use Rattle.hdfs_cluster.specs.Failures.{CallsRose, IsOfAsk}
+use Rattle.hdfs_cluster.specs.Failures.{CallsRose}
 use Rattle.hdfs_cluster.specs.Picture.{Picture}
 use Rattle.hdfs_cluster.specs.Shown.{Shown}
-use Rattle.hdfs_namenode.specs.Asked.{ReachesAll, SameService}
+use Rattle.hdfs_namenode.specs.Asked.{SameService}
 use Rattle.hdfs_namenode.specs.Clients.{defaults_of, name_of, proxy_of}
 use Rattle.hdfs_namenode.specs.Relaying.{TellsAsk}
+use Rattle.hdfs_namenode.specs.Views.{View, HasView, see}
 use Rattle.hdfs_namenode.specs.declared.protocol.NamenodeProtocol.{NamenodeProtocol}
 
 -- the error of a read that can't be done without encryption
@@ -36,10 +37,11 @@ abbrev pub AskedInVain : Shown → HdfsError → Shown → Type 0
 AskedInVain old error new =
     TellsAsk old new error × ((p : Picture) → old.picture ≡ Some p → (error ≡ errors.NoMemory) ⊎ CallsRose old.counts new)
 
--- Bytes may not be moved: the defaults were asked for in vain, or there are some, and the defaults want them encrypted.
+-- Bytes may not be moved: the defaults were asked for in vain, as their service sees it, or there are some, and the defaults want them
+-- encrypted.
 abbrev pub LacksTransfer : ℕ → Shown → NamenodeProtocol → HdfsError → Shown → NamenodeProtocol → Type 0
 LacksTransfer len old namenode error new namenode' =
-    (IsOfAsk error × (ReachesAll (proxy_of namenode) old → AskedInVain old error new))
+    ((view : View) → HasView (proxy_of namenode) old view → AskedInVain (see view old) error (see view new))
     ⊎ (Unsupported error × (0 < len) × IsSomeAnd (defaults_of namenode') (λ defaults. defaults.encrypt_data_transfer ≡ true))
 
 -- there are none, or the defaults don't want them encrypted

@@ -24,3 +24,4 @@ pub mod Reopening
 pub mod Creating
 pub mod WholeBlocks
 pub mod Links
+pub mod Seeing

@@ -21,7 +21,7 @@ use Rattle.hdfs_cluster.specs.Requests.{IsAnsweredId, IsAnsweredLast, IsAnswered
 use Rattle.hdfs_cluster.specs.Shown.{SameNodes, Shown}
 use Rattle.hdfs_cluster.specs.Stores.{AgreesAt}
 use Rattle.hdfs_cluster.specs.Writing.{SameRecords}
-use Rattle.hdfs_namenode.specs.Asked.{ReachesAll}
+use Rattle.hdfs_namenode.specs.Asked.{IsServiceOf}
 use Rattle.hdfs_namenode.specs.Clients.{name_of, proxy_of}
 use Rattle.hdfs_namenode.specs.Relaying.{Came}
 use Rattle.hdfs_namenode.specs.declared.protocol.NamenodeProtocol.{NamenodeProtocol}
@@ -187,11 +187,11 @@ pub record Stands (shown : Shown) (writer : FileWriter) : Type 0 where
   pub apart : IsSome writer.reopened → writer.going ≡ None
   pub done : writer.failed ≡ false → writer.going ≡ None → writer.last ≡ None
 
--- What a call of a writer wants: the client's service has all namenodes of the cluster, there is leave for what is asked for in the client's
+-- What a call of a writer wants: the client's service is one of the cluster's, there is leave for what is asked for in the client's
 -- name for this path and id, the file's id and its blocks were answered to the client, and the writer stands.
 pub record IsServed (Lets : List ℕ → List ℕ → Option ℕ → Type 0) (may_answer : Ask → Answer → Type 0) (namenode : NamenodeProtocol)
     (shown : Shown) (writer : FileWriter) : Type 0 where
-  pub reaches : ReachesAll (proxy_of namenode) shown
+  pub service : IsServiceOf (proxy_of namenode) shown
   pub allowed : Lets (name_of namenode) writer.path writer.file_id
   pub answered : IsAnswered may_answer (name_of namenode) writer
   pub stands : Stands shown writer
@@ -207,7 +207,7 @@ MayFinish allows may_answer namenode shown writer = IsServed (LetsWriteBlocks al
 -- a block may be asked for behind the last one, which is full
 pub record MayAdd (allows : Request → Type 0) (may_answer : Ask → Answer → Type 0) (namenode : NamenodeProtocol) (shown : Shown)
     (writer : FileWriter) : Type 0 where
-  pub reaches : ReachesAll (proxy_of namenode) shown
+  pub service : IsServiceOf (proxy_of namenode) shown
   pub allowed : LetsWrite allows may_answer (name_of namenode) writer.path writer.file_id
   pub answered : IsAnswered may_answer (name_of namenode) writer
   pub full : IsFull writer.sizes.block_size (tail_of writer)

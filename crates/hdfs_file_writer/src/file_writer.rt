@@ -33,8 +33,9 @@ pub struct FileWriter {
 
 impl FileWriter {
     ghost use Rattle.hdfs_cluster.specs.Requests.{IsAnsweredLast, LetsClose, LetsWrite};
-    ghost use Rattle.hdfs_namenode.specs.Asked.{ReachesAll};
-    ghost use Rattle.hdfs_namenode.specs.Clients.{SameClient, name_of, proxy_of};
+    ghost use Rattle.hdfs_namenode.specs.Asked.{IsServiceOf};
+    ghost use Rattle.hdfs_namenode.specs.Clients.{SameClient, name_of, proxy_of, through};
+    ghost use Rattle.hdfs_namenode.specs.Views.{Seen};
     ghost use Rattle.hdfs_file_writer.specs.Tails.{Bare};
     ghost use Rattle.hdfs_cluster.specs.Namenode.{IsToWrite};
     ghost use Rattle.hdfs_file_writer.specs.Writers.{AreLimited, ArePackets, AreSizes, path_of, file_id_of, sizes_of, has_failed, link_of, tail_of, tail_opened, CanGoOn, IsAnswered, IsAtWork, IsIdle, MayWrite, Stands, Keeps, IsBetweenBlocks, OnlyOwnLink, LeavesFile, Wrote, Closed, Fails, FailsOtherwise, FailsToClose};
@@ -101,10 +102,10 @@ impl FileWriter {
         requires bytes { 0 < length bytes.now }
         ensures goes { OnOk result (CanGoOn C.may_answer (name_of namenode.old) (C.shown cluster.new) self.new) }
         ensures count { IfOk result (λ n. (0 < n) × (n ≤ length bytes.now)) }
-        ensures wrote { IfOk result (λ n. Wrote (C.shown cluster.old) self.old (take n bytes.now) (C.shown cluster.new)
-            self.new) }
-        ensures err { IfErr result (λ error. FailsOtherwise (C.shown cluster.old) self.old error
-            (C.shown cluster.new)) }
+        ensures wrote { IfOk result (λ n. Seen C.shown (through namenode.old cluster.old) cluster.new
+            (λ old new. Wrote old self.old (take n bytes.now) new self.new)) }
+        ensures err { IfErr result (λ error. Seen C.shown (through namenode.old cluster.old) cluster.new
+            (λ old new. FailsOtherwise old self.old error new)) }
         ensures keeps { Keeps self.old self.new × SameClient namenode.old namenode.new }
     {
         match self.make_room(cluster, namenode) {
@@ -139,7 +140,7 @@ impl FileWriter {
         namenode: &mut NamenodeProtocol,
         bytes: &[u8],
     ) -> Result<usize, HdfsError>
-        requires reaches { ReachesAll (proxy_of namenode.old) (C.shown cluster.old) }
+        requires service { IsServiceOf (proxy_of namenode.old) (C.shown cluster.old) }
         requires allowed { LetsWrite C.allows C.may_answer (name_of namenode.old) (path_of self.old)
             (file_id_of self.old) }
         requires answered { IsAnswered C.may_answer (name_of namenode.old) self.old }
@@ -155,9 +156,11 @@ impl FileWriter {
 
         // Over a told picture these bytes are carried too, nothing but the file changes, and no block is begun before the one before it
         // is full. Blocks that are done are whole on each datanode that is listed for them.
-        ensures wrote { OnOk result (Wrote (C.shown cluster.old) self.old bytes.now (C.shown cluster.new) self.new) }
-        ensures err { IfErr result (λ error. has_failed self.old ≡ false → AreLimited (sizes_of self.old)
-            → Fails (C.shown cluster.old) self.old error (C.shown cluster.new)) }
+        ensures wrote { OnOk result (Seen C.shown (through namenode.old cluster.old) cluster.new
+            (λ old new. Wrote old self.old bytes.now new self.new)) }
+        ensures err { IfErr result (λ error. Seen C.shown (through namenode.old cluster.old) cluster.new
+            (λ old new. has_failed self.old ≡ false → AreLimited (sizes_of self.old) → Fails old self.old error
+            new)) }
     {
         if self.failed {
             return Err(HdfsError::Failed);
@@ -199,7 +202,8 @@ impl FileWriter {
         requires fine { self.old.failed ≡ false }
         requires encrypted { self.old.sizes.encrypted ≡ true }
         ensures keeps { Keeps self.old self.new × SameClient namenode.old namenode.new }
-        ensures fails { Fails (C.shown cluster.old) self.old result (C.shown cluster.new) }
+        ensures fails { Seen C.shown (through namenode.old cluster.old) cluster.new
+            (λ old new. Fails old self.old result new) }
     {
         match self.take_reopened() {
             Some(located) => {
@@ -231,9 +235,10 @@ impl FileWriter {
         requires may { MayWrite C.allows C.may_answer namenode.old (C.shown cluster.old) self.old }
         requires works { IsAtWork self.old }
         ensures goes { OnOk result (CanGoOn C.may_answer (name_of namenode.old) (C.shown cluster.new) self.new) }
-        ensures wrote { OnOk result (Wrote (C.shown cluster.old) self.old bytes.now (C.shown cluster.new) self.new) }
-        ensures err { IfErr result (λ error. FailsOtherwise (C.shown cluster.old) self.old error
-            (C.shown cluster.new)) }
+        ensures wrote { OnOk result (Seen C.shown (through namenode.old cluster.old) cluster.new
+            (λ old new. Wrote old self.old bytes.now new self.new)) }
+        ensures err { IfErr result (λ error. Seen C.shown (through namenode.old cluster.old) cluster.new
+            (λ old new. FailsOtherwise old self.old error new)) }
         ensures keeps { Keeps self.old self.new × SameClient namenode.old namenode.new }
     {
         let mut rest = bytes;
@@ -252,14 +257,16 @@ impl FileWriter {
         cluster: &mut C,
         namenode: &mut NamenodeProtocol,
     ) -> Result<(), HdfsError>
-        requires reaches { ReachesAll (proxy_of namenode.old) (C.shown cluster.old) }
+        requires service { IsServiceOf (proxy_of namenode.old) (C.shown cluster.old) }
         requires allowed { LetsClose C.allows C.may_answer (name_of namenode.old) (path_of self.now)
             (file_id_of self.now) }
         requires answered { IsAnsweredLast C.may_answer (name_of namenode.old) (path_of self.now) (file_id_of self.now)
             self.now.last }
         requires between { IsBetweenBlocks self.now }
-        ensures closed { OnOk result (Closed (C.shown cluster.old) self.now (C.shown cluster.new)) }
-        ensures err { IfErr result (λ error. FailsToClose (C.shown cluster.old) self.now error (C.shown cluster.new)) }
+        ensures closed { OnOk result (Seen C.shown (through namenode.old cluster.old) cluster.new
+            (λ old new. Closed old self.now new)) }
+        ensures err { IfErr result (λ error. Seen C.shown (through namenode.old cluster.old) cluster.new
+            (λ old new. FailsToClose old self.now error new)) }
         ensures nodes { SameNodes (C.shown cluster.old) (C.shown cluster.new) }
         ensures client { SameClient namenode.old namenode.new }
     {
@@ -290,7 +297,7 @@ impl FileWriter {
         cluster: &mut C,
         namenode: &mut NamenodeProtocol,
     ) -> Result<(), HdfsError>
-        requires reaches { ReachesAll (proxy_of namenode.old) (C.shown cluster.old) }
+        requires service { IsServiceOf (proxy_of namenode.old) (C.shown cluster.old) }
         requires allowed { LetsClose C.allows C.may_answer (name_of namenode.old) (path_of self) (file_id_of self) }
         requires answered { IsAnswered C.may_answer (name_of namenode.old) self }
         requires stands { Stands (C.shown cluster.old) self }
@@ -299,9 +306,10 @@ impl FileWriter {
 
         // Over a told picture the closed file has the bytes, its blocks are whole on each datanode that is listed for them, and nothing but
         // the file changes.
-        ensures closed { OnOk result (Closed (C.shown cluster.old) self (C.shown cluster.new)) }
-        ensures err { IfErr result (λ error. has_failed self ≡ false
-            → FailsToClose (C.shown cluster.old) self error (C.shown cluster.new)) }
+        ensures closed { OnOk result (Seen C.shown (through namenode.old cluster.old) cluster.new
+            (λ old new. Closed old self new)) }
+        ensures err { IfErr result (λ error. Seen C.shown (through namenode.old cluster.old) cluster.new
+            (λ old new. has_failed self ≡ false → FailsToClose old self error new)) }
         ensures idle { link_of self ≡ None → SameNodes (C.shown cluster.old) (C.shown cluster.new) }
         ensures client { SameClient namenode.old namenode.new }
     {
@@ -316,15 +324,16 @@ impl FileWriter {
         cluster: &mut C,
         namenode: &mut NamenodeProtocol,
     ) -> Result<(), HdfsError>
-        requires reaches { ReachesAll (proxy_of namenode.old) (C.shown cluster.old) }
+        requires service { IsServiceOf (proxy_of namenode.old) (C.shown cluster.old) }
         requires allowed { LetsClose C.allows C.may_answer (name_of namenode.old) (path_of self.old)
             (file_id_of self.old) }
         requires answered { IsAnswered C.may_answer (name_of namenode.old) self.old }
         requires stands { Stands (C.shown cluster.old) self.old }
         ensures failed { self.old.failed ≡ true → (result ≡ Err errors.Failed) × (cluster.new ≡ cluster.old) }
-        ensures closed { OnOk result (Closed (C.shown cluster.old) self.old (C.shown cluster.new)) }
-        ensures err { IfErr result (λ error. self.old.failed ≡ false
-            → FailsToClose (C.shown cluster.old) self.old error (C.shown cluster.new)) }
+        ensures closed { OnOk result (Seen C.shown (through namenode.old cluster.old) cluster.new
+            (λ old new. Closed old self.old new)) }
+        ensures err { IfErr result (λ error. Seen C.shown (through namenode.old cluster.old) cluster.new
+            (λ old new. self.old.failed ≡ false → FailsToClose old self.old error new)) }
         ensures idle { link_of self.old ≡ None → SameNodes (C.shown cluster.old) (C.shown cluster.new) }
         ensures client { SameClient namenode.old namenode.new }
     {

@@ -65,8 +65,9 @@ impl Candidate {
 impl FileWriter {
     ghost use Rattle.hdfs_cluster.specs.Requests.{AreFirst, AskOf};
     ghost use Rattle.hdfs_cluster.specs.Shown.{Shown};
-    ghost use Rattle.hdfs_namenode.specs.Asked.{ReachesAll};
-    ghost use Rattle.hdfs_namenode.specs.Clients.{SameClient, name_of, proxy_of};
+    ghost use Rattle.hdfs_namenode.specs.Asked.{IsServiceOf};
+    ghost use Rattle.hdfs_namenode.specs.Clients.{SameClient, name_of, proxy_of, through};
+    ghost use Rattle.hdfs_namenode.specs.Views.{Seen};
     ghost use Rattle.hdfs_file_writer.specs.Tries.{EndsTries, HasTried, LeavesCandidate, TriesOn, giving_up};
     ghost use Rattle.hdfs_file_writer.specs.Writers.{path_of, file_id_of, CanGoOn, MayAdd, MayBegin, Keeps, HasRoom, Wrote, FailsOtherwise};
 
@@ -80,12 +81,13 @@ impl FileWriter {
         candidate: Candidate,
         fault: WriteFault,
     ) -> Result<(), HdfsError>
-        requires reaches { ReachesAll (proxy_of namenode.old) (C.shown cluster.old) }
+        requires service { IsServiceOf (proxy_of namenode.old) (C.shown cluster.old) }
         requires allowed { C.allows (AskOf (giving_up (name_of namenode.old) self.now candidate.block)) }
-        ensures left { OnOk result (LeavesCandidate (name_of namenode.old) self.now tries.old candidate fault
-            (C.shown cluster.old) tries.new (C.shown cluster.new)) }
-        ensures err { IfErr result (λ error. EndsTries (name_of namenode.old) self.now tries.old candidate fault
-            (C.shown cluster.old) error (C.shown cluster.new)) }
+        ensures left { OnOk result (Seen C.shown (through namenode.old cluster.old) cluster.new
+            (λ old new. LeavesCandidate (name_of namenode.old) self.now tries.old candidate fault old tries.new
+            new)) }
+        ensures err { IfErr result (λ error. Seen C.shown (through namenode.old cluster.old) cluster.new
+            (λ old new. EndsTries (name_of namenode.old) self.now tries.old candidate fault old error new)) }
         ensures client { SameClient namenode.old namenode.new }
     {
         if !tries.may_follow(&fault) {
@@ -119,13 +121,17 @@ impl FileWriter {
         requires first { AreFirst C.may_answer (name_of namenode.old) (path_of self.old) (file_id_of self.old)
             tries.old.excluded }
         ensures keeps { Keeps self.old self.new × SameClient namenode.old namenode.new }
-        ensures begun { IfOk result (λ begun. begun ≡ true → HasRoom self.new
-            × CanGoOn C.may_answer (name_of namenode.old) (C.shown cluster.new) self.new
-            × Wrote (C.shown cluster.old) self.old [] (C.shown cluster.new) self.new) }
-        ensures again { IfOk result (λ begun. begun ≡ false → TriesOn C.may_answer (name_of namenode.old)
-            (C.shown cluster.old) self.old tries.old (C.shown cluster.new) self.new tries.new) }
-        ensures err { IfErr result (λ error. (start : Shown) → HasTried start self.old tries.old (C.shown cluster.old)
-            → FailsOtherwise start self.old error (C.shown cluster.new)) }
+        ensures goes { IfOk result (λ begun. begun ≡ true → HasRoom self.new
+            × CanGoOn C.may_answer (name_of namenode.old) (C.shown cluster.new) self.new) }
+        ensures begun { IfOk result (λ begun. begun ≡ true → Seen C.shown (through namenode.old cluster.old)
+            cluster.new
+            (λ old new. Wrote old self.old [] new self.new)) }
+        ensures again { IfOk result (λ begun. Seen C.shown (through namenode.old cluster.old) cluster.new
+            (λ old new. begun ≡ false → TriesOn C.may_answer (name_of namenode.old) old self.old tries.old new
+            self.new tries.new)) }
+        ensures err { IfErr result (λ error. Seen C.shown (through namenode.old cluster.old) cluster.new
+            (λ old new. (start : Shown) → HasTried start self.old tries.old old → FailsOtherwise start self.old
+            error new)) }
     {
         let located = match self.next_block(cluster, namenode, tries.excluded.as_slice()) {
             Ok(located) => located,
@@ -162,9 +168,10 @@ impl FileWriter {
         ensures keeps { Keeps self.old self.new × SameClient namenode.old namenode.new }
         ensures goes { OnOk result (CanGoOn C.may_answer (name_of namenode.old) (C.shown cluster.new) self.new
             × HasRoom self.new) }
-        ensures wrote { OnOk result (Wrote (C.shown cluster.old) self.old [] (C.shown cluster.new) self.new) }
-        ensures err { IfErr result (λ error. FailsOtherwise (C.shown cluster.old) self.old error
-            (C.shown cluster.new)) }
+        ensures wrote { OnOk result (Seen C.shown (through namenode.old cluster.old) cluster.new
+            (λ old new. Wrote old self.old [] new self.new)) }
+        ensures err { IfErr result (λ error. Seen C.shown (through namenode.old cluster.old) cluster.new
+            (λ old new. FailsOtherwise old self.old error new)) }
     {
         let mut tries = Tries::new(self.alloc, self.sizes.setup_limit);
         'tries: loop {

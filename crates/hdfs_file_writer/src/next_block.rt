@@ -12,7 +12,8 @@ use hdfs_wire::NoMemory;
 impl FileWriter {
     ghost use Rattle.hdfs_cluster.specs.Requests.{AreFirst, IsAdded, IsFirstSetup, SetupOf};
     ghost use Rattle.hdfs_cluster.specs.declared.messages.Setup.{Setup};
-    ghost use Rattle.hdfs_namenode.specs.Clients.{SameClient, name_of};
+    ghost use Rattle.hdfs_namenode.specs.Clients.{SameClient, name_of, through};
+    ghost use Rattle.hdfs_namenode.specs.Views.{Seen};
     ghost use Rattle.hdfs_file_writer.specs.Tails.{IsFull};
     ghost use Rattle.hdfs_file_writer.specs.Tries.{NotSetUp};
     ghost use Rattle.hdfs_file_writer.specs.Writers.{plan_of, path_of, file_id_of, tail_of, CanGoOn, IsAnswered, IsAtWork, IsToOpen, MayAdd, MayBegin, MayFinish, MayWrite, Keeps, IsBetweenBlocks, HasRoom, Wrote, Adds, FailsOtherwise};
@@ -30,9 +31,10 @@ impl FileWriter {
             → IsFull self.old.sizes.block_size (tail_of self.new))) }
         ensures answered { OnOk result (IsAnswered C.may_answer (name_of namenode.old) self.new) }
         ensures idle { self.old.going ≡ None → cluster.new ≡ cluster.old }
-        ensures wrote { OnOk result (Wrote (C.shown cluster.old) self.old [] (C.shown cluster.new) self.new) }
-        ensures err { IfErr result (λ error. FailsOtherwise (C.shown cluster.old) self.old error
-            (C.shown cluster.new)) }
+        ensures wrote { OnOk result (Seen C.shown (through namenode.old cluster.old) cluster.new
+            (λ old new. Wrote old self.old [] new self.new)) }
+        ensures err { IfErr result (λ error. Seen C.shown (through namenode.old cluster.old) cluster.new
+            (λ old new. FailsOtherwise old self.old error new)) }
     {
         match self.reopened.take() {
             Some(located) => {
@@ -123,12 +125,12 @@ impl FileWriter {
         requires begins { IsBetweenBlocks self.now × (self.now.failed ≡ false) }
         requires first { AreFirst C.may_answer (name_of namenode.old) (path_of self.now) (file_id_of self.now)
             excluded.now }
-        ensures adds { IfOk result (λ located. Adds (name_of namenode.old) excluded.now (C.shown cluster.old) self.now
-            located (C.shown cluster.new)) }
+        ensures adds { IfOk result (λ located. Seen C.shown (through namenode.old cluster.old) cluster.new
+            (λ old new. Adds (name_of namenode.old) excluded.now old self.now located new)) }
         ensures answered { IfOk result (IsAdded C.may_answer (name_of namenode.old) (path_of self.now)
             (file_id_of self.now)) }
-        ensures err { IfErr result (λ error. FailsOtherwise (C.shown cluster.old) self.now error
-            (C.shown cluster.new)) }
+        ensures err { IfErr result (λ error. Seen C.shown (through namenode.old cluster.old) cluster.new
+            (λ old new. FailsOtherwise old self.now error new)) }
         ensures client { SameClient namenode.old namenode.new }
     {
         match namenode.add_block(
@@ -171,9 +173,10 @@ impl FileWriter {
         ensures keeps { Keeps self.old self.new × SameClient namenode.old namenode.new }
         ensures goes { OnOk result (CanGoOn C.may_answer (name_of namenode.old) (C.shown cluster.new) self.new
             × HasRoom self.new) }
-        ensures wrote { OnOk result (Wrote (C.shown cluster.old) self.old [] (C.shown cluster.new) self.new) }
-        ensures err { IfErr result (λ error. FailsOtherwise (C.shown cluster.old) self.old error
-            (C.shown cluster.new)) }
+        ensures wrote { OnOk result (Seen C.shown (through namenode.old cluster.old) cluster.new
+            (λ old new. Wrote old self.old [] new self.new)) }
+        ensures err { IfErr result (λ error. Seen C.shown (through namenode.old cluster.old) cluster.new
+            (λ old new. FailsOtherwise old self.old error new)) }
     {
         if self.has_room() {
             return Ok(());

@@ -1,8 +1,10 @@
 pub mod Called
+pub mod Comings
 pub mod Going
 pub mod Keyed
 pub mod Observers
 pub mod Relayed
 pub mod Renewed
+pub mod Seeing
 pub mod Services
 pub mod WrongAsks

@@ -16,7 +16,7 @@ use Rattle.hdfs_cluster.specs.Shown.{Shown, Later, Served}
 use Rattle.hdfs_cluster.specs.Namenode.{IsShaped}
 use Rattle.hdfs_cluster.proofs.Frames.{later_refl}
 use Rattle.hdfs_cluster.proofs.Framing.{asked_leaves, leaves_refl, leaves_served, leaves_trans}
-use Rattle.hdfs_namenode.specs.Asked.{Asked, AskedInOrder, AskedInStep, AskedObserved, AskedOnce, AskedSynced, AskedUntil, GoesOnBehind, GoesOnWith, LooksFor, NoneObserves, Observes, SyncRefused, SameService, Through, forgets, is_observed, is_observer, lacks_memory, needs_sync, numbers_from, order_of}
+use Rattle.hdfs_namenode.specs.Asked.{Asked, AskedInOrder, AskedInStep, AskedObserved, AskedOnce, AskedSynced, AskedUntil, GoesOnBehind, GoesOnWith, LooksFor, NoneObserves, Observes, SyncRefused, SameService, Syncs, Through, forgets, is_observed, is_observer, lacks_memory, needs_sync, numbers_from, order_of}
 use Rattle.hdfs_namenode.specs.Observing.{ByObserver, InStep, SyncsFirst, by_observer, is_unanswered, said_by}
 use Rattle.hdfs_namenode.specs.Relaying.{HasNoAnswer, LacksAnswer}
 use Rattle.hdfs_namenode.proofs.Services.{same_service_refl}
@@ -247,7 +247,7 @@ module _ {C : Type 0} (shown : C → Shown) (serves : C → ℕ → Ask → Resu
   until_leaves order old i given new asked =
       leaves_trans (shown old) (shown asked.mid) (shown new) (none_leaves asked.front old asked.mid asked.none) (leaves_served (shown asked.mid) (shown new) i asks.GetHaServiceState given (rows asked.mid new i asks.GetHaServiceState given asked.gave))
 
-  looks_leaves : (order : List ℕ) (old : C) (found : Result (Option ℕ) HdfsError) (new : C) → LooksFor serves order old found new → Leaves (shown old) (shown new)
+  pub looks_leaves : (order : List ℕ) (old : C) (found : Result (Option ℕ) HdfsError) (new : C) → LooksFor serves order old found new → Leaves (shown old) (shown new)
   looks_leaves order old (Ok None) new looks = none_leaves order old new looks
   looks_leaves order old (Ok (Some i)) new looks = until_leaves order old i (Ok (answers.GetHaServiceState 3)) new looks
   looks_leaves order old (Err error) new looks = until_leaves order old looks.1 (Err faults.NoMemory) new looks.2
@@ -286,12 +286,17 @@ module _ {C : Type 0} (shown : C → Shown) (serves : C → ℕ → Ask → Resu
           (with_leaves ask o.found o.mid outcome new o.goes_on)
       by false is = in_order_leaves write ask old outcome new (step.in_order is)
 
+  -- the msync too
+  pub syncs_leaves : (old mid : Through C) → Syncs serves old mid → Leaves (shown old.cluster) (shown mid.cluster)
+  syncs_leaves old mid syncs =
+      subst (λ (x : C). Leaves (shown old.cluster) (shown x)) (sym syncs.cluster)
+      (in_order_leaves true asks.Msync old (Ok syncs.answer) syncs.behind syncs.asked)
+
   synced_leaves : (write : Bool) (ask : Ask) (old : Through C) (outcome : Result Answer HdfsError) (new : Through C)
       → AskedSynced serves write ask old outcome new ⊎ SyncRefused serves old outcome new → Leaves (shown old.cluster) (shown new.cluster)
   synced_leaves write ask old outcome new (inl went) =
-      let first = in_order_leaves true asks.Msync old (Ok went.syncs.answer) went.syncs.behind went.syncs.asked in
-      leaves_trans (shown old.cluster) (shown went.mid.cluster) (shown new.cluster)
-      (subst (λ (x : C). Leaves (shown old.cluster) (shown x)) (sym went.syncs.cluster) first) (step_leaves write ask went.mid outcome new went.in_step)
+      leaves_trans (shown old.cluster) (shown went.mid.cluster) (shown new.cluster) (syncs_leaves old went.mid went.syncs)
+      (step_leaves write ask went.mid outcome new went.in_step)
   synced_leaves write ask old outcome new (inr refused) = in_order_leaves true asks.Msync old (Err refused.error) new refused.asked
 
   pub all_leaves : (write : Bool) (ask : Ask) (old : Through C) (outcome : Result Answer HdfsError) (new : Through C) → Asked serves write ask old outcome new

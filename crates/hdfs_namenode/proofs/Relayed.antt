@@ -1,6 +1,6 @@
 -- What an ask of a service comes to for its caller: over any cluster, and over a told picture.
 use Rattle.std.proofs.Common.{◌≡◌, inl, inr, ℕ, ◌<◌, Bool, true, false, cond, List, Some, refl, sym, ap, subst, arith}
-use Rattle.std.specs.Prelude.{Result, Ok, Err, IfOk, IfErr}
+use Rattle.std.specs.Prelude.{Result, Ok, Err, IfOk}
 use Rattle.hdfs_cluster.specs.declared.asks.Ask.{Ask}
 use Rattle.hdfs_cluster.specs.declared.asks.Answer.{Answer}
 use Rattle.hdfs_cluster.specs.declared.asks.AskFault.{AskFault}
@@ -15,12 +15,12 @@ use Rattle.hdfs_cluster.specs.Picture.{Picture}
 use Rattle.hdfs_cluster.specs.Repeating.{DoneOrNot, Leaves, Repeats}
 use Rattle.hdfs_cluster.specs.Shown.{Shown, Served}
 use Rattle.hdfs_cluster.proofs.Frames.{same_picture_refl}
-use Rattle.hdfs_cluster.specs.Failover.{AsksInOrder, passes_on}
-use Rattle.hdfs_cluster.proofs.Framing.{asked_leaves, broken_rose, each_asked, failure_rose, leaves_refl}
+use Rattle.hdfs_cluster.specs.Failover.{passes_on}
+use Rattle.hdfs_cluster.proofs.Framing.{leaves_refl}
 use Rattle.hdfs_cluster.proofs.Relaying.{Comes, asked_told}
-use Rattle.hdfs_namenode.specs.Asked.{Asked, AskedInOrder, IsServiceOf, ReachesAll, Through, error_of, order_of, outcome_of}
+use Rattle.hdfs_namenode.specs.Asked.{Asked, ReachesAll, Through, error_of, order_of, outcome_of}
 use Rattle.hdfs_namenode.specs.Relaying.{Came, RefusedBy, Relays, RelaysTold, TellsAsk}
-use Rattle.hdfs_namenode.proofs.Services.{asked_plain, last_below, reaches_has, reaches_service, service_below}
+use Rattle.hdfs_namenode.proofs.Services.{asked_plain, reaches_has, reaches_service, service_below}
 
 exception_tells : (old new : Shown) (class message : List ℕ) (b : Bool) → is_taken class ≡ b → new.last ≡ last_answers.Exception class message
     → TellsAsk old new (cond b (errors.AlreadyExists message) (errors.RPCError class message))
@@ -38,7 +38,7 @@ fault_tells old new last (faults.BadReply fault) is low rose twice each = (tt, (
 fault_tells old new last (faults.Exception class message) is low rose twice each = exception_tells old new class message (is_taken class) refl is
 fault_tells old new last (faults.Fatal class message) is low rose twice each = (tt, (is, (each refl, (last, low, rose tt))))
 
-relays_given : (old new : Shown) (ask : Ask) (last : ℕ) (given : Result Answer AskFault) → Leaves old new → IfOk given (IsShaped ask) → new.last ≡ last_of given
+pub relays_given : (old new : Shown) (ask : Ask) (last : ℕ) (given : Result Answer AskFault) → Leaves old new → IfOk given (IsShaped ask) → new.last ≡ last_of given
     → last < new.namenodes → (IsFailure given → Rose (old.counts.calls last) (new.counts.calls last))
     → (given ≡ Err faults.Broken → RoseTwice (old.counts.calls last) (new.counts.calls last))
     → (passes_on given ≡ true → EachAsked old.counts new) → Relays old ask (outcome_of last given) new
@@ -89,35 +89,6 @@ relayed_rose risen p ask error q some allowed (inr (inr rose)) = rose.0
 module _ {C : Type 0} (shown : C → Shown) (serves : C → ℕ → Ask → Result Answer AskFault → C → Type 0)
     (rows : (old new : C) (i : ℕ) (ask : Ask) (result : Result Answer AskFault) → serves old i ask result new → Served (shown old) i ask result (shown new))
     (write : Bool) (ask : Ask) (old : Through C) (outcome : Result Answer HdfsError) (new : Through C) where
-  -- whether the last one asked has failed
-  last_rose : (last : ℕ) (given : Result Answer AskFault) → AsksInOrder serves (order_of old.proxy) ask old.cluster last given new.cluster → IsFailure given
-      → Rose ((shown old.cluster).counts.calls last) ((shown new.cluster).counts.calls last)
-  last_rose last given asks fails = failure_rose shown serves rows ask (order_of old.proxy) last given old.cluster new.cluster fails asks
-
-  last_twice : (last : ℕ) (given : Result Answer AskFault) → AsksInOrder serves (order_of old.proxy) ask old.cluster last given new.cluster
-      → given ≡ Err faults.Broken → RoseTwice ((shown old.cluster).counts.calls last) ((shown new.cluster).counts.calls last)
-  last_twice last given asks broken =
-      broken_rose shown serves rows ask (order_of old.proxy) last old.cluster new.cluster
-      (subst (λ (g : Result Answer AskFault). AsksInOrder serves (order_of old.proxy) ask old.cluster last g new.cluster) broken asks)
-
-  -- of a service that has all namenodes, which are asked in order
-  relayed_in_order : ReachesAll old.proxy (shown old.cluster) → AskedInOrder serves write ask old outcome new
-      → Relays (shown old.cluster) ask outcome (shown new.cluster)
-  relayed_in_order reaches asked =
-      let of = reaches_service old.proxy (shown old.cluster) reaches in
-      let left = asked_leaves shown serves rows ask (order_of old.proxy) asked.last asked.given old.cluster new.cluster asked.asks in
-      let low = last_below old.proxy (shown old.cluster) asked.asks.front asked.last asked.asks.left of asked.asks.in_order in
-      subst (λ (r : Result Answer HdfsError). Relays (shown old.cluster) ask r (shown new.cluster)) (sym asked.is)
-      (relays_given (shown old.cluster) (shown new.cluster) ask asked.last asked.given left.0 asked.shaped left.1 (omega (arith, low, left.0.later.namenodes))
-      (last_rose asked.last asked.given asked.asks) (last_twice asked.last asked.given asked.asks)
-      (λ passes i below. each_asked shown serves rows ask (order_of old.proxy) asked.last asked.given old.cluster new.cluster passes asked.asks i
-      (reaches_has old.proxy (shown old.cluster) i reaches (omega (arith, below, left.0.later.namenodes)))))
-
-  -- over any cluster
-  pub relayed : ReachesAll old.proxy (shown old.cluster) → Asked serves write ask old outcome new → Relays (shown old.cluster) ask outcome (shown new.cluster)
-  relayed reaches asked =
-      relayed_in_order reaches (asked_plain serves write ask old outcome new reaches.plain asked)
-
   -- what is told of it
   abbrev pub IsTold : Picture → Type 0
   IsTold p = (q : Picture) × ((shown new.cluster).picture ≡ Some q) × RelaysTold (CallsRose (shown old.cluster).counts (shown new.cluster)) p ask outcome q
@@ -135,17 +106,6 @@ module _ {C : Type 0} (shown : C → Shown) (serves : C → ℕ → Ask → Resu
         came.1,
         subst (λ (r : Result Answer HdfsError). RelaysTold risen p ask r came.0) (sym asked.is) (comes_relayed risen p ask asked.last asked.given came.0 came.2),
       )
-
-module _ {C : Type 0} {shown : C → Shown} {serves : C → ℕ → Ask → Result Answer AskFault → C → Type 0} where
-  -- a service that reaches all namenodes was asked
-  pub came : ((old new : C) (i : ℕ) (ask : Ask) (result : Result Answer AskFault) → serves old i ask result new → Served (shown old) i ask result (shown new))
-      → ((c : C) (p : Picture) → (shown c).picture ≡ Some p → p.active < (shown c).namenodes)
-      → {write : Bool} {ask : Ask} {old : Through C} {result : Result Answer HdfsError} {new : Through C} → Asked serves write ask old result new
-      → ReachesAll old.proxy (shown old.cluster) → Came (shown old.cluster) ask result (shown new.cluster)
-  came rows below {write} {ask} {old} {result} {new} asked reaches = record {
-    relays = relayed shown serves rows write ask old result new reaches asked;
-    told = λ p told repeats. relayed_told shown serves rows write ask old result new p (below old.cluster p told) reaches told repeats asked;
-  }
 
 -- nothing was asked, for want of memory
 pub came_nothing : {s : Shown} {ask : Ask} → Came s ask (Err errors.NoMemory) s

@@ -1,5 +1,5 @@
 -- Services of namenodes: what is kept of them from call to call, and that one that has all namenodes asks each of them.
-use Rattle.std.proofs.Common.{◌≡◌, ℕ, ◌+◌, ◌<◌, Bool, true, false, List, [], ◌∷◌, ◌++◌, Option, refl, sym, ◌∙◌, ap, subst, arith}
+use Rattle.std.proofs.Common.{◌≡◌, ℕ, ◌+◌, ◌<◌, ◌≤◌, Bool, true, false, Option, refl, sym, ◌∙◌, ap, subst, arith}
 use Rattle.std.specs.Prelude.{IfSome, Result, ◌&&◌, ◌||◌, not}
 use Rattle.hdfs_cluster.specs.declared.asks.Ask.{Ask}
 use Rattle.hdfs_cluster.specs.declared.asks.Answer.{Answer}
@@ -44,7 +44,7 @@ reaches_service proxy s r = record {
   within = omega (arith, r.first, r.all);
   from = omega (arith, r.first);
   below = omega (arith, r.first, r.below);
-  observer = subst (λ (o : Option ℕ). IfSome o (λ i. i < proxy.first + proxy.count)) (sym r.plain.unknown) tt;
+  observer = subst (λ (o : Option ℕ). IfSome o (λ i. (proxy.first ≤ i) × (i < proxy.first + proxy.count))) (sym r.plain.unknown) tt;
 }
 
 -- it begins so
@@ -71,23 +71,17 @@ reaches_same proxy proxy' s s' same namenodes r =
 pub reaches_later : (proxy proxy' : NameServiceProxy) (s s' : Shown) → SameService proxy proxy' → Later s s' → ReachesAll proxy s → ReachesAll proxy' s'
 reaches_later proxy proxy' s s' same later r = reaches_same proxy proxy' s s' same later.namenodes r
 
-pub service_later : (proxy proxy' : NameServiceProxy) (s s' : Shown) → SameService proxy proxy' → Later s s' → IsServiceOf proxy s → IsServiceOf proxy' s'
-service_later proxy proxy' s s' same later of =
+pub service_same : (proxy proxy' : NameServiceProxy) (s s' : Shown) → SameService proxy proxy' → s'.namenodes ≡ s.namenodes → IsServiceOf proxy s → IsServiceOf proxy' s'
+service_same proxy proxy' s s' same namenodes of =
     let now = same.within s of in
-    record { within = omega (arith, now.within, later.namenodes); from = now.from; below = now.below; observer = now.observer }
+    record { within = omega (arith, now.within, namenodes); from = now.from; below = now.below; observer = now.observer }
+
+pub service_later : (proxy proxy' : NameServiceProxy) (s s' : Shown) → SameService proxy proxy' → Later s s' → IsServiceOf proxy s → IsServiceOf proxy' s'
+service_later proxy proxy' s s' same later of = service_same proxy proxy' s s' same later.namenodes of
 
 -- each namenode that a service asks is one of the cluster's
 pub service_below : (proxy : NameServiceProxy) (s : Shown) → IsServiceOf proxy s → Below s.namenodes (order_of proxy)
 service_below proxy s of = order_below s.namenodes proxy.remembered proxy.first proxy.count (omega (arith, of.below, of.within)) of.within
-
-below_at : (n : ℕ) (front : List ℕ) (i : ℕ) (left : List ℕ) → Below n (front ++ i ∷ left) → i < n
-below_at n [] i left below = below.0
-below_at n (j ∷ front) i left below = below_at n front i left below.1
-
--- the last one that it has asked is one too
-pub last_below : (proxy : NameServiceProxy) (s : Shown) (front : List ℕ) (last : ℕ) (left : List ℕ) → IsServiceOf proxy s → order_of proxy ≡ front ++ last ∷ left
-    → last < s.namenodes
-last_below proxy s front last left of is = below_at s.namenodes front last left (subst (Below s.namenodes) is (service_below proxy s of))
 
 -- and where it has all of them, each one of the cluster's is asked
 pub reaches_has : (proxy : NameServiceProxy) (s : Shown) (a : ℕ) → ReachesAll proxy s → a < s.namenodes → Has a (order_of proxy)

@@ -1,5 +1,5 @@
 //! Namenodes that are brought into step, and observers, which answer reads.
-ghost use Rattle.std.specs.Prelude.{◌≡◌, ◌+◌, ◌<◌, true, IfErr, IfOk, IfSome};
+ghost use Rattle.std.specs.Prelude.{◌≡◌, ◌+◌, ◌<◌, ◌≤◌, true, IfErr, IfOk, IfSome};
 ghost use Rattle.hdfs_cluster.specs.Namenode.{IsShaped};
 ghost use Rattle.hdfs_cluster.specs.Requests.{AskOf};
 ghost use Rattle.hdfs_cluster.specs.Shown.{Later};
@@ -123,7 +123,8 @@ impl NameServiceProxy {
     fn look_for_observer<C: Cluster>(&self, cluster: &mut C) -> Result<Option<u32>, HdfsError>
         requires { IsServiceOf self.now (C.shown cluster.old) }
         ensures looks { LooksFor C.serves (numbers_from self.now.first self.now.count) cluster.old result cluster.new }
-        ensures below { IfOk result (λ observer. IfSome observer (λ i. i < self.now.first + self.now.count)) }
+        ensures own { IfOk result (λ observer. IfSome observer
+            (λ i. (self.now.first ≤ i) × (i < self.now.first + self.now.count))) }
         ensures memory { IfErr result (λ error. error ≡ errors.NoMemory) }
         ensures later { Later (C.shown cluster.old) (C.shown cluster.new) }
     {

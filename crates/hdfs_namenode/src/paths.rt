@@ -3,8 +3,9 @@ ghost use Rattle.std.specs.Prelude.{◌≡◌, true, false, IfOk};
 ghost use Rattle.hdfs_cluster.specs.Requests.{AskOf};
 ghost use Rattle.hdfs_cluster.specs.declared.asks.Ask.TheVariants as asks;
 ghost use Rattle.hdfs_cluster.specs.declared.asks.Answer.TheVariants as answers;
-ghost use Rattle.hdfs_namenode.specs.Asked.{AskedOnce, IsServiceOf, ReachesAll, as_answer};
+ghost use Rattle.hdfs_namenode.specs.Asked.{AskedOnce, IsServiceOf, as_answer};
 ghost use Rattle.hdfs_namenode.specs.Relaying.{Came};
+ghost use Rattle.hdfs_namenode.specs.Views.{Seen};
 
 use crate::protocol::NamenodeProtocol;
 use hdfs_cluster::{
@@ -28,9 +29,9 @@ impl NamenodeProtocol {
         ensures asked { AskedOnce C.serves false (asks.GetBlockLocations src.now offset length)
             (through self.old cluster.old)
             (as_answer answers.GetBlockLocations result) (through self.new cluster.new) }
-        ensures came { ReachesAll (proxy_of self.old) (C.shown cluster.old) → Came (C.shown cluster.old)
-            (asks.GetBlockLocations src.now offset length)
-            (as_answer answers.GetBlockLocations result) (C.shown cluster.new) }
+        ensures came { Seen C.shown (through self.old cluster.old) cluster.new
+            (λ old new. Came old (asks.GetBlockLocations src.now offset length) (as_answer
+            answers.GetBlockLocations result) new) }
         ensures answered { IfOk result (λ found. C.may_answer
             (asks.GetBlockLocations src.now offset length) (answers.GetBlockLocations found)) }
         ensures keeps { SameClient self.old self.new }
@@ -58,8 +59,8 @@ impl NamenodeProtocol {
         requires allowed { C.allows (AskOf (asks.GetFileInfo src.now)) }
         ensures asked { AskedOnce C.serves false (asks.GetFileInfo src.now) (through self.old cluster.old)
             (as_answer answers.GetFileInfo result) (through self.new cluster.new) }
-        ensures came { ReachesAll (proxy_of self.old) (C.shown cluster.old) → Came (C.shown cluster.old)
-            (asks.GetFileInfo src.now) (as_answer answers.GetFileInfo result) (C.shown cluster.new) }
+        ensures came { Seen C.shown (through self.old cluster.old) cluster.new
+            (λ old new. Came old (asks.GetFileInfo src.now) (as_answer answers.GetFileInfo result) new) }
         ensures answered { IfOk result (λ status. C.may_answer (asks.GetFileInfo src.now) (answers.GetFileInfo status)) }
         ensures keeps { SameClient self.old self.new }
     {
@@ -87,9 +88,9 @@ impl NamenodeProtocol {
         ensures asked { AskedOnce C.serves false (asks.GetListing src.now start_after.now need_location)
             (through self.old cluster.old)
             (as_answer answers.GetListing result) (through self.new cluster.new) }
-        ensures came { ReachesAll (proxy_of self.old) (C.shown cluster.old) → Came (C.shown cluster.old)
-            (asks.GetListing src.now start_after.now need_location)
-            (as_answer answers.GetListing result) (C.shown cluster.new) }
+        ensures came { Seen C.shown (through self.old cluster.old) cluster.new
+            (λ old new. Came old (asks.GetListing src.now start_after.now need_location) (as_answer
+            answers.GetListing result) new) }
         ensures answered { IfOk result (λ page. C.may_answer
             (asks.GetListing src.now start_after.now need_location) (answers.GetListing page)) }
         ensures keeps { SameClient self.old self.new }
@@ -144,8 +145,9 @@ impl NamenodeProtocol {
         ensures asked { AskedOnce C.serves true (asks.Mkdirs src.now masked create_parent)
             (through self.old cluster.old)
             (as_answer answers.Mkdirs result) (through self.new cluster.new) }
-        ensures came { ReachesAll (proxy_of self.old) (C.shown cluster.old) → Came (C.shown cluster.old)
-            (asks.Mkdirs src.now masked create_parent) (as_answer answers.Mkdirs result) (C.shown cluster.new) }
+        ensures came { Seen C.shown (through self.old cluster.old) cluster.new
+            (λ old new. Came old (asks.Mkdirs src.now masked create_parent) (as_answer answers.Mkdirs result)
+            new) }
         ensures keeps { SameClient self.old self.new }
     {
         let ask = Ask::Mkdirs {
@@ -198,8 +200,8 @@ impl NamenodeProtocol {
         requires allowed { C.allows (AskOf (asks.Delete src.now recursive)) }
         ensures asked { AskedOnce C.serves true (asks.Delete src.now recursive) (through self.old cluster.old)
             (as_answer answers.Delete result) (through self.new cluster.new) }
-        ensures came { ReachesAll (proxy_of self.old) (C.shown cluster.old) → Came (C.shown cluster.old)
-            (asks.Delete src.now recursive) (as_answer answers.Delete result) (C.shown cluster.new) }
+        ensures came { Seen C.shown (through self.old cluster.old) cluster.new
+            (λ old new. Came old (asks.Delete src.now recursive) (as_answer answers.Delete result) new) }
         ensures keeps { SameClient self.old self.new }
     {
         let ask = Ask::Delete {

@@ -7,6 +7,7 @@ ghost use Rattle.hdfs_cluster.specs.declared.asks.Ask.TheVariants as asks;
 ghost use Rattle.hdfs_cluster.specs.declared.asks.Answer.TheVariants as answers;
 ghost use Rattle.hdfs_namenode.specs.Asked.{Asked, IsServiceOf, ReachesAll, SameService, as_answer};
 ghost use Rattle.hdfs_namenode.specs.Relaying.{Came, CameCached};
+ghost use Rattle.hdfs_namenode.specs.Views.{Seen};
 
 use crate::proxy::NameServiceProxy;
 use hdfs_cluster::{Answer, Ask, Cluster, EncryptionKey, HdfsError, ServerDefaults};
@@ -89,8 +90,8 @@ impl NamenodeProtocol {
         requires service { IsServiceOf (proxy_of self.old) (C.shown cluster.old) }
         requires allowed { C.allows (AskOf ask) }
         ensures asked { Asked C.serves write ask (through self.old cluster.old) result (through self.new cluster.new) }
-        ensures came { ReachesAll (proxy_of self.old) (C.shown cluster.old)
-            → Came (C.shown cluster.old) ask result (C.shown cluster.new) }
+        ensures came { Seen C.shown (through self.old cluster.old) cluster.new
+            (λ old new. Came old ask result new) }
         ensures shape { IfOk result (IsShaped ask) }
         ensures answered { IfOk result (C.may_answer ask) }
         ensures keeps { SameClient self.old self.new }
@@ -109,8 +110,8 @@ impl NamenodeProtocol {
         requires allowed { C.allows (AskOf asks.GetServerDefaults) }
         ensures asked { Asked C.serves false asks.GetServerDefaults (through self.old cluster.old)
             (as_answer answers.GetServerDefaults result) (through self.new cluster.new) }
-        ensures came { ReachesAll (proxy_of self.old) (C.shown cluster.old) → Came (C.shown cluster.old)
-            asks.GetServerDefaults (as_answer answers.GetServerDefaults result) (C.shown cluster.new) }
+        ensures came { Seen C.shown (through self.old cluster.old) cluster.new
+            (λ old new. Came old asks.GetServerDefaults (as_answer answers.GetServerDefaults result) new) }
         ensures answered { IfOk result (λ defaults. C.may_answer asks.GetServerDefaults
             (answers.GetServerDefaults defaults)) }
         ensures keeps { SameClient self.old self.new }
@@ -136,8 +137,8 @@ impl NamenodeProtocol {
         ensures asked { defaults_of self.old ≡ None → Asked C.serves false asks.GetServerDefaults
             (through self.old cluster.old)
             (as_answer answers.GetServerDefaults result) (through self.new cluster.new) }
-        ensures came { ReachesAll (proxy_of self.old) (C.shown cluster.old)
-            → CameCached (defaults_of self.old) (C.shown cluster.old) result (C.shown cluster.new) }
+        ensures came { Seen C.shown (through self.old cluster.old) cluster.new
+            (λ old new. CameCached (defaults_of self.old) old result new) }
         ensures kept { IfOk result (λ defaults. defaults_of self.new ≡ Some defaults) }
         ensures answered { KeepsAnswered C.may_answer self.old → KeepsAnswered C.may_answer self.new }
         ensures err { OnErr result (defaults_of self.new ≡ None) }

@@ -56,10 +56,11 @@ impl NameServiceProxy {
     /// Whether the observer that it knows, if any, is one of its namenodes.
     fn knows_no_other(&self) -> bool
         requires { self.now.first + self.now.count < 4294967296 }
-        ensures { IsTrue result ↔ IfSome self.now.observer (λ i. i < self.now.first + self.now.count) }
+        ensures { IsTrue result ↔ IfSome self.now.observer
+            (λ i. (self.now.first ≤ i) × (i < self.now.first + self.now.count)) }
     {
         match self.observer {
-            Some(i) => i < self.first + self.count,
+            Some(i) => self.first <= i && i < self.first + self.count,
             None => true,
         }
     }

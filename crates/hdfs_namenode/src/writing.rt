@@ -5,8 +5,9 @@ ghost use Rattle.hdfs_cluster.specs.Namenode.{IsToWrite};
 ghost use Rattle.hdfs_cluster.specs.Requests.{AskOf};
 ghost use Rattle.hdfs_cluster.specs.declared.asks.Ask.TheVariants as asks;
 ghost use Rattle.hdfs_cluster.specs.declared.asks.Answer.TheVariants as answers;
-ghost use Rattle.hdfs_namenode.specs.Asked.{AskedOnce, IsServiceOf, ReachesAll, as_answer};
+ghost use Rattle.hdfs_namenode.specs.Asked.{AskedOnce, IsServiceOf, as_answer};
 ghost use Rattle.hdfs_namenode.specs.Relaying.{Came};
+ghost use Rattle.hdfs_namenode.specs.Views.{Seen};
 
 use crate::copies::copy_block;
 use crate::protocol::NamenodeProtocol;
@@ -38,9 +39,9 @@ impl NamenodeProtocol {
         ensures asked { AskedOnce C.serves true
             (asks.Create src.now masked (name_of self.old) create_flag create_parent replication block_size)
             (through self.old cluster.old) (as_answer answers.Create result) (through self.new cluster.new) }
-        ensures came { ReachesAll (proxy_of self.old) (C.shown cluster.old) → Came (C.shown cluster.old)
-            (asks.Create src.now masked (name_of self.old) create_flag create_parent replication block_size)
-            (as_answer answers.Create result) (C.shown cluster.new) }
+        ensures came { Seen C.shown (through self.old cluster.old) cluster.new
+            (λ old new. Came old (asks.Create src.now masked (name_of self.old) create_flag create_parent
+            replication block_size) (as_answer answers.Create result) new) }
         ensures answered { IfOk result (λ status. C.may_answer
             (asks.Create src.now masked (name_of self.old) create_flag create_parent replication block_size)
             (answers.Create status)) }
@@ -75,8 +76,9 @@ impl NamenodeProtocol {
         ensures asked { AskedOnce C.serves true (asks.Append src.now (name_of self.old) flag)
             (through self.old cluster.old)
             (as_answer answers.Append result) (through self.new cluster.new) }
-        ensures came { ReachesAll (proxy_of self.old) (C.shown cluster.old) → Came (C.shown cluster.old)
-            (asks.Append src.now (name_of self.old) flag) (as_answer answers.Append result) (C.shown cluster.new) }
+        ensures came { Seen C.shown (through self.old cluster.old) cluster.new
+            (λ old new. Came old (asks.Append src.now (name_of self.old) flag) (as_answer answers.Append result)
+            new) }
         ensures answered { IfOk result (λ appended. C.may_answer
             (asks.Append src.now (name_of self.old) flag) (answers.Append appended)) }
         ensures block { IfOk result (λ appended. IfSome appended.block IsToWrite) }
@@ -111,9 +113,9 @@ impl NamenodeProtocol {
         ensures asked { AskedOnce C.serves true
             (asks.AddBlock src.now (name_of self.old) (option_copied previous.entry) excludes.now file_id)
             (through self.old cluster.old) (as_answer answers.AddBlock result) (through self.new cluster.new) }
-        ensures came { ReachesAll (proxy_of self.old) (C.shown cluster.old) → Came (C.shown cluster.old)
-            (asks.AddBlock src.now (name_of self.old) (option_copied previous.entry) excludes.now file_id)
-            (as_answer answers.AddBlock result) (C.shown cluster.new) }
+        ensures came { Seen C.shown (through self.old cluster.old) cluster.new
+            (λ old new. Came old (asks.AddBlock src.now (name_of self.old) (option_copied previous.entry)
+            excludes.now file_id) (as_answer answers.AddBlock result) new) }
         ensures answered { IfOk result (λ located. C.may_answer
             (asks.AddBlock src.now (name_of self.old) (option_copied previous.entry) excludes.now file_id)
             (answers.AddBlock located)) }
@@ -142,9 +144,9 @@ impl NamenodeProtocol {
         ensures asked { AskedOnce C.serves true (asks.AbandonBlock block.now src.now (name_of self.old) file_id)
             (through self.old cluster.old) (as_answer (λ _. answers.AbandonBlock) result)
             (through self.new cluster.new) }
-        ensures came { ReachesAll (proxy_of self.old) (C.shown cluster.old) → Came (C.shown cluster.old)
-            (asks.AbandonBlock block.now src.now (name_of self.old) file_id)
-            (as_answer (λ _. answers.AbandonBlock) result) (C.shown cluster.new) }
+        ensures came { Seen C.shown (through self.old cluster.old) cluster.new
+            (λ old new. Came old (asks.AbandonBlock block.now src.now (name_of self.old) file_id) (as_answer (λ
+            _. answers.AbandonBlock) result) new) }
         ensures keeps { SameClient self.old self.new }
     {
         let ask = self.abandon_block_ask(block, src, file_id)?;
@@ -167,9 +169,9 @@ impl NamenodeProtocol {
         ensures asked { AskedOnce C.serves true (asks.Complete src.now (name_of self.old) (option_copied last.entry)
             file_id)
             (through self.old cluster.old) (as_answer answers.Complete result) (through self.new cluster.new) }
-        ensures came { ReachesAll (proxy_of self.old) (C.shown cluster.old) → Came (C.shown cluster.old)
-            (asks.Complete src.now (name_of self.old) (option_copied last.entry) file_id)
-            (as_answer answers.Complete result) (C.shown cluster.new) }
+        ensures came { Seen C.shown (through self.old cluster.old) cluster.new
+            (λ old new. Came old (asks.Complete src.now (name_of self.old) (option_copied last.entry) file_id)
+            (as_answer answers.Complete result) new) }
         ensures keeps { SameClient self.old self.new }
     {
         let ask = self.complete_ask(src, last, file_id)?;
@@ -195,9 +197,9 @@ impl NamenodeProtocol {
         ensures asked { AskedOnce C.serves true (asks.UpdateBlockForPipeline block.now (name_of self.old))
             (through self.old cluster.old)
             (as_answer answers.UpdateBlockForPipeline result) (through self.new cluster.new) }
-        ensures came { ReachesAll (proxy_of self.old) (C.shown cluster.old) → Came (C.shown cluster.old)
-            (asks.UpdateBlockForPipeline block.now (name_of self.old))
-            (as_answer answers.UpdateBlockForPipeline result) (C.shown cluster.new) }
+        ensures came { Seen C.shown (through self.old cluster.old) cluster.new
+            (λ old new. Came old (asks.UpdateBlockForPipeline block.now (name_of self.old)) (as_answer
+            answers.UpdateBlockForPipeline result) new) }
         ensures answered { IfOk result (λ located. C.may_answer
             (asks.UpdateBlockForPipeline block.now (name_of self.old))
             (answers.UpdateBlockForPipeline located)) }
@@ -235,10 +237,10 @@ impl NamenodeProtocol {
             num_additional_nodes
             (name_of self.old) existing_storage_uuids.now) (through self.old cluster.old)
             (as_answer answers.GetAdditionalDatanode result) (through self.new cluster.new) }
-        ensures came { ReachesAll (proxy_of self.old) (C.shown cluster.old) → Came (C.shown cluster.old)
-            (asks.GetAdditionalDatanode src.now blk.now existings.now excludes.now num_additional_nodes
-            (name_of self.old) existing_storage_uuids.now)
-            (as_answer answers.GetAdditionalDatanode result) (C.shown cluster.new) }
+        ensures came { Seen C.shown (through self.old cluster.old) cluster.new
+            (λ old new. Came old (asks.GetAdditionalDatanode src.now blk.now existings.now excludes.now
+            num_additional_nodes (name_of self.old) existing_storage_uuids.now) (as_answer
+            answers.GetAdditionalDatanode result) new) }
         ensures answered { IfOk result (λ located. C.may_answer
             (asks.GetAdditionalDatanode src.now blk.now existings.now excludes.now num_additional_nodes
             (name_of self.old) existing_storage_uuids.now) (answers.GetAdditionalDatanode located)) }
@@ -278,9 +280,9 @@ impl NamenodeProtocol {
             new_nodes.now
             storage_ids.now) (through self.old cluster.old) (as_answer (λ _. answers.UpdatePipeline) result)
             (through self.new cluster.new) }
-        ensures came { ReachesAll (proxy_of self.old) (C.shown cluster.old) → Came (C.shown cluster.old)
-            (asks.UpdatePipeline (name_of self.old) old_block.now new_block.now new_nodes.now storage_ids.now)
-            (as_answer (λ _. answers.UpdatePipeline) result) (C.shown cluster.new) }
+        ensures came { Seen C.shown (through self.old cluster.old) cluster.new
+            (λ old new. Came old (asks.UpdatePipeline (name_of self.old) old_block.now new_block.now
+            new_nodes.now storage_ids.now) (as_answer (λ _. answers.UpdatePipeline) result) new) }
         ensures keeps { SameClient self.old self.new }
     {
         let ask = self.update_pipeline_ask(old_block, new_block, new_nodes, storage_ids)?;

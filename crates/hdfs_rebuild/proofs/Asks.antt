@@ -1,8 +1,9 @@
 -- What is asked between two pipelines, and what comes of it.
-use Rattle.std.proofs.Common.{◌≡◌, ◌≢◌, ◌⊎◌, inl, inr, ℕ, List, Some, refl}
+use Rattle.std.proofs.Common.{◌≡◌, ◌≢◌, ◌⊎◌, inl, inr, ℕ, Bool, List, Some, refl}
 use Rattle.std.specs.Prelude.{Result, Ok, Err}
 use Rattle.hdfs_cluster.specs.declared.asks.Answer.{Answer}
 use Rattle.hdfs_cluster.specs.declared.asks.Ask.{Ask}
+use Rattle.hdfs_cluster.specs.declared.asks.AskFault.{AskFault}
 use Rattle.hdfs_cluster.specs.declared.errors.HdfsError.{HdfsError}
 use Rattle.hdfs_cluster.specs.declared.errors.HdfsError.TheVariants as errors
 use Rattle.hdfs_cluster.specs.Failures.{CallsRose}
@@ -10,9 +11,11 @@ use Rattle.hdfs_cluster.specs.Effects.{KeepsBytes}
 use Rattle.hdfs_cluster.specs.Namenode.{Row, FoundNothing, IsFalse, IsRefusal}
 use Rattle.hdfs_cluster.specs.Picture.{Picture, SameButActive}
 use Rattle.hdfs_cluster.specs.Repeating.{DoneOrNot, Leaves, Repeats}
-use Rattle.hdfs_cluster.specs.Shown.{Shown, SameReadPlaces}
+use Rattle.hdfs_cluster.specs.Shown.{Shown, SameReadPlaces, Served}
 use Rattle.hdfs_cluster.proofs.Frames.{told_weaker}
+use Rattle.hdfs_namenode.specs.Asked.{AskedOnce, Through}
 use Rattle.hdfs_namenode.specs.Relaying.{Came, TellsAsk}
+use Rattle.hdfs_namenode.proofs.Observers.{once_leaves}
 use Rattle.hdfs_namenode.proofs.Relayed.{relayed_done, relayed_rose, relayed_row}
 use Rattle.hdfs_rebuild.specs.Between.{KeepsLinks}
 
@@ -26,6 +29,13 @@ leaves_links a b leaves = record {
   };
   writes = leaves.writes;
 }
+
+pub once_links : {C : Type 0} (shown : C → Shown) (serves : C → ℕ → Ask → Result Answer AskFault → C → Type 0)
+    → ((old new : C) (i : ℕ) (ask : Ask) (result : Result Answer AskFault) → serves old i ask result new → Served (shown old) i ask result (shown new))
+    → (write : Bool) (ask : Ask) (old : Through C) (outcome : Result Answer HdfsError) (new : Through C) → AskedOnce serves write ask old outcome new
+    → KeepsLinks (shown old.cluster) (shown new.cluster)
+once_links {C} shown serves rows write ask old outcome new asked =
+    leaves_links (shown old.cluster) (shown new.cluster) (once_leaves shown serves rows write ask old outcome new asked)
 
 -- what holds of the effect of an ask's row and of none holds
 by_done : (R : Type 0) (ask : Ask) (p q : Picture) → (SameButActive p q → R) → ((answer : Answer) → Row p ask answer q → R) → DoneOrNot ask p q → R

@@ -11,6 +11,7 @@ pub mod Replaying
 pub mod Restamping
 pub mod Resumed
 pub mod Resuming
+pub mod Seeing
 pub mod Stepping
 pub mod Tried
 pub mod Trying

@@ -1,6 +1,7 @@
 -- What comes of the steps by which a pipeline is set up to go on with a block.
-use Rattle.std.proofs.Common.{◌≡◌, inl, inr, ℕ, ◌≤◌, List, length, None, sym, subst}
+use Rattle.std.proofs.Common.{◌≡◌, inl, inr, ℕ, ◌≤◌, List, length, Some, None, IsSome, refl, sym, ◌∙◌, subst}
 use Rattle.hdfs_wire.specs.Outgoing.{Outgoing}
+use Rattle.hdfs_cluster.specs.declared.picture.OpenWrite.{OpenWrite}
 use Rattle.hdfs_cluster.specs.Namenode.{IsToWrite}
 use Rattle.hdfs_cluster.specs.Pipes.{WriteEnded, WriteOpened}
 use Rattle.hdfs_cluster.specs.Shown.{Shown}
@@ -11,12 +12,20 @@ use Rattle.hdfs_rebuild.specs.declared.attempts.Resumption.TheVariants as resump
 use Rattle.hdfs_rebuild.specs.declared.block_plan.BlockPlan.{BlockPlan}
 use Rattle.hdfs_rebuild.specs.declared.block_plan.WriteFault.{WriteFault}
 use Rattle.hdfs_rebuild.specs.declared.opening.Opening.{Opening}
+use Rattle.hdfs_rebuild.specs.declared.replay.Resending.{Resending}
 use Rattle.hdfs_rebuild.specs.declared.replay.SentAgain.{SentAgain}
 use Rattle.hdfs_rebuild.specs.Opening.{setup_for}
 use Rattle.hdfs_rebuild.specs.Resuming.{SendsAndNames, SendsOrNamesNot}
 use Rattle.hdfs_rebuild.specs.Trying.{Collects, CollectsNot, Resumed, ResumedNot, course_of, with_plan}
 use Rattle.hdfs_rebuild.proofs.Attempting.{stands_again, falls_again, collects_not, names_not, stops_short}
 use Rattle.hdfs_rebuild.proofs.Ending.{Drifts}
+
+-- a link that was open is so still where packets weren't sent on it, or the pipeline wasn't named
+pub unsent_open : (task : Resending) (stamp : ℕ) (plan : BlockPlan) (old : Shown) (fault : WriteFault) (new : Shown) (write : OpenWrite)
+    → old.writes task.link ≡ Some write → SendsOrNamesNot task stamp plan old fault new → IsSome (new.writes task.link)
+unsent_open task stamp plan old fault new write is (inl (memory, stops)) = subst IsSome (sym (stops.on.still_open write is).1) refl
+unsent_open task stamp plan old fault new write is (inr (sent, between, sends, links, not)) =
+    subst IsSome (sym (links.writes task.link ∙ sends.drove.drives.1)) refl
 
 module _ (plan : BlockPlan) (opening : Opening) (client : List ℕ) (replay : List Outgoing) (link : ℕ) (core : Pipeline)
     (a b : Shown) (to_write : IsToWrite plan.block)

@@ -5,8 +5,9 @@ ghost use Rattle.hdfs_cluster.specs.declared.picture.OpenWrite.{OpenWrite};
 ghost use Rattle.hdfs_cluster.specs.Namenode.{IsToWrite};
 ghost use Rattle.hdfs_cluster.specs.Requests.{AskOf, LetsGoOn};
 ghost use Rattle.hdfs_cluster.specs.declared.asks.Ask.TheVariants as asks;
-ghost use Rattle.hdfs_namenode.specs.Asked.{ReachesAll};
-ghost use Rattle.hdfs_namenode.specs.Clients.{SameClient, name_of, proxy_of};
+ghost use Rattle.hdfs_namenode.specs.Asked.{IsServiceOf};
+ghost use Rattle.hdfs_namenode.specs.Clients.{SameClient, name_of, proxy_of, through};
+ghost use Rattle.hdfs_namenode.specs.Views.{Seen};
 ghost use Rattle.hdfs_pipeline.specs.Driving.{Drives, IsGoing};
 ghost use Rattle.hdfs_pipeline.specs.Pipelines.{Done};
 ghost use Rattle.hdfs_pipeline.specs.Places.{ArePlaces};
@@ -113,17 +114,17 @@ fn replay_and_name<C: Cluster>(
     stamp: u64,
     task: Resending,
 ) -> Result<SentAgain, WriteFault>
-    requires reaches { ReachesAll (proxy_of namenode.old) (C.shown cluster.old) }
+    requires service { IsServiceOf (proxy_of namenode.old) (C.shown cluster.old) }
     requires allowed { C.allows (AskOf (asks.UpdatePipeline (name_of namenode.old)
         (with_stamp_of plan.now.block.b stamp) plan.now.block.b (map (λ node. node.id) plan.now.block.locs)
         plan.now.block.storage_ids)) }
     requires going { IsGoing (C.shown cluster.old) task.link task.core }
     requires packets { (task.core.pushed ≡ []) × IsReplay task.core.window task.replay }
     requires fresh { (write : OpenWrite) → (C.shown cluster.old).writes task.link ≡ Some write → write.end ≡ None }
-    ensures ok { IfOk result (λ sent. SendsAndNames task stamp plan.now (C.shown cluster.old) sent
-        (C.shown cluster.new)) }
-    ensures err { IfErr result (λ fault. SendsOrNamesNot task stamp plan.now (C.shown cluster.old) fault
-        (C.shown cluster.new)) }
+    ensures ok { IfOk result (λ sent. Seen C.shown (through namenode.old cluster.old) cluster.new
+        (λ old new. SendsAndNames task stamp plan.now old sent new)) }
+    ensures err { IfErr result (λ fault. Seen C.shown (through namenode.old cluster.old) cluster.new
+        (λ old new. SendsOrNamesNot task stamp plan.now old fault new)) }
     ensures client { SameClient namenode.old namenode.new }
 {
     let Resending { core, link, replay } = task;
@@ -173,13 +174,15 @@ fn resume_by<C: Cluster>(
     opening: Opening,
     replay: List<WritePacket>,
 ) -> Result<Resumption, WriteFault>
-    requires reaches { ReachesAll (proxy_of namenode.old) (C.shown cluster.old) }
+    requires service { IsServiceOf (proxy_of namenode.old) (C.shown cluster.old) }
     requires allowed { LetsResume C.allows C.may_answer (name_of namenode.old) plan.now opening }
     requires block { IsToWrite plan.now.block }
     requires packets { (1 ≤ opening.window) × (opening.window ≤ 1000) × IsReplay opening.window replay }
-    ensures ok { IfOk result (λ resumed. Resumed (course_of plan.now opening (name_of namenode.old) replay)
-        (C.shown cluster.old) (with_plan plan.now resumed) (C.shown cluster.new)) }
-    ensures err { IfErr result (λ fault. ResumedNot plan.now (C.shown cluster.old) fault (C.shown cluster.new)) }
+    ensures ok { IfOk result (λ resumed. Seen C.shown (through namenode.old cluster.old) cluster.new
+        (λ old new. Resumed (course_of plan.now opening (name_of namenode.old) replay) old (with_plan plan.now
+        resumed) new)) }
+    ensures err { IfErr result (λ fault. Seen C.shown (through namenode.old cluster.old) cluster.new
+        (λ old new. ResumedNot plan.now old fault new)) }
     ensures client { SameClient namenode.old namenode.new }
 {
     let client = namenode.client_name();
@@ -224,13 +227,14 @@ fn resume<C: Cluster>(
     opening: Opening,
     replay: List<WritePacket>,
 ) -> Result<Attempt, WriteFault>
-    requires reaches { ReachesAll (proxy_of namenode.old) (C.shown cluster.old) }
+    requires service { IsServiceOf (proxy_of namenode.old) (C.shown cluster.old) }
     requires allowed { LetsResume C.allows C.may_answer (name_of namenode.old) plan opening }
     requires block { IsToWrite plan.block }
     requires packets { (1 ≤ opening.window) × (opening.window ≤ 1000) × IsReplay opening.window replay }
-    ensures ok { IfOk result (λ attempt. Resumed (course_of plan opening (name_of namenode.old) replay)
-        (C.shown cluster.old) attempt (C.shown cluster.new)) }
-    ensures err { IfErr result (λ fault. ResumedNot plan (C.shown cluster.old) fault (C.shown cluster.new)) }
+    ensures ok { IfOk result (λ attempt. Seen C.shown (through namenode.old cluster.old) cluster.new
+        (λ old new. Resumed (course_of plan opening (name_of namenode.old) replay) old attempt new)) }
+    ensures err { IfErr result (λ fault. Seen C.shown (through namenode.old cluster.old) cluster.new
+        (λ old new. ResumedNot plan old fault new)) }
     ensures client { SameClient namenode.old namenode.new }
 {
     match resume_by(alloc, cluster, namenode, &plan, opening, replay) {
@@ -252,15 +256,15 @@ fn next_plan<C: Cluster>(
     settings: &RebuildSettings,
     failed: &[u32],
 ) -> Result<BlockPlan, WriteFault>
-    requires reaches { ReachesAll (proxy_of namenode.old) (C.shown cluster.old) }
+    requires service { IsServiceOf (proxy_of namenode.old) (C.shown cluster.old) }
     requires allowed { LetsGoOn C.allows C.may_answer (name_of namenode.old) plan.src plan.block }
     requires block { IsToWrite plan.block × ArePlaces (length plan.block.locs) failed.now }
     requires rebuilds { plan.rebuilds ≤ settings.now.rebuild_limit }
     ensures links { KeepsLinks (C.shown cluster.old) (C.shown cluster.new) }
-    ensures ok { IfOk result (λ plan'. GivesPlan plan settings.now failed.now (C.shown cluster.old) plan'
-        (C.shown cluster.new)) }
-    ensures err { IfErr result (λ fault.
-        GivesNoPlan settings.now (standing plan failed.now (C.shown cluster.old)) fault (C.shown cluster.new)) }
+    ensures ok { IfOk result (λ plan'. Seen C.shown (through namenode.old cluster.old) cluster.new
+        (λ old new. GivesPlan plan settings.now failed.now old plan' new)) }
+    ensures err { IfErr result (λ fault. Seen C.shown (through namenode.old cluster.old) cluster.new
+        (λ old new. GivesNoPlan settings.now (standing plan failed.now old) fault new)) }
     ensures client { SameClient namenode.old namenode.new }
     ensures answered { IfOk result (IsRenewed C.may_answer (name_of namenode.old) plan) }
 {
@@ -289,13 +293,15 @@ fn try_once<C: Cluster>(
     fallen: Fallen,
     unsent: u64,
 ) -> Result<Attempt, WriteFault>
-    requires reaches { ReachesAll (proxy_of namenode.old) (C.shown cluster.old) }
+    requires service { IsServiceOf (proxy_of namenode.old) (C.shown cluster.old) }
     requires allowed { LetsGoOn C.allows C.may_answer (name_of namenode.old) fallen.plan.src fallen.plan.block }
     requires can { CanRebuild fallen settings.now unsent }
-    ensures ok { IfOk result (λ attempt. Attempted (task_of settings.now (name_of namenode.old) fallen.replay unsent)
-        (fallen_at fallen (C.shown cluster.old)) attempt (C.shown cluster.new)) }
-    ensures err { IfErr result (λ fault. GaveNone (task_of settings.now (name_of namenode.old) fallen.replay unsent)
-        (fallen_at fallen (C.shown cluster.old)) fault (C.shown cluster.new)) }
+    ensures ok { IfOk result (λ attempt. Seen C.shown (through namenode.old cluster.old) cluster.new
+        (λ old new. Attempted (task_of settings.now (name_of namenode.old) fallen.replay unsent) (fallen_at
+        fallen old) attempt new)) }
+    ensures err { IfErr result (λ fault. Seen C.shown (through namenode.old cluster.old) cluster.new
+        (λ old new. GaveNone (task_of settings.now (name_of namenode.old) fallen.replay unsent) (fallen_at
+        fallen old) fault new)) }
     ensures answered { IfOk result (λ attempt.
         StaysAnswered C.may_answer (name_of namenode.old) fallen.plan (plan_of attempt)) }
     ensures client { SameClient namenode.old namenode.new }
@@ -327,14 +333,15 @@ pub fn rebuild<C: Cluster>(
     fallen: Fallen,
     unsent: u64,
 ) -> Result<BlockPipeline, WriteFault>
-    requires reaches { ReachesAll (proxy_of namenode.old) (C.shown cluster.old) }
+    requires service { IsServiceOf (proxy_of namenode.old) (C.shown cluster.old) }
     requires allowed { LetsGoOn C.allows C.may_answer (name_of namenode.old) fallen.plan.src fallen.plan.block }
     requires can { CanRebuild fallen settings.now unsent }
-    ensures ok { IfOk result (λ rebuilt. RebuiltAfter (task_of settings.now (name_of namenode.old) fallen.replay unsent)
-        (fallen_at fallen (C.shown cluster.old)) rebuilt (C.shown cluster.new)) }
-    ensures err { IfErr result (λ fault. GaveNoneAfter (task_of settings.now (name_of namenode.old) fallen.replay
-        unsent)
-        (fallen_at fallen (C.shown cluster.old)) fault (C.shown cluster.new)) }
+    ensures ok { IfOk result (λ rebuilt. Seen C.shown (through namenode.old cluster.old) cluster.new
+        (λ old new. RebuiltAfter (task_of settings.now (name_of namenode.old) fallen.replay unsent) (fallen_at
+        fallen old) rebuilt new)) }
+    ensures err { IfErr result (λ fault. Seen C.shown (through namenode.old cluster.old) cluster.new
+        (λ old new. GaveNoneAfter (task_of settings.now (name_of namenode.old) fallen.replay unsent) (fallen_at
+        fallen old) fault new)) }
     ensures answered { IfOk result (λ rebuilt.
         StaysAnswered C.may_answer (name_of namenode.old) fallen.plan rebuilt.plan) }
     ensures client { SameClient namenode.old namenode.new }

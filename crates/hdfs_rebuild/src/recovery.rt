@@ -1,10 +1,11 @@
 //! What namenodes are asked for while a block gets another pipeline: its generation stamp, and its datanodes in the block table.
 
 ghost use Rattle.std.specs.Prelude.{◌≡◌, IfOk, IfErr, OnOk, map};
-ghost use Rattle.hdfs_namenode.specs.Asked.{ReachesAll};
+ghost use Rattle.hdfs_namenode.specs.Asked.{IsServiceOf};
 ghost use Rattle.hdfs_cluster.specs.Requests.{AskOf, IsStamped};
 ghost use Rattle.hdfs_cluster.specs.declared.asks.Ask.TheVariants as asks;
-ghost use Rattle.hdfs_namenode.specs.Clients.{SameClient, name_of, proxy_of};
+ghost use Rattle.hdfs_namenode.specs.Clients.{SameClient, name_of, proxy_of, through};
+ghost use Rattle.hdfs_namenode.specs.Views.{Seen};
 ghost use Rattle.hdfs_rebuild.specs.Between.{KeepsLinks};
 ghost use Rattle.hdfs_rebuild.specs.Opening.{with_stamp_of};
 ghost use Rattle.hdfs_rebuild.specs.Resuming.{fault_of_ask, with_stamp, Restamps, RestampsNot, NamesIt, NamesSo, NamesNot};
@@ -32,11 +33,13 @@ pub(crate) fn restamp<C: Cluster>(
     namenode: &mut NamenodeProtocol,
     plan: BlockPlan,
 ) -> Result<BlockPlan, WriteFault>
-    requires reaches { ReachesAll (proxy_of namenode.old) (C.shown cluster.old) }
+    requires service { IsServiceOf (proxy_of namenode.old) (C.shown cluster.old) }
     requires allowed { C.allows (AskOf (asks.UpdateBlockForPipeline plan.block.b (name_of namenode.old))) }
     ensures links { KeepsLinks (C.shown cluster.old) (C.shown cluster.new) }
-    ensures restamps { IfOk result (λ plan'. Restamps plan (C.shown cluster.old) plan' (C.shown cluster.new)) }
-    ensures err { IfErr result (λ fault. RestampsNot plan (C.shown cluster.old) fault (C.shown cluster.new)) }
+    ensures restamps { IfOk result (λ plan'. Seen C.shown (through namenode.old cluster.old) cluster.new
+        (λ old new. Restamps plan old plan' new)) }
+    ensures err { IfErr result (λ fault. Seen C.shown (through namenode.old cluster.old) cluster.new
+        (λ old new. RestampsNot plan old fault new)) }
     ensures client { SameClient namenode.old namenode.new }
     ensures stamped { IfOk result (λ plan'. IsStamped C.may_answer (name_of namenode.old) plan'.block.b
         plan.block.b.generation_stamp plan'.block.b.generation_stamp plan'.block.block_token) }
@@ -80,14 +83,15 @@ pub(crate) fn name_pipeline<C: Cluster>(
     plan: &BlockPlan,
     stamp: u64,
 ) -> Result<(), WriteFault>
-    requires reaches { ReachesAll (proxy_of namenode.old) (C.shown cluster.old) }
+    requires service { IsServiceOf (proxy_of namenode.old) (C.shown cluster.old) }
     requires allowed { C.allows (AskOf (asks.UpdatePipeline (name_of namenode.old)
         (with_stamp_of plan.now.block.b stamp) plan.now.block.b (map (λ node. node.id) plan.now.block.locs)
         plan.now.block.storage_ids)) }
     ensures links { KeepsLinks (C.shown cluster.old) (C.shown cluster.new) }
-    ensures names { OnOk result (NamesSo (NamesIt stamp plan.now) plan.now (C.shown cluster.old)
-        (C.shown cluster.new)) }
-    ensures err { IfErr result (λ fault. NamesNot stamp plan.now (C.shown cluster.old) fault (C.shown cluster.new)) }
+    ensures names { OnOk result (Seen C.shown (through namenode.old cluster.old) cluster.new
+        (λ old new. NamesSo (NamesIt stamp plan.now) plan.now old new)) }
+    ensures err { IfErr result (λ fault. Seen C.shown (through namenode.old cluster.old) cluster.new
+        (λ old new. NamesNot stamp plan.now old fault new)) }
     ensures client { SameClient namenode.old namenode.new }
 {
     let ids = ids_of(alloc, plan.block.locs.as_slice())?;

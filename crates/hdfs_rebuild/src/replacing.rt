@@ -4,8 +4,9 @@ ghost use Rattle.std.specs.Prelude.{◌≡◌, ◌<◌, [], ◌∷◌, IfOk, OnO
 ghost use Rattle.hdfs_cluster.specs.Effects.{HasOneMore};
 ghost use Rattle.hdfs_cluster.specs.Namenode.{IsToWrite};
 ghost use Rattle.hdfs_cluster.specs.Requests.{IsEnlarged, LetsGoOn};
-ghost use Rattle.hdfs_namenode.specs.Asked.{ReachesAll};
-ghost use Rattle.hdfs_namenode.specs.Clients.{SameClient, name_of, proxy_of};
+ghost use Rattle.hdfs_namenode.specs.Asked.{IsServiceOf};
+ghost use Rattle.hdfs_namenode.specs.Clients.{SameClient, name_of, proxy_of, through};
+ghost use Rattle.hdfs_namenode.specs.Views.{Seen};
 ghost use Rattle.hdfs_rebuild.specs.Between.{KeepsLinks};
 ghost use Rattle.hdfs_rebuild.specs.Plans.{StaysAnswered};
 ghost use Rattle.hdfs_rebuild.specs.Replacing.{place_of, place_beside, with_nodes, fault_of_none, fault_of_transfer, GivesToAdded, GivesBlock, GivesNoBlock, AddsNode, AddsNone, Completes, CompletesNot};
@@ -151,13 +152,14 @@ fn add_datanode<C: Cluster>(
     plan: &BlockPlan,
     excluded: &[DatanodeInfo],
 ) -> Result<LocatedBlock, WriteFault>
-    requires reaches { ReachesAll (proxy_of namenode.old) (C.shown cluster.old) }
+    requires service { IsServiceOf (proxy_of namenode.old) (C.shown cluster.old) }
     requires allowed { LetsGoOn C.allows C.may_answer (name_of namenode.old) plan.now.src plan.now.block }
     requires block { IsToWrite plan.now.block }
     ensures links { KeepsLinks (C.shown cluster.old) (C.shown cluster.new) }
-    ensures adds { IfOk result (λ located. AddsNode plan.now excluded.now (C.shown cluster.old) located
-        (C.shown cluster.new)) }
-    ensures err { IfErr result (λ fault. AddsNone plan.now (C.shown cluster.old) fault (C.shown cluster.new)) }
+    ensures adds { IfOk result (λ located. Seen C.shown (through namenode.old cluster.old) cluster.new
+        (λ old new. AddsNode plan.now excluded.now old located new)) }
+    ensures err { IfErr result (λ fault. Seen C.shown (through namenode.old cluster.old) cluster.new
+        (λ old new. AddsNone plan.now old fault new)) }
     ensures answered { IfOk result (IsEnlarged C.may_answer (name_of namenode.old) plan.now.src plan.now.block.b) }
     ensures client { SameClient namenode.old namenode.new }
 {
@@ -192,14 +194,14 @@ pub(crate) fn complete<C: Cluster>(
     settings: &RebuildSettings,
     excluded: &[DatanodeInfo],
 ) -> Result<BlockPlan, WriteFault>
-    requires reaches { ReachesAll (proxy_of namenode.old) (C.shown cluster.old) }
+    requires service { IsServiceOf (proxy_of namenode.old) (C.shown cluster.old) }
     requires allowed { LetsGoOn C.allows C.may_answer (name_of namenode.old) plan.src plan.block }
     requires block { IsToWrite plan.block }
     ensures links { KeepsLinks (C.shown cluster.old) (C.shown cluster.new) }
-    ensures completes { IfOk result (λ plan'. Completes plan settings.now excluded.now (C.shown cluster.old) plan'
-        (C.shown cluster.new)) }
-    ensures err { IfErr result (λ fault. CompletesNot plan settings.now (C.shown cluster.old) fault
-        (C.shown cluster.new)) }
+    ensures completes { IfOk result (λ plan'. Seen C.shown (through namenode.old cluster.old) cluster.new
+        (λ old new. Completes plan settings.now excluded.now old plan' new)) }
+    ensures err { IfErr result (λ fault. Seen C.shown (through namenode.old cluster.old) cluster.new
+        (λ old new. CompletesNot plan settings.now old fault new)) }
     ensures answered { IfOk result (StaysAnswered C.may_answer (name_of namenode.old) plan) }
     ensures client { SameClient namenode.old namenode.new }
 {

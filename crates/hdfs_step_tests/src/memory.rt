@@ -3,9 +3,11 @@
 mod asking;
 mod calling;
 mod case;
+mod clients;
 mod failing;
 mod files;
 mod globbing;
+mod keeping;
 mod leasing;
 mod loading;
 mod making;

@@ -3,22 +3,25 @@ ghost use Rattle.hdfs_cluster.specs.Loading.{AreValid};
 
 use crate::memory::planning::{self, Plans};
 use crate::memory::{
-    asking, calling, files, globbing, loading, reading, seeing, storing, streaming, writing,
+    asking, calling, clients, files, globbing, keeping, loading, reading, seeing, storing,
+    streaming, writing,
 };
 use crate::steps::{Said, Stage, Words, small};
-use hdfs_cluster::{MemSettings, ServerDefaults};
+use hdfs_client::Client;
+use hdfs_cluster::{Cluster, MemSettings, ServerDefaults};
 use hdfs_mem_cluster::MemCluster;
 use hdfs_namenode::{NameServiceProxy, NamenodeProtocol};
 use hdfs_wire::NoMemory;
 use std::alloc::Global;
 
-/// A cluster in memory, a client that asks its namenodes, and plans of faults that are tried alone. Each stands in a box, so that it is let
-/// go of in one step, which keeps proofs short.
+/// A cluster in memory, what asks its namenodes for a client, a client that is kept, and plans of faults that are tried alone. Each stands in
+/// a box, so that it is let go of in one step, which keeps proofs short.
 #[derive(Drop)]
 pub(crate) struct Case {
     alloc: Global,
     cluster: Box<MemCluster>,
     client: Box<NamenodeProtocol>,
+    kept: Box<Client>,
     plans: Box<Plans>,
 }
 
@@ -33,6 +36,11 @@ fn cluster_of(alloc: Global, settings: MemSettings) -> Result<Box<MemCluster>, N
 fn client_of(alloc: Global, namenodes: u32) -> Result<Box<NamenodeProtocol>, NoMemory> {
     let service = NameServiceProxy::new(0, namenodes.max(1), false, false);
     Ok(Box::new(alloc, NamenodeProtocol::new(alloc, service, [0; 16])?)?)
+}
+
+/// A client of the cluster's services, to be kept.
+fn kept_of(alloc: Global, name: &str, namenodes: u32) -> Result<Box<Client>, NoMemory> {
+    Ok(Box::new(alloc, clients::client_named(alloc, name, namenodes)?)?)
 }
 
 /// The settings of scripts, but for what a step names: how many namenodes there are, which one is active, how many datanodes there are, and
@@ -58,6 +66,7 @@ impl Case {
             alloc,
             cluster: cluster_of(alloc, MemSettings::of_scripts())?,
             client: client_of(alloc, 1)?,
+            kept: kept_of(alloc, "plain", 1)?,
             plans: Plans::new(alloc)?,
         })
     }
@@ -82,6 +91,14 @@ impl Case {
         }
         match client_of(self.alloc, settings.namenodes) {
             Ok(client) => self.client = client,
+            Err(_) => said.fails("NoMemory"),
+        }
+    }
+
+    /// Another client is kept.
+    fn keep(&mut self, name: &str, said: &mut Said) {
+        match kept_of(self.alloc, name, self.cluster.namenodes()) {
+            Ok(client) => self.kept = client,
             Err(_) => said.fails("NoMemory"),
         }
     }
@@ -127,6 +144,8 @@ impl Stage for Case {
             "storeFile" | "goOn" | "lend" | "giveBack" | "giveUp" => storing::take(
                 self.alloc, cluster, words, said,
             ),
+            "client" => self.keep(words[1], said),
+            "by" => keeping::take(&mut *self.kept, cluster, words, said),
             "plan" | "tally" => planning::take(self.alloc, &mut *self.plans, words, said),
             _ => self.call(words, said),
         }

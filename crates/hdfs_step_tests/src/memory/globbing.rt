@@ -2,7 +2,7 @@
 ghost use Rattle.hdfs_client.specs.Clients.{IsClientOf};
 ghost use Rattle.hdfs_mem_cluster.specs.MemShown.{shown_of};
 
-use crate::memory::files::client_of;
+use crate::memory::clients::client_of;
 use crate::memory::telling::tell_error;
 use crate::steps::{Said, Words, number};
 use hdfs_client::{Client, ClientError, FileStatus};

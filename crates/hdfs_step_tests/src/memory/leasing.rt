@@ -1,6 +1,6 @@
 //! The lease of a file that a client writes.
 ghost use Rattle.hdfs_client.specs.Clients.{IsClientOf};
-ghost use Rattle.hdfs_client.specs.Writing.{IsAnsweredTo, IsWriterOf, ReachesWhole};
+ghost use Rattle.hdfs_client.specs.Writing.{IsAnsweredTo, IsWriterOf};
 ghost use Rattle.hdfs_mem_cluster.specs.MemShown.{shown_of};
 
 use crate::memory::telling::tell_error;
@@ -64,8 +64,7 @@ pub(crate) fn lend(
     words: &Words<'_>,
     said: &mut Said,
 )
-    requires client { IsClientOf client.old (shown_of cluster.old) }
-    requires whole { ReachesWhole client.old path.now (shown_of cluster.old) }
+    requires { IsClientOf client.old (shown_of cluster.old) }
 {
     match client.create(cluster, path, &WriteOptions::default()) {
         Ok(writer) => {

@@ -1,9 +1,9 @@
 //! Files are written by a client.
 ghost use Rattle.hdfs_client.specs.Clients.{IsClientOf};
-ghost use Rattle.hdfs_client.specs.Writing.{IsAnsweredTo, IsWriterOf, ReachesWhole};
+ghost use Rattle.hdfs_client.specs.Writing.{IsAnsweredTo, IsWriterOf};
 ghost use Rattle.hdfs_mem_cluster.specs.MemShown.{shown_of};
 
-use crate::memory::files::client_of;
+use crate::memory::clients::client_of;
 use crate::memory::leasing::lend;
 use crate::memory::telling::tell_error;
 use crate::steps::{Said, Words, number};
@@ -63,8 +63,7 @@ fn write_by(
 
 /// `storeFile PATH COUNT` creates a file: so many bytes are written, and it is closed.
 fn create_by(client: &mut Client, cluster: &mut MemCluster, path: &str, count: u64, said: &mut Said)
-    requires client { IsClientOf client.old (shown_of cluster.old) }
-    requires whole { ReachesWhole client.old path.now (shown_of cluster.old) }
+    requires { IsClientOf client.old (shown_of cluster.old) }
 {
     match client.create(cluster, path, &WriteOptions::default()) {
         Ok(writer) => write_by(client, cluster, writer, count, said),
@@ -74,8 +73,7 @@ fn create_by(client: &mut Client, cluster: &mut MemCluster, path: &str, count: u
 
 /// `goOn PATH COUNT` goes on with one: so many bytes are written behind those that it has, and it is closed.
 fn append_by(client: &mut Client, cluster: &mut MemCluster, path: &str, count: u64, said: &mut Said)
-    requires client { IsClientOf client.old (shown_of cluster.old) }
-    requires whole { ReachesWhole client.old path.now (shown_of cluster.old) }
+    requires { IsClientOf client.old (shown_of cluster.old) }
 {
     match client.append(cluster, path) {
         Ok(writer) => write_by(client, cluster, writer, count, said),
@@ -84,24 +82,23 @@ fn append_by(client: &mut Client, cluster: &mut MemCluster, path: &str, count: u
 }
 
 /// One of them, or what tells of leases.
-fn store(client: &mut Client, cluster: &mut MemCluster, words: &Words<'_>, said: &mut Said)
+pub(crate) fn store(
+    client: &mut Client,
+    cluster: &mut MemCluster,
+    words: &Words<'_>,
+    said: &mut Said,
+)
     requires { IsClientOf client.old (shown_of cluster.old) }
 {
-    match client.is_whole(&*cluster, words[1]) {
-        Ok(true) => {
-            let path = words[1];
-            match words[0] {
-                "storeFile" => create_by(client, cluster, path, number(words[2]), said),
-                "goOn" => append_by(client, cluster, path, number(words[2]), said),
-                _ => lend(client, cluster, path, words, said),
-            }
-        }
-        Ok(false) => said.fails("whole"),
-        Err(_) => said.fails("NoMemory"),
+    let path = words[1];
+    match words[0] {
+        "storeFile" => create_by(client, cluster, path, number(words[2]), said),
+        "goOn" => append_by(client, cluster, path, number(words[2]), said),
+        _ => lend(client, cluster, path, words, said),
     }
 }
 
-/// A step that writes a file.
+/// A step that writes a file, by a new client of all namenodes.
 pub(crate) fn take(alloc: Global, cluster: &mut MemCluster, words: &Words<'_>, said: &mut Said) {
     match client_of(alloc, cluster.namenodes()) {
         Ok(mut client) => {

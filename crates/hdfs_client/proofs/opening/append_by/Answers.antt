@@ -2,10 +2,8 @@
 use Rattle.std.proofs.Common.{◌≡◌, inl, inr, ℕ, true, List, Option, Some, None, Ok, Err, refl, sym, ◌∙◌, ap, subst}
 use Rattle.std.proofs.lemmas.Result.{err_from_is_err_and}
 use Rattle.std.specs.Prelude.{unwrap_or}
-use Rattle.hdfs_cluster.specs.declared.errors.HdfsError.{HdfsError}
 use Rattle.hdfs_cluster.specs.declared.errors.HdfsError.TheVariants as errors
 use Rattle.hdfs_model.specs.Opening.{tells_encryption}
-use Rattle.hdfs_client.specs.Opening.{FailsToAppend}
 use Rattle.hdfs_cluster.specs.declared.asks.Answer.TheVariants as answers
 use Rattle.hdfs_cluster.specs.declared.asks.Ask.{Ask}
 use Rattle.hdfs_cluster.specs.declared.asks.Ask.TheVariants as asks
@@ -18,37 +16,41 @@ use Rattle.hdfs_client.specs.Opening.{IsFresh, sizes_by}
 use Rattle.hdfs_namenode.specs.Asked.{AskedOnce}
 use Rattle.hdfs_namenode.specs.Clients.{through}
 use Rattle.hdfs_namenode.specs.declared.proxy.NameServiceProxy.{NameServiceProxy}
+use Rattle.hdfs_namenode.specs.Views.{see}
+use Rattle.hdfs_namenode.proofs.Observers.{once_leaves}
 use Rattle.hdfs_namenode.proofs.Relayed.{came_as}
 use Rattle.hdfs_client.proofs.Answered.{answered_appended}
 use Rattle.hdfs_client.proofs.Begun.{begun_again}
 use Rattle.hdfs_client.proofs.Held.{holds_file, keeps_behind, lease_told}
-use Rattle.hdfs_client.proofs.Kept.{goes_by, goes_leases, goes_of, goes_reaches, goes_trans, going_on, keeps_same, service_from-client, service_trans}
+use Rattle.hdfs_client.proofs.Kept.{goes_by, goes_leases, goes_of, goes_service, goes_trans, goes_view, picture_seen, going_on, keeps_same, service_from-client, service_trans}
 use Rattle.hdfs_client.proofs.opening.append_by.Goals as goal
 
 whole : (a : Appended) (block : Option LocatedBlock) (stat : Option FileStatusMsg) → a.block ≡ block → a.stat ≡ stat → a ≡ record { block = block; stat = stat }
 whole a block stat one two =
     ap (λ (b : Option LocatedBlock). record { block = b; stat = a.stat }) one ∙ ap (λ (s : Option FileStatusMsg). record { block = block; stat = s }) two
 
+pub append-requires-clause-service : goal.append-requires-clause-service
+append-requires-clause-service g c = goes_service (goes_of c.in_ok-defaults.ensures.keeps) c.requires.service
+
 pub returns-in_err-block-clause-keeps : goal.returns-in_err-block-clause-keeps
 returns-in_err-block-clause-keeps g c =
     let first = goes_of c.in_ok-defaults.ensures.keeps in
-    goes_trans first (goes_by c.append.ensures.keeps (c.append.ensures.came (goes_reaches first c.requires.reaches)).relays.leaves)
+    goes_trans first (goes_by c.append.ensures.keeps (once_leaves g.C.Cluster.shown g.C.Cluster.serves g.met.C.Cluster.serves_rows _ _ _ _ _ c.append.ensures.asked))
 
 pub returns-in_err-from_str-clause-keeps : goal.returns-in_err-from_str-clause-keeps
 returns-in_err-from_str-clause-keeps g c =
     let first = goes_of c.in_ok-defaults.ensures.keeps in
-    goes_trans first (goes_by c.append.ensures.keeps (c.append.ensures.came (goes_reaches first c.requires.reaches)).relays.leaves)
+    goes_trans first (goes_by c.append.ensures.keeps (once_leaves g.C.Cluster.shown g.C.Cluster.serves g.met.C.Cluster.serves_rows _ _ _ _ _ c.append.ensures.asked))
 
 pub returns-in_default-clause-keeps : goal.returns-in_default-clause-keeps
 returns-in_default-clause-keeps g c =
     let first = goes_of c.in_ok-defaults.ensures.keeps in
-    goes_trans first (goes_by c.append.ensures.keeps (c.append.ensures.came (goes_reaches first c.requires.reaches)).relays.leaves)
+    goes_trans first (goes_by c.append.ensures.keeps (once_leaves g.C.Cluster.shown g.C.Cluster.serves g.met.C.Cluster.serves_rows _ _ _ _ _ c.append.ensures.asked))
 
-pub refuse_opened-requires-clause-reaches : goal.refuse_opened-requires-clause-reaches
-refuse_opened-requires-clause-reaches g c =
+pub refuse_opened-requires-clause-service : goal.refuse_opened-requires-clause-service
+refuse_opened-requires-clause-service g c =
     let first = goes_of c.in_ok-defaults.ensures.keeps in
-    let reaches = goes_reaches first c.requires.reaches in
-    goes_reaches (goes_by c.append.ensures.keeps (c.append.ensures.came reaches).relays.leaves) reaches
+    goes_service (goes_trans first (goes_by c.append.ensures.keeps (once_leaves g.C.Cluster.shown g.C.Cluster.serves g.met.C.Cluster.serves_rows _ _ _ _ _ c.append.ensures.asked))) c.requires.service
 
 pub refuse_opened-requires-clause-stands : goal.refuse_opened-requires-clause-stands
 refuse_opened-requires-clause-stands g c =
@@ -58,7 +60,7 @@ pub returns-then-told-clause-keeps : goal.returns-then-told-clause-keeps
 returns-then-told-clause-keeps g c =
     let first = goes_of c.in_ok-defaults.ensures.keeps in
     goes_trans first (goes_trans
-    (goes_by c.append.ensures.keeps (c.append.ensures.came (goes_reaches first c.requires.reaches)).relays.leaves)
+    (goes_by c.append.ensures.keeps (once_leaves g.C.Cluster.shown g.C.Cluster.serves g.met.C.Cluster.serves_rows _ _ _ _ _ c.append.ensures.asked))
     (service_from-client c.refuse_opened.ensures.keeps.0, c.refuse_opened.ensures.keeps.1))
 
 pub returns-clause-opened : goal.returns-clause-opened
@@ -110,22 +112,23 @@ returns-clause-begins g c =
     let first = goes_of c.in_ok-defaults.ensures.keeps in
     let is : c.in_ok-block.field-0 ≡ record { block = c.in_ok-block.block; stat = Some c.in-Some.stat } =
     whole c.in_ok-block.field-0 c.in_ok-block.block (Some c.in-Some.stat) c.in_ok-block.block-is c.in-Some.is in
-    begun_again (g.C.Cluster.shown c.args.cluster.now) (g.C.Cluster.shown c.limited_defaults.new.cluster) (g.C.Cluster.shown c.append.new.cluster)
-    c.in_ok-defaults.ensures.picture c.args.path c.args.namenode.now.client c.in_ok-hold.field-0.file c.in_ok-block.block (Some c.in-Some.stat)
-    (g.met.C.Cluster.sound c.limited_defaults.new.cluster)
+    λ view has.
+    begun_again (see view (g.C.Cluster.shown c.args.cluster.now)) (see view (g.C.Cluster.shown c.limited_defaults.new.cluster)) (see view (g.C.Cluster.shown c.append.new.cluster))
+    (c.in_ok-defaults.ensures.picture view has) c.args.path c.args.namenode.now.client c.in_ok-hold.field-0.file c.in_ok-block.block (Some c.in-Some.stat)
+    (λ p told. g.met.C.Cluster.sound c.limited_defaults.new.cluster p (picture_seen view (g.C.Cluster.shown c.limited_defaults.new.cluster) p told))
     (ap tail_of c.in_ok-hold.ensures.file.0 ∙ c.appended-writer.ensures.tail ∙ ap (λ (b : Option LocatedBlock). tail_opened b None) c.in_ok-block.block-is)
     (came_as (going_on c.as_str.ensures first.0.name) (ap (λ (x : Appended). Ok (answers.Append x)) is)
-    (c.in_ok-block.ensures.came (goes_reaches first c.requires.reaches)))
+    (c.in_ok-block.ensures.came view (goes_view view first has)))
 
 pub returns-clause-keeps : goal.returns-clause-keeps
 returns-clause-keeps g c =
     let first = goes_of c.in_ok-defaults.ensures.keeps in
-    goes_trans first (goes_leases (goes_by c.append.ensures.keeps (c.append.ensures.came (goes_reaches first c.requires.reaches)).relays.leaves) c.hold.ensures.keeps)
+    goes_trans first (goes_leases (goes_by c.append.ensures.keeps (once_leaves g.C.Cluster.shown g.C.Cluster.serves g.met.C.Cluster.serves_rows _ _ _ _ _ c.append.ensures.asked)) c.hold.ensures.keeps)
 
 pub returns-in_err-hold-clause-keeps : goal.returns-in_err-hold-clause-keeps
 returns-in_err-hold-clause-keeps g c =
     let first = goes_of c.in_ok-defaults.ensures.keeps in
-    goes_trans first (goes_leases (goes_by c.append.ensures.keeps (c.append.ensures.came (goes_reaches first c.requires.reaches)).relays.leaves) c.hold.ensures.keeps)
+    goes_trans first (goes_leases (goes_by c.append.ensures.keeps (once_leaves g.C.Cluster.shown g.C.Cluster.serves g.met.C.Cluster.serves_rows _ _ _ _ _ c.append.ensures.asked)) c.hold.ensures.keeps)
 
 pub returns-clause-stands : goal.returns-clause-stands
 returns-clause-stands g c =
@@ -245,8 +248,9 @@ returns-then-told-clause-err g c =
           at = c.appended-writer.ensures.path.0;
           id = c.appended-writer.ensures.path.2 ∙ c.told_by-told.ensures.id ∙ sym (ap id_in c.in-Some.is);
           stands = c.appended-writer.ensures.tail;
-          closes = c.refuse_opened.ensures.closes.0;
-          is = c.refuse_opened.ensures.closes.1;
+          result = c.refuse_opened.ensures.closes.0;
+          closes = c.refuse_opened.ensures.closes.1;
+          is = c.refuse_opened.ensures.closes.2;
         })));
         kept = c.refuse_opened.ensures.keeps.0.defaults ∙ c.append.ensures.keeps.defaults ∙ c.in_ok-defaults.ensures.knows.has.kept;
       }),

@@ -1,5 +1,5 @@
 -- The goals of create_by: the defaults, the ask, and the writer.
-use Rattle.std.proofs.Common.{◌≡◌, inl, inr, ℕ, true, List, false, Option, Ok, Err, refl, sym, ◌∙◌, ap, subst}
+use Rattle.std.proofs.Common.{◌≡◌, inl, inr, ℕ, true, List, false, Ok, Err, refl, sym, ◌∙◌, ap, subst}
 use Rattle.std.proofs.lemmas.Result.{err_from_is_err_and}
 use Rattle.std.specs.Prelude.{unwrap_or}
 use Rattle.hdfs_cluster.specs.declared.asks.Answer.TheVariants as answers
@@ -12,31 +12,35 @@ use Rattle.hdfs_file_writer.specs.declared.sizes.WriteSizes.{WriteSizes}
 use Rattle.hdfs_namenode.specs.Asked.{AskedOnce}
 use Rattle.hdfs_namenode.specs.Clients.{through}
 use Rattle.hdfs_namenode.specs.declared.proxy.NameServiceProxy.{NameServiceProxy}
+use Rattle.hdfs_namenode.specs.Views.{see}
+use Rattle.hdfs_namenode.proofs.Observers.{once_leaves}
 use Rattle.hdfs_namenode.proofs.Relayed.{came_as}
 use Rattle.hdfs_client.specs.Opening.{IsFresh, sizes_by}
 use Rattle.hdfs_client.proofs.Answered.{answered_created}
 use Rattle.hdfs_client.proofs.Begun.{begun_new}
 use Rattle.hdfs_client.proofs.InLimits.{are_sizes_by}
 use Rattle.hdfs_client.proofs.Held.{holds_file, keeps_behind, lease_told}
-use Rattle.hdfs_client.proofs.Kept.{goes_by, goes_leases, goes_of, goes_reaches, goes_trans, keeps_same, making, service_from-client, service_trans}
+use Rattle.hdfs_client.proofs.Kept.{goes_by, goes_leases, goes_of, goes_service, goes_trans, goes_view, keeps_same, making, service_from-client, service_trans}
 use Rattle.hdfs_client.proofs.opening.create_by.Goals as goal
+
+pub create-requires-clause-service : goal.create-requires-clause-service
+create-requires-clause-service g c = goes_service (goes_of c.in_ok-defaults.ensures.keeps) c.requires.service
 
 pub returns-in_err-status-clause-keeps : goal.returns-in_err-status-clause-keeps
 returns-in_err-status-clause-keeps g c =
     let first = goes_of c.in_ok-defaults.ensures.keeps in
-    goes_trans first (goes_by c.create.ensures.keeps (c.create.ensures.came (goes_reaches first c.requires.reaches)).relays.leaves)
+    goes_trans first (goes_by c.create.ensures.keeps (once_leaves g.C.Cluster.shown g.C.Cluster.serves g.met.C.Cluster.serves_rows _ _ _ _ _ c.create.ensures.asked))
 
-pub refuse_created-requires-clause-reaches : goal.refuse_created-requires-clause-reaches
-refuse_created-requires-clause-reaches g c =
+pub refuse_created-requires-clause-service : goal.refuse_created-requires-clause-service
+refuse_created-requires-clause-service g c =
     let first = goes_of c.in_ok-defaults.ensures.keeps in
-    let reaches = goes_reaches first c.requires.reaches in
-    goes_reaches (goes_by c.create.ensures.keeps (c.create.ensures.came reaches).relays.leaves) reaches
+    goes_service (goes_trans first (goes_by c.create.ensures.keeps (once_leaves g.C.Cluster.shown g.C.Cluster.serves g.met.C.Cluster.serves_rows _ _ _ _ _ c.create.ensures.asked))) c.requires.service
 
 pub returns-then-told-clause-keeps : goal.returns-then-told-clause-keeps
 returns-then-told-clause-keeps g c =
     let first = goes_of c.in_ok-defaults.ensures.keeps in
     goes_trans first (goes_trans
-    (goes_by c.create.ensures.keeps (c.create.ensures.came (goes_reaches first c.requires.reaches)).relays.leaves)
+    (goes_by c.create.ensures.keeps (once_leaves g.C.Cluster.shown g.C.Cluster.serves g.met.C.Cluster.serves_rows _ _ _ _ _ c.create.ensures.asked))
     (service_from-client c.refuse_created.ensures.keeps.0, c.refuse_created.ensures.keeps.1))
 
 pub new-file-requires : goal.new-file-requires
@@ -95,23 +99,24 @@ returns-clause-begins g c =
     let options = c.args.options.now in
     let d = c.in_ok-defaults.defaults in
     let made = returns-clause-created g c in
-    begun_new (g.C.Cluster.shown c.args.cluster.now) (g.C.Cluster.shown c.limited_defaults.new.cluster) (g.C.Cluster.shown c.create.new.cluster)
-    c.in_ok-defaults.ensures.picture c.args.path c.args.namenode.now.client c.in_ok-hold.field-0.file options
+    λ view has.
+    begun_new (see view (g.C.Cluster.shown c.args.cluster.now)) (see view (g.C.Cluster.shown c.limited_defaults.new.cluster)) (see view (g.C.Cluster.shown c.create.new.cluster))
+    (c.in_ok-defaults.ensures.picture view has) c.args.path c.args.namenode.now.client c.in_ok-hold.field-0.file options
     (unwrap_or options.replication d.replication) (unwrap_or options.block_size d.block_size) c.in_ok-status.status
     (ap (λ (s : WriteSizes). s.replication) made.fresh.with) (ap (λ (s : WriteSizes). s.block_size) made.fresh.with) made.fresh.stands
     (came_as (making options c.as_str.ensures first.0.name c.create_flag.ensures c.unwrap_or-replication.ensures c.unwrap_or-block_size.ensures) refl
-    (c.in_ok-status.ensures.came (goes_reaches first c.requires.reaches)))
+    (c.in_ok-status.ensures.came view (goes_view view first has)))
 
 pub returns-clause-keeps : goal.returns-clause-keeps
 returns-clause-keeps g c =
     let first = goes_of c.in_ok-defaults.ensures.keeps in
-    goes_trans first (goes_leases (goes_by c.create.ensures.keeps (c.create.ensures.came (goes_reaches first c.requires.reaches)).relays.leaves)
+    goes_trans first (goes_leases (goes_by c.create.ensures.keeps (once_leaves g.C.Cluster.shown g.C.Cluster.serves g.met.C.Cluster.serves_rows _ _ _ _ _ c.create.ensures.asked))
     c.hold.ensures.keeps)
 
 pub returns-in_err-hold-clause-keeps : goal.returns-in_err-hold-clause-keeps
 returns-in_err-hold-clause-keeps g c =
     let first = goes_of c.in_ok-defaults.ensures.keeps in
-    goes_trans first (goes_leases (goes_by c.create.ensures.keeps (c.create.ensures.came (goes_reaches first c.requires.reaches)).relays.leaves)
+    goes_trans first (goes_leases (goes_by c.create.ensures.keeps (once_leaves g.C.Cluster.shown g.C.Cluster.serves g.met.C.Cluster.serves_rows _ _ _ _ _ c.create.ensures.asked))
     c.hold.ensures.keeps)
 
 pub returns-in_err-defaults-clause-err : goal.returns-in_err-defaults-clause-err

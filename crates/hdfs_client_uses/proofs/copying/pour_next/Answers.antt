@@ -8,7 +8,11 @@ pub next-requires-clause-blocks : goal.next-requires-clause-blocks
 next-requires-clause-blocks g c = λ k default low end j ask is. c.requires.all _
 
 pub pour_piece-requires-clause-writer : goal.pour_piece-requires-clause-writer
-pour_piece-requires-clause-writer g c = (c.in-Some.ensures.files.stand c.args.writer.now c.requires.writer.0, c.in-Some.ensures.files.answered c.args.writer.now c.requires.writer.1)
+pour_piece-requires-clause-writer g c =
+    let files = c.in-Some.ensures.files in (
+      (files.stand c.args.writer.now c.requires.writer.0.0, files.wholes c.args.writer.now c.requires.writer.0.1),
+      files.answered c.args.writer.now c.requires.writer.1,
+    )
 
 pub returns-in-Some-clause-pours : goal.returns-in-Some-clause-pours
 returns-in-Some-clause-pours g c =

@@ -7,7 +7,11 @@ use Rattle.hdfs_client.specs.Opening.{BeginsNew, CreatesBy, FailsToCreate}
 use Rattle.hdfs_client.specs.Writing.{OpensAt, OpensNone, rebuilding_of}
 use Rattle.hdfs_model.specs.Limits.{are_options}
 use Rattle.hdfs_model.specs.declared.commands.WriteOptions.{WriteOptions}
-use Rattle.hdfs_client_uses.proofs.Cases.{err_is, err_so}
+use Rattle.hdfs_namenode.specs.Clients.{through}
+use Rattle.hdfs_namenode.specs.Views.{Seen}
+use Rattle.hdfs_client_uses.specs.Writing.{plain_options}
+use Rattle.hdfs_client_uses.proofs.Cases.{err_is, err_so, ok_so}
+use Rattle.hdfs_client_uses.proofs.Whole.{opens_whole}
 use Rattle.hdfs_client_uses.proofs.opening.create.Goals as goal
 
 pub create-requires-clause-allowed : goal.create-requires-clause-allowed
@@ -26,8 +30,14 @@ returns-clause-created g c =
 
 pub returns-clause-begins : goal.returns-clause-begins
 returns-clause-begins g c =
-    subst (λ (o : WriteOptions). IfOk c.create.result (λ writer. OpensAt (λ at before file lease after. BeginsNew (g.C.Cluster.shown c.args.cluster.now) at o file
-    (g.C.Cluster.shown c.create.new.cluster)) c.args.client.now c.args.path.now writer c.create.new.self)) c.default.ensures c.create.ensures.begins
+    ok_so _ _ c.create.result
+    (λ writer so. opens_whole g.C.Cluster.shown c.args.client.now c.args.cluster.now c.create.new.cluster (λ at file old new. BeginsNew old at plain_options file new) c.create.new.self
+    c.args.path.now writer c.in_ok-check_whole.ensures.ok so)
+    (subst (λ (o : WriteOptions). IfOk c.create.result (λ writer. OpensAt (λ at before file lease after. Seen g.C.Cluster.shown (through before c.args.cluster.now) c.create.new.cluster
+    (λ old new. BeginsNew old at o file new)) c.args.client.now c.args.path.now writer c.create.new.self)) c.default.ensures c.create.ensures.begins)
+
+pub returns-clause-stands : goal.returns-clause-stands
+returns-clause-stands g c = ok_so _ _ c.create.result (λ writer so. ((so.0, so.2 c.in_ok-check_whole.ensures.ok), so.1)) c.create.ensures.stands
 
 pub returns-clause-err : goal.returns-clause-err
 returns-clause-err g c =

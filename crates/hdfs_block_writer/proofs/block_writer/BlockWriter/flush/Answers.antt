@@ -1,8 +1,11 @@
 -- The goals of BlockWriter::flush.
 use Rattle.std.proofs.Common.{rules, ◌≡◌, ◌+◌, Some, None, length, arith, ap, refl}
 use Rattle.std.proofs.lemmas.Result.{err_from_is_err_and}
+use Rattle.hdfs_namenode.specs.Clients.{proxy_of}
+use Rattle.hdfs_namenode.specs.Views.{see, view_of}
 use Rattle.hdfs_block_writer.specs.Packing.{filling_of}
 use Rattle.hdfs_block_writer.proofs.Allowed.{goes_by, goes_same}
+use Rattle.hdfs_block_writer.proofs.Seeing.{holds_shown, over_seen}
 use Rattle.hdfs_block_writer.proofs.Sent.{can_push, holds_same, holds_sent, not_pushed, stays_full, wrote_sent}
 use Rattle.hdfs_block_writer.proofs.block_writer.BlockWriter.flush.Goals as goal
 
@@ -37,33 +40,39 @@ overflow_add-self g c =
 pub returns-clause-holds : goal.returns-clause-holds
 returns-clause-holds g c =
     let w = c.args.self.now in
+    let w' = record w { pipe = c.replace.new.self; packet = c.take.new.self; seqno = w.seqno + 1 } in
+    let view = view_of (proxy_of c.args.namenode.now) in
     let piped : w.pipe ≡ Some c.in-Some-take.pipe = search rules in
     let is : w.packet ≡ Some c.in-Some.packet = search rules in
     let held = c.requires.holds c.in-Some-take.pipe piped in (
-      holds_sent w (record w { pipe = c.replace.new.self; packet = c.take.new.self; seqno = w.seqno + 1 }) c.in-Some-take.pipe c.in_ok-pipe.pipe
-          c.in-Some.packet (g.C.Cluster.shown c.args.cluster.now) (g.C.Cluster.shown c.push.new.cluster) held.0 held.1 is c.in_ok-pipe.ensures.ok
-          (record { settings = refl; block_size = refl; chunk = refl; packet_size = refl }) refl refl c.take.ensures.after c.replace.ensures.after,
+      holds_shown view (g.C.Cluster.shown c.push.new.cluster) w'
+          (holds_sent w w' c.in-Some-take.pipe c.in_ok-pipe.pipe c.in-Some.packet (see view (g.C.Cluster.shown c.args.cluster.now))
+          (see view (g.C.Cluster.shown c.push.new.cluster)) held.0 (over_seen view held.1) is (c.in_ok-pipe.ensures.ok view (refl, refl))
+          (record { settings = refl; block_size = refl; chunk = refl; packet_size = refl }) refl refl c.take.ensures.after c.replace.ensures.after),
       c.take.ensures.after,
     )
 
 pub returns-clause-full : goal.returns-clause-full
 returns-clause-full g c =
     let w = c.args.self.now in
+    let view = view_of (proxy_of c.args.namenode.now) in
     let piped : w.pipe ≡ Some c.in-Some-take.pipe = search rules in
     let is : w.packet ≡ Some c.in-Some.packet = search rules in
     let held = c.requires.holds c.in-Some-take.pipe piped in
     stays_full w (record w { pipe = c.replace.new.self; packet = c.take.new.self; seqno = w.seqno + 1 }) c.in-Some-take.pipe c.in_ok-pipe.pipe
-    c.in-Some.packet (g.C.Cluster.shown c.args.cluster.now) (g.C.Cluster.shown c.push.new.cluster) held.0 held.1 is c.in_ok-pipe.ensures.ok
+    c.in-Some.packet (see view (g.C.Cluster.shown c.args.cluster.now)) (see view (g.C.Cluster.shown c.push.new.cluster)) held.0
+    (over_seen view held.1) is (c.in_ok-pipe.ensures.ok view (refl, refl))
     (record { settings = refl; block_size = refl; chunk = refl; packet_size = refl }) refl refl c.take.ensures.after c.replace.ensures.after piped
 
 pub returns-clause-wrote : goal.returns-clause-wrote
-returns-clause-wrote g c =
+returns-clause-wrote g c view has =
     let w = c.args.self.now in
     let piped : w.pipe ≡ Some c.in-Some-take.pipe = search rules in
     let is : w.packet ≡ Some c.in-Some.packet = search rules in
     let held = c.requires.holds c.in-Some-take.pipe piped in
     wrote_sent w (record w { pipe = c.replace.new.self; packet = c.take.new.self; seqno = w.seqno + 1 }) c.in-Some-take.pipe c.in_ok-pipe.pipe
-    c.in-Some.packet (g.C.Cluster.shown c.args.cluster.now) (g.C.Cluster.shown c.push.new.cluster) held.0 held.1 is c.in_ok-pipe.ensures.ok
+    c.in-Some.packet (see view (g.C.Cluster.shown c.args.cluster.now)) (see view (g.C.Cluster.shown c.push.new.cluster)) held.0
+    (over_seen view held.1) is (c.in_ok-pipe.ensures.ok view has)
     (record { settings = refl; block_size = refl; chunk = refl; packet_size = refl }) refl refl c.take.ensures.after c.replace.ensures.after piped
 
 pub returns-in_err-pipe-clause-err : goal.returns-in_err-pipe-clause-err
@@ -73,12 +82,13 @@ returns-in_err-pipe-clause-err g c =
     let piped : w.pipe ≡ Some c.in-Some-take.pipe = search rules in
     let is : w.packet ≡ Some c.in-Some.packet = search rules in
     let held = c.requires.holds c.in-Some-take.pipe piped in
-    rw (p.1, p.2) (record {
+    rw (p.1, p.2) (λ view has. record {
       failed = c.take-2.ensures.after;
       keeps = record { settings = refl; block_size = refl; chunk = refl; packet_size = refl };
       gave_up = not_pushed w c.in-Some-take.pipe c.in-Some.packet piped held.0.filled (omega (arith, held.1.starts))
           (ap filling_of is) (held.0.packet c.in-Some.packet is).next.begins
-          (g.C.Cluster.shown c.args.cluster.now) (g.C.Cluster.shown c.push.new.cluster) c.in_err-pipe.field-0.0 c.in_err-pipe.ensures.err;
+          (see view (g.C.Cluster.shown c.args.cluster.now)) (see view (g.C.Cluster.shown c.push.new.cluster)) c.in_err-pipe.field-0.0
+          (c.in_err-pipe.ensures.err view has);
     })
 
 pub returns-in_default-clause-answered : goal.returns-in_default-clause-answered

@@ -1,31 +1,37 @@
 -- The goals of BlockWriter::rebuild_ended.
 use Rattle.std.proofs.Common.{◌≡◌, [], sym, ◌∙◌, ap, subst, arith}
-use Rattle.hdfs_namenode.specs.Clients.{name_of, proxy_of}
-use Rattle.hdfs_namenode.proofs.Services.{reaches_same, same_service_refl}
+use Rattle.hdfs_cluster.specs.Shown.{Shown}
+use Rattle.hdfs_namenode.specs.Clients.{name_of, proxy_of, through}
+use Rattle.hdfs_namenode.specs.Views.{Seen, see}
+use Rattle.hdfs_namenode.proofs.Seeing.{view_same}
+use Rattle.hdfs_namenode.proofs.Services.{same_service_refl, service_same}
 use Rattle.hdfs_block_reader.specs.Carrying.{total}
 use Rattle.hdfs_rebuild.specs.declared.block_plan.BlockPlan.{BlockPlan}
 use Rattle.hdfs_rebuild.specs.Attempts.{GaveNoneAfter, RebuiltAfter, standing, task_of}
 use Rattle.hdfs_rebuild.specs.Plans.{CanRebuild, StaysAnswered}
+use Rattle.hdfs_rebuild.proofs.Seeing.{drove_seen, ended_seen, stops_seen}
 use Rattle.hdfs_rebuild.proofs.Tried.{err_by, ok_by}
 use Rattle.hdfs_block_writer.specs.Pushing.{FallsEnded, RebuildsEnded}
 use Rattle.hdfs_block_writer.proofs.EndedRebuilt.{bad_is, ended_bad, ended_given_up, ended_rebuilt, ended_same, ended_stopped, recovers_is}
+use Rattle.hdfs_block_writer.proofs.Seeing.{standing_seen}
 use Rattle.hdfs_block_writer.proofs.Standing.{can_rebuild_standing, standing_drove}
 use Rattle.hdfs_block_writer.proofs.Allowed.{lets_lengthened, stays_from}
 use Rattle.hdfs_block_writer.proofs.block_writer.BlockWriter.rebuild_ended.Goals as goal
 
 pub returns-in-Err-clause-err : goal.returns-in-Err-clause-err
-returns-in-Err-clause-err g c =
+returns-in-Err-clause-err g c view has =
     let s = c.in-Err.ensures.err in
-    ended_stopped c.args.self.now.settings c.args.pipe (g.C.Cluster.shown c.args.cluster.now) (g.C.Cluster.shown s.before)
-    (g.C.Cluster.shown c.drive_end.new.cluster) s.stopped (g.met.C.Cluster.ends_row s.before c.drive_end.new.cluster c.args.pipe.link s.ended)
+    ended_stopped c.args.self.now.settings c.args.pipe (see view (g.C.Cluster.shown c.args.cluster.now)) (see view (g.C.Cluster.shown s.before))
+    (see view (g.C.Cluster.shown c.drive_end.new.cluster)) (stops_seen view s.stopped)
+    (ended_seen view (g.met.C.Cluster.ends_row s.before c.drive_end.new.cluster c.args.pipe.link s.ended))
 
-pub rebuild-requires-clause-reaches : goal.rebuild-requires-clause-reaches
-rebuild-requires-clause-reaches g c =
+pub rebuild-requires-clause-service : goal.rebuild-requires-clause-service
+rebuild-requires-clause-service g c =
     let d = c.in-Ok-Recover.ensures.drove in
     let e = g.met.C.Cluster.ends_row d.before c.drive_end.new.cluster c.args.pipe.link d.ended in
-    reaches_same (proxy_of c.args.namenode.now) (proxy_of c.args.namenode.now) (g.C.Cluster.shown c.args.cluster.now)
+    service_same (proxy_of c.args.namenode.now) (proxy_of c.args.namenode.now) (g.C.Cluster.shown c.args.cluster.now)
     (g.C.Cluster.shown c.drive_end.new.cluster) (same_service_refl (proxy_of c.args.namenode.now))
-    (e.writes.only.later.namenodes ∙ d.drove.on.only.later.namenodes) c.requires.may.reaches
+    (e.writes.only.later.namenodes ∙ d.drove.on.only.later.namenodes) c.requires.may.service
 
 pub rebuild-requires-clause-can : goal.rebuild-requires-clause-can
 rebuild-requires-clause-can g c =
@@ -44,6 +50,7 @@ rebuild-requires-clause-can g c =
 pub returns-in-Ok-Recover-clause-err : goal.returns-in-Ok-Recover-clause-err
 returns-in-Ok-Recover-clause-err g c =
     let d = c.in-Ok-Recover.ensures.drove in
+    let proxy = proxy_of c.args.namenode.now in
     let a = g.C.Cluster.shown c.args.cluster.now in
     let z = g.C.Cluster.shown d.before in
     let m = g.C.Cluster.shown c.drive_end.new.cluster in
@@ -51,16 +58,23 @@ returns-in-Ok-Recover-clause-err g c =
     let e = g.met.C.Cluster.ends_row d.before c.drive_end.new.cluster c.args.pipe.link d.ended in
     let r = recovers_is d.last c.in-Ok-Recover.field-0 c.in-Ok-Recover.failed c.in-Ok-Recover.replay d.is_core d.has_ended d.is c.in-Ok-Recover.field-0-is in
     let task = task_of c.args.self.now.settings (name_of c.args.namenode.now) c.in-Ok-Recover.replay c.args.unsent in
-    err_by (λ fault. GaveNoneAfter task (standing c.with_length-plan.result c.in-Ok-Recover.failed m) fault n)
-    (λ fault. FallsEnded c.args.self.now.settings a c.args.pipe fault n) c.rebuild.result
-    (λ fault gave. ended_given_up c.args.self.now.settings c.args.pipe a z m d.last c.requires.may.standing c.requires.ended.0 d.drove e d.is_core
+    err_by
+    (λ fault. Seen g.C.Cluster.shown (through c.args.namenode.now c.drive_end.new.cluster) c.rebuild.new.cluster
+    (λ (s t : Shown). GaveNoneAfter task (standing c.with_length-plan.result c.in-Ok-Recover.failed s) fault t))
+    (λ fault. Seen g.C.Cluster.shown (through c.args.namenode.now c.args.cluster.now) c.rebuild.new.cluster
+    (λ (s t : Shown). FallsEnded c.args.self.now.settings s c.args.pipe fault t)) c.rebuild.result
+    (λ fault gave view has.
+    ended_given_up c.args.self.now.settings c.args.pipe (see view a) (see view z) (see view m) d.last (standing_seen view c.requires.may.standing)
+    c.requires.ended.0 (drove_seen view d.drove) (ended_seen view e) d.is_core
     (name_of c.args.namenode.now) c.in-Ok-Recover.failed c.in-Ok-Recover.replay c.args.self.now.length c.args.unsent c.requires.few.1
-    c.with_length-plan.result r.0 r.1 c.with_length-plan.ensures fault n gave)
+    c.with_length-plan.result r.0 r.1 c.with_length-plan.ensures fault (see view n)
+    (gave view (view_same view proxy proxy a m (same_service_refl proxy) (e.writes.only.later.namenodes ∙ d.drove.on.only.later.namenodes) has)))
     c.rebuild.ensures.err
 
 pub returns-in-Ok-Recover-clause-ok : goal.returns-in-Ok-Recover-clause-ok
 returns-in-Ok-Recover-clause-ok g c =
     let d = c.in-Ok-Recover.ensures.drove in
+    let proxy = proxy_of c.args.namenode.now in
     let a = g.C.Cluster.shown c.args.cluster.now in
     let z = g.C.Cluster.shown d.before in
     let m = g.C.Cluster.shown c.drive_end.new.cluster in
@@ -68,20 +82,27 @@ returns-in-Ok-Recover-clause-ok g c =
     let e = g.met.C.Cluster.ends_row d.before c.drive_end.new.cluster c.args.pipe.link d.ended in
     let r = recovers_is d.last c.in-Ok-Recover.field-0 c.in-Ok-Recover.failed c.in-Ok-Recover.replay d.is_core d.has_ended d.is c.in-Ok-Recover.field-0-is in
     let task = task_of c.args.self.now.settings (name_of c.args.namenode.now) c.in-Ok-Recover.replay c.args.unsent in
-    ok_by (λ pipe. RebuiltAfter task (standing c.with_length-plan.result c.in-Ok-Recover.failed m) pipe n)
-    (λ pipe. RebuildsEnded c.args.self.now.settings a c.args.pipe n pipe) c.rebuild.result
-    (λ pipe rebuilt. ended_rebuilt c.args.self.now.settings c.args.pipe a z m d.last c.requires.may.standing c.requires.ended.0 d.drove e d.is_core
+    ok_by
+    (λ pipe. Seen g.C.Cluster.shown (through c.args.namenode.now c.drive_end.new.cluster) c.rebuild.new.cluster
+    (λ (s t : Shown). RebuiltAfter task (standing c.with_length-plan.result c.in-Ok-Recover.failed s) pipe t))
+    (λ pipe. Seen g.C.Cluster.shown (through c.args.namenode.now c.args.cluster.now) c.rebuild.new.cluster
+    (λ (s t : Shown). RebuildsEnded c.args.self.now.settings s c.args.pipe t pipe)) c.rebuild.result
+    (λ pipe rebuilt view has.
+    ended_rebuilt c.args.self.now.settings c.args.pipe (see view a) (see view z) (see view m) d.last (standing_seen view c.requires.may.standing)
+    c.requires.ended.0 (drove_seen view d.drove) (ended_seen view e) d.is_core
     (name_of c.args.namenode.now) c.in-Ok-Recover.failed c.in-Ok-Recover.replay c.args.self.now.length c.args.unsent c.requires.few.1
-    c.with_length-plan.result r.0 r.1 c.with_length-plan.ensures pipe n rebuilt)
+    c.with_length-plan.result r.0 r.1 c.with_length-plan.ensures pipe (see view n)
+    (rebuilt view (view_same view proxy proxy a m (same_service_refl proxy) (e.writes.only.later.namenodes ∙ d.drove.on.only.later.namenodes) has)))
     c.rebuild.ensures.ok
 
 pub returns-in-Ok-Bad-clause-err : goal.returns-in-Ok-Bad-clause-err
-returns-in-Ok-Bad-clause-err g c =
+returns-in-Ok-Bad-clause-err g c view has =
     let d = c.in-Ok-Bad.ensures.drove in
     let z = g.C.Cluster.shown d.before in
     let m = g.C.Cluster.shown c.drive_end.new.cluster in
-    ended_bad c.args.self.now.settings c.args.pipe (g.C.Cluster.shown c.args.cluster.now) z m d.last c.requires.may.standing c.requires.ended.0
-    d.drove (g.met.C.Cluster.ends_row d.before c.drive_end.new.cluster c.args.pipe.link d.ended) d.is_core c.in-Ok-Bad.seqno _
+    ended_bad c.args.self.now.settings c.args.pipe (see view (g.C.Cluster.shown c.args.cluster.now)) (see view z) (see view m) d.last
+    (standing_seen view c.requires.may.standing) c.requires.ended.0 (drove_seen view d.drove)
+    (ended_seen view (g.met.C.Cluster.ends_row d.before c.drive_end.new.cluster c.args.pipe.link d.ended)) d.is_core c.in-Ok-Bad.seqno _
     (bad_is d.last c.in-Ok-Bad.field-0 c.in-Ok-Bad.seqno d.has_ended d.is c.in-Ok-Bad.field-0-is)
 
 pub rebuild-requires-clause-allowed : goal.rebuild-requires-clause-allowed

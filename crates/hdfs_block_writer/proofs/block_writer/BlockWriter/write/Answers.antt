@@ -1,6 +1,8 @@
 -- The goals of BlockWriter::write.
-use Rattle.std.proofs.Common.{rules, IsSome, arith}
+use Rattle.std.proofs.Common.{◌≡◌, None, IsSome, refl, rules, arith}
 use Rattle.std.proofs.lemmas.List.{length-take-le}
+use Rattle.hdfs_namenode.specs.Clients.{proxy_of}
+use Rattle.hdfs_namenode.specs.Views.{view_of}
 use Rattle.hdfs_block_writer.proofs.Sent.{pipe_of}
 use Rattle.hdfs_block_writer.proofs.block_writer.BlockWriter.write.Goals as goal
 
@@ -18,3 +20,9 @@ write_all-requires-clause-room g c =
     let n = c.min-taken.result in
     let least = c.min-taken.ensures in
     omega (arith, within, least, length-take-le n c.args.bytes.now (omega (arith, least)))
+
+pub returns-in_err-write_all-clause-stands : goal.returns-in_err-write_all-clause-stands
+returns-in_err-write_all-clause-stands g c pipe is =
+    let failed : c.write_all.new.self.pipe ≡ None =
+    (c.in_err-write_all.ensures.err (view_of (proxy_of c.args.namenode.now)) (refl, refl)).failed in
+    absurd (cc (failed, is))

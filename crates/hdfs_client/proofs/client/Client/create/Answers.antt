@@ -1,18 +1,22 @@
 -- A file is created by the service to which the path leads.
-use Rattle.std.proofs.Common.{◌≡◌, inr, ℕ, ◌<◌, length, List, false, refl, sym, subst}
+use Rattle.std.proofs.Common.{inr, ℕ, ◌<◌, length, List, refl, sym, subst}
 use Rattle.std.proofs.lemmas.Result.{err_from_is_err_and}
 use Rattle.hdfs_client.specs.Clients.{services_of}
 use Rattle.hdfs_file_writer.specs.Writers.{IsAnswered, Stands}
 use Rattle.hdfs_file_writer.specs.declared.file_writer.FileWriter as inner
 use Rattle.hdfs_namenode.specs.Asked.{ReachesAll}
 use Rattle.hdfs_namenode.specs.Clients.{name_of, proxy_of}
-use Rattle.hdfs_namenode.specs.declared.protocol.NamenodeProtocol.{NamenodeProtocol}
 use Rattle.hdfs_rebuild.specs.declared.block_plan.RebuildSettings.{RebuildSettings}
 use Rattle.hdfs_client.specs.Opening.{CreatesBy, FailsToCreate}
 use Rattle.hdfs_client.proofs.Beside.{keeps_files, services_but}
-use Rattle.hdfs_client.proofs.Kept.{goes_reaches}
+use Rattle.hdfs_namenode.proofs.Services.{reaches_same}
 use Rattle.hdfs_client.proofs.Serving.{at_service, client_goes, fails_at, of_put, opens_at, used}
 use Rattle.hdfs_client.proofs.client.Client.create.Goals as goal
+
+pub create_by-requires-clause-service : goal.create_by-requires-clause-service
+create_by-requires-clause-service g c =
+    c.requires.client.each c.in_ok-to.to.service c.index_mut-namenode.result.now
+    (at_service c.args.self.now c.in_ok-to.to.service c.index_mut-namenode.result.now c.in_ok-to.ensures.1 c.index_mut-namenode.ensures.value)
 
 pub create_by-requires-clause-allowed : goal.create_by-requires-clause-allowed
 create_by-requires-clause-allowed g c =
@@ -21,9 +25,9 @@ create_by-requires-clause-allowed g c =
 
 pub returns-in_err-opened-clause-client : goal.returns-in_err-opened-clause-client
 returns-in_err-opened-clause-client g c =
-    client_goes c.requires.client.0
+    client_goes c.requires.client
     (used c.args.self.now _ c.in_ok-to.to.service c.index_mut-namenode.result.now c.create_by.new.namenode c.in_ok-to.ensures.1
-    c.index_mut-namenode.ensures.value refl (refl, refl, refl)) c.create_by.ensures.keeps.0.service c.create_by.ensures.keeps.1.later
+    c.index_mut-namenode.ensures.value refl (refl, refl, refl)) c.create_by.ensures.keeps.0.service c.create_by.ensures.keeps.1.namenodes
 
 pub returns-clause-created : goal.returns-clause-created
 returns-clause-created g c =
@@ -46,18 +50,21 @@ returns-clause-stands g c =
     let within : k < length (services_of client) = subst (λ (n : ℕ). k < n) client.services.ok.0 c.in_ok-to.ensures.1 in
     let was = at_service client k c.index_mut-namenode.result.now c.in_ok-to.ensures.1 c.index_mut-namenode.ensures.value in
     let keeps = c.create_by.ensures.keeps in
-    let reaches = goes_reaches keeps (c.requires.client.1 c.in_ok-to.to c.index_mut-namenode.result.now c.in_ok-to.ensures.0 was) in (
-      of_put (λ namenode file. ReachesAll (proxy_of namenode) (g.C.Cluster.shown c.create_by.new.cluster) × Stands (g.C.Cluster.shown c.create_by.new.cluster) file)
-          (services_of client) k c.create_by.new.namenode within (reaches, c.in_ok-opened.ensures.stands.0),
+    let s = g.C.Cluster.shown c.args.cluster.now in
+    let t = g.C.Cluster.shown c.create_by.new.cluster in (
+      of_put (λ namenode file. Stands t file) (services_of client) k c.create_by.new.namenode within c.in_ok-opened.ensures.stands.0,
       of_put (λ namenode file. IsAnswered g.C.Cluster.may_answer (name_of namenode) file) (services_of client) k c.create_by.new.namenode within
           (subst (λ (n : List ℕ). IsAnswered g.C.Cluster.may_answer n c.in_ok-opened.opened.file) (sym keeps.0.name) c.in_ok-opened.ensures.stands.1),
+      λ whole. of_put (λ namenode file. ReachesAll (proxy_of namenode) t) (services_of client) k c.create_by.new.namenode {file = c.in_ok-opened.opened.file} within
+          (reaches_same (proxy_of c.index_mut-namenode.result.now) (proxy_of c.create_by.new.namenode) s t keeps.0.service keeps.1.namenodes
+          (whole c.in_ok-to.to c.index_mut-namenode.result.now c.in_ok-to.ensures.0 was)),
     )
 
 pub returns-clause-client : goal.returns-clause-client
 returns-clause-client g c =
-    client_goes c.requires.client.0
+    client_goes c.requires.client
     (used c.args.self.now _ c.in_ok-to.to.service c.index_mut-namenode.result.now c.create_by.new.namenode c.in_ok-to.ensures.1
-    c.index_mut-namenode.ensures.value refl (refl, refl, refl)) c.create_by.ensures.keeps.0.service c.create_by.ensures.keeps.1.later
+    c.index_mut-namenode.ensures.value refl (refl, refl, refl)) c.create_by.ensures.keeps.0.service c.create_by.ensures.keeps.1.namenodes
 
 pub returns-in_err-opened-clause-err : goal.returns-in_err-opened-clause-err
 returns-in_err-opened-clause-err g c =
@@ -71,11 +78,11 @@ returns-in_err-opened-clause-files g c =
     let at = used c.args.self.now _ c.in_ok-to.to.service c.index_mut-namenode.result.now c.create_by.new.namenode c.in_ok-to.ensures.1
     c.index_mut-namenode.ensures.value refl (refl, refl, refl) in
     let keeps = c.create_by.ensures.keeps in
-    keeps_files (services_but at.was at.is at.others (keeps.0.service, keeps.0.name)) keeps.1.later g.C.Cluster.allows g.C.Cluster.may_answer keeps.1.writes
+    keeps_files (services_but at.was at.is at.others (keeps.0.service, keeps.0.name)) keeps.1.namenodes g.C.Cluster.allows g.C.Cluster.may_answer keeps.1.writes
 
 pub returns-clause-files : goal.returns-clause-files
 returns-clause-files g c =
     let at = used c.args.self.now _ c.in_ok-to.to.service c.index_mut-namenode.result.now c.create_by.new.namenode c.in_ok-to.ensures.1
     c.index_mut-namenode.ensures.value refl (refl, refl, refl) in
     let keeps = c.create_by.ensures.keeps in
-    keeps_files (services_but at.was at.is at.others (keeps.0.service, keeps.0.name)) keeps.1.later g.C.Cluster.allows g.C.Cluster.may_answer keeps.1.writes
+    keeps_files (services_but at.was at.is at.others (keeps.0.service, keeps.0.name)) keeps.1.namenodes g.C.Cluster.allows g.C.Cluster.may_answer keeps.1.writes

@@ -84,8 +84,8 @@ returns-in-None-clause-steps g c =
 
 pub returns-in-Some-clause-files : goal.returns-in-Some-clause-files
 returns-in-Some-clause-files g c =
-    keeps_files c.services.invariant.services c.services.invariant.links.later g.C.Cluster.allows g.C.Cluster.may_answer c.services.invariant.links.writes
+    keeps_files c.services.invariant.services c.services.invariant.links.namenodes g.C.Cluster.allows g.C.Cluster.may_answer c.services.invariant.links.writes
 
 pub returns-in-None-clause-files : goal.returns-in-None-clause-files
 returns-in-None-clause-files g c =
-    keeps_files c.services.invariant.services c.services.invariant.links.later g.C.Cluster.allows g.C.Cluster.may_answer c.services.invariant.links.writes
+    keeps_files c.services.invariant.services c.services.invariant.links.namenodes g.C.Cluster.allows g.C.Cluster.may_answer c.services.invariant.links.writes

@@ -5,6 +5,7 @@ use Rattle.hdfs_cluster.specs.declared.errors.HdfsError.TheVariants as errors
 use Rattle.hdfs_client.proofs.Asking.{asks_at, asks_nothing, client_later, is_service}
 use Rattle.hdfs_client.proofs.Beside.{files_asked}
 use Rattle.hdfs_client.proofs.ByReaders.{located_if, made_if, memory_is, shows_if, was_there}
+use Rattle.hdfs_namenode.specs.Views.{Whole}
 use Rattle.hdfs_client.proofs.client.Client.read.Goals as goal
 
 pub returns-in_err-to-clause-asked : goal.returns-in_err-to-clause-asked
@@ -70,4 +71,4 @@ returns-clause-answered g c =
 pub returns-clause-shows : goal.returns-clause-shows
 returns-clause-shows g c =
     shows_if c.args.self.now c.args.path.now c.in_ok-found.found c.reader_of.result c.in_ok-to.to _ (g.C.Cluster.shown c.args.cluster.now) _ _ c.in_ok-to.ensures.0 c.as_str.ensures
-    (was_there c.args.self.now c.in_ok-to.to.service _ c.in_ok-to.ensures.1 c.index_mut.ensures.value) c.in_ok-found.ensures.came c.reader_of.ensures.opens
+    (was_there c.args.self.now c.in_ok-to.to.service _ c.in_ok-to.ensures.1 c.index_mut.ensures.value) (c.in_ok-found.ensures.came Whole) c.reader_of.ensures.opens

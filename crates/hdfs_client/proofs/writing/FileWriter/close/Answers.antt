@@ -2,8 +2,8 @@
 use Rattle.std.proofs.Common.{◌≡◌, ◌&&◌, ℕ, ◌<◌, Bool, true, false, Option, None, refl, sym, ◌∙◌, ap, subst}
 use Rattle.std.specs.Prelude.{is_ok, is_some}
 use Rattle.hdfs_cluster.specs.Requests.{LetsClose}
-use Rattle.hdfs_file_writer.specs.Writers.{IsAnswered, OnlyOwnLink, file_id_of, link_of, path_of}
-use Rattle.hdfs_namenode.specs.Asked.{ReachesAll}
+use Rattle.hdfs_file_writer.specs.Writers.{IsAnswered, file_id_of, path_of}
+use Rattle.hdfs_namenode.specs.Asked.{IsServiceOf}
 use Rattle.hdfs_namenode.specs.Clients.{name_of, proxy_of}
 use Rattle.hdfs_namenode.specs.declared.protocol.NamenodeProtocol.{NamenodeProtocol}
 use Rattle.hdfs_namenode.proofs.Services.{same_client_refl}
@@ -13,7 +13,7 @@ use Rattle.hdfs_client.specs.Writing as outer
 use Rattle.hdfs_client.proofs.Beside.{keeps_given, keeps_others, services_changed}
 use Rattle.hdfs_client.proofs.Given.{changes_none, may_then}
 use Rattle.hdfs_client.proofs.Serving.{below_some, client_goes, service_used, used_at}
-use Rattle.hdfs_client.proofs.Written.{close_own}
+use Rattle.hdfs_client.proofs.Written.{OwnLink, close_link}
 use Rattle.hdfs_client.proofs.writing.FileWriter.close.Goals as goal
 
 pub index_mut-requires : goal.index_mut-requires
@@ -21,11 +21,12 @@ index_mut-requires g c =
     let by = c.requires.writer.0 c.in-Some.file (sym c.in-Some.ensures.value) in
     subst (λ (n : ℕ). c.args.self.now.service < n) (sym c.args.client.now.services.ok.0) (below_some (services_of c.args.client.now) c.args.self.now.service by.0 by.1)
 
-pub close-closed-requires-clause-reaches : goal.close-closed-requires-clause-reaches
-close-closed-requires-clause-reaches g c =
+pub close-closed-requires-clause-service : goal.close-closed-requires-clause-service
+close-closed-requires-clause-service g c =
     let by = c.requires.writer.0 c.in-Some.file (sym c.in-Some.ensures.value) in
-    subst (λ (n : NamenodeProtocol). ReachesAll (proxy_of n) (g.C.Cluster.shown c.args.cluster.now))
-    (sym (service_used c.args.client.now c.args.self.now.service by.0 c.index_mut.result.now by.1 c.index_mut.ensures.value)) by.2.0
+    subst (λ (n : NamenodeProtocol). IsServiceOf (proxy_of n) (g.C.Cluster.shown c.args.cluster.now))
+    (sym (service_used c.args.client.now c.args.self.now.service by.0 c.index_mut.result.now by.1 c.index_mut.ensures.value))
+    (c.requires.client.each c.args.self.now.service by.0 by.1)
 
 pub close-closed-requires-clause-allowed : goal.close-closed-requires-clause-allowed
 close-closed-requires-clause-allowed g c =
@@ -56,8 +57,8 @@ returns-clause-client g c =
     (client_goes c.requires.client
     (used_at c.args.client.now _ c.args.self.now.service by.0 c.index_mut.result.now c.close-closed.new.namenode by.1 c.index_mut.ensures.value refl (refl, refl, refl))
     c.close-closed.ensures.client.service
-    (close_own g.C.Cluster.shown c.args.cluster.now c.close-closed.new.cluster c.in-Some.file c.close-closed.result by.2.1 c.close-closed.ensures.failed
-    c.close-closed.ensures.closed c.close-closed.ensures.err).later)
+    (close_link g.C.Cluster.shown c.index_mut.result.now c.args.cluster.now c.close-closed.new.cluster c.in-Some.file c.close-closed.result by.2
+    c.close-closed.ensures.failed c.close-closed.ensures.closed c.close-closed.ensures.err).namenodes)
 
 pub returns-clause-lease : goal.returns-clause-lease
 returns-clause-lease g c =
@@ -80,9 +81,9 @@ returns-clause-others g c =
     let given = is_ok c.close-closed.result && is_some (outer.open_of c.args.self.now) in
     let services = services_changed (keeps_given given (outer.lease_of c.args.self.now)) (returns-clause-lease g c) in
     keeps_others g.C.Cluster.allows g.C.Cluster.may_answer services c.args.self.now _
-    (subst (λ (o : Option ℕ). OnlyOwnLink (g.C.Cluster.shown c.args.cluster.now) (outer.link_of c.args.self.now) (g.C.Cluster.shown c.close-closed.new.cluster) o)
+    (subst (λ (o : Option ℕ). OwnLink (g.C.Cluster.shown c.args.cluster.now) (outer.link_of c.args.self.now) (g.C.Cluster.shown c.close-closed.new.cluster) o)
     (sym (ap outer.link_in (c.settle.ensures.shut.0 ∙ c.in-Some.ensures.after)))
-    (subst (λ (o : Option ℕ). OnlyOwnLink (g.C.Cluster.shown c.args.cluster.now) o (g.C.Cluster.shown c.close-closed.new.cluster) None)
+    (subst (λ (o : Option ℕ). OwnLink (g.C.Cluster.shown c.args.cluster.now) o (g.C.Cluster.shown c.close-closed.new.cluster) None)
     (ap outer.link_in c.in-Some.ensures.value)
-    (close_own g.C.Cluster.shown c.args.cluster.now c.close-closed.new.cluster c.in-Some.file c.close-closed.result by.2.1 c.close-closed.ensures.failed
-    c.close-closed.ensures.closed c.close-closed.ensures.err)))
+    (close_link g.C.Cluster.shown c.index_mut.result.now c.args.cluster.now c.close-closed.new.cluster c.in-Some.file c.close-closed.result by.2
+    c.close-closed.ensures.failed c.close-closed.ensures.closed c.close-closed.ensures.err)))

@@ -1,19 +1,27 @@
 -- A write by the service whose file it is.
 use Rattle.std.proofs.Common.{◌≡◌, ℕ, List, Option, refl, sym, ap, subst}
-use Rattle.hdfs_file_writer.specs.Writers.{IsAnswered, IsIdle, OnlyOwnLink, Stands, link_of}
+use Rattle.hdfs_file_writer.specs.Writers.{IsAnswered, IsIdle, Stands}
+use Rattle.hdfs_file_writer.specs.Writers as files
 use Rattle.hdfs_file_writer.specs.declared.file_writer.FileWriter.{FileWriter}
-use Rattle.hdfs_namenode.specs.Asked.{ReachesAll}
+use Rattle.hdfs_namenode.specs.Asked.{IsServiceOf, ReachesAll}
 use Rattle.hdfs_namenode.specs.Clients.{SameClient, name_of, proxy_of}
 use Rattle.hdfs_namenode.specs.declared.protocol.NamenodeProtocol.{NamenodeProtocol}
-use Rattle.hdfs_namenode.proofs.Services.{reaches_later}
-use Rattle.hdfs_client.specs.Clients.{service_at, services_of}
-use Rattle.hdfs_client.proofs.Asking.{found_at, same_some}
+use Rattle.hdfs_namenode.proofs.Services.{reaches_same}
+use Rattle.hdfs_client.specs.Clients.{services_of}
 use Rattle.hdfs_client.specs.Writing as outer
 use Rattle.hdfs_client.proofs.Beside.{keeps_others, services_but}
 use Rattle.hdfs_client.proofs.Given.{changes_by}
-use Rattle.hdfs_client.proofs.Serving.{below_some, client_goes, of_put, used_at}
-use Rattle.hdfs_client.proofs.Written.{write_own}
+use Rattle.hdfs_client.proofs.Serving.{below_some, client_goes, of_put, service_used, used_at}
+use Rattle.hdfs_client.proofs.Written.{OwnLink, write_link}
 use Rattle.hdfs_client.proofs.writing.FileWriter.write.Goals as goal
+
+pub write-requires-clause-service : goal.write-requires-clause-service
+write-requires-clause-service g c =
+    let by = c.requires.writer.0 c.in-Some.file c.in-Some.is in
+    let client = c.args.client.now in
+    let k = c.args.self.now.service in
+    subst (λ (n : NamenodeProtocol). IsServiceOf (proxy_of n) (g.C.Cluster.shown c.args.cluster.now))
+    (sym (service_used client k by.0 c.index_mut.result.now by.1 c.index_mut.ensures.value)) (c.requires.client.each k by.0 by.1)
 
 pub returns-clause-client : goal.returns-clause-client
 returns-clause-client g c =
@@ -21,30 +29,36 @@ returns-clause-client g c =
     client_goes c.requires.client
     (used_at c.args.client.now _ c.args.self.now.service by.0 c.index_mut.result.now c.write.new.namenode by.1 c.index_mut.ensures.value refl (refl, refl, refl))
     c.write.ensures.stands.2.service
-    (write_own g.C.Cluster.shown c.args.cluster.now c.write.new.cluster c.in-Some.file c.args.bytes.now c.write.result c.write.new.self
-    c.write.ensures.idle c.write.ensures.fails.1 c.write.ensures.stands.0 c.write.ensures.wrote c.write.ensures.err).later
+    (write_link g.C.Cluster.shown c.index_mut.result.now c.args.cluster.now c.write.new.cluster c.in-Some.file c.args.bytes.now c.write.result c.write.new.self
+    c.write.ensures.idle c.write.ensures.fails.1 c.write.ensures.stands.0 c.write.ensures.wrote c.write.ensures.err).namenodes
 
 pub returns-clause-writer : goal.returns-clause-writer
 returns-clause-writer g c =
-    let s = g.C.Cluster.shown c.args.cluster.now in
     let t = g.C.Cluster.shown c.write.new.cluster in
     let client = c.args.client.now in
     let k = c.args.self.now.service in
     let by = c.requires.writer.0 c.in-Some.file c.in-Some.is in
-    let answered = c.requires.writer.1 c.in-Some.file c.in-Some.is in
     let within = below_some (services_of client) k by.0 by.1 in
-    let later = (write_own g.C.Cluster.shown c.args.cluster.now c.write.new.cluster c.in-Some.file c.args.bytes.now c.write.result c.write.new.self
-    c.write.ensures.idle c.write.ensures.fails.1 c.write.ensures.stands.0 c.write.ensures.wrote c.write.ensures.err).later in
-    let same = c.write.ensures.stands.2 in
-    let is : c.index_mut.result.now ≡ by.0 = same_some by.0 c.index_mut.result.now (service_at client k) by.1
-    (found_at (services_of client) k c.index_mut.result.now within c.index_mut.ensures.value) in
-    let reaches : ReachesAll (proxy_of c.index_mut.result.now) s = subst (λ (n : NamenodeProtocol). ReachesAll (proxy_of n) s) (sym is) by.2.0 in (
-      of_put (λ namenode file. ReachesAll (proxy_of namenode) t × Stands t file) (services_of client) k c.write.new.namenode within
-          (reaches_later (proxy_of c.index_mut.result.now) (proxy_of c.write.new.namenode) s t same.service later reaches, c.write.ensures.stands.0),
+    let same = c.write.ensures.stands.2 in (
+      of_put (λ namenode file. Stands t file) (services_of client) k c.write.new.namenode within c.write.ensures.stands.0,
       of_put (λ namenode file. IsAnswered g.C.Cluster.may_answer (name_of namenode) file) (services_of client) k c.write.new.namenode within
           (subst (λ (n : List ℕ). IsAnswered g.C.Cluster.may_answer n c.write.new.self) (sym same.name) c.write.ensures.answered),
       changes_by SameClient (used_at client _ k by.0 c.index_mut.result.now c.write.new.namenode by.1 c.index_mut.ensures.value refl (refl, refl, refl)) same,
     )
+
+pub returns-clause-whole : goal.returns-clause-whole
+returns-clause-whole g c = λ whole.
+    let s = g.C.Cluster.shown c.args.cluster.now in
+    let t = g.C.Cluster.shown c.write.new.cluster in
+    let client = c.args.client.now in
+    let k = c.args.self.now.service in
+    let by = whole c.in-Some.file c.in-Some.is in
+    let reaches = subst (λ (n : NamenodeProtocol). ReachesAll (proxy_of n) s) (sym (service_used client k by.0 c.index_mut.result.now by.1 c.index_mut.ensures.value)) by.2 in
+    of_put (λ namenode file. ReachesAll (proxy_of namenode) t) (services_of client) k c.write.new.namenode {file = c.write.new.self}
+    (below_some (services_of client) k by.0 by.1)
+    (reaches_same (proxy_of c.index_mut.result.now) (proxy_of c.write.new.namenode) s t c.write.ensures.stands.2.service
+    (write_link g.C.Cluster.shown c.index_mut.result.now c.args.cluster.now c.write.new.cluster c.in-Some.file c.args.bytes.now c.write.result c.write.new.self
+    c.write.ensures.idle c.write.ensures.fails.1 c.write.ensures.stands.0 c.write.ensures.wrote c.write.ensures.err).namenodes reaches)
 
 pub returns-clause-others : goal.returns-clause-others
 returns-clause-others g c =
@@ -52,10 +66,10 @@ returns-clause-others g c =
     let at = used_at c.args.client.now _ c.args.self.now.service by.0 c.index_mut.result.now c.write.new.namenode by.1 c.index_mut.ensures.value refl (refl, refl, refl) in
     let same = c.write.ensures.stands.2 in
     let services = services_but at.was at.is at.others (same.service, same.name) in
-    let own = write_own g.C.Cluster.shown c.args.cluster.now c.write.new.cluster c.in-Some.file c.args.bytes.now c.write.result c.write.new.self
+    let own = write_link g.C.Cluster.shown c.index_mut.result.now c.args.cluster.now c.write.new.cluster c.in-Some.file c.args.bytes.now c.write.result c.write.new.self
     c.write.ensures.idle c.write.ensures.fails.1 c.write.ensures.stands.0 c.write.ensures.wrote c.write.ensures.err in
     keeps_others g.C.Cluster.allows g.C.Cluster.may_answer services c.args.self.now _
-    (subst (λ (o : Option ℕ). OnlyOwnLink (g.C.Cluster.shown c.args.cluster.now) o (g.C.Cluster.shown c.write.new.cluster) (link_of c.write.new.self))
+    (subst (λ (o : Option ℕ). OwnLink (g.C.Cluster.shown c.args.cluster.now) o (g.C.Cluster.shown c.write.new.cluster) (files.link_of c.write.new.self))
     (sym (ap outer.link_in c.in-Some.is)) own)
 
 pub returns-clause-state : goal.returns-clause-state

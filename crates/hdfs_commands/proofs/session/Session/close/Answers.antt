@@ -3,12 +3,17 @@ use Rattle.std.proofs.Common.{ℕ, true, List, None, refl, sym, subst}
 use Rattle.std.proofs.lemmas.Map.Text.{btree_map_updates_text}
 use Rattle.hdfs_model.specs.declared.commands.Command.TheVariants as commands
 use Rattle.hdfs_cluster.specs.Requests.{LetsClose, IsAnsweredId}
-use Rattle.hdfs_namenode.specs.Clients.{name_of}
+use Rattle.hdfs_namenode.specs.Clients.{name_of, proxy_of}
 use Rattle.hdfs_file_writer.specs.Writers.{file_id_of}
 use Rattle.hdfs_commands.proofs.WholeWriting.{close_keeps, sending_keeps}
 use Rattle.hdfs_commands.proofs.WriteEnds.{close_acts, close_fails, close_not_owed}
 use Rattle.hdfs_commands.proofs.Answered.{answered_put, keeps_same}
+use Rattle.hdfs_namenode.proofs.Services.{reaches_service}
+use Rattle.hdfs_namenode.specs.Views.{Whole}
 use Rattle.hdfs_commands.proofs.session.Session.close.Goals as goal
+
+pub close-requires-clause-service : goal.close-requires-clause-service
+close-requires-clause-service g c = reaches_service (proxy_of c.args.self.now.namenode) (g.C.Cluster.shown c.args.cluster.now) c.requires.stands.reaches
 
 pub close-requires-clause-stands : goal.close-requires-clause-stands
 close-requires-clause-stands g c = (c.requires.stands.each c.args.path.now c.in-Some.writer (sym c.in-Some.ensures.value)).0
@@ -37,7 +42,7 @@ returns-in-Ok-clause-acts g c = λ name is.
       settings = refl;
       namenode = c.close.ensures.client;
     })
-    (λ fine. fine) c.in-Ok.ensures.closed
+    (λ fine. fine) (c.in-Ok.ensures.closed Whole c.requires.stands.reaches)
 
 pub returns-in-Err-clause-acts : goal.returns-in-Err-clause-acts
 returns-in-Err-clause-acts g c = λ name is.
@@ -55,12 +60,12 @@ returns-in-Err-clause-acts g c = λ name is.
       settings = refl;
       namenode = c.close.ensures.client;
     })
-    refl c.in-Err.error (c.in-Err.ensures.err (c.requires.stands.fine c.requires.fine path c.in-Some.writer here))
+    refl c.in-Err.error (c.in-Err.ensures.err Whole c.requires.stands.reaches (c.requires.stands.fine c.requires.fine path c.in-Some.writer here))
 
 pub returns-in-Err-clause-owed : goal.returns-in-Err-clause-owed
 returns-in-Err-clause-owed g c =
     close_not_owed (g.C.Cluster.shown c.args.cluster.now) (g.C.Cluster.shown c.close.new.cluster) c.in-Some.writer c.in-Err.error
-    (c.in-Err.ensures.err (c.requires.stands.fine c.requires.fine c.args.path.now c.in-Some.writer (sym c.in-Some.ensures.value)))
+    (c.in-Err.ensures.err Whole c.requires.stands.reaches (c.requires.stands.fine c.requires.fine c.args.path.now c.in-Some.writer (sym c.in-Some.ensures.value)))
 
 pub returns-in-Ok-clause-whole : goal.returns-in-Ok-clause-whole
 returns-in-Ok-clause-whole g c = λ name is.
@@ -77,7 +82,7 @@ returns-in-Ok-clause-whole g c = λ name is.
       settings = refl;
       namenode = c.close.ensures.client;
     })
-    c.in-Ok.ensures.closed.closes
+    (c.in-Ok.ensures.closed Whole c.requires.stands.reaches).closes
 
 pub returns-in-Err-clause-whole : goal.returns-in-Err-clause-whole
 returns-in-Err-clause-whole g c = λ name is.
@@ -96,7 +101,7 @@ returns-in-Err-clause-whole g c = λ name is.
       settings = refl;
       namenode = c.close.ensures.client;
     })
-    is c.in-Err.error (c.in-Err.ensures.err (c.requires.stands.fine c.requires.fine path c.in-Some.writer here)).touches
+    is c.in-Err.error (c.in-Err.ensures.err Whole c.requires.stands.reaches (c.requires.stands.fine c.requires.fine path c.in-Some.writer here)).touches
 
 pub close-requires-clause-answered : goal.close-requires-clause-answered
 close-requires-clause-answered g c = c.requires.answered.files c.args.path.now c.in-Some.writer (sym c.in-Some.ensures.value)

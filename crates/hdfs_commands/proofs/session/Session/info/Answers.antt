@@ -12,6 +12,7 @@ use Rattle.hdfs_commands.proofs.InfoActs.{info_whole, no_status, none_acts, none
 use Rattle.hdfs_commands.proofs.Owing.{ask_not_owed}
 use Rattle.hdfs_commands.proofs.Refused.{asked_so}
 use Rattle.hdfs_commands.proofs.Sized.{remembers_asked}
+use Rattle.hdfs_namenode.specs.Views.{Whole}
 use Rattle.hdfs_commands.proofs.session.Session.info.Goals as goal
 
 pub get_file_info-requires-clause-service : goal.get_file_info-requires-clause-service
@@ -22,21 +23,21 @@ returns-in-Some-clause-acts g c = λ called.
     let session = c.args.self.now in
     some_acts (g.C.Cluster.shown c.args.cluster.now) (g.C.Cluster.shown c.get_file_info.new.cluster) session (record session { namenode = c.get_file_info.new.self }) c.requires.stands (λ r. refl)
     (remembers_asked session c.get_file_info.new.self c.get_file_info.ensures.keeps) c.args.path.now c.args.name.now c.requires.path called c.requires.placed
-    c.in-Ok.status c.in-Some.reply (sym c.reply_of.ensures ∙ c.in-Some.is) (c.in-Ok.ensures.came c.requires.stands.reaches) c.get_file_info.ensures.keeps.defaults refl
+    c.in-Ok.status c.in-Some.reply (sym c.reply_of.ensures ∙ c.in-Some.is) (c.in-Ok.ensures.came Whole c.requires.stands.reaches) c.get_file_info.ensures.keeps.defaults refl
 
 pub returns-in-Err-clause-acts : goal.returns-in-Err-clause-acts
 returns-in-Err-clause-acts g c = λ called.
     let session = c.args.self.now in
     untold_acts (g.C.Cluster.shown c.args.cluster.now) (g.C.Cluster.shown c.get_file_info.new.cluster) session (record session { namenode = c.get_file_info.new.self }) c.requires.stands (λ r. refl)
     (remembers_asked session c.get_file_info.new.self c.get_file_info.ensures.keeps) c.args.path.now c.args.name.now c.requires.path called c.requires.placed
-    c.in-Err.error (c.in-Err.ensures.came c.requires.stands.reaches)
+    c.in-Err.error (c.in-Err.ensures.came Whole c.requires.stands.reaches)
 
 pub returns-in_ok-copy-in-None-clause-acts : goal.returns-in_ok-copy-in-None-clause-acts
 returns-in_ok-copy-in-None-clause-acts g c = λ called.
     let session = c.args.self.now in
     none_acts (g.C.Cluster.shown c.args.cluster.now) (g.C.Cluster.shown c.get_file_info.new.cluster) session (record session { namenode = c.get_file_info.new.self }) c.requires.stands (λ r. refl)
     (remembers_asked session c.get_file_info.new.self c.get_file_info.ensures.keeps) c.args.path.now c.args.name.now c.requires.path called c.requires.placed
-    c.in-Ok.status (sym c.reply_of.ensures ∙ c.in-None.is) (c.in-Ok.ensures.came c.requires.stands.reaches) _ c.in_ok-copy-in-None.ensures
+    c.in-Ok.status (sym c.reply_of.ensures ∙ c.in-None.is) (c.in-Ok.ensures.came Whole c.requires.stands.reaches) _ c.in_ok-copy-in-None.ensures
 
 pub returns-in_err-copy-in-None-clause-acts : goal.returns-in_err-copy-in-None-clause-acts
 returns-in_err-copy-in-None-clause-acts g c =
@@ -45,7 +46,7 @@ returns-in_err-copy-in-None-clause-acts g c =
     rw (p.1, p.2) (λ called.
     none_unsaid (g.C.Cluster.shown c.args.cluster.now) (g.C.Cluster.shown c.get_file_info.new.cluster) session (record session { namenode = c.get_file_info.new.self }) c.requires.stands (λ r. refl)
     (remembers_asked session c.get_file_info.new.self c.get_file_info.ensures.keeps) c.args.path.now c.args.name.now c.requires.path called c.requires.placed
-    c.in-Ok.status (sym c.reply_of.ensures ∙ c.in-None.is) (c.in-Ok.ensures.came c.requires.stands.reaches))
+    c.in-Ok.status (sym c.reply_of.ensures ∙ c.in-None.is) (c.in-Ok.ensures.came Whole c.requires.stands.reaches))
 
 pub returns-in_ok-copy-in-None-clause-refused : goal.returns-in_ok-copy-in-None-clause-refused
 returns-in_ok-copy-in-None-clause-refused g c =
@@ -53,17 +54,17 @@ returns-in_ok-copy-in-None-clause-refused g c =
 
 pub returns-in-Err-clause-refused : goal.returns-in-Err-clause-refused
 returns-in-Err-clause-refused g c =
-    asked_so g.C.Cluster.may_answer (name_of c.args.self.now.namenode) c.args.path.now (commands.Info c.args.name.now) c.in-Err.error (c.in-Err.ensures.came c.requires.stands.reaches).relays.tells.0
+    asked_so g.C.Cluster.may_answer (name_of c.args.self.now.namenode) c.args.path.now (commands.Info c.args.name.now) c.in-Err.error (c.in-Err.ensures.came Whole c.requires.stands.reaches).relays.tells.0
 
 pub returns-in-Err-clause-owed : goal.returns-in-Err-clause-owed
 returns-in-Err-clause-owed g c =
-    ask_not_owed (g.C.Cluster.shown c.args.cluster.now) (g.C.Cluster.shown c.get_file_info.new.cluster) c.in-Err.error (c.in-Err.ensures.came c.requires.stands.reaches).relays.tells
+    ask_not_owed (g.C.Cluster.shown c.args.cluster.now) (g.C.Cluster.shown c.get_file_info.new.cluster) c.in-Err.error (c.in-Err.ensures.came Whole c.requires.stands.reaches).relays.tells
 
 pub returns-in-Some-clause-whole : goal.returns-in-Some-clause-whole
 returns-in-Some-clause-whole g c = λ called.
     let session = c.args.self.now in
     info_whole (g.C.Cluster.shown c.args.cluster.now) (g.C.Cluster.shown c.get_file_info.new.cluster) session (record session { namenode = c.get_file_info.new.self }) c.args.path.now c.args.name.now (λ r. refl)
-    c.get_file_info.result (c.get_file_info.ensures.came c.requires.stands.reaches) _
+    c.get_file_info.result (c.get_file_info.ensures.came Whole c.requires.stands.reaches) _
 
 pub returns-in-Some-clause-answered : goal.returns-in-Some-clause-answered
 returns-in-Some-clause-answered g c =
@@ -76,7 +77,7 @@ pub returns-in-Err-clause-whole : goal.returns-in-Err-clause-whole
 returns-in-Err-clause-whole g c = λ called.
     let session = c.args.self.now in
     info_whole (g.C.Cluster.shown c.args.cluster.now) (g.C.Cluster.shown c.get_file_info.new.cluster) session (record session { namenode = c.get_file_info.new.self }) c.args.path.now c.args.name.now (λ r. refl)
-    c.get_file_info.result (c.get_file_info.ensures.came c.requires.stands.reaches) _
+    c.get_file_info.result (c.get_file_info.ensures.came Whole c.requires.stands.reaches) _
 
 pub returns-in-Err-clause-answered : goal.returns-in-Err-clause-answered
 returns-in-Err-clause-answered g c =
@@ -89,7 +90,7 @@ pub returns-in_ok-copy-in-None-clause-whole : goal.returns-in_ok-copy-in-None-cl
 returns-in_ok-copy-in-None-clause-whole g c = λ called.
     let session = c.args.self.now in
     info_whole (g.C.Cluster.shown c.args.cluster.now) (g.C.Cluster.shown c.get_file_info.new.cluster) session (record session { namenode = c.get_file_info.new.self }) c.args.path.now c.args.name.now (λ r. refl)
-    c.get_file_info.result (c.get_file_info.ensures.came c.requires.stands.reaches) _
+    c.get_file_info.result (c.get_file_info.ensures.came Whole c.requires.stands.reaches) _
 
 pub returns-in_ok-copy-in-None-clause-answered : goal.returns-in_ok-copy-in-None-clause-answered
 returns-in_ok-copy-in-None-clause-answered g c =
@@ -102,7 +103,7 @@ pub returns-in_err-copy-in-None-clause-whole : goal.returns-in_err-copy-in-None-
 returns-in_err-copy-in-None-clause-whole g c = λ called.
     let session = c.args.self.now in
     info_whole (g.C.Cluster.shown c.args.cluster.now) (g.C.Cluster.shown c.get_file_info.new.cluster) session (record session { namenode = c.get_file_info.new.self }) c.args.path.now c.args.name.now (λ r. refl)
-    c.get_file_info.result (c.get_file_info.ensures.came c.requires.stands.reaches) _
+    c.get_file_info.result (c.get_file_info.ensures.came Whole c.requires.stands.reaches) _
 
 pub returns-in_err-copy-in-None-clause-answered : goal.returns-in_err-copy-in-None-clause-answered
 returns-in_err-copy-in-None-clause-answered g c =

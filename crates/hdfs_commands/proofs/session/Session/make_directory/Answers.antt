@@ -1,5 +1,5 @@
 -- The goals of Session::make_directory.
-use Rattle.std.proofs.Common.{ap, refl, sym, ◌∙◌}
+use Rattle.std.proofs.Common.{refl, sym, ◌∙◌}
 use Rattle.hdfs_cluster.specs.declared.errors.ArgFault.TheVariants as args
 use Rattle.hdfs_cluster.specs.declared.errors.HdfsError.TheVariants as errors
 use Rattle.hdfs_namenode.specs.Clients.{proxy_of}
@@ -11,6 +11,7 @@ use Rattle.hdfs_commands.proofs.Sized.{remembers_asked}
 use Rattle.hdfs_commands.proofs.NamingActs.{bits_acts, made_acts, unmade_acts}
 use Rattle.hdfs_commands.proofs.WholeNaming.{mkdirs_whole}
 use Rattle.hdfs_commands.proofs.WholeStarting.{early_whole}
+use Rattle.hdfs_namenode.specs.Views.{Whole}
 use Rattle.hdfs_commands.proofs.session.Session.make_directory.Goals as goal
 
 pub mkdirs-requires-clause-service : goal.mkdirs-requires-clause-service
@@ -32,30 +33,30 @@ returns-in-Ok-clause-acts g c = λ name called.
     let session = c.args.self.now in
     made_acts (g.C.Cluster.shown c.args.cluster.now) (g.C.Cluster.shown c.mkdirs.new.cluster) session (record session { namenode = c.mkdirs.new.self }) c.requires.stands (λ r. refl)
     (remembers_asked session c.mkdirs.new.self c.mkdirs.ensures.keeps) c.args.path.now name c.requires.path called c.args.permission c.args.create_parent c.requires.placed
-    _ (sym c.is_permission.ensures ∙ c.if-not-is_permission.false) (c.in-Ok.ensures.came c.requires.stands.reaches) c.mkdirs.ensures.keeps.defaults refl
+    _ (sym c.is_permission.ensures ∙ c.if-not-is_permission.false) (c.in-Ok.ensures.came Whole c.requires.stands.reaches) c.mkdirs.ensures.keeps.defaults refl
 
 pub returns-in-Err-clause-acts : goal.returns-in-Err-clause-acts
 returns-in-Err-clause-acts g c = λ name called.
     let session = c.args.self.now in
     unmade_acts (g.C.Cluster.shown c.args.cluster.now) (g.C.Cluster.shown c.mkdirs.new.cluster) session (record session { namenode = c.mkdirs.new.self }) c.requires.stands (λ r. refl)
     (remembers_asked session c.mkdirs.new.self c.mkdirs.ensures.keeps) c.args.path.now name c.requires.path called c.args.permission c.args.create_parent c.requires.placed
-    c.in-Err.error (c.in-Err.ensures.came c.requires.stands.reaches)
+    c.in-Err.error (c.in-Err.ensures.came Whole c.requires.stands.reaches)
 
 pub returns-in-Ok-clause-whole : goal.returns-in-Ok-clause-whole
 returns-in-Ok-clause-whole g c = λ name called.
     let session = c.args.self.now in
     mkdirs_whole (g.C.Cluster.shown c.args.cluster.now) (g.C.Cluster.shown c.mkdirs.new.cluster) session (record session { namenode = c.mkdirs.new.self }) (λ r. refl) c.args.path.now name
-    c.args.permission c.args.create_parent c.mkdirs.result (c.mkdirs.ensures.came c.requires.stands.reaches) _
+    c.args.permission c.args.create_parent c.mkdirs.result (c.mkdirs.ensures.came Whole c.requires.stands.reaches) _
 
 pub returns-in-Err-clause-whole : goal.returns-in-Err-clause-whole
 returns-in-Err-clause-whole g c = λ name called.
     let session = c.args.self.now in
     mkdirs_whole (g.C.Cluster.shown c.args.cluster.now) (g.C.Cluster.shown c.mkdirs.new.cluster) session (record session { namenode = c.mkdirs.new.self }) (λ r. refl) c.args.path.now name
-    c.args.permission c.args.create_parent c.mkdirs.result (c.mkdirs.ensures.came c.requires.stands.reaches) _
+    c.args.permission c.args.create_parent c.mkdirs.result (c.mkdirs.ensures.came Whole c.requires.stands.reaches) _
 
 pub returns-in-Err-clause-owed : goal.returns-in-Err-clause-owed
 returns-in-Err-clause-owed g c =
-    ask_not_owed (g.C.Cluster.shown c.args.cluster.now) (g.C.Cluster.shown c.mkdirs.new.cluster) c.in-Err.error (c.in-Err.ensures.came c.requires.stands.reaches).relays.tells
+    ask_not_owed (g.C.Cluster.shown c.args.cluster.now) (g.C.Cluster.shown c.mkdirs.new.cluster) c.in-Err.error (c.in-Err.ensures.came Whole c.requires.stands.reaches).relays.tells
 
 pub returns-in-Ok-clause-answered : goal.returns-in-Ok-clause-answered
 returns-in-Ok-clause-answered g c =

@@ -8,13 +8,21 @@ use Rattle.hdfs_cluster.specs.Reading.{range_of}
 use Rattle.hdfs_cluster.proofs.Frames.{told_weaker}
 use Rattle.hdfs_file_reader.specs.Files.{LetsReadBlocks, blocks_of}
 use Rattle.hdfs_file_reader.specs.Ranges.{FailsAt, Stored}
-use Rattle.hdfs_file_reader.proofs.Ranged.{leaves_looked, leaves_read, loses_since, stored_on}
+use Rattle.hdfs_file_reader.proofs.Ranged.{lacks_no_byte, leaves_looked, leaves_read, loses_since, stored_on}
 use Rattle.hdfs_file_reader.proofs.file_blocks.FileBlocks.read_range.Goals as goal
 
 pub returns-in_err-allow_transfer-clause-err : goal.returns-in_err-allow_transfer-clause-err
 returns-in_err-allow_transfer-clause-err g c =
     let p = err_from_is_err_and c.from_residual-in_err-allow_transfer.result c.from_residual-in_err-allow_transfer.ensures.1 in
     rw (p.1, p.2) (inr (inl (c.in_err-allow_transfer.ensures.err, c.in_err-allow_transfer.ensures.looks.nodes)))
+
+pub returns-in_err-allow_transfer-clause-lost : goal.returns-in_err-allow_transfer-clause-lost
+returns-in_err-allow_transfer-clause-lost g c =
+    let p = err_from_is_err_and c.from_residual-in_err-allow_transfer.result c.from_residual-in_err-allow_transfer.ensures.1 in
+    rw (p.1, p.2) (λ reaches content stored byte is. absurd (
+    lacks_no_byte c.args.len (g.C.Cluster.shown c.args.cluster.now) (g.C.Cluster.shown c.allow_transfer.new.cluster) c.args.namenode.now c.allow_transfer.new.namenode
+    c.in_err-allow_transfer.field-0.0 reaches c.in_err-allow_transfer.ensures.err byte is
+    ))
 
 pub returns-in_err-read_blocks-clause-leaves : goal.returns-in_err-read_blocks-clause-leaves
 returns-in_err-read_blocks-clause-leaves g c =

@@ -10,15 +10,18 @@ use Rattle.hdfs_file_writer.proofs.Allowed.{answered_closed, answered_going, ans
 use Rattle.hdfs_file_writer.proofs.Filling.{settled_full, ended_full}
 use Rattle.hdfs_file_writer.proofs.Joining.{wrote_nothing}
 use Rattle.hdfs_file_writer.proofs.Standing.{ended_wrote, gave_up_fails, settled_wrote}
-use Rattle.hdfs_namenode.specs.Clients.{name_of}
+use Rattle.hdfs_namenode.specs.Clients.{name_of, proxy_of}
+use Rattle.hdfs_namenode.specs.Views.{see, view_of}
+use Rattle.hdfs_cluster.specs.Sound.{IsSound}
+use Rattle.hdfs_file_writer.proofs.Seeing.{block_seen, shows_seen}
 use Rattle.hdfs_file_writer.proofs.file_writer.FileWriter.finish_block.Goals as goal
 
 pub returns-in-Some-clause-wrote : goal.returns-in-Some-clause-wrote
-returns-in-Some-clause-wrote g c =
+returns-in-Some-clause-wrote g c = λ view has.
     let w = c.args.self.now in
     let reopened : w.reopened ≡ Some c.in-Some.located = sym c.take.ensures.value ∙ c.in-Some.is in
     let none : w.going ≡ None = c.requires.may.stands.apart (subst IsSome (sym reopened) refl) in
-    settled_wrote (g.C.Cluster.shown c.args.cluster.now) w (record w { last = Some c.in-Some.located.b; reopened = c.take.new.self }) c.in-Some.located
+    settled_wrote (see view (g.C.Cluster.shown c.args.cluster.now)) w (record w { last = Some c.in-Some.located.b; reopened = c.take.new.self }) c.in-Some.located
     (record { path = refl; file_id = refl; sizes = refl }) none reopened (record { none = none; done = c.take.ensures.after }) refl
 
 pub returns-in-Some-clause-between : goal.returns-in-Some-clause-between
@@ -45,8 +48,8 @@ returns-in-None-take-clause-between g c =
     )
 
 pub returns-in-None-take-clause-wrote : goal.returns-in-None-take-clause-wrote
-returns-in-None-take-clause-wrote g c =
-    let s = g.C.Cluster.shown c.args.cluster.now in
+returns-in-None-take-clause-wrote g c = λ view has.
+    let s = see view (g.C.Cluster.shown c.args.cluster.now) in
     let w = c.args.self.now in
     let going : w.going ≡ c.take-2.new.self = sym c.take-2.ensures.value ∙ c.in-None-take.is ∙ sym c.take-2.ensures.after in
     let reopened : w.reopened ≡ c.take.new.self = sym c.take.ensures.value ∙ c.in-None.is ∙ sym c.take.ensures.after in
@@ -59,7 +62,7 @@ close-requires g c =
     let w = c.args.self.now in
     let stands = c.requires.may.stands.going c.in-Some-take.block going in
     record {
-      reaches = c.requires.may.reaches;
+      service = c.requires.may.service;
       allowed =
           may_go_on g.C.Cluster.may_answer (name_of c.args.namenode.now) (name_of c.args.namenode.now) c.in-Some-take.block w w refl
           (record { path = refl; file_id = refl; sizes = refl }) stands (answered_going w going c.requires.may.answered) c.requires.may.allowed;
@@ -75,27 +78,32 @@ returns-in-Ok-clause-between g c =
       between,
       ended_full w.sizes.block_size w (record w { last = Some c.in-Ok.block; going = c.take-2.new.self; reopened = c.take.new.self })
           c.in-Some-take.block c.in-Ok.block going between refl
-          (ap (λ (b : Block). b.num_bytes) c.in-Ok.ensures.closed.1),
+          (ap (λ (b : Block). b.num_bytes) (c.in-Ok.ensures.closed (view_of (proxy_of c.args.namenode.now)) (refl, refl)).1),
     )
 
 pub returns-in-Ok-clause-wrote : goal.returns-in-Ok-clause-wrote
-returns-in-Ok-clause-wrote g c =
+returns-in-Ok-clause-wrote g c = λ view has.
+    let s = g.C.Cluster.shown c.args.cluster.now in
+    let t = g.C.Cluster.shown c.close.new.cluster in
     let w = c.args.self.now in
     let going : w.going ≡ Some c.in-Some-take.block = sym c.take-2.ensures.value ∙ c.in-Some-take.is in
-    ended_wrote (g.C.Cluster.shown c.args.cluster.now) (g.C.Cluster.shown c.close.new.cluster) (g.met.C.Cluster.sound c.args.cluster.now) (g.met.C.Cluster.sound c.close.new.cluster) w c.in-Some-take.block going
+    ended_wrote (see view s) (see view t) (shows_seen view IsSound s (g.met.C.Cluster.sound c.args.cluster.now))
+    (shows_seen view IsSound t (g.met.C.Cluster.sound c.close.new.cluster)) w c.in-Some-take.block going
     (record w { last = Some c.in-Ok.block; going = c.take-2.new.self; reopened = c.take.new.self })
-    (record { path = refl; file_id = refl; sizes = refl }) (record { none = c.take-2.ensures.after; done = c.take.ensures.after }) c.in-Ok.block refl c.in-Ok.ensures.closed
+    (record { path = refl; file_id = refl; sizes = refl }) (record { none = c.take-2.ensures.after; done = c.take.ensures.after }) c.in-Ok.block refl
+    (c.in-Ok.ensures.closed view has)
 
 pub returns-in-Err-clause-err : goal.returns-in-Err-clause-err
-returns-in-Err-clause-err g c =
+returns-in-Err-clause-err g c = λ view has.
     let s = g.C.Cluster.shown c.args.cluster.now in
     let t = g.C.Cluster.shown c.close.new.cluster in
     let w = c.args.self.now in
     let block = c.in-Some-take.block in
     let going : w.going ≡ Some block = sym c.take-2.ensures.value ∙ c.in-Some-take.is in
-    subst (λ (e : HdfsError). FailsOtherwise s w e t) (sym c.error_of.ensures)
-    (gave_up_fails s t (g.met.C.Cluster.sound c.args.cluster.now) (g.met.C.Cluster.sound c.close.new.cluster) w block going (c.requires.may.stands.is_open c.requires.fine block going)
-    (c.requires.may.stands.going block going) c.in-Err.fault c.in-Err.ensures.err)
+    subst (λ (e : HdfsError). FailsOtherwise (see view s) w e (see view t)) (sym c.error_of.ensures)
+    (gave_up_fails (see view s) (see view t) (shows_seen view IsSound s (g.met.C.Cluster.sound c.args.cluster.now))
+    (shows_seen view IsSound t (g.met.C.Cluster.sound c.close.new.cluster)) w block going (c.requires.may.stands.is_open c.requires.fine block going)
+    (block_seen view s (c.requires.may.stands.going block going)) c.in-Err.fault (c.in-Err.ensures.err view has))
 
 pub returns-in-Some-clause-answered : goal.returns-in-Some-clause-answered
 returns-in-Some-clause-answered g c =

@@ -6,11 +6,12 @@ use Rattle.hdfs_file_writer.specs.Writers.{Wrote, IsAnswered}
 use Rattle.hdfs_file_writer.proofs.Joining.{wrote_nothing}
 use Rattle.hdfs_file_writer.proofs.Allowed.{answered_failed}
 use Rattle.hdfs_namenode.specs.Clients.{name_of}
+use Rattle.hdfs_namenode.specs.Views.{see}
 use Rattle.hdfs_file_writer.proofs.file_writer.FileWriter.write.Goals as goal
 
 pub returns-then-is_empty-clause-wrote : goal.returns-then-is_empty-clause-wrote
-returns-then-is_empty-clause-wrote g c =
-    let s = g.C.Cluster.shown c.args.cluster.now in
+returns-then-is_empty-clause-wrote g c = λ view has.
+    let s = see view (g.C.Cluster.shown c.args.cluster.now) in
     let w = c.args.self.now in
     let none : c.args.bytes.now ≡ [] =
     nil_from_length c.args.bytes.now (eqb-true (length c.args.bytes.now) 0 (sym c.is_empty.ensures ∙ c.if-is_empty.true)) in

@@ -1,8 +1,11 @@
 -- The goals of FileWriter::write_piece.
 use Rattle.std.proofs.Common.{◌≡◌, ℕ, List, [], ◌-◌, length, take, Some, refl, sym, subst, arith}
 use Rattle.hdfs_cluster.specs.declared.errors.HdfsError.{HdfsError}
+use Rattle.hdfs_cluster.specs.Sound.{IsSound}
 use Rattle.hdfs_namenode.specs.Clients.{proxy_of, name_of}
-use Rattle.hdfs_namenode.proofs.Services.{reaches_later, same_client_trans}
+use Rattle.hdfs_namenode.specs.Views.{see, view_of}
+use Rattle.hdfs_namenode.proofs.Seeing.{view_same}
+use Rattle.hdfs_namenode.proofs.Services.{same_client_trans, service_same}
 use Rattle.hdfs_block_writer.specs.BlockWriters.{length_of, size_of}
 use Rattle.hdfs_block_writer.specs.Written.{GoesOnAnswered}
 use Rattle.hdfs_block_writer.specs.declared.block_writer.BlockWriter.{BlockWriter}
@@ -10,6 +13,7 @@ use Rattle.hdfs_file_writer.specs.Faults.{error_of}
 use Rattle.hdfs_file_writer.specs.Writers.{FailsOtherwise}
 use Rattle.hdfs_file_writer.proofs.Allowed.{may_go_on, answered_going, answered_pipe, answered_with}
 use Rattle.hdfs_file_writer.proofs.Joining.{wrote_trans, fails_after}
+use Rattle.hdfs_file_writer.proofs.Seeing.{block_seen, itself_seen, shows_seen, stands_seen, stands_shown}
 use Rattle.hdfs_file_writer.proofs.Standing.{more_stands, more_wrote, gave_up_fails, within_size, min_some}
 use Rattle.hdfs_file_writer.proofs.file_writer.FileWriter.write_piece.Goals as goal
 
@@ -18,10 +22,11 @@ write-requires g c =
     let client = c.make_room.ensures.keeps.1 in
     let goes = c.in-Ok.ensures.goes.0 in
     let stands = goes.stands.going c.in-Some.block c.in-Some.is in
+    let wrote = c.in-Ok.ensures.wrote (view_of (proxy_of c.args.namenode.now)) (refl, refl) in
     record {
-      reaches =
-          reaches_later (proxy_of c.args.namenode.now) (proxy_of c.make_room.new.namenode) (g.C.Cluster.shown c.args.cluster.now)
-          (g.C.Cluster.shown c.make_room.new.cluster) client.service c.in-Ok.ensures.wrote.own.later c.requires.may.reaches;
+      service =
+          service_same (proxy_of c.args.namenode.now) (proxy_of c.make_room.new.namenode) (g.C.Cluster.shown c.args.cluster.now)
+          (g.C.Cluster.shown c.make_room.new.cluster) client.service wrote.own.later.namenodes c.requires.may.service;
       allowed =
           may_go_on g.C.Cluster.may_answer (name_of c.args.namenode.now) (name_of c.make_room.new.namenode) c.in-Some.block c.args.self.now
           c.make_room.new.self client.name c.make_room.ensures.keeps.0 stands (answered_going c.make_room.new.self c.in-Some.is goes.answered)
@@ -37,16 +42,20 @@ returns-in-Ok-write-clause-goes g c =
     let w' = record w { going = Some c.write.new.self } in
     let block = c.in-Some.block in
     let goes = c.in-Ok.ensures.goes.0 in
+    let view = view_of (proxy_of c.make_room.new.namenode) in
+    let wrote = c.in-Ok-write.ensures.wrote view (refl, refl) in
     record {
       stands =
-          more_stands m t (g.met.C.Cluster.sound c.make_room.new.cluster) (g.met.C.Cluster.sound c.write.new.cluster) w block c.in-Some.is w' c.write.new.self
-          (take c.in-Ok-write.taken c.args.bytes.now) goes.stands goes.fine goes.fine (record { path = refl; file_id = refl; sizes = refl }) refl refl
-          c.in-Ok-write.ensures.wrote c.in-Ok-write.ensures.stands;
+          stands_shown view t
+          (more_stands (see view m) (see view t) (shows_seen view IsSound m (g.met.C.Cluster.sound c.make_room.new.cluster))
+          (shows_seen view IsSound t (g.met.C.Cluster.sound c.write.new.cluster)) w block c.in-Some.is w' c.write.new.self
+          (take c.in-Ok-write.taken c.args.bytes.now) (stands_seen view m goes.stands) goes.fine goes.fine
+          (record { path = refl; file_id = refl; sizes = refl }) refl refl wrote (itself_seen view t c.write.new.self c.in-Ok-write.ensures.stands));
       fine = goes.fine;
       answered =
           answered_with w w' c.write.new.self (record { path = refl; file_id = refl; sizes = refl }) refl refl refl goes.answered
-          (answered_pipe g.C.Cluster.may_answer (name_of c.args.namenode.now) w.path w.file_id m t block c.write.new.self
-          (goes.stands.is_open goes.fine block c.in-Some.is) c.in-Ok-write.ensures.wrote.stays
+          (answered_pipe g.C.Cluster.may_answer (name_of c.args.namenode.now) w.path w.file_id (see view m) (see view t) block c.write.new.self
+          (goes.stands.is_open goes.fine block c.in-Some.is) wrote.stays
           (subst (λ (name : List ℕ). GoesOnAnswered g.C.Cluster.may_answer name block c.write.new.self) c.make_room.ensures.keeps.1.name
           c.in-Ok-write.ensures.answered)
           (answered_going w c.in-Some.is goes.answered));
@@ -62,31 +71,48 @@ returns-in-Ok-write-clause-count g c =
     min_some c.in-Ok-write.taken (length c.args.bytes.now) (size_of block - length_of block) c.in-Ok-write.ensures.count c.requires.bytes (omega (arith, within, apart))
 
 pub returns-in-Ok-write-clause-wrote : goal.returns-in-Ok-write-clause-wrote
-returns-in-Ok-write-clause-wrote g c =
+returns-in-Ok-write-clause-wrote g c = λ view has.
     let s = g.C.Cluster.shown c.args.cluster.now in
     let m = g.C.Cluster.shown c.make_room.new.cluster in
     let t = g.C.Cluster.shown c.write.new.cluster in
     let w' = record c.make_room.new.self { going = Some c.write.new.self } in
     let more = take c.in-Ok-write.taken c.args.bytes.now in
-    wrote_trans s m t c.args.self.now c.make_room.new.self w' [] more c.in-Ok.ensures.wrote
-    (more_wrote m t (g.met.C.Cluster.sound c.make_room.new.cluster) (g.met.C.Cluster.sound c.write.new.cluster) c.make_room.new.self c.in-Some.block c.in-Some.is w' c.write.new.self more c.in-Ok.ensures.goes.0.stands c.in-Ok.ensures.goes.0.fine
-    (record { path = refl; file_id = refl; sizes = refl }) refl c.in-Ok-write.ensures.wrote c.in-Ok-write.ensures.stands)
+    let goes = c.in-Ok.ensures.goes.0 in
+    let wrote = c.in-Ok.ensures.wrote view has in
+    let has' = view_same view (proxy_of c.args.namenode.now) (proxy_of c.make_room.new.namenode) s m c.make_room.ensures.keeps.1.service
+    wrote.own.later.namenodes has in
+    wrote_trans (see view s) (see view m) (see view t) c.args.self.now c.make_room.new.self w' [] more wrote
+    (more_wrote (see view m) (see view t) (shows_seen view IsSound m (g.met.C.Cluster.sound c.make_room.new.cluster))
+    (shows_seen view IsSound t (g.met.C.Cluster.sound c.write.new.cluster)) c.make_room.new.self c.in-Some.block c.in-Some.is w' c.write.new.self more
+    (stands_seen view m goes.stands) goes.fine (record { path = refl; file_id = refl; sizes = refl }) refl (c.in-Ok-write.ensures.wrote view has')
+    (itself_seen view t c.write.new.self c.in-Ok-write.ensures.stands))
 
 pub returns-in-Err-write-clause-err : goal.returns-in-Err-write-clause-err
-returns-in-Err-write-clause-err g c =
+returns-in-Err-write-clause-err g c = λ view has.
     let s = g.C.Cluster.shown c.args.cluster.now in
     let m = g.C.Cluster.shown c.make_room.new.cluster in
     let t = g.C.Cluster.shown c.write.new.cluster in
     let w1 = c.make_room.new.self in
     let block = c.in-Some.block in
-    let stands = c.in-Ok.ensures.goes.0.stands in
-    subst (λ (e : HdfsError). FailsOtherwise s c.args.self.now e t) (sym c.error_of.ensures)
-    (fails_after s m t c.args.self.now w1 [] (error_of c.in-Err-write.fault) c.in-Ok.ensures.wrote
-    (gave_up_fails m t (g.met.C.Cluster.sound c.make_room.new.cluster) (g.met.C.Cluster.sound c.write.new.cluster) w1 block c.in-Some.is (stands.is_open c.in-Ok.ensures.goes.0.fine block c.in-Some.is)
-    (stands.going block c.in-Some.is) c.in-Err-write.fault c.in-Err-write.ensures.err.gave_up))
+    let goes = c.in-Ok.ensures.goes.0 in
+    let wrote = c.in-Ok.ensures.wrote view has in
+    let has' = view_same view (proxy_of c.args.namenode.now) (proxy_of c.make_room.new.namenode) s m c.make_room.ensures.keeps.1.service
+    wrote.own.later.namenodes has in
+    subst (λ (e : HdfsError). FailsOtherwise (see view s) c.args.self.now e (see view t)) (sym c.error_of.ensures)
+    (fails_after (see view s) (see view m) (see view t) c.args.self.now w1 [] (error_of c.in-Err-write.fault) wrote
+    (gave_up_fails (see view m) (see view t) (shows_seen view IsSound m (g.met.C.Cluster.sound c.make_room.new.cluster))
+    (shows_seen view IsSound t (g.met.C.Cluster.sound c.write.new.cluster)) w1 block c.in-Some.is (goes.stands.is_open goes.fine block c.in-Some.is)
+    (block_seen view m (goes.stands.going block c.in-Some.is)) c.in-Err-write.fault (c.in-Err-write.ensures.err view has').gave_up))
 
 pub returns-in-Ok-write-clause-keeps : goal.returns-in-Ok-write-clause-keeps
 returns-in-Ok-write-clause-keeps g c =
+    let kept = c.make_room.ensures.keeps.0 in (
+      record { path = kept.path; file_id = kept.file_id; sizes = kept.sizes },
+      same_client_trans c.args.namenode.now c.make_room.new.namenode c.write.new.namenode c.make_room.ensures.keeps.1 c.write.ensures.client,
+    )
+
+pub returns-in-Err-write-clause-keeps : goal.returns-in-Err-write-clause-keeps
+returns-in-Err-write-clause-keeps g c =
     let kept = c.make_room.ensures.keeps.0 in (
       record { path = kept.path; file_id = kept.file_id; sizes = kept.sizes },
       same_client_trans c.args.namenode.now c.make_room.new.namenode c.write.new.namenode c.make_room.ensures.keeps.1 c.write.ensures.client,

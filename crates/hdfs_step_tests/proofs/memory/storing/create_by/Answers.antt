@@ -6,4 +6,6 @@ pub create-requires-clause-allowed : goal.create-requires-clause-allowed
 create-requires-clause-allowed c = λ to namenode leads at. lets_create (λ ask answer. Unit {0}) _ _ _ _ (λ request. tt)
 
 pub write_by-requires-clause-writer : goal.write_by-requires-clause-writer
-write_by-requires-clause-writer c = c.in-Ok.ensures.stands
+write_by-requires-clause-writer c =
+    let stands = c.in-Ok.ensures.stands in
+    (stands.0, stands.1)

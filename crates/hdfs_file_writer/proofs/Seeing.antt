@@ -1,0 +1,141 @@
+-- What a writer of a file is, and what it does without a namenode, is so in each view of a cluster: no view hides links, and where the picture
+-- is hidden nothing is told of it.
+use Rattle.std.proofs.Common.{◌≡◌, ℕ, zero, suc, Bool, List, Option, None, sym, ap, subst}
+use Rattle.hdfs_cluster.specs.declared.messages.LocatedBlock.{LocatedBlock}
+use Rattle.hdfs_cluster.specs.Failures.{NodesFailTimes}
+use Rattle.hdfs_cluster.specs.Picture.{Picture}
+use Rattle.hdfs_cluster.specs.Shown.{Shown}
+use Rattle.hdfs_cluster.proofs.Frames.{later_refl}
+use Rattle.hdfs_cluster.proofs.Times.{fails_later, fails_since}
+use Rattle.hdfs_namenode.specs.Views.{View, Whole, OfService, see}
+use Rattle.hdfs_namenode.proofs.Seeing.{later_seen}
+use Rattle.hdfs_rebuild.specs.declared.block_plan.WriteFault.{WriteFault}
+use Rattle.hdfs_rebuild.proofs.Seeing.{opens_none_seen, reads_seen}
+use Rattle.hdfs_block_writer.specs.BlockWriters.{Stands as StandsItself}
+use Rattle.hdfs_block_writer.specs.declared.block_writer.BlockWriter.{BlockWriter}
+use Rattle.hdfs_block_writer.proofs.Seeing.{over_seen, over_shown}
+use Rattle.hdfs_file_writer.specs.declared.file_writer.FileWriter.{FileWriter}
+use Rattle.hdfs_file_writer.specs.declared.sizes.WriteSizes.{WriteSizes}
+use Rattle.hdfs_file_writer.specs.Tries.{NotSetUp}
+use Rattle.hdfs_file_writer.specs.Writers.{BlockStands, CarriesMore, LeavesFile, OnlyOwnLink, Stands, Tallies, Wrote, rebuilds_by, rebuilds_of}
+use Rattle.hdfs_file_writer.proofs.Steps.{Shows}
+
+-- what holds of the picture holds of the one that is seen
+pub shows_seen : (view : View) (P : Picture → Type 0) (s : Shown) → Shows P s → Shows P (see view s)
+shows_seen Whole P s h = h
+shows_seen (OfService first count) P s h = λ p is. absurd (cc is)
+
+-- A writer of a block stands just where it does so in a view,
+pub itself_seen : (view : View) (s : Shown) (block : BlockWriter) → StandsItself s block → StandsItself (see view s) block
+itself_seen view s block h pipe is =
+    let parts = h pipe is in
+    (parts.0, over_seen view parts.1, parts.2, parts.3)
+
+pub itself_shown : (view : View) (s : Shown) (block : BlockWriter) → StandsItself (see view s) block → StandsItself s block
+itself_shown view s block h pipe is =
+    let parts = h pipe is in
+    (parts.0, over_shown view parts.1, parts.2, parts.3)
+
+-- as one of a file,
+pub block_seen : (view : View) (s : Shown) {path : List ℕ} {sizes : WriteSizes} {block : BlockWriter} → BlockStands s path sizes block
+    → BlockStands (see view s) path sizes block
+block_seen view s {path} {sizes} {block} h = record {
+  limited = h.limited;
+  stands = itself_seen view s block h.stands;
+  size = h.size;
+  chunk = h.chunk;
+  packet_size = h.packet_size;
+  settings = h.settings;
+  plain = h.plain;
+  plan = h.plan;
+}
+
+pub block_shown : (view : View) (s : Shown) {path : List ℕ} {sizes : WriteSizes} {block : BlockWriter} → BlockStands (see view s) path sizes block
+    → BlockStands s path sizes block
+block_shown view s {path} {sizes} {block} h = record {
+  limited = h.limited;
+  stands = itself_shown view s block h.stands;
+  size = h.size;
+  chunk = h.chunk;
+  packet_size = h.packet_size;
+  settings = h.settings;
+  plain = h.plain;
+  plan = h.plan;
+}
+
+-- and a writer of a file.
+pub stands_seen : (view : View) (s : Shown) {writer : FileWriter} → Stands s writer → Stands (see view s) writer
+stands_seen view s {writer} h = record {
+  packets = h.packets;
+  going = λ block is. block_seen view s (h.going block is);
+  is_open = h.is_open;
+  idle = h.idle;
+  reopened = h.reopened;
+  apart = h.apart;
+  done = h.done;
+}
+
+pub stands_shown : (view : View) (s : Shown) {writer : FileWriter} → Stands (see view s) writer → Stands s writer
+stands_shown view s {writer} h = record {
+  packets = h.packets;
+  going = λ block is. block_shown view s (h.going block is);
+  is_open = h.is_open;
+  idle = h.idle;
+  reopened = h.reopened;
+  apart = h.apart;
+  done = h.done;
+}
+
+-- a first pipeline wasn't set up
+pub not_set_up_seen : (view : View) {client : List ℕ} {created : Bool} {located : LocatedBlock} {s t : Shown} {fault : WriteFault}
+    → NotSetUp client created located s fault t → NotSetUp client created located (see view s) fault (see view t)
+not_set_up_seen view {client} {created} {located} {s} {t} {fault} h = record {
+  setup = h.setup;
+  first = h.first;
+  none = opens_none_seen view h.none;
+}
+
+-- a writer's own link
+pub own_link_seen : (view : View) {s t : Shown} {before after : Option ℕ} → OnlyOwnLink s before t after
+    → OnlyOwnLink (see view s) before (see view t) after
+own_link_seen view {s} {t} {before} {after} h = record {
+  later = later_seen view s t h.later;
+  reads = reads_seen view h.reads;
+  others = h.others;
+  none = h.none;
+  fresh = h.fresh;
+}
+
+-- what it leaves of its file
+pub leaves_file_seen : (view : View) (s t : Shown) (writer : FileWriter) → LeavesFile s writer t → LeavesFile (see view s) writer (see view t)
+leaves_file_seen Whole s t writer h = h
+leaves_file_seen (OfService first count) s t writer h = λ p bytes is. absurd (cc is)
+
+carries_more_seen : (view : View) (s t : Shown) (writer writer' : FileWriter) (more : List ℕ) → CarriesMore s writer more t writer'
+    → CarriesMore (see view s) writer more (see view t) writer'
+carries_more_seen Whole s t writer writer' more h = h
+carries_more_seen (OfService first count) s t writer writer' more h = λ p bytes is. absurd (cc is)
+
+-- datanodes have failed so often
+pub times_seen : (view : View) (times : ℕ) (s t : Shown) → NodesFailTimes times s t → NodesFailTimes times (see view s) (see view t)
+times_seen view zero s t h = later_seen view s t h
+times_seen view (suc times) s t h = (see view h.0, times_seen view times s h.0 h.1, later_seen view h.0 t h.2, h.3)
+
+-- Where no block is being written, a tally is one of the calls alone.
+tallies_seen : (view : View) (s t : Shown) (writer writer' : FileWriter) → writer.going ≡ None → Tallies s writer t writer'
+    → Tallies (see view s) writer (see view t) writer'
+tallies_seen view s t writer writer' none h start fails =
+    let idle : rebuilds_of writer ≡ 0 = ap rebuilds_by none in
+    let times : NodesFailTimes (rebuilds_of writer') s t = h s (subst (λ (n : ℕ). NodesFailTimes n s s) (sym idle) (later_refl s)) in
+    fails_since (rebuilds_of writer') start (see view s) (see view t) (fails_later (rebuilds_of writer) start (see view s) fails)
+    (times_seen view (rebuilds_of writer') s t times)
+
+-- what was written without a namenode
+pub wrote_seen : (view : View) {s t : Shown} {writer writer' : FileWriter} {more : List ℕ} → writer.going ≡ None → Wrote s writer more t writer'
+    → Wrote (see view s) writer more (see view t) writer'
+wrote_seen view {s} {t} {writer} {writer'} {more} none h = record {
+  keeps = h.keeps;
+  own = own_link_seen view h.own;
+  tallies = tallies_seen view s t writer writer' none h.tallies;
+  carries = carries_more_seen view s t writer writer' more h.carries;
+}
