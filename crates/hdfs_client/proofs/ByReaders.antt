@@ -1,6 +1,6 @@
 -- What a client reads: it stays a client of its cluster, and a reader stays one of its own.
 use Rattle.std.proofs.Common.{◌≡◌, ◌≢◌, ◌⊎◌, ℕ, zero, suc, ◌<◌, ◌≤◌, ◌-◌, ◌^◌, ◌==◌, length, true, false, IsErrAnd, List, [], ◌∷◌, get_or, set, slice_get, Option, Some, None, Result, Ok, Err, inl, inr, refl, sym, ◌∙◌, ap, subst, arith}
-use Rattle.std.specs.Prelude.{All, IfOk, IsSome}
+use Rattle.std.specs.Prelude.{All, IfOk, IfErr, IsSome, is_some}
 use Rattle.std.proofs.lemmas.Bool.{cases_Bool, false≢true}
 use Rattle.std.proofs.lemmas.Bool.Decides.{Decides-eqb}
 use Rattle.std.proofs.lemmas.List.Elements.{Contains-get_or}
@@ -8,27 +8,26 @@ use Rattle.hdfs_cluster.specs.declared.asks.Ask.{Ask}
 use Rattle.hdfs_cluster.specs.declared.asks.Ask.TheVariants as asks
 use Rattle.hdfs_cluster.specs.declared.asks.Answer.{Answer}
 use Rattle.hdfs_cluster.specs.declared.asks.Answer.TheVariants as answers
-use Rattle.hdfs_cluster.specs.declared.asks.AskFault.{AskFault}
 use Rattle.hdfs_cluster.specs.declared.errors.HdfsError.{HdfsError}
 use Rattle.hdfs_cluster.specs.declared.errors.HdfsError.TheVariants as errors
 use Rattle.hdfs_cluster.specs.declared.messages.LocatedBlock.{LocatedBlock}
 use Rattle.hdfs_cluster.specs.declared.messages.LocatedBlocks.{LocatedBlocks}
 use Rattle.hdfs_cluster.specs.declared.picture.Entry.TheVariants as entries
-use Rattle.hdfs_cluster.specs.Namenode.{IsShaped, Locates, LocatesBlocks}
+use Rattle.hdfs_cluster.specs.Namenode.{LocatesBlocks}
 use Rattle.hdfs_cluster.specs.Requests.{IsLocated}
-use Rattle.hdfs_cluster.specs.Shown.{Later, Served, Shown}
+use Rattle.hdfs_cluster.specs.Shown.{Later, Shown}
 use Rattle.hdfs_names.specs.declared.mounts.Resolved.{Resolved}
 use Rattle.hdfs_namenode.specs.Asked.{IsServiceOf, ReachesAll, SameService}
-use Rattle.hdfs_namenode.specs.Clients.{proxy_of, through}
-use Rattle.hdfs_namenode.specs.Relaying.{Came}
+use Rattle.hdfs_namenode.specs.Clients.{proxy_of}
+use Rattle.hdfs_namenode.specs.Views.{View, HasView, see}
 use Rattle.hdfs_namenode.specs.declared.protocol.NamenodeProtocol.{NamenodeProtocol}
 use Rattle.hdfs_namenode.proofs.Services.{same_service_refl, service_later}
-use Rattle.hdfs_file_reader.specs.Looking.{AskedAround, IsClosed}
-use Rattle.hdfs_file_reader.proofs.Looking.{files_looked, found_looked}
-use Rattle.hdfs_file_reader.proofs.Services.{once_looks}
+use Rattle.hdfs_file_reader.specs.Looking.{AnswersLookUp, AreBlocksOf, FilesStay, GivesBlocks, IsClosed, LocatesFile, LooksInVain}
+use Rattle.hdfs_file_reader.specs.Transferring.{Unsupported}
+use Rattle.hdfs_file_reader.proofs.Looking.{vain_memory}
 use Rattle.hdfs_file_reader.proofs.Staying.{locates_blocks, stores_blocks}
-use Rattle.hdfs_client.specs.Clients.{AsksAt, IsClientOf, SameBut, addresses_of, leads_to, mounts_of, replacement_of, service_at, services_of}
-use Rattle.hdfs_client.specs.Readers.{AreLocated, IsMadeFor, IsReaderOf, Opens, ReadsBy, ShowsFile, blocks_of, length_of, service_of}
+use Rattle.hdfs_client.specs.Clients.{IsClientOf, SameBut, addresses_of, leads_to, mounts_of, replacement_of, service_at, services_of}
+use Rattle.hdfs_client.specs.Readers.{AreLocated, IsMadeFor, IsReaderOf, LacksReader, Opens, ReadsBy, ShowsFile, blocks_of, length_of, service_of}
 use Rattle.hdfs_client.specs.declared.client.Client.{Client}
 use Rattle.hdfs_client.specs.declared.file_reader.FileReader.{FileReader}
 use Rattle.hdfs_client.proofs.Asking.{found_at, put_elsewhere, put_there, same_some}
@@ -55,101 +54,123 @@ client_read client client' k before after s t of later same was is others = reco
         let other : i ≢ k = λ e. false≢true (sym apart ∙ (Decides-eqb i k).1 e) in
         service_later (proxy_of namenode) (proxy_of namenode) s t (same_service_refl (proxy_of namenode)) later (of.each i namenode (sym (others.others i other) ∙ here))
 
--- ---- a reader that is made
+-- ---- of what was looked up the caller has a reader
 
--- of what was found, where there is a reader
-pub record Made (found : Option LocatedBlocks) (reader : FileReader) : Type 0 where
-  pub located : LocatedBlocks
-  pub was : found ≡ Some located
-  pub of : IsReaderOf located reader
+-- none, where there are no blocks
+pub opens_failed : (given : List ℕ) (outcome : Result (Option LocatedBlocks) HdfsError) (error : HdfsError) → GivesBlocks given outcome (Err error)
+    → Opens given outcome (Err error)
+opens_failed given (Ok (Some located)) error gives = absurd (cc gives)
+opens_failed given (Ok None) error (inl missing) = inl (let same : error ≡ errors.FileNotFound given = cc missing in ap (λ (e : HdfsError). Err e) same)
+opens_failed given (Ok None) error (inr memory) = inr (let same : error ≡ errors.NoMemory = cc memory in ap (λ (e : HdfsError). Err e) same)
+opens_failed given (Err other) error gives = (let same : error ≡ other = cc gives in ap (λ (e : HdfsError). Err e) same)
 
-pub made_of : (given : List ℕ) (found : Option LocatedBlocks) (reader : FileReader) → Opens given (Ok found) (Ok reader) → Made found reader
-made_of given (Some located) reader opens = record { located = located; was = refl; of = opens.0 }
-made_of given None reader (inl is) = absurd (cc is)
-made_of given None reader (inr is) = absurd (cc is)
+-- one of those blocks, or they are of an encrypted file
+pub opens_found : (given : List ℕ) (outcome : Result (Option LocatedBlocks) HdfsError) (found : LocatedBlocks) (result : Result FileReader HdfsError)
+    → GivesBlocks given outcome (Ok found) → IfOk result (IsReaderOf found) → IfErr result (λ error. Unsupported error × (is_some found.encryption ≡ true))
+    → Opens given outcome result
+opens_found given (Ok (Some located)) found result gives of refused =
+    let same : found ≡ located = cc gives in
+    subst (λ (l : LocatedBlocks). IfOk result (IsReaderOf l) × IfErr result (λ error. Unsupported error × (is_some l.encryption ≡ true))) same (of, refused)
+opens_found given (Ok None) found result (inl missing) of refused = absurd (cc missing)
+opens_found given (Ok None) found result (inr memory) of refused = absurd (cc memory)
+opens_found given (Err error) found result gives of refused = absurd (cc gives)
 
-module _ (client client' : Client) (src : List ℕ) (to : Resolved) (leads : leads_to client src ≡ Some to) (found : Option LocatedBlocks) (reader : FileReader) (made : Made found reader) where
+-- ---- what comes of the look-up of a path that leads here, whatever it found
+
+module _ (client : Client) (src : List ℕ) (to : Resolved) (leads : leads_to client src ≡ Some to) where
   -- another place to which the path leads
   same_place : (other : Resolved) → leads_to client src ≡ Some other → to ≡ other
   same_place other is = cc (leads, is)
 
-  pub is_made : (s t : Shown) → AskedAround s (asks.GetBlockLocations to.path 0 (2 ^ 63 - 1)) (Ok (answers.GetBlockLocations found)) t → service_of reader ≡ to.service
-      → (after : NamenodeProtocol) → service_at client' to.service ≡ Some after → IsMadeFor client src client' reader
-  is_made s t around numbered after is =
-      let shaped = subst (λ (o : Option LocatedBlocks). IsShaped (asks.GetBlockLocations to.path 0 (2 ^ 63 - 1)) (answers.GetBlockLocations o)) made.was around.shaped in
-      let of = made.of in
-      record {
-        stands = record {
-          whole = record {
-            below = subst (λ (n : ℕ). n < 2 ^ 63) (sym of.its_length) shaped.0;
-            follow = rw (of.its_length, of.its_blocks) (shaped.2 (refl, refl));
-          };
-          inside = subst (λ (n : ℕ). n ≤ length_of reader) (sym of.start) (omega arith);
+  -- its service is this one
+  same_service : (before : NamenodeProtocol) → service_at client to.service ≡ Some before → (other : Resolved) → leads_to client src ≡ Some other
+      → (namenode : NamenodeProtocol) → service_at client other.service ≡ Some namenode → namenode ≡ before
+  same_service before was other there namenode is =
+      let here : service_at client to.service ≡ Some namenode = ap (λ (r : Resolved). service_at client r.service) (same_place other there) ∙ is in
+      cc (was, here)
+
+  module _ (found : LocatedBlocks) where
+    is_made : (client' : Client) (after : NamenodeProtocol) (reader : FileReader) → service_at client' to.service ≡ Some after → AreBlocksOf found → IsReaderOf found reader
+        → service_of reader ≡ to.service → IsMadeFor client src client' reader
+    is_made client' after reader is blocks of numbered = record {
+      stands = record {
+        whole = record {
+          below = subst (λ (n : ℕ). n < 2 ^ 63) (sym of.its_length) blocks.below;
+          follow = rw (of.its_length, of.its_blocks) blocks.follow;
         };
-        by = subst (λ (o : Option NamenodeProtocol). IsSome o) (sym (ap (λ (k : ℕ). service_at client' k) numbered ∙ is)) refl;
-        service = λ other there. numbered ∙ ap (λ (r : Resolved). r.service) (same_place other there);
-      }
+        inside = subst (λ (n : ℕ). n ≤ length_of reader) (sym of.start) (omega arith);
+      };
+      by = subst (λ (o : Option NamenodeProtocol). IsSome o) (sym (ap (λ (k : ℕ). service_at client' k) numbered ∙ is)) refl;
+      service = λ other there. numbered ∙ ap (λ (r : Resolved). r.service) (same_place other there);
+    }
 
-  pub are_located : (may_answer : Ask → Answer → Type 0) → may_answer (asks.GetBlockLocations to.path 0 (2 ^ 63 - 1)) (answers.GetBlockLocations found)
-      → AreLocated may_answer client src reader
-  are_located may_answer answered other there =
-      let located = made.located in
-      let said = subst (λ (o : Option LocatedBlocks). may_answer (asks.GetBlockLocations to.path 0 (2 ^ 63 - 1)) (answers.GetBlockLocations o)) made.was answered in
-      subst (λ (r : Resolved). All (λ block. IsLocated may_answer r.path block) (blocks_of reader)) (same_place other there)
-      (subst (λ (bs : List LocatedBlock). All (λ block. IsLocated may_answer to.path block) bs) (sym made.of.its_blocks)
-      (λ k default low. record { found = located; answered = said; among = Contains-get_or located.blocks k default low }))
+    are_located : (may_answer : Ask → Answer → Type 0) (reader : FileReader) → may_answer (asks.GetBlockLocations to.path 0 (2 ^ 63 - 1)) (answers.GetBlockLocations (Some found))
+        → IsReaderOf found reader → AreLocated may_answer client src reader
+    are_located may_answer reader answered of other there =
+        subst (λ (r : Resolved). All (λ block. IsLocated may_answer r.path block) (blocks_of reader)) (same_place other there)
+        (subst (λ (bs : List LocatedBlock). All (λ block. IsLocated may_answer to.path block) bs) (sym of.its_blocks)
+        (λ k default low. record { found = found; answered = answered; among = Contains-get_or found.blocks k default low }))
 
-  pub shows_file : (s t : Shown) (before : NamenodeProtocol) → service_at client to.service ≡ Some before
-      → (ReachesAll (proxy_of before) s → Came s (asks.GetBlockLocations to.path 0 (2 ^ 63 - 1)) (Ok (answers.GetBlockLocations found)) t) → ShowsFile client src s t reader
-  shows_file s t before was came other there namenode is reaches p told closed =
-      let place = same_place other there in
-      let here : service_at client to.service ≡ Some namenode = ap (λ (r : Resolved). service_at client r.service) place ∙ is in
-      let same : namenode ≡ before = cc (was, here) in
-      let shut : IsClosed p to.path = subst (λ (r : Resolved). IsClosed p r.path) (sym place) closed in
-      let had = subst (λ (o : Option LocatedBlocks). Came s (asks.GetBlockLocations to.path 0 (2 ^ 63 - 1)) (Ok (answers.GetBlockLocations o)) t) made.was
-      (came (subst (λ (n : NamenodeProtocol). ReachesAll (proxy_of n) s) same reaches)) in
-      let locates : Locates p to.path made.located = found_looked had p told shut (refl, refl) in
-      let stay = files_looked had p told shut in (
-        locates.file,
-        subst (λ (r : Resolved). p.names r.path ≡ Some (entries.File locates.file)) place locates.named,
-        λ content stores. record {
-          picture = stay.0;
-          told = stay.1;
-          ids = locates.file.blocks;
-          total = made.located.file_length;
-          located = subst (λ (bs : List LocatedBlock). LocatesBlocks stay.0.table 0 made.located.file_length locates.file.blocks bs) (sym made.of.its_blocks)
-              (locates_blocks p stay.0 stay.2 0 made.located.file_length locates.file.blocks made.located.blocks locates.blocks);
-          stored = stores_blocks p stay.0 stay.2 locates.file.blocks content stores;
-        },
-      )
+    shows_file : (s t : Shown) (before : NamenodeProtocol) (reader : FileReader) → service_at client to.service ≡ Some before
+        → (ReachesAll (proxy_of before) s → LocatesFile to.path s found × FilesStay to.path s t) → IsReaderOf found reader → ShowsFile client src s t reader
+    shows_file s t before reader was looked of other there namenode is reaches p told closed =
+        let place = same_place other there in
+        let shut : IsClosed p to.path = subst (λ (r : Resolved). IsClosed p r.path) (sym place) closed in
+        let seen = looked (subst (λ (n : NamenodeProtocol). ReachesAll (proxy_of n) s) (same_service before was other there namenode is) reaches) in
+        let locates = seen.0 p told shut in
+        let stay = seen.1 p told shut in (
+          locates.file,
+          subst (λ (r : Resolved). p.names r.path ≡ Some (entries.File locates.file)) place locates.named,
+          λ content stores. record {
+            picture = stay.0;
+            told = stay.1;
+            ids = locates.file.blocks;
+            total = found.file_length;
+            located = subst (λ (bs : List LocatedBlock). LocatesBlocks stay.0.table 0 found.file_length locates.file.blocks bs) (sym of.its_blocks)
+                (locates_blocks p stay.0 stay.2 0 found.file_length locates.file.blocks found.blocks locates.blocks);
+            stored = stores_blocks p stay.0 stay.2 locates.file.blocks content stores;
+          },
+        )
 
--- ---- what comes of the look-up, whatever it found
+  module _ (path : List ℕ) (named : path ≡ to.path) where
+    pub located_if : (may_answer : Ask → Answer → Type 0) (found : LocatedBlocks) (result : Result FileReader HdfsError) → AnswersLookUp may_answer path (Ok found)
+        → IfOk result (IsReaderOf found) → IfOk result (AreLocated may_answer client src)
+    located_if may_answer found (Err error) answered of = tt
+    located_if may_answer found (Ok reader) answered of =
+        are_located found may_answer reader
+        (subst (λ (p : List ℕ). may_answer (asks.GetBlockLocations p 0 (2 ^ 63 - 1)) (answers.GetBlockLocations (Some found))) named answered) of
 
-module _ {C : Type 0} (shown : C → Shown) (serves : C → ℕ → Ask → Result Answer AskFault → C → Type 0)
-    (rows : (old new : C) (i : ℕ) (ask : Ask) (result : Result Answer AskFault) → serves old i ask result new → Served (shown old) i ask result (shown new)) where
-  pub made_if : (client client' : Client) (src : List ℕ) (old new : C) (found : Option LocatedBlocks) (result : Result FileReader HdfsError) (to : Resolved) → leads_to client src ≡ Some to
-      → AsksAt serves false (λ at. asks.GetBlockLocations at 0 (2 ^ 63 - 1)) client src old (Ok (answers.GetBlockLocations found)) client' new
-      → Opens src (Ok found) result → IfOk result (λ reader. service_of reader ≡ to.service) → IfOk result (IsMadeFor client src client')
-  made_if client client' src old new found (Err error) to leads at opens numbered = tt
-  made_if client client' src old new found (Ok reader) to leads at opens numbered =
-      let place : to ≡ at.to = cc (at.leads, leads) in
-      let around = once_looks shown serves rows {write = false} {ask = asks.GetBlockLocations at.to.path 0 (2 ^ 63 - 1)} {old = through at.before old} {outcome = Ok (answers.GetBlockLocations found)} {new = through at.after new} at.asked in
-      is_made client client' src at.to at.leads found reader (made_of src found reader opens) (shown old) (shown new) around (numbered ∙ ap (λ (r : Resolved). r.service) place) at.after at.is
+    pub shows_if : (found : LocatedBlocks) (result : Result FileReader HdfsError) (s t : Shown) (before : NamenodeProtocol) → service_at client to.service ≡ Some before
+        → (ReachesAll (proxy_of before) s → LocatesFile path s found × FilesStay path s t) → IfOk result (IsReaderOf found) → IfOk result (ShowsFile client src s t)
+    shows_if found (Err error) s t before was looked of = tt
+    shows_if found (Ok reader) s t before was looked of =
+        shows_file found s t before reader was (λ reaches. subst (λ (p : List ℕ). LocatesFile p s found × FilesStay p s t) named (looked reaches)) of
 
-pub located_if : (may_answer : Ask → Answer → Type 0) (client : Client) (src : List ℕ) (found : Option LocatedBlocks) (result : Result FileReader HdfsError) (to : Resolved) (path : List ℕ) → leads_to client src ≡ Some to
-    → path ≡ to.path → may_answer (asks.GetBlockLocations path 0 (2 ^ 63 - 1)) (answers.GetBlockLocations found) → Opens src (Ok found) result → IfOk result (AreLocated may_answer client src)
-located_if may_answer client src found (Err error) to path leads is answered opens = tt
-located_if may_answer client src found (Ok reader) to path leads is answered opens =
-    are_located client client src to leads found reader (made_of src found reader opens) may_answer
-    (subst (λ (p : List ℕ). may_answer (asks.GetBlockLocations p 0 (2 ^ 63 - 1)) (answers.GetBlockLocations found)) is answered)
+    -- there are no blocks, and why, as the service sees it
+    pub lacks_looked : (s t : Shown) (before : NamenodeProtocol) (error : HdfsError) → service_at client to.service ≡ Some before
+        → ((view : View) → HasView (proxy_of before) s view → LooksInVain src path (see view s) error (see view t)) → LacksReader client src s error t
+    lacks_looked s t before error was vain = inr (λ other there namenode is view has.
+        subst (λ (r : Resolved). LooksInVain src r.path (see view s) error (see view t)) (same_place other there)
+        (subst (λ (p : List ℕ). LooksInVain src p (see view s) error (see view t)) named
+        (vain view (subst (λ (n : NamenodeProtocol). HasView (proxy_of n) s view) (same_service before was other there namenode is) has))))
 
-pub shows_if : (client : Client) (src : List ℕ) (found : Option LocatedBlocks) (result : Result FileReader HdfsError) (to : Resolved) (path : List ℕ) (s t : Shown) (before : NamenodeProtocol) → leads_to client src ≡ Some to
-    → path ≡ to.path → service_at client to.service ≡ Some before
-    → (ReachesAll (proxy_of before) s → Came s (asks.GetBlockLocations path 0 (2 ^ 63 - 1)) (Ok (answers.GetBlockLocations found)) t) → Opens src (Ok found) result → IfOk result (ShowsFile client src s t)
-shows_if client src found (Err error) to path s t before leads is was came opens = tt
-shows_if client src found (Ok reader) to path s t before leads is was came opens =
-    shows_file client client src to leads found reader (made_of src found reader opens) s t before was
-    (λ reaches. subst (λ (p : List ℕ). Came s (asks.GetBlockLocations p 0 (2 ^ 63 - 1)) (Ok (answers.GetBlockLocations found)) t) is (came reaches))
+  pub made_if : (client' : Client) (after : NamenodeProtocol) (found : LocatedBlocks) (result : Result FileReader HdfsError) → service_at client' to.service ≡ Some after
+      → AreBlocksOf found → IfOk result (IsReaderOf found) → IfOk result (λ reader. service_of reader ≡ to.service) → IfOk result (IsMadeFor client src client')
+  made_if client' after found (Err error) is blocks of numbered = tt
+  made_if client' after found (Ok reader) is blocks of numbered = is_made found client' after reader is blocks of numbered
+
+-- there was no memory for the path
+pub lacks_memory : (client : Client) (src : List ℕ) (s t : Shown) (result : Result FileReader HdfsError) → IsErrAnd result (λ error. error ≡ errors.NoMemory)
+    → IfErr result (λ error. LacksReader client src s error t)
+lacks_memory client src s t (Ok reader) is = absurd is
+lacks_memory client src s t (Err error) is =
+    subst (λ (e : HdfsError). LacksReader client src s e t) (sym is) (inr (λ to leads namenode there view has. vain_memory src to.path (see view s) (see view t)))
+
+-- the file is encrypted
+pub lacks_plain : (client : Client) (src : List ℕ) (s t : Shown) (found : LocatedBlocks) (result : Result FileReader HdfsError)
+    → IfErr result (λ error. Unsupported error × (is_some found.encryption ≡ true)) → IfErr result (λ error. LacksReader client src s error t)
+lacks_plain client src s t found (Ok reader) refused = tt
+lacks_plain client src s t found (Err error) refused = inl refused.0
 
 -- ---- one service that was used
 

@@ -16,10 +16,11 @@ use Rattle.hdfs_cluster.specs.Stores.{StoresBlocks}
 use Rattle.hdfs_names.specs.declared.mounts.Resolved.{Resolved}
 use Rattle.hdfs_namenode.specs.Asked.{ReachesAll}
 use Rattle.hdfs_namenode.specs.Clients.{defaults_of, proxy_of}
+use Rattle.hdfs_namenode.specs.Views.{View, HasView, see}
 use Rattle.hdfs_namenode.specs.declared.protocol.NamenodeProtocol.{NamenodeProtocol}
 use Rattle.hdfs_file_reader.specs.Files.{IsWholeFile, LacksRange, LosesByte, OnlyReadsFile}
 use Rattle.hdfs_file_reader.specs.Files as files
-use Rattle.hdfs_file_reader.specs.Looking.{IsClosed}
+use Rattle.hdfs_file_reader.specs.Looking.{IsClosed, LooksInVain}
 use Rattle.hdfs_file_reader.specs.declared.file_blocks.FileBlocks.{FileBlocks}
 use Rattle.hdfs_file_reader.specs.Ranges.{Stored}
 use Rattle.hdfs_file_reader.specs.Transferring.{MayMove, Unsupported}
@@ -70,6 +71,14 @@ Opens given (Ok (Some located)) result =
     IfOk result (IsReaderOf located) × IfErr result (λ error. Unsupported error × (is_some located.encryption ≡ true))
 Opens given (Ok None) result = (result ≡ Err (errors.FileNotFound given)) ⊎ (result ≡ Err errors.NoMemory)
 Opens given (Err error) result = result ≡ Err error
+
+-- Why a client has no reader of the file at a path: the file is encrypted; or there are no blocks, as the service sees it to which the path
+-- leads.
+abbrev pub LacksReader : Client → List ℕ → Shown → HdfsError → Shown → Type 0
+LacksReader client src old error new =
+    Unsupported error
+    ⊎ ((to : Resolved) → leads_to client src ≡ Some to → (namenode : NamenodeProtocol) → service_at client to.service ≡ Some namenode
+    → (view : View) → HasView (proxy_of namenode) old view → LooksInVain src to.path (see view old) error (see view new))
 
 -- a reader of the file at a path was made: it stands, and has its file from the service to which the path leads
 pub record IsMadeFor (client : Client) (src : List ℕ) (client' : Client) (reader : FileReader) : Type 0 where

@@ -1,24 +1,24 @@
 //! Files that are read.
-ghost use Rattle.std.specs.Prelude.{◌≡◌, ◌<◌, ◌≤◌, ◌+◌, ◌-◌, ◌^◌, false, Ok, IfOk, IfErr, vec_len};
+ghost use Rattle.std.specs.Prelude.{◌≡◌, ◌<◌, ◌≤◌, ◌+◌, ◌-◌, ◌^◌, false, true, is_some, IfOk, IfErr, vec_len};
 ghost use Rattle.hdfs_cluster.specs.Requests.{AskOf};
 ghost use Rattle.hdfs_cluster.specs.declared.asks.Ask.TheVariants as asks;
 ghost use Rattle.hdfs_cluster.specs.declared.asks.Answer.TheVariants as answers;
 ghost use Rattle.hdfs_file_reader.specs.Files.{EndsBehind, IsWholeFile, LetsReadBlocks};
 ghost use Rattle.hdfs_file_reader.specs.Files as files;
-ghost use Rattle.hdfs_client.specs.Readers.{Opens, service_of};
+ghost use Rattle.hdfs_file_reader.specs.Transferring.{Unsupported};
+ghost use Rattle.hdfs_client.specs.Readers.{IsReaderOf, service_of};
 
 use crate::client::Client;
 use crate::file_reader::FileReader;
-use crate::status::not_found;
 use hdfs_cluster::{Cluster, HdfsError, LocatedBlocks};
-use hdfs_file_reader::{FileBlocks, WHOLE_FILE};
+use hdfs_file_reader::{FileBlocks, locate};
 use hdfs_wire::Blob;
 use std::alloc::Global;
 
 impl Client {
     ghost use Rattle.hdfs_client.specs.Calls.{Gives};
     ghost use Rattle.hdfs_client.specs.Clients.{IsClientOf, LetsAt};
-    ghost use Rattle.hdfs_client.specs.Readers.{AreLocated, IsMadeFor, ReadsBlocks, ShowsFile};
+    ghost use Rattle.hdfs_client.specs.Readers.{AreLocated, IsMadeFor, LacksReader, Opens, ReadsBlocks, ShowsFile};
     ghost use Rattle.hdfs_client.specs.Writing.{KeepsFiles};
 
     /// A reader of the file at a path, at its start: all blocks of the file are asked for, once.
@@ -30,6 +30,8 @@ impl Client {
         requires allowed { LetsAt C.allows (λ at. asks.GetBlockLocations at 0 (2 ^ 63 - 1)) self.old path.now }
         ensures asked { Gives C.serves false (λ at. asks.GetBlockLocations at 0 (2 ^ 63 - 1)) answers.GetBlockLocations
             self.old path.now cluster.old self.new cluster.new (λ found. Opens path.now found result) }
+        ensures err { IfErr result (λ error. LacksReader self.old path.now
+            (C.shown cluster.old) error (C.shown cluster.new)) }
         ensures made { IfOk result (IsMadeFor self.old path.now self.new) }
         ensures answered { IfOk result (AreLocated C.may_answer self.old path.now) }
         ensures shows { IfOk result (ShowsFile self.old path.now (C.shown cluster.old) (C.shown cluster.new)) }
@@ -38,13 +40,9 @@ impl Client {
         ensures client { IsClientOf self.new (C.shown cluster.new) }
     {
         let to = self.resolve(path)?;
-        let found = self.services[to.service].get_block_locations(
-            cluster,
-            to.path.as_str(),
-            0,
-            WHOLE_FILE,
-        )?;
-        reader_of(self.alloc, path, to.service, found)
+        let namenode = &mut self.services[to.service];
+        let found = locate(self.alloc, cluster, namenode, path, to.path.as_str())?;
+        reader_of(self.alloc, to.service, found)
     }
 
     /// A range of a file, by the service of this number.
@@ -77,22 +75,15 @@ impl Client {
     }
 }
 
-/// What a caller has of the blocks that were found for a file, by the service of this number.
-fn reader_of(
-    alloc: Global,
-    given: &str,
-    service: usize,
-    found: Option<LocatedBlocks>,
-) -> Result<FileReader, HdfsError>
-    ensures opens { Opens given.now (Ok found) result }
+/// A reader at the start of a file of which these blocks were answered, by the service of this number.
+fn reader_of(alloc: Global, service: usize, found: LocatedBlocks) -> Result<FileReader, HdfsError>
+    ensures ok { IfOk result (IsReaderOf found) }
     ensures service { IfOk result (λ reader. service_of reader ≡ service) }
+    ensures err { IfErr result (λ error. Unsupported error × (is_some found.encryption ≡ true)) }
 {
-    match found {
-        Some(located) => Ok(FileReader {
-            file: FileBlocks::of(alloc, located)?,
-            position: 0,
-            service,
-        }),
-        None => Err(not_found(alloc, given)),
-    }
+    Ok(FileReader {
+        file: FileBlocks::of(alloc, found)?,
+        position: 0,
+        service,
+    })
 }

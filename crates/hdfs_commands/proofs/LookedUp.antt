@@ -11,8 +11,13 @@ use Rattle.hdfs_cluster.specs.Shown.{Later, SameLinks, SameNodes, SamePlaces, Sa
 use Rattle.hdfs_model.proofs.Telling.{ask_can_end}
 use Rattle.hdfs_cluster.proofs.Frames.{later_trans, same_links_trans, told_weaker}
 use Rattle.hdfs_namenode.specs.Relaying.{TellsAsk}
-use Rattle.hdfs_file_reader.specs.Looking.{OnlyLooks, TellsLookUp}
+use Rattle.hdfs_file_reader.specs.Looking.{LooksInVain, OnlyLooks, TellsLookUp}
 use Rattle.hdfs_commands.proofs.Owing.{ask_not_owed}
+
+-- a name is what it is called by
+pub vain_called : {called name path : List ℕ} {old new : Shown} {error : HdfsError} → called ≡ name → LooksInVain called path old error new
+    → LooksInVain name path old error new
+vain_called {called} {name} {path} {old} {new} {error} is = subst (λ (n : List ℕ). LooksInVain n path old error new) is
 
 -- what an error of an ask tells of the read that asked
 pub tells_from-TellsAsk : (name : List ℕ) (from len : ℕ) (old new : Shown) (e : HdfsError) → TellsAsk old new e → Tells (commands.Read name from len) old new e

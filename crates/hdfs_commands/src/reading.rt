@@ -60,7 +60,7 @@ impl Session {
             (commands.Read name.now offset len)) }
         ensures kept { self.new ≡ record self.old { connections = self.new.connections; namenode = self.new.namenode } }
     {
-        let found = locate(self.alloc, cluster, &mut self.namenode, name, path)?;
+        let found = locate(self.alloc, cluster, &mut self.namenode, name.as_str(), path)?;
         let file = FileBlocks::of(self.alloc, found)?;
         let bytes = file.read_range(
             cluster,

@@ -4,6 +4,5 @@ mod Parts
 mod Pieces
 mod Readers
 pub mod Ranged
-pub mod Services
 pub mod Staying
 pub mod Transfers

@@ -1,10 +1,11 @@
 -- What an ask for the blocks of a closed file says of the picture.
-use Rattle.std.proofs.Common.{◌≡◌, ◌⊎◌, inl, inr, ⊎_elim, ℕ, List, Option, Some, None, Result, Ok, Err, refl, ◌∙◌}
+use Rattle.std.proofs.Common.{◌≡◌, ◌⊎◌, inl, inr, ⊎_elim, ℕ, ◌-◌, ◌^◌, Bool, List, Option, Some, None, Result, Ok, Err, refl, ◌∙◌}
 use Rattle.hdfs_cluster.specs.declared.messages.LocatedBlocks.{LocatedBlocks}
 use Rattle.hdfs_cluster.specs.declared.asks.Ask.{Ask}
 use Rattle.hdfs_cluster.specs.declared.asks.Ask.TheVariants as asks
 use Rattle.hdfs_cluster.specs.declared.asks.Answer.{Answer}
 use Rattle.hdfs_cluster.specs.declared.asks.Answer.TheVariants as answers
+use Rattle.hdfs_cluster.specs.declared.asks.AskFault.{AskFault}
 use Rattle.hdfs_cluster.specs.declared.errors.HdfsError.{HdfsError}
 use Rattle.hdfs_cluster.specs.declared.errors.HdfsError.TheVariants as errors
 use Rattle.hdfs_cluster.specs.Failures.{CallsRose, IsOfAsk}
@@ -12,12 +13,14 @@ use Rattle.hdfs_cluster.specs.Effects.{KeepsBytes}
 use Rattle.hdfs_cluster.specs.Namenode.{AsksWhole, Locates, Row, IsNoFile}
 use Rattle.hdfs_cluster.specs.Picture.{Picture, SameFiles, SameButActive, Told}
 use Rattle.hdfs_cluster.specs.Repeating.{DoneOrNot, Leaves}
-use Rattle.hdfs_cluster.specs.Shown.{Shown, SamePlaces}
+use Rattle.hdfs_cluster.specs.Shown.{Shown, SamePlaces, Served}
 use Rattle.hdfs_cluster.proofs.Frames.{later_refl, later_trans, same_files_trans, same_links_refl, same_links_trans, told_after, told_weaker}
 use Rattle.hdfs_cluster.proofs.Repeating.{locations_repeats}
+use Rattle.hdfs_namenode.specs.Asked.{AskedOnce, Through}
 use Rattle.hdfs_namenode.specs.Relaying.{Came, RefusedBy}
+use Rattle.hdfs_namenode.proofs.Observers.{once_leaves}
 use Rattle.hdfs_namenode.proofs.Relayed.{relayed_done, relayed_row}
-use Rattle.hdfs_file_reader.specs.Looking.{AnswersLookUp, FilesStay, IsClosed, OnlyLooks}
+use Rattle.hdfs_file_reader.specs.Looking.{AnswersLookUp, FilesStay, IsClosed, LooksInVain, OnlyLooks}
 
 -- a look-up by its row leaves the picture, but for which namenode is active
 row_same : (p q : Picture) (src : List ℕ) (offset length : ℕ) (answer : Answer) → Row p (asks.GetBlockLocations src offset length) answer q → SameButActive p q
@@ -53,11 +56,16 @@ looks_from-Leaves a b left = record {
   nodes = left.nodes;
 }
 
+-- so does one of a service of any kind
+module _ {C : Type 0} (shown : C → Shown) (serves : C → ℕ → Ask → Result Answer AskFault → C → Type 0)
+    (rows : (old new : C) (i : ℕ) (ask : Ask) (result : Result Answer AskFault) → serves old i ask result new → Served (shown old) i ask result (shown new)) where
+  pub looks_once : (write : Bool) (ask : Ask) (old : Through C) (outcome : Result Answer HdfsError) (new : Through C) → AskedOnce serves write ask old outcome new
+      → OnlyLooks (shown old.cluster) (shown new.cluster)
+  looks_once write ask old outcome new asked =
+      looks_from-Leaves (shown old.cluster) (shown new.cluster) (once_leaves shown serves rows write ask old outcome new asked)
+
 -- what an ask for the blocks of a file has come to
 module _ {s t : Shown} {src : List ℕ} {offset length : ℕ} where
-  pub only_looks : {result : Result Answer HdfsError} → Came s (asks.GetBlockLocations src offset length) result t → OnlyLooks s t
-  only_looks came = looks_from-Leaves s t came.relays.leaves
-
   -- over a told picture, where nobody writes the file, the files stay
   pub files_looked : {result : Result Answer HdfsError} → Came s (asks.GetBlockLocations src offset length) result t → FilesStay src s t
   files_looked {result} came p told closed =
@@ -85,6 +93,24 @@ module _ {s t : Shown} {src : List ℕ} {offset length : ℕ} where
   error_looked came p told closed =
       ⊎_elim (λ memory. inl memory.0) (λ more. inr (⊎_elim (λ refused. inl refused.0) (λ rose. inr rose.0) more))
       (came.told p told (locations_repeats src offset length p closed)).2
+
+-- why there are no blocks
+module _ {s t : Shown} {src name : List ℕ} {error : HdfsError} where
+  -- there is no file
+  pub vain_missing : error ≡ errors.FileNotFound name → Came s (asks.GetBlockLocations src 0 (2 ^ 63 - 1)) (Ok (answers.GetBlockLocations None)) t
+      → LooksInVain name src s error t
+  vain_missing is came = record { tells = inl (is, came.relays.fine); why = λ p told closed. inl (is, missing_looked came p told closed) }
+
+  -- the ask has failed
+  pub vain_error : Came s (asks.GetBlockLocations src 0 (2 ^ 63 - 1)) (Err error) t → LooksInVain name src s error t
+  vain_error came = record {
+    tells = inr came.relays.tells;
+    why = λ p told closed. inr (came.relays.tells, error_looked came p told closed);
+  }
+
+-- for want of memory, which tells nothing
+pub vain_memory : (name src : List ℕ) (s t : Shown) → LooksInVain name src s errors.NoMemory t
+vain_memory name src s t = record { tells = inr (tt, (tt, tt)); why = λ p told closed. inr ((tt, (tt, tt)), inl refl) }
 
 -- files that stay where the blocks are looked up, and then, stay
 pub files_read : (s s' u : Shown) (path : List ℕ) → FilesStay path s s' → Told SameFiles s'.picture u.picture → FilesStay path s u

@@ -1,7 +1,10 @@
 -- What asking for the cluster's defaults has come to, which are asked for once.
-use Rattle.std.proofs.Common.{◌≡◌, inl, inr, ⊎_elim, Option, Some, None, Result, Ok, Err, refl, sym, ◌∙◌, ap, subst}
+use Rattle.std.proofs.Common.{◌≡◌, ℕ, false, inl, inr, ⊎_elim, Option, Some, None, Result, Ok, Err, refl, sym, ◌∙◌, ap, subst}
 use Rattle.hdfs_cluster.specs.declared.asks.Answer.{Answer}
 use Rattle.hdfs_cluster.specs.declared.asks.Answer.TheVariants as answers
+use Rattle.std.specs.Prelude.{IfSome}
+use Rattle.hdfs_cluster.specs.declared.asks.AskFault.{AskFault}
+use Rattle.hdfs_cluster.specs.declared.asks.Ask.{Ask}
 use Rattle.hdfs_cluster.specs.declared.asks.Ask.TheVariants as asks
 use Rattle.hdfs_cluster.specs.declared.errors.HdfsError.{HdfsError}
 use Rattle.hdfs_cluster.specs.declared.messages.ServerDefaults.{ServerDefaults}
@@ -10,10 +13,14 @@ use Rattle.hdfs_cluster.specs.Effects.{KeepsBytes}
 use Rattle.hdfs_cluster.specs.Namenode.{Row}
 use Rattle.hdfs_cluster.specs.Picture.{Picture, SameButActive, Told}
 use Rattle.hdfs_cluster.specs.Repeating.{DoneOrNot}
-use Rattle.hdfs_cluster.specs.Shown.{Shown}
+use Rattle.hdfs_cluster.specs.Shown.{Shown, Served}
 use Rattle.hdfs_cluster.proofs.Frames.{same_files_refl, told_after, told_refl}
 use Rattle.hdfs_cluster.proofs.Repeating.{defaults_repeats}
+use Rattle.hdfs_namenode.specs.Asked.{Asked, as_answer}
+use Rattle.hdfs_namenode.specs.Clients.{through}
 use Rattle.hdfs_namenode.specs.Relaying.{Came, CameCached}
+use Rattle.hdfs_namenode.specs.declared.protocol.NamenodeProtocol.{NamenodeProtocol}
+use Rattle.hdfs_namenode.proofs.Observers.{all_leaves}
 use Rattle.hdfs_namenode.proofs.Relayed.{relayed_done, relayed_row}
 use Rattle.hdfs_file_reader.specs.Looking.{OnlyLooks}
 use Rattle.hdfs_file_reader.specs.Transferring.{AreDefaultsOf, AskedInVain, StaysKnown}
@@ -37,6 +44,17 @@ OnlyAsks a b = OnlyLooks a b × Told SameButActive a.picture b.picture
 
 pub only_asks_refl : (a : Shown) → OnlyAsks a a
 only_asks_refl a = (looks_refl a, told_refl SameButActive a.picture active_refl)
+
+-- a service of any kind was asked for them, or they were known
+module _ {C : Type 0} (shown : C → Shown) (serves : C → ℕ → Ask → Result Answer AskFault → C → Type 0)
+    (rows : (old new : C) (i : ℕ) (ask : Ask) (result : Result Answer AskFault) → serves old i ask result new → Served (shown old) i ask result (shown new)) where
+  pub looks_cached : (known : Option ServerDefaults) (n n' : NamenodeProtocol) (c c' : C) (result : Result ServerDefaults HdfsError)
+      → (known ≡ None → Asked serves false asks.GetServerDefaults (through n c) (as_answer answers.GetServerDefaults result) (through n' c'))
+      → IfSome known (λ kept. (result ≡ Ok kept) × (c' ≡ c) × (n' ≡ n)) → OnlyLooks (shown c) (shown c')
+  looks_cached None n n' c c' result asked kept =
+      looks_from-Leaves (shown c) (shown c')
+      (all_leaves shown serves rows false asks.GetServerDefaults (through n c) (as_answer answers.GetServerDefaults result) (through n' c') (asked refl))
+  looks_cached (Some d) n n' c c' result asked kept = subst (λ (x : C). OnlyLooks (shown c) (shown x)) (sym kept.1) (looks_refl (shown c))
 
 -- what is so of each told picture is so of the pictures, where one is told behind an untold one no more than before it
 told_each : (P Q : Picture → Picture → Type 0) (a b : Option Picture) → Told P a b → ((p : Picture) → a ≡ Some p → (q : Picture) × (b ≡ Some q) × Q p q) → Told Q a b

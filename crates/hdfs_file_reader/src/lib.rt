@@ -8,4 +8,4 @@ mod reading;
 mod transfer;
 
 pub use file_blocks::FileBlocks;
-pub use locating::{WHOLE_FILE, locate};
+pub use locating::locate;

@@ -8,11 +8,12 @@ use Rattle.hdfs_cluster.specs.declared.messages.LocatedBlock.{LocatedBlock}
 use Rattle.hdfs_cluster.specs.Shown.{SameNodes, Shown}
 use Rattle.hdfs_cluster.proofs.Frames.{later_refl, same_links_refl, same_links_trans}
 use Rattle.hdfs_namenode.specs.Clients.{proxy_of}
+use Rattle.hdfs_namenode.specs.Views.{Whole}
 use Rattle.hdfs_namenode.proofs.Services.{reaches_later, reaches_service}
 use Rattle.hdfs_file_reader.specs.Files.{LetsReadBlocks, LosesByte, length_of}
 use Rattle.hdfs_file_reader.specs.Ranges.{Stored}
 use Rattle.hdfs_commands.proofs.Causing.{agrees_looked, encrypted_cause, looked_cause, read_done}
-use Rattle.hdfs_commands.proofs.LookedUp.{applies_read, tells_looked}
+use Rattle.hdfs_commands.proofs.LookedUp.{applies_read, tells_looked, vain_called}
 use Rattle.hdfs_commands.proofs.Ranging.{agrees_then, asks_looked, asks_read, finds_plain, lacks_cause, lacks_early, lacks_tells, plain_tells, range_ends, stay_read}
 use Rattle.hdfs_commands.proofs.Answered.{keeps_same}
 use Rattle.hdfs_commands.proofs.Refused.{looked_so, ranged_so}
@@ -25,7 +26,13 @@ still m t is = subst (λ (x : Shown). SameNodes m x) (sym is) (λ d. refl)
 pub locate-requires-clause-allowed : goal.locate-requires-clause-allowed
 locate-requires-clause-allowed g c = c.requires.allowed.locates
 
+pub locate-requires-clause-service : goal.locate-requires-clause-service
+locate-requires-clause-service g c = reaches_service (proxy_of c.args.self.now.namenode) (g.C.Cluster.shown c.args.cluster.now) c.requires.reaches
+
 -- ---- no blocks were found
+
+pub returns-in_err-found-clause-files : goal.returns-in_err-found-clause-files
+returns-in_err-found-clause-files g c = c.in_err-found.ensures.files Whole c.requires.reaches
 
 pub returns-in_err-found-clause-anywhere : goal.returns-in_err-found-clause-anywhere
 returns-in_err-found-clause-anywhere g c =
@@ -35,12 +42,13 @@ returns-in_err-found-clause-anywhere g c =
     let h = c.in_err-found.ensures in
     let e = c.in_err-found.field-0.0 in
     rw (p.1, p.2) (applies_read c.args.name.now c.args.offset c.args.len s m m (Err e) h.looks (later_refl m) (same_links_refl m) (λ none d. refl) tt
-    (tells_looked c.args.name.now c.args.offset c.args.len s m e h.err).1 (λ early d. refl))
+    (tells_looked c.args.name.now c.args.offset c.args.len s m e (vain_called c.as_str.ensures (h.err Whole c.requires.reaches)).tells).1 (λ early d. refl))
 
 pub returns-in_err-found-clause-owed : goal.returns-in_err-found-clause-owed
 returns-in_err-found-clause-owed g c =
     let p = err_from_is_err_and c.from_residual.result c.from_residual.ensures.1 in
-    rw (p.1, p.2) (tells_looked c.args.name.now c.args.offset c.args.len (g.C.Cluster.shown c.args.cluster.now) (g.C.Cluster.shown c.locate.new.cluster) c.in_err-found.field-0.0 c.in_err-found.ensures.err).0
+    rw (p.1, p.2) (tells_looked c.args.name.now c.args.offset c.args.len (g.C.Cluster.shown c.args.cluster.now) (g.C.Cluster.shown c.locate.new.cluster) c.in_err-found.field-0.0
+    (vain_called c.as_str.ensures (c.in_err-found.ensures.err Whole c.requires.reaches)).tells).0
 
 pub returns-in_err-found-clause-err : goal.returns-in_err-found-clause-err
 returns-in_err-found-clause-err g c =
@@ -49,15 +57,19 @@ returns-in_err-found-clause-err g c =
     let m = g.C.Cluster.shown c.locate.new.cluster in
     let h = c.in_err-found.ensures in
     rw (p.1, p.2) (λ w state meets knows. (
-      looked_cause w s m state c.args.name.now c.args.path.now c.args.offset c.args.len meets c.in_err-found.field-0.0 h.why,
-      agrees_looked w s m state c.args.name.now c.args.path.now c.args.offset c.args.len meets h.files,
+      looked_cause w s m state c.args.name.now c.args.path.now c.args.offset c.args.len meets c.in_err-found.field-0.0
+          (vain_called c.as_str.ensures (h.err Whole c.requires.reaches)).why,
+      agrees_looked w s m state c.args.name.now c.args.path.now c.args.offset c.args.len meets (h.files Whole c.requires.reaches),
     ))
 
 pub returns-in_err-found-clause-client : goal.returns-in_err-found-clause-client
 returns-in_err-found-clause-client g c =
-    asks_looked c.args.path.now (g.C.Cluster.shown c.args.cluster.now) (g.C.Cluster.shown c.locate.new.cluster) c.args.self.now.namenode c.locate.new.namenode c.in_err-found.ensures.files c.in_err-found.ensures.client
+    asks_looked c.args.path.now (g.C.Cluster.shown c.args.cluster.now) (g.C.Cluster.shown c.locate.new.cluster) c.args.self.now.namenode c.locate.new.namenode (c.in_err-found.ensures.files Whole c.requires.reaches) c.in_err-found.ensures.client
 
 -- ---- the file is encrypted
+
+pub returns-in_err-file-clause-files : goal.returns-in_err-file-clause-files
+returns-in_err-file-clause-files g c = c.in_ok-found.ensures.files Whole c.requires.reaches
 
 pub returns-in_err-file-clause-anywhere : goal.returns-in_err-file-clause-anywhere
 returns-in_err-file-clause-anywhere g c =
@@ -79,14 +91,16 @@ returns-in_err-file-clause-err g c =
     let s = g.C.Cluster.shown c.args.cluster.now in
     let m = g.C.Cluster.shown c.locate.new.cluster in
     let h = c.in_ok-found.ensures in
+    let files = h.files Whole c.requires.reaches in
+    let located = h.found Whole c.requires.reaches in
     rw (p.1, p.2, c.in_err-file.ensures.err.0) (λ w state meets knows. (
-      encrypted_cause w s m state c.args.name.now c.args.path.now c.args.offset c.args.len meets h.files c.in_ok-found.found h.found c.in_err-file.ensures.err.1,
-      agrees_looked w s m state c.args.name.now c.args.path.now c.args.offset c.args.len meets h.files,
+      encrypted_cause w s m state c.args.name.now c.args.path.now c.args.offset c.args.len meets files c.in_ok-found.found located c.in_err-file.ensures.err.1,
+      agrees_looked w s m state c.args.name.now c.args.path.now c.args.offset c.args.len meets files,
     ))
 
 pub returns-in_err-file-clause-client : goal.returns-in_err-file-clause-client
 returns-in_err-file-clause-client g c =
-    asks_looked c.args.path.now (g.C.Cluster.shown c.args.cluster.now) (g.C.Cluster.shown c.locate.new.cluster) c.args.self.now.namenode c.locate.new.namenode c.in_ok-found.ensures.files c.in_ok-found.ensures.client
+    asks_looked c.args.path.now (g.C.Cluster.shown c.args.cluster.now) (g.C.Cluster.shown c.locate.new.cluster) c.args.self.now.namenode c.locate.new.namenode (c.in_ok-found.ensures.files Whole c.requires.reaches) c.in_ok-found.ensures.client
 
 -- ---- the range
 
@@ -141,14 +155,16 @@ returns-in_err-bytes-clause-owed g c =
 pub returns-in_err-bytes-clause-files : goal.returns-in_err-bytes-clause-files
 returns-in_err-bytes-clause-files g c =
     let h = c.in_ok-found.ensures in
+    let files = h.files Whole c.requires.reaches in
     stay_read c.args.path.now (g.C.Cluster.shown c.args.cluster.now) (g.C.Cluster.shown c.locate.new.cluster) (g.C.Cluster.shown c.read_range.new.cluster) c.args.self.now.namenode c.locate.new.namenode c.read_range.new.namenode
-    h.files h.client h.looks c.requires.reaches c.read_range.ensures.leaves
+    files h.client h.looks c.requires.reaches c.read_range.ensures.leaves
 
 pub returns-in_err-bytes-clause-client : goal.returns-in_err-bytes-clause-client
 returns-in_err-bytes-clause-client g c =
     let h = c.in_ok-found.ensures in
+    let files = h.files Whole c.requires.reaches in
     asks_read c.args.path.now (g.C.Cluster.shown c.args.cluster.now) (g.C.Cluster.shown c.locate.new.cluster) (g.C.Cluster.shown c.read_range.new.cluster) c.args.self.now.namenode c.locate.new.namenode c.read_range.new.namenode
-    h.files h.client h.looks c.requires.reaches c.read_range.ensures.leaves
+    files h.client h.looks c.requires.reaches c.read_range.ensures.leaves
 
 pub returns-in_err-bytes-clause-err : goal.returns-in_err-bytes-clause-err
 returns-in_err-bytes-clause-err g c =
@@ -160,6 +176,8 @@ returns-in_err-bytes-clause-err g c =
     let b = c.locate.new.namenode in
     let n = c.read_range.new.namenode in
     let h = c.in_ok-found.ensures in
+    let files = h.files Whole c.requires.reaches in
+    let located = h.found Whole c.requires.reaches in
     let found = c.in_ok-found.found in
     let range = c.in_err-bytes.ensures in
     let e = c.in_err-bytes.field-0.0 in
@@ -168,11 +186,11 @@ returns-in_err-bytes-clause-err g c =
     let reaches = reaches_later (proxy_of a) (proxy_of b) s m h.client.service h.looks.later c.requires.reaches in
     let loses = subst (λ (bs : List LocatedBlock). LosesByte m bs c.args.offset (c.args.offset + c.args.len) e t) c.in_ok-file.ensures.ok.0 (range.lost reaches) in
     rw (p.1, p.2) (λ w state meets knows. (
-      lacks_cause c.args.path.now s m t a b n h.files h.client h.looks c.requires.reaches range.leaves c.args.name.now c.args.offset c.args.len found h.found w state meets knows e length is range.err
+      lacks_cause c.args.path.now s m t a b n files h.client h.looks c.requires.reaches range.leaves c.args.name.now c.args.offset c.args.len found located w state meets knows e length is range.err
           (λ past. subst (λ (x : Shown). Cause w state (commands.Read c.args.name.now c.args.offset c.args.len) s x e) (sym (ap g.C.Cluster.shown (range.range past).1))
-          (range_ends c.args.name.now c.args.path.now c.args.offset c.args.len found s m h.files h.found w state meets length e is (range.range past).0 past))
+          (range_ends c.args.name.now c.args.path.now c.args.offset c.args.len found s m files located w state meets length e is (range.range past).0 past))
           loses,
-      agrees_then c.args.path.now s m t a b n h.files h.client h.looks c.requires.reaches range.leaves c.args.name.now c.args.offset c.args.len found h.found w state meets knows,
+      agrees_then c.args.path.now s m t a b n files h.client h.looks c.requires.reaches range.leaves c.args.name.now c.args.offset c.args.len found located w state meets knows,
     ))
 
 pub returns-in_err-bytes-clause-refused : goal.returns-in_err-bytes-clause-refused
@@ -202,14 +220,16 @@ returns-clause-links g c =
 pub returns-clause-files : goal.returns-clause-files
 returns-clause-files g c =
     let h = c.in_ok-found.ensures in
+    let files = h.files Whole c.requires.reaches in
     stay_read c.args.path.now (g.C.Cluster.shown c.args.cluster.now) (g.C.Cluster.shown c.locate.new.cluster) (g.C.Cluster.shown c.read_range.new.cluster) c.args.self.now.namenode c.locate.new.namenode c.read_range.new.namenode
-    h.files h.client h.looks c.requires.reaches c.read_range.ensures.leaves
+    files h.client h.looks c.requires.reaches c.read_range.ensures.leaves
 
 pub returns-clause-client : goal.returns-clause-client
 returns-clause-client g c =
     let h = c.in_ok-found.ensures in
+    let files = h.files Whole c.requires.reaches in
     asks_read c.args.path.now (g.C.Cluster.shown c.args.cluster.now) (g.C.Cluster.shown c.locate.new.cluster) (g.C.Cluster.shown c.read_range.new.cluster) c.args.self.now.namenode c.locate.new.namenode c.read_range.new.namenode
-    h.files h.client h.looks c.requires.reaches c.read_range.ensures.leaves
+    files h.client h.looks c.requires.reaches c.read_range.ensures.leaves
 
 pub returns-clause-ok : goal.returns-clause-ok
 returns-clause-ok g c =
@@ -220,16 +240,18 @@ returns-clause-ok g c =
     let b = c.locate.new.namenode in
     let n = c.read_range.new.namenode in
     let h = c.in_ok-found.ensures in
+    let files = h.files Whole c.requires.reaches in
+    let located = h.found Whole c.requires.reaches in
     let found = c.in_ok-found.found in
     let file = c.in_ok-file.ensures.ok in
     let range = c.in_ok-bytes.ensures in
     let reaches = reaches_later (proxy_of a) (proxy_of b) s m h.client.service h.looks.later c.requires.reaches in
     let within : c.args.offset + c.args.len ≤ found.file_length = omega (arith, range.count.0, file.1) in
     λ w state meets knows. (
-      read_done w s m state c.args.name.now c.args.path.now c.args.offset c.args.len meets h.files found h.found c.in_ok-bytes.bytes within
+      read_done w s m state c.args.name.now c.args.path.now c.args.offset c.args.len meets files found located c.in_ok-bytes.bytes within
           (λ content st inside. range.bytes reaches content (subst (λ (bs : List LocatedBlock). Stored m bs content) (sym file.0) st) inside),
-      agrees_then c.args.path.now s m t a b n h.files h.client h.looks c.requires.reaches range.leaves c.args.name.now c.args.offset c.args.len found h.found w state meets knows,
-      finds_plain c.args.path.now s m t a b n h.files h.client h.looks c.requires.reaches range.leaves c.args.name.now c.args.offset c.args.len found h.found w state meets knows file.2 range.plain,
+      agrees_then c.args.path.now s m t a b n files h.client h.looks c.requires.reaches range.leaves c.args.name.now c.args.offset c.args.len found located w state meets knows,
+      finds_plain c.args.path.now s m t a b n files h.client h.looks c.requires.reaches range.leaves c.args.name.now c.args.offset c.args.len found located w state meets knows file.2 range.plain,
     )
 
 -- ---- what was answered
@@ -237,7 +259,8 @@ returns-clause-ok g c =
 pub returns-in_err-found-clause-refused : goal.returns-in_err-found-clause-refused
 returns-in_err-found-clause-refused g c =
     let p = err_from_is_err_and c.from_residual.result c.from_residual.ensures.1 in
-    rw (p.1, p.2) (looked_so g.C.Cluster.may_answer c.args.self.now.namenode.client c.args.path.now c.args.name.now c.args.offset c.args.len c.args.name.now (g.C.Cluster.shown c.args.cluster.now) (g.C.Cluster.shown c.locate.new.cluster) c.in_err-found.field-0.0 c.in_err-found.ensures.err c.in_err-found.ensures.answered)
+    rw (p.1, p.2) (looked_so g.C.Cluster.may_answer c.args.self.now.namenode.client c.args.path.now c.args.name.now c.args.offset c.args.len c.args.name.now (g.C.Cluster.shown c.args.cluster.now) (g.C.Cluster.shown c.locate.new.cluster) c.in_err-found.field-0.0
+    (vain_called c.as_str.ensures (c.in_err-found.ensures.err Whole c.requires.reaches)).tells c.in_err-found.ensures.answered)
 
 pub returns-in_err-file-clause-refused : goal.returns-in_err-file-clause-refused
 returns-in_err-file-clause-refused g c =
