@@ -58,7 +58,7 @@ pub info_still : (name : List ℕ) → IsStill (commands.Info name)
 info_still name = record { sends = λ sends. sends; found = λ old new path byte lost. lost }
 
 -- the ask changes nothing, whatever comes of it
-info_quiet : (path : List ℕ) (p q : Picture) → MayBeDone (asks.GetFileInfo path) p q → SameButActive p q
+pub info_quiet : (path : List ℕ) (p q : Picture) → MayBeDone (asks.GetFileInfo path) p q → SameButActive p q
 info_quiet path p q (inl same) = same
 info_quiet path p q (inr (inl done)) = by done.0 done.2
   where

@@ -1,6 +1,6 @@
 mod AbandonFiles
 mod Abandoning
-mod Acted
+pub mod Acted
 mod Answered
 mod Asking
 mod Begun
@@ -10,32 +10,32 @@ mod CloseActs
 mod Connected
 mod Early
 mod Encrypting
-mod Failing
+pub mod Failing
 mod Limited
-mod InfoActs
+pub mod InfoActs
 mod ListActs
 mod LookedUp
 mod Lost
 mod Moved
-mod NameAsks
+pub mod NameAsks
 mod NamingActs
 mod OpenFiles
 mod OpenWithin
-mod Opening
+pub mod Opening
 mod Owing
 mod Planting
 mod Prepared
 mod Ranging
 mod ReadActs
 mod Refused
-mod Refusing
+pub mod Refusing
 mod SendActs
 mod SendFails
 mod Sized
 mod Sizing
 mod Starting
 mod Stepping
-mod Still
+pub mod Still
 mod Tallying
 mod Turned
 mod WholeNaming
