@@ -161,11 +161,47 @@ impl Matrix<GF256> {
         ensures second { IfOk result (λ b. IsRowProduct self.now (map (λ p. p.now) inputs.now) next len b.1) }
     {
         if len < LARGE {
-            let mut out = vec![in alloc; 0u8; len]?;
-            let mut other = vec![in alloc; 0u8; len]?;
-            self.write_two_rows(alloc, inputs, r, next, &mut out, &mut other)?;
-            return Ok((Bytes::from_vec(out)?, Bytes::from_vec(other)?));
+            return self.mul_two_apart(alloc, inputs, len, r, next);
         }
+        self.mul_two_joined(alloc, inputs, len, r, next)
+    }
+
+    /// The same, each product in a piece of memory of its own.
+    fn mul_two_apart(
+        &self,
+        alloc: Global,
+        inputs: &[&[u8]],
+        len: usize,
+        r: usize,
+        next: usize,
+    ) -> Result<(Bytes, Bytes), NoMemory>
+        requires even { AreLong (width self.now) len (map (λ p. p.now) inputs.now) }
+        requires row { r < length self.now }
+        requires next { next < length self.now }
+        ensures first { IfOk result (λ b. IsRowProduct self.now (map (λ p. p.now) inputs.now) r len b.0) }
+        ensures second { IfOk result (λ b. IsRowProduct self.now (map (λ p. p.now) inputs.now) next len b.1) }
+    {
+        let mut out = vec![in alloc; 0u8; len]?;
+        let mut other = vec![in alloc; 0u8; len]?;
+        self.write_two_rows(alloc, inputs, r, next, &mut out, &mut other)?;
+        Ok((Bytes::from_vec(out)?, Bytes::from_vec(other)?))
+    }
+
+    /// The same, both in one piece.
+    fn mul_two_joined(
+        &self,
+        alloc: Global,
+        inputs: &[&[u8]],
+        len: usize,
+        r: usize,
+        next: usize,
+    ) -> Result<(Bytes, Bytes), NoMemory>
+        requires even { AreLong (width self.now) len (map (λ p. p.now) inputs.now) }
+        requires row { r < length self.now }
+        requires next { next < length self.now }
+        ensures first { IfOk result (λ b. IsRowProduct self.now (map (λ p. p.now) inputs.now) r len b.0) }
+        ensures second { IfOk result (λ b. IsRowProduct self.now (map (λ p. p.now) inputs.now) next len b.1) }
+    {
         let Some(room) = len.checked_mul(2) else {
             return Err(NoMemory);
         };

@@ -49,6 +49,10 @@ fn first_part(text: &str) -> Option<&str>
     ensures { MatchOption result (list_any is_slash text.now ≡ false)
         (λ part. (rest : List ℕ) × (text.now ≡ part.now ++ 47 ∷ rest)) }
 {
+    // (most texts have none, and bytes are looked through faster)
+    if !text.as_bytes().contains(&b'/') {
+        return None;
+    }
     match text.split_once('/') {
         None => None,
         Some((part, _)) => Some(part),

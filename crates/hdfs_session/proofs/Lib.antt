@@ -3,3 +3,4 @@ mod Finishing
 mod Going
 mod Owning
 mod WholeGoing
+mod WrongSessions

@@ -1,1 +1,9 @@
 mod Patience
+mod Cases
+mod Keeping
+mod Whole
+mod Finished
+mod Ending
+mod Ends
+mod Pouring
+mod Copied

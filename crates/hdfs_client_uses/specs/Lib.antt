@@ -1,6 +1,0 @@
-pub mod Allowing
-pub mod Passing
-pub mod Footers
-pub mod Writing
-pub mod Logs
-pub mod Copying
