@@ -38,7 +38,8 @@ WhereReadyAt client src command old IsSo =
     → (IsMisplaced none_open to.path (command to.path) → ⊥) → (world : World) (state : State) → Ready world (bare old) state (command to.path ∷ [])
     → IsSo to.path world state
 
--- A call of a client at a path did what the command does there: the result is what a session says of it that has nothing open.
+-- A call of a client at a path did what the command does there: of its result, and of what it left, the main theorem's words on a command hold, in a
+-- session that has nothing open.
 abbrev pub DoesAs : Client → List ℕ → (List ℕ → Command) → Shown → Shown → Result Reply HdfsError → Type 0
 DoesAs client src command old new result =
     WhereReadyAt client src command old (λ path world state. Applied world state (command path) (bare old) (bare new) result)

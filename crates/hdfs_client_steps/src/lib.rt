@@ -1,10 +1,17 @@
-//! Calls of a client about names, in the words of a session: over a told cluster each does what the command of its name does in a session that
-//! has nothing open.
+//! Calls of a client about names, in the words of a session: where the path leads to a whole service and is one by the path rule, each does over
+//! a told cluster what the command of its name does in a session that has nothing open. What the client's call says over any cluster each says, too.
 #![tactic(auto)]
 
-ghost use Rattle.std.specs.Prelude.{◌≡◌, IfOk};
+ghost use Rattle.std.specs.Prelude.{◌≡◌, true, false, Err, IfOk};
+ghost use Rattle.hdfs_cluster.specs.Limits.{is_permission};
+ghost use Rattle.hdfs_cluster.specs.declared.asks.Answer.TheVariants as answers;
 ghost use Rattle.hdfs_cluster.specs.declared.asks.Ask.TheVariants as asks;
-ghost use Rattle.hdfs_client.specs.Clients.{IsClientOf, LetsAt, mounts_of};
+ghost use Rattle.hdfs_cluster.specs.declared.errors.ArgFault.TheVariants as args;
+ghost use Rattle.hdfs_cluster.specs.declared.errors.HdfsError.TheVariants as errors;
+ghost use Rattle.hdfs_namenode.specs.Asked.{as_answer};
+ghost use Rattle.hdfs_client.specs.Calls.{Gives, done};
+ghost use Rattle.hdfs_client.specs.Clients.{AsksAt, IsClientOf, LetsAt, mounts_of};
+ghost use Rattle.hdfs_client.specs.Statuses.{IsInfo};
 ghost use Rattle.hdfs_client.specs.Writing.{KeepsFiles};
 ghost use Rattle.hdfs_model.specs.declared.commands.Command.TheVariants as commands;
 ghost use Rattle.hdfs_model.specs.declared.commands.Reply.TheVariants as replies;
@@ -23,6 +30,10 @@ pub fn mkdirs<C: Cluster>(
 ) -> Result<(), HdfsError>
     requires client { IsClientOf client.old (C.shown cluster.old) }
     requires allowed { LetsAt C.allows (λ at. asks.Mkdirs at permission create_parent) client.old path.now }
+    ensures refused { is_permission permission ≡ false → (result ≡ Err (errors.InvalidArgument args.Options))
+        × (client.new ≡ client.old) × (cluster.new ≡ cluster.old) }
+    ensures asked { is_permission permission ≡ true → Gives C.serves true (λ at. asks.Mkdirs at permission create_parent)
+        answers.Mkdirs client.old path.now cluster.old client.new cluster.new (λ made. result ≡ done made) }
     ensures does { DoesAs client.old path.now (λ at. commands.Mkdirs at permission create_parent) (C.shown cluster.old)
         (C.shown cluster.new)
         (replied (λ made. replies.Made) result) }
@@ -43,6 +54,8 @@ pub fn delete<C: Cluster>(
 ) -> Result<bool, HdfsError>
     requires client { IsClientOf client.old (C.shown cluster.old) }
     requires allowed { LetsAt C.allows (λ at. asks.Delete at recursive) client.old path.now }
+    ensures asked { AsksAt C.serves true (λ at. asks.Delete at recursive) client.old path.now cluster.old
+        (as_answer answers.Delete result) client.new cluster.new }
     ensures does { DoesAs client.old path.now (λ at. commands.Delete at recursive) (C.shown cluster.old)
         (C.shown cluster.new)
         (replied (λ gone. replies.Deleted) result) }
@@ -65,6 +78,8 @@ pub fn get_file_info<C: Cluster>(
 ) -> Result<FileStatus, HdfsError>
     requires client { IsClientOf client.old (C.shown cluster.old) }
     requires allowed { LetsAt C.allows asks.GetFileInfo client.old path.now }
+    ensures asked { Gives C.serves false asks.GetFileInfo answers.GetFileInfo client.old path.now cluster.old client.new
+        cluster.new (λ found. IsInfo path.now found result) }
     ensures does { TellsAs client.old path.now (C.shown cluster.old) (C.shown cluster.new) result }
     ensures mounts { mounts_of client.new ≡ mounts_of client.old }
     ensures files { KeepsFiles C.allows C.may_answer client.old (C.shown cluster.old) client.new
