@@ -7,7 +7,7 @@ use Rattle.hdfs_cluster.specs.declared.errors.HdfsError.{HdfsError}
 use Rattle.hdfs_cluster.specs.declared.errors.HdfsError.TheVariants as errors
 use Rattle.hdfs_names.specs.declared.mounts.MountTable.{MountTable}
 use Rattle.hdfs_client.specs.Iterating.{HasSomeRest, HasTurn, IsCut, IsDirFault, IsEndedBelow, IsListFault, Left, entered_by, fresh}
-use Rattle.hdfs_client.specs.Listing.{AreOnPages, HasSome, IsBelow, IsMoreThan, IsPutFault, answered, asked}
+use Rattle.hdfs_client.specs.Listing.{AreOnPages, HasSome, IsBelow, IsFrom, IsMoreThan, IsPutFault, answered, asked}
 use Rattle.hdfs_client.specs.declared.client.Client.{Client}
 use Rattle.hdfs_client.specs.declared.errors.ClientError.{ClientError}
 use Rattle.hdfs_client.specs.declared.errors.ClientError.TheVariants.{Hdfs}
@@ -16,10 +16,11 @@ use Rattle.hdfs_client.proofs.Fetching.{passed_on}
 use Rattle.hdfs_client.proofs.Rests.{none_some, some_fresh}
 
 module _ (may_answer : Ask → Answer → Type 0) (mounts : MountTable) (recursive : Bool) (path : List ℕ) where
-  -- a directory that was begun: what is left of it stands behind some of what it has, and what it holds on answered pages
+  -- a directory that was begun: what is left of it stands behind some of what it has, and what it holds on answered pages, from which it goes on
   pub record IsBegun (dir : Left) : Type 0 where
     pub below : IsBelow (HasSome may_answer mounts) recursive path dir.path
     pub told : AreOnPages may_answer mounts dir.path dir.held
+    pub from : IsFrom may_answer mounts dir.path dir.start
     pub had : List FileStatus
     pub has : (own : List FileStatus) → HasSomeRest may_answer mounts dir own → HasSome may_answer mounts dir.path (had ++ own)
 
@@ -28,12 +29,12 @@ module _ (may_answer : Ask → Answer → Type 0) (mounts : MountTable) (recursi
   AreBegun [] = Unit {0}
   AreBegun (dir ∷ dirs) = IsBegun dir × AreBegun dirs
 
-  behind : (within dirs : List Left) → AreBegun (within ++ dirs) → AreBegun dirs
+  pub behind : (within dirs : List Left) → AreBegun (within ++ dirs) → AreBegun dirs
   behind [] dirs begun = begun
   behind (dir ∷ within) dirs begun = behind within dirs begun.1
 
   first_begun : IsBegun (fresh path)
-  first_begun = record { below = asked; told = tt; had = []; has = some_fresh may_answer mounts path }
+  first_begun = record { below = asked; told = tt; from = inl refl; had = []; has = some_fresh may_answer mounts path }
 
   pub begun_first : (dirs : List Left) → dirs ≡ fresh path ∷ [] → AreBegun dirs
   begun_first dirs is = subst (λ (ds : List Left). AreBegun ds) (sym is) (first_begun, tt)
@@ -49,6 +50,7 @@ module _ (may_answer : Ask → Answer → Type 0) (mounts : MountTable) (recursi
       goes_on = record {
         below = subst (λ (p : List ℕ). IsBelow (HasSome may_answer mounts) recursive path p) (sym turn.path) mine.0.below;
         told = subst (λ (p : List ℕ). AreOnPages may_answer mounts p turn.dir'.held) (sym turn.path) (turn.told mine.0.told);
+        from = subst (λ (p : List ℕ). IsFrom may_answer mounts p turn.dir'.start) (sym turn.path) (turn.from refl mine.0.from);
         had = mine.0.had ++ status ∷ [];
         has = λ own rest. subst (λ (p : List ℕ). HasSome may_answer mounts p ((mine.0.had ++ status ∷ []) ++ own)) (sym turn.path)
             (subst (λ (xs : List FileStatus). HasSome may_answer mounts turn.dir.path xs) (sym (append_assoc mine.0.had (status ∷ []) own))
@@ -60,6 +62,7 @@ module _ (may_answer : Ask → Answer → Type 0) (mounts : MountTable) (recursi
         below = answered turn.dir.path mine.0.had status [] mine.0.below
             (mine.0.has (status ∷ []) (turn.some [] (none_some may_answer mounts turn.dir'))) directory;
         told = tt;
+        from = inl refl;
         had = [];
         has = some_fresh may_answer mounts status.path;
       }

@@ -170,6 +170,7 @@ module _ (may_answer : Ask → Answer → Type 0) (mounts : MountTable) where
         path = found.turns.path;
         some = found.turns.some;
         told = found.turns.told;
+        from = found.turns.from;
         is = enters ∙ ap (λ (ds : List Left). entered_by (recursive && status.isdir) status ds) found.is;
       };
       none = λ is. cc;
@@ -201,6 +202,7 @@ module _ (may_answer : Ask → Answer → Type 0) (mounts : MountTable) where
             path = found.turns.path;
             some = none_of_ended found.dir found.dir';
             told = λ all. tt;
+            from = λ sound. absurd (false≢true sound);
             is = now;
           };
           none = λ is. cc;
@@ -224,6 +226,7 @@ module _ (may_answer : Ask → Answer → Type 0) (mounts : MountTable) where
         path = found.turns.path;
         some = found.turns.some;
         told = found.turns.told;
+        from = found.turns.from;
         is = found.is;
       };
       none = λ is. cc;
@@ -248,6 +251,7 @@ module _ (may_answer : Ask → Answer → Type 0) (mounts : MountTable) where
         path = found.turns.path;
         some = found.turns.some;
         told = found.turns.told;
+        from = found.turns.from;
         is = found.is;
       };
       none = λ is. ap (λ (ds : List Left). list_all is_over ds) (found.is ∙ ap (λ (ds : List Left). found.dir' ∷ ds) (found.last refl))

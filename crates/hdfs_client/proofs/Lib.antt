@@ -7,6 +7,7 @@ pub mod Building
 pub mod ByMounts
 pub mod ByReaders
 pub mod ByStreams
+pub mod Coming
 pub mod Fetching
 pub mod Found
 pub mod Gathered
@@ -32,5 +33,8 @@ pub mod SameParts
 pub mod Serving
 pub mod Sound
 pub mod Staying
+pub mod ToldLists
+pub mod ToldPages
+pub mod ToldTurns
 pub mod Turned
 pub mod Written

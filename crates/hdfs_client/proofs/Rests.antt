@@ -1,5 +1,5 @@
 -- What is left of a directory, turn by turn.
-use Rattle.std.proofs.Common.{◌≡◌, ℕ, Bool, true, false, not, ◌&&◌, List, [], ◌∷◌, ◌++◌, append_assoc, refl, sym, ◌∙◌, ap, subst, Option, Some, None, Result, Ok, Err, nat_lt, length}
+use Rattle.std.proofs.Common.{◌≡◌, inr, ℕ, Bool, true, false, not, ◌&&◌, List, [], ◌∷◌, ◌++◌, append_assoc, refl, sym, ◌∙◌, ap, subst, Option, Some, None, Result, Ok, Err, nat_lt, length}
 use Rattle.std.proofs.lemmas.Bool.{false≢true}
 use Rattle.hdfs_cluster.specs.declared.asks.Ask.{Ask}
 use Rattle.hdfs_cluster.specs.declared.asks.Answer.{Answer}
@@ -9,7 +9,7 @@ use Rattle.hdfs_cluster.specs.declared.messages.FileStatusMsg.{FileStatusMsg}
 use Rattle.hdfs_cluster.proofs.Loads.{and_parts}
 use Rattle.hdfs_names.specs.declared.mounts.MountTable.{MountTable}
 use Rattle.hdfs_client.specs.Iterating.{HasRest, HasSomeRest, Left, Turns, are_none, are_rest, fresh, is_over}
-use Rattle.hdfs_client.specs.Listing.{AreEntries, AreOnPages, HasAll, HasSome, IsAnswered, are_all, has_more, messages_of}
+use Rattle.hdfs_client.specs.Listing.{AreEntries, AreOnPages, HasAll, HasSome, IsAnswered, IsFrom, are_all, has_more, last_name, lead_on, messages_of}
 use Rattle.hdfs_client.specs.Statuses.{IsStatus}
 use Rattle.hdfs_client.specs.Turning.{IsGiven, Opens, ended, holding, opened_at}
 use Rattle.hdfs_client.specs.declared.status.FileStatus.{FileStatus}
@@ -33,6 +33,7 @@ module _ (may_answer : Ask → Answer → Type 0) (mounts : MountTable) where
   given_some old message rest status own is told has = record {
     pages = has.pages;
     follow = has.follow;
+    on = has.on;
     within = has.within;
     front = message ∷ has.front;
     left = has.left;
@@ -65,12 +66,21 @@ module _ (may_answer : Ask → Answer → Type 0) (mounts : MountTable) where
     entries = subst (λ (ms : List FileStatusMsg). AreEntries old.path (ms ++ messages_of (page ∷ has.pages)) own) (sym none) has.entries;
   }
 
+  led_some : (page : DirList) (pages : List DirList) → (has_more page ≡ false → pages ≡ []) → lead_on pages ≡ true → lead_on (page ∷ pages) ≡ true
+  led_some page [] within on = refl
+  led_some page (second ∷ pages) within on = by (has_more page) refl
+    where
+      by : (more : Bool) → has_more page ≡ more → lead_on (page ∷ second ∷ pages) ≡ true
+      by true is = ap (λ (b : Bool). b && lead_on (second ∷ pages)) is ∙ on
+      by false is = let none : second ∷ pages ≡ [] = within is in absurd cc
+
   opened_some : (old : Left) (page : DirList) (own : List FileStatus) → old.held ≡ [] → old.more ≡ true
       → IsAnswered may_answer mounts old.path old.start page → HasSomeRest may_answer mounts (opened_at page old) own
       → HasSomeRest may_answer mounts old own
   opened_some old page own none more answered has = record {
     pages = page ∷ has.pages;
     follow = (answered, has.follow);
+    on = led_some page has.pages has.within has.on;
     within = λ last. absurd (false≢true (sym last ∙ more));
     front = has.front;
     left = has.left;
@@ -84,6 +94,7 @@ module _ (may_answer : Ask → Answer → Type 0) (mounts : MountTable) where
   none_some dir = record {
     pages = [];
     follow = tt;
+    on = refl;
     within = λ last. refl;
     front = [];
     left = dir.held ++ [];
@@ -202,6 +213,24 @@ module _ (may_answer : Ask → Answer → Type 0) (mounts : MountTable) where
           subst (λ (l : Left). AreOnPages may_answer mounts old.path l.held) (sym opened.is)
           (on_page old.path old.start opened.page [] opened.page.partial_listing opened.answered refl)
 
+  -- the name behind which the next page begins is that of an entry on an answered page, or is none
+  last_from : (path start base : List ℕ) (page : DirList) (before rest : List FileStatusMsg) → IsAnswered may_answer mounts path start page
+      → page.partial_listing ≡ before ++ rest → IsFrom may_answer mounts path base → IsFrom may_answer mounts path (last_name base rest)
+  last_from path start base page before [] was is from = from
+  last_from path start base page before (message ∷ rest) was is from =
+      last_from path start message.path page (before ++ message ∷ []) rest was (is ∙ sym (append_assoc before (message ∷ []) rest))
+      (inr (message, record { start = start; page = page; was = was; before = before; behind = rest; is = is }, refl))
+
+  opened_from : (old mid : Left) → Opens may_answer mounts (old.more && are_none old.held) old mid → IsFrom may_answer mounts old.path old.start
+      → IsFrom may_answer mounts old.path mid.start
+  opened_from old mid opens from = by (old.more && are_none old.held) opens
+    where
+      by : (wants : Bool) → Opens may_answer mounts wants old mid → IsFrom may_answer mounts old.path mid.start
+      by false same = subst (λ (l : Left). IsFrom may_answer mounts old.path l.start) (sym same) from
+      by true opened =
+          subst (λ (l : Left). IsFrom may_answer mounts old.path l.start) (sym opened.is)
+          (last_from old.path old.start old.start opened.page [] opened.page.partial_listing opened.answered refl from)
+
   -- behind an error nothing is left
   pub fails : (old mid new : Left) (error : HdfsError) → mid.path ≡ old.path → new ≡ ended mid → Turns may_answer mounts old (Some (Err error)) new
   fails old mid new error path is = record {
@@ -210,6 +239,7 @@ module _ (may_answer : Ask → Answer → Type 0) (mounts : MountTable) where
     some = λ found has. subst (λ (xs : List FileStatus). HasSomeRest may_answer mounts old xs)
         (sym (over_nothing (ended mid) found refl (subst (λ (l : Left). HasSomeRest may_answer mounts l found) is has))) (none_some old);
     told = λ all. subst (λ (l : Left). AreOnPages may_answer mounts old.path l.held) (sym is) tt;
+    from = λ sound. absurd (false≢true sound);
     ends = λ none. ap (λ (l : Left). is_over l) is;
   }
 
@@ -220,6 +250,7 @@ module _ (may_answer : Ask → Answer → Type 0) (mounts : MountTable) where
     all = λ sound own has. turned_all old mid own opens (subst (λ (l : Left). HasRest may_answer mounts l own) is has);
     some = λ own has. turned_some old mid own opens (subst (λ (l : Left). HasSomeRest may_answer mounts l own) is has);
     told = λ all. subst (λ (l : Left). AreOnPages may_answer mounts old.path l.held) (sym is) (opened_told old mid opens all);
+    from = λ sound was. subst (λ (l : Left). IsFrom may_answer mounts old.path l.start) (sym is) (opened_from old mid opens was);
     ends = λ nothing. ap (λ (l : Left). is_over l) is ∙ emptied old mid opens none;
   }
   turns old mid new (Some (Ok status)) opens (message, rest, first, told, is) = record {
@@ -230,6 +261,7 @@ module _ (may_answer : Ask → Answer → Type 0) (mounts : MountTable) where
         (given_some mid message rest status own first told (subst (λ (l : Left). HasSomeRest may_answer mounts l own) is has));
     told = λ all. subst (λ (l : Left). AreOnPages may_answer mounts old.path l.held) (sym is)
         (subst (λ (ms : List FileStatusMsg). AreOnPages may_answer mounts old.path ms) first (opened_told old mid opens all)).1;
+    from = λ sound was. subst (λ (l : Left). IsFrom may_answer mounts old.path l.start) (sym is) (opened_from old mid opens was);
     ends = λ nothing. cc;
   }
   turns old mid new (Some (Err error)) opens (fault, is) = fails old mid new error (opened_path old mid opens) is
@@ -243,4 +275,4 @@ all_fresh may_answer mounts path own has = record { pages = has.pages; follow = 
 pub some_fresh : (may_answer : Ask → Answer → Type 0) (mounts : MountTable) (path : List ℕ) (own : List FileStatus)
     → HasSomeRest may_answer mounts (fresh path) own → HasSome may_answer mounts path own
 some_fresh may_answer mounts path own has =
-    record { pages = has.pages; follow = has.follow; front = has.front; left = has.left; is = has.is; entries = has.entries }
+    record { pages = has.pages; follow = has.follow; on = has.on; front = has.front; left = has.left; is = has.is; entries = has.entries }

@@ -13,7 +13,7 @@ use Rattle.hdfs_cluster.specs.declared.messages.FileStatusMsg.{FileStatusMsg}
 use Rattle.hdfs_cluster.specs.Requests.{Request}
 use Rattle.hdfs_names.specs.declared.mounts.MountTable.{MountTable}
 use Rattle.hdfs_client.specs.Calls.{Gives}
-use Rattle.hdfs_client.specs.Listing.{AreEntries, AreOnPages, Finds, Follow, HasAll, HasSome, IsBelow, IsMoreThan, LetsList, LetsListAt, are_all, messages_of}
+use Rattle.hdfs_client.specs.Listing.{AreEntries, AreOnPages, Finds, Follow, HasAll, HasSome, IsBelow, IsFrom, IsMoreThan, LetsList, LetsListAt, are_all, lead_on, messages_of}
 use Rattle.hdfs_client.specs.Statuses.{IsStatus}
 use Rattle.hdfs_client.specs.declared.client.Client.{Client}
 use Rattle.hdfs_client.specs.declared.errors.ClientError.{ClientError}
@@ -70,6 +70,7 @@ pub record HasRest (may_answer : Ask → Answer → Type 0) (mounts : MountTable
 pub record HasSomeRest (may_answer : Ask → Answer → Type 0) (mounts : MountTable) (dir : Left) (own : List FileStatus) : Type 0 where
   pub pages : List DirList
   pub follow : Follow may_answer mounts dir.path dir.start pages
+  pub on : lead_on pages ≡ true
   pub within : dir.more ≡ false → pages ≡ []
   pub front : List FileStatusMsg
   pub left : List FileStatusMsg
@@ -101,14 +102,15 @@ abbrev pub GoesOn : (List FileStatus → Type 0) → Option (Result FileStatus H
 GoesOn Old result New = (found : List FileStatus) → New found → Old (given_by result ++ found)
 
 -- A turn of a directory's listing: without an error what is given is the first of all that was left; with one too it is the first of what
--- was answered. Where the entries that were held stood on answered pages, those that are held do. Behind an error, and where nothing is given,
--- nothing is left.
+-- was answered. Where the entries that were held stood on answered pages, those that are held do, and without an error so does the one behind
+-- whose name the next page begins. Behind an error, and where nothing is given, nothing is left.
 pub record Turns (may_answer : Ask → Answer → Type 0) (mounts : MountTable) (old : Left) (result : Option (Result FileStatus HdfsError))
     (new : Left) : Type 0 where
   pub path : new.path ≡ old.path
   pub all : is_sound result ≡ true → GoesOn (HasRest may_answer mounts old) result (HasRest may_answer mounts new)
   pub some : GoesOn (HasSomeRest may_answer mounts old) result (HasSomeRest may_answer mounts new)
   pub told : AreOnPages may_answer mounts old.path old.held → AreOnPages may_answer mounts old.path new.held
+  pub from : is_sound result ≡ true → IsFrom may_answer mounts old.path old.start → IsFrom may_answer mounts old.path new.start
   pub ends : given_by result ≡ [] → is_over new ≡ true
 
 -- ---- why there is an error
@@ -214,6 +216,7 @@ pub record HasTurn (may_answer : Ask → Answer → Type 0) (mounts : MountTable
   pub path : dir'.path ≡ dir.path
   pub some : GoesOn (HasSomeRest may_answer mounts dir) result (HasSomeRest may_answer mounts dir')
   pub told : AreOnPages may_answer mounts dir.path dir.held → AreOnPages may_answer mounts dir.path dir'.held
+  pub from : is_sound result ≡ true → IsFrom may_answer mounts dir.path dir.start → IsFrom may_answer mounts dir.path dir'.start
   pub is : new ≡ begun_behind recursive result (dir' ∷ around)
 
 -- A turn of a listing: without an error what is given is the first of all that was to come; with one too it is the first of what may come of

@@ -18,3 +18,4 @@ pub mod Leasing
 pub mod Holding
 pub mod Opening
 pub mod Writing
+pub mod Told

@@ -42,6 +42,11 @@ AreOnPages may_answer mounts path [] = Unit {0}
 AreOnPages may_answer mounts path (message ∷ messages) =
     IsOnPage may_answer mounts path message × AreOnPages may_answer mounts path messages
 
+-- the name behind which a page is asked for: none, or that of an entry on an answered page
+abbrev pub IsFrom : (Ask → Answer → Type 0) → MountTable → List ℕ → List ℕ → Type 0
+IsFrom may_answer mounts path start =
+    (start ≡ []) ⊎ ((message : FileStatusMsg) × IsOnPage may_answer mounts path message × (start ≡ message.path))
+
 -- the name behind which the next page begins: the last one of these, or as before
 abbrev pub last_name : List ℕ → List FileStatusMsg → List ℕ
 last_name start [] = start
@@ -63,6 +68,12 @@ are_all [] = false
 are_all (page ∷ []) = not (has_more page)
 are_all (page ∷ pages) = has_more page && are_all pages
 
+-- behind each of these pages but the last another one is to come
+abbrev pub lead_on : List DirList → Bool
+lead_on [] = true
+lead_on (page ∷ []) = true
+lead_on (page ∷ pages) = has_more page && lead_on pages
+
 -- what stands on pages, in order
 abbrev pub messages_of : List DirList → List FileStatusMsg
 messages_of [] = []
@@ -81,10 +92,11 @@ pub record HasAll (may_answer : Ask → Answer → Type 0) (mounts : MountTable)
   pub all : are_all pages ≡ true
   pub entries : AreEntries path (messages_of pages) own
 
--- some of what it has: the first entries of its pages
+-- some of what it has: the first entries of its pages, each of which was to come
 pub record HasSome (may_answer : Ask → Answer → Type 0) (mounts : MountTable) (path : List ℕ) (own : List FileStatus) : Type 0 where
   pub pages : List DirList
   pub follow : Follow may_answer mounts path [] pages
+  pub on : lead_on pages ≡ true
   pub front : List FileStatusMsg
   pub left : List FileStatusMsg
   pub is : messages_of pages ≡ front ++ left

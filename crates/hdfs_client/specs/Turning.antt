@@ -37,10 +37,10 @@ Opens may_answer mounts true old new = IsOpened may_answer mounts old new
 Opens may_answer mounts false old new = new ≡ old
 
 -- what comes of an ask for a page: its entries are held, or there is an error
-abbrev pub IsTurned : List ℕ → Result (Option DirList) HdfsError → Result (Unit {0}) HdfsError → Left → Type 0
-IsTurned path (Ok (Some page)) result new = MatchResult result (λ _. new.held ≡ page.partial_listing) (λ error. error ≡ errors.NoMemory)
-IsTurned path (Ok None) result new = (result ≡ Err (errors.FileNotFound path)) ⊎ (result ≡ Err errors.NoMemory)
-IsTurned path (Err error) result new = result ≡ Err error
+abbrev pub IsTurned : Left → Result (Option DirList) HdfsError → Result (Unit {0}) HdfsError → Left → Type 0
+IsTurned old (Ok (Some page)) result new = MatchResult result (λ _. new ≡ opened_at page old) (λ error. error ≡ errors.NoMemory)
+IsTurned old (Ok None) result new = (result ≡ Err (errors.FileNotFound old.path)) ⊎ (result ≡ Err errors.NoMemory)
+IsTurned old (Err error) result new = result ≡ Err error
 
 -- the first of the entries that are held is given, or none is, or it can't be and nothing is left
 abbrev pub IsGiven : Left → Option (Result FileStatus HdfsError) → Left → Type 0

@@ -7,8 +7,9 @@ ghost use Rattle.hdfs_client.specs.Calls.{Gives};
 ghost use Rattle.hdfs_client.specs.Clients.{IsClientOf, Stays, mounts_of};
 ghost use Rattle.hdfs_client.specs.Iterating.{IfFails, IsDirFault, IsEntryFault, IsPageFault, LetsWalk, Turns, Walks, asks_none, begun_by, entered_by, fresh, left_of, wants_page};
 ghost use Rattle.hdfs_client.specs.Listing.{LetsListAt};
+ghost use Rattle.hdfs_client.specs.Told.{AreWhole, IsEndedIn, IsPageIn, TurnsIn, WhereTold};
 ghost use Rattle.hdfs_client.specs.Turning.{IsFoundIn, IsGiven, IsOpened, IsTurned, Opens, ended, first_ended};
-ghost use Rattle.hdfs_client.specs.Writing.{KeepsFiles};
+ghost use Rattle.hdfs_client.specs.Writing.{KeepsFiles, ReachesWhole};
 
 use crate::client::Client;
 use crate::listing::{has_more, set_start};
@@ -66,6 +67,9 @@ impl DirListingIterator {
         ensures quiet { wants_page (left_of self.old) ≡ false
             → (client.new ≡ client.old) × (cluster.new ≡ cluster.old)
             × IfFails result (IsEntryFault (left_of self.old).path (left_of self.old).held) }
+        ensures told { ReachesWhole client.old (left_of self.old).path (C.shown cluster.old)
+            → WhereTold (C.shown cluster.old) (C.shown cluster.new) (λ p. TurnsIn p (mounts_of client.old)
+            (C.shown cluster.old) (C.shown cluster.new) (left_of self.old) result (left_of self.new)) }
         ensures rest { Stays client.old client.new }
         ensures files { KeepsFiles C.allows C.may_answer client.old (C.shown cluster.old) client.new
             (C.shown cluster.new) }
@@ -92,7 +96,7 @@ impl DirListingIterator {
         ensures asked { wants_page (left_of self.old) ≡ true → Gives C.serves false
             (λ at. asks.GetListing at (left_of self.old).start false) answers.GetListing
             client.old (left_of self.old).path cluster.old client.new cluster.new
-            (λ outcome. IsTurned (left_of self.old).path outcome result (left_of self.new)) }
+            (λ outcome. IsTurned (left_of self.old) outcome result (left_of self.new)) }
         ensures quiet { wants_page (left_of self.old) ≡ false
             → (result ≡ Ok tt) × (client.new ≡ client.old) × (cluster.new ≡ cluster.old) }
         ensures rest { Stays client.old client.new }
@@ -126,7 +130,7 @@ impl DirListingIterator {
         ensures asked { Gives C.serves false
             (λ at. asks.GetListing at (left_of self.old).start false) answers.GetListing
             client.old (left_of self.old).path cluster.old client.new cluster.new
-            (λ outcome. IsTurned (left_of self.old).path outcome result (left_of self.new)) }
+            (λ outcome. IsTurned (left_of self.old) outcome result (left_of self.new)) }
         ensures rest { Stays client.old client.new }
         ensures files { KeepsFiles C.allows C.may_answer client.old (C.shown cluster.old) client.new
             (C.shown cluster.new) }
@@ -212,6 +216,10 @@ impl ListStatusIterator {
         ensures allowed { LetsWalk C.allows C.may_answer (mounts_of client.new) self.new.recursive (begun_by self.new) }
         ensures quiet { asks_none (begun_by self.old) ≡ true
             → (client.new ≡ client.old) × (cluster.new ≡ cluster.old) }
+        ensures told { AreWhole client.old (C.shown cluster.old) (begun_by self.old)
+            → WhereTold (C.shown cluster.old) (C.shown cluster.new) (λ p. Walks (IsPageIn p) (mounts_of client.old)
+            (IsEndedIn p (mounts_of client.old) (C.shown cluster.old) (C.shown cluster.new)) self.old.recursive
+            (begun_by self.old) result (begun_by self.new)) }
         ensures recursive { self.new.recursive ≡ self.old.recursive }
         ensures rest { Stays client.old client.new }
         ensures files { KeepsFiles C.allows C.may_answer client.old (C.shown cluster.old) client.new
@@ -237,6 +245,10 @@ impl ListStatusIterator {
             (IsDirFault C.serves client.new cluster.new) (begun_by self.old) result (begun_by self.new) }
         ensures quiet { asks_none (begun_by self.old) ≡ true
             → (client.new ≡ client.old) × (cluster.new ≡ cluster.old) }
+        ensures told { AreWhole client.old (C.shown cluster.old) (begun_by self.old)
+            → WhereTold (C.shown cluster.old) (C.shown cluster.new) (λ p. IsFoundIn (IsPageIn p) (mounts_of client.old)
+            (IsEndedIn p (mounts_of client.old) (C.shown cluster.old) (C.shown cluster.new))
+            (begun_by self.old) result (begun_by self.new)) }
         ensures recursive { self.new.recursive ≡ self.old.recursive }
         ensures rest { Stays client.old client.new }
         ensures files { KeepsFiles C.allows C.may_answer client.old (C.shown cluster.old) client.new

@@ -1,5 +1,5 @@
 //! Listing of directories.
-ghost use Rattle.std.specs.Prelude.{◌≡◌, ◌++◌, ◌∷◌, ◌≤◌, [], false, IfOk, IfErr, IfSome, OnOk, vec_len};
+ghost use Rattle.std.specs.Prelude.{◌≡◌, ◌++◌, ◌∷◌, ◌≤◌, [], false, IfOk, IfErr, IfSome, MatchResult, OnOk, vec_len};
 ghost use Rattle.hdfs_cluster.specs.declared.asks.Ask.TheVariants as asks;
 ghost use Rattle.hdfs_cluster.specs.declared.asks.Answer.TheVariants as answers;
 ghost use Rattle.hdfs_namenode.specs.Asked.{as_answer};
@@ -18,6 +18,7 @@ impl Client {
     ghost use Rattle.hdfs_client.specs.Clients.{AsksAt, IsClientOf, LetsAt, Stays, mounts_of};
     ghost use Rattle.hdfs_client.specs.Iterating.{IsListFault, IsPage};
     ghost use Rattle.hdfs_client.specs.Listing.{LetsList, LetsListAt, Lists};
+    ghost use Rattle.hdfs_client.specs.Told.{IsListFaultIn, IsPageIn, IsWholeBelow, WhereTold};
     ghost use Rattle.hdfs_client.specs.Writing.{KeepsFiles};
 
     /// What stands in a directory, in the namenode's order, and what stands below each directory in it right behind that where `recursive`
@@ -38,6 +39,11 @@ impl Client {
         ensures count { IfOk result (λ found. vec_len found ≤ limit) }
         ensures err { IfErr result (IsListFault C.serves C.may_answer (mounts_of self.old) recursive path.now limit
             self.new cluster.new) }
+        ensures told { IsWholeBelow C.may_answer recursive self.old path.now (C.shown cluster.old)
+            → WhereTold (C.shown cluster.old) (C.shown cluster.new) (λ p. MatchResult result
+            (λ found. Lists (HasAll (IsPageIn p) (mounts_of self.old)) recursive path.now found.items)
+            (IsListFaultIn p (mounts_of self.old) recursive path.now limit (C.shown cluster.old)
+            (C.shown cluster.new))) }
         ensures rest { Stays self.old self.new }
         ensures files { KeepsFiles C.allows C.may_answer self.old (C.shown cluster.old) self.new
             (C.shown cluster.new) }

@@ -33,7 +33,7 @@ use Rattle.hdfs_client.specs.declared.client.Client.{Client}
 use Rattle.hdfs_commands.proofs.NameAsks.{delete_over, gone_agrees, goes_step, was_gone}
 use Rattle.hdfs_client_steps.specs.Steps.{DoesAs, SaysGone, WhereReadyAt, bare, replied}
 use Rattle.hdfs_client_steps.proofs.Applying.{absolute_path, agrees_of, done_applied, refused_applied, told_of}
-use Rattle.hdfs_client_steps.proofs.Coming.{came_at}
+use Rattle.hdfs_client.proofs.Coming.{came_at}
 
 -- where a picture that agrees has nothing, nothing stands there
 none_there : (p : Picture) (entry : Option Entry) (node : Option Node) → AgreesAt p entry node → entry ≡ None → node ≡ None

@@ -35,7 +35,7 @@ use Rattle.hdfs_commands.proofs.NameAsks.{dir_agrees, make_over, makes_step, was
 use Rattle.hdfs_commands.proofs.Refusing.{kinds_same}
 use Rattle.hdfs_client_steps.specs.Steps.{DoesAs, bare, replied}
 use Rattle.hdfs_client_steps.proofs.Applying.{absolute_path, agrees_of, done_applied, failed_applied, refused_applied, told_of}
-use Rattle.hdfs_client_steps.proofs.Coming.{came_at}
+use Rattle.hdfs_client.proofs.Coming.{came_at}
 
 module _ (permission : ℕ) (parents : Bool) where
   abbrev mkdirs : List ℕ → Command

@@ -45,7 +45,7 @@ use Rattle.hdfs_commands.proofs.Refusing.{step_there}
 use Rattle.hdfs_commands.proofs.Still.{file_stays}
 use Rattle.hdfs_client_steps.specs.Steps.{SaysSame, TellsAs, bare}
 use Rattle.hdfs_client_steps.proofs.Applying.{absolute_path, agrees_of, done_applied, failed_applied, refused_applied, told_of}
-use Rattle.hdfs_client_steps.proofs.Coming.{came_at}
+use Rattle.hdfs_client.proofs.Coming.{came_at}
 
 -- a status and the reply of its message say the same
 says_same : (name : List ℕ) (message : FileStatusMsg) → SaysSame (message.file_type == 1) (status_of name message) (info_by message)

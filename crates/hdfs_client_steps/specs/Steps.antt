@@ -1,6 +1,9 @@
 -- What a call of a client does over a told cluster, in the words of a session's step.
-use Rattle.std.specs.Prelude.{◌≡◌, ◌⊎◌, ℕ, ◌%◌, Bool, true, false, List, [], ◌∷◌, Some, None, IsSome, Result, Ok, Err, unwrap_or}
+use Rattle.std.specs.Prelude.{◌≡◌, ◌⊎◌, ℕ, ◌%◌, Bool, true, false, List, [], ◌∷◌, Some, None, IsSome, Result, Ok, Err, unwrap_or, Vec}
+use Rattle.std.specs.declared.alloc.Global.{Global}
+use Rattle.hdfs_cluster.specs.declared.errors.ArgFault.TheVariants as args
 use Rattle.hdfs_cluster.specs.declared.errors.HdfsError.{HdfsError}
+use Rattle.hdfs_cluster.specs.declared.errors.HdfsError.TheVariants as errors
 use Rattle.hdfs_cluster.specs.Failures.{CallsRose}
 use Rattle.hdfs_cluster.specs.Files.{State}
 use Rattle.hdfs_cluster.specs.Fitting.{Fits}
@@ -9,16 +12,21 @@ use Rattle.hdfs_names.specs.Paths.{is_path}
 use Rattle.hdfs_names.specs.declared.mounts.Resolved.{Resolved}
 use Rattle.hdfs_model.specs.declared.commands.Command.{Command}
 use Rattle.hdfs_model.specs.declared.commands.Command.TheVariants as commands
+use Rattle.hdfs_model.specs.declared.commands.PathEntry.{PathEntry}
 use Rattle.hdfs_model.specs.declared.commands.Reply.{Reply}
 use Rattle.hdfs_model.specs.declared.commands.Reply.TheVariants as replies
 use Rattle.hdfs_model.specs.Headline.{Applied}
+use Rattle.hdfs_model.specs.Listings.{path_in}
 use Rattle.hdfs_model.specs.Owing.{IsMisplaced}
 use Rattle.hdfs_model.specs.Scenes.{Ready, Scene}
 use Rattle.hdfs_model.specs.Sessions.{SameOpened, none_open}
 use Rattle.hdfs_model.specs.Steps.{World}
 use Rattle.hdfs_client.specs.Clients.{leads_to}
+use Rattle.hdfs_client.specs.Statuses.{IsNamed}
 use Rattle.hdfs_client.specs.Writing.{ReachesWhole}
 use Rattle.hdfs_client.specs.declared.client.Client.{Client}
+use Rattle.hdfs_client.specs.declared.errors.ClientError.{ClientError}
+use Rattle.hdfs_client.specs.declared.errors.ClientError.TheVariants.{Hdfs, OtherService, TooMany}
 use Rattle.hdfs_client.specs.declared.status.FileStatus.{FileStatus}
 
 -- a session that has nothing open, over what a cluster shows
@@ -72,3 +80,33 @@ IsSaid (Err error) said = said ≡ Err error
 abbrev pub TellsAs : Client → List ℕ → Shown → Shown → Result FileStatus HdfsError → Type 0
 TellsAs client src old new result =
     (said : Result Reply HdfsError) × IsSaid result said × DoesAs client src commands.Info old new said
+
+-- ---- a listing
+
+-- An entry says what a status says: where that stands, by one name behind the path as it was given and behind the path where it leads, and
+-- whether it is a directory.
+pub record SaysEntry (given at : List ℕ) (status : FileStatus) (entry : PathEntry) : Type 0 where
+  pub name : List ℕ
+  pub named : IsNamed given name status.path
+  pub path : entry.path ≡ path_in at name
+  pub isdir : entry.isdir ≡ status.isdir
+
+-- each of these entries says what the status at its place says
+abbrev pub SayEntries : List ℕ → List ℕ → List FileStatus → List PathEntry → Type 0
+SayEntries given at [] [] = Unit {0}
+SayEntries given at (status ∷ statuses) (entry ∷ entries) = SaysEntry given at status entry × SayEntries given at statuses entries
+SayEntries given at statuses entries = ⊥
+
+-- a reply whose entries say what these statuses say; where there is an error, the same, or that there are too many
+abbrev pub SaysListed : List ℕ → List ℕ → Result (Vec FileStatus Global) ClientError → Result Reply HdfsError → Type 0
+SaysListed given at (Ok found) said =
+    (entries : List PathEntry) × (said ≡ Ok (replies.Listed entries)) × SayEntries given at found.items entries
+SaysListed given at (Err (Hdfs error)) said = said ≡ Err error
+SaysListed given at (Err (TooMany limit)) said = said ≡ Err (errors.InvalidArgument (args.TooMany limit))
+SaysListed given at (Err OtherService) said = ⊥
+
+-- A call that lists what stands at a path, and nothing below that, did what the command does there: its result says what the session says.
+abbrev pub ListsAs : Client → List ℕ → ℕ → Shown → Shown → Result (Vec FileStatus Global) ClientError → Type 0
+ListsAs client src limit old new result =
+    WhereReadyAt client src (λ at. commands.List at false limit) old (λ path world state. (said : Result Reply HdfsError)
+    × SaysListed src path result said × Applied world state (commands.List path false limit) (bare old) (bare new) said)

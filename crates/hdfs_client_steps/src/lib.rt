@@ -11,13 +11,14 @@ ghost use Rattle.hdfs_cluster.specs.declared.errors.HdfsError.TheVariants as err
 ghost use Rattle.hdfs_namenode.specs.Asked.{as_answer};
 ghost use Rattle.hdfs_client.specs.Calls.{Gives, done};
 ghost use Rattle.hdfs_client.specs.Clients.{AsksAt, IsClientOf, LetsAt, mounts_of};
+ghost use Rattle.hdfs_client.specs.Listing.{LetsList};
 ghost use Rattle.hdfs_client.specs.Statuses.{IsInfo};
 ghost use Rattle.hdfs_client.specs.Writing.{KeepsFiles};
 ghost use Rattle.hdfs_model.specs.declared.commands.Command.TheVariants as commands;
 ghost use Rattle.hdfs_model.specs.declared.commands.Reply.TheVariants as replies;
-ghost use Rattle.hdfs_client_steps.specs.Steps.{DoesAs, SaysGone, TellsAs, WhereReadyAt, replied};
+ghost use Rattle.hdfs_client_steps.specs.Steps.{DoesAs, ListsAs, SaysGone, TellsAs, WhereReadyAt, replied};
 
-use hdfs_client::{Client, FileStatus};
+use hdfs_client::{Client, ClientError, FileStatus};
 use hdfs_cluster::{Cluster, HdfsError};
 
 /// `Client::mkdirs`, as the command that makes a directory.
@@ -87,4 +88,22 @@ pub fn get_file_info<C: Cluster>(
     ensures client { IsClientOf client.new (C.shown cluster.new) }
 {
     client.get_file_info(cluster, path)
+}
+
+/// `Client::list_status` without what lies below, as the command that lists so.
+pub fn list_status<C: Cluster>(
+    client: &mut Client,
+    cluster: &mut C,
+    path: &str,
+    limit: u64,
+) -> Result<Vec<FileStatus>, ClientError>
+    requires client { IsClientOf client.old (C.shown cluster.old) }
+    requires allowed { LetsList C.allows C.may_answer (mounts_of client.old) false path.now }
+    ensures does { ListsAs client.old path.now limit (C.shown cluster.old) (C.shown cluster.new) result }
+    ensures mounts { mounts_of client.new ≡ mounts_of client.old }
+    ensures files { KeepsFiles C.allows C.may_answer client.old (C.shown cluster.old) client.new
+        (C.shown cluster.new) }
+    ensures client { IsClientOf client.new (C.shown cluster.new) }
+{
+    client.list_status(cluster, path, false, limit)
 }

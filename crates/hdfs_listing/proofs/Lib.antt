@@ -1,6 +1,6 @@
 mod Dues
 mod Ends
 mod Gathering
-mod Names
+pub mod Names
 mod Nexts
-mod Turning
+pub mod Turning

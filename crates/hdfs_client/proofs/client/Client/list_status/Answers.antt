@@ -1,16 +1,24 @@
 -- What the listing's walk gives stands behind what it gave before.
-use Rattle.std.proofs.Common.{◌≡◌, ◌∙◌, List, None, Some, Ok, Err, Result, ap, arith, subst, vec_len}
+use Rattle.std.proofs.Common.{◌≡◌, ◌∙◌, List, None, Some, Ok, Err, Result, ap, arith, refl, subst, vec_len}
+use Rattle.std.specs.Prelude.{Bool, Vec, ℕ}
 use Rattle.std.specs.Result.{result_from_control_flow}
+use Rattle.std.specs.declared.alloc.Global.{Global}
 use Rattle.hdfs_cluster.specs.declared.errors.HdfsError.{HdfsError}
 use Rattle.hdfs_cluster.specs.declared.errors.HdfsError.TheVariants as errors
+use Rattle.hdfs_cluster.specs.Picture.{Picture}
+use Rattle.hdfs_cluster.specs.Shown.{Shown}
 use Rattle.hdfs_client.specs.Clients.{mounts_of}
 use Rattle.hdfs_client.specs.Iterating.{IsDirFault, Left, Walks, begun_by}
+use Rattle.hdfs_client.specs.Listing.{HasAll, Lists}
+use Rattle.hdfs_client.specs.Told.{AreWhole, IsPageIn}
+use Rattle.hdfs_client.specs.declared.client.Client.{Client}
 use Rattle.hdfs_client.specs.declared.status.FileStatus.{FileStatus}
 use Rattle.hdfs_client.proofs.Below.{begun_first, begun_on, ended_below, ended_for_want, not_listed, not_put}
 use Rattle.hdfs_client.proofs.Beside.{files_refl, files_trans}
 use Rattle.hdfs_client.proofs.Letting.{begun_lets}
 use Rattle.hdfs_client.proofs.Listed.{all_listed, begins_all, begins_some, goes_all, goes_some, is_more, same_walk}
 use Rattle.hdfs_client.proofs.Staying.{stays_refl, stays_trans}
+use Rattle.hdfs_client.proofs.ToldLists.{begun_whole, same_told, told_all, told_begins, told_fails, told_not_put, told_on, told_unbegun}
 use Rattle.hdfs_client.proofs.client.Client.list_status.Goals as goal
 
 pub entries-init : goal.entries-init
@@ -29,6 +37,8 @@ entries-init g c =
       all = begins_all may mounts c.args.recursive c.args.path.now c.new-found.result.items dirs c.new-found.ensures.items c.in_ok-listing.ensures.1;
       some = begins_some may mounts c.args.recursive c.args.path.now c.new-found.result.items dirs c.new-found.ensures.items c.in_ok-listing.ensures.1;
       begun = begun_first may mounts c.args.recursive c.args.path.now dirs c.in_ok-listing.ensures.1;
+      told = λ whole. told_begins mounts c.args.recursive c.args.path.now (g.C.Cluster.shown c.args.cluster.now) c.new-found.result.items dirs
+          c.new-found.ensures.items c.in_ok-listing.ensures.1;
     }
 
 pub entries-preserved : goal.entries-preserved
@@ -56,6 +66,16 @@ entries-preserved g c =
       some = goes_some may mounts c.args.recursive c.args.path.now Why c.entries.found.items c.put.new.found.items old new c.in_ok-next.field-0 c.in_ok-put.ensures.put walks
           c.entries.invariant.some;
       begun = begun_on may mounts c.args.recursive c.args.path.now old new c.in_ok-next.field-0 walks.turn c.entries.invariant.begun;
+      told = λ whole.
+          let begin : Shown = g.C.Cluster.shown c.args.cluster.now in
+          let s : Shown = g.C.Cluster.shown c.entries.cluster in
+          let t : Shown = g.C.Cluster.shown c.next.new.cluster in
+          let now : AreWhole c.entries.self s old =
+          begun_whole may c.args.recursive c.args.path.now c.args.self.now c.entries.self begin s whole c.entries.invariant.files.whole old c.entries.invariant.begun in
+          told_on mounts c.args.recursive c.args.path.now begin s t c.entries.found.items old new (c.entries.invariant.told whole) c.put.new.found.items
+          c.in_ok-next.field-0 c.in_ok-put.ensures.put
+          (same_told s t mounts (mounts_of c.entries.self) c.args.recursive c.entries.listing.recursive old new (Some (Ok c.in_ok-next.field-0)) (Some c.in-Some.next)
+          c.entries.invariant.rest.mounts c.entries.invariant.recursive (ap (λ (r : Result FileStatus HdfsError). Some r) is) (c.in-Some.ensures.told now));
     }
 
 pub returns-in_err-listing-clause-err : goal.returns-in_err-listing-clause-err
@@ -101,6 +121,69 @@ returns-in_err-put-clause-err g c =
     (vec_len c.entries.found ≡ c.args.limit) c.in_err-put.field-0.0 c.from_residual-in_err-put.result
     (λ full. is_more may mounts c.args.recursive c.args.path.now Why c.args.limit c.entries.found.items old new c.in_ok-next.field-0 c.entries.invariant.some walks
     (omega (arith, full, c.entries.found.ok.0))) c.in_err-put.ensures.err c.from_residual-in_err-put.ensures.1
+
+-- the entries of a picture are those that were listed
+abbrev IsDone : Client → Bool → List ℕ → Picture → Vec FileStatus Global → Type 0
+IsDone client recursive path p found = Lists (HasAll (IsPageIn p) (mounts_of client)) recursive path found.items
+
+pub returns-in_err-listing-clause-told : goal.returns-in_err-listing-clause-told
+returns-in_err-listing-clause-told g c =
+    λ whole. told_unbegun (mounts_of c.args.self.now) c.args.recursive c.args.path.now (IsDone c.args.self.now c.args.recursive c.args.path.now)
+    (g.C.Cluster.shown c.args.cluster.now) c.args.limit c.from_residual.result c.from_residual.ensures.1
+
+pub returns-in_err-next-clause-told : goal.returns-in_err-next-clause-told
+returns-in_err-next-clause-told g c = λ whole.
+    (let may = g.C.Cluster.may_answer in
+    let mounts = mounts_of c.args.self.now in
+    let begin : Shown = g.C.Cluster.shown c.args.cluster.now in
+    let s : Shown = g.C.Cluster.shown c.entries.cluster in
+    let t : Shown = g.C.Cluster.shown c.next.new.cluster in
+    let old : List Left = begun_by c.entries.listing in
+    let new : List Left = begun_by c.next.new.self in
+    let is : c.in-Some.next ≡ Err c.in_err-next.field-0.0 =
+    c.branch-next.ensures ∙ ap result_from_control_flow c.in_err-next.is in
+    let now : AreWhole c.entries.self s old =
+    begun_whole may c.args.recursive c.args.path.now c.args.self.now c.entries.self begin s whole c.entries.invariant.files.whole old c.entries.invariant.begun in
+    told_fails mounts c.args.recursive c.args.path.now begin s t c.entries.found.items old new (c.entries.invariant.told whole)
+    (IsDone c.args.self.now c.args.recursive c.args.path.now) c.args.limit c.from_residual-in_err-next.result c.in_err-next.field-0.0
+    c.from_residual-in_err-next.ensures.1
+    (same_told s t mounts (mounts_of c.entries.self) c.args.recursive c.entries.listing.recursive old new (Some (Err c.in_err-next.field-0.0)) (Some c.in-Some.next)
+    c.entries.invariant.rest.mounts c.entries.invariant.recursive (ap (λ (r : Result FileStatus HdfsError). Some r) is) (c.in-Some.ensures.told now)))
+
+pub returns-in_err-put-clause-told : goal.returns-in_err-put-clause-told
+returns-in_err-put-clause-told g c = λ whole.
+    (let may = g.C.Cluster.may_answer in
+    let mounts = mounts_of c.args.self.now in
+    let begin : Shown = g.C.Cluster.shown c.args.cluster.now in
+    let s : Shown = g.C.Cluster.shown c.entries.cluster in
+    let t : Shown = g.C.Cluster.shown c.next.new.cluster in
+    let old : List Left = begun_by c.entries.listing in
+    let new : List Left = begun_by c.next.new.self in
+    let is : c.in-Some.next ≡ Ok c.in_ok-next.field-0 =
+    c.branch-next.ensures ∙ ap result_from_control_flow c.in_ok-next.is in
+    let now : AreWhole c.entries.self s old =
+    begun_whole may c.args.recursive c.args.path.now c.args.self.now c.entries.self begin s whole c.entries.invariant.files.whole old c.entries.invariant.begun in
+    told_not_put mounts c.args.recursive c.args.path.now begin s t c.entries.found.items old new (c.entries.invariant.told whole)
+    (IsDone c.args.self.now c.args.recursive c.args.path.now) c.args.limit c.from_residual-in_err-put.result (vec_len c.entries.found ≡ c.args.limit)
+    c.in_err-put.field-0.0 c.in_ok-next.field-0 c.from_residual-in_err-put.ensures.1 c.in_err-put.ensures.err
+    (λ full. omega (arith, full, c.entries.found.ok.0))
+    (same_told s t mounts (mounts_of c.entries.self) c.args.recursive c.entries.listing.recursive old new (Some (Ok c.in_ok-next.field-0)) (Some c.in-Some.next)
+    c.entries.invariant.rest.mounts c.entries.invariant.recursive (ap (λ (r : Result FileStatus HdfsError). Some r) is) (c.in-Some.ensures.told now)))
+
+pub returns-clause-told : goal.returns-clause-told
+returns-clause-told g c = λ whole.
+    (let may = g.C.Cluster.may_answer in
+    let mounts = mounts_of c.args.self.now in
+    let begin : Shown = g.C.Cluster.shown c.args.cluster.now in
+    let s : Shown = g.C.Cluster.shown c.entries.cluster in
+    let t : Shown = g.C.Cluster.shown c.next.new.cluster in
+    let old : List Left = begun_by c.entries.listing in
+    let new : List Left = begun_by c.next.new.self in
+    let now : AreWhole c.entries.self s old =
+    begun_whole may c.args.recursive c.args.path.now c.args.self.now c.entries.self begin s whole c.entries.invariant.files.whole old c.entries.invariant.begun in
+    told_all mounts c.args.recursive c.args.path.now begin s t c.entries.found.items old new (c.entries.invariant.told whole)
+    (same_told s t mounts (mounts_of c.entries.self) c.args.recursive c.entries.listing.recursive old new None None
+    c.entries.invariant.rest.mounts c.entries.invariant.recursive refl (c.in_default.ensures.told now)))
 
 pub returns-clause-listed : goal.returns-clause-listed
 returns-clause-listed g c =
