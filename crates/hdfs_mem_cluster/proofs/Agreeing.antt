@@ -1,5 +1,5 @@
 -- A cluster goes on to hold its files where a block and a file are added.
-use Rattle.std.proofs.Common.{◌≡◌, ◌≢◌, ℕ, Bool, true, false, cond, List, [], ◌∷◌, length, take, drop, Option, Some, None, refl, sym, ◌∙◌, ap, subst}
+use Rattle.std.proofs.Common.{◌≡◌, ℕ, Bool, true, false, cond, List, [], ◌∷◌, length, take, drop, Option, Some, None, refl, sym, ◌∙◌, subst}
 use Rattle.std.proofs.lemmas.List.Elements.{All-weaker}
 use Rattle.std.specs.Str.{bytes_eq}
 use Rattle.hdfs_cluster.specs.declared.picture.Entry.{Entry}
@@ -7,8 +7,7 @@ use Rattle.hdfs_cluster.specs.declared.picture.Entry.TheVariants as entries
 use Rattle.hdfs_cluster.specs.declared.picture.BlockEntry.{BlockEntry}
 use Rattle.hdfs_cluster.specs.Files.{Node, Dir, File, Writing, State}
 use Rattle.hdfs_cluster.specs.Picture.{Picture}
-use Rattle.hdfs_mem_namenode.specs.Adding.{AddsBlock, KeepsBlocks, blocks_picture}
-use Rattle.hdfs_mem_namenode.proofs.Sizing.{keeps_from-AddsBlock}
+use Rattle.hdfs_mem_namenode.specs.Adding.{KeepsBlocks, blocks_picture}
 use Rattle.hdfs_cluster.specs.Loading.{with_new}
 use Rattle.hdfs_cluster.specs.Stores.{Agrees, AgreesAt, StoresBlocks, StoresBlock, HoldsPrefix}
 
@@ -55,13 +54,6 @@ at_path p' false entry node other files here there = there
 pub agrees_with_new : (p p' : Picture) (state : State) (path : List ℕ) (node : Node) (entry : Entry) → Agrees (Some p) state.files → Extends p p' → ((q : List ℕ) → p'.names q ≡ cond (bytes_eq path q) (Some entry) (p.names q)) → AgreesAt p' (Some entry) (Some node) → Agrees (Some p') (with_new state path node).files
 agrees_with_new p p' state path node entry was ext names here q =
     subst (λ (o : Option Entry). AgreesAt p' o ((with_new state path node).files q)) (sym (names q)) (at_path p' (bytes_eq path q) entry node (p.names q) (state.files q) here (agrees_at p p' ext (p.names q) (state.files q) (was q)))
-
--- where a block is added, the others stay
-pub kept_block : (t t' : ℕ → Option BlockEntry) (held held' : List ℕ → ℕ → List ℕ) (id length : ℕ) (nodes : List (List ℕ)) → AddsBlock t t' id length nodes → ((d : List ℕ) (q : ℕ) → q ≢ id → held' d q ≡ held d q) → KeepsBlocks t t' held held'
-kept_block t t' held held' id length nodes adds others = record {
-  table = keeps_from-AddsBlock t t' id length nodes adds;
-  held = λ q entry is d. others d q (λ same. (let none : t q ≡ None = ap t same ∙ adds.absent in absurd (cc (none, is))));
-}
 
 -- a picture with the same names, in which the blocks are kept, agrees with the same files
 pub agrees_kept : (p p' : Picture) (state : State) → Extends p p' → ((q : List ℕ) → p'.names q ≡ p.names q) → Agrees (Some p) state.files → Agrees (Some p') state.files

@@ -1,8 +1,7 @@
 -- When a namenode of a cluster in memory has failed.
-use Rattle.std.proofs.Common.{◌≡◌, ◌≢◌, ⊎_elim, inl, inr, ℕ, ◌+◌, ◌-◌, ◌^◌, ◌<◌, ◌≤◌, ◌==◌, min, nat_lt, Bool, true, false, if◌then◌else◌, not, List, [], ◌∷◌, ◌++◌, get_or, length, map, Option, Some, None, Result, Ok, Err, refl, sym, ◌∙◌, ap, subst, arith, eq-eqb, ne_eqb}
+use Rattle.std.proofs.Common.{if◌then◌else◌, ◌≡◌, ◌≢◌, ⊎_elim, inl, inr, ℕ, ◌+◌, ◌-◌, ◌^◌, ◌≤◌, ◌==◌, min, nat_lt, Bool, true, false, not, List, [], ◌∷◌, ◌++◌, length, map, Option, Some, None, Result, Ok, Err, refl, sym, ◌∙◌, ap, subst, arith, eq-eqb, ne_eqb}
 use Rattle.std.proofs.lemmas.Bool.{false≢true, or_parts}
-use Rattle.std.proofs.lemmas.Bool.Decides.{nat_tests}
-use Rattle.std.proofs.lemmas.List.{get_or_past, map-append}
+use Rattle.std.proofs.lemmas.List.{map-append}
 use Rattle.std.proofs.lemmas.List.Folds.{list_any-append}
 use Rattle.std.specs.List.{list_any}
 use Rattle.std.specs.Str.{bytes_eq}
@@ -224,20 +223,3 @@ fresh_calls m fresh settings plan same i =
     let none : m.calls ≡ 0 = m.unfailed unfaulted in
     let before = none_planned m unfaulted i in
     no_namenode_faults settings m.calls plan i (same i ∙ before) none ∙ sym (no_namenode_faults m.config.settings m.calls m.faults i before none)
-
--- the counts of all namenodes, by their numbers
-pub all_at : (settings : MemSettings) (calls : ℕ) (plan : FaultPlan) (all : List ℕ) → length all ≡ settings.namenodes → ((k : ℕ) → k < settings.namenodes → get_or all k 0 ≡ namenode_faults settings calls plan k) → (i : ℕ) → get_or all i 0 ≡ namenode_faults settings calls plan i
-all_at settings calls plan all len each i = by_test (nat_lt i settings.namenodes) refl
-  where
-    by_test : (b : Bool) → nat_lt i settings.namenodes ≡ b → get_or all i 0 ≡ namenode_faults settings calls plan i
-    by_test true is = each i (grind (arith, nat_tests))
-    by_test false is =
-        let past : settings.namenodes ≤ i = grind (arith, nat_tests) in
-        get_or_past all i 0 (omega (arith, len, past))
-        ∙ sym (ap (λ (b : Bool). if b then min (ask_faults_of plan i + failed_calls settings calls i) (2 ^ 64 - 1) else 0) is)
-
--- one more of them
-pub one_at : (settings : MemSettings) (calls : ℕ) (plan : FaultPlan) (i n : ℕ) → i < settings.namenodes → n ≡ min (ask_faults_of plan i + failed_calls settings calls i) (2 ^ 64 - 1) → n ≡ namenode_faults settings calls plan i
-one_at settings calls plan i n below is =
-    let there : nat_lt i settings.namenodes ≡ true = grind (arith, nat_tests) in
-    is ∙ sym (ap (λ (b : Bool). if b then min (ask_faults_of plan i + failed_calls settings calls i) (2 ^ 64 - 1) else 0) there)

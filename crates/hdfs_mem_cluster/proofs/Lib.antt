@@ -13,7 +13,6 @@ pub mod NewLying
 pub mod NothingLoaded
 pub mod Numbered
 pub mod Opening
-pub mod Others
 pub mod Packets
 pub mod Places
 pub mod Puts

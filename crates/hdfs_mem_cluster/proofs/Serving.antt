@@ -1,5 +1,5 @@
 -- What an ask of a cluster in memory shows.
-use Rattle.std.proofs.Common.{◌≡◌, ◌≢◌, ◌⊎◌, ⊎_elim, inl, inr, ℕ, ◌+◌, ◌-◌, ◌^◌, ◌<◌, ◌≤◌, min, nat_lt, Bool, true, false, ◌&&◌, ◌||◌, if◌then◌else◌, List, map, Option, Some, None, is_some, Result, Ok, Err, IsErr, is_err, IfOk, OnOk, refl, sym, ◌∙◌, ap, subst, arith}
+use Rattle.std.proofs.Common.{if◌then◌else◌, ◌≡◌, ◌≢◌, ◌⊎◌, ⊎_elim, inl, inr, ℕ, ◌+◌, ◌-◌, ◌^◌, ◌<◌, ◌≤◌, min, nat_lt, Bool, true, false, ◌&&◌, ◌||◌, List, map, Option, Some, None, is_some, Result, Ok, Err, IsErr, is_err, IfOk, OnOk, refl, sym, ◌∙◌, ap, subst, arith}
 use Rattle.std.proofs.lemmas.Bool.{cases_eq, false≢true}
 use Rattle.std.proofs.lemmas.Bool.Decides.{nat_tests}
 use Rattle.slab.specs.Slab.{Slab}
@@ -57,11 +57,6 @@ still_without_answer loaded count p q i ask result is h = ⊎_elim (unanswered r
 pub comes_to_nothing : (loaded : List Line) (count : ℕ) (kind : Option AskKind) (p q : Picture) (i : ℕ) (ask : Ask) → SamePicture p q → AskComesTo loaded count kind p i ask (Err faults.NoMemory) q
 comes_to_nothing loaded count None p q i ask same = inl same
 comes_to_nothing loaded count (Some kind) p q i ask same = inl (refl, same)
-
--- an answer for which there was no memory is an error
-pub unanswered_err : (result : Result Answer AskFault) → is_answered result ≡ false → IsErr result
-unanswered_err (Ok answer) none = absurd (false≢true (sym none))
-unanswered_err (Err fault) none = refl
 
 -- what a namenode answers that is planned to fail is an answer to the ask
 pub planned_shaped : (kind : AskKind) (ask : Ask) → IfOk (planned_answer kind ask) (IsShaped ask)

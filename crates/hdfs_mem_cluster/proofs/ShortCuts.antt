@@ -1,5 +1,5 @@
 -- What a cluster shows where one of its replicas is cut.
-use Rattle.std.proofs.Common.{◌≡◌, ◌≢◌, ⊎_elim, ℕ, Bool, true, false, eqb, cond, ◌||◌, List, [], ◌∷◌, length, take, min, get_or, Option, Some, None, unwrap_or, refl, sym, ◌∙◌, ap, subst, arith}
+use Rattle.std.proofs.Common.{◌≡◌, ◌≢◌, ⊎_elim, ℕ, Bool, true, false, eqb, cond, List, [], length, take, min, get_or, Option, Some, None, unwrap_or, refl, sym, ◌∙◌, ap, subst, arith}
 use Rattle.std.proofs.Math.Seq.{take-length}
 use Rattle.std.proofs.lemmas.Bool.{false≢true, cases_eq, eqb-true}
 use Rattle.std.proofs.lemmas.List.{length-take, length-take-le, take-take, take_min}
@@ -19,13 +19,13 @@ use Rattle.hdfs_cluster.specs.Sending.{WritePlace}
 use Rattle.hdfs_cluster.specs.Stores.{Agrees, AgreesAt, HoldsPrefix, StoresBlock}
 use Rattle.hdfs_mem_namenode.specs.declared.namespace.Namespace.{Namespace}
 use Rattle.hdfs_mem_datanodes.specs.declared.datanodes.Datanodes.{Datanodes}
-use Rattle.hdfs_mem_datanodes.specs.Nodes.{held_in, is_here, undisturbed_in, SameHeld}
+use Rattle.hdfs_mem_datanodes.specs.Nodes.{is_here, undisturbed_in}
 use Rattle.hdfs_mem_datanodes.proofs.Nodes.{here_false, here_true}
 use Rattle.hdfs_mem_cluster.specs.declared.mem_link.MemLink.{MemLink}
 use Rattle.hdfs_mem_cluster.specs.declared.mem_link.MemLink.TheVariants as links
 use Rattle.hdfs_mem_cluster.specs.Links.{write_place}
 use Rattle.hdfs_mem_cluster.specs.MemShown.{picture_at}
-use Rattle.hdfs_mem_cluster.specs.Shortening.{CanCut, CutsReplica, leaves_whole, left_on}
+use Rattle.hdfs_mem_cluster.specs.Shortening.{CanCut, CutsReplica, left_on}
 use Rattle.hdfs_mem_cluster.proofs.Agreeing.{agrees_by}
 use Rattle.hdfs_mem_cluster.proofs.Deciding.{entry_same}
 use Rattle.hdfs_mem_cluster.proofs.Numbered.{any_at, other_default}
@@ -114,20 +114,3 @@ cuts_at space nodes nodes' settings s uuid id len cuts =
       };
       cut = held_here p q id len uuid cuts.held;
     }
-
--- where nothing is seen to change of what is held, as many bytes are left
-pub left_same : (a b : Datanodes) (id len : ℕ) (uuid node : List ℕ) → SameHeld a b → left_on (held_in b) id uuid len node ≡ left_on (held_in a) id uuid len node
-left_same a b id len uuid node same = ap (λ (h : List ℕ). cond (bytes_eq node uuid) len (length h)) (same node id).bytes
-
--- a replica that is cut behind reads of others is cut
-pub cuts_behind : (a b c : Datanodes) (uuid : List ℕ) (id len : ℕ) → SameHeld a b → CutsReplica b uuid id len c → CutsReplica a uuid id len c
-cuts_behind a b c uuid id len same cuts = record {
-  held = λ d k. cuts.held d k ∙ ap (λ (h : List ℕ). cond (is_here uuid id d k) (take len h) h) (same d k).bytes;
-  links = λ d k link. cuts.links d k link ∙ ap (cond (is_here uuid id d k) false) ((same d k).links link);
-}
-
-pub leaves_same : (a b : Datanodes) (id len whole : ℕ) (uuid : List ℕ) → SameHeld a b → (nodes : List (List ℕ)) → leaves_whole (held_in b) id uuid len whole nodes ≡ leaves_whole (held_in a) id uuid len whole nodes
-leaves_same a b id len whole uuid same [] = refl
-leaves_same a b id len whole uuid same (node ∷ nodes) =
-    ap (λ (n : ℕ). eqb n whole || leaves_whole (held_in b) id uuid len whole nodes) (left_same a b id len uuid node same)
-    ∙ ap (λ (t : Bool). eqb (left_on (held_in a) id uuid len node) whole || t) (leaves_same a b id len whole uuid same nodes)

@@ -6,7 +6,7 @@ use Rattle.slab.specs.Slab.{Slab}
 use Rattle.hdfs_cluster.specs.declared.mem_settings.MemSettings.{MemSettings}
 use Rattle.hdfs_cluster.specs.declared.picture.LastAnswer.{LastAnswer}
 use Rattle.hdfs_cluster.specs.declared.store.Line.TheVariants as lines
-use Rattle.hdfs_cluster.specs.Loading.{Loads, LoadsNothing, SameShown}
+use Rattle.hdfs_cluster.specs.Loading.{Loads, LoadsNothing}
 use Rattle.hdfs_mem_faults.specs.declared.fault_plan.FaultPlan.{FaultPlan}
 use Rattle.hdfs_mem_namenode.specs.declared.namespace.Namespace.{Namespace}
 use Rattle.hdfs_mem_namenode.specs.Soundness.{sound_from}
@@ -18,31 +18,15 @@ use Rattle.hdfs_mem_cluster.specs.declared.loaded.Kept.{Kept}
 use Rattle.hdfs_mem_cluster.specs.declared.mem_link.MemLink.{MemLink}
 use Rattle.hdfs_mem_cluster.specs.declared.loaded.Kept.TheVariants as keeps
 use Rattle.hdfs_mem_cluster.specs.Lines.{line_of}
-use Rattle.hdfs_mem_cluster.specs.MemShown.{loaded_at, picture_at}
+use Rattle.hdfs_mem_cluster.specs.MemShown.{picture_at}
 use Rattle.hdfs_mem_cluster.specs.Shortening.{CutsReplica, IsShort}
 use Rattle.hdfs_mem_cluster.proofs.Lying.{lie_short}
 use Rattle.hdfs_mem_cluster.proofs.NewLying.{loaded_more}
 use Rattle.hdfs_mem_cluster.proofs.NothingLoaded.{nothing_loaded}
-use Rattle.hdfs_mem_cluster.proofs.Places.{place_same}
 use Rattle.hdfs_mem_cluster.proofs.ShortCuts.{agrees_short, cuts_at}
 use Rattle.hdfs_mem_cluster.proofs.Stills.{shown_at}
 
 module _ (space : Namespace) (settings : MemSettings) (last : LastAnswer) (failures : ℕ) (items items' : List Kept) (faults : FaultPlan) (nodes nodes' : Datanodes) (s : Slab MemLink) where
-  -- nothing is seen to change
-  pub shown_same : items' ≡ items → SameHeld nodes nodes' → SameShown (shown_at space settings last failures (map line_of items) faults nodes s) (shown_at space settings last failures (map line_of items') faults nodes' s)
-  shown_same lines same = record {
-    rest = record { counts = record { asks = λ i. refl; calls = λ i. refl; links = refl; nodes = λ d. refl }; last = refl; namenodes = refl; reads = λ link. refl; writes = λ link. refl };
-    lines = ap (λ (xs : List Kept). loaded_at settings (map line_of xs)) lines;
-    picture = record {
-      rest = record {
-        files = record { names = λ path. refl; table = λ id. refl; held = λ node id. (same node id).bytes; defaults = refl };
-        reads = λ link. refl;
-        writes = λ link. place_same nodes nodes' (λ d b l. (same d b).links l) link (slab.get s link);
-      };
-      active = refl;
-    };
-  }
-
   -- nor of what is asked for a line that was not loaded
   pub not_short : items' ≡ items → SameHeld nodes nodes' → LoadsNothing (shown_at space settings last failures (map line_of items) faults nodes s) (shown_at space settings last failures (map line_of items') faults nodes' s)
   not_short lines same =

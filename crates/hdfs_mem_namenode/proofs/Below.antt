@@ -35,10 +35,6 @@ module _ (names : List ℕ → Option Entry) (front : List ℕ) where
   }
 
   module _ (start : List ℕ) (keys : List (List ℕ)) (collects : Collects names front start keys) where
-    -- there is none more
-    pub collects_all : ((q : List ℕ) → IsSome (names q) → is_before q start ≡ true) → (x : List ℕ) → IsSome (names (front ++ x)) → Contains keys (front ++ x)
-    collects_all none x some = collects.all x some (none (front ++ x) some)
-
     module _ (path : List ℕ) (from : is_before path start ≡ false) (least : (q : List ℕ) → IsSome (names q) → is_before q start ≡ false → is_before q path ≡ false) where
       -- the first one left doesn't begin so
       pub collects_before : ((rest : List ℕ) → path ≡ front ++ rest → ⊥) → (x : List ℕ) → IsSome (names (front ++ x)) → Contains keys (front ++ x)

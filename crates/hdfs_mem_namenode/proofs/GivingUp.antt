@@ -17,19 +17,6 @@ use Rattle.hdfs_mem_namenode.proofs.Naming.{Sound}
 use Rattle.hdfs_mem_namenode.proofs.NewFiles.{total_same}
 use Rattle.hdfs_mem_namenode.proofs.Sums.{counted_changed, kept_at}
 
--- two lists that end so end with the same
-pub last_same : (xs ys : List ℕ) (x y : ℕ) → xs ++ x ∷ [] ≡ ys ++ y ∷ [] → (xs ≡ ys) × (x ≡ y)
-last_same [] [] x y same = (refl, cc)
-last_same [] (b ∷ []) x y same = absurd (cc)
-last_same [] (b ∷ c ∷ ys) x y same = absurd (cc)
-last_same (a ∷ []) [] x y same = absurd (cc)
-last_same (a ∷ c ∷ xs) [] x y same = absurd (cc)
-last_same (a ∷ xs) (b ∷ ys) x y same =
-    let first : a ≡ b = cc in
-    let rest : xs ++ x ∷ [] ≡ ys ++ y ∷ [] = cc in
-    let more = last_same xs ys x y rest in
-    (ap (λ (n : ℕ). n ∷ xs) first ∙ ap (λ (l : List ℕ). b ∷ l) more.0, more.1)
-
 -- without its last block a file has that many bytes less
 total_front : (table : ℕ → Option BlockEntry) (front : List ℕ) (id n : ℕ) (entry : BlockEntry) → total table (front ++ id ∷ []) ≡ Some n → table id ≡ Some entry
     → (m : ℕ) × (total table front ≡ Some m) × (n ≡ m + entry.length)

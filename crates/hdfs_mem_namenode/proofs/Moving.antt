@@ -161,16 +161,6 @@ file_allowed (Some entries.Dir) true none = absurd (cc)
 file_allowed (Some entries.Dir) false none = absurd (cc)
 file_allowed (Some (entries.File file)) above none = (file, refl)
 
--- nothing stands where nothing is in the way of one that overwrites nothing
-free_of : (o : Option Entry) → is_in_the_way false (option_map entry_kind o) ≡ false → o ≡ None
-free_of None none = refl
-free_of (Some entries.Dir) none = absurd (false≢true (sym none))
-free_of (Some (entries.File file)) none = absurd (in_way file.is_open none)
-  where
-    in_way : (b : Bool) → is_in_the_way false (Some (cond b OpenFile ClosedFile)) ≡ false → ⊥
-    in_way true none = false≢true (sym none)
-    in_way false none = false≢true (sym none)
-
 -- none of three refusals holds
 none_of : (a b c : Bool) → cond a (Some Exists) (cond b (Some (Lacks NotDirectory)) (cond (not false && c) (Some (Lacks Missing)) None)) ≡ None → (a ≡ false) × (b ≡ false) × (c ≡ false)
 none_of true b c is = absurd (cc)
@@ -198,9 +188,6 @@ module _ (names : List ℕ → Option Entry) (rooted : is_dir (names root) ≡ t
 
   three : (is_in_the_way false (kinds_in names dst) ≡ false) × (list_any (λ ancestor. is_file (kinds_in names ancestor)) (ancestors dst) ≡ false) × (is_none (kinds_in names (parent_of dst)) ≡ false)
   three = none_of _ _ _ may.free
-
-  pub move_free : names dst ≡ None
-  move_free = free_of (names dst) three.0
 
   pub move_parent : is_dir (names (parent_of dst)) ≡ true
   move_parent =

@@ -15,12 +15,12 @@ use Rattle.std.specs.String.{string_bytes}
 use Rattle.hdfs_cluster.specs.declared.picture.Entry.{Entry}
 use Rattle.hdfs_cluster.specs.declared.picture.Entry.TheVariants as entries
 use Rattle.hdfs_cluster.specs.declared.picture.BlockEntry.{BlockEntry}
-use Rattle.hdfs_cluster.specs.Files.{Kind, Directory, ClosedFile, OpenFile, IsTree, IsState, Dir, Writing, Content, kind_of, kinds_of, only_root, empty_state}
+use Rattle.hdfs_cluster.specs.Files.{Kind, Directory, ClosedFile, OpenFile, IsTree, IsState, Dir, kind_of, kinds_of, only_root, empty_state}
 use Rattle.hdfs_names.specs.Paths.{root, is_path, ancestors, parent_of}
 use Rattle.hdfs_cluster.specs.Picture.{entry_kind, kinds_in}
-use Rattle.hdfs_cluster.proofs.Loads.{and_parts, none_from_test}
+use Rattle.hdfs_cluster.proofs.Loads.{and_parts}
 use Rattle.hdfs_cluster.proofs.Trees.{tree_with}
-use Rattle.hdfs_mem_namenode.specs.Memory.{is_dir, is_placed, is_sized, is_bare, is_bare_at, is_kth, is_free_at, AreApart, IsBare}
+use Rattle.hdfs_mem_namenode.specs.Memory.{is_dir, is_placed, is_sized, is_bare, is_bare_at, is_kth, AreApart, IsBare}
 use Rattle.hdfs_mem_namenode.specs.Adding.{IsPlace, AreNew, Names}
 use Rattle.hdfs_cluster.specs.Effects.{blocks_at}
 use Rattle.hdfs_mem_namenode.proofs.Apart.{apart_with, no_kth}
@@ -121,13 +121,6 @@ module _ (names names' : List ℕ → Option Entry) (table : ℕ → Option Bloc
       by_test true same here = false≢true (sym (ap is_dir (ap names (same refl) ∙ absent)) ∙ rooted)
       by_test false same here = false≢true here
 
--- a free path is a place
-pub place_from_test : (names : List ℕ → Option Entry) (path : List ℕ) → is_free_at names path ≡ true → IsPlace names path
-place_from_test names path is =
-    let front = and_parts (is_path path && is_none (names path)) (is_dir (names (parent_of path))) is in
-    let first = and_parts (is_path path) (is_none (names path)) front.0 in
-    record { named = first.0; absent = none_from_test (names path) first.1; parent = front.1 }
-
 -- the names in a list of entries
 abbrev pub look : {A : Type 0} → List (String A × Entry) → List ℕ → Option Entry
 look es q = lookup (is_at (λ k. slice_cmp nat_cmp q (string_bytes k))) es
@@ -213,10 +206,3 @@ empty_is_state = record {
     by_test : (b : Bool) (path : List ℕ) → (b ≡ true → root ≡ path) → IsSome (cond b (Some Dir) None) → root ≡ path
     by_test true path is some = is refl
     by_test false path is some = absurd (cc)
-
-pub no_writing : (path : List ℕ) (content : Content) → only_root path ≡ Some (Writing content) → ⊥
-no_writing path content is = by_test (bytes_eq root path) is
-  where
-    by_test : (b : Bool) → cond b (Some Dir) None ≡ Some (Writing content) → ⊥
-    by_test true is = cc
-    by_test false is = cc

@@ -4,7 +4,7 @@ use Rattle.hdfs_cluster.specs.declared.picture.BlockEntry.{BlockEntry}
 use Rattle.hdfs_cluster.specs.declared.picture.Entry.{Entry}
 use Rattle.hdfs_cluster.specs.declared.picture.Entry.TheVariants as entries
 use Rattle.hdfs_cluster.specs.Listing.{total, plus_length}
-use Rattle.hdfs_mem_namenode.specs.Adding.{AddsBlock, Keeps}
+use Rattle.hdfs_mem_namenode.specs.Adding.{Keeps}
 use Rattle.hdfs_mem_namenode.specs.Memory.{is_length, is_sized}
 
 module _ (t t' : ℕ → Option BlockEntry) (kept : Keeps t t') where
@@ -31,6 +31,3 @@ pub keeps_others : (t t' : ℕ → Option BlockEntry) (new : ℕ) → t new ≡ 
 keeps_others t t' new absent others id entry is =
     let apart : id ≢ new = λ same. (let none : t id ≡ None = ap t same ∙ absent in absurd (cc (none, is))) in
     others id apart ∙ is
-
-pub keeps_from-AddsBlock : (t t' : ℕ → Option BlockEntry) (new length : ℕ) (nodes : List (List ℕ)) → AddsBlock t t' new length nodes → Keeps t t'
-keeps_from-AddsBlock t t' new length nodes adds = keeps_others t t' new adds.absent adds.others

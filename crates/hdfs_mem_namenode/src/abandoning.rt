@@ -1,7 +1,6 @@
 //! How a block of a file in a cluster in memory is given up.
-ghost use Rattle.std.specs.Prelude.{◌≡◌, ◌⊎◌, ◌∷◌, [], ◌++◌, ℕ, true, List, Contains, Some, IfErr, OnOk, OnErr};
+ghost use Rattle.std.specs.Prelude.{◌≡◌, ◌⊎◌, ◌∷◌, [], ◌++◌, ℕ, true, Some, IfErr, OnOk, OnErr};
 ghost use Rattle.std.specs.BTreeMap.{get_by_text};
-ghost use Rattle.hdfs_cluster.specs.declared.picture.BlockEntry.{BlockEntry};
 ghost use Rattle.hdfs_cluster.specs.declared.picture.Entry.TheVariants as entries;
 ghost use Rattle.hdfs_cluster.specs.declared.picture.FileEntry.{FileEntry};
 ghost use Rattle.hdfs_cluster.specs.Effects.{IsEmptyLast};

@@ -1,21 +1,20 @@
 -- What commands on names make of the plain program's files.
-use Rattle.std.proofs.Common.{◌≡◌, inl, inr, ℕ, Bool, true, false, cond, not, ◌&&◌, ◌||◌, List, [], ◌∷◌, ◌++◌, map, if◌then◌else◌, Option, Some, None, is_some, is_none, unwrap_or, refl, sym, ◌∙◌, ap, subst}
+use Rattle.std.proofs.Common.{if◌then◌else◌, ◌≡◌, inl, inr, ℕ, Bool, true, false, cond, not, ◌&&◌, ◌||◌, List, [], ◌∷◌, map, Option, Some, None, is_some, unwrap_or, refl, sym, ◌∙◌, ap, subst}
 use Rattle.std.proofs.lemmas.Bool.{false≢true}
-use Rattle.std.proofs.lemmas.Slice.Eq.{bytes_eq-Decides}
 use Rattle.std.specs.List.{filter, list_any}
 use Rattle.std.specs.Option.{option_map}
 use Rattle.std.specs.Str.{bytes_eq}
 use Rattle.std.specs.String.{string_bytes}
-use Rattle.hdfs_cluster.specs.Files.{Files, Node, Dir, File, Writing, Content, State, NoFile, Missing, NotDirectory, is_file, kind_of, kinds_of}
+use Rattle.hdfs_cluster.specs.Files.{Files, Node, Dir, State, kinds_of}
 use Rattle.hdfs_cluster.specs.Names.{is_below, is_within}
-use Rattle.hdfs_cluster.specs.Refusals.{Refusal, Lacks, NotEmpty, delete_refusal, look_refusal, mkdirs_refusal}
+use Rattle.hdfs_cluster.specs.Refusals.{delete_refusal, mkdirs_refusal}
 use Rattle.hdfs_model.specs.declared.commands.Reply.TheVariants as replies
-use Rattle.hdfs_model.specs.Steps.{Outcome, Refused, Done, WrongState, delete_files, files_without, has_below, info_node, info_of, is_opened, is_opened_within, make_directory, with_directory}
+use Rattle.hdfs_model.specs.Steps.{Outcome, Refused, Done, WrongState, delete_files, files_without, has_below, is_opened_within, make_directory, with_directory}
 use Rattle.hdfs_names.specs.Paths.{root, ancestors}
 use Rattle.hdfs_plain.specs.declared.files.PlainFiles.{PlainFiles}
 use Rattle.hdfs_plain.specs.declared.files.PlainNode.{PlainNode}
 use Rattle.hdfs_plain.specs.declared.files.PlainNode.TheVariants as nodes
-use Rattle.hdfs_plain.specs.Plain.{Holds, Puts, files_of, has_open, has_open_within, look_up, node_of, with_directories}
+use Rattle.hdfs_plain.specs.Plain.{Holds, files_of, has_open, has_open_within, look_up, node_of, with_directories}
 use Rattle.hdfs_model.proofs.Ordered.{In}
 use Rattle.hdfs_model.specs.Walks.{in_order, is_listed, walk}
 use Rattle.hdfs_model.proofs.Walking.{any_from_in, any_same, in_from_any, walk_same}
@@ -71,14 +70,6 @@ module _ (plain : PlainFiles) (state : State) (path : List ℕ) (holds : Holds p
   makes_directory parents none =
       ap (λ (files : Files). make_directory state path (mkdirs_refusal (kinds_of files) path parents)) (files_same plain state holds)
       ∙ ap (make_directory state path) none
-
-  -- it is told of what stands at a path
-  pub tells_node : (node : PlainNode) → look_refusal (kinds_of (files_of plain)) path ≡ None → look_up plain path ≡ Some node
-      → info_node state (look_refusal (kinds_of state.files) path) (state.files path) ≡ Done (info_of (node_of node)) state
-  tells_node node none is =
-      ap (λ (files : Files). info_node state (look_refusal (kinds_of files) path) (state.files path)) (files_same plain state holds)
-      ∙ ap (λ (o : Option Refusal). info_node state o (state.files path)) none
-      ∙ ap (info_node state None) (holds.files path ∙ ap (option_map node_of) is)
 
   -- a path stands in the state where it does in the files
   stands_same : (q : List ℕ) → is_some (state.files q) ≡ is_some (look_up plain q)

@@ -12,7 +12,6 @@ use Rattle.hdfs_cluster.specs.Files.{Files, Node, Dir, File, Writing, Content, S
 use Rattle.hdfs_names.specs.Paths.{ancestors}
 use Rattle.hdfs_cluster.specs.Refusals.{create_refusal, append_refusal, open_refusal}
 use Rattle.hdfs_model.specs.Steps.{Done, is_opened, with_writing, with_node, without, content_of, read_content, read_file, open_node, append_file, create_file}
-use Rattle.hdfs_cluster.specs.Loading.{with_new}
 use Rattle.hdfs_plain.specs.declared.files.PlainFiles.{PlainFiles}
 use Rattle.hdfs_plain.specs.declared.files.PlainNode.{PlainNode}
 use Rattle.hdfs_plain.specs.declared.files.PlainNode.TheVariants as nodes
@@ -31,23 +30,6 @@ listed_first path q paths false other later = ap (λ (b : Bool). b || list_any (
 or_either : (a b : Bool) → (a ≡ false → b ≡ true) → (a || b) ≡ true
 or_either true b later = refl
 or_either false b later = later refl
-
--- something new is put at a path
-pub holds_with_new : (old new : PlainFiles) (state : State) (path : List ℕ) (node : PlainNode) (is_node : Node) → Holds old state → node_of node ≡ is_node
-    → ((q : List ℕ) → look_up new q ≡ cond (bytes_eq path q) (Some node) (look_up old q)) → ((q : List ℕ) → has_open new q ≡ has_open old q) → Holds new (with_new state path is_node)
-holds_with_new old new state path node is_node holds is updates same = record {
-  files = λ q. at_test (bytes_eq path q) q ∙ ap (option_map node_of) (sym (updates q));
-  listed = λ q some. listed_first path q state.paths (bytes_eq path q) refl (λ off. holds.listed q (was (bytes_eq path q) q off (subst (λ (o : Option PlainNode). is_some o ≡ true) (updates q) some)));
-  opened = λ q. holds.opened q ∙ sym (same q);
-}
-  where
-    at_test : (b : Bool) (q : List ℕ) → cond b (Some is_node) (state.files q) ≡ option_map node_of (cond b (Some node) (look_up old q))
-    at_test true q = ap Some (sym is)
-    at_test false q = holds.files q
-
-    was : (b : Bool) (q : List ℕ) → b ≡ false → is_some (cond b (Some node) (look_up old q)) ≡ true → is_some (look_up old q) ≡ true
-    was true q off some = absurd (false≢true (sym off))
-    was false q off some = some
 
 -- a node is put at a path, at which something stands
 pub holds_with_node : (old new : PlainFiles) (state : State) (path : List ℕ) (node : PlainNode) → Holds old state → is_some (look_up old path) ≡ true → Puts old path node new → Holds new (with_node state path (node_of node))
@@ -134,14 +116,6 @@ holds_with_writing old new state path node content holds is updates opens = reco
     or_cond : (b a : Bool) → (b || a) ≡ cond b true a
     or_cond true a = refl
     or_cond false a = refl
-
--- whether one of some elements passes a test, by the last of them
-pub any_push : {X : Type 0} (p : X → Bool) (xs rest : List X) (x : X) → xs ≡ rest ++ x ∷ [] → p x ≡ false → list_any p xs ≡ list_any p rest
-any_push p xs rest x is off = ap (list_any p) is ∙ list_any-append p rest (x ∷ []) ∙ ap (λ (b : Bool). list_any p rest || (b || false)) off ∙ or_false (list_any p rest)
-  where
-    or_false : (b : Bool) → (b || false) ≡ b
-    or_false true = refl
-    or_false false = refl
 
 pub any_last : {X : Type 0} (p : X → Bool) (xs rest : List X) (x : X) → xs ≡ rest ++ x ∷ [] → p x ≡ true → list_any p xs ≡ true
 any_last p xs rest x is on = ap (list_any p) is ∙ list_any-append p rest (x ∷ []) ∙ ap (λ (b : Bool). list_any p rest || (b || false)) on ∙ or_true (list_any p rest)

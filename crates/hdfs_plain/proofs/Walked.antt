@@ -1,39 +1,9 @@
 -- How two paths are compared byte by byte, where a path is put among others, and how a walk grows from its end.
-use Rattle.std.proofs.Common.{◌≡◌, ◌≢◌, ℕ, zero, suc, ◌+◌, ◌<◌, ◌≤◌, Bool, true, false, cond, not, ◌&&◌, eqb, ltb, List, [], ◌∷◌, ◌++◌, length, take, drop, get_or, map, refl, sym, ◌∙◌, ap, arith, append_assoc, take-append-drop, take_all}
-use Rattle.std.proofs.lemmas.Bool.{false≢true}
+use Rattle.std.proofs.Common.{◌≡◌, ℕ, zero, suc, ◌+◌, ◌<◌, ◌≤◌, Bool, true, false, cond, ltb, List, [], ◌∷◌, ◌++◌, length, take, drop, get_or, refl, sym, ◌∙◌, ap, arith, append_assoc, take-append-drop, take_all}
 use Rattle.std.proofs.lemmas.Bool.Decides.{nat_tests}
 use Rattle.std.proofs.lemmas.List.{drop_more, take_more}
-use Rattle.std.specs.List.{filter}
 use Rattle.std.specs.Str.{bytes_eq}
-use Rattle.hdfs_names.specs.Paths.{is_slash}
-use Rattle.hdfs_model.specs.Walks.{comes_before, in_order, put_path, rank}
-use Rattle.hdfs_model.proofs.Ordered.{rank_same, same_first}
-
-at_both : (a b : List ℕ) (k : ℕ) → k < length a → k < length b
-    → comes_before (drop k a) (drop k b) ≡ comes_before (get_or a k 0 ∷ drop (k + 1) a) (get_or b k 0 ∷ drop (k + 1) b)
-at_both a b k la lb = ap (λ (x : List ℕ). comes_before x (drop k b)) (drop_more a k 0 la) ∙ ap (comes_before (get_or a k 0 ∷ drop (k + 1) a)) (drop_more b k 0 lb)
-
--- where the bytes at a place are the same the rest decides
-pub comes_skip : (a b : List ℕ) (k : ℕ) → k < length a → k < length b → get_or a k 0 ≡ get_or b k 0 → comes_before (drop k a) (drop k b) ≡ comes_before (drop (k + 1) a) (drop (k + 1) b)
-comes_skip a b k la lb same =
-    at_both a b k la lb
-    ∙ ap (λ (x : ℕ). comes_before (get_or a k 0 ∷ drop (k + 1) a) (x ∷ drop (k + 1) b)) (sym same)
-    ∙ same_first (get_or a k 0) (drop (k + 1) a) (drop (k + 1) b)
-
--- where they aren't they decide
-pub comes_apart : (a b : List ℕ) (k : ℕ) → k < length a → k < length b → get_or a k 0 ≢ get_or b k 0 → comes_before (drop k a) (drop k b) ≡ ltb (rank (get_or a k 0)) (rank (get_or b k 0))
-comes_apart a b k la lb apart =
-    at_both a b k la lb
-    ∙ by (ltb (rank (get_or a k 0)) (rank (get_or b k 0))) (eqb (rank (get_or a k 0)) (rank (get_or b k 0)))
-    (comes_before (drop (k + 1) a) (drop (k + 1) b)) (λ is. apart (rank_same (get_or a k 0) (get_or b k 0) (equal (rank (get_or a k 0)) (rank (get_or b k 0)) is)))
-  where
-    equal : (x y : ℕ) → eqb x y ≡ true → x ≡ y
-    equal x y same = grind (arith, nat_tests, same)
-
-    by : (l e rest : Bool) → (e ≡ true → ⊥) → cond l true (e && rest) ≡ l
-    by true e rest never = refl
-    by false true rest never = absurd (never refl)
-    by false false rest never = refl
+use Rattle.hdfs_model.specs.Walks.{comes_before, put_path}
 
 -- behind the end of one of them the lengths decide
 pub comes_end : (a b : List ℕ) (k : ℕ) → k ≤ length a → k ≤ length b → (k < length a → k < length b → ⊥) → comes_before (drop k a) (drop k b) ≡ ltb (length a) (length b)
@@ -91,16 +61,3 @@ put_last path xs k le so_far =
     so_far
     ∙ ap (λ (l : List (List ℕ)). take k xs ++ put_path path l) (nothing_left xs k le)
     ∙ ap (λ (l : List (List ℕ)). l ++ path ∷ []) (take_all k xs le)
-
--- what passes a test from a place on, with one more before it
-pub walk_more : (test : List ℕ → Bool) (xs : List (List ℕ)) (k : ℕ) (d : List ℕ) → k < length xs → test (get_or xs k d) ≡ true
-    → in_order (filter test (drop k xs)) ≡ put_path (get_or xs k d) (in_order (filter test (drop (k + 1) xs)))
-walk_more test xs k d lt on =
-    ap (λ (l : List (List ℕ)). in_order (filter test l)) (drop_more xs k d lt)
-    ∙ ap (λ (b : Bool). in_order (cond b (get_or xs k d ∷ filter test (drop (k + 1) xs)) (filter test (drop (k + 1) xs)))) on
-
-pub walk_less : (test : List ℕ → Bool) (xs : List (List ℕ)) (k : ℕ) (d : List ℕ) → k < length xs → test (get_or xs k d) ≡ false
-    → in_order (filter test (drop k xs)) ≡ in_order (filter test (drop (k + 1) xs))
-walk_less test xs k d lt off =
-    ap (λ (l : List (List ℕ)). in_order (filter test l)) (drop_more xs k d lt)
-    ∙ ap (λ (b : Bool). in_order (cond b (get_or xs k d ∷ filter test (drop (k + 1) xs)) (filter test (drop (k + 1) xs)))) off

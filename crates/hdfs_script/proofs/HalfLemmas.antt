@@ -1,5 +1,5 @@
 -- Which line is bad, from its two halves: what a parser has read, and what a store takes of it.
-use Rattle.std.proofs.Common.{◌≡◌, ℕ, ◌+◌, ◌<◌, nat_le, Bool, true, false, ◌&&◌, ◌||◌, List, [], ◌∷◌, Option, Some, None, Ok, Err, if◌then◌else◌, refl, sym, ◌∙◌, ap, arith, lit<}
+use Rattle.std.proofs.Common.{if◌then◌else◌, ◌≡◌, ℕ, ◌+◌, ◌<◌, nat_le, Bool, true, false, ◌&&◌, ◌||◌, List, [], ◌∷◌, Option, Some, None, Ok, Err, refl, sym, ◌∙◌, ap, arith, lit<}
 use Rattle.std.proofs.lemmas.Bool.Decides.{nat_tests}
 use Rattle.hdfs_cluster.specs.declared.store.Line.{Line}
 use Rattle.hdfs_cluster.specs.declared.store.Line.TheVariants as lines
@@ -172,14 +172,3 @@ untaken_held loaded state (numbered ∷ rest) = by_line numbered.line (untaken_h
     by_line (lines.Dir path) there = refl
     by_line (lines.File path attributes bytes) there = refl
     by_line (lines.Short path block node len) there = refl
-
--- faults are taken by every store
-pub faults_taken : (loaded : Loaded) (state : State) (lines : List NumberedLine) → first_file lines ≡ None → first_untaken true loaded state lines ≡ None
-faults_taken loaded state [] none = refl
-faults_taken loaded state (numbered ∷ rest) none = by_line numbered.line (faults_taken (with_loaded loaded numbered.line) state rest) none
-  where
-    by_line : (line : Line) → (first_file rest ≡ None → first_untaken true (with_loaded loaded line) state rest ≡ None) → (if is_fault line then first_file rest else Some numbered.number) ≡ None → (if (true || is_fault line) && takes loaded state.files line then first_untaken true (with_loaded loaded line) (with_line state line) rest else Some numbered.number) ≡ None
-    by_line (lines.Fault fault) there none = there none
-    by_line (lines.Dir path) there none = absurd (cc)
-    by_line (lines.File path attributes bytes) there none = absurd (cc)
-    by_line (lines.Short path block node len) there none = absurd (cc)

@@ -1,9 +1,8 @@
 -- How loaded lines join.
-use Rattle.std.proofs.Common.{◌≡◌, ℕ, ◌+◌, ◌<◌, Bool, true, false, List, [], ◌∷◌, ◌++◌, length, get_or, take, drop, map, Option, Some, None, if◌then◌else◌, refl, sym, ◌∙◌, ap, subst, append_assoc}
+use Rattle.std.proofs.Common.{if◌then◌else◌, ◌≡◌, ℕ, ◌+◌, ◌<◌, Bool, true, false, List, [], ◌∷◌, ◌++◌, length, get_or, take, drop, map, Option, Some, None, refl, sym, ◌∙◌, ap, subst, append_assoc}
 use Rattle.std.specs.Str.{bytes_eq}
 use Rattle.std.proofs.lemmas.List.{append-nil, take-append-drop, at_drop_more}
 use Rattle.hdfs_cluster.specs.declared.store.Line.{Line}
-use Rattle.hdfs_cluster.specs.Counts.{FaultCounts, SameCounts}
 use Rattle.hdfs_cluster.specs.declared.store.Line.TheVariants as lines
 use Rattle.hdfs_cluster.specs.Files.{Files, State, Content, Node, Dir, File, Writing}
 use Rattle.hdfs_cluster.specs.Stores.{Agrees}
@@ -113,12 +112,6 @@ defaults_line (Some p) (Some q) (lines.Short path block node len) told = told.on
 defaults_line (Some p) (Some q) (lines.Fault fault) told = told.rest.files.defaults
 defaults_line None (Some q) line told = absurd told
 defaults_line (Some p) None line told = absurd told
-
-same_counts_refl : (a : FaultCounts) → SameCounts a a
-same_counts_refl a = record { asks = λ i. refl; calls = λ i. refl; links = refl; nodes = λ d. refl }
-
-pub loads_none : (a : Shown) → LoadsAll a [] a
-loads_none a = record { namenodes = refl; counts = same_counts_refl a.counts; defaults = refl; settings = refl; loaded = sym (append-nil a.loaded.lines); taken = λ state fits are. refl; fits = λ state fits. fits; replicas = λ state fits are. are }
 
 -- one line more
 pub loads_more : (a b c : Shown) (done : List NumberedLine) (numbered : NumberedLine) → LoadsAll a done b → Loads b numbered.line c

@@ -7,7 +7,7 @@ use Rattle.hdfs_cluster.specs.Loading.{with_lines}
 use Rattle.hdfs_script.specs.Scripts.{Script, script, script_limit}
 use Rattle.hdfs_script.specs.Texts.{refusal_text}
 use Rattle.hdfs_streams.specs.Streams.{TookAtMost}
-use Rattle.hdfs_top.specs.Top.{IsSession, Outside, IsKnown, Finishes, Halts, IsText, RefusedScript, RefusedWords, FailedSource, StatusOf, ScriptDecides, RanProgram, world_over}
+use Rattle.hdfs_top.specs.Top.{IsSession, Outside, IsKnown, Finishes, Halts, IsText, RefusedScript, RefusedWords, StatusOf, ScriptDecides, RanProgram, world_over}
 use Rattle.hdfs_top.specs.Inside.{PrintsWhole, PrintsPart}
 
 -- what holds of a run whatever its status
@@ -106,26 +106,6 @@ ran_no_memory words a b status kept same whole = record {
   prefix = λ five. absurd (omega arith);
   write_fine = λ _. whole.fine;
   complete = λ is bytes state parsed known found limited none. any_memory (fold (world_over a parsed) (with_lines state parsed.lines) parsed.commands) status whole.is;
-}
-
--- the source failed
-pub ran_source_failed : (words : List (List ℕ)) (a b : Outside) (status : ℕ) → Kept words a status b → status ≡ 4 → FailedSource a b → b.sink.failures ≡ a.sink.failures → RanProgram words a status b
-ran_source_failed words a b status kept is failed same = record {
-  statuses = omega (arith, is);
-  counts = kept.counts;
-  read = kept.read;
-  other = kept.other;
-  done = λ zero. absurd (omega arith);
-  refused = λ one. absurd (omega arith);
-  no_script = λ one. absurd (omega arith);
-  stopped = λ two. absurd (omega arith);
-  memory = λ three. absurd (omega arith);
-  source = λ _. failed;
-  read_fine = λ not. absurd (not is);
-  sink = λ five. absurd (omega arith);
-  prefix = λ five. absurd (omega arith);
-  write_fine = λ _. same;
-  complete = λ _ bytes state parsed known found limited none. absurd (none.reads failed.rose);
 }
 
 -- the sink failed

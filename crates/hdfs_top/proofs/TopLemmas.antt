@@ -1,7 +1,6 @@
 -- What the program makes of its words and its source.
 use Rattle.std.proofs.Common.{inl, inr, ◌≡◌, ℕ, ◌+◌, Bool, List, [], ◌∷◌, length, get_or, map, refl, sym, ap, arith}
 use Rattle.std.proofs.lemmas.List.{take_all}
-use Rattle.hdfs_cluster.specs.Counts.{Rose}
 use Rattle.hdfs_cluster.specs.Shown.{Shown}
 use Rattle.hdfs_cluster.proofs.Frames.{never_fall_refl}
 use Rattle.hdfs_script.specs.Scripts.{script_limit}
@@ -11,7 +10,7 @@ use Rattle.hdfs_streams.proofs.PrintLemmas.{wrote_none, wrote_same}
 use Rattle.hdfs_streams.proofs.ReadLemmas.{took_none}
 use Rattle.hdfs_top.specs.Top.{IsSession, RefusedWords, RanProgram, outside}
 use Rattle.hdfs_top.specs.Inside.{RanSession, Concludes}
-use Rattle.hdfs_top.proofs.StatusLemmas.{Kept, ran_refused, ran_no_memory, ran_source_failed, ran_sink_failed}
+use Rattle.hdfs_top.proofs.StatusLemmas.{Kept, ran_refused, ran_no_memory, ran_sink_failed}
 use Rattle.hdfs_top.proofs.ScriptLemmas.{kept_session, same_shown_refl}
 
 -- a whole text is a prefix of itself
@@ -39,13 +38,6 @@ starved_source source left sink store fresh status taken fine three words is =
     ran_no_memory words (outside source sink store fresh) (outside left sink store fresh) status
     (kept_session words (outside source sink store fresh) (outside left sink store fresh) status is (never_fall_refl store.counts) taken)
     fine (record { is = three; wrote = wrote_none sink; fine = refl })
-
--- the source failed
-pub failed_source : (source left : SourceShown) (sink : SinkShown) (store : Shown) (fresh : Bool) (status : ℕ) → TookAtMost (script_limit + 1) source left → Rose source.failures left.failures → status ≡ 4 → RanSession (outside source sink store fresh) status (outside left sink store fresh)
-failed_source source left sink store fresh status taken rose four words is =
-    ran_source_failed words (outside source sink store fresh) (outside left sink store fresh) status
-    (kept_session words (outside source sink store fresh) (outside left sink store fresh) status is (never_fall_refl store.counts) taken)
-    four (record { rose = rose; wrote = wrote_none sink; store = same_shown_refl store }) refl
 
 -- a list of one word
 pub one_word : {X : Type 0} (bytes : X → List ℕ) (words : List X) (word : X) → length words ≡ 1 → word ≡ get_or words 0 word → map bytes words ≡ bytes word ∷ []

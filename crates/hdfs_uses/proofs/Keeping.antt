@@ -49,19 +49,6 @@ module _ {allows : Request → Type 0} {may_answer : Ask → Answer → Type 0} 
     close = λ other is. two.close other (one.close other is);
   }
 
-  -- and the other way round
-  pub others_files : {a b c : Client} {s m t : Shown} {w u : FileWriter} → KeepsOthers allows may_answer a s w b m u
-      → KeepsFiles allows may_answer b m c t → KeepsOthers allows may_answer a s w c t u
-  others_files one two = record {
-    whole = λ src is. two.whole src (one.whole src is);
-    readers = λ reader is. two.readers reader (one.readers reader is);
-    wholes = λ other is. two.wholes other (one.wholes other is);
-    stand = λ other apart is. (let mid = one.stand other apart is in (two.stand other mid.0, mid.1));
-    answered = λ other is. two.answered other (one.answered other is);
-    write = λ other is. two.write other (one.write other is);
-    close = λ other is. two.close other (one.close other is);
-  }
-
   -- a writer without a link is apart from each
   pub files_alone : {a c : Client} {s t : Shown} {w u : FileWriter} → link_of w ≡ None → KeepsOthers allows may_answer a s w c t u
       → KeepsFiles allows may_answer a s c t
