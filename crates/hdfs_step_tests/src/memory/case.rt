@@ -136,7 +136,7 @@ impl Stage for Case {
                 self.alloc, cluster, words, said,
             ),
             "read" => reading::read_back(self.alloc, cluster, words, said),
-            "readFile" | "readRange" => files::take(self.alloc, cluster, words, said),
+            "readFile" | "readRange" | "readOften" => files::take(self.alloc, cluster, words, said),
             "stream" | "closed" | "into" | "fill" => streaming::take(
                 self.alloc, cluster, words, said,
             ),

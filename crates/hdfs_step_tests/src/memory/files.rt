@@ -60,6 +60,52 @@ fn tell_range(
     drop(bytes);
 }
 
+/// How many bytes are read at a time where a file is read often.
+const PIECE: usize = 16;
+
+/// How far one place lies behind the one before, where a file is read often; they go round in it.
+const STRIDE: usize = 7919;
+
+/// Reads a piece of the file, at a place by how often it was read. Says how many bytes came.
+fn read_piece(
+    client: &mut Client,
+    cluster: &mut MemCluster,
+    reader: &FileReader,
+    time: usize,
+) -> usize
+    requires client { IsClientOf client.old (shown_of cluster.old) }
+    requires stands { Stands reader.now × ReadsBy client.old reader.now }
+    ensures client { IsClientOf client.new (shown_of cluster.new) }
+    ensures by { ReadsBy client.new reader.now }
+{
+    let places = reader.file_length().saturating_sub(PIECE).saturating_add(1);
+    let bytes = reader.read_range(client, cluster, time.wrapping_mul(STRIDE) % places, PIECE);
+    let count = match &bytes {
+        Ok(bytes) => bytes.as_slice().len(),
+        Err(_) => 0,
+    };
+    drop(bytes);
+    count
+}
+
+/// `readOften PATH TIMES`: how many bytes so many reads of a piece give, by one reader.
+fn tell_often(
+    client: &mut Client,
+    cluster: &mut MemCluster,
+    reader: &FileReader,
+    words: &Words<'_>,
+    said: &mut Said,
+)
+    requires client { IsClientOf client.old (shown_of cluster.old) }
+    requires stands { Stands reader.now × ReadsBy client.old reader.now }
+{
+    let mut count = 0u64;
+    'times: for time in 0..number(words[2]) as usize {
+        count = count.saturating_add(read_piece(client, cluster, reader, time) as u64);
+    }
+    said.number(count);
+}
+
 /// A file is read by a client.
 pub(crate) fn read_by(
     client: &mut Client,
@@ -71,10 +117,10 @@ pub(crate) fn read_by(
 {
     match client.read(cluster, words[1]) {
         Ok(mut reader) => {
-            if words[0] == "readFile" {
-                tell_next(client, cluster, &mut reader, words, said);
-            } else {
-                tell_range(client, cluster, &reader, words, said);
+            match words[0] {
+                "readFile" => tell_next(client, cluster, &mut reader, words, said),
+                "readOften" => tell_often(client, cluster, &reader, words, said),
+                _ => tell_range(client, cluster, &reader, words, said),
             }
         }
         Err(error) => tell_error(&error, said),
