@@ -22,7 +22,8 @@ use Rattle.hdfs_client.specs.declared.client.Client.{Client}
 module _ {C : Type 0} {shown : C → Shown} {serves : C → ℕ → Ask → Result Answer AskFault → C → Type 0}
     (rows : (old new : C) (i : ℕ) (ask : Ask) (result : Result Answer AskFault) → serves old i ask result new → Served (shown old) i ask result (shown new))
     (below : (c : C) (p : Picture) → (shown c).picture ≡ Some p → p.active < (shown c).namenodes) where
-  came_once : (write : Bool) (ask : Ask) (old new : Through C) (outcome : Result Answer HdfsError) → ReachesAll old.proxy (shown old.cluster)
+  -- an ask of a service that is whole
+  pub came_once : (write : Bool) (ask : Ask) (old new : Through C) (outcome : Result Answer HdfsError) → ReachesAll old.proxy (shown old.cluster)
       → AskedOnce serves write ask old outcome new → Came (shown old.cluster) ask outcome (shown new.cluster)
   came_once write ask old new outcome reaches (inl asked) = came rows below (reaches_service old.proxy (shown old.cluster) reaches) asked Whole reaches
   came_once write ask old new outcome reaches (inr none) =

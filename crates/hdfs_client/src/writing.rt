@@ -1,5 +1,5 @@
 //! Files that a client writes.
-ghost use Rattle.std.specs.Prelude.{◌≡◌, ◌↔◌, ◌&&◌, IsTrue, length, Some, None, Ok, Err, IfOk, IfErr, OnErr, OnOk, is_ok, is_some, true, false, if◌then◌else◌};
+ghost use Rattle.std.specs.Prelude.{◌≡◌, ◌≢◌, ◌↔◌, [], ◌&&◌, IsTrue, length, Some, None, Ok, Err, IfOk, IfErr, OnErr, OnOk, is_ok, is_some, true, false, if◌then◌else◌};
 ghost use Rattle.hdfs_cluster.specs.declared.errors.ArgFault.TheVariants as args;
 ghost use Rattle.hdfs_cluster.specs.declared.errors.HdfsError.TheVariants as errors;
 ghost use Rattle.hdfs_model.specs.Limits.{are_options};
@@ -176,6 +176,8 @@ impl FileWriter {
         ensures wrote { IfOk result (λ n. (n ≡ length bytes.now) × GoesOn (λ file file'.
             SeenBy C.shown client.old self.old cluster.old cluster.new (λ old new. inner.Wrote old file bytes.now new file'))
             self.old self.new) }
+        ensures plain { IfOk result (λ n. (file : Inner) → open_of self.old ≡ Some file → bytes.now ≢ []
+            → (inner.sizes_of file).encrypted ≡ false) }
         ensures state { GoesOn (λ file file'. inner.IsIdle file bytes.now cluster.old result file' cluster.new
             × (OnOk result (inner.has_failed file' ≡ false)) × (OnErr result (inner.has_failed file' ≡ true)))
             self.old self.new }

@@ -107,7 +107,7 @@ pub record BeginsFile (s t : Shown) (session : Session) (state : State) (command
   pub replication : (files.sizes_of writer).replication ≡ content.attributes.replication
   pub block_size : (files.sizes_of writer).block_size ≡ content.attributes.block_size
 
-or_flip : (path r : List ℕ) → bytes_eq r path ≡ bytes_eq path r
+pub or_flip : (path r : List ℕ) → bytes_eq r path ≡ bytes_eq path r
 or_flip path r = by_tests (bytes_eq r path) (bytes_eq path r) (bytes_eq-Decides r path).0 (bytes_eq-Decides path r).0 (bytes_eq-Decides r path).1 (bytes_eq-Decides path r).1
   where
     by_tests : (a b : Bool) → (a ≡ true → r ≡ path) → (b ≡ true → path ≡ r) → (r ≡ path → a ≡ true) → (path ≡ r → b ≡ true) → a ≡ b

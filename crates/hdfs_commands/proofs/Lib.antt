@@ -1,51 +1,51 @@
-mod AbandonFiles
-mod Abandoning
+pub mod AbandonFiles
+pub mod Abandoning
 pub mod Acted
-mod Answered
-mod Asking
-mod Begun
-mod Beside
-mod Causing
-mod CloseActs
-mod Connected
-mod Early
-mod Encrypting
+pub mod Answered
+pub mod Asking
+pub mod Begun
+pub mod Beside
+pub mod Causing
+pub mod CloseActs
+pub mod Connected
+pub mod Early
+pub mod Encrypting
 pub mod Failing
-mod Limited
+pub mod Limited
 pub mod InfoActs
-mod ListActs
-mod LookedUp
-mod Lost
-mod Moved
+pub mod ListActs
+pub mod LookedUp
+pub mod Lost
+pub mod Moved
 pub mod NameAsks
-mod NamingActs
-mod OpenFiles
-mod OpenWithin
+pub mod NamingActs
+pub mod OpenFiles
+pub mod OpenWithin
 pub mod Opening
-mod Owing
-mod Planting
-mod Prepared
-mod Ranging
-mod ReadActs
-mod Refused
+pub mod Owing
+pub mod Planting
+pub mod Prepared
+pub mod Ranging
+pub mod ReadActs
+pub mod Refused
 pub mod Refusing
-mod SendActs
-mod SendFails
-mod Sized
-mod Sizing
-mod Starting
-mod Stepping
+pub mod SendActs
+pub mod SendFails
+pub mod Sized
+pub mod Sizing
+pub mod Starting
+pub mod Stepping
 pub mod Still
-mod Tallying
-mod Turned
-mod WholeNaming
-mod WholeOpening
-mod WholeStarting
-mod WholeWriting
-mod WithWriting
-mod WriteActs
-mod WriteEnds
-mod WriteFaults
+pub mod Tallying
+pub mod Turned
+pub mod WholeNaming
+pub mod WholeOpening
+pub mod WholeStarting
+pub mod WholeWriting
+pub mod WithWriting
+pub mod WriteActs
+pub mod WriteEnds
+pub mod WriteFaults
 pub mod Agreeing
 pub mod Allowing
 pub mod Avoiding

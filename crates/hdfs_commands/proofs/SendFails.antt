@@ -33,13 +33,13 @@ use Rattle.hdfs_commands.proofs.OneFile.{agrees_but_by_path, agrees_elsewhere, a
 use Rattle.hdfs_commands.proofs.WriteFaults.{is_after_asking, tells_sending, not_early, cause_sending, unsupported}
 
 -- a command that sends bytes touches its own path
-touched_sending : (command : Command) → Sends command → (state : State) (path q : List ℕ) → touched state path command q ≡ bytes_eq path q
+pub touched_sending : (command : Command) → Sends command → (state : State) (path q : List ℕ) → touched state path command q ≡ bytes_eq path q
 touched_sending (commands.Write name bytes) sends state path q = refl
 touched_sending (commands.Close name) sends state path q = refl
 touched_sending command sends state path q = absurd sends
 
 -- and asks for none
-loses_none : (command : Command) → Sends command → (old : FaultCounts) (new : Shown) (path : List ℕ) (byte : ℕ) → CommandLost old new path command byte → ⊥
+pub loses_none : (command : Command) → Sends command → (old : FaultCounts) (new : Shown) (path : List ℕ) (byte : ℕ) → CommandLost old new path command byte → ⊥
 loses_none (commands.Read name offset len) sends old new path byte lost = absurd sends
 loses_none command sends old new path byte lost = lost
 

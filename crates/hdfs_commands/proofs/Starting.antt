@@ -50,7 +50,7 @@ use Rattle.hdfs_commands.proofs.Sized.{sized_by}
 use Rattle.hdfs_commands.proofs.WithWriting.{clear_to_create, closed_to_append}
 
 -- what a writer carries it carries where another namenode is active
-carries_active : (p q : Picture) → SameButActive p q → (r : List ℕ) (tail : Tail) (bytes : List ℕ) → FileCarries p r tail bytes → FileCarries q r tail bytes
+pub carries_active : (p q : Picture) → SameButActive p q → (r : List ℕ) (tail : Tail) (bytes : List ℕ) → FileCarries p r tail bytes → FileCarries q r tail bytes
 carries_active p q same r tail bytes c = record {
   file = c.file;
   named = same.files.names r ∙ c.named;
@@ -58,7 +58,7 @@ carries_active p q same r tail bytes c = record {
   carries = tail_stays p q r c.file (same.files.names r) (λ id there. (same.files.table id, λ node. same.files.held node id)) (λ link place told there. same.writes link ∙ told) tail bytes c.carries;
 }
 
-begun_before : (p m q : Picture) (state : State) (path : List ℕ) (content : Content) (tail : Tail) → SameButActive p m → Begun m q state path content tail → Begun p q state path content tail
+pub begun_before : (p m q : Picture) (state : State) (path : List ℕ) (content : Content) (tail : Tail) → SameButActive p m → Begun m q state path content tail → Begun p q state path content tail
 begun_before p m q state path content tail same begun = record {
   agrees = begun.agrees;
   is_state = begun.is_state;

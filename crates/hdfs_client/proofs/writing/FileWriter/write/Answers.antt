@@ -1,5 +1,7 @@
 -- A write by the service whose file it is.
-use Rattle.std.proofs.Common.{◌≡◌, ℕ, List, Option, refl, sym, ap, subst}
+use Rattle.std.proofs.Common.{◌≡◌, ℕ, false, List, Option, Result, Ok, Err, refl, sym, ap, subst}
+use Rattle.std.specs.Prelude.{IfOk}
+use Rattle.hdfs_cluster.specs.declared.errors.HdfsError.{HdfsError}
 use Rattle.hdfs_file_writer.specs.Writers.{IsAnswered, IsIdle, Stands}
 use Rattle.hdfs_file_writer.specs.Writers as files
 use Rattle.hdfs_file_writer.specs.declared.file_writer.FileWriter.{FileWriter}
@@ -83,3 +85,14 @@ returns-clause-state g c = λ file is.
         c.write.ensures.fails.1,
       ),
     )
+
+if_ok : {P Q : ℕ → Type 0} (result : Result ℕ HdfsError) → ((n : ℕ) → P n → Q n) → IfOk result P → IfOk result Q
+if_ok (Ok n) more is = more n is
+if_ok (Err error) more is = tt
+
+pub returns-clause-plain : goal.returns-clause-plain
+returns-clause-plain g c = if_ok c.write.result
+    (λ n count file is some.
+    (let same : c.in-Some.file ≡ file = cc (c.in-Some.is, is) in
+    subst (λ (f : FileWriter). (files.sizes_of f).encrypted ≡ false) same (count.1 some).1))
+    c.write.ensures.count
