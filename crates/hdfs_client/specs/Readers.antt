@@ -101,7 +101,7 @@ ShowsFile client src old new reader =
     × ((content : List ℕ) → StoresBlocks p file.blocks content → Stored new (blocks_of reader) content)
 
 -- What a client has read of a range of a file by the service of this number; every other service is what it was. Over any cluster: as many
--- bytes as were wanted, and they were moved only where the defaults don't want them encrypted, or why not (`LacksRange`); no link is left
+-- bytes as were wanted, of a range that ends within the file, and they were moved only where the defaults don't want them encrypted, or why not (`LacksRange`); no link is left
 -- open, nothing but reads was done where the defaults were known, and for no bytes the cluster and the service are what they were. Over a
 -- told picture, where the service is all namenodes: the bytes are those of the file that the blocks store, or a byte is lost with all
 -- datanodes that hold its block whole.
@@ -113,6 +113,7 @@ pub record ReadsBlocks (old : Shown) (client : Client) (file : FileBlocks) (serv
   pub is : service_at client' service ≡ Some after
   pub others : SameBut service client client'
   pub count : IfOk result (λ bytes. length bytes ≡ len)
+  pub within : OnOk result (offset + len ≤ files.length_of file)
   pub plain : OnOk result (MayMove len after)
   pub idle : len ≡ 0 → (new ≡ old) × (after ≡ before)
   pub err : IfErr result (λ error. LacksRange (files.length_of file) offset len old before error new after)

@@ -6,3 +6,4 @@ mod Readers
 pub mod Ranged
 pub mod Staying
 pub mod Transfers
+mod Beginning

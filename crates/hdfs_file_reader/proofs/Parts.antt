@@ -21,7 +21,7 @@ use Rattle.hdfs_block_reader.proofs.Ranges.{range_of-range}
 use Rattle.hdfs_file_reader.specs.Ranges.{HoldsBlock, FailsAt, LiesIn, part_of}
 use Rattle.hdfs_file_reader.proofs.Pieces.{range_of-append}
 
-none_to_read : (bytes : List ℕ) (from count : ℕ) → count ≡ 0 → range_of bytes from count ≡ []
+pub none_to_read : (bytes : List ℕ) (from count : ℕ) → count ≡ 0 → range_of bytes from count ≡ []
 none_to_read bytes from count is = ap (range_of bytes from) is
 
 -- The part of one more block is joined to the range that the blocks before it gave.

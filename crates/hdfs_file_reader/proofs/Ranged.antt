@@ -1,5 +1,5 @@
 -- A range of a file, from whether its bytes may be moved to the blocks that are read.
-use Rattle.std.proofs.Common.{◌≡◌, ◌⊎◌, inl, inr, ℕ, ◌+◌, List, [], get_or, Option, Some, refl, sym, ◌∙◌, ap, subst, arith}
+use Rattle.std.proofs.Common.{◌≡◌, inl, inr, ℕ, List, [], get_or, Option, refl, sym, ◌∙◌, ap, subst, arith}
 use Rattle.hdfs_cluster.specs.declared.errors.HdfsError.{HdfsError}
 use Rattle.hdfs_cluster.specs.declared.errors.HdfsError.TheVariants as errors
 use Rattle.hdfs_cluster.specs.declared.errors.TransferFault.TheVariants as transfer

@@ -1,5 +1,5 @@
 -- Ranges of files that are stored in blocks.
-use Rattle.std.specs.Prelude.{◌≡◌, ℕ, ◌+◌, ◌-◌, ◌<◌, ◌≤◌, min, max, false, List, length, Some, None}
+use Rattle.std.specs.Prelude.{◌≡◌, ◌⊎◌, ℕ, ◌+◌, ◌-◌, ◌<◌, ◌≤◌, min, max, false, List, get_or, length, Some, None}
 use Rattle.hdfs_cluster.specs.declared.messages.LocatedBlock.{LocatedBlock}
 use Rattle.hdfs_cluster.specs.declared.errors.HdfsError.{HdfsError}
 use Rattle.hdfs_cluster.specs.declared.errors.HdfsError.TheVariants as errors
@@ -38,6 +38,10 @@ abbrev pub FailsAt : (ℕ → Type 0) → HdfsError → Type 0
 FailsAt P errors.NoMemory = Unit {0}
 FailsAt P (errors.DataTransferError (transfer.Read byte)) = P byte
 FailsAt P error = ⊥
+
+-- of these blocks the one of this number begins at this offset or before, or it is the first
+abbrev pub BeginsBy : ℕ → List LocatedBlock → ℕ → Type 0
+BeginsBy start blocks k = (k ≡ 0) ⊎ ((k < length blocks) × ((default : LocatedBlock) → (get_or blocks k default).offset ≤ start))
 
 -- no byte of a block lies in the range of the file
 abbrev pub IsOutside : LocatedBlock → ℕ → ℕ → Type 0

@@ -1,12 +1,12 @@
 //! The bytes of a range of a file, block by block.
-ghost use Rattle.std.specs.Prelude.{◌≡◌, ◌<◌, ◌≤◌, ◌+◌, ◌-◌, ◌^◌, ◌++◌, ℕ, List, [], None, OnOk, IfOk, IfErr, MatchBool, length, false, min, max};
+ghost use Rattle.std.specs.Prelude.{◌≡◌, ◌<◌, ◌≤◌, ◌+◌, ◌-◌, ◌^◌, ◌++◌, ℕ, List, [], None, OnOk, IfOk, IfErr, MatchBool, length, false, min, max, nat_le};
 ghost use Rattle.hdfs_block_reader.specs.Reader.{block_of, client_of, wanted_of, end_of, link_of, has_failed, LetsRead, Stands, Keeps, Reads, ShowsBlock, AllBlamed, IsRead};
 ghost use Rattle.hdfs_cluster.specs.Lost.{AllFailed, ByteLost};
 ghost use Rattle.hdfs_cluster.specs.Namenode.{Follow};
 ghost use Rattle.hdfs_cluster.specs.Shown.{OnlyReads, SameLinks};
 ghost use Rattle.hdfs_cluster.specs.Reading.{range_of};
 ghost use Rattle.hdfs_file_reader.specs.Files.{LetsReadBlocks};
-ghost use Rattle.hdfs_file_reader.specs.Ranges.{Stored, HoldsBlock, GoesOn, FailsAt, FailsToRead, LiesIn, IsOutside, part_of};
+ghost use Rattle.hdfs_file_reader.specs.Ranges.{BeginsBy, Stored, HoldsBlock, GoesOn, FailsAt, FailsToRead, LiesIn, IsOutside, part_of};
 
 use crate::copies::copy_located;
 use hdfs_block_reader::BlockRead;
@@ -165,7 +165,22 @@ fn read_part<C: Cluster>(
     Ok(read_block(alloc, cluster, connections, out, block, part)?)
 }
 
-/// Appends a range of a file, whose blocks come in order.
+/// The block in which a range begins, where blocks come in order: the last one that begins where the range does, or before. It is looked for by
+/// halves.
+fn first_of(blocks: &[LocatedBlock], start: u64) -> usize
+    ensures bound { result ≤ length blocks.now }
+    ensures first { (total : ℕ) → Follow 0 total blocks.now → BeginsBy start blocks.now result }
+{
+    blocks
+        .partition_point(
+            |block: &LocatedBlock| -> bool
+                ensures { result ≡ nat_le block.now.offset start }
+            { block.offset <= start },
+        )
+        .saturating_sub(1)
+}
+
+/// Appends a range of a file, whose blocks come in order: those that the range has a part of are looked at, and no others.
 pub(crate) fn read_blocks<C: Cluster>(
     alloc: Global,
     cluster: &mut C,
@@ -193,7 +208,11 @@ pub(crate) fn read_blocks<C: Cluster>(
         → FailsAt (ByteLost stored.picture stored.ids range.start range.end
         (AllFailed (C.shown cluster.old).counts (C.shown cluster.new).counts stored.picture)) e) }
 {
-    for block in blocks {
+    'parts: for i in first_of(blocks, range.start)..blocks.len() {
+        let block = &blocks[i];
+        if block.offset >= range.end {
+            return Ok(());
+        }
         read_part(alloc, cluster, connections, out, block, range)?;
     }
     Ok(())

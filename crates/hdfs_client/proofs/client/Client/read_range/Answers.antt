@@ -18,6 +18,7 @@ returns-clause-reads g c = record {
   is = is_then c.args.self.now _ c.args.service c.read_range.new.namenode c.requires.there refl;
   others = others_stay c.args.self.now _ c.args.service c.read_range.new.namenode refl (refl, refl, refl);
   count = IfOk-weaker c.read_range.result _ _ (λ bytes had. had.1 c.requires.whole) c.read_range.ensures.count;
+  within = IfOk-weaker c.read_range.result _ _ (λ bytes had. had.0) c.read_range.ensures.count;
   plain = c.read_range.ensures.plain;
   idle = λ none.
       let same = c.read_range.ensures.idle none in

@@ -1,14 +1,14 @@
 -- Whether the range is in the file, then whether bytes may be moved, and then its blocks.
-use Rattle.std.proofs.Common.{◌≡◌, inl, inr, ℕ, ◌+◌, ◌-◌, ◌≤◌, ◌++◌, List, [], length, sym, ◌∙◌, ap, subst, arith}
+use Rattle.std.proofs.Common.{◌≡◌, inl, inr, ℕ, ◌+◌, ◌-◌, ◌≤◌, ◌++◌, List, length, sym, ◌∙◌, ap, subst, arith}
 use Rattle.std.proofs.lemmas.Result.{err_from_is_err_and}
 use Rattle.hdfs_cluster.specs.declared.messages.LocatedBlock.{LocatedBlock}
 use Rattle.hdfs_cluster.specs.Lost.{AllFailed, ByteLost}
 use Rattle.hdfs_cluster.specs.Picture.{SameButActive, SameFiles}
 use Rattle.hdfs_cluster.specs.Reading.{range_of}
 use Rattle.hdfs_cluster.proofs.Frames.{told_weaker}
-use Rattle.hdfs_file_reader.specs.Files.{LetsReadBlocks, blocks_of}
+use Rattle.hdfs_file_reader.specs.Files.{blocks_of}
 use Rattle.hdfs_file_reader.specs.Ranges.{FailsAt, Stored}
-use Rattle.hdfs_file_reader.proofs.Ranged.{lacks_no_byte, leaves_looked, leaves_read, loses_since, stored_on}
+use Rattle.hdfs_file_reader.proofs.Ranged.{lacks_no_byte, leaves_read, loses_since, stored_on}
 use Rattle.hdfs_file_reader.proofs.file_blocks.FileBlocks.read_range.Goals as goal
 
 pub returns-in_err-allow_transfer-clause-err : goal.returns-in_err-allow_transfer-clause-err
