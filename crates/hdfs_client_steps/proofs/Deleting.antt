@@ -22,7 +22,6 @@ use Rattle.hdfs_model.specs.declared.commands.Reply.TheVariants as replies
 use Rattle.hdfs_model.specs.Headline.{Applied}
 use Rattle.hdfs_model.specs.Owing.{IsMisplaced}
 use Rattle.hdfs_model.specs.Scenes.{Ready}
-use Rattle.hdfs_model.specs.Sessions.{none_open}
 use Rattle.hdfs_model.specs.Steps.{World, is_opened_within, target_of}
 use Rattle.hdfs_model.proofs.Deleted.{here, is_false, state_without, without_path}
 use Rattle.hdfs_model.proofs.Misplaced.{within_opened}
@@ -30,9 +29,11 @@ use Rattle.hdfs_namenode.specs.Asked.{as_answer}
 use Rattle.hdfs_namenode.specs.Relaying.{Came, RelaysTold}
 use Rattle.hdfs_client.specs.Clients.{AsksAt}
 use Rattle.hdfs_client.specs.declared.client.Client.{Client}
-use Rattle.hdfs_commands.proofs.NameAsks.{delete_over, gone_agrees, goes_step, was_gone}
-use Rattle.hdfs_client_steps.specs.Steps.{DoesAs, SaysGone, WhereReadyAt, bare, replied}
-use Rattle.hdfs_client_steps.proofs.Applying.{absolute_path, agrees_of, done_applied, refused_applied, told_of}
+use Rattle.hdfs_commands.proofs.NameAsks.{delete_over, goes_step, gone_agrees, may_go, was_gone}
+use Rattle.hdfs_commands.proofs.Opening.{Over}
+use Rattle.hdfs_client_steps.specs.Steps.{Does, DoesAs, SaysGone, WhereReadyAt, holding, replied}
+use Rattle.hdfs_client_steps.proofs.Applying.{absolute_path, agrees_of, came_others, done_applied, refused_does, same_defaults, told_of}
+use Rattle.hdfs_client_steps.proofs.Knowing.{asked_stays, still_knows}
 use Rattle.hdfs_client.proofs.Coming.{came_at}
 
 -- where a picture that agrees has nothing, nothing stands there
@@ -45,8 +46,9 @@ module _ (recursive : Bool) where
   abbrev deletes : List ℕ → Command
   deletes at = commands.Delete at recursive
 
-  module _ (s t : Shown) (sound : (p : Picture) → s.picture ≡ Some p → IsSound p) (path : List ℕ) (named : is_path path ≡ true)
-      (placed : IsMisplaced none_open path (deletes path) → ⊥) (world : World) (state : State) (ready : Ready world (bare s) state (deletes path ∷ [])) where
+  module _ (s t : Shown) (sound : (p : Picture) → s.picture ≡ Some p → IsSound p) (path : List ℕ) (named : is_path path ≡ true) {opened : List ℕ → Bool}
+      (placed : IsMisplaced opened path (deletes path) → ⊥) (world : World) (state : State)
+      (ready : Ready world (holding opened s) state (deletes path ∷ [])) where
     abbrev told : (p : Picture) × (s.picture ≡ Some p)
     told = told_of s world state (deletes path) ready
 
@@ -60,18 +62,21 @@ module _ (recursive : Bool) where
     apart is = placed (inl is)
 
     shut : is_opened_within state path ≡ false
-    shut = is_false (is_opened_within state path) (λ is. placed (inr (within_opened none_open state ready.opened path is)))
+    shut = is_false (is_opened_within state path) (λ is. placed (inr (within_opened opened state ready.opened path is)))
+
+    gone_over : Over told.0 world state (deletes path) path (asks.Delete path recursive)
+    gone_over = delete_over path recursive told.0 world state path ready.fits.is_state (sound told.0 told.1) agrees named apart shut called
 
     -- an error of the ask
-    kept_applied : (error : HdfsError) → Came s (asks.Delete path recursive) (Err error) t → Applied world state (deletes path) (bare s) (bare t) (Err error)
-    kept_applied error came =
-        refused_applied world state (deletes path) s t told.0 told.1 path called (asks.Delete path recursive)
-        (delete_over path recursive told.0 world state path ready.fits.is_state (sound told.0 told.1) agrees named apart shut called) (λ byte lost. lost) error came
+    kept_does : (error : HdfsError) → Came s (asks.Delete path recursive) (Err error) t → Does world state (deletes path) path opened s opened t (Err error)
+    kept_does error came =
+        refused_does world state (deletes path) s t told.0 told.1 path (asks.Delete path recursive) gone_over ready.opened
+        (λ q may. ⊎_elim (λ same. same.files.defaults) (λ goes. goes.1.defaults) (may_go path recursive told.0 q may)) called (λ byte lost. lost) error came
         (delete_repeats path recursive told.0)
 
     module _ (gone : Bool) (came : Came s (asks.Delete path recursive) (Ok (answers.Delete gone)) t) where
       -- what stood there is gone
-      gone_applied : Applied world state (deletes path) (bare s) (bare t) (Ok replies.Deleted)
+      gone_applied : Applied world state (deletes path) (holding opened s) (holding opened t) (Ok replies.Deleted)
       gone_applied =
           let p = told.0 in
           let now = was_gone path recursive p s t gone told.1 came in
@@ -81,6 +86,17 @@ module _ (recursive : Bool) where
           (record { numbers = refl; attributes = tt; plain = record { bytes = λ moves. moves.0; file = λ opens. opens } })
           (state_without state path ready.fits.is_state named apart) now.1
           (gone_agrees path recursive p world state path ready.fits.is_state is_sound agrees named apart shut called now.0 now.2) ready.opened
+
+      gone_does : Does world state (deletes path) path opened s opened t (Ok replies.Deleted)
+      gone_does =
+          let now = was_gone path recursive told.0 s t gone told.1 came in
+          record {
+            applied = gone_applied;
+            others =
+                came_others world state (deletes path) s t told.0 told.1 path (asks.Delete path recursive) gone_over ready.opened
+                (Ok (answers.Delete gone)) came (delete_repeats path recursive told.0);
+            defaults = same_defaults s t told.0 now.0 told.1 now.1 (⊎_elim (λ goes. goes.1.defaults) (λ none. none.1.files.defaults) now.2);
+          }
 
       -- and the answer says whether something did
       gone_says : SaysGone gone state path s t
@@ -102,16 +118,18 @@ module _ (recursive : Bool) where
     -- What `delete` of a client ensures is what the command does.
     pub delete_does : (result : Result Bool HdfsError)
         → AsksAt serves true (λ at. asks.Delete at recursive) client src old (as_answer answers.Delete result) client' new
-        → DoesAs client src deletes (shown old) (shown new) (replied (λ gone. replies.Deleted) result)
-    delete_does (Ok gone) at = λ reaches to leads named placed world state ready.
-        gone_applied (shown old) (shown new) (sound old) to.path named placed world state ready gone (came_at rows below at reaches to leads)
-    delete_does (Err error) at = λ reaches to leads named placed world state ready.
-        kept_applied (shown old) (shown new) (sound old) to.path named placed world state ready error (came_at rows below at reaches to leads)
+        → DoesAs client src deletes (shown old) client' (shown new) (replied (λ gone. replies.Deleted) result)
+    delete_does (Ok gone) at = λ reaches to leads named opened placed world state ready.
+        still_knows (asked_stays at)
+        (gone_does (shown old) (shown new) (sound old) to.path named placed world state ready gone (came_at rows below at reaches to leads))
+    delete_does (Err error) at = λ reaches to leads named opened placed world state ready.
+        still_knows (asked_stays at)
+        (kept_does (shown old) (shown new) (sound old) to.path named placed world state ready error (came_at rows below at reaches to leads))
 
     -- And its answer says whether something stood there.
     pub delete_says : (result : Result Bool HdfsError)
         → AsksAt serves true (λ at. asks.Delete at recursive) client src old (as_answer answers.Delete result) client' new
-        → IfOk result (λ gone. WhereReadyAt client src deletes (shown old) (λ path world state. SaysGone gone state path (shown old) (shown new)))
-    delete_says (Ok gone) at = λ reaches to leads named placed world state ready.
+        → IfOk result (λ gone. WhereReadyAt client src deletes (shown old) (λ opened path world state. SaysGone gone state path (shown old) (shown new)))
+    delete_says (Ok gone) at = λ reaches to leads named opened placed world state ready.
         gone_says (shown old) (shown new) (sound old) to.path named placed world state ready gone (came_at rows below at reaches to leads)
     delete_says (Err error) at = tt

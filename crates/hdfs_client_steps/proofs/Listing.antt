@@ -1,6 +1,6 @@
 -- A client lists what stands at a path as a session does.
 use Rattle.std.proofs.Common.{◌≡◌, ◌⊎◌, inl, inr, ⊎_elim, ℕ, ◌<◌, ◌≤◌, nat_lt, Bool, true, false, cond, List, [], ◌∷◌, length, map, Option, Some, Ok, Err, refl, sym, ◌∙◌, ap, subst, arith}
-use Rattle.std.specs.Prelude.{IfOk, IsUtf8, MatchResult, Result, Vec, vec_len}
+use Rattle.std.specs.Prelude.{IfOk, IsUtf8, MatchResult, OnOk, Result, Vec, vec_len}
 use Rattle.std.specs.declared.alloc.Global.{Global}
 use Rattle.std.proofs.lemmas.Bool.{false≢true}
 use Rattle.std.proofs.lemmas.Bool.Decides.{nat_tests}
@@ -40,7 +40,7 @@ use Rattle.hdfs_namenode.specs.Relaying.{RefusedBy}
 use Rattle.hdfs_listing.specs.Listing.{Tells}
 use Rattle.hdfs_commands.proofs.Agreeing.{agrees_but, agrees_files}
 use Rattle.hdfs_commands.proofs.Refusing.{RefusesAs, exception_cause, rose_cause, step_there}
-use Rattle.hdfs_client.specs.Clients.{leads_to, mounts_of}
+use Rattle.hdfs_client.specs.Clients.{Stays, leads_to, mounts_of}
 use Rattle.hdfs_client.specs.Iterating.{IsEntryFault}
 use Rattle.hdfs_client.specs.Listing.{AreOnPages, Finds, HasAll, HasSome, IsAnswered, IsBelow, IsFrom, Lists, alone, answered, asked, leads_by, nothing, with_own}
 use Rattle.hdfs_client.specs.Statuses.{IsStatus}
@@ -49,8 +49,9 @@ use Rattle.hdfs_client.specs.Writing.{ReachesWhole}
 use Rattle.hdfs_client.specs.declared.client.Client.{Client}
 use Rattle.hdfs_client.specs.declared.errors.ClientError.{ClientError}
 use Rattle.hdfs_client.specs.declared.status.FileStatus.{FileStatus}
-use Rattle.hdfs_client_steps.specs.Steps.{ListsAs, SaysListed, bare}
-use Rattle.hdfs_client_steps.proofs.Applying.{absolute_path, agrees_of, done_applied, failed_applied, told_of}
+use Rattle.hdfs_client_steps.specs.Steps.{Does, KeepsAt, KnowsStill, ListsAs, SaysListed, holding}
+use Rattle.hdfs_client_steps.proofs.Applying.{absolute_path, agrees_of, done_applied, failed_applied, same_defaults, still_at, still_others, told_of}
+use Rattle.hdfs_client_steps.proofs.Knowing.{still_knows}
 use Rattle.hdfs_client_steps.proofs.Pages.{all_said, as_said, first_text, on_page_text, paths_of, same_place, some_said}
 
 -- ---- nothing below what stands at the path is listed
@@ -74,9 +75,9 @@ within limit n less = grind (arith, nat_tests, less)
 beyond : (limit n : ℕ) → limit < n → nat_lt limit n ≡ true
 beyond limit n more = grind (arith, nat_tests, more)
 
-module _ (client : Client) (src : List ℕ) (limit : ℕ) (s t : Shown) (sound : (p : Picture) → s.picture ≡ Some p → IsSound p)
-    (to : Resolved) (leads : leads_to client src ≡ Some to) (named : is_path to.path ≡ true) (world : World) (state : State)
-    (ready : Ready world (bare s) state (commands.List to.path false limit ∷ [])) where
+module _ (client client' : Client) (stays : Stays client client') (src : List ℕ) (limit : ℕ) (s t : Shown) (sound : (p : Picture) → s.picture ≡ Some p → IsSound p)
+    (to : Resolved) (leads : leads_to client src ≡ Some to) (named : is_path to.path ≡ true) {opened : List ℕ → Bool} (world : World) (state : State)
+    (ready : Ready world (holding opened s) state (commands.List to.path false limit ∷ [])) where
   abbrev list : Command
   list = commands.List to.path false limit
 
@@ -115,17 +116,31 @@ module _ (client : Client) (src : List ℕ) (limit : ℕ) (s t : Shown) (sound :
         subst (λ (o : Option Picture). Agrees o state.files) (sym still.now)
         (agrees_files (Some told.0) (Some still.q) state.files still.same.files tells.agrees)
 
+    -- what was done, by what came of the command
+    did : (said : Result Reply HdfsError) → Applied world state list (holding opened s) (holding opened t) said
+        → Does world state list to.path opened s opened t said × KeepsAt to.path s t × KnowsStill client s client' t
+    did said applied =
+        let so = still_knows stays (record {
+          applied = applied;
+          others = still_others opened to.path s t told.0 still.q told.1 still.now still.same;
+          defaults = same_defaults s t told.0 still.q told.1 still.now still.same.files.defaults;
+        }) in
+        (so.0, still_at to.path s t told.0 still.q told.1 still.now still.same, so.1)
+
     -- an error that has its cause
-    failed : (error : HdfsError) → Cause world state list s t error → Applied world state list (bare s) (bare t) (Err error)
+    failed : (error : HdfsError) → Cause world state list s t error
+        → Does world state list to.path opened s opened t (Err error) × KeepsAt to.path s t × KnowsStill client s client' t
     failed error cause =
-        failed_applied world state list s t still.later.namenodes (λ byte lost. lost) error
-        (cause, agrees_but (spared world state list error) t.picture state.files agrees_still)
+        did (Err error)
+        (failed_applied world state list s t still.later.namenodes (λ byte lost. lost) error
+        (cause, agrees_but (spared world state list error) t.picture state.files agrees_still))
 
     -- ---- entries
 
     -- what the command says of a result of the call
     abbrev Says : Result (Vec FileStatus Global) ClientError → Type 0
-    Says result = (said : Result Reply HdfsError) × SaysListed src to.path result said × Applied world state list (bare s) (bare t) said
+    Says result = (said : Result Reply HdfsError) × SaysListed src to.path result said
+        × Does world state list to.path opened s opened t said × KeepsAt to.path s t × KnowsStill client s client' t
 
     done : (found : Vec FileStatus Global) → vec_len found ≤ limit → HasAll (IsPageIn told.0) (mounts_of client) src found.items → Says (Ok found)
     done found few has =
@@ -133,13 +148,13 @@ module _ (client : Client) (src : List ℕ) (limit : ℕ) (s t : Shown) (sound :
         let said : List PathEntry = map (entry_at state) (paths all.0) in
         let as_many : length found.items ≡ length said = as_said src to.path found.items said all.2 in
         let size : length said ≡ length (paths all.0) = length-map (paths all.0) (entry_at state) in
-        let less : length (paths all.0) ≤ limit = omega (arith, as_many, size, few, found.ok.0) in (
-          Ok (replies.Listed said),
-          (said, refl, all.2),
-          done_applied world state list s t (replies.Listed said) state still.q (lists_few all.0 all.1 less)
-              (record { numbers = refl; attributes = tt; plain = record { bytes = λ moves. moves.0; file = λ opens. opens } })
-              ready.fits.is_state still.now (agrees_files (Some told.0) (Some still.q) state.files still.same.files tells.agrees) ready.opened,
-        )
+        let less : length (paths all.0) ≤ limit = omega (arith, as_many, size, few, found.ok.0) in
+        let so =
+        did (Ok (replies.Listed said))
+        (done_applied world state list s t (replies.Listed said) state still.q (lists_few all.0 all.1 less)
+        (record { numbers = refl; attributes = tt; plain = record { bytes = λ moves. moves.0; file = λ opens. opens } })
+        ready.fits.is_state still.now (agrees_files (Some told.0) (Some still.q) state.files still.same.files tells.agrees) ready.opened) in
+        (Ok (replies.Listed said), (said, refl, all.2), so.0, so.1, so.2)
 
     -- ---- errors
 
@@ -246,13 +261,10 @@ module _ (client : Client) (src : List ℕ) (limit : ℕ) (s t : Shown) (sound :
     not_done error (inl (is, more)) =
         let own : more.1.own ≡ more.0 = sym (finds_own (HasSome (IsPageIn told.0) (mounts_of client)) more.1.own more.0 more.1.finds) in
         let has = subst (λ (l : List FileStatus). HasSome (IsPageIn told.0) (mounts_of client) src l) own more.1.has in
-        subst (λ (e : ClientError). Says (Err e)) (sym is) (
-          Err (errors.InvalidArgument (args.TooMany limit)),
-          refl,
-          failed (errors.InvalidArgument (args.TooMany limit)) (too_many more.0 has more.2),
-        )
+        let so = failed (errors.InvalidArgument (args.TooMany limit)) (too_many more.0 has more.2) in
+        subst (λ (e : ClientError). Says (Err e)) (sym is) (Err (errors.InvalidArgument (args.TooMany limit)), refl, so.0, so.1, so.2)
     not_done error (inr (cause, is, end)) =
-        subst (λ (e : ClientError). Says (Err e)) (sym is) (Err cause, refl, failed cause (ended cause end))
+        let so = failed cause (ended cause end) in subst (λ (e : ClientError). Says (Err e)) (sym is) (Err cause, refl, so.0, so.1, so.2)
 
     pub says : (result : Result (Vec FileStatus Global) ClientError) → IfOk result (λ found. vec_len found ≤ limit)
         → MatchResult result (λ found. Lists (HasAll (IsPageIn told.0) (mounts_of client)) false src found.items)
@@ -265,16 +277,16 @@ module _ (client : Client) (src : List ℕ) (limit : ℕ) (s t : Shown) (sound :
 -- ---- the call
 
 -- What `list_status` of a client ensures where nothing below is wanted is what the command does, whose reply says what the statuses do.
-pub list_does : (client : Client) (src : List ℕ) (limit : ℕ) (s t : Shown) (may_answer : Ask → Answer → Type 0)
+pub list_does : (client client' : Client) → Stays client client' → (src : List ℕ) (limit : ℕ) (s t : Shown) (may_answer : Ask → Answer → Type 0)
     → ((p : Picture) → s.picture ≡ Some p → IsSound p) → (result : Result (Vec FileStatus Global) ClientError)
     → IfOk result (λ found. vec_len found ≤ limit)
     → (IsWholeBelow may_answer false client src s → WhereTold s t (λ p. MatchResult result (λ found. Lists (HasAll (IsPageIn p) (mounts_of client)) false src found.items)
     (IsListFaultIn p (mounts_of client) false src limit s t)))
-    → ListsAs client src limit s t result
-list_does client src limit s t may_answer sound result few over = λ reaches to leads named placed world state ready.
+    → ListsAs client src limit s client' t result
+list_does client client' stays src limit s t may_answer sound result few over = λ reaches to leads named opened placed world state ready.
     (let p = told_of s world state (commands.List to.path false limit) ready in
     let so = over (whole reaches) p.0 p.1 in
-    says client src limit s t sound to leads named world state ready so.0 result few so.1)
+    says client client' stays src limit s t sound to leads named world state ready so.0 result few so.1)
   where
     whole : ReachesWhole client src s → IsWholeBelow may_answer false client src s
     whole reaches = λ dir below.

@@ -29,6 +29,7 @@ use Rattle.hdfs_model.specs.Scenes.{Ready}
 use Rattle.hdfs_model.specs.Sessions.{spared}
 use Rattle.hdfs_model.specs.Statuses.{info_by}
 use Rattle.hdfs_model.specs.Steps.{World, is_opened, target_of}
+use Rattle.hdfs_model.proofs.Deleted.{is_false}
 use Rattle.hdfs_model.proofs.Told.{below_file_at, informs_at, informs_none_at, missed_at}
 use Rattle.hdfs_namenode.specs.Asked.{as_answer}
 use Rattle.hdfs_namenode.specs.Relaying.{Came}
@@ -43,8 +44,9 @@ use Rattle.hdfs_commands.proofs.InfoActs.{info_quiet}
 use Rattle.hdfs_commands.proofs.Opening.{Over}
 use Rattle.hdfs_commands.proofs.Refusing.{step_there}
 use Rattle.hdfs_commands.proofs.Still.{file_stays}
-use Rattle.hdfs_client_steps.specs.Steps.{SaysSame, TellsAs, bare}
-use Rattle.hdfs_client_steps.proofs.Applying.{absolute_path, agrees_of, done_applied, failed_applied, refused_applied, told_of}
+use Rattle.hdfs_client_steps.specs.Steps.{Does, KeepsCarried, SaysSame, TellsAs, holding}
+use Rattle.hdfs_client_steps.proofs.Applying.{absolute_path, agrees_of, done_applied, failed_applied, refused_does, same_defaults, still_others, told_of}
+use Rattle.hdfs_client_steps.proofs.Knowing.{asked_stays, still_knows}
 use Rattle.hdfs_client.proofs.Coming.{came_at}
 
 -- a status and the reply of its message say the same
@@ -56,7 +58,8 @@ says_same name message = by (message.file_type == 1)
     by true = refl
     by false = (message.permission, refl, refl)
 
-module _ (s t : Shown) (path : List ℕ) (named : is_path path ≡ true) (world : World) (state : State) (ready : Ready world (bare s) state (commands.Info path ∷ [])) where
+module _ (s t : Shown) (path : List ℕ) (named : is_path path ≡ true) {opened : List ℕ → Bool} (closed : opened path ≡ false)
+    (world : World) (state : State) (ready : Ready world (holding opened s) state (commands.Info path ∷ [])) where
   abbrev info : Command
   info = commands.Info path
 
@@ -72,10 +75,13 @@ module _ (s t : Shown) (path : List ℕ) (named : is_path path ≡ true) (world 
   called : target_of world info ≡ path
   called = absolute_path world.home path named
 
+  unopened : is_opened state path ≡ false
+  unopened = ready.opened path ∙ closed
+
   not_written : (content : Content) → state.files path ≡ Some (Writing content) → ⊥
   not_written content writing =
       ready.avoids 0 info (omega arith)
-      (content, subst (λ (q : List ℕ). state.files q ≡ Some (Writing content)) (sym called) writing, subst (λ (q : List ℕ). is_opened state q ≡ false) (sym called) (ready.opened path))
+      (content, subst (λ (q : List ℕ). state.files q ≡ Some (Writing content)) (sym called) writing, subst (λ (q : List ℕ). is_opened state q ≡ false) (sym called) unopened)
 
   info_over : Over told.0 world state info path ask
   info_over = record {
@@ -84,7 +90,7 @@ module _ (s t : Shown) (path : List ℕ) (named : is_path path ≡ true) (world 
           kinds told.0 path,
           is.0,
           step_there world state path named info called
-              ∙ informs_none_at told.0 state ready.fits.is_state agrees path world path is.0 (ready.opened path) (below_file_at told.0 state ready.fits.is_state agrees path is.0 is.1),
+              ∙ informs_none_at told.0 state ready.fits.is_state agrees path world path is.0 unopened (below_file_at told.0 state ready.fits.is_state agrees path is.0 is.1),
           is.2,
         ));
     spares = λ q may r free. agrees_files (Some told.0) (Some q) state.files (info_quiet path told.0 q may).files agrees r;
@@ -93,8 +99,10 @@ module _ (s t : Shown) (path : List ℕ) (named : is_path path ≡ true) (world 
   }
 
   -- an error of the ask
-  untold_applied : (error : HdfsError) → Came s ask (Err error) t → Applied world state info (bare s) (bare t) (Err error)
-  untold_applied error came = refused_applied world state info s t told.0 told.1 path called ask info_over (λ byte lost. lost) error came (info_repeats path told.0)
+  untold_does : (error : HdfsError) → Came s ask (Err error) t → Does world state info path opened s opened t (Err error)
+  untold_does error came =
+      refused_does world state info s t told.0 told.1 path ask info_over ready.opened (λ q may. (info_quiet path told.0 q may).files.defaults) called
+      (λ byte lost. lost) error came (info_repeats path told.0)
 
   module _ (status : Option FileStatusMsg) (came : Came s ask (Ok (answers.GetFileInfo status)) t) where
     -- what was answered, and that nothing changed
@@ -108,29 +116,45 @@ module _ (s t : Shown) (path : List ℕ) (named : is_path path ≡ true) (world 
     agrees_still =
         subst (λ (o : Option Picture). Agrees o state.files) (sym answered.1) (agrees_files (Some told.0) (Some answered.0) state.files answered.3.files agrees)
 
+    carried_still : KeepsCarried opened path s t
+    carried_still = still_others opened path s t told.0 answered.0 told.1 answered.1 answered.3
+
     -- an error behind an answer
-    mislaid_applied : (error : HdfsError) → Cause world state info s t error → Applied world state info (bare s) (bare t) (Err error)
-    mislaid_applied error cause =
-        failed_applied world state info s t came.relays.leaves.later.namenodes (λ byte lost. lost) error
-        (cause, agrees_but (spared world state info error) t.picture state.files agrees_still)
+    mislaid_does : (error : HdfsError) → Cause world state info s t error → Does world state info path opened s opened t (Err error)
+    mislaid_does error cause = record {
+      applied =
+          failed_applied world state info s t came.relays.leaves.later.namenodes (λ byte lost. lost) error
+          (cause, agrees_but (spared world state info error) t.picture state.files agrees_still);
+      others = carried_still;
+      defaults = same_defaults s t told.0 answered.0 told.1 answered.1 answered.3.files.defaults;
+    }
 
   -- nothing stands there
-  missed_applied : (text : List ℕ) → Came s ask (Ok (answers.GetFileInfo None)) t → Applied world state info (bare s) (bare t) (Err (errors.FileNotFound text))
-  missed_applied text came =
+  missed_does : (text : List ℕ) → Came s ask (Ok (answers.GetFileInfo None)) t → Does world state info path opened s opened t (Err (errors.FileNotFound text))
+  missed_does text came =
       let why = missed_at told.0 state ready.fits.is_state agrees path (answered None came).2 in
-      let is = step_there world state path named info called ∙ informs_none_at told.0 state ready.fits.is_state agrees path world path (Lacks Missing) (ready.opened path) why in
-      mislaid_applied None came (errors.FileNotFound text) ((Missing, is), tt)
+      let is = step_there world state path named info called ∙ informs_none_at told.0 state ready.fits.is_state agrees path world path (Lacks Missing) unopened why in
+      mislaid_does None came (errors.FileNotFound text) ((Missing, is), tt)
 
   module _ (message : FileStatusMsg) (came : Came s ask (Ok (answers.GetFileInfo (Some message))) t) where
     -- what stands there is told
-    told_applied : Applied world state info (bare s) (bare t) (Ok (info_by message))
+    told_applied : Applied world state info (holding opened s) (holding opened t) (Ok (info_by message))
     told_applied =
         let one = answered (Some message) came in
         done_applied world state info s t (info_by message) state one.0
         (step_there world state path named info called
-        ∙ informs_at told.0 state ready.fits.is_state agrees path world path [] message (ready.opened path) not_written one.2)
+        ∙ informs_at told.0 state ready.fits.is_state agrees path world path [] message unopened not_written one.2)
         (record { numbers = refl; attributes = tt; plain = record { bytes = λ moves. moves.0; file = λ opens. opens } })
         ready.fits.is_state one.1 (agrees_files (Some told.0) (Some one.0) state.files one.3.files agrees) ready.opened
+
+    tells : Does world state info path opened s opened t (Ok (info_by message))
+    tells =
+        let one = answered (Some message) came in
+        record {
+          applied = told_applied;
+          others = carried_still (Some message) came;
+          defaults = same_defaults s t told.0 one.0 told.1 one.1 one.3.files.defaults;
+        }
 
     -- under the empty name
     is_text : IsUtf8 message.path
@@ -144,34 +168,42 @@ module _ {C : Type 0} {shown : C → Shown} {serves : C → ℕ → Ask → Resu
   At outcome = AsksAt serves false asks.GetFileInfo client src old (as_answer answers.GetFileInfo outcome) client' new
 
   abbrev Tells : Result FileStatus HdfsError → Type 0
-  Tells result = TellsAs client src (shown old) (shown new) result
+  Tells result = TellsAs client src (shown old) client' (shown new) result
 
   -- an error behind an answer
-  mislaid_does : (status : Option FileStatusMsg) → At (Ok status) → (error : HdfsError)
-      → ((path : List ℕ) (world : World) (state : State) → Ready world (bare (shown old)) state (commands.Info path ∷ [])
-      → is_path path ≡ true → Came (shown old) (asks.GetFileInfo path) (Ok (answers.GetFileInfo status)) (shown new)
-      → Applied world state (commands.Info path) (bare (shown old)) (bare (shown new)) (Err error))
+  lost_does : (status : Option FileStatusMsg) → At (Ok status) → (error : HdfsError)
+      → ((path : List ℕ) → is_path path ≡ true → (opened : List ℕ → Bool) → opened path ≡ false → (world : World) (state : State)
+      → Ready world (holding opened (shown old)) state (commands.Info path ∷ [])
+      → Came (shown old) (asks.GetFileInfo path) (Ok (answers.GetFileInfo status)) (shown new)
+      → Does world state (commands.Info path) path opened (shown old) opened (shown new) (Err error))
       → Tells (Err error)
-  mislaid_does status at error applied =
-      (Err error, refl, λ reaches to leads named placed world state ready. applied to.path world state ready named (came_at rows below at reaches to leads))
+  lost_does status at error does = (
+    Err error,
+    refl,
+    λ reaches to leads named opened placed world state ready.
+        still_knows (asked_stays at)
+        (does to.path named opened (is_false (opened to.path) placed) world state ready (came_at rows below at reaches to leads)),
+  )
 
   lacks_memory : (status : Option FileStatusMsg) → At (Ok status) → Tells (Err errors.NoMemory)
   lacks_memory status at =
-      mislaid_does status at errors.NoMemory
-      (λ path world state ready named came. mislaid_applied (shown old) (shown new) path named world state ready status came errors.NoMemory (tt, tt))
+      lost_does status at errors.NoMemory
+      (λ path named opened closed world state ready came.
+      mislaid_does (shown old) (shown new) path named closed world state ready status came errors.NoMemory (tt, tt))
 
   told_does : (message : FileStatusMsg) → At (Ok (Some message)) → (name : List ℕ) → Tells (Ok (status_of name message))
   told_does message at name = (
     Ok (info_by message),
     (info_by message, refl, says_same name message),
-    λ reaches to leads named placed world state ready.
-        told_applied (shown old) (shown new) to.path named world state ready message (came_at rows below at reaches to leads),
+    λ reaches to leads named opened placed world state ready.
+        still_knows (asked_stays at)
+        (tells (shown old) (shown new) to.path named (is_false (opened to.path) placed) world state ready message (came_at rows below at reaches to leads)),
   )
 
   -- What `get_file_info` of a client ensures is what the command does, whose reply says what the status does.
   pub info_does : (result : Result FileStatus HdfsError)
       → Gives serves false asks.GetFileInfo answers.GetFileInfo client src old client' new (λ found. IsInfo src found result)
-      → TellsAs client src (shown old) (shown new) result
+      → TellsAs client src (shown old) client' (shown new) result
   info_does result gives = by gives.outcome gives.asks result gives.has
     where
       by : (outcome : Result (Option FileStatusMsg) HdfsError) → At outcome → (result : Result FileStatus HdfsError) → IsInfo src outcome result → Tells result
@@ -179,16 +211,20 @@ module _ {C : Type 0} {shown : C → Shown} {serves : C → ℕ → Ask → Resu
           subst (λ (x : FileStatus). Tells (Ok x)) (sym is.2) (told_does message at is.0)
       by (Ok (Some message)) at (Err error) (inl memory) = subst (λ (e : HdfsError). Tells (Err e)) (sym memory) (lacks_memory (Some message) at)
       by (Ok (Some message)) at (Err error) (inr no_text) =
-          mislaid_does (Some message) at error
-          (λ path world state ready named came. absurd (no_text.1 (is_text (shown old) (shown new) path named world state ready message came)))
+          lost_does (Some message) at error
+          (λ path named opened closed world state ready came.
+          absurd (no_text.1 (is_text (shown old) (shown new) path named closed world state ready message came)))
       by (Ok None) at result (inl missing) =
           subst Tells (sym missing)
-          (mislaid_does None at (errors.FileNotFound src) (λ path world state ready named came. missed_applied (shown old) (shown new) path named world state ready src came))
+          (lost_does None at (errors.FileNotFound src)
+          (λ path named opened closed world state ready came. missed_does (shown old) (shown new) path named closed world state ready src came))
       by (Ok None) at result (inr memory) = subst Tells (sym memory) (lacks_memory None at)
       by (Err error) at result is =
           subst Tells (sym is) (
             Err error,
             refl,
-            λ reaches to leads named placed world state ready.
-                untold_applied (shown old) (shown new) to.path named world state ready error (came_at rows below at reaches to leads),
+            λ reaches to leads named opened placed world state ready.
+                still_knows (asked_stays at)
+                (untold_does (shown old) (shown new) to.path named (is_false (opened to.path) placed) world state ready error
+                (came_at rows below at reaches to leads)),
           )

@@ -1,5 +1,5 @@
-//! Calls of a client about names, in the words of a session: where the path leads to a whole service and is one by the path rule, each does over
-//! a told cluster what the command of its name does in a session that has nothing open. What the client's call says over any cluster each says, too.
+//! Calls of a client in the words of a session: where the path leads to a whole service and is one by the path rule, each does over a told cluster
+//! what the command of its name does in a session, whatever files are open. What the client's call says over any cluster those about names say, too.
 #![tactic(auto)]
 
 ghost use Rattle.std.specs.Prelude.{◌≡◌, true, false, Err, IfOk};
@@ -16,8 +16,11 @@ ghost use Rattle.hdfs_client.specs.Statuses.{IsInfo};
 ghost use Rattle.hdfs_client.specs.Writing.{KeepsFiles};
 ghost use Rattle.hdfs_model.specs.declared.commands.Command.TheVariants as commands;
 ghost use Rattle.hdfs_model.specs.declared.commands.Reply.TheVariants as replies;
-ghost use Rattle.hdfs_client_steps.specs.Steps.{DoesAs, ListsAs, SaysGone, TellsAs, WhereReadyAt, replied};
+ghost use Rattle.hdfs_client_steps.specs.Steps.{DoesAs, KeepsParts, ListsAs, SaysGone, TellsAs, WhereReadyAt, replied};
 
+mod files;
+
+pub use files::{append, close, create, read, write};
 use hdfs_client::{Client, ClientError, FileStatus};
 use hdfs_cluster::{Cluster, HdfsError};
 
@@ -36,9 +39,9 @@ pub fn mkdirs<C: Cluster>(
     ensures asked { is_permission permission ≡ true → Gives C.serves true (λ at. asks.Mkdirs at permission create_parent)
         answers.Mkdirs client.old path.now cluster.old client.new cluster.new (λ made. result ≡ done made) }
     ensures does { DoesAs client.old path.now (λ at. commands.Mkdirs at permission create_parent) (C.shown cluster.old)
-        (C.shown cluster.new)
+        client.new (C.shown cluster.new)
         (replied (λ made. replies.Made) result) }
-    ensures mounts { mounts_of client.new ≡ mounts_of client.old }
+    ensures parts { KeepsParts client.old client.new }
     ensures files { KeepsFiles C.allows C.may_answer client.old (C.shown cluster.old) client.new
         (C.shown cluster.new) }
     ensures client { IsClientOf client.new (C.shown cluster.new) }
@@ -58,12 +61,12 @@ pub fn delete<C: Cluster>(
     ensures asked { AsksAt C.serves true (λ at. asks.Delete at recursive) client.old path.now cluster.old
         (as_answer answers.Delete result) client.new cluster.new }
     ensures does { DoesAs client.old path.now (λ at. commands.Delete at recursive) (C.shown cluster.old)
-        (C.shown cluster.new)
+        client.new (C.shown cluster.new)
         (replied (λ gone. replies.Deleted) result) }
     ensures says { IfOk result (λ gone. WhereReadyAt client.old path.now (λ at. commands.Delete at recursive)
         (C.shown cluster.old)
-        (λ there world state. SaysGone gone state there (C.shown cluster.old) (C.shown cluster.new))) }
-    ensures mounts { mounts_of client.new ≡ mounts_of client.old }
+        (λ opened there world state. SaysGone gone state there (C.shown cluster.old) (C.shown cluster.new))) }
+    ensures parts { KeepsParts client.old client.new }
     ensures files { KeepsFiles C.allows C.may_answer client.old (C.shown cluster.old) client.new
         (C.shown cluster.new) }
     ensures client { IsClientOf client.new (C.shown cluster.new) }
@@ -81,8 +84,8 @@ pub fn get_file_info<C: Cluster>(
     requires allowed { LetsAt C.allows asks.GetFileInfo client.old path.now }
     ensures asked { Gives C.serves false asks.GetFileInfo answers.GetFileInfo client.old path.now cluster.old client.new
         cluster.new (λ found. IsInfo path.now found result) }
-    ensures does { TellsAs client.old path.now (C.shown cluster.old) (C.shown cluster.new) result }
-    ensures mounts { mounts_of client.new ≡ mounts_of client.old }
+    ensures does { TellsAs client.old path.now (C.shown cluster.old) client.new (C.shown cluster.new) result }
+    ensures parts { KeepsParts client.old client.new }
     ensures files { KeepsFiles C.allows C.may_answer client.old (C.shown cluster.old) client.new
         (C.shown cluster.new) }
     ensures client { IsClientOf client.new (C.shown cluster.new) }
@@ -99,8 +102,8 @@ pub fn list_status<C: Cluster>(
 ) -> Result<Vec<FileStatus>, ClientError>
     requires client { IsClientOf client.old (C.shown cluster.old) }
     requires allowed { LetsList C.allows C.may_answer (mounts_of client.old) false path.now }
-    ensures does { ListsAs client.old path.now limit (C.shown cluster.old) (C.shown cluster.new) result }
-    ensures mounts { mounts_of client.new ≡ mounts_of client.old }
+    ensures does { ListsAs client.old path.now limit (C.shown cluster.old) client.new (C.shown cluster.new) result }
+    ensures parts { KeepsParts client.old client.new }
     ensures files { KeepsFiles C.allows C.may_answer client.old (C.shown cluster.old) client.new
         (C.shown cluster.new) }
     ensures client { IsClientOf client.new (C.shown cluster.new) }

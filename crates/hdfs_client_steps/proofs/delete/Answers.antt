@@ -12,5 +12,5 @@ returns-clause-says g c =
     delete_says c.args.recursive g.met.C.Cluster.serves_rows g.met.C.Cluster.active_below g.met.C.Cluster.sound c.args.client.now c.delete.new.self c.args.path.now c.args.cluster.now c.delete.new.cluster
     c.delete.result c.delete.ensures.asked
 
-pub returns-clause-mounts : goal.returns-clause-mounts
-returns-clause-mounts g c = c.delete.ensures.asked.others.mounts
+pub returns-clause-parts : goal.returns-clause-parts
+returns-clause-parts g c = (let others = c.delete.ensures.asked.others in (others.mounts, others.replacement))

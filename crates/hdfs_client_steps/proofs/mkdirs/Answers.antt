@@ -1,5 +1,5 @@
 -- The goals of mkdirs.
-use Rattle.hdfs_client_steps.proofs.Making.{mkdirs_does, mkdirs_mounts}
+use Rattle.hdfs_client_steps.proofs.Making.{mkdirs_does, mkdirs_parts}
 use Rattle.hdfs_client_steps.proofs.mkdirs.Goals as goal
 
 pub returns-clause-does : goal.returns-clause-does
@@ -7,7 +7,7 @@ returns-clause-does g c =
     mkdirs_does c.args.permission c.args.create_parent g.met.C.Cluster.serves_rows g.met.C.Cluster.active_below c.args.client.now c.mkdirs.new.self c.args.path.now c.args.cluster.now c.mkdirs.new.cluster
     c.mkdirs.result c.mkdirs.ensures.refused c.mkdirs.ensures.asked
 
-pub returns-clause-mounts : goal.returns-clause-mounts
-returns-clause-mounts g c =
-    mkdirs_mounts c.args.permission c.args.create_parent g.met.C.Cluster.serves_rows g.met.C.Cluster.active_below c.args.client.now c.mkdirs.new.self c.args.path.now c.args.cluster.now c.mkdirs.new.cluster
+pub returns-clause-parts : goal.returns-clause-parts
+returns-clause-parts g c =
+    mkdirs_parts c.args.permission c.args.create_parent g.met.C.Cluster.serves_rows g.met.C.Cluster.active_below c.args.client.now c.mkdirs.new.self c.args.path.now c.args.cluster.now c.mkdirs.new.cluster
     c.mkdirs.result c.mkdirs.ensures.refused c.mkdirs.ensures.asked
