@@ -176,9 +176,6 @@ pub files_refl : {allows : Request → Type 0} {may_answer : Ask → Answer → 
     → KeepsFiles allows may_answer client shown client shown
 files_refl client shown = record { whole = λ src is. is; readers = λ reader is. is; wholes = λ writer is. is; stand = λ writer is. is; answered = λ writer is. is; write = λ writer is. is; close = λ writer is. is }
 
-pub services_refl : (client : Client) → KeepsServices client client
-services_refl client = record { each = λ k before is. (before, is, keeps_refl before); none = λ k is. is; mounts = refl }
-
 pub services_trans : {a b c : Client} → KeepsServices a b → KeepsServices b c → KeepsServices a c
 services_trans one two = record {
   each = λ k before is.

@@ -1,7 +1,7 @@
 -- The last name of a page; and errors that are passed on.
 use Rattle.std.proofs.Common.{◌≡◌, ℕ, zero, suc, ◌<◌, ◌+◌, ◌-◌, List, [], ◌∷◌, length, refl, ap, subst, sym, arith, Some, None, Result, Ok, Err, IfErr, IsErrAnd, slice_get}
 use Rattle.hdfs_cluster.specs.declared.messages.FileStatusMsg.{FileStatusMsg}
-use Rattle.hdfs_client.specs.Listing.{last_name}
+use Rattle.hdfs_listing.specs.Walking.{last_name}
 use Rattle.hdfs_client.specs.declared.errors.ClientError.{ClientError}
 
 -- what is passed on

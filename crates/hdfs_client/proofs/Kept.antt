@@ -30,9 +30,6 @@ links_trans one two = record { namenodes = two.namenodes ∙ one.namenodes; writ
 pub service_from-client : {a b : NamenodeProtocol} → SameClient a b → KeepsService a b
 service_from-client same = record { service = same.service; name = same.name; key = same.key }
 
-pub name_from-client : {a b : NamenodeProtocol} → SameClient a b → KeepsName a b
-name_from-client same = (service_from-client same, same.leases)
-
 -- other leases alone change nothing of that
 pub service_from-leases : {a b : NamenodeProtocol} → ChangesLeases a b → KeepsService a b
 service_from-leases {a} {b} changes = record {

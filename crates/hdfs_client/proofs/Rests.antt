@@ -9,7 +9,8 @@ use Rattle.hdfs_cluster.specs.declared.messages.FileStatusMsg.{FileStatusMsg}
 use Rattle.hdfs_cluster.proofs.Loads.{and_parts}
 use Rattle.hdfs_names.specs.declared.mounts.MountTable.{MountTable}
 use Rattle.hdfs_client.specs.Iterating.{HasRest, HasSomeRest, Left, Turns, are_none, are_rest, fresh, is_over}
-use Rattle.hdfs_client.specs.Listing.{AreEntries, AreOnPages, HasAll, HasSome, IsAnswered, IsFrom, are_all, has_more, last_name, lead_on, messages_of}
+use Rattle.hdfs_client.specs.Listing.{AreEntries, AreOnPages, HasAll, HasSome, IsAnswered, IsFrom, are_all, lead_on, messages_of}
+use Rattle.hdfs_listing.specs.Walking.{has_more, last_name}
 use Rattle.hdfs_client.specs.Statuses.{IsStatus}
 use Rattle.hdfs_client.specs.Turning.{IsGiven, Opens, ended, holding, opened_at}
 use Rattle.hdfs_client.specs.declared.status.FileStatus.{FileStatus}

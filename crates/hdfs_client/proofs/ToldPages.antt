@@ -33,7 +33,8 @@ use Rattle.hdfs_client.specs.Calls.{Gives}
 use Rattle.hdfs_client.specs.Clients.{AsksAt, mounts_of}
 use Rattle.hdfs_client.specs.Iterating.{Left}
 use Rattle.hdfs_client.specs.Listing.{IsAnswered}
-use Rattle.hdfs_client.specs.Told.{FailsAsk, HasNoPage, IsEndedIn, IsPageIn, IsPageOf, IsStill}
+use Rattle.hdfs_client.specs.Told.{HasNoPage, IsEndedIn, IsPageIn, IsPageOf, IsStill}
+use Rattle.hdfs_listing.specs.Listing.{FailsAsk}
 use Rattle.hdfs_client.specs.Turning.{IsOpened, IsTurned}
 use Rattle.hdfs_client.specs.Writing.{ReachesWhole}
 use Rattle.hdfs_client.specs.declared.client.Client.{Client}

@@ -12,7 +12,7 @@ use Rattle.hdfs_cluster.specs.declared.messages.DirList.{DirList}
 use Rattle.hdfs_cluster.specs.declared.messages.FileStatusMsg.{FileStatusMsg}
 use Rattle.hdfs_client.specs.Calls.{Gives}
 use Rattle.hdfs_client.specs.Iterating.{IfFails, IsEntryFault, IsPage, IsPageFault, Left}
-use Rattle.hdfs_client.specs.Listing.{has_more, last_name}
+use Rattle.hdfs_listing.specs.Walking.{has_more, last_name}
 use Rattle.hdfs_client.specs.Turning.{IsGiven, IsTurned, opened_at}
 use Rattle.hdfs_client.specs.declared.client.Client.{Client}
 use Rattle.hdfs_client.specs.declared.status.FileStatus.{FileStatus}

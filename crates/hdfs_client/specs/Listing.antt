@@ -1,5 +1,5 @@
 -- Listing of directories.
-use Rattle.std.specs.Prelude.{◌≡◌, ◌⊎◌, ℕ, ◌<◌, nat_lt, Bool, true, false, not, ◌&&◌, List, [], ◌∷◌, ◌++◌, length, Some, Ok}
+use Rattle.std.specs.Prelude.{◌≡◌, ◌⊎◌, ℕ, ◌<◌, Bool, true, false, not, ◌&&◌, List, [], ◌∷◌, ◌++◌, length, Some, Ok}
 use Rattle.hdfs_cluster.specs.declared.asks.Ask.{Ask}
 use Rattle.hdfs_cluster.specs.declared.asks.Ask.TheVariants as asks
 use Rattle.hdfs_cluster.specs.declared.asks.Answer.{Answer}
@@ -12,6 +12,7 @@ use Rattle.hdfs_names.specs.Mounts.{first_match}
 use Rattle.hdfs_names.specs.Paths.{absolute}
 use Rattle.hdfs_names.specs.declared.mounts.MountTable.{MountTable}
 use Rattle.hdfs_names.specs.declared.mounts.Resolved.{Resolved}
+use Rattle.hdfs_listing.specs.Walking.{has_more, last_name}
 use Rattle.hdfs_client.specs.Statuses.{IsStatus}
 use Rattle.hdfs_client.specs.declared.errors.ClientError.{ClientError}
 use Rattle.hdfs_client.specs.declared.errors.ClientError.TheVariants.{Hdfs, TooMany}
@@ -47,20 +48,11 @@ abbrev pub IsFrom : (Ask → Answer → Type 0) → MountTable → List ℕ → 
 IsFrom may_answer mounts path start =
     (start ≡ []) ⊎ ((message : FileStatusMsg) × IsOnPage may_answer mounts path message × (start ≡ message.path))
 
--- the name behind which the next page begins: the last one of these, or as before
-abbrev pub last_name : List ℕ → List FileStatusMsg → List ℕ
-last_name start [] = start
-last_name start (message ∷ messages) = last_name message.path messages
-
 -- pages of what stands at a path, each answered behind the last name of the one before
 abbrev pub Follow : (Ask → Answer → Type 0) → MountTable → List ℕ → List ℕ → List DirList → Type 0
 Follow may_answer mounts path start [] = Unit {0}
 Follow may_answer mounts path start (page ∷ pages) =
     IsAnswered may_answer mounts path start page × Follow may_answer mounts path (last_name start page.partial_listing) pages
-
--- another page is to come: entries remain behind this one, which has some
-abbrev pub has_more : DirList → Bool
-has_more page = nat_lt 0 page.remaining_entries && nat_lt 0 (length page.partial_listing)
 
 -- these are all pages: behind each another one is to come, but behind the last
 abbrev pub are_all : List DirList → Bool

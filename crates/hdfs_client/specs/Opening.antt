@@ -26,6 +26,7 @@ use Rattle.hdfs_file_writer.specs.Tails.{Tail, Bare, FileCarries}
 use Rattle.hdfs_file_writer.specs.Writers.{Closed, FailsToClose, file_id_of, has_failed, link_of, path_of, sizes_of, tail_of, tail_opened}
 use Rattle.hdfs_file_writer.specs.declared.file_writer.FileWriter.{FileWriter}
 use Rattle.hdfs_file_writer.specs.declared.sizes.WriteSizes.{WriteSizes}
+use Rattle.hdfs_file_writer.specs.Sizing.{sizes_by}
 use Rattle.hdfs_model.specs.Opening.{AnswersDefaults, appending, creating, tells_encryption}
 use Rattle.hdfs_model.specs.declared.commands.WriteOptions.{WriteOptions}
 use Rattle.hdfs_namenode.specs.Asked.{Asked, AskedOnce, SameService}
@@ -64,7 +65,7 @@ pub record HasDefaults {C : Type 0} (serves : C → ℕ → Ask → Result Answe
   pub kept : defaults_of after ≡ Some defaults
 
 -- it has such that are in their limits
-pub record KnowsDefaults {C : Type 0} (serves : C → ℕ → Ask → Result Answer AskFault → C → Type 0) (before : NamenodeProtocol) (old : C)
+pub record HasLimitedDefaults {C : Type 0} (serves : C → ℕ → Ask → Result Answer AskFault → C → Type 0) (before : NamenodeProtocol) (old : C)
     (defaults : ServerDefaults) (after : NamenodeProtocol) (new : C) : Type 0 where
   pub has : HasDefaults serves before old defaults after new
   pub limited : are_defaults defaults ≡ true
@@ -90,18 +91,6 @@ abbrev pub LacksDefaults : {C : Type 0} → (C → ℕ → Ask → Result Answer
 LacksDefaults serves before old error after new =
     AsksInVain serves before old error after new ⊎ HasBadDefaults serves before old error after new
 
--- with what a file is written that has this replication and block size: another first pipeline of a block is tried at most three times
-abbrev pub sizes_by : RebuildSettings → ServerDefaults → ℕ → ℕ → WriteSizes
-sizes_by rebuilding defaults replication block_size = record {
-  replication = replication;
-  block_size = block_size;
-  chunk = defaults.bytes_per_checksum;
-  packet_size = defaults.write_packet_size;
-  rebuilding = rebuilding;
-  setup_limit = 3;
-  encrypted = defaults.encrypt_data_transfer;
-}
-
 -- A writer that has written nothing yet: of the file at this path, which has this id, with these sizes, and whose last block stands so.
 pub record IsFresh (path : List ℕ) (file_id : Option ℕ) (sizes : WriteSizes) (tail : Tail) (writer : FileWriter) : Type 0 where
   pub at : path_of writer ≡ path
@@ -119,20 +108,20 @@ pub record HoldsFile (status : Option FileStatusMsg) (defaults : ServerDefaults)
   pub same : KeepsService before after
 
 -- A service was asked for a new file at a path, with these options, and with the defaults where they say nothing. It isn't encrypted, and
--- its lease was taken.
+-- its lease was taken. Another first pipeline of a block is tried at most three times.
 pub record CreatesBy {C : Type 0} (serves : C → ℕ → Ask → Result Answer AskFault → C → Type 0) (path : List ℕ) (options : WriteOptions)
     (rebuilding : RebuildSettings) (before : NamenodeProtocol) (old : C) (writer : FileWriter) (lease : FileLease) (after : NamenodeProtocol)
     (new : C) : Type 0 where
   pub defaults : ServerDefaults
   pub between : NamenodeProtocol
   pub mid : C
-  pub knows : KnowsDefaults serves before old defaults between mid
+  pub knows : HasLimitedDefaults serves before old defaults between mid
   pub status : Option FileStatusMsg
   pub asked : AskedOnce serves true (creating path (name_of before) options
       (unwrap_or options.replication defaults.replication) (unwrap_or options.block_size defaults.block_size))
       (through between mid) (Ok (answers.Create status)) (through after new)
   pub plain : tells_encryption status ≡ false
-  pub fresh : IsFresh path (id_in status) (sizes_by rebuilding defaults
+  pub fresh : IsFresh path (id_in status) (sizes_by rebuilding 3 defaults
       (unwrap_or options.replication defaults.replication) (unwrap_or options.block_size defaults.block_size)) Bare writer
   pub holds : HoldsFile status defaults lease before after
 
@@ -142,13 +131,13 @@ pub record OpensBy {C : Type 0} (serves : C → ℕ → Ask → Result Answer As
   pub defaults : ServerDefaults
   pub between : NamenodeProtocol
   pub mid : C
-  pub knows : KnowsDefaults serves before old defaults between mid
+  pub knows : HasLimitedDefaults serves before old defaults between mid
   pub block : Option LocatedBlock
   pub status : FileStatusMsg
   pub asked : AskedOnce serves true (appending path (name_of before) 4) (through between mid)
       (Ok (answers.Append (record { block = block; stat = Some status }))) (through after new)
   pub plain : is_some status.encryption ≡ false
-  pub fresh : IsFresh path status.file_id (sizes_by rebuilding defaults
+  pub fresh : IsFresh path status.file_id (sizes_by rebuilding 3 defaults
       (unwrap_or status.block_replication 0) (unwrap_or status.blocksize 0)) (tail_opened block None) writer
   pub holds : HoldsFile (Some status) defaults lease before after
 
@@ -185,7 +174,7 @@ pub record CreateFails {C : Type 0} (serves : C → ℕ → Ask → Result Answe
   pub defaults : ServerDefaults
   pub between : NamenodeProtocol
   pub mid : C
-  pub knows : KnowsDefaults serves before old defaults between mid
+  pub knows : HasLimitedDefaults serves before old defaults between mid
   pub why : let ask = creating path (name_of before) options (unwrap_or options.replication defaults.replication)
       (unwrap_or options.block_size defaults.block_size) in
       AskedOnce serves true ask (through between mid) (Err error) (through after new)
@@ -234,7 +223,7 @@ pub record AppendFails {C : Type 0} (shown : C → Shown) (serves : C → ℕ �
   pub defaults : ServerDefaults
   pub between : NamenodeProtocol
   pub mid : C
-  pub knows : KnowsDefaults serves before old defaults between mid
+  pub knows : HasLimitedDefaults serves before old defaults between mid
   pub why : let ask = appending path (name_of before) 4 in
       AskedOnce serves true ask (through between mid) (Err error) (through after new)
       ⊎ LacksStatus serves ask name between mid error after new

@@ -9,13 +9,13 @@ use Rattle.hdfs_cluster.specs.declared.errors.HdfsError.TheVariants as errors
 use Rattle.hdfs_cluster.specs.declared.messages.DirList.{DirList}
 use Rattle.hdfs_cluster.specs.declared.picture.BlockEntry.{BlockEntry}
 use Rattle.hdfs_cluster.specs.declared.picture.Entry.{Entry}
-use Rattle.hdfs_cluster.specs.Failures.{CallsRose}
 use Rattle.hdfs_cluster.specs.Listing.{IsMissing, TellsListing}
 use Rattle.hdfs_cluster.specs.Picture.{Picture, SameButActive}
 use Rattle.hdfs_cluster.specs.Shown.{Later, Shown}
 use Rattle.hdfs_names.specs.declared.mounts.MountTable.{MountTable}
 use Rattle.hdfs_names.specs.declared.mounts.Resolved.{Resolved}
-use Rattle.hdfs_namenode.specs.Relaying.{RefusedBy, TellsAsk}
+use Rattle.hdfs_namenode.specs.Relaying.{RefusedBy}
+use Rattle.hdfs_listing.specs.Listing.{FailsAsk}
 use Rattle.hdfs_client.specs.Clients.{mounts_of}
 use Rattle.hdfs_client.specs.Iterating.{IfFails, IsEntryFault, Left, Turns}
 use Rattle.hdfs_client.specs.Listing.{AreOnPages, HasSome, IsAnswered, IsBelow, IsFrom, IsMoreThan, leads_by}
@@ -60,10 +60,6 @@ IsWholeBelow may_answer recursive client path shown =
     (dir : List ℕ) → IsBelow (HasSome may_answer (mounts_of client)) recursive path dir → ReachesWhole client dir shown
 
 -- ---- why there is an error
-
--- an ask has failed: for want of memory, or since a namenode has
-abbrev pub FailsAsk : Shown → HdfsError → Shown → Type 0
-FailsAsk old error new = (error ≡ errors.NoMemory) ⊎ (TellsAsk old new error × CallsRose old.counts new)
 
 -- why a picture has no page of what is called so where a path leads, behind a name: it is refused, or nothing stands there
 abbrev pub HasNoPage : Picture → List ℕ → List ℕ → List ℕ → HdfsError → Type 0

@@ -7,7 +7,8 @@ use Rattle.hdfs_cluster.specs.declared.errors.HdfsError.TheVariants as errors
 use Rattle.hdfs_cluster.specs.declared.messages.DirList.{DirList}
 use Rattle.hdfs_cluster.specs.declared.messages.FileStatusMsg.{FileStatusMsg}
 use Rattle.hdfs_names.specs.declared.mounts.MountTable.{MountTable}
-use Rattle.hdfs_client.specs.Listing.{IsAnswered, has_more, last_name}
+use Rattle.hdfs_client.specs.Listing.{IsAnswered}
+use Rattle.hdfs_listing.specs.Walking.{has_more, last_name}
 use Rattle.hdfs_client.specs.Iterating.{HasRest, HaveNone, IfFails, IsEntryFault, Left, Turns, is_over}
 use Rattle.hdfs_client.specs.Statuses.{IsStatus}
 use Rattle.hdfs_client.specs.declared.status.FileStatus.{FileStatus}

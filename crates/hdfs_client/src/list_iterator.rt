@@ -12,9 +12,10 @@ ghost use Rattle.hdfs_client.specs.Turning.{IsFoundIn, IsGiven, IsOpened, IsTurn
 ghost use Rattle.hdfs_client.specs.Writing.{KeepsFiles, ReachesWhole};
 
 use crate::client::Client;
-use crate::listing::{has_more, set_start};
+use crate::listing::set_start;
 use crate::status::{FileStatus, file_status};
 use hdfs_cluster::{Cluster, FileStatusMsg, HdfsError};
+use hdfs_listing::has_more;
 use hdfs_wire::{Blob, NoMemory, Text};
 use std::alloc::Global;
 use std::mem;

@@ -4,7 +4,8 @@ ghost use Rattle.hdfs_cluster.specs.declared.asks.Ask.TheVariants as asks;
 ghost use Rattle.hdfs_cluster.specs.declared.asks.Answer.TheVariants as answers;
 ghost use Rattle.hdfs_namenode.specs.Asked.{as_answer};
 ghost use Rattle.hdfs_cluster.specs.declared.errors.HdfsError.TheVariants as errors;
-ghost use Rattle.hdfs_client.specs.Listing.{HasAll, IsAnswered, IsPutFault, has_more, last_name};
+ghost use Rattle.hdfs_client.specs.Listing.{HasAll, IsAnswered, IsPutFault};
+ghost use Rattle.hdfs_listing.specs.Walking.{last_name};
 
 use crate::client::Client;
 use crate::errors::ClientError;
@@ -102,13 +103,6 @@ impl Client {
         let to = self.resolve(path)?;
         self.services[to.service].get_listing(cluster, to.path.as_str(), start, false)
     }
-}
-
-/// Whether another page is to come behind this one.
-pub(crate) fn has_more(page: &DirList) -> bool
-    ensures { result ≡ has_more page.now }
-{
-    page.remaining_entries > 0 && page.partial_listing.as_slice().len() > 0
 }
 
 /// The name from which the next page goes on.

@@ -7,7 +7,7 @@ ghost use Rattle.hdfs_cluster.specs.declared.asks.Ask.TheVariants as asks;
 ghost use Rattle.hdfs_cluster.specs.declared.errors.HdfsError.{HdfsError};
 ghost use Rattle.hdfs_client.specs.Holding.{KeepsLeases, TakesLease, lease_by};
 ghost use Rattle.hdfs_client.specs.Opening as spec;
-ghost use Rattle.hdfs_client.specs.Opening.{BeginsAgain, BeginsNew, ClosesAgain, CreatesBy, FailsToAppend, FailsToCreate, IsKnown, KeepsName, KeepsService, KnowsDefaults, LacksDefaults, LeavesLinks, OpensBy};
+ghost use Rattle.hdfs_client.specs.Opening.{BeginsAgain, BeginsNew, ClosesAgain, CreatesBy, FailsToAppend, FailsToCreate, IsKnown, KeepsName, KeepsService, HasLimitedDefaults, LacksDefaults, LeavesLinks, OpensBy};
 ghost use Rattle.hdfs_file_writer.specs.Writers.{IsAnswered, Stands, file_id_of, has_failed, link_of, path_of};
 ghost use Rattle.hdfs_model.specs.Limits.{are_options};
 ghost use Rattle.hdfs_model.specs.Opening as asking;
@@ -107,26 +107,6 @@ fn hold(
 /// How often another first pipeline of a block is tried at most.
 const SETUP_LIMIT: u32 = 3;
 
-/// With what a file is written that has this replication and block size.
-fn sizes_by(
-    rebuilding: RebuildSettings,
-    defaults: &ServerDefaults,
-    replication: u32,
-    block_size: u64,
-) -> WriteSizes
-    ensures { result ≡ spec.sizes_by rebuilding defaults.now replication block_size }
-{
-    WriteSizes {
-        replication,
-        block_size,
-        chunk: defaults.bytes_per_checksum,
-        packet_size: defaults.write_packet_size,
-        rebuilding,
-        setup_limit: SETUP_LIMIT,
-        encrypted: defaults.encrypt_data_transfer,
-    }
-}
-
 /// The cluster's defaults, for which a service is asked once.
 fn limited_defaults<C: Cluster>(
     cluster: &mut C,
@@ -134,7 +114,7 @@ fn limited_defaults<C: Cluster>(
 ) -> Result<ServerDefaults, HdfsError>
     requires service { IsServiceOf (proxy_of namenode.old) (C.shown cluster.old) }
     requires allowed { C.allows (AskOf asks.GetServerDefaults) }
-    ensures knows { IfOk result (λ defaults. KnowsDefaults C.serves namenode.old cluster.old defaults namenode.new
+    ensures knows { IfOk result (λ defaults. HasLimitedDefaults C.serves namenode.old cluster.old defaults namenode.new
         cluster.new) }
     ensures picture { Seen C.shown (through namenode.old cluster.old) cluster.new
         (λ old new. Told SameButActive old.picture new.picture) }
@@ -211,7 +191,7 @@ pub(crate) fn create_by<C: Cluster>(
     if told.encrypted {
         return Err(refuse_created(cluster, namenode, path.as_str()));
     }
-    let sizes = sizes_by(rebuilding, &defaults, replication, block_size);
+    let sizes = WriteSizes::by(rebuilding, SETUP_LIMIT, &defaults, replication, block_size);
     let file = FileWriter::new(alloc, path, told.file_id, sizes);
     Ok(hold(namenode, file, told)?)
 }
@@ -269,8 +249,9 @@ pub(crate) fn append_by<C: Cluster>(
         drop(block);
         return Err(HdfsError::FileNotFound(Text::from_str(alloc, name)?));
     };
-    let sizes = sizes_by(
+    let sizes = WriteSizes::by(
         rebuilding,
+        SETUP_LIMIT,
         &defaults,
         stat.block_replication.unwrap_or(0),
         stat.blocksize.unwrap_or(0),

@@ -181,8 +181,8 @@ impl FileWriter {
         ensures state { GoesOn (λ file file'. inner.IsIdle file bytes.now cluster.old result file' cluster.new
             × (OnOk result (inner.has_failed file' ≡ false)) × (OnErr result (inner.has_failed file' ≡ true)))
             self.old self.new }
-        ensures still { (is_closed self.new ≡ is_closed self.old) × (service_of self.new ≡ service_of self.old)
-            × (lease_of self.new ≡ lease_of self.old) }
+        ensures still { GoesOn inner.Keeps self.old self.new × (is_closed self.new ≡ is_closed self.old)
+            × (service_of self.new ≡ service_of self.old) × (lease_of self.new ≡ lease_of self.old) }
         ensures err { IfErr result (λ error. (file : Inner) → open_of self.old ≡ Some file
             → inner.has_failed file ≡ false → inner.AreLimited (inner.sizes_of file)
             → SeenBy C.shown client.old self.old cluster.old cluster.new (λ old new. inner.Fails old file error new)) }

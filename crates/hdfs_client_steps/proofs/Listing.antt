@@ -1,6 +1,6 @@
 -- A client lists what stands at a path as a session does.
 use Rattle.std.proofs.Common.{◌≡◌, ◌⊎◌, inl, inr, ⊎_elim, ℕ, ◌<◌, ◌≤◌, nat_lt, Bool, true, false, cond, List, [], ◌∷◌, length, map, Option, Some, Ok, Err, refl, sym, ◌∙◌, ap, subst, arith}
-use Rattle.std.specs.Prelude.{IfOk, IsUtf8, MatchResult, OnOk, Result, Vec, vec_len}
+use Rattle.std.specs.Prelude.{IfOk, IsUtf8, MatchResult, Result, Vec, vec_len}
 use Rattle.std.specs.declared.alloc.Global.{Global}
 use Rattle.std.proofs.lemmas.Bool.{false≢true}
 use Rattle.std.proofs.lemmas.Bool.Decides.{nat_tests}
@@ -37,14 +37,14 @@ use Rattle.hdfs_model.specs.Sessions.{spared}
 use Rattle.hdfs_model.specs.Steps.{Done, Refused, TooMany, World, entry_at, list_paths, step, step_at}
 use Rattle.hdfs_model.proofs.Told.{below_file_at, lists_directory_at, lists_file_at, lists_none_at, missed_at}
 use Rattle.hdfs_namenode.specs.Relaying.{RefusedBy}
-use Rattle.hdfs_listing.specs.Listing.{Tells}
+use Rattle.hdfs_listing.specs.Listing.{FailsAsk, Tells}
 use Rattle.hdfs_commands.proofs.Agreeing.{agrees_but, agrees_files}
 use Rattle.hdfs_commands.proofs.Refusing.{RefusesAs, exception_cause, rose_cause, step_there}
 use Rattle.hdfs_client.specs.Clients.{Stays, leads_to, mounts_of}
 use Rattle.hdfs_client.specs.Iterating.{IsEntryFault}
 use Rattle.hdfs_client.specs.Listing.{AreOnPages, Finds, HasAll, HasSome, IsAnswered, IsBelow, IsFrom, Lists, alone, answered, asked, leads_by, nothing, with_own}
 use Rattle.hdfs_client.specs.Statuses.{IsStatus}
-use Rattle.hdfs_client.specs.Told.{FailsAsk, HasNoPage, IsEndedBelowIn, IsEndedIn, IsListFaultIn, IsNextFault, IsPageIn, IsStill, IsWholeBelow, WhereTold}
+use Rattle.hdfs_client.specs.Told.{HasNoPage, IsEndedBelowIn, IsEndedIn, IsListFaultIn, IsNextFault, IsPageIn, IsStill, IsWholeBelow, WhereTold}
 use Rattle.hdfs_client.specs.Writing.{ReachesWhole}
 use Rattle.hdfs_client.specs.declared.client.Client.{Client}
 use Rattle.hdfs_client.specs.declared.errors.ClientError.{ClientError}

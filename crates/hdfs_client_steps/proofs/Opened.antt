@@ -47,7 +47,8 @@ use Rattle.hdfs_file_writer.specs.Writers as files
 use Rattle.hdfs_file_writer.specs.declared.file_writer.FileWriter as inner
 use Rattle.hdfs_file_writer.specs.declared.sizes.WriteSizes.{WriteSizes}
 use Rattle.hdfs_client.specs.Clients.{SameBut, leads_to, mounts_of, replacement_of, service_at}
-use Rattle.hdfs_client.specs.Opening.{AsksInVain, HasBadDefaults, HasDefaults, IsFresh, LacksDefaults, sizes_by}
+use Rattle.hdfs_client.specs.Opening.{AsksInVain, HasBadDefaults, HasDefaults, IsFresh, LacksDefaults}
+use Rattle.hdfs_file_writer.specs.Sizing.{sizes_by}
 use Rattle.hdfs_client.specs.Writing.{OpensNone, ReachesWhole, open_of, rebuilding_of}
 use Rattle.hdfs_client.specs.declared.client.Client.{Client}
 use Rattle.hdfs_client.specs.declared.writing.FileWriter.{FileWriter}
@@ -345,7 +346,7 @@ module _ {world : World} {state : State} {command : Command} {path : List ℕ} {
 
   -- and the writer of that holds it
   pub holds_opened : {writer : FileWriter} {id : Option ℕ} {replication block_size : ℕ} {tail : Tail} → open_of writer ≡ Some file
-      → IsFresh path id (sizes_by (rebuilding_of client) d replication block_size) tail file → HoldsNext world state command reply client' t path writer
+      → IsFresh path id (sizes_by (rebuilding_of client) 3 d replication block_size) tail file → HoldsNext world state command reply client' t path writer
   holds_opened {writer} is fresh next steps = record {
     file = file;
     is_open = is;

@@ -30,7 +30,8 @@ use Rattle.hdfs_model.proofs.Told.{entry_told}
 use Rattle.hdfs_listing.specs.Listing.{Tells}
 use Rattle.hdfs_listing.proofs.Names.{names_unique, path_behind}
 use Rattle.hdfs_listing.proofs.Turning.{name_text}
-use Rattle.hdfs_client.specs.Listing.{AreEntries, Follow, HasAll, HasSome, IsAnswered, IsOnPage, are_all, has_more, last_name, lead_on, leads_by, messages_of}
+use Rattle.hdfs_client.specs.Listing.{AreEntries, Follow, HasAll, HasSome, IsAnswered, IsOnPage, are_all, lead_on, leads_by, messages_of}
+use Rattle.hdfs_listing.specs.Walking.{has_more, last_name}
 use Rattle.hdfs_client.specs.Statuses.{IsNamed, IsStatus}
 use Rattle.hdfs_client.specs.Told.{IsPageIn}
 use Rattle.hdfs_client.specs.declared.status.FileStatus.{FileStatus}

@@ -1,7 +1,5 @@
 //! Files that a client opens, writes, closes and reads, in the words of a session.
 ghost use Rattle.std.specs.Prelude.{◌≡◌, ◌≤◌, ◌<◌, ◌+◌, ◌-◌, ◌^◌, ◌&&◌, true, false, None, Ok, Err, IfErr, IfOk, OnErr, OnOk, is_ok, is_some, length, if◌then◌else◌};
-ghost use Rattle.hdfs_cluster.specs.Requests.{AskOf};
-ghost use Rattle.hdfs_cluster.specs.declared.asks.Ask.TheVariants as asks;
 ghost use Rattle.hdfs_cluster.specs.declared.errors.ArgFault.TheVariants as args;
 ghost use Rattle.hdfs_cluster.specs.declared.errors.HdfsError.TheVariants as errors;
 ghost use Rattle.hdfs_client.specs.Clients.{IsClientOf};
@@ -92,8 +90,8 @@ pub fn write<C: Cluster>(
     ensures state { GoesOn (λ file file'. inner.IsIdle file bytes.now cluster.old result file' cluster.new
         × (OnOk result (inner.has_failed file' ≡ false)) × (OnErr result (inner.has_failed file' ≡ true)))
         writer.old writer.new }
-    ensures still { (is_closed writer.new ≡ is_closed writer.old) × (service_of writer.new ≡ service_of writer.old)
-        × (lease_of writer.new ≡ lease_of writer.old) }
+    ensures still { GoesOn inner.Keeps writer.old writer.new × (is_closed writer.new ≡ is_closed writer.old)
+        × (service_of writer.new ≡ service_of writer.old) × (lease_of writer.new ≡ lease_of writer.old) }
     ensures does { WritesAs client.old writer.old bytes.now (C.shown cluster.old) client.new (C.shown cluster.new)
         result writer.new }
     ensures writer { IsWriterOf client.new (C.shown cluster.new) writer.new

@@ -18,9 +18,10 @@ use Rattle.hdfs_block_writer.proofs.Wrote.{pipe_is}
 use Rattle.hdfs_rebuild.specs.declared.block_plan.BlockPipeline.{BlockPipeline}
 use Rattle.hdfs_rebuild.specs.declared.block_plan.BlockPlan.{BlockPlan}
 use Rattle.hdfs_rebuild.specs.declared.block_plan.RebuildSettings.{RebuildSettings}
+use Rattle.hdfs_namenode.specs.declared.protocol.NamenodeProtocol.{NamenodeProtocol}
 use Rattle.hdfs_file_writer.specs.declared.file_writer.FileWriter.{FileWriter}
 use Rattle.hdfs_file_writer.specs.declared.sizes.WriteSizes.{WriteSizes}
-use Rattle.hdfs_file_writer.specs.Writers.{BlockStands, IsAnswered, IsAnsweredPlan, IsAnsweredTail, Keeps, plan_of, tail_by, tail_done}
+use Rattle.hdfs_file_writer.specs.Writers.{BlockStands, IsAnswered, IsAnsweredPlan, IsAnsweredTail, Keeps, MayFinish, MayWrite, plan_of, tail_by, tail_done}
 
 -- the block of a writer of a block was answered
 abbrev pub IsAnsweredPipe : (Ask → Answer → Type 0) → List ℕ → List ℕ → Option ℕ → BlockWriter → Type 0
@@ -31,6 +32,11 @@ IsAnsweredPipe may_answer client path file_id block =
 pub at_file : (P : List ℕ → Option ℕ → Type 0) (w w' : FileWriter) → Keeps w w' → P w.path w.file_id → P w'.path w'.file_id
 at_file P w w' keeps holds =
     subst (λ (path : List ℕ). P path w'.file_id) (sym keeps.path) (subst (λ (file_id : Option ℕ). P w.path file_id) (sym keeps.file_id) holds)
+
+-- where a file may be written, its last block may be ended
+pub may_finish : {allows : Request → Type 0} {may_answer : Ask → Answer → Type 0} {namenode : NamenodeProtocol} {shown : Shown} {w : FileWriter}
+    → MayWrite allows may_answer namenode shown w → MayFinish allows may_answer namenode shown w
+may_finish may = record { service = may.service; allowed = may.allowed.blocks; answered = may.answered; stands = may.stands }
 
 -- to go on with the block that is being written
 pub may_go_on : {allows : Request → Type 0} (may_answer : Ask → Answer → Type 0) (client client' : List ℕ) {shown : Shown} {sizes : WriteSizes}

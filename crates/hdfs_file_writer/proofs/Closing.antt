@@ -1,5 +1,5 @@
--- A writer asks until its file is closed.
-use Rattle.std.proofs.Common.{◌≡◌, ◌≢◌, ◌⊎◌, ⊎_elim, inl, inr, ℕ, suc, ◌+◌, ◌<◌, ◌≤◌, List, Option, Some, None, refl, sym, ◌∙◌, ap, subst, arith}
+-- A writer asks until its file is closed, which a namenode may fail to do so many times.
+use Rattle.std.proofs.Common.{◌≡◌, ◌≢◌, ◌⊎◌, ⊎_elim, inl, inr, ℕ, suc, ◌+◌, ◌<◌, ◌≤◌, List, Option, Some, None, refl, sym, ◌∙◌, ap, subst, arith, zero}
 use Rattle.std.specs.Prelude.{Result, Ok, Err, true, false}
 use Rattle.hdfs_cluster.specs.declared.asks.Answer.{Answer}
 use Rattle.hdfs_cluster.specs.declared.asks.Ask.{Ask}
@@ -10,7 +10,7 @@ use Rattle.hdfs_cluster.specs.declared.asks.Ask.TheVariants as asks
 use Rattle.hdfs_cluster.specs.declared.errors.HdfsError.TheVariants as errors
 use Rattle.hdfs_cluster.specs.declared.picture.LastAnswer.TheVariants as last_answers
 use Rattle.hdfs_cluster.specs.Failures.{CallsRose}
-use Rattle.hdfs_cluster.specs.Counts.{CallsRoseTimes}
+use Rattle.hdfs_cluster.specs.Counts.{CallsRoseTimes, FaultCounts, NeverFall, Rose}
 use Rattle.hdfs_cluster.specs.Effects.{blocks_at}
 use Rattle.hdfs_cluster.specs.Picture.{Picture}
 use Rattle.hdfs_cluster.specs.Repeating.{Leaves}
@@ -33,7 +33,18 @@ use Rattle.hdfs_file_writer.proofs.Moving.{own_link_refl, own_link_trans, own_li
 use Rattle.hdfs_file_writer.proofs.Steps.{Shows, as_done}
 use Rattle.hdfs_file_writer.proofs.Tallying.{no_limit}
 use Rattle.hdfs_file_writer.proofs.Telling.{tells_asked, apart_asked, asked_cause}
-use Rattle.hdfs_file_writer.proofs.Times.{times_enough, times_more}
+use Rattle.hdfs_cluster.proofs.Failures.{times_fall}
+
+-- once more
+pub times_more : (namenodes times : ℕ) (a b c : FaultCounts) → CallsRoseTimes namenodes times a b → NeverFall b c
+    → (i : ℕ) → i < namenodes → Rose (b.calls i) (c.calls i) → CallsRoseTimes namenodes (suc times) a c
+times_more namenodes times a b c h fall i below rose = (b, h, fall, (i, below, rose))
+
+-- as often at least
+pub times_enough : (namenodes least times : ℕ) (a b : FaultCounts) → least ≤ times → CallsRoseTimes namenodes times a b → CallsRoseTimes namenodes least a b
+times_enough namenodes zero times a b enough h = times_fall namenodes times a b h
+times_enough namenodes (suc least) zero a b enough h = absurd (omega (arith, enough))
+times_enough namenodes (suc least) (suc times) a b enough h = (h.0, times_enough namenodes least times a h.0 (omega (arith, enough)) h.1, h.2, h.3)
 
 -- So many answers were false, each of which says that a namenode has failed, over any cluster, and no datanode has; and the file is closed, or
 -- not yet.

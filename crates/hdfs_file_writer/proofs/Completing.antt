@@ -20,7 +20,7 @@ use Rattle.hdfs_file_writer.specs.OnlyFiles.{KeepsBlocks, OnlyFile}
 use Rattle.hdfs_file_writer.specs.Tails.{StoresFront, FileCarries}
 use Rattle.hdfs_file_writer.specs.WholeBlocks.{ClosesWhole}
 use Rattle.hdfs_file_writer.specs.Writers.{tail_done}
-use Rattle.hdfs_file_writer.proofs.Asked.{completed, not_completed, not_answered, complete_rose}
+use Rattle.hdfs_file_writer.proofs.Telling.{completed, not_completed, not_answered, complete_rose}
 use Rattle.hdfs_file_writer.proofs.Growing.{IsClosedAs, closes, last_of_carried}
 use Rattle.hdfs_file_writer.proofs.Moving.{only_file_trans}
 use Rattle.hdfs_file_writer.proofs.Storing.{block_stays, stores_keeps}

@@ -1,6 +1,7 @@
 -- How the calls of a writer of a file join.
 use Rattle.std.proofs.Common.{◌≡◌, ◌⊎◌, inl, inr, ℕ, true, List, [], ◌++◌, Some, None, refl, sym, ◌∙◌, ap, subst, append_assoc}
 use Rattle.std.proofs.lemmas.List.{append-nil}
+use Rattle.std.specs.Prelude.{Result, Ok, Err, IfOk, IfErr}
 use Rattle.hdfs_cluster.specs.declared.attributes.Attributes.{Attributes}
 use Rattle.hdfs_cluster.specs.declared.errors.HdfsError.{HdfsError}
 use Rattle.hdfs_cluster.specs.declared.errors.HdfsError.TheVariants as errors
@@ -30,6 +31,16 @@ use Rattle.hdfs_file_writer.proofs.Moving.{own_link_refl, own_link_trans, only_f
 use Rattle.hdfs_file_writer.proofs.Steps.{carries_nothing, carries_trans, touches_behind}
 use Rattle.hdfs_file_writer.proofs.Tallying.{limit_behind, tallies_refl, tallies_trans}
 use Rattle.hdfs_file_writer.proofs.WholeBlocks.{closes_trans}
+
+-- what holds of what a call gave, where that is known of each thing that it may have given
+pub when_ok : {T E : Type 0} (r : Result T E) (P : T → Type 0) → ((x : T) → r ≡ Ok x → P x) → IfOk r P
+when_ok (Ok x) P holds = holds x refl
+when_ok (Err e) P holds = tt
+
+-- and of the error
+pub when_err : {T E : Type 0} (r : Result T E) (P : E → Type 0) → ((e : E) → r ≡ Err e → P e) → IfErr r P
+when_err (Ok x) P holds = tt
+when_err (Err e) P holds = holds e refl
 
 pub keeps_refl : (w : FileWriter) → Keeps w w
 keeps_refl w = record { path = refl; file_id = refl; sizes = refl }

@@ -7,15 +7,12 @@ pub mod Storing
 pub mod Tallying
 pub mod Telling
 pub mod Touching
-pub mod Asked
 pub mod Beside
 pub mod Blocks
 pub mod Growing
 pub mod GivingBack
-pub mod Filling
 pub mod Completing
 pub mod Steps
-pub mod Times
 pub mod Joining
 pub mod Closing
 pub mod Standing
@@ -25,3 +22,4 @@ pub mod Creating
 pub mod WholeBlocks
 pub mod Links
 pub mod Seeing
+pub mod InLimits

@@ -1,24 +1,35 @@
 -- What a writer of a file is, and what it does without a namenode, is so in each view of a cluster: no view hides links, and where the picture
--- is hidden nothing is told of it.
-use Rattle.std.proofs.Common.{◌≡◌, ℕ, zero, suc, Bool, List, Option, None, sym, ap, subst}
+-- is hidden nothing is told of it. And what a call comes to behind one that wrote, as the service behind both calls sees it.
+use Rattle.std.proofs.Common.{◌≡◌, ℕ, zero, suc, Bool, List, Option, None, sym, ap, subst, ◌++◌, refl}
 use Rattle.hdfs_cluster.specs.declared.messages.LocatedBlock.{LocatedBlock}
 use Rattle.hdfs_cluster.specs.Failures.{NodesFailTimes}
 use Rattle.hdfs_cluster.specs.Picture.{Picture}
 use Rattle.hdfs_cluster.specs.Shown.{Shown}
 use Rattle.hdfs_cluster.proofs.Frames.{later_refl}
 use Rattle.hdfs_cluster.proofs.Times.{fails_later, fails_since}
-use Rattle.hdfs_namenode.specs.Views.{View, Whole, OfService, see}
-use Rattle.hdfs_namenode.proofs.Seeing.{later_seen}
+use Rattle.hdfs_namenode.specs.Views.{View, Whole, OfService, see, Seen, view_of}
 use Rattle.hdfs_rebuild.specs.declared.block_plan.WriteFault.{WriteFault}
-use Rattle.hdfs_rebuild.proofs.Seeing.{opens_none_seen, reads_seen}
 use Rattle.hdfs_block_writer.specs.BlockWriters.{Stands as StandsItself}
 use Rattle.hdfs_block_writer.specs.declared.block_writer.BlockWriter.{BlockWriter}
+use Rattle.hdfs_namenode.proofs.Seeing.{later_seen, view_same}
+use Rattle.hdfs_rebuild.proofs.Seeing.{opens_none_seen, reads_seen}
 use Rattle.hdfs_block_writer.proofs.Seeing.{over_seen, over_shown}
 use Rattle.hdfs_file_writer.specs.declared.file_writer.FileWriter.{FileWriter}
 use Rattle.hdfs_file_writer.specs.declared.sizes.WriteSizes.{WriteSizes}
 use Rattle.hdfs_file_writer.specs.Tries.{NotSetUp}
-use Rattle.hdfs_file_writer.specs.Writers.{BlockStands, CarriesMore, LeavesFile, OnlyOwnLink, Stands, Tallies, Wrote, rebuilds_by, rebuilds_of}
+use Rattle.hdfs_file_writer.specs.Writers.{BlockStands, CarriesMore, OnlyOwnLink, Stands, Tallies, Wrote, rebuilds_by, rebuilds_of, FailsOtherwise, IsAnswered, Keeps, MayAdd, tail_of}
 use Rattle.hdfs_file_writer.proofs.Steps.{Shows}
+use Rattle.hdfs_cluster.specs.declared.asks.Answer.{Answer}
+use Rattle.hdfs_cluster.specs.declared.asks.Ask.{Ask}
+use Rattle.hdfs_cluster.specs.declared.errors.HdfsError.{HdfsError}
+use Rattle.hdfs_cluster.specs.Requests.{LetsWrite, Request}
+use Rattle.hdfs_namenode.specs.Asked.{IsServiceOf}
+use Rattle.hdfs_namenode.specs.Clients.{SameClient, name_of, proxy_of, through}
+use Rattle.hdfs_namenode.specs.declared.protocol.NamenodeProtocol.{NamenodeProtocol}
+use Rattle.hdfs_namenode.proofs.Services.{same_client_trans, service_same}
+use Rattle.hdfs_file_writer.specs.Tails.{IsFull}
+use Rattle.hdfs_file_writer.proofs.Allowed.{at_file}
+use Rattle.hdfs_file_writer.proofs.Joining.{fails_after, keeps_trans, wrote_trans}
 
 -- what holds of the picture holds of the one that is seen
 pub shows_seen : (view : View) (P : Picture → Type 0) (s : Shown) → Shows P s → Shows P (see view s)
@@ -106,11 +117,7 @@ own_link_seen view {s} {t} {before} {after} h = record {
   fresh = h.fresh;
 }
 
--- what it leaves of its file
-pub leaves_file_seen : (view : View) (s t : Shown) (writer : FileWriter) → LeavesFile s writer t → LeavesFile (see view s) writer (see view t)
-leaves_file_seen Whole s t writer h = h
-leaves_file_seen (OfService first count) s t writer h = λ p bytes is. absurd (cc is)
-
+-- what it carries
 carries_more_seen : (view : View) (s t : Shown) (writer writer' : FileWriter) (more : List ℕ) → CarriesMore s writer more t writer'
     → CarriesMore (see view s) writer more (see view t) writer'
 carries_more_seen Whole s t writer writer' more h = h
@@ -139,3 +146,59 @@ wrote_seen view {s} {t} {writer} {writer'} {more} none h = record {
   tallies = tallies_seen view s t writer writer' none h.tallies;
   carries = carries_more_seen view s t writer writer' more h.carries;
 }
+
+module _ {C : Type 0} (shown : C → Shown) {n n' : NamenodeProtocol} (s m : C) (client : SameClient n n') {v w x : FileWriter} (same : v ≡ w)
+    {one : List ℕ} (wrote : Seen shown (through n s) m (λ old new. Wrote old v one new x)) where
+  -- the writer that wrote is this one
+  wrote_first : Seen shown (through n s) m (λ old new. Wrote old w one new x)
+  wrote_first view has = subst (λ (u : FileWriter). Wrote (see view (shown s)) u one (see view (shown m)) x) same (wrote view has)
+
+  kept : Keeps w x
+  kept = (wrote_first (view_of (proxy_of n)) (refl, refl)).keeps
+
+  -- the service asks namenodes of the cluster still
+  pub service_behind : IsServiceOf (proxy_of n) (shown s) → IsServiceOf (proxy_of n') (shown m)
+  service_behind of =
+      service_same (proxy_of n) (proxy_of n') (shown s) (shown m) client.service
+      (wrote_first (view_of (proxy_of n)) (refl, refl)).own.later.namenodes of
+
+  -- two calls join where what they come to does
+  pub seen_behind : (c : C) {P Q : Shown → Shown → Type 0} → ((a b d : Shown) → Wrote a w one b x → P b d → Q a d)
+      → Seen shown (through n' m) c P → Seen shown (through n s) c Q
+  seen_behind c joins then view has =
+      let first = wrote_first view has in
+      joins (see view (shown s)) (see view (shown m)) (see view (shown c)) first
+      (then view (view_same view (proxy_of n) (proxy_of n') (shown s) (shown m) client.service first.own.later.namenodes has))
+
+  -- more is written behind it,
+  pub wrote_behind : (c : C) (two : List ℕ) (y : FileWriter) → Seen shown (through n' m) c (λ old new. Wrote old x two new y)
+      → Seen shown (through n s) c (λ old new. Wrote old w (one ++ two) new y)
+  wrote_behind c two y then = seen_behind c (λ a b d. wrote_trans a b d w x y one two) then
+
+  -- or a call fails
+  pub fails_behind : (c : C) (e : HdfsError) → Seen shown (through n' m) c (λ old new. FailsOtherwise old x e new)
+      → Seen shown (through n s) c (λ old new. FailsOtherwise old w e new)
+  fails_behind c e then = seen_behind c (λ a b d. fails_after a b d w x one e) then
+
+  -- both calls keep what each does
+  pub keeps_behind : (y : FileWriter) (n'' : NamenodeProtocol) → Keeps x y × SameClient n' n'' → Keeps w y × SameClient n n''
+  keeps_behind y n'' then = (keeps_trans w x y kept then.0, same_client_trans n n' n'' client then.1)
+
+  module _ (allows : Request → Type 0) (may_answer : Ask → Answer → Type 0) where
+    -- the file may be written still
+    pub allowed_behind : LetsWrite allows may_answer (name_of n) w.path w.file_id → LetsWrite allows may_answer (name_of n') x.path x.file_id
+    allowed_behind allowed =
+        subst (λ (name : List ℕ). LetsWrite allows may_answer name x.path x.file_id) (sym client.name)
+        (at_file (λ path file_id. LetsWrite allows may_answer (name_of n) path file_id) w x kept allowed)
+
+    -- a block may be asked for behind one that is full
+    pub adds_behind : IsServiceOf (proxy_of n) (shown s) → LetsWrite allows may_answer (name_of n) w.path w.file_id
+        → IsAnswered may_answer (name_of n) x → (IsFull v.sizes.block_size (tail_of v) → IsFull v.sizes.block_size (tail_of x)) → IsFull w.sizes.block_size (tail_of w)
+        → MayAdd allows may_answer n' (shown m) x
+    adds_behind of allowed answered stays full = record {
+      service = service_behind of;
+      allowed = allowed_behind allowed;
+      answered = subst (λ (name : List ℕ). IsAnswered may_answer name x) (sym client.name) answered;
+      full = subst (λ (z : WriteSizes). IsFull z.block_size (tail_of x)) (sym kept.sizes)
+          (subst (λ (u : FileWriter). IsFull u.sizes.block_size (tail_of u) → IsFull u.sizes.block_size (tail_of x)) same stays full);
+    }

@@ -43,14 +43,12 @@ use Rattle.hdfs_file_writer.specs.Tails.{Tail, Finished, Reopened, Going, tail_l
 use Rattle.hdfs_file_writer.specs.WholeBlocks.{StaysWhole}
 use Rattle.hdfs_file_writer.specs.Writers.{BlockStands, blocks_in, plan_of, tail_done, tail_by, tail_of, IsBetweenBlocks, CarriesMore, TouchesFile, LeavesFile}
 use Rattle.hdfs_namenode.specs.Relaying.{Came}
-use Rattle.hdfs_file_writer.proofs.Asked.{add_rose, added, not_added}
-use Rattle.hdfs_file_writer.proofs.Blocks.{touches_own, going_more, going_ended, going_whole}
+use Rattle.hdfs_file_writer.proofs.Telling.{add_rose, added, not_added, fault_cause}
+use Rattle.hdfs_file_writer.proofs.Blocks.{touches_own, going_more, going_ended, going_whole, tail_going, tail_reopened, tail_between, fills_same, fills_more, fills_trans, fills_grown}
 use Rattle.hdfs_file_writer.proofs.Completing.{front_same}
-use Rattle.hdfs_file_writer.proofs.Filling.{tail_going, tail_reopened, tail_between, fills_same, fills_more, fills_trans, fills_grown}
 use Rattle.hdfs_file_writer.proofs.Growing.{adding_repeats, grows}
 use Rattle.hdfs_file_writer.proofs.Moving.{only_file_refl, only_file_trans, same_file_refl, same_file_trans}
 use Rattle.hdfs_file_writer.proofs.Placing.{contains_last}
-use Rattle.hdfs_file_writer.proofs.Telling.{fault_cause}
 use Rattle.hdfs_file_writer.proofs.Touching.{only_file_active}
 use Rattle.hdfs_file_writer.proofs.WholeBlocks.{stays_unchanged, stays_kept, stays_trans, stays_grown}
 

@@ -41,8 +41,8 @@ use Rattle.hdfs_file_writer.specs.OnlyFiles.{OnlyFile}
 use Rattle.hdfs_file_writer.specs.Tails.{FileCarries}
 use Rattle.hdfs_file_writer.specs.Tries.{EndsTries, GivesUpNot, HasTried, HaveFailed, IsCandidate, LeavesCandidate, NotSetUp, TriesOn, giving_up}
 use Rattle.hdfs_file_writer.specs.Writers.{Adds, CarriesMore, FailsOtherwise, IsBetweenBlocks, OnlyOwnLink, TouchesFile, Wrote, blocks_in, link_by, link_of, rebuilds_by, tail_done, tail_of}
-use Rattle.hdfs_file_writer.proofs.Asked.{added}
-use Rattle.hdfs_file_writer.proofs.Filling.{fills_same}
+use Rattle.hdfs_file_writer.proofs.Telling.{added, apart_asked, asked_cause, tells_asked}
+use Rattle.hdfs_file_writer.proofs.Blocks.{fills_same}
 use Rattle.hdfs_file_writer.proofs.GivingBack.{adds_new, back_blocks, back_carries, back_only, back_same, back_whole, given_back, given_up, may_give_up}
 use Rattle.hdfs_file_writer.proofs.Growing.{adding_repeats, grows}
 use Rattle.hdfs_file_writer.proofs.Joining.{calls_since, fails_after, keeps_refl, tells_since, wrote_nothing, wrote_trans}
@@ -50,7 +50,6 @@ use Rattle.hdfs_file_writer.proofs.Moving.{only_file_trans, own_link_left, own_l
 use Rattle.hdfs_file_writer.proofs.Standing.{idle_own, starved_fails, unopened_fails}
 use Rattle.hdfs_file_writer.proofs.Steps.{Shows, as_done, from_done}
 use Rattle.hdfs_file_writer.proofs.Tallying.{no_limit, tallies_anew}
-use Rattle.hdfs_file_writer.proofs.Telling.{apart_asked, asked_cause, tells_asked}
 use Rattle.hdfs_file_writer.proofs.Touching.{only_file_active}
 
 -- where a pipeline isn't set up, the links have failed or a datanode

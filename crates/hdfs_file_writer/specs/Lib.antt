@@ -1,6 +1,7 @@
 pub mod Faults
 pub mod Failing
 pub mod OnlyFiles
+pub mod Sizing
 pub mod Tails
 pub mod Tries
 pub mod WholeBlocks

@@ -108,10 +108,7 @@ impl FileWriter {
             (λ old new. FailsOtherwise old self.old error new)) }
         ensures keeps { Keeps self.old self.new × SameClient namenode.old namenode.new }
     {
-        match self.make_room(cluster, namenode) {
-            Ok(()) => {}
-            Err(error) => return Err(error),
-        }
+        self.make_room(cluster, namenode)?;
         let Some(block) = &mut self.going else {
             unreachable!();
         };
@@ -243,10 +240,8 @@ impl FileWriter {
     {
         let mut rest = bytes;
         'blocks: while !rest.is_empty() {
-            match self.write_piece(cluster, namenode, rest) {
-                Ok(taken) => rest = &rest[taken..],
-                Err(error) => return Err(error),
-            }
+            let taken = self.write_piece(cluster, namenode, rest)?;
+            rest = &rest[taken..];
         }
         Ok(())
     }
@@ -271,21 +266,17 @@ impl FileWriter {
         ensures client { SameClient namenode.old namenode.new }
     {
         for _ in 0..COMPLETE_RETRIES {
-            match namenode.complete(
+            if namenode.complete(
                 cluster,
                 self.path.as_str(),
                 self.last.as_ref(),
                 self.file_id,
-            ) {
-                Ok(true) => return Ok(()),
-                Ok(false) => {}
-                Err(error) => return Err(error),
+            )? {
+                return Ok(());
             }
         }
-        match self.path.copy(self.alloc) {
-            Ok(path) => Err(HdfsError::OperationFailed(path)),
-            Err(_) => Err(HdfsError::NoMemory),
-        }
+        let path = self.path.copy(self.alloc)?;
+        Err(HdfsError::OperationFailed(path))
     }
 
     /// Ends the block that is being written, and closes the file.
@@ -340,14 +331,8 @@ impl FileWriter {
         if self.failed {
             return Err(HdfsError::Failed);
         }
-        match self.finish_block(cluster, namenode) {
-            Ok(()) => {}
-            Err(error) => return Err(error),
-        }
-        match self.complete(cluster, namenode) {
-            Ok(()) => Ok(()),
-            Err(error) => Err(error),
-        }
+        self.finish_block(cluster, namenode)?;
+        self.complete(cluster, namenode)
     }
 
     /// Gives the writer up: its link is ended, and nothing else is done. The file stays open.

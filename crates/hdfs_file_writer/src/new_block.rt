@@ -96,14 +96,8 @@ impl FileWriter {
         }
         drop(fault);
         let Candidate { block, first } = candidate;
-        match namenode.abandon_block(cluster, &block, self.path.as_str(), self.file_id) {
-            Ok(()) => {}
-            Err(error) => return Err(error),
-        }
-        match tries.excluded.push(first) {
-            Ok(()) => {}
-            Err(_) => return Err(HdfsError::NoMemory),
-        }
+        namenode.abandon_block(cluster, &block, self.path.as_str(), self.file_id)?;
+        tries.excluded.push(first)?;
         tries.left -= 1;
         Ok(())
     }
@@ -133,26 +127,17 @@ impl FileWriter {
             (λ old new. (start : Shown) → HasTried start self.old tries.old old → FailsOtherwise start self.old
             error new)) }
     {
-        let located = match self.next_block(cluster, namenode, tries.excluded.as_slice()) {
-            Ok(located) => located,
-            Err(error) => return Err(error),
-        };
-        let candidate = match Candidate::new(self.alloc, &located) {
-            Ok(candidate) => candidate,
-            Err(_) => {
-                drop(located);
-                return Err(HdfsError::NoMemory);
-            }
-        };
+        let located = self.next_block(cluster, namenode, tries.excluded.as_slice())?;
+        let candidate = Candidate::new(self.alloc, &located)?;
         match self.open_block(cluster, namenode, located, true) {
             Ok(()) => {
                 drop(candidate);
                 Ok(true)
             }
-            Err(fault) => match self.give_up(cluster, namenode, tries, candidate, fault) {
-                Ok(()) => Ok(false),
-                Err(error) => Err(error),
-            },
+            Err(fault) => {
+                self.give_up(cluster, namenode, tries, candidate, fault)?;
+                Ok(false)
+            }
         }
     }
 
@@ -175,10 +160,8 @@ impl FileWriter {
     {
         let mut tries = Tries::new(self.alloc, self.sizes.setup_limit);
         'tries: loop {
-            match self.try_block(cluster, namenode, &mut tries) {
-                Ok(true) => return Ok(()),
-                Ok(false) => {}
-                Err(error) => return Err(error),
+            if self.try_block(cluster, namenode, &mut tries)? {
+                return Ok(());
             }
         }
     }

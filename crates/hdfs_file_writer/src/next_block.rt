@@ -90,28 +90,21 @@ impl FileWriter {
         ensures err { IfErr result (λ fault. (self.new ≡ self.old) × NotSetUp (name_of namenode.now) created located
             (C.shown cluster.old) fault (C.shown cluster.new)) }
     {
-        let plan = match self.plan(located, created) {
-            Ok(plan) => plan,
-            Err(_) => return Err(WriteFault::NoMemory),
-        };
+        let plan = self.plan(located, created)?;
         let sizes = BlockSizes {
             block_size: self.sizes.block_size,
             packet_size: self.sizes.packet_size,
         };
-        match BlockWriter::replicated(
+        let block = BlockWriter::replicated(
             self.alloc,
             cluster,
             namenode,
             plan,
             &self.sizes.rebuilding,
             sizes,
-        ) {
-            Ok(block) => {
-                self.going = Some(block);
-                Ok(())
-            }
-            Err(fault) => Err(fault),
-        }
+        )?;
+        self.going = Some(block);
+        Ok(())
     }
 
     /// Asks for a block behind those that are done, the last of which is full, on none of these datanodes.
@@ -133,16 +126,13 @@ impl FileWriter {
             (λ old new. FailsOtherwise old self.now error new)) }
         ensures client { SameClient namenode.old namenode.new }
     {
-        match namenode.add_block(
+        namenode.add_block(
             cluster,
             self.path.as_str(),
             self.last.as_ref(),
             excluded,
             self.file_id,
-        ) {
-            Ok(located) => Ok(located),
-            Err(error) => Err(error),
-        }
+        )
     }
 
     /// The block that is to be gone on with, where it has room for a byte.
@@ -190,14 +180,8 @@ impl FileWriter {
             }
             None => {}
         }
-        match self.finish_block(cluster, namenode) {
-            Ok(()) => {}
-            Err(error) => return Err(error),
-        }
-        match self.begin_block(cluster, namenode) {
-            Ok(()) => Ok(()),
-            Err(error) => Err(error),
-        }
+        self.finish_block(cluster, namenode)?;
+        self.begin_block(cluster, namenode)
     }
 
     /// Whether a block is being written that has room for a byte.

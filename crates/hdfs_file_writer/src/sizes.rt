@@ -1,6 +1,7 @@
 //! With what a file is written.
-ghost use Rattle.std.specs.Prelude.{◌↔◌, IsTrue};
+ghost use Rattle.std.specs.Prelude.{◌≡◌, ◌↔◌, IsTrue};
 
+use hdfs_cluster::ServerDefaults;
 use hdfs_rebuild::RebuildSettings;
 
 /// The replication of a file; the size of its blocks, of the chunks that have a checksum together, and of packets, in bytes (a
@@ -22,7 +23,29 @@ pub struct WriteSizes {
 const MAX_REPLICATION: u32 = 65_535;
 
 impl WriteSizes {
+    ghost use Rattle.hdfs_file_writer.specs.Sizing.{sizes_by};
     ghost use Rattle.hdfs_file_writer.specs.Writers.{AreLimited};
+
+    /// With what a file is written over a cluster with these defaults that has this replication and block size.
+    pub fn by(
+        rebuilding: RebuildSettings,
+        setup_limit: u32,
+        defaults: &ServerDefaults,
+        replication: u32,
+        block_size: u64,
+    ) -> WriteSizes
+        ensures { result ≡ sizes_by rebuilding setup_limit defaults.now replication block_size }
+    {
+        WriteSizes {
+            replication,
+            block_size,
+            chunk: defaults.bytes_per_checksum,
+            packet_size: defaults.write_packet_size,
+            rebuilding,
+            setup_limit,
+            encrypted: defaults.encrypt_data_transfer,
+        }
+    }
 
     /// Whether a file can be written that has these: a replication from 1 to 65,535, and a block size from 1 to 2^63 - 1.
     pub fn are_limited(&self) -> bool

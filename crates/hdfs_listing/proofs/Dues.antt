@@ -1,24 +1,22 @@
 -- Which paths the tasks of a listing give: those of a directory that is begun, of an entry that is entered, and of a page that is turned.
-use Rattle.std.proofs.Common.{◌≡◌, ◌⊎◌, inl, inr, ℕ, suc, ◌<◌, nat_lt, ◌==◌, ◌&&◌, Bool, true, false, cond, List, [], ◌∷◌, ◌++◌, length, map, Contains, Option, Some, None, IsSome, is_some, option_map, refl, sym, ◌∙◌, ap, subst, arith}
+use Rattle.std.proofs.Common.{◌≡◌, ℕ, suc, nat_lt, ◌==◌, ◌&&◌, Bool, true, false, cond, List, [], ◌∷◌, ◌++◌, length, map, Contains, Option, Some, None, IsSome, option_map, refl, sym, ◌∙◌, ap, subst, arith}
 use Rattle.std.proofs.lemmas.Bool.{false≢true}
 use Rattle.std.proofs.lemmas.Bool.Decides.{nat_tests}
-use Rattle.std.proofs.lemmas.List.{append-nil}
 use Rattle.std.proofs.lemmas.List.Elements.{All-contains, All-head, All-tail}
 use Rattle.std.specs.List.{All, list_any}
 use Rattle.std.specs.Str.{IsUtf8}
 use Rattle.std.proofs.lemmas.Str.{IsUtf8-nil}
 use Rattle.hdfs_cluster.specs.declared.messages.DirList.{DirList}
 use Rattle.hdfs_cluster.specs.declared.messages.FileStatusMsg.{FileStatusMsg}
-use Rattle.hdfs_cluster.specs.declared.picture.BlockEntry.{BlockEntry}
 use Rattle.hdfs_cluster.specs.declared.picture.Entry.{Entry}
 use Rattle.hdfs_cluster.specs.declared.picture.Entry.TheVariants as entries
-use Rattle.hdfs_cluster.specs.Files.{Directory, IsState, Kind, Node, Dir, File, Writing, State, kind_of, kinds_of}
+use Rattle.hdfs_cluster.specs.Files.{Directory, IsState, Node, Dir, File, Writing, State, kind_of, kinds_of}
 use Rattle.hdfs_cluster.specs.Listing.{TellsAt, TellsPage, names_in}
 use Rattle.hdfs_cluster.specs.Loading.{is_directory}
-use Rattle.hdfs_cluster.specs.Names.{AreNamesBehind, IsNameIn, Rises, front_of, is_before}
+use Rattle.hdfs_cluster.specs.Names.{AreNamesBehind, IsNameIn, Rises, front_of}
 use Rattle.hdfs_cluster.specs.Picture.{Picture}
 use Rattle.hdfs_cluster.specs.Stores.{AgreesAt}
-use Rattle.hdfs_names.specs.Paths.{is_path, is_slash}
+use Rattle.hdfs_names.specs.Paths.{is_slash}
 use Rattle.hdfs_model.specs.declared.commands.PathEntry.{PathEntry}
 use Rattle.hdfs_model.specs.Listings.{path_in}
 use Rattle.hdfs_model.specs.Steps.{entry_at}

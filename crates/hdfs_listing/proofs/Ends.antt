@@ -1,6 +1,6 @@
 -- The last name of some entries, and one of them whose name is no text.
-use Rattle.std.proofs.Common.{◌≡◌, ℕ, zero, suc, ◌-◌, ◌<◌, List, [], ◌∷◌, ◌++◌, length, map, drop, Contains, Option, Some, None, refl, sym, ◌∙◌, ap, subst, arith}
-use Rattle.std.specs.Prelude.{slice_get, slice_index_or}
+use Rattle.std.proofs.Common.{◌≡◌, ℕ, zero, suc, ◌-◌, ◌<◌, List, [], ◌∷◌, length, Contains, Some, None, refl, arith}
+use Rattle.std.specs.Prelude.{slice_get}
 use Rattle.hdfs_cluster.specs.declared.messages.FileStatusMsg.{FileStatusMsg}
 use Rattle.hdfs_listing.specs.Walking.{last_name}
 
@@ -13,12 +13,6 @@ name_at start (status ∷ (second ∷ rest)) last (suc k) many is = name_at stat
 
 pub name_at_end : (start : List ℕ) (statuses : List FileStatusMsg) (last : FileStatusMsg) → Some last ≡ slice_get statuses (length statuses - 1) → 0 < length statuses → last.path ≡ last_name start statuses
 name_at_end start statuses last is some = name_at start statuses last (length statuses - 1) (omega (arith, some)) is
-
--- one that is had by its place is one of them
-pub got_there : (statuses : List FileStatusMsg) (k : ℕ) (status : FileStatusMsg) → Some status ≡ slice_get statuses k → Contains statuses status
-got_there [] k status is = absurd (cc (is))
-got_there (first ∷ rest) zero status is = (0, omega arith, (let same : first ≡ status = cc (is) in same))
-got_there (first ∷ rest) (suc k) status is = (let later = got_there rest k status is in (suc later.0, omega (arith, later.1), later.2))
 
 pub no_end : (start : List ℕ) (statuses : List FileStatusMsg) → None ≡ slice_get statuses (length statuses - 1) → start ≡ last_name start statuses
 no_end start [] none = refl

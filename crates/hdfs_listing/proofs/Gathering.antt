@@ -1,5 +1,5 @@
 -- Entries are gathered one by one: those that were given are those of the first paths that are due, and what is left is due still.
-use Rattle.std.proofs.Common.{◌≡◌, ◌⊎◌, inl, inr, ⊎_elim, ℕ, zero, suc, ◌+◌, ◌<◌, ◌≤◌, nat_lt, ◌==◌, ◌&&◌, Bool, true, false, cond, List, [], ◌∷◌, ◌++◌, length, map, Contains, Option, Some, None, Result, Ok, Err, IsSome, option_map, refl, sym, ◌∙◌, ap, subst, arith}
+use Rattle.std.proofs.Common.{◌≡◌, ◌⊎◌, inl, inr, ⊎_elim, ℕ, zero, suc, ◌<◌, ◌≤◌, nat_lt, ◌==◌, ◌&&◌, Bool, true, false, cond, List, [], ◌∷◌, ◌++◌, length, map, Contains, Option, Some, None, Result, Ok, Err, IsSome, option_map, refl, sym, ◌∙◌, ap, subst, arith}
 use Rattle.std.specs.Prelude.{IfErr, IfOk, MatchOption, Vec}
 use Rattle.std.specs.declared.alloc.Global.{Global}
 use Rattle.std.proofs.lemmas.Bool.{false≢true}
@@ -11,7 +11,6 @@ use Rattle.std.proofs.lemmas.Bool.Decides.{nat_tests}
 use Rattle.std.proofs.lemmas.List.{append-nil, length-append, length-map}
 use Rattle.hdfs_cluster.specs.declared.asks.Answer.{Answer}
 use Rattle.hdfs_cluster.specs.declared.asks.Ask.{Ask}
-use Rattle.hdfs_cluster.specs.declared.asks.Ask.TheVariants as asks
 use Rattle.hdfs_cluster.specs.declared.errors.ArgFault.TheVariants as args
 use Rattle.hdfs_cluster.specs.declared.errors.HdfsError.{HdfsError}
 use Rattle.hdfs_cluster.specs.declared.errors.HdfsError.TheVariants as errors
@@ -21,12 +20,11 @@ use Rattle.hdfs_cluster.specs.declared.picture.Entry.{Entry}
 use Rattle.hdfs_cluster.specs.declared.picture.Entry.TheVariants as entries
 use Rattle.hdfs_cluster.specs.declared.picture.FileEntry.{FileEntry}
 use Rattle.hdfs_cluster.specs.Counts.{NeverFall}
-use Rattle.hdfs_cluster.specs.Failures.{ANamenode, CallsRose}
-use Rattle.hdfs_cluster.specs.Files.{Directory, Node, Dir, File, Writing, State, kind_of, kinds_of}
+use Rattle.hdfs_cluster.specs.Files.{Directory, Node, Dir, File, Writing, State, kind_of}
 use Rattle.hdfs_cluster.specs.Listing.{TellsAlone, TellsAt, TellsEntries, TellsListing}
 use Rattle.hdfs_cluster.specs.Names.{front_of}
 use Rattle.hdfs_cluster.specs.Picture.{Picture, SameButActive}
-use Rattle.hdfs_cluster.specs.Refusals.{Refusal, TooMany, look_refusal}
+use Rattle.hdfs_cluster.specs.Refusals.{Refusal, TooMany}
 use Rattle.hdfs_cluster.specs.Shown.{Shown}
 use Rattle.hdfs_cluster.specs.Stores.{AgreesAt}
 use Rattle.hdfs_model.specs.declared.commands.PathEntry.{PathEntry}
@@ -37,8 +35,8 @@ use Rattle.hdfs_model.specs.Walks.{walk}
 use Rattle.hdfs_model.proofs.Deleted.{here, some_kind}
 use Rattle.hdfs_model.proofs.Descending.{walk_of_other}
 use Rattle.hdfs_model.proofs.Told.{entry_told, looked_at}
-use Rattle.hdfs_listing.specs.Listing.{FailsAsk, Gathers, HasNone, IsNotTurned, IsTurned, LacksListing, Lists, Tells, listed}
-use Rattle.hdfs_listing.specs.Walking.{AllMayDo, IsDue, MayDo, entered, entry_in, gives, has_more, last_name, lower, page_tasks}
+use Rattle.hdfs_listing.specs.Listing.{FailsAsk, Gathers, IsNotTurned, IsTurned, LacksListing, Lists, Tells, listed}
+use Rattle.hdfs_listing.specs.Walking.{AllMayDo, IsDue, MayDo, entered, gives, last_name, lower, page_tasks}
 use Rattle.hdfs_listing.specs.declared.walk.Task.{Task}
 use Rattle.hdfs_listing.specs.declared.walk.Task.TheVariants as tasks
 use Rattle.hdfs_listing.proofs.Dues.{begun_due, entered_due, lower_deep, lower_none}

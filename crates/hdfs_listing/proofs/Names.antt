@@ -1,12 +1,8 @@
 -- Names in a directory behind a text are told in one way.
-use Rattle.std.proofs.Common.{◌≡◌, ◌⊎◌, inl, inr, ℕ, suc, ◌<◌, Bool, true, false, List, [], ◌∷◌, ◌++◌, length, map, drop, take, Contains, Option, Some, IsSome, refl, sym, ◌∙◌, ap, subst, arith}
+use Rattle.std.proofs.Common.{◌≡◌, inl, inr, ℕ, true, List, [], ◌∷◌, ◌++◌, Option, refl, sym, ◌∙◌}
 use Rattle.std.proofs.lemmas.List.Elements.{All-contains}
-use Rattle.std.specs.List.{All, list_any}
-use Rattle.std.specs.Str.{IsUtf8, bytes_eq}
 use Rattle.hdfs_cluster.specs.declared.picture.Entry.{Entry}
 use Rattle.hdfs_cluster.specs.Names.{AreNamesBehind, IsNameIn, Rises, front_of, is_before}
-use Rattle.hdfs_names.specs.Paths.{is_slash}
-use Rattle.hdfs_model.specs.Walks.{comes_before}
 use Rattle.hdfs_model.proofs.Listed.{IsPlain, contains_from_in}
 use Rattle.hdfs_model.proofs.Ordered.{In, IsInOrder, behind_all, rises_unique}
 use Rattle.hdfs_model.proofs.Walking.{names_before}

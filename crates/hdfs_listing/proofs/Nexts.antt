@@ -1,29 +1,24 @@
 -- What an ask for a page, in the middle of a listing, says from its begin on.
-use Rattle.std.proofs.Common.{◌≡◌, ◌⊎◌, inl, inr, ⊎_elim, ℕ, Bool, true, false, cond, ◌&&◌, List, [], ◌∷◌, ◌++◌, length, map, Option, Some, None, Ok, Err, refl, sym, ◌∙◌, ap, subst, arith}
+use Rattle.std.proofs.Common.{◌≡◌, inl, inr, ⊎_elim, ℕ, Bool, List, ◌∷◌, Some, sym, ◌∙◌, subst}
 use Rattle.hdfs_cluster.specs.declared.asks.Answer.{Answer}
-use Rattle.hdfs_cluster.specs.declared.asks.Answer.TheVariants as answers
 use Rattle.hdfs_cluster.specs.declared.asks.Ask.{Ask}
-use Rattle.hdfs_cluster.specs.declared.asks.Ask.TheVariants as asks
 use Rattle.hdfs_cluster.specs.declared.errors.HdfsError.{HdfsError}
 use Rattle.hdfs_cluster.specs.declared.errors.HdfsError.TheVariants as errors
-use Rattle.hdfs_cluster.specs.declared.picture.LastAnswer.TheVariants as last_answers
 use Rattle.hdfs_cluster.specs.Counts.{NeverFall}
-use Rattle.hdfs_cluster.specs.Failures.{ANamenode, CallsRose}
+use Rattle.hdfs_cluster.specs.Failures.{ANamenode}
 use Rattle.hdfs_cluster.specs.Files.{State}
 use Rattle.hdfs_cluster.specs.Picture.{Picture, SameButActive}
 use Rattle.hdfs_cluster.specs.Repeating.{Leaves}
 use Rattle.hdfs_cluster.specs.Shown.{Shown}
 use Rattle.hdfs_cluster.proofs.Failures.{failed_since, means_since}
 use Rattle.hdfs_cluster.proofs.Frames.{same_files_trans}
-use Rattle.hdfs_cluster.proofs.Framing.{leaves_trans}
-use Rattle.hdfs_model.specs.declared.commands.PathEntry.{PathEntry}
 use Rattle.hdfs_model.specs.Listings.{IsBelow}
-use Rattle.hdfs_namenode.specs.Relaying.{Came, TellsAsk}
-use Rattle.hdfs_listing.specs.Listing.{FailsAsk, HasNone, HasPage, IsNotTurned, IsTurned, LacksPageFor, Tells, TellsListing, TellsWalk}
-use Rattle.hdfs_listing.specs.Walking.{AllMayDo, IsDue, MayDo, page_tasks, todo_of}
+use Rattle.hdfs_namenode.specs.Relaying.{TellsAsk}
+use Rattle.hdfs_listing.specs.Listing.{FailsAsk, IsNotTurned, IsTurned, Tells, TellsListing, TellsWalk}
+use Rattle.hdfs_listing.specs.Walking.{IsDue}
 use Rattle.hdfs_listing.specs.declared.walk.Task.{Task}
 use Rattle.hdfs_listing.specs.declared.walk.Task.TheVariants as tasks
-use Rattle.hdfs_listing.proofs.Turning.{not_turned, page_may, tells_same, turned}
+use Rattle.hdfs_listing.proofs.Turning.{not_turned, tells_same, turned}
 
 pub same_active_trans : (a b c : Picture) → SameButActive a b → SameButActive b c → SameButActive a c
 same_active_trans a b c one two = record {

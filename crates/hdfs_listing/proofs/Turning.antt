@@ -1,7 +1,6 @@
 -- What an ask for a page comes to: over any cluster, and over a told picture that agrees with a state.
-use Rattle.std.proofs.Common.{◌≡◌, ◌⊎◌, inl, inr, ⊎_elim, ℕ, suc, ◌+◌, ◌-◌, ◌<◌, ◌≤◌, ◌==◌, ◌&&◌, nat_lt, Bool, true, false, cond, List, [], ◌∷◌, ◌++◌, length, drop, get_or, Contains, Option, Some, None, Ok, Err, IsSome, refl, sym, ◌∙◌, ap, subst, arith}
+use Rattle.std.proofs.Common.{◌≡◌, ◌⊎◌, inl, inr, ⊎_elim, ℕ, suc, ◌+◌, ◌<◌, ◌≤◌, ◌==◌, ◌&&◌, nat_lt, Bool, true, false, cond, List, [], ◌∷◌, ◌++◌, length, drop, get_or, Contains, Option, Some, None, Ok, Err, IsSome, refl, sym, ◌∙◌, ap, subst, arith}
 use Rattle.std.proofs.Math.Path.{fun_ext}
-use Rattle.std.proofs.lemmas.Bool.{false≢true}
 use Rattle.std.proofs.lemmas.List.Elements.{All-contains}
 use Rattle.std.proofs.lemmas.Str.{IsCharBoundary-after_ascii, IsUtf8-drop}
 use Rattle.std.specs.Str.{IsUtf8, bytes_eq}
@@ -10,31 +9,28 @@ use Rattle.hdfs_cluster.specs.declared.asks.Answer.TheVariants as answers
 use Rattle.hdfs_cluster.specs.declared.asks.Ask.{Ask}
 use Rattle.hdfs_cluster.specs.declared.asks.Ask.TheVariants as asks
 use Rattle.hdfs_cluster.specs.declared.errors.HdfsError.{HdfsError}
-use Rattle.hdfs_cluster.specs.declared.errors.HdfsError.TheVariants as errors
 use Rattle.hdfs_cluster.specs.declared.messages.DirList.{DirList}
 use Rattle.hdfs_cluster.specs.declared.messages.FileStatusMsg.{FileStatusMsg}
 use Rattle.hdfs_cluster.specs.declared.picture.Entry.{Entry}
 use Rattle.hdfs_cluster.specs.declared.picture.Entry.TheVariants as entries
-use Rattle.hdfs_cluster.specs.declared.picture.LastAnswer.TheVariants as last_answers
 use Rattle.hdfs_cluster.specs.Failures.{CallsRose}
-use Rattle.hdfs_cluster.specs.Files.{State, kinds_of}
+use Rattle.hdfs_cluster.specs.Files.{State}
 use Rattle.hdfs_cluster.specs.Listing.{TellsAt, TellsEntries, TellsListing, TellsPage}
 use Rattle.hdfs_cluster.specs.Names.{front_of}
-use Rattle.hdfs_cluster.specs.Namenode.{IsRefusal, Row}
-use Rattle.hdfs_cluster.specs.Picture.{Picture, SameButActive, kinds}
+use Rattle.hdfs_cluster.specs.Namenode.{Row}
+use Rattle.hdfs_cluster.specs.Picture.{Picture, SameButActive}
 use Rattle.hdfs_cluster.specs.Repeating.{DoneOrNot}
 use Rattle.hdfs_cluster.specs.Shown.{Shown}
 use Rattle.hdfs_cluster.specs.Stores.{AgreesAt}
 use Rattle.hdfs_cluster.proofs.NamesRepeating.{listing_repeats}
 use Rattle.hdfs_names.specs.Paths.{root}
-use Rattle.hdfs_model.specs.declared.commands.PathEntry.{PathEntry}
-use Rattle.hdfs_model.specs.Listings.{IsBelow, answered as lies_on, IsListedEntry, IsOnPage, path_in}
+use Rattle.hdfs_model.specs.Listings.{IsBelow, answered as lies_on, IsOnPage}
 use Rattle.hdfs_model.proofs.Made.{agrees_still}
 use Rattle.hdfs_model.proofs.Told.{below_file_at, looked_at}
-use Rattle.hdfs_namenode.specs.Relaying.{Came, RefusedBy, RelaysTold, TellsAsk}
+use Rattle.hdfs_namenode.specs.Relaying.{Came, RefusedBy, RelaysTold}
 use Rattle.hdfs_namenode.proofs.Relayed.{relayed_done, relayed_row}
-use Rattle.hdfs_listing.specs.Listing.{FailsAsk, HasNone, HasPage, IsNotTurned, IsTurned, LacksPageFor, Tells}
-use Rattle.hdfs_listing.specs.Walking.{AllMayDo, AreTexts, IsDue, MayDo, entry_in, gives, has_more, last_name, page_tasks}
+use Rattle.hdfs_listing.specs.Listing.{FailsAsk, IsNotTurned, IsTurned, Tells}
+use Rattle.hdfs_listing.specs.Walking.{AllMayDo, IsDue, gives, has_more, last_name, page_tasks}
 use Rattle.hdfs_listing.specs.declared.walk.Task.{Task}
 use Rattle.hdfs_listing.specs.declared.walk.Task.TheVariants as tasks
 use Rattle.hdfs_listing.proofs.Dues.{turned_due}

@@ -1,5 +1,5 @@
 -- What becomes of a listing: over any cluster, and over a told picture that agrees with a state of files.
-use Rattle.std.specs.Prelude.{◌≡◌, ◌⊎◌, ◌<◌, ◌∷◌, [], ℕ, Bool, false, List, length, map, Option, Some, None, Result, Ok, Err, IsSome, IsUtf8, IfOk, IfErr, Vec}
+use Rattle.std.specs.Prelude.{◌≡◌, ◌⊎◌, ◌<◌, [], ℕ, Bool, false, List, length, map, Option, Some, None, Result, Ok, Err, IsSome, IsUtf8, IfOk, IfErr, Vec}
 use Rattle.std.specs.declared.alloc.Global.{Global}
 use Rattle.hdfs_cluster.specs.declared.asks.Answer.{Answer}
 use Rattle.hdfs_cluster.specs.declared.asks.Answer.TheVariants as answers
@@ -15,7 +15,7 @@ use Rattle.hdfs_cluster.specs.Failures.{CallsRose}
 use Rattle.hdfs_cluster.specs.Files.{IsState, State, kinds_of}
 use Rattle.hdfs_cluster.specs.Listing.{IsMissing}
 use Rattle.hdfs_cluster.specs.Picture.{Picture, SameButActive}
-use Rattle.hdfs_cluster.specs.Refusals.{Refusal, TooMany, look_refusal}
+use Rattle.hdfs_cluster.specs.Refusals.{TooMany, look_refusal}
 use Rattle.hdfs_cluster.specs.Shown.{Shown}
 use Rattle.hdfs_cluster.specs.Stores.{AgreesAt}
 use Rattle.hdfs_model.specs.declared.commands.PathEntry.{PathEntry}

@@ -5,3 +5,4 @@ mod listing;
 mod walk;
 
 pub use listing::list_path;
+pub use walk::has_more;

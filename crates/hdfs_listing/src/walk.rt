@@ -71,7 +71,7 @@ fn entry_of(
 }
 
 /// Whether another page is to come behind this one.
-fn has_more(page: &DirList) -> bool
+pub fn has_more(page: &DirList) -> bool
     ensures { result ≡ walking.has_more page.now }
 {
     page.remaining_entries > 0 && page.partial_listing.as_slice().len() > 0

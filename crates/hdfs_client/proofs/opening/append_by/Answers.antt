@@ -12,7 +12,8 @@ use Rattle.hdfs_cluster.specs.declared.messages.FileStatusMsg.{FileStatusMsg}
 use Rattle.hdfs_cluster.specs.declared.messages.LocatedBlock.{LocatedBlock}
 use Rattle.hdfs_cluster.specs.Requests.{id_in}
 use Rattle.hdfs_file_writer.specs.Writers.{IsAnswered, Stands, tail_of, tail_opened}
-use Rattle.hdfs_client.specs.Opening.{IsFresh, sizes_by}
+use Rattle.hdfs_client.specs.Opening.{IsFresh}
+use Rattle.hdfs_file_writer.specs.Sizing.{sizes_by}
 use Rattle.hdfs_namenode.specs.Asked.{AskedOnce}
 use Rattle.hdfs_namenode.specs.Clients.{through}
 use Rattle.hdfs_namenode.specs.declared.proxy.NameServiceProxy.{NameServiceProxy}
@@ -88,13 +89,13 @@ returns-clause-opened g c =
           (through c.limited_defaults.new.namenode c.limited_defaults.new.cluster) (Ok (answers.Append x)) (through c.append.new.self c.append.new.cluster))
           is c.in_ok-block.ensures.asked));
       plain = sym c.told_by-told.ensures.encrypted ∙ c.if-told.false;
-      fresh = subst (IsFresh c.args.path stat.file_id (sizes_by c.args.rebuilding d (unwrap_or stat.block_replication 0) (unwrap_or stat.blocksize 0))
+      fresh = subst (IsFresh c.args.path stat.file_id (sizes_by c.args.rebuilding 3 d (unwrap_or stat.block_replication 0) (unwrap_or stat.blocksize 0))
           (tail_opened c.in_ok-block.block None)) (sym c.in_ok-hold.ensures.file.0) (record {
             at = c.appended-writer.ensures.path.0;
             id = c.appended-writer.ensures.path.2 ∙ c.told_by-told.ensures.id;
-            with = c.appended-writer.ensures.path.1 ∙ c.sizes_by-sizes.ensures
-                ∙ ap (λ (x : ℕ). sizes_by c.args.rebuilding d x c.unwrap_or-2.result) c.unwrap_or.ensures
-                ∙ ap (λ (x : ℕ). sizes_by c.args.rebuilding d (unwrap_or stat.block_replication 0) x) c.unwrap_or-2.ensures;
+            with = c.appended-writer.ensures.path.1 ∙ c.by-sizes.ensures
+                ∙ ap (λ (x : ℕ). sizes_by c.args.rebuilding 3 d x c.unwrap_or-2.result) c.unwrap_or.ensures
+                ∙ ap (λ (x : ℕ). sizes_by c.args.rebuilding 3 d (unwrap_or stat.block_replication 0) x) c.unwrap_or-2.ensures;
             stands = c.appended-writer.ensures.tail ∙ ap (λ (b : Option LocatedBlock). tail_opened b None) c.in_ok-block.block-is;
             idle = c.appended-writer.ensures.idle.0;
             fine = c.appended-writer.ensures.idle.1;

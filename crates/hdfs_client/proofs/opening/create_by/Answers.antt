@@ -15,10 +15,11 @@ use Rattle.hdfs_namenode.specs.declared.proxy.NameServiceProxy.{NameServiceProxy
 use Rattle.hdfs_namenode.specs.Views.{see}
 use Rattle.hdfs_namenode.proofs.Observers.{once_leaves}
 use Rattle.hdfs_namenode.proofs.Relayed.{came_as}
-use Rattle.hdfs_client.specs.Opening.{IsFresh, sizes_by}
+use Rattle.hdfs_client.specs.Opening.{IsFresh}
+use Rattle.hdfs_file_writer.specs.Sizing.{sizes_by}
 use Rattle.hdfs_client.proofs.Answered.{answered_created}
 use Rattle.hdfs_client.proofs.Begun.{begun_new}
-use Rattle.hdfs_client.proofs.InLimits.{are_sizes_by}
+use Rattle.hdfs_client.proofs.InLimits.{are_sizes_of}
 use Rattle.hdfs_client.proofs.Held.{holds_file, keeps_behind, lease_told}
 use Rattle.hdfs_client.proofs.Kept.{goes_by, goes_leases, goes_of, goes_service, goes_trans, goes_view, keeps_same, making, service_from-client, service_trans}
 use Rattle.hdfs_client.proofs.opening.create_by.Goals as goal
@@ -47,10 +48,10 @@ pub new-file-requires : goal.new-file-requires
 new-file-requires g c =
     let options = c.args.options.now in
     let d = c.in_ok-defaults.defaults in
-    let same : c.sizes_by-sizes.result ≡ sizes_by c.args.rebuilding d (unwrap_or options.replication d.replication) (unwrap_or options.block_size d.block_size) =
-    c.sizes_by-sizes.ensures ∙ ap (λ (x : ℕ). sizes_by c.args.rebuilding d x c.unwrap_or-block_size.result) c.unwrap_or-replication.ensures
-    ∙ ap (λ (x : ℕ). sizes_by c.args.rebuilding d (unwrap_or options.replication d.replication) x) c.unwrap_or-block_size.ensures in
-    subst AreSizes (sym same) (are_sizes_by c.args.rebuilding d (c.requires.limits.1, c.requires.limits.2) c.in_ok-defaults.ensures.knows.limited options c.requires.limits.0)
+    let same : c.by-sizes.result ≡ sizes_by c.args.rebuilding 3 d (unwrap_or options.replication d.replication) (unwrap_or options.block_size d.block_size) =
+    c.by-sizes.ensures ∙ ap (λ (x : ℕ). sizes_by c.args.rebuilding 3 d x c.unwrap_or-block_size.result) c.unwrap_or-replication.ensures
+    ∙ ap (λ (x : ℕ). sizes_by c.args.rebuilding 3 d (unwrap_or options.replication d.replication) x) c.unwrap_or-block_size.ensures in
+    subst AreSizes (sym same) (are_sizes_of c.args.rebuilding d (c.requires.limits.1, c.requires.limits.2) c.in_ok-defaults.ensures.knows.limited options c.requires.limits.0)
 
 pub returns-clause-created : goal.returns-clause-created
 returns-clause-created g c =
@@ -59,9 +60,9 @@ returns-clause-created g c =
     let d = c.in_ok-defaults.defaults in
     let r = unwrap_or options.replication d.replication in
     let k = unwrap_or options.block_size d.block_size in
-    let same : c.sizes_by-sizes.result ≡ sizes_by c.args.rebuilding d r k =
-    c.sizes_by-sizes.ensures ∙ ap (λ (x : ℕ). sizes_by c.args.rebuilding d x c.unwrap_or-block_size.result) c.unwrap_or-replication.ensures
-    ∙ ap (λ (x : ℕ). sizes_by c.args.rebuilding d r x) c.unwrap_or-block_size.ensures in
+    let same : c.by-sizes.result ≡ sizes_by c.args.rebuilding 3 d r k =
+    c.by-sizes.ensures ∙ ap (λ (x : ℕ). sizes_by c.args.rebuilding 3 d x c.unwrap_or-block_size.result) c.unwrap_or-replication.ensures
+    ∙ ap (λ (x : ℕ). sizes_by c.args.rebuilding 3 d r x) c.unwrap_or-block_size.ensures in
     record {
       defaults = d;
       between = c.limited_defaults.new.namenode;
@@ -76,7 +77,7 @@ returns-clause-created g c =
           (through c.limited_defaults.new.namenode c.limited_defaults.new.cluster) (Ok (answers.Create c.in_ok-status.status)) (record { cluster = c.create.new.cluster; proxy = proxy }))
           (sym c.hold.ensures.keeps.proxy) c.in_ok-status.ensures.asked);
       plain = sym c.told_by-told.ensures.encrypted ∙ c.if-told.false;
-      fresh = subst (IsFresh c.args.path (id_in c.in_ok-status.status) (sizes_by c.args.rebuilding d r k) Bare) (sym c.in_ok-hold.ensures.file.0) (record {
+      fresh = subst (IsFresh c.args.path (id_in c.in_ok-status.status) (sizes_by c.args.rebuilding 3 d r k) Bare) (sym c.in_ok-hold.ensures.file.0) (record {
         at = c.new-file.ensures.path.0;
         id = c.new-file.ensures.path.2 ∙ c.told_by-told.ensures.id;
         with = c.new-file.ensures.path.1 ∙ same;

@@ -1,5 +1,5 @@
 -- The first page, and what is gathered behind it.
-use Rattle.std.proofs.Common.{◌≡◌, ◌≤◌, [], inl, inr, ⊎_elim, Bool, List, ℕ, Ok, Err, Some, length, refl, rules, sym, ◌∙◌, subst}
+use Rattle.std.proofs.Common.{◌≡◌, ◌≤◌, [], Bool, List, ℕ, Ok, Err, Some, length, rules, sym, ◌∙◌, subst}
 use Rattle.std.proofs.lemmas.Result.{err_from_is_err_and}
 use Rattle.hdfs_cluster.specs.Files.{State}
 use Rattle.hdfs_cluster.specs.Picture.{Picture}

@@ -1,5 +1,5 @@
 -- An entry of a status, or why it is none.
-use Rattle.std.proofs.Common.{ap, inr, refl, subst, arith, ◌∙◌, sym, List, ℕ}
+use Rattle.std.proofs.Common.{ap, inr, refl, subst, arith, sym, List, ℕ}
 use Rattle.std.specs.Str.{IsUtf8}
 use Rattle.hdfs_cluster.specs.declared.errors.HdfsError.TheVariants as errors
 use Rattle.hdfs_listing.proofs.walk.entry_of.Goals as goal

@@ -1,8 +1,7 @@
 -- The last name, or why it is none.
-use Rattle.std.proofs.Common.{length, sym, ◌∙◌, ap, inr, subst}
+use Rattle.std.proofs.Common.{length, sym, ◌∙◌}
 use Rattle.std.proofs.lemmas.Bool.{ltb-true}
-use Rattle.hdfs_cluster.specs.declared.errors.HdfsError.TheVariants as errors
-use Rattle.hdfs_listing.proofs.Ends.{got_there, name_at_end}
+use Rattle.hdfs_listing.proofs.Ends.{name_at_end}
 use Rattle.hdfs_listing.proofs.walk.last_of.Goals as goal
 
 pub returns-in_ok-from_str-in-Ok-clause-ok : goal.returns-in_ok-from_str-in-Ok-clause-ok

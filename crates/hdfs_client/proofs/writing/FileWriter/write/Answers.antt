@@ -2,7 +2,7 @@
 use Rattle.std.proofs.Common.{◌≡◌, ℕ, false, List, Option, Result, Ok, Err, refl, sym, ap, subst}
 use Rattle.std.specs.Prelude.{IfOk}
 use Rattle.hdfs_cluster.specs.declared.errors.HdfsError.{HdfsError}
-use Rattle.hdfs_file_writer.specs.Writers.{IsAnswered, IsIdle, Stands}
+use Rattle.hdfs_file_writer.specs.Writers.{IsAnswered, IsIdle, Keeps, Stands}
 use Rattle.hdfs_file_writer.specs.Writers as files
 use Rattle.hdfs_file_writer.specs.declared.file_writer.FileWriter.{FileWriter}
 use Rattle.hdfs_namenode.specs.Asked.{IsServiceOf, ReachesAll}
@@ -73,6 +73,14 @@ returns-clause-others g c =
     keeps_others g.C.Cluster.allows g.C.Cluster.may_answer services c.args.self.now _
     (subst (λ (o : Option ℕ). OwnLink (g.C.Cluster.shown c.args.cluster.now) o (g.C.Cluster.shown c.write.new.cluster) (files.link_of c.write.new.self))
     (sym (ap outer.link_in c.in-Some.is)) own)
+
+pub returns-clause-still : goal.returns-clause-still
+returns-clause-still g c = (
+  λ file is. (c.write.new.self, refl, subst (λ (f : FileWriter). Keeps f c.write.new.self) (cc (c.in-Some.is, is)) c.write.ensures.stands.1),
+  refl,
+  refl,
+  refl,
+)
 
 pub returns-clause-state : goal.returns-clause-state
 returns-clause-state g c = λ file is.

@@ -1,15 +1,16 @@
 -- The goals of FileWriter::begin_block.
 use Rattle.std.proofs.Common.{◌∙◌, arith, [], List, ℕ, refl, sym, subst}
-use Rattle.hdfs_cluster.specs.Requests.{AreFirst, LetsWrite}
+use Rattle.std.proofs.lemmas.Result.{err_from_is_err_and}
+use Rattle.hdfs_cluster.specs.Requests.{AreFirst}
 use Rattle.hdfs_namenode.specs.Clients.{name_of, proxy_of}
 use Rattle.hdfs_namenode.specs.Views.{see, view_of}
 use Rattle.hdfs_namenode.proofs.Seeing.{view_same}
-use Rattle.hdfs_namenode.proofs.Services.{same_client_refl, same_client_trans, service_same}
+use Rattle.hdfs_namenode.proofs.Services.{same_client_refl, same_client_trans}
 use Rattle.hdfs_file_writer.specs.declared.file_writer.FileWriter.{FileWriter}
 use Rattle.hdfs_file_writer.specs.Tries.{HasTried}
-use Rattle.hdfs_file_writer.specs.Writers.{CanGoOn, FailsOtherwise, IsAnswered, Keeps, MayAdd, MayBegin, Wrote}
-use Rattle.hdfs_file_writer.proofs.Joining.{wrote_trans}
+use Rattle.hdfs_file_writer.specs.Writers.{FailsOtherwise, IsAnswered}
 use Rattle.hdfs_file_writer.proofs.Tried.{none_first, none_tried}
+use Rattle.hdfs_file_writer.proofs.Seeing.{adds_behind, keeps_behind, wrote_behind}
 use Rattle.hdfs_file_writer.proofs.file_writer.FileWriter.begin_block.Goals as goal
 
 pub tries-init : goal.tries-init
@@ -24,28 +25,26 @@ tries-init g c = record {
 pub try_block-requires-clause-adds : goal.try_block-requires-clause-adds
 try_block-requires-clause-adds g c =
     let before = c.tries.invariant in
-    let s = g.C.Cluster.shown c.args.cluster.now in
-    let now = g.C.Cluster.shown c.tries.cluster in
-    let w = c.args.self.now in
-    let client = before.client in
-    let tried = before.tried (view_of (proxy_of c.args.namenode.now)) (refl, refl) in
-    subst (λ (x : FileWriter). MayAdd g.C.Cluster.allows g.C.Cluster.may_answer c.tries.namenode now x) (sym before.same)
-    (record {
-      service =
-          service_same (proxy_of c.args.namenode.now) (proxy_of c.tries.namenode) s now client.service tried.wrote.own.later.namenodes
-          c.requires.adds.service;
-      allowed =
-          subst (λ (name : List ℕ). LetsWrite g.C.Cluster.allows g.C.Cluster.may_answer name w.path w.file_id) (sym client.name)
-          c.requires.adds.allowed;
-      answered = subst (λ (name : List ℕ). IsAnswered g.C.Cluster.may_answer name w) (sym client.name) c.requires.adds.answered;
-      full = c.requires.adds.full;
-    })
+    adds_behind g.C.Cluster.shown c.args.cluster.now c.tries.cluster before.client before.same (λ view has. (before.tried view has).wrote) g.C.Cluster.allows
+    g.C.Cluster.may_answer c.requires.adds.service c.requires.adds.allowed
+    (subst (IsAnswered g.C.Cluster.may_answer (name_of c.args.namenode.now)) (sym before.same) c.requires.adds.answered) (λ full. full) c.requires.adds.full
 
-pub try_block-requires-clause-begins : goal.try_block-requires-clause-begins
-try_block-requires-clause-begins g c = subst MayBegin (sym c.tries.invariant.same) c.requires.begins
+pub returns-then-branch-clause-wrote : goal.returns-then-branch-clause-wrote
+returns-then-branch-clause-wrote g c =
+    let before = c.tries.invariant in
+    wrote_behind g.C.Cluster.shown c.args.cluster.now c.tries.cluster before.client before.same (λ view has. (before.tried view has).wrote) c.try_block.new.cluster []
+    c.try_block.new.self (c.in_ok-try_block.ensures.begun c.if-branch.true)
 
-pub returns-in-Ok-true-clause-wrote : goal.returns-in-Ok-true-clause-wrote
-returns-in-Ok-true-clause-wrote g c = λ view has.
+pub returns-then-branch-clause-keeps : goal.returns-then-branch-clause-keeps
+returns-then-branch-clause-keeps g c =
+    let before = c.tries.invariant in
+    keeps_behind g.C.Cluster.shown c.args.cluster.now c.tries.cluster before.client before.same (λ view has. (before.tried view has).wrote) c.try_block.new.self
+    c.try_block.new.namenode c.try_block.ensures.keeps
+
+pub returns-in_err-try_block-clause-err : goal.returns-in_err-try_block-clause-err
+returns-in_err-try_block-clause-err g c =
+    let p = err_from_is_err_and c.from_residual.result c.from_residual.ensures.1 in
+    rw (p.1, p.2) (λ view has.
     let s = g.C.Cluster.shown c.args.cluster.now in
     let now = g.C.Cluster.shown c.tries.cluster in
     let t = see view (g.C.Cluster.shown c.try_block.new.cluster) in
@@ -53,35 +52,7 @@ returns-in-Ok-true-clause-wrote g c = λ view has.
     let tried = before.tried view has in
     let has' = view_same view (proxy_of c.args.namenode.now) (proxy_of c.tries.namenode) s now before.client.service
     tried.wrote.own.later.namenodes has in
-    subst (λ (x : FileWriter). Wrote (see view s) x [] t c.try_block.new.self) before.same
-    (wrote_trans (see view s) (see view now) t c.tries.self c.tries.self c.try_block.new.self [] [] tried.wrote
-    (c.in-Ok-true.ensures.begun c.in-Ok-true.field-0-test view has'))
-
-pub returns-in-Ok-true-clause-goes : goal.returns-in-Ok-true-clause-goes
-returns-in-Ok-true-clause-goes g c =
-    let goes = c.in-Ok-true.ensures.goes c.in-Ok-true.field-0-test in (
-      subst (λ (client : List ℕ). CanGoOn g.C.Cluster.may_answer client (g.C.Cluster.shown c.try_block.new.cluster) c.try_block.new.self)
-          c.tries.invariant.client.name goes.1,
-      goes.0,
-    )
-
-pub returns-in-Ok-true-clause-keeps : goal.returns-in-Ok-true-clause-keeps
-returns-in-Ok-true-clause-keeps g c =
-    let before = c.tries.invariant in (
-      subst (λ (x : FileWriter). Keeps x c.try_block.new.self) before.same c.try_block.ensures.keeps.0,
-      same_client_trans c.args.namenode.now c.tries.namenode c.try_block.new.namenode before.client c.try_block.ensures.keeps.1,
-    )
-
-pub returns-in-Err-clause-err : goal.returns-in-Err-clause-err
-returns-in-Err-clause-err g c = λ view has.
-    let s = g.C.Cluster.shown c.args.cluster.now in
-    let now = g.C.Cluster.shown c.tries.cluster in
-    let t = see view (g.C.Cluster.shown c.try_block.new.cluster) in
-    let before = c.tries.invariant in
-    let tried = before.tried view has in
-    let has' = view_same view (proxy_of c.args.namenode.now) (proxy_of c.tries.namenode) s now before.client.service
-    tried.wrote.own.later.namenodes has in
-    subst (λ (x : FileWriter). FailsOtherwise (see view s) x c.in-Err.error t) before.same (c.in-Err.ensures.err view has' (see view s) tried)
+    subst (λ (x : FileWriter). FailsOtherwise (see view s) x c.in_err-try_block.field-0.0 t) before.same (c.in_err-try_block.ensures.err view has' (see view s) tried))
 
 pub tries-preserved : goal.tries-preserved
 tries-preserved g c =
@@ -89,7 +60,7 @@ tries-preserved g c =
     let s = g.C.Cluster.shown c.args.cluster.now in
     let now = g.C.Cluster.shown c.tries.cluster in
     let new = g.C.Cluster.shown c.try_block.new.cluster in
-    let again = c.in-Ok-false.ensures.again (view_of (proxy_of c.tries.namenode)) (refl, refl) c.in-Ok-false.field-0-test in
+    let again = c.in_ok-try_block.ensures.again (view_of (proxy_of c.tries.namenode)) (refl, refl) c.if-branch.false in
     record {
       same = again.same ∙ before.same;
       client = same_client_trans c.args.namenode.now c.tries.namenode c.try_block.new.namenode before.client c.try_block.ensures.keeps.1;
@@ -103,10 +74,16 @@ tries-preserved g c =
           let has' = view_same view (proxy_of c.args.namenode.now) (proxy_of c.tries.namenode) s now before.client.service
           tried.wrote.own.later.namenodes has in
           subst (λ (x : FileWriter). HasTried (see view s) x c.try_block.new.tries (see view new)) (sym again.same)
-          ((c.in-Ok-false.ensures.again view has' c.in-Ok-false.field-0-test).tried (see view s) tried));
+          ((c.in_ok-try_block.ensures.again view has' c.if-branch.false).tried (see view s) tried));
     }
 
 pub tries-smaller : goal.tries-smaller
 tries-smaller g c =
-    let again = c.in-Ok-false.ensures.again (view_of (proxy_of c.tries.namenode)) (refl, refl) c.in-Ok-false.field-0-test in
+    let again = c.in_ok-try_block.ensures.again (view_of (proxy_of c.tries.namenode)) (refl, refl) c.if-branch.false in
     omega (arith, again.fewer)
+
+pub returns-in_err-try_block-clause-keeps : goal.returns-in_err-try_block-clause-keeps
+returns-in_err-try_block-clause-keeps g c =
+    let before = c.tries.invariant in
+    keeps_behind g.C.Cluster.shown c.args.cluster.now c.tries.cluster before.client before.same (λ view has. (before.tried view has).wrote) c.try_block.new.self
+    c.try_block.new.namenode c.try_block.ensures.keeps

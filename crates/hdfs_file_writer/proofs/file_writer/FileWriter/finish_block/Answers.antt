@@ -4,10 +4,9 @@ use Rattle.hdfs_block_writer.specs.declared.block_writer.BlockWriter.{BlockWrite
 use Rattle.hdfs_cluster.specs.declared.errors.HdfsError.{HdfsError}
 use Rattle.hdfs_cluster.specs.declared.messages.Block.{Block}
 use Rattle.hdfs_cluster.specs.declared.messages.LocatedBlock.{LocatedBlock}
-use Rattle.hdfs_file_writer.specs.Tails.{IsFull}
-use Rattle.hdfs_file_writer.specs.Writers.{tail_by, tail_of, IsBetweenBlocks, Wrote, FailsOtherwise}
+use Rattle.hdfs_file_writer.specs.Writers.{IsBetweenBlocks, Wrote, FailsOtherwise}
 use Rattle.hdfs_file_writer.proofs.Allowed.{answered_closed, answered_going, answered_idle, answered_left, answered_reopened, may_go_on}
-use Rattle.hdfs_file_writer.proofs.Filling.{settled_full, ended_full}
+use Rattle.hdfs_file_writer.proofs.Blocks.{settled_full, ended_full}
 use Rattle.hdfs_file_writer.proofs.Joining.{wrote_nothing}
 use Rattle.hdfs_file_writer.proofs.Standing.{ended_wrote, gave_up_fails, settled_wrote}
 use Rattle.hdfs_namenode.specs.Clients.{name_of, proxy_of}
@@ -34,17 +33,6 @@ returns-in-Some-clause-between g c =
       between,
       settled_full w.sizes.block_size w (record w { last = Some c.in-Some.located.b; reopened = c.take.new.self }) c.in-Some.located
           none reopened between refl,
-    )
-
-pub returns-in-None-take-clause-between : goal.returns-in-None-take-clause-between
-returns-in-None-take-clause-between g c =
-    let w = c.args.self.now in
-    let going : w.going ≡ c.take-2.new.self = sym c.take-2.ensures.value ∙ c.in-None-take.is ∙ sym c.take-2.ensures.after in
-    let reopened : w.reopened ≡ c.take.new.self = sym c.take.ensures.value ∙ c.in-None.is ∙ sym c.take.ensures.after in
-    let size = w.sizes.block_size in (
-      record { none = c.take-2.ensures.after; done = c.take.ensures.after },
-      subst (λ (o : Option LocatedBlock). IsFull size (tail_of w) → IsFull size (tail_by c.take-2.new.self o w.last)) reopened
-          (subst (λ (o : Option BlockWriter). IsFull size (tail_of w) → IsFull size (tail_by o w.reopened w.last)) going (λ full. full)),
     )
 
 pub returns-in-None-take-clause-wrote : goal.returns-in-None-take-clause-wrote
@@ -113,12 +101,6 @@ returns-in-Some-clause-answered g c =
     answered_idle w (record w { last = Some c.in-Some.located.b; reopened = c.take.new.self }) (record { path = refl; file_id = refl; sizes = refl })
     none c.take.ensures.after c.requires.may.answered
     (λ fine. answered_left c.in-Some.located (answered_reopened w none reopened c.requires.may.answered))
-
-pub returns-in-None-take-clause-answered : goal.returns-in-None-take-clause-answered
-returns-in-None-take-clause-answered g c =
-    let w = c.args.self.now in
-    answered_idle w (record w { going = c.take-2.new.self; reopened = c.take.new.self }) (record { path = refl; file_id = refl; sizes = refl })
-    c.take-2.ensures.after c.take.ensures.after c.requires.may.answered c.requires.may.answered.last
 
 pub returns-in-Ok-clause-answered : goal.returns-in-Ok-clause-answered
 returns-in-Ok-clause-answered g c =

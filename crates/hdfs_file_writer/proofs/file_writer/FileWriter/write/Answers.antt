@@ -17,13 +17,6 @@ returns-then-is_empty-clause-wrote g c = λ view has.
     nil_from_length c.args.bytes.now (eqb-true (length c.args.bytes.now) 0 (sym c.is_empty.ensures ∙ c.if-is_empty.true)) in
     subst (λ (more : List ℕ). Wrote s w more s w) (sym none) (wrote_nothing s w)
 
-pub returns-then-not-are_limited-clause-answered : goal.returns-then-not-are_limited-clause-answered
-returns-then-not-are_limited-clause-answered g c =
-    let w = c.args.self.now in
-    subst (IsAnswered g.C.Cluster.may_answer (name_of c.args.namenode.now)) (sym c.let_go.ensures)
-    (answered_failed w (record w { failed = true; reopened = None; going = None }) (record { path = refl; file_id = refl; sizes = refl }) refl refl refl
-    c.requires.answered)
-
 pub returns-in-Err-clause-answered : goal.returns-in-Err-clause-answered
 returns-in-Err-clause-answered g c =
     let w = c.write_all.new.self in

@@ -1,5 +1,5 @@
 -- Entries are gathered one by one.
-use Rattle.std.proofs.Common.{◌≡◌, ◌≤◌, ◌++◌, ◌∷◌, [], inl, inr, Bool, List, ℕ, None, Option, length, refl, rules, sym, ◌∙◌, ap, subst, vec_len}
+use Rattle.std.proofs.Common.{◌≡◌, [], inl, inr, Bool, List, ℕ, None, Option, refl, rules, sym, ◌∙◌, ap, subst}
 use Rattle.std.proofs.lemmas.Result.{err_from_is_err_and}
 use Rattle.hdfs_model.specs.declared.commands.PathEntry.{PathEntry}
 use Rattle.std.proofs.lemmas.List.Elements.{All-push}

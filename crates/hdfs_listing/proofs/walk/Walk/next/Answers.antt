@@ -1,5 +1,5 @@
 -- The next entry, over any cluster and over a told picture.
-use Rattle.std.proofs.Common.{◌≡◌, ◌<◌, suc, List, ℕ, ◌∷◌, length, refl, sym, ◌∙◌, ap, subst}
+use Rattle.std.proofs.Common.{◌<◌, suc, List, ℕ, ◌∷◌, length, refl, sym, ◌∙◌, ap, subst}
 use Rattle.std.proofs.lemmas.Result.{err_from_is_err_and}
 use Rattle.hdfs_cluster.proofs.Frames.{same_files_refl}
 use Rattle.hdfs_cluster.proofs.Framing.{leaves_refl, leaves_trans}
